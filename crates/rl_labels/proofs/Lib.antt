@@ -1,0 +1,5 @@
+pub mod FromPairs
+pub mod Overrides
+pub mod PairAnswers
+pub mod Sameness
+pub mod Steps

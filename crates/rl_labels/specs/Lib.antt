@@ -1,0 +1,14 @@
+pub mod EntryAnswers
+pub mod EntryOrder
+pub mod EntryParts
+pub mod LabelLaws
+pub mod LabelSet
+pub mod LabelText
+pub mod LimitRanges
+pub mod Name
+pub mod Pairs
+pub mod Parts
+pub mod Quantity
+pub mod Rising
+pub mod Selects
+pub mod TextLaws

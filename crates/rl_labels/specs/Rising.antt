@@ -1,0 +1,24 @@
+-- Tests of lists of pairs and of bytes, as the code makes them.
+use Rattle.std.specs.Prelude.{ℕ, ◌==◌, Bool, true, not, ◌&&◌, ◌||◌, List, [], ◌∷◌}
+use Rattle.std.specs.Ordering.{is_lt, nat_cmp, ordering_then}
+use Rattle.std.specs.Cmp.Lexicographic.{slice_cmp}
+use Rattle.std.specs.declared.cmp.Ordering.{Ordering}
+use Rattle.rl_labels.specs.Name.{name_cmp}
+use Rattle.rl_labels.specs.LabelSet.{Pair, is_empty}
+
+-- by name, and then by value
+abbrev pub pair_cmp : Pair → Pair → Ordering
+pair_cmp p q = ordering_then (name_cmp p.0 q.0) (slice_cmp nat_cmp p.1 q.1)
+
+-- each name is below the next
+abbrev pub rises : List Pair → Bool
+rises [] = true
+rises (pair ∷ []) = true
+rises (pair ∷ next ∷ pairs) = is_lt (name_cmp pair.0 next.0) && rises (next ∷ pairs)
+
+abbrev pub has_value : Pair → Bool
+has_value pair = not (is_empty pair.1)
+
+-- a byte that is not written as itself
+abbrev pub is_escaped : ℕ → Bool
+is_escaped byte = byte == 92 || (byte == 34 || byte == 10)

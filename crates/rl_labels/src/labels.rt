@@ -1,0 +1,514 @@
+//! Label sets: a finite map from names to values, with its canonical text kept beside it.
+ghost use Rattle.std.specs.Prelude.{◌≡◌, ◌⊎◌, ◌==◌, map, if◌then◌else◌, [], nat_lt, length, not, ◌&&◌, IsTrue, IfOk, OnOk, Err, ◌++◌, Some, ◌∷◌, encode_utf8, List, ℕ, string_bytes};
+ghost use Rattle.std.specs.Option.{option_copied};
+ghost use Rattle.std.specs.List.{filter, list_all, list_any, flat_map, join_with_byte};
+ghost use Rattle.std.specs.List.Sorted.{IsPermutation, IsSorted};
+ghost use Rattle.std.specs.FinMap.Entries.{find, put, where_key};
+ghost use Rattle.rl_labels.specs.Name.{name_cmp, is_text, is_name, is_name_start, is_name_byte, is_stream_name};
+ghost use Rattle.rl_labels.specs.LabelSet.{are_labels, override};
+ghost use Rattle.rl_labels.specs.LabelText.{label_text, labels_text, escaped};
+ghost use Rattle.rl_labels.specs.Rising.{pair_cmp, rises, has_value, is_escaped};
+ghost use Rattle.rl_labels.specs.Pairs.{AnswersPairs, names_are_good};
+
+use rl_plain::{PlainList, PlainText, Same, TryCopy};
+use std::alloc::{AllocError, Global};
+use std::cmp::Ordering;
+use std::fmt;
+use std::hash::{Hash, Hasher};
+use std::marker::Model;
+use std::sync::Arc;
+use thiserror::Error;
+
+/// The label that a pipeline sets on a line that it cannot read.
+pub const ERROR_LABEL: &str = "__error__";
+
+/// The longest canonical text of a stream's labels, in bytes.
+pub const MAX_TEXT_LEN: usize = 4096;
+
+/// Why pairs make no label set, the lowest first.
+#[derive(Clone, Copy, Debug, Drop, Error, PartialEq, Eq)]
+pub enum LabelsError {
+    #[error("a label name is not [a-zA-Z_][a-zA-Z0-9_]*, or is __error__")]
+    BadName,
+    #[error("a label name stands twice")]
+    SameName,
+    #[error("the labels' text is longer than 4096 bytes")]
+    TooLong,
+    #[error("out of memory")]
+    Memory,
+}
+
+/// Whether the text is `[a-zA-Z_][a-zA-Z0-9_]*`, the name of a label.
+pub fn is_label_name(name: &str) -> bool
+    ensures { result ≡ is_name name.now }
+{
+    match name.as_bytes() {
+        [] => false,
+        [first, rest @ ..] => is_name_start(*first) && are_name_bytes(rest),
+    }
+}
+
+fn is_name_start(byte: u8) -> bool
+    ensures { result ≡ is_name_start byte }
+{
+    byte.is_ascii_lowercase() || byte.is_ascii_uppercase() || byte == b'_'
+}
+
+fn are_name_bytes(bytes: &[u8]) -> bool
+    ensures { result ≡ list_all is_name_byte bytes.now }
+{
+    bytes
+        .iter()
+        .all(|byte| is_name_start(*byte) || byte.is_ascii_digit())
+}
+
+fn is_stream_name(name: &str) -> bool
+    ensures { result ≡ is_stream_name name.now }
+{
+    is_label_name(name) && name != ERROR_LABEL
+}
+
+fn labels_from(alloc: Global, mut pairs: Vec<(PlainText, PlainText)>) -> Result<Labels, LabelsError>
+    ensures { AnswersPairs result pairs.items }
+{
+    if !names_are_good(&pairs) {
+        return Err(LabelsError::BadName);
+    }
+    sort_pairs(&mut pairs);
+    if !names_rise(&pairs) {
+        return Err(LabelsError::SameName);
+    }
+    keep_values(&mut pairs);
+    let Ok(labels) = Labels::from_labels(alloc, pairs) else {
+        return Err(LabelsError::Memory);
+    };
+    if labels.as_text().len() > MAX_TEXT_LEN {
+        return Err(LabelsError::TooLong);
+    }
+    Ok(labels)
+}
+
+// Whether each name is one that a stream may have.
+fn names_are_good(pairs: &[(PlainText, PlainText)]) -> bool
+    ensures { result ≡ names_are_good pairs.now }
+{
+    pairs.iter().all(|pair| is_stream_name(pair.0.as_str()))
+}
+
+// Sorts the pairs by name, and then by value.
+fn sort_pairs(pairs: &mut Vec<(PlainText, PlainText)>)
+    ensures moved { IsPermutation pairs.old.items pairs.new.items }
+    ensures in_order { IsSorted pair_cmp pairs.new.items }
+{
+    pairs.sort_unstable();
+}
+
+// Whether each name is below the next.
+fn names_rise(pairs: &[(PlainText, PlainText)]) -> bool
+    ensures { result ≡ rises pairs.now }
+{
+    for index in 1..pairs.len() {
+        if pairs[index - 1].0 >= pairs[index].0 {
+            return false;
+        }
+    }
+    true
+}
+
+// Leaves out the pairs with an empty value.
+fn keep_values(pairs: &mut Vec<(PlainText, PlainText)>)
+    ensures { pairs.new.items ≡ filter has_value pairs.old.items }
+{
+    pairs.retain(|pair| !pair.1.is_empty());
+}
+
+// The value of the label with this name.
+fn value_in<'a>(labels: &'a [(PlainText, PlainText)], name: &str) -> Option<&'a str>
+    ensures { option_copied result ≡ find name_cmp name.now labels.now }
+{
+    for label in labels {
+        if name == label.0.as_str() {
+            return Some(label.1.as_str());
+        }
+    }
+    None
+}
+
+// The labels with one set, or removed where the value is empty.
+fn overridden(
+    alloc: Global,
+    labels: &[(PlainText, PlainText)],
+    name: &str,
+    value: &str,
+) -> Result<Vec<(PlainText, PlainText)>, AllocError>
+    ensures { IfOk result (λ all. all.items ≡ override name.now value.now labels.now) }
+{
+    if value.is_empty() {
+        return without(alloc, labels, name);
+    }
+    with(alloc, labels, name, value)
+}
+
+// The labels but the one with this name.
+
+fn without(
+    alloc: Global,
+    labels: &[(PlainText, PlainText)],
+    name: &str,
+) -> Result<Vec<(PlainText, PlainText)>, AllocError>
+    ensures { IfOk result (λ kept. kept.items ≡ where_key name_cmp (λ other. not (is_text name.now other)) labels.now) }
+{
+    let mut kept = Vec::with_capacity(alloc, labels.len())?;
+    for label in labels {
+        push_other(&mut kept, label, name)?;
+    }
+    Ok(kept)
+}
+
+fn push_other(
+    kept: &mut Vec<(PlainText, PlainText)>,
+    label: &(PlainText, PlainText),
+    name: &str,
+) -> Result<(), AllocError>
+    ensures { OnOk result (kept.new.items ≡ kept.old.items ++ (if is_text name.now label.now.0 then [] else label.now ∷ [])) }
+{
+    if name == label.0.as_str() {
+        return Ok(());
+    }
+    kept.push(label.try_copy()?)?;
+    Ok(())
+}
+
+// The labels with this one in its place.
+
+fn with(
+    alloc: Global,
+    labels: &[(PlainText, PlainText)],
+    name: &str,
+    value: &str,
+) -> Result<Vec<(PlainText, PlainText)>, AllocError>
+    ensures { IfOk result (λ all. all.items ≡ put name_cmp name.now value.now labels.now) }
+{
+    let new = (
+        PlainText::from_str(alloc, name)?,
+        PlainText::from_str(alloc, value)?,
+    );
+    let mut all = Vec::new(alloc);
+    for (index, label) in labels.iter().enumerate() {
+        match name.cmp(label.0.as_str()) {
+            Ordering::Less => {
+                all.push(new)?;
+                push_copies(&mut all, &labels[index..])?;
+                return Ok(all);
+            }
+            Ordering::Equal => {
+                all.push(new)?;
+                push_copies(&mut all, &labels[index + 1..])?;
+                return Ok(all);
+            }
+            Ordering::Greater => all.push(label.try_copy()?)?,
+        }
+    }
+    all.push(new)?;
+    Ok(all)
+}
+
+fn push_copies(
+    all: &mut Vec<(PlainText, PlainText)>,
+    labels: &[(PlainText, PlainText)],
+) -> Result<(), AllocError>
+    ensures { OnOk result (all.new.items ≡ all.old.items ++ labels.now) }
+{
+    for label in labels {
+        all.push(label.try_copy()?)?;
+    }
+    Ok(())
+}
+
+// The canonical text of labels.
+fn text_of(alloc: Global, labels: &[(PlainText, PlainText)]) -> Result<String, AllocError>
+    ensures { IfOk result (λ text. string_bytes text ≡ labels_text labels.now) }
+{
+    let mut text = String::with_capacity(alloc, room_for(labels))?;
+    text.push('{')?;
+    push_labels(&mut text, labels)?;
+    text.push('}')?;
+    Ok(text)
+}
+
+// About how many bytes the text of these labels has.
+fn room_for(labels: &[(PlainText, PlainText)]) -> usize {
+    let mut room = 2usize;
+    for label in labels {
+        room = room
+            .saturating_add(label.0.len())
+            .saturating_add(label.1.len())
+            .saturating_add(4);
+    }
+    room
+}
+
+#[tactic(auto, using(crate::proofs::Steps::labels_joined))]
+fn push_labels(text: &mut String, labels: &[(PlainText, PlainText)]) -> Result<(), AllocError>
+    ensures { OnOk result (string_bytes text.new ≡ string_bytes text.old ++ join_with_byte 44 (map label_text labels.now)) }
+{
+    match labels {
+        [] => {}
+        [first, rest @ ..] => {
+            push_label(text, first.0.as_str(), first.1.as_str())?;
+            push_others(text, rest)?;
+        }
+    }
+    Ok(())
+}
+
+fn push_others(text: &mut String, labels: &[(PlainText, PlainText)]) -> Result<(), AllocError>
+    ensures { OnOk result (string_bytes text.new ≡ string_bytes text.old ++ flat_map (λ label. 44 ∷ label_text label) labels.now) }
+{
+    for label in labels {
+        text.push(',')?;
+        push_label(text, label.0.as_str(), label.1.as_str())?;
+    }
+    Ok(())
+}
+
+fn push_label(text: &mut String, name: &str, value: &str) -> Result<(), AllocError>
+    ensures { OnOk result (string_bytes text.new ≡ string_bytes text.old ++ label_text (name.now, value.now)) }
+{
+    text.push_str(name)?;
+    text.push_str("=\"")?;
+    push_escaped(text, value)?;
+    text.push_str("\"")
+}
+
+#[tactic(auto, using(crate::proofs::Steps::plain_text))]
+fn push_escaped(text: &mut String, value: &str) -> Result<(), AllocError>
+    ensures { OnOk result (string_bytes text.new ≡ string_bytes text.old ++ escaped value.now) }
+{
+    if !has_escapes(value.as_bytes()) {
+        return text.push_str(value);
+    }
+    for c in value.chars() {
+        push_char(text, c)?;
+    }
+    Ok(())
+}
+
+#[tactic(auto, using(crate::proofs::Steps::plain_char))]
+fn push_char(text: &mut String, c: char) -> Result<(), AllocError>
+    ensures { OnOk result (string_bytes text.new ≡ string_bytes text.old ++ escaped (encode_utf8 c)) }
+{
+    match c {
+        '\\' => text.push_str("\\\\"),
+        '"' => text.push_str("\\\""),
+        '\n' => text.push_str("\\n"),
+        c => text.push(c),
+    }
+}
+
+fn has_escapes(bytes: &[u8]) -> bool
+    ensures { result ≡ list_any is_escaped bytes.now }
+{
+    bytes
+        .iter()
+        .any(|byte| *byte == b'\\' || *byte == b'"' || *byte == b'\n')
+}
+
+// The labels by rising name, and their canonical text.
+#[derive(Debug, Drop)]
+struct Parts {
+    labels: PlainList<(PlainText, PlainText)>,
+    text: PlainText,
+}
+
+/// A label set, shared by its copies. It is compared, ordered and hashed by its canonical text, as in
+/// `{app="a",job="b"}`.
+#[derive(Debug, Drop)]
+pub struct Labels {
+    parts: Arc<Parts>,
+}
+
+impl Model for Labels {
+    ghost use Rattle.rl_labels.specs.LabelSet.{LabelSet, label_set_code};
+
+    ghost Value = { LabelSet };
+
+    ghost coded = { label_set_code };
+
+    ghost use Rattle.rl_labels.specs.Parts.{set_of, AreParts};
+
+    ghost view = { set_of };
+
+    ghost invariant = { AreParts };
+}
+
+impl Labels {
+    ghost use Rattle.rl_labels.specs.LabelSet.{no_labels, with_label, label_set_of, label, labels_of, given};
+    ghost use Rattle.rl_labels.specs.LabelText.{canonical_text};
+    ghost use Rattle.rl_labels.specs.Pairs.{labels_from, has_same_name};
+    ghost use Rattle.rl_labels.specs.EntryParts.{are_stream_labels};
+
+    /// The set of the pairs with a value that is not empty, in any order. The lowest fault is answered.
+    pub fn from_pairs(
+        alloc: Global,
+        pairs: Vec<(PlainText, PlainText)>,
+    ) -> Result<Labels, LabelsError>
+        ensures exact { (result ≡ Err LabelsError.Memory) ⊎ (result ≡ labels_from pairs.items) }
+        ensures bad_name { IsTrue (not (names_are_good pairs.items)) → result ≡ Err LabelsError.BadName }
+        ensures same_name { IsTrue (names_are_good pairs.items && has_same_name pairs.items) → result ≡ Err LabelsError.SameName }
+        ensures of_stream { IfOk result (λ labels. IsTrue (are_stream_labels labels)) }
+        ensures given { IfOk result (λ labels. (name : List ℕ) → label labels name ≡ given pairs.items name) }
+    {
+        labels_from(alloc, pairs)
+    }
+
+    /// The set without labels.
+    pub fn empty(alloc: Global) -> Result<Labels, AllocError>
+        ensures { IfOk result (λ labels. labels ≡ no_labels) }
+    {
+        Labels::from_labels(alloc, Vec::new(alloc))
+    }
+
+    // The set of labels by rising name.
+    fn from_labels(alloc: Global, labels: Vec<(PlainText, PlainText)>) -> Result<Labels, AllocError>
+        requires { IsTrue (are_labels labels.items) }
+        ensures { IfOk result (λ made. made ≡ label_set_of labels.items) }
+    {
+        let text = PlainText::from_string(text_of(alloc, &labels)?);
+        let labels = PlainList::from_vec(labels);
+        let parts = Arc::new(alloc, Parts { labels, text })?;
+        Ok(Labels { parts })
+    }
+
+    /// The set with one label set, or removed where the value is empty. It has no limit of length.
+    pub fn with_label(&self, name: &str, value: &str) -> Result<Labels, AllocError>
+        requires { IsTrue (is_name name.now) }
+        ensures { IfOk result (λ labels. labels ≡ with_label self.now name.now value.now) }
+    {
+        let alloc = self.parts.text.allocator();
+        let labels = overridden(alloc, self.pairs(), name, value)?;
+        let made = Labels::from_labels(alloc, labels)?;
+        Ok(made)
+    }
+
+    /// The value of a label, if the set has it.
+    pub fn get(&self, name: &str) -> Option<&str>
+        ensures { option_copied result ≡ label self.now name.now }
+    {
+        value_in(self.pairs(), name)
+    }
+
+    /// The labels by rising name.
+    pub fn pairs(&self) -> &[(PlainText, PlainText)]
+        ensures { result.now ≡ labels_of self.now }
+    {
+        self.parts.labels.as_slice()
+    }
+
+    /// The canonical text, borrowed.
+    pub fn as_text(&self) -> &str
+        ensures { result.now ≡ canonical_text self.now }
+    {
+        self.parts.text.as_str()
+    }
+
+    /// A copy of the canonical text.
+    pub fn text(&self) -> Result<String, AllocError>
+        ensures { IfOk result (λ text. string_bytes text ≡ canonical_text self.now) }
+    {
+        String::from_str(self.parts.text.allocator(), self.as_text())
+    }
+}
+
+impl TryCopy for Labels {
+    /// Shares the labels, and takes no memory.
+    fn try_copy(&self) -> Result<Self, AllocError> {
+        let parts = Arc::try_clone(&self.parts)?;
+        Ok(Labels { parts })
+    }
+}
+
+impl Same for Labels {
+    fn is_same(&self, other: &Self) -> bool {
+        self.as_text() == other.as_text()
+    }
+}
+
+impl PartialEq for Labels {
+    ghost use Rattle.std.specs.Cmp;
+    ghost use Rattle.rl_labels.specs.LabelText.{label_set_eq};
+    ghost use Rattle.rl_labels.specs.TextLaws.{label_set_eq_equiv};
+
+    ghost eq = { label_set_eq };
+
+    ghost laws = { Cmp.partial_equiv_from_equiv label_set_eq_equiv };
+
+    fn eq(&self, other: &Self) -> bool {
+        self.as_text() == other.as_text()
+    }
+}
+
+impl Eq for Labels {
+    ghost use Rattle.rl_labels.specs.TextLaws.{label_set_eq_equiv};
+
+    ghost laws = { label_set_eq_equiv };
+}
+
+impl PartialOrd for Labels {
+    ghost use Rattle.std.specs.Prelude.{Some};
+    ghost use Rattle.rl_labels.specs.LabelText.{label_set_cmp};
+    ghost use Rattle.rl_labels.specs.TextLaws.{label_set_po};
+
+    ghost partial_cmp = { λ x y. Some (label_set_cmp x y) };
+
+    ghost laws = { label_set_po };
+
+    fn partial_cmp(&self, other: &Self) -> Option<Ordering> {
+        Some(self.cmp(other))
+    }
+}
+
+impl Ord for Labels {
+    ghost use Rattle.std.specs.Prelude.{refl};
+    ghost use Rattle.std.specs.Cmp.Lexicographic.{texts_ties};
+    ghost use Rattle.rl_labels.specs.LabelText.{label_set_cmp, canonical_text};
+    ghost use Rattle.rl_labels.specs.TextLaws.{label_set_cmp_total};
+
+    ghost cmp = { label_set_cmp };
+
+    ghost total = { label_set_cmp_total };
+
+    ghost matches_partial_cmp = { λ x y. refl };
+
+    ghost matches_eq = { λ x y. texts_ties (canonical_text x) (canonical_text y) };
+
+    fn cmp(&self, other: &Self) -> Ordering {
+        self.as_text().cmp(other.as_text())
+    }
+}
+
+impl Hash for Labels {
+    ghost use Rattle.std.proofs.Common.{rules};
+    ghost use Rattle.std.specs.Hash as fed;
+    ghost use Rattle.std.specs.Cmp.Rules.{hashing};
+    ghost use Rattle.rl_labels.specs.LabelText.{canonical_text};
+
+    ghost hash_input = { λ labels. fed.str (canonical_text labels) };
+
+    ghost respects_eq = { Prim.search (hashing, rules) };
+
+    fn hash<H: Hasher>(&self, state: &mut H) {
+        self.as_text().hash(state);
+    }
+}
+
+impl fmt::Display for Labels {
+    ghost use Rattle.std.specs.Prelude.{Some};
+    ghost use Rattle.rl_labels.specs.LabelText.{canonical_text};
+
+    ghost output = { λ labels. Some (canonical_text labels) };
+
+    fn fmt<W: fmt::Write>(&self, f: &mut fmt::Formatter<W>) -> fmt::Result {
+        f.write_str(self.as_text())
+    }
+}

@@ -1,0 +1,19 @@
+//! Label sets, entries, matchers and limits: the values that a log ruler speaks of.
+//!
+//! A label set is seen as a finite map from names to texts that are not empty, `LabelSet`, and two label sets are equal,
+//! ordered and hashed by their canonical texts. Upper crates speak of it by `label`, `value_of` and `canonical_text`.
+//!
+//! - `labels`: `Labels`, made from pairs with named refusals.
+#![tactic(auto)]
+
+pub mod entry;
+pub mod labels;
+pub mod limits;
+pub mod matcher;
+pub mod ns;
+
+pub use entry::{Entry, EntryFault, RefusedEntry};
+pub use labels::{Labels, LabelsError};
+pub use limits::{BadLimit, DEFAULT_LIMITS, LimitField, Limits, RawLimits};
+pub use matcher::{MatchOp, Matcher, MatcherCode, MatcherError};
+pub use ns::Ns;

@@ -1,0 +1,18 @@
+//! Lists and texts as plain data: contracts see a `PlainList<T>` as the list of its items and a `PlainText` as its
+//! bytes, also inside structs and enums, however they nest.
+//!
+//! - `list`: `PlainList<T>`, made from a `Vec` and given back without memory; lawful comparisons and hash.
+//! - `text`: `PlainText`, the same over a `String`.
+//! - `copying`: `TryCopy`, whose copy is the value.
+//! - `sameness`: `Same`, whose answer is true exactly when the two values are one.
+#![tactic(auto)]
+
+pub mod copying;
+pub mod list;
+pub mod sameness;
+pub mod text;
+
+pub use copying::TryCopy;
+pub use list::PlainList;
+pub use sameness::Same;
+pub use text::PlainText;
