@@ -1,0 +1,4 @@
+pub mod Cuts
+pub mod Elements
+pub mod Escaping
+pub mod Texts

@@ -1,0 +1,7 @@
+pub mod Escapes
+pub mod Form
+pub mod Lexing
+pub mod Limits
+pub mod Parsing
+pub mod Printing
+pub mod Reading

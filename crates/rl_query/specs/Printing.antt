@@ -1,0 +1,43 @@
+-- The canonical text of a query.
+use Rattle.std.specs.Prelude.{ℕ, ◌==◌, List, [], ◌∷◌, ◌++◌, if◌then◌else◌, codes}
+use Rattle.std.specs.List.{flat_map}
+use Rattle.std.specs.Fmt.{decimal}
+use Rattle.rl_labels.specs.declared.matcher.MatchOp.{MatchOp}
+use Rattle.rl_labels.specs.declared.matcher.MatchOp.TheVariants as operators
+use Rattle.rl_query.specs.declared.query.RangeFunction.{RangeFunction}
+use Rattle.rl_query.specs.declared.query.RangeFunction.TheVariants as functions
+use Rattle.rl_query.specs.Form.{MatcherForm, RangeForm, TermForm, QueryForm}
+
+-- a byte between quotes: a backslash, a quote, a newline, a carriage return and a tab are escaped, all else stands for itself
+abbrev pub escape : ℕ → List ℕ
+escape byte =
+    if byte == 92 then 92 ∷ 92 ∷ [] else (if byte == 34 then 92 ∷ 34 ∷ [] else (if byte == 10 then 92 ∷ 110 ∷ []
+    else (if byte == 13 then 92 ∷ 114 ∷ [] else (if byte == 9 then 92 ∷ 116 ∷ [] else byte ∷ []))))
+
+abbrev pub escaped : List ℕ → List ℕ
+escaped = flat_map escape
+
+abbrev pub operator_text : MatchOp → List ℕ
+operator_text operators.Equal = codes "="
+
+-- name="value"
+abbrev pub matcher_text : MatcherForm → List ℕ
+matcher_text matcher = matcher.name ++ operator_text matcher.op ++ codes "\"" ++ escaped matcher.value ++ codes "\""
+
+-- the matchers in their order, joined by a comma and a space
+abbrev pub matchers_text : List MatcherForm → List ℕ
+matchers_text [] = []
+matchers_text (matcher ∷ matchers) = matcher_text matcher ++ flat_map (λ other. codes ", " ++ matcher_text other) matchers
+
+-- {a="x", b="y"} [300s]
+abbrev pub range_text : RangeForm → List ℕ
+range_text range = codes "{" ++ matchers_text range.matchers ++ codes "} [" ++ decimal range.seconds ++ codes "s]"
+
+abbrev pub function_text : RangeFunction → List ℕ
+function_text functions.CountOverTime = codes "count_over_time"
+
+abbrev pub term_text : TermForm → List ℕ
+term_text term = function_text term.function ++ codes "(" ++ range_text term.range ++ codes ")"
+
+abbrev pub query_text : QueryForm → List ℕ
+query_text query = term_text query.left

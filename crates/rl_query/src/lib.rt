@@ -1,0 +1,21 @@
+//! Query texts: LogQL metric queries, read from texts and printed canonically.
+//!
+//! `parse` reads a text as a `Query` only where the grammar derives it, and refuses by the first fault from the left.
+//! What `print` writes is read again as the same query.
+//!
+//! - `query`: `Query`, `Term`, `LogRange`, `Selector`.
+//! - `fault`: why a text is refused.
+//! - `token` and `lexer`: the tokens of a text.
+//! - `parser`: `parse`. `printer`: `print` and `print_term`.
+#![tactic(auto)]
+
+pub mod fault;
+pub mod lexer;
+pub mod parser;
+pub mod printer;
+pub mod query;
+pub mod token;
+
+pub use fault::{QueryError, QueryFault};
+pub use printer::{print, print_term};
+pub use query::{LogRange, Query, RangeFunction, Selector, Term};

@@ -1,0 +1,135 @@
+//! The printer: the canonical text of a query.
+ghost use Rattle.std.specs.Prelude.{◌≡◌, ◌++◌, [], ◌∷◌, map, IfOk, OnOk, string_bytes, encode_utf8, codes};
+ghost use Rattle.std.specs.List.{flat_map, list_any};
+ghost use Rattle.rl_query.specs.Form.{matcher_form, range_form, term_form, query_form};
+ghost use Rattle.rl_query.specs.Printing.{escape, escaped, operator_text, matcher_text, matchers_text, range_text, function_text, term_text, query_text};
+ghost use Rattle.rl_query.specs.Escapes.{is_escaped};
+ghost use Rattle.std.specs.Fmt.{decimal};
+
+use crate::query::{LogRange, Query, RangeFunction, Term};
+use rl_labels::{MatchOp, Matcher};
+use std::alloc::{AllocError, Global};
+
+/// The canonical text of a query, as `count_over_time({app="a"} [300s])`.
+pub fn print(alloc: Global, query: &Query) -> Result<String, AllocError>
+    ensures { IfOk result (λ text. string_bytes text ≡ query_text (query_form query.now)) }
+{
+    print_term(alloc, &query.left)
+}
+
+/// The canonical text of a term.
+pub fn print_term(alloc: Global, term: &Term) -> Result<String, AllocError>
+    ensures { IfOk result (λ text. string_bytes text ≡ term_text (term_form term.now)) }
+{
+    let mut text = String::new(alloc);
+    text.push_str(function_name(term.function))?;
+    text.push('(')?;
+    push_range(&mut text, &term.range)?;
+    text.push(')')?;
+    Ok(text)
+}
+
+fn function_name(function: RangeFunction) -> &'static str
+    ensures { result.now ≡ function_text function }
+{
+    match function {
+        RangeFunction::CountOverTime => "count_over_time",
+    }
+}
+
+fn push_range(text: &mut String, range: &LogRange) -> Result<(), AllocError>
+    ensures { OnOk result (string_bytes text.new ≡ string_bytes text.old ++ range_text (range_form range.now)) }
+{
+    text.push('{')?;
+    push_matchers(text, range.selector.matchers.as_slice())?;
+    text.push_str("} [")?;
+    push_number(text, range.seconds)?;
+    text.push_str("s]")
+}
+
+fn push_number(text: &mut String, number: u64) -> Result<(), AllocError>
+    ensures { OnOk result (string_bytes text.new ≡ string_bytes text.old ++ decimal number) }
+{
+    write!(text, "{number}")
+}
+
+fn push_matchers(text: &mut String, matchers: &[Matcher]) -> Result<(), AllocError>
+    ensures { OnOk result (string_bytes text.new ≡ string_bytes text.old ++ matchers_text (map matcher_form matchers.now)) }
+{
+    match matchers {
+        [] => {}
+        [first, rest @ ..] => {
+            push_matcher(text, first)?;
+            push_others(text, rest)?;
+        }
+    }
+    Ok(())
+}
+
+fn push_others(text: &mut String, matchers: &[Matcher]) -> Result<(), AllocError>
+    ensures { OnOk result (string_bytes text.new ≡ string_bytes text.old ++ flat_map (λ other. codes ", " ++ matcher_text other) (map matcher_form matchers.now)) }
+{
+    for matcher in matchers {
+        text.push_str(", ")?;
+        push_matcher(text, matcher)?;
+    }
+    Ok(())
+}
+
+fn push_matcher(text: &mut String, matcher: &Matcher) -> Result<(), AllocError>
+    ensures { OnOk result (string_bytes text.new ≡ string_bytes text.old ++ matcher_text (matcher_form matcher.now)) }
+{
+    text.push_str(matcher.name.as_str())?;
+    text.push_str(operator_sign(matcher.op))?;
+    text.push('"')?;
+    push_escaped(text, matcher.value.as_str())?;
+    text.push('"')?;
+    Ok(())
+}
+
+fn operator_sign(op: MatchOp) -> &'static str
+    ensures { result.now ≡ operator_text op }
+{
+    match op {
+        MatchOp::Equal => "=",
+    }
+}
+
+#[tactic(auto, using(crate::proofs::Escaping::plain_text))]
+fn push_escaped(text: &mut String, value: &str) -> Result<(), AllocError>
+    ensures { OnOk result (string_bytes text.new ≡ string_bytes text.old ++ escaped value.now) }
+{
+    if !has_escapes(value.as_bytes()) {
+        return text.push_str(value);
+    }
+    for c in value.chars() {
+        push_char(text, c)?;
+    }
+    Ok(())
+}
+
+#[tactic(auto, using(crate::proofs::Escaping::plain_char))]
+fn push_char(text: &mut String, c: char) -> Result<(), AllocError>
+    ensures { OnOk result (string_bytes text.new ≡ string_bytes text.old ++ escaped (encode_utf8 c)) }
+{
+    match c {
+        '\\' => text.push_str("\\\\"),
+        '"' => text.push_str("\\\""),
+        '\n' => text.push_str("\\n"),
+        '\r' => text.push_str("\\r"),
+        '\t' => text.push_str("\\t"),
+        c => text.push(c),
+    }
+}
+
+fn has_escapes(bytes: &[u8]) -> bool
+    ensures { result ≡ list_any is_escaped bytes.now }
+{
+    bytes.iter().any(|byte| is_escaped(*byte))
+}
+
+fn is_escaped(byte: u8) -> bool
+    ensures { result ≡ is_escaped byte }
+{
+    byte == b'\\' || byte == b'"' || byte == b'\n' || byte == b'\r' || byte == b'\t'
+}

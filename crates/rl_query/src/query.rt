@@ -1,0 +1,101 @@
+//! Queries as values. Their limits are facts of the types, so a query always has a text that is read again.
+ghost use Rattle.std.specs.Prelude.{◌≤◌, IsTrue};
+ghost use Rattle.rl_query.specs.Limits.{has_real_matcher, longest_range};
+
+use rl_labels::Matcher;
+use rl_plain::{PlainList, Same, TryCopy};
+use std::alloc::AllocError;
+
+/// A metric query.
+#[derive(Debug, Drop, PartialEq, Eq)]
+pub struct Query {
+    pub left: Term,
+}
+
+/// A range aggregation over a log range.
+#[derive(Debug, Drop, PartialEq, Eq)]
+pub struct Term {
+    pub function: RangeFunction,
+    pub range: LogRange,
+}
+
+/// What a range aggregation computes of the entries in its range.
+#[derive(Clone, Copy, Debug, PartialEq, Eq)]
+pub enum RangeFunction {
+    /// `count_over_time`: how many entries there are.
+    CountOverTime,
+}
+
+/// The streams of a selector over a range.
+#[derive(Debug, Drop, PartialEq, Eq)]
+pub struct LogRange {
+    pub selector: Selector,
+    /// The range in seconds, 1 to 2,592,000.
+    pub seconds: u64,
+    ghost in_range: { (1 ≤ seconds) × (seconds ≤ longest_range) },
+}
+
+/// A stream selector: label matchers, of which at least one refuses a stream without its label.
+#[derive(Debug, Drop, PartialEq, Eq)]
+pub struct Selector {
+    pub matchers: PlainList<Matcher>,
+    ghost real: { IsTrue (has_real_matcher matchers) },
+}
+
+impl TryCopy for Selector {
+    fn try_copy(&self) -> Result<Self, AllocError> {
+        let matchers = self.matchers.try_copy()?;
+        Ok(Selector { matchers })
+    }
+}
+
+impl Same for Selector {
+    fn is_same(&self, other: &Self) -> bool {
+        self.matchers.is_same(&other.matchers)
+    }
+}
+
+impl TryCopy for LogRange {
+    fn try_copy(&self) -> Result<Self, AllocError> {
+        let selector = self.selector.try_copy()?;
+        Ok(LogRange {
+            selector,
+            seconds: self.seconds,
+        })
+    }
+}
+
+impl Same for LogRange {
+    fn is_same(&self, other: &Self) -> bool {
+        self.seconds == other.seconds && self.selector.is_same(&other.selector)
+    }
+}
+
+impl TryCopy for Term {
+    fn try_copy(&self) -> Result<Self, AllocError> {
+        let range = self.range.try_copy()?;
+        Ok(Term {
+            function: self.function,
+            range,
+        })
+    }
+}
+
+impl Same for Term {
+    fn is_same(&self, other: &Self) -> bool {
+        self.function == other.function && self.range.is_same(&other.range)
+    }
+}
+
+impl TryCopy for Query {
+    fn try_copy(&self) -> Result<Self, AllocError> {
+        let left = self.left.try_copy()?;
+        Ok(Query { left })
+    }
+}
+
+impl Same for Query {
+    fn is_same(&self, other: &Self) -> bool {
+        self.left.is_same(&other.left)
+    }
+}
