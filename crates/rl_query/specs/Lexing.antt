@@ -107,15 +107,15 @@ one_byte byte =
     else (if byte == 45 then Some signs.Minus else (if byte == 42 then Some signs.Times else (if byte == 37 then Some signs.Percent else (if byte == 94 then Some signs.Power
     else (if byte == 64 then Some signs.At else None))))))))))))))))))
 
+abbrev pub or_else : Option (Sign × List ℕ) → Option (Sign × List ℕ) → Option (Sign × List ℕ)
+or_else (Some x) other = Some x
+or_else None other = other
+
 -- the longest sign at the front, and what follows it
 abbrev pub sign_at : List ℕ → Option (Sign × List ℕ)
 sign_at [] = None
 sign_at (first ∷ []) = option_map (λ sign. (sign, [])) (one_byte first)
 sign_at (first ∷ second ∷ rest) = or_else (option_map (λ sign. (sign, rest)) (two_bytes first second)) (option_map (λ sign. (sign, second ∷ rest)) (one_byte first))
-  where
-    or_else : Option (Sign × List ℕ) → Option (Sign × List ℕ) → Option (Sign × List ℕ)
-    or_else (Some x) other = Some x
-    or_else None other = other
 
 -- a token with what follows it, and a fault at the place where there is none
 abbrev pub at_place : {A : Type 0} → ℕ → (A → Token) → Option (A × List ℕ) → Result (Token × List ℕ) QueryFault

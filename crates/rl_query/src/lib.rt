@@ -17,5 +17,6 @@ pub mod query;
 pub mod token;
 
 pub use fault::{QueryError, QueryFault};
+pub use parser::parse;
 pub use printer::{print, print_term};
 pub use query::{LogRange, Query, RangeFunction, Selector, Term};

@@ -1,9 +1,11 @@
 //! The parser: queries from texts, by the first fault from the left.
-ghost use Rattle.std.specs.Prelude.{◌≡◌, ◌+◌, ◌-◌, slice_index, ◌<◌, ◌≤◌, ℕ, List, [], Option, None, Ok, Err, Some, IfSome, IfOk, IsTrue, length, map, min, not};
+ghost use Rattle.std.specs.Prelude.{◌≡◌, ◌+◌, ◌-◌, slice_index, ◌<◌, ◌≤◌, ℕ, List, [], Option, None, Ok, Err, Some, IfSome, IfOk, MatchResult, IsTrue, length, map, min, not};
 ghost use Rattle.std.specs.List.{list_all, list_any};
 ghost use Rattle.rl_labels.specs.Name.{is_text};
 ghost use Rattle.rl_query.specs.Form.{matcher_form, range_form, term_form, query_form};
+ghost use Rattle.rl_query.specs.Printing.{query_text};
 ghost use Rattle.rl_query.specs.Reading.{Gives};
+ghost use Rattle.rl_query.specs.declared.query.Query.{Query};
 ghost use Rattle.rl_query.specs.Parsing.{is_unsupported, is_unsupported_word, is_unsupported_sign, is_stage, is_operator, is_later_word, refusal, expected, is_mark, is_mark_sign, name_of, content_of, matcher_at, goes_on, element_at, matchers_at, selector_at, unit_of, duration_of, digit_behind, is_unit_letter, is_duration_byte, looks_like_duration, range_of, seconds_of, checked_range, function_of, named_function, range_at, term_at, query_of, ends};
 ghost use Rattle.rl_query.specs.Limits.{has_real_matcher, longest_range};
 ghost use Rattle.rl_labels.specs.Selects.{passes};
@@ -522,7 +524,14 @@ fn term_at(alloc: Global, total: usize, text: &str) -> Result<(Term, &str), Quer
     Ok((Term { function, range }, rest))
 }
 
-// The query that a whole text is.
+/// The query that a whole text is, or the first fault from the left (LogQL).
+pub fn parse(alloc: Global, text: &str) -> Result<Query, QueryError>
+    ensures read { Gives query_form result (query_of text.now) }
+    ensures again { (query : Query) → text.now ≡ query_text (query_form query) → MatchResult result (λ same. same ≡ query) (λ e. e ≡ QueryError.Memory) }
+{
+    read(alloc, text)
+}
+
 #[tactic(auto, unfolding(crate::specs::Parsing::query_of))]
 fn read(alloc: Global, text: &str) -> Result<Query, QueryError>
     ensures { Gives query_form result (query_of text.now) }

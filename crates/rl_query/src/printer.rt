@@ -3,6 +3,7 @@ ghost use Rattle.std.specs.Prelude.{◌≡◌, ◌++◌, [], ◌∷◌, map, IfO
 ghost use Rattle.std.specs.List.{flat_map, list_any};
 ghost use Rattle.rl_query.specs.Form.{matcher_form, range_form, term_form, query_form};
 ghost use Rattle.rl_query.specs.Printing.{escape, escaped, operator_text, matcher_text, matchers_text, range_text, function_text, term_text, query_text};
+ghost use Rattle.rl_query.specs.declared.query.Term.{Term};
 ghost use Rattle.rl_query.specs.Escapes.{is_escaped};
 ghost use Rattle.std.specs.Fmt.{decimal};
 
@@ -17,8 +18,16 @@ pub fn print(alloc: Global, query: &Query) -> Result<String, AllocError>
     print_term(alloc, &query.left)
 }
 
-/// The canonical text of a term.
+/// The canonical text of a term, which no other term has.
 pub fn print_term(alloc: Global, term: &Term) -> Result<String, AllocError>
+    ensures text { IfOk result (λ text. string_bytes text ≡ term_text (term_form term.now)) }
+    ensures alone { IfOk result (λ text. (other : Term) → string_bytes text ≡ term_text (term_form other) → other ≡ term.now) }
+{
+    let text = term_text(alloc, term)?;
+    Ok(text)
+}
+
+fn term_text(alloc: Global, term: &Term) -> Result<String, AllocError>
     ensures { IfOk result (λ text. string_bytes text ≡ term_text (term_form term.now)) }
 {
     let mut text = String::new(alloc);

@@ -1,0 +1,6 @@
+-- A printed query is read as itself.
+use Rattle.rl_query.proofs.Answered.{read_again}
+use Rattle.rl_query.proofs.parser.parse.Goals as goal
+
+pub returns-clause-again : goal.returns-clause-again
+returns-clause-again c = read_again c.read.result c.args.text.now c.read.ensures
