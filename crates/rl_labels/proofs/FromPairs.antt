@@ -1,20 +1,19 @@
 -- From pairs in any order to labels by rising name.
-use Rattle.std.proofs.Common.{◌≡◌, ℕ, zero, suc, ◌+◌, ◌-◌, ◌<◌, ◌≤◌, ◌==◌, nat_lt, Bool, true, false, cond, not, ◌&&◌, ◌||◌, List, [], ◌∷◌, Option, None, Some, length, get_or, T, refl, sym, ap, subst, ◌∙◌, arith}
+use Rattle.std.proofs.Common.{◌≡◌, ℕ, zero, suc, ◌+◌, ◌<◌, ◌≤◌, nat_lt, Bool, true, false, cond, not, ◌&&◌, ◌||◌, List, [], ◌∷◌, None, Some, get_or, refl, sym, ap, subst, ◌∙◌, arith}
 use Rattle.std.specs.Option.{option_and_then}
-use Rattle.std.specs.List.{list_all, list_any, count_by, filter, Contains, All, AllPass}
+use Rattle.std.specs.List.{list_all, list_any, filter, Contains}
 use Rattle.std.specs.List.Sorted.{IsPermutation, IsSorted}
 use Rattle.std.specs.Ordering.{eq_by_cmp, is_lt, is_eq, nat_cmp, ordering_then, ordering_reverse}
 use Rattle.std.specs.declared.cmp.Ordering.{Ordering}
 use Rattle.std.specs.declared.cmp.Ordering.TheVariants.{Less, Equal, Greater}
-use Rattle.std.specs.Cmp.{IsTotalOrder}
 use Rattle.std.specs.Cmp.Lexicographic.{texts_ties, slice_cmp}
 use Rattle.std.specs.FinMap.Entries.{find, is_sorted, below_all}
-use Rattle.std.proofs.lemmas.Bool.{and_parts, and_from, and_cases, or_parts, true≢false, lt-ltb, le-ltb, cases_lt, false_from_ne_true}
+use Rattle.std.proofs.lemmas.Bool.{and_parts, and_from, true≢false, lt-ltb, le-ltb}
 use Rattle.std.proofs.lemmas.List.Sorted.{sum_by-IsPermutation, Contains-permutation, All-permutation, IsPermutation-sym}
 use Rattle.std.proofs.lemmas.List.Sums.{sum_by-cons, AllPass-from_list_all, list_all-from_AllPass}
 use Rattle.std.proofs.lemmas.Cmp.{tied_itself}
 use Rattle.rl_labels.specs.Name.{name_cmp, is_text, is_name, is_stream_name}
-use Rattle.rl_labels.specs.LabelSet.{Pair, is_empty, is_label, are_labels, LabelSet, labels_of, label, label_set_of, non_empty, given}
+use Rattle.rl_labels.specs.LabelSet.{Pair, is_empty, is_label, are_labels, label, label_set_of, non_empty, given}
 use Rattle.rl_labels.specs.LabelLaws.{name_cmp_total, name_cmp-IsAntisymmetric, same_text, is_text_itself, other_texts, same_label_set, are_named, are_named-labels, label-label_set_of, given-labels}
 use Rattle.rl_labels.specs.Pairs.{names_are_good, times_named, has_same_name}
 use Rattle.rl_labels.specs.Rising.{pair_cmp, rises, has_value}

@@ -1,3 +1,4 @@
+pub mod Examples
 pub mod FromPairs
 pub mod Overrides
 pub mod PairAnswers

@@ -1,5 +1,5 @@
 -- What the pairs answer, case by case.
-use Rattle.std.proofs.Common.{◌≡◌, ◌⊎◌, inl, inr, ⊎_elim, ℕ, ◌<◌, ◌≤◌, nat_lt, Bool, true, false, cond, not, ◌&&◌, List, Ok, Err, Result, length, refl, sym, ap, ◌∙◌, arith, IsTrue, IfOk}
+use Rattle.std.proofs.Common.{◌≡◌, ◌⊎◌, inl, inr, ⊎_elim, ℕ, ◌<◌, ◌≤◌, nat_lt, Bool, true, false, cond, not, ◌&&◌, List, Ok, Err, Result, length, refl, sym, ap, ◌∙◌, IsTrue, IfOk}
 use Rattle.std.proofs.lemmas.Bool.{and_parts, and_from, true≢false, lt-ltb, le-ltb, le-leb, ltb-false}
 use Rattle.rl_labels.specs.LabelSet.{Pair, LabelSet, labels_of, label, label_set_of, given}
 use Rattle.rl_labels.specs.LabelText.{canonical_text}

@@ -1,5 +1,5 @@
 -- What a log entry may have.
-use Rattle.std.specs.Prelude.{ℕ, ◌==◌, nat_le, nat_lt, Bool, not, ◌&&◌, List, length, Option, None, Some, if◌then◌else◌}
+use Rattle.std.specs.Prelude.{ℕ, ◌==◌, nat_le, Bool, not, ◌&&◌, length}
 use Rattle.rl_labels.specs.LabelSet.{LabelSet, labels_of}
 use Rattle.rl_labels.specs.LabelText.{canonical_text}
 use Rattle.rl_labels.specs.Pairs.{names_are_good, longest_text}

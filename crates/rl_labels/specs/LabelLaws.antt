@@ -1,18 +1,18 @@
 -- What label sets answer after a change, and that two sets with the same answers are one.
-use Rattle.std.specs.Prelude.{◌≡◌, ℕ, Bool, true, false, cond, not, ◌&&◌, List, [], ◌∷◌, Option, None, Some, T, refl, is_some}
-use Rattle.std.specs.Option.{unwrap_or, option_and_then}
-use Rattle.std.specs.List.{list_all, filter}
-use Rattle.std.specs.Ordering.{eq_by_cmp, nat_cmp, is_eq}
+use Rattle.std.specs.Prelude.{◌≡◌, ℕ, Bool, true, false, cond, not, List, [], ◌∷◌, Option, None, Some, T, refl}
+use Rattle.std.specs.Option.{option_and_then}
+use Rattle.std.specs.List.{list_all}
+use Rattle.std.specs.Ordering.{eq_by_cmp, is_eq}
 use Rattle.std.specs.declared.cmp.Ordering.{Ordering}
 use Rattle.std.specs.declared.cmp.Ordering.TheVariants.{Less, Equal, Greater}
-use Rattle.std.specs.Cmp.{IsTotalOrder, eq_by_cmp_equiv, alike_right}
+use Rattle.std.specs.Cmp.{IsTotalOrder}
 use Rattle.std.specs.Cmp.Lexicographic.{nat_list_cmp_total, nat_list_eq_equiv, texts_ties}
 use Rattle.std.specs.FinMap.{IsAntisymmetric, slice_cmp-IsAntisymmetric, nat_cmp-IsAntisymmetric}
 use Rattle.std.specs.FinMap.Entries.{find, put, where_key, is_sorted, is_sorted-put, is_sorted-where_key, find-put, find-where_key, same_entries, by_order}
 use Rattle.std.proofs.Common.{sym, ap, subst, ◌∙◌}
 use Rattle.std.proofs.lemmas.Bool.{and_parts, and_from, true≢false}
 use Rattle.rl_labels.specs.Name.{name_cmp, is_name, is_text}
-use Rattle.rl_labels.specs.LabelSet.{Pair, is_empty, is_label, are_labels, LabelSet, labels_of, label, same_labels, labels_are_proper, no_labels, override, with_label, label_set_of, non_empty, given, labels_of-with_label_checked, labels_of-no_labels}
+use Rattle.rl_labels.specs.LabelSet.{Pair, is_empty, is_label, are_labels, LabelSet, labels_of, label, same_labels, labels_are_proper, override, with_label, label_set_of, non_empty, given, labels_of-with_label_checked, labels_of-no_labels}
 
 pub name_cmp_total : IsTotalOrder name_cmp
 name_cmp_total = nat_list_cmp_total

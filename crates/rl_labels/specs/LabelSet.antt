@@ -2,13 +2,10 @@
 -- `labels_of`, its labels by rising name.
 use Rattle.std.specs.Prelude.{◌≡◌, ℕ, ◌==◌, Bool, true, false, cond, not, ◌&&◌, List, [], ◌∷◌, length, Option, None, Some, T, refl}
 use Rattle.std.specs.Option.{unwrap_or, option_and_then}
-use Rattle.std.specs.List.{list_all, filter}
-use Rattle.std.specs.Ordering.{eq_by_cmp, nat_cmp}
+use Rattle.std.specs.List.{list_all}
 use Rattle.std.specs.Coded.{Coded, coded_ℕ, coded_list, coded×}
-use Rattle.std.specs.Cmp.Lexicographic.{nat_list_cmp_total, texts_ties}
-use Rattle.std.specs.FinMap.{IsAntisymmetric, slice_cmp-IsAntisymmetric, nat_cmp-IsAntisymmetric}
-use Rattle.std.specs.FinMap.Entries.{find, put, where_key, is_sorted, is_sorted-put, is_sorted-where_key, find-put, find-where_key, same_entries}
-use Rattle.std.proofs.Common.{sym, ap, subst, ◌∙◌, arith}
+use Rattle.std.specs.FinMap.Entries.{find, put, where_key, is_sorted}
+use Rattle.std.proofs.Common.{sym, subst}
 use base.Stored.{coded_via}
 use lib.Dec.{T_prop}
 use mathlib.Core.HLevel.{Σ_prop_path}

@@ -3,7 +3,7 @@ use Rattle.std.specs.Prelude.{ℕ, nat_le, Bool, ◌&&◌, Option, None, Some, i
 use Rattle.rl_labels.specs.declared.limits.Limits.{Limits}
 use Rattle.rl_labels.specs.declared.limits.RawLimits.{RawLimits}
 use Rattle.rl_labels.specs.declared.limits.LimitField.{LimitField}
-use Rattle.rl_labels.specs.declared.limits.LimitField.TheVariants.{Entries, ChunkEntries, ChunkAge, Cancel, Keep, Cache, Records, FirstBlob}
+use Rattle.rl_labels.specs.declared.limits.LimitField.TheVariants.{Entries, ChunkEntries, ChunkAge, Cancel, Keep, Cache, Records}
 
 abbrev pub in_range : ℕ → ℕ → ℕ → Bool
 in_range least most n = nat_le least n && nat_le n most

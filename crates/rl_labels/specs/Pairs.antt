@@ -1,5 +1,5 @@
 -- What `Labels::from_pairs` answers.
-use Rattle.std.specs.Prelude.{◌≡◌, ◌⊎◌, ◌&&◌, IsTrue, ℕ, Bool, not, ◌==◌, nat_lt, List, length, Result, Ok, Err, if◌then◌else◌}
+use Rattle.std.specs.Prelude.{◌≡◌, ◌⊎◌, ◌&&◌, IsTrue, ℕ, Bool, not, nat_lt, List, length, Result, Ok, Err, if◌then◌else◌}
 use Rattle.std.specs.List.{list_all, list_any, count_by}
 use Rattle.rl_labels.specs.Name.{is_text, is_stream_name}
 use Rattle.rl_labels.specs.LabelSet.{Pair, LabelSet, label_set_of}

@@ -1,5 +1,5 @@
 -- How a label set is held: its labels by rising name, and its canonical text.
-use Rattle.std.specs.Prelude.{◌≡◌, List, ℕ, IsTrue}
+use Rattle.std.specs.Prelude.{◌≡◌, IsTrue}
 use Rattle.std.specs.Arc.{arc_value}
 use Rattle.rl_labels.specs.LabelSet.{LabelSet, are_labels, label_set_of}
 use Rattle.rl_labels.specs.LabelText.{labels_text}

@@ -1,18 +1,18 @@
 -- Equal texts are texts of equal label sets, so the order by texts is an order of label sets.
-use Rattle.std.specs.Prelude.{◌≡◌, ℕ, ◌+◌, ◌<◌, ◌==◌, Bool, true, false, cond, not, ◌&&◌, ◌||◌, List, [], ◌∷◌, ◌++◌, length, map, T, refl, codes, Some}
-use Rattle.std.specs.List.{list_all, flat_map, join_with_byte}
+use Rattle.std.specs.Prelude.{◌≡◌, ℕ, ◌<◌, ◌==◌, true, false, cond, not, ◌&&◌, ◌||◌, List, [], ◌∷◌, ◌++◌, length, map, refl, Some}
+use Rattle.std.specs.List.{list_all, join_with_byte}
 use Rattle.std.specs.Int.{is_in_range}
 use Rattle.std.specs.Cmp.{IsTotalOrder, IsEquivalence, IsPartialOrder, on_po}
 use Rattle.std.specs.Cmp.Lexicographic.{nat_list_cmp_total, nat_list_eq_equiv, texts_po}
 use Rattle.std.specs.FinMap.{IsAntisymmetric}
 use Rattle.std.specs.FinMap.Entries.{is_sorted}
-use Rattle.std.proofs.Common.{sym, ap, subst, ◌∙◌, arith, append_assoc, length-append, eqb}
+use Rattle.std.proofs.Common.{sym, ap, ◌∙◌, arith, append_assoc, length-append}
 use Rattle.std.proofs.lemmas.Bool.{and_parts, true≢false, eqb-true}
 use Rattle.std.proofs.lemmas.Cmp.{on_total, on_equiv}
-use Rattle.rl_labels.specs.Name.{name_cmp, is_name, is_name_byte, is_name_start, is_text}
-use Rattle.rl_labels.specs.LabelSet.{Pair, is_empty, is_label, are_labels, LabelSet, labels_of, labels_are_proper, same_labels}
+use Rattle.rl_labels.specs.Name.{name_cmp, is_name, is_name_byte, is_name_start}
+use Rattle.rl_labels.specs.LabelSet.{Pair, is_empty, is_label, LabelSet, labels_of, labels_are_proper, same_labels}
 use Rattle.rl_labels.specs.LabelLaws.{name_cmp-IsAntisymmetric, same_text, is_text_itself, true_from}
-use Rattle.rl_labels.specs.LabelText.{escape, escaped, label_text, labels_text, canonical_text, label_set_cmp, label_set_eq}
+use Rattle.rl_labels.specs.LabelText.{escaped, label_text, labels_text, canonical_text, label_set_cmp, label_set_eq}
 
 abbrev onto : ℕ → List ℕ × List ℕ → List ℕ × List ℕ
 onto byte pair = (byte ∷ pair.0, pair.1)

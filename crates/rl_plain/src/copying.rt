@@ -1,9 +1,9 @@
 //! Copies of plain data.
 ghost use Rattle.std.specs.Prelude.{◌≡◌, IfOk};
 
-use std::alloc::AllocError;
 use crate::list::PlainList;
 use crate::text::PlainText;
+use std::alloc::AllocError;
 
 /// Plain data, whose copy is the value. It takes the memory of the allocators that the value keeps, and answers
 /// `AllocError` where that has none.

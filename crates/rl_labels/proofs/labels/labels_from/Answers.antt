@@ -1,10 +1,9 @@
 -- Each exit is the answer of the pairs.
-use Rattle.std.proofs.Common.{◌≡◌, ◌<◌, ◌≤◌, true, false, length, sym, ap, subst, ◌∙◌, arith, ℕ}
-use Rattle.std.specs.List.{filter}
+use Rattle.std.proofs.Common.{◌≡◌, true, length, sym, ap, ◌∙◌, arith}
 use Rattle.rl_labels.specs.LabelSet.{are_labels, label_set_of}
 use Rattle.rl_labels.specs.LabelText.{canonical_text}
-use Rattle.rl_labels.specs.Pairs.{names_are_good, has_same_name, longest_text}
-use Rattle.rl_labels.specs.Rising.{rises, has_value}
+use Rattle.rl_labels.specs.Pairs.{names_are_good}
+use Rattle.rl_labels.specs.Rising.{rises}
 use Rattle.rl_labels.proofs.FromPairs.{Sorts, twice_sorts, once_sorts, no_same_name, labels_sorts, set_sorts}
 use Rattle.rl_labels.proofs.PairAnswers.{bad_names, same_names, no_memory, long_text, labels_made}
 use Rattle.rl_labels.proofs.labels.labels_from.Goals as goal

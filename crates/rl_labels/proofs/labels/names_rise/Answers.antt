@@ -1,5 +1,5 @@
 -- At the end at most one pair is left.
-use Rattle.std.proofs.Common.{◌≡◌, ◌-◌, sym, ◌∙◌, arith, drop, length, length-drop, ◌≤◌}
+use Rattle.std.proofs.Common.{◌-◌, sym, ◌∙◌, arith, drop, length-drop}
 use Rattle.rl_labels.proofs.Steps.{rises_short}
 use Rattle.rl_labels.proofs.labels.names_rise.Goals as goal
 

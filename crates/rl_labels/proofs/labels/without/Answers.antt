@@ -1,5 +1,5 @@
 -- One more label is kept where its name is another.
-use Rattle.std.proofs.Common.{◌≡◌, ◌<◌, ◌++◌, ◌∷◌, [], length, cond, sym, ap, ◌∙◌, arith}
+use Rattle.std.proofs.Common.{◌<◌, ◌++◌, ◌∷◌, [], length, cond, sym, ap, ◌∙◌, arith}
 use Rattle.rl_labels.specs.Name.{is_text}
 use Rattle.rl_labels.proofs.Steps.{where_key_front}
 use Rattle.rl_labels.proofs.labels.without.Goals as goal

@@ -1,11 +1,7 @@
 -- The labels so far, but the one with the name.
-use Rattle.std.proofs.Common.{◌≡◌, ◌++◌, ◌∷◌, [], ◌-◌, ◌==◌, cond, not, take, drop, string_bytes, map}
-use Rattle.std.specs.List.{join_with_byte}
-use Rattle.std.specs.Str.{encode_utf8_all}
-use Rattle.std.specs.FinMap.Entries.{find, put, where_key}
+use Rattle.std.proofs.Common.{◌≡◌, not, take}
+use Rattle.std.specs.FinMap.Entries.{where_key}
 use Rattle.rl_labels.specs.Name.{name_cmp, is_text}
-use Rattle.rl_labels.specs.LabelText.{label_text, escaped}
-use Rattle.rl_labels.specs.Rising.{rises}
 use Rattle.rl_labels.proofs.labels.without.Given as goal
 
 abbrev pub invariant-loop-label : goal.invariant-loop-label

@@ -1,5 +1,5 @@
 -- The labels are those of the set, overridden.
-use Rattle.std.proofs.Common.{◌≡◌, ap, ◌∙◌}
+use Rattle.std.proofs.Common.{ap, ◌∙◌}
 use Rattle.rl_labels.specs.LabelSet.{override}
 use Rattle.rl_labels.proofs.Overrides.{override_labels, override_set}
 use Rattle.rl_labels.proofs.labels.Labels.with_label.Goals as goal
