@@ -1,20 +1,18 @@
 -- What was printed is read again, token by token.
-use Rattle.std.proofs.Common.{◌≡◌, inl, inr, ⊎_elim, ℕ, zero, suc, ◌+◌, ◌-◌, ◌*◌, ◌<◌, ◌≤◌, ◌==◌, nat_lt, nat_le, min, Bool, true, false, cond, not, ◌&&◌, ◌||◌, List, [], ◌∷◌, ◌++◌, map, Option, Some, None, Result, Ok, Err, length, take, drop, refl, sym, ap, subst, ◌∙◌, arith, append_assoc, append-nil, length-append, IfSome}
-use Rattle.std.specs.List.{prefix_len, list_all, list_any, flat_map}
+use Rattle.std.proofs.Common.{◌≡◌, ℕ, suc, ◌+◌, ◌-◌, ◌==◌, Bool, true, false, cond, ◌||◌, List, [], ◌∷◌, ◌++◌, Some, None, Ok, length, take, drop, refl, sym, ap, ◌∙◌, arith}
+use Rattle.std.specs.List.{prefix_len, list_all}
 use Rattle.std.specs.Option.{option_map}
 use Rattle.std.specs.Char.{is_ascii_digit}
-use Rattle.std.proofs.lemmas.Bool.{and_parts, and_from, true≢false, eqb-true, le-leb, lt-ltb, le-ltb, cond-true, cond-false}
+use Rattle.std.proofs.lemmas.Bool.{and_parts, and_from, true≢false, eqb-true, cond-true, cond-false}
 use Rattle.std.proofs.lemmas.Bool.Decides.{nat_tests}
 use Rattle.std.proofs.Math.Utf8.{encode}
-use Rattle.rl_labels.specs.Name.{is_name, is_name_start, is_name_byte, is_text}
-use Rattle.rl_query.specs.declared.fault.QueryFault.{QueryFault}
+use Rattle.rl_labels.specs.Name.{is_name, is_name_start, is_name_byte}
 use Rattle.rl_query.specs.declared.token.Sign.{Sign}
 use Rattle.rl_query.specs.declared.token.Sign.TheVariants as signs
 use Rattle.rl_query.specs.declared.token.Token.{Token}
 use Rattle.rl_query.specs.declared.token.Token.TheVariants as tokens
-use Rattle.rl_query.specs.declared.token.Lexeme.{Lexeme}
-use Rattle.rl_query.specs.Lexing.{is_space, gap_len, is_number_byte, run_at, onto, quoted, or_else, sign_at, one_byte, two_bytes, at_place, token_at, lexeme_at}
-use Rattle.rl_query.specs.Printing.{escape, escaped}
+use Rattle.rl_query.specs.Lexing.{is_space, gap_len, run_at, onto, quoted, or_else, sign_at, one_byte, two_bytes, at_place, token_at, lexeme_at}
+use Rattle.rl_query.specs.Printing.{escaped}
 use Rattle.rl_query.specs.Reading.{◌>>=◌}
 
 -- a token at the front, with no gap before it

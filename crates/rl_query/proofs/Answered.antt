@@ -1,15 +1,17 @@
 -- What `parse` and `print_term` answer of printed texts.
-use Rattle.std.proofs.Common.{◌≡◌, ℕ, List, Result, Ok, Err, sym, ap, ◌∙◌, MatchResult, IfOk, String, Global, string_bytes}
+use Rattle.std.proofs.Common.{◌≡◌, ℕ, List, Result, Ok, Err, sym, ap, ◌∙◌, MatchResult, IfOk}
 use Rattle.rl_query.specs.declared.fault.QueryFault.{QueryFault}
 use Rattle.rl_query.specs.declared.fault.QueryError.{QueryError}
 use Rattle.rl_query.specs.declared.fault.QueryError.TheVariants as errors
 use Rattle.rl_query.specs.declared.query.Query.{Query}
 use Rattle.rl_query.specs.declared.query.Term.{Term}
-use Rattle.rl_query.specs.Form.{QueryForm, TermForm, term_form, query_form}
+use Rattle.rl_query.specs.Form.{QueryForm, term_form, query_form}
+use Rattle.rl_query.specs.Grammar.{Derives}
 use Rattle.rl_query.specs.Parsing.{query_of}
 use Rattle.rl_query.specs.Printing.{term_text, query_text}
-use Rattle.rl_query.specs.Reading.{Gives, Fails}
+use Rattle.rl_query.specs.Reading.{Gives}
 use Rattle.rl_query.proofs.Parts.{query_again}
+use Rattle.rl_query.proofs.Rules.{query_derived}
 use Rattle.rl_query.proofs.SameQuery.{same_query, same_term, keeps_limits}
 
 pub read_again : (r : Result Query QueryError) (text : List ℕ) → Gives query_form r (query_of text) → (q : Query) → text ≡ query_text (query_form q) → MatchResult r (λ same. same ≡ q) (λ e. e ≡ errors.Memory)
@@ -35,3 +37,8 @@ alone a b e =
     sym (query_again (query_form (as_query a)) (keeps_limits (as_query a))) ∙ ap query_of e ∙ query_again (query_form (as_query b)) (keeps_limits (as_query b)) in
     let forms : query_form (as_query a) ≡ query_form (as_query b) = cc in
     same_term a b (ap (λ f. f.left) forms)
+
+-- a query that was read is derived
+pub derived : (r : Result Query QueryError) (text : List ℕ) → Gives query_form r (query_of text) → IfOk r (λ q. Derives text (query_form q))
+derived (Ok q) text read = query_derived text (query_form q) read
+derived (Err e) text read = tt

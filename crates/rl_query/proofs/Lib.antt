@@ -1,8 +1,10 @@
 pub mod Again
 pub mod Answered
 pub mod Cuts
+pub mod Derived
 pub mod Elements
 pub mod Escaping
 pub mod Parts
+pub mod Rules
 pub mod SameQuery
 pub mod Texts

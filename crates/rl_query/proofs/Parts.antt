@@ -1,24 +1,23 @@
 -- What was printed is read again, part by part.
-use Rattle.std.proofs.Common.{◌≡◌, ℕ, zero, suc, ◌+◌, ◌-◌, ◌*◌, ◌/◌, ◌%◌, ◌^◌, ◌<◌, ◌≤◌, ◌==◌, nat_lt, nat_le, min, Bool, true, false, cond, not, ◌&&◌, ◌||◌, List, [], ◌∷◌, ◌++◌, map, Option, Some, None, Result, Ok, Err, length, take, drop, refl, sym, ap, subst, ◌∙◌, arith, append_assoc, append-nil, length-append, codes}
-use Rattle.std.specs.List.{prefix_len, list_all, list_any, flat_map}
+use Rattle.std.proofs.Common.{◌≡◌, ℕ, zero, suc, ◌+◌, ◌-◌, ◌*◌, ◌/◌, ◌%◌, ◌^◌, ◌<◌, ◌≤◌, ◌==◌, nat_le, Bool, true, false, cond, ◌&&◌, List, [], ◌∷◌, ◌++◌, Some, None, Ok, length, refl, sym, ap, ◌∙◌, arith, append_assoc, length-append, codes}
+use Rattle.std.specs.List.{list_all, flat_map}
 use Rattle.std.specs.Option.{option_and_then}
 use Rattle.std.specs.Char.{is_ascii_digit}
 use Rattle.std.specs.Fmt.{decimal}
 use Rattle.std.proofs.lemmas.Fmt.{decimal_by_steps}
-use Rattle.std.proofs.lemmas.Bool.{and_parts, and_from, true≢false, eqb-true, le-leb, lt-ltb, le-ltb, cond-true, cond-false}
+use Rattle.std.proofs.lemmas.Bool.{and_parts, and_from, true≢false, le-leb, cond-true, cond-false}
 use Rattle.std.proofs.lemmas.Bool.Decides.{nat_tests}
-use Rattle.rl_labels.specs.Name.{is_name, is_name_start, is_name_byte, is_text}
+use Rattle.rl_labels.specs.Name.{is_name, is_name_start}
 use Rattle.rl_labels.specs.declared.matcher.MatchOp.{MatchOp}
 use Rattle.rl_labels.specs.declared.matcher.MatchOp.TheVariants as operators
 use Rattle.rl_query.specs.declared.query.RangeFunction.{RangeFunction}
 use Rattle.rl_query.specs.declared.query.RangeFunction.TheVariants as functions
 use Rattle.rl_query.specs.declared.token.Token.TheVariants as tokens
-use Rattle.rl_query.specs.Form.{MatcherForm, RangeForm, TermForm, QueryForm, has_real_form}
+use Rattle.rl_query.specs.Form.{MatcherForm, QueryForm, has_real_form}
 use Rattle.rl_query.specs.Lexing.{is_space, gap_len, lexeme_at, is_number_byte, run_at, token_at}
 use Rattle.rl_query.specs.Limits.{longest_range}
-use Rattle.rl_query.specs.Parsing.{expected, matcher_at, goes_on, element_at, matchers_at, selector_at, capped, Progress, digit_behind, duration_from, duration_of, range_of, seconds_of, checked_range, range_at, term_at, query_of}
-use Rattle.rl_query.specs.Printing.{escaped, matcher_text, matchers_text, range_text, term_text, query_text}
-use Rattle.rl_query.specs.Reading.{◌>>=◌}
+use Rattle.rl_query.specs.Parsing.{expected, matcher_at, element_at, matchers_at, selector_at, capped, Progress, digit_behind, duration_from, duration_of, range_at, term_at, query_of}
+use Rattle.rl_query.specs.Printing.{escaped, matcher_text, query_text}
 use Rattle.rl_query.proofs.Again.{lexeme_here, space_passed, word_again, text_again, run_again, open_parenthesis, close_parenthesis, open_brace, close_brace, open_bracket, close_bracket, comma, equal_sign, at_end}
 
 -- the text of a matcher and what follows it

@@ -1,17 +1,15 @@
 -- Queries with one form are one, and each keeps its limits.
-use Rattle.std.proofs.Common.{◌≡◌, ℕ, ◌≤◌, Bool, true, ◌&&◌, ◌||◌, not, List, [], ◌∷◌, map, refl, sym, ap, ◌∙◌, IsTrue}
-use Rattle.std.specs.List.{list_all, list_any}
+use Rattle.std.proofs.Common.{◌≡◌, ℕ, ◌≤◌, true, List, [], ◌∷◌, map, refl, ap, ◌∙◌, IsTrue}
 use Rattle.std.proofs.lemmas.Bool.{and_from}
 use Rattle.std.proofs.Props.{props}
 use mathlib.Core.HLevel.{Σ_prop_path}
 use Rattle.rl_labels.specs.Name.{is_name}
 use Rattle.rl_labels.specs.declared.matcher.Matcher.{Matcher}
-use Rattle.rl_labels.specs.declared.matcher.MatchOp.{MatchOp}
 use Rattle.rl_query.specs.declared.query.Query.{Query}
 use Rattle.rl_query.specs.declared.query.Term.{Term}
 use Rattle.rl_query.specs.declared.query.LogRange.{LogRange}
 use Rattle.rl_query.specs.declared.query.Selector.{Selector}
-use Rattle.rl_query.specs.Form.{MatcherForm, RangeForm, TermForm, QueryForm, matcher_form, range_form, term_form, query_form, has_real_form}
+use Rattle.rl_query.specs.Form.{MatcherForm, matcher_form, range_form, term_form, query_form}
 use Rattle.rl_query.specs.Limits.{has_real_matcher, longest_range}
 use Rattle.rl_query.proofs.Elements.{real_forms}
 use Rattle.rl_query.proofs.Parts.{Keeps, are_named}

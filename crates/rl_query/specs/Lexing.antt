@@ -2,7 +2,7 @@
 use Rattle.std.specs.Prelude.{◌≡◌, ℕ, zero, suc, ◌+◌, ◌-◌, ◌*◌, ◌==◌, nat_le, nat_lt, Bool, true, false, not, ◌&&◌, ◌||◌, List, [], ◌∷◌, ◌++◌, length, take, drop, slice_index, Option, Some, None, Result, Ok, Err, if◌then◌else◌, encode_utf8}
 use Rattle.std.specs.Option.{option_and_then, option_map}
 use Rattle.std.specs.List.{prefix_len}
-use Rattle.std.specs.Char.{is_ascii_digit, is_ascii_lowercase, is_ascii_uppercase}
+use Rattle.std.specs.Char.{is_ascii_digit}
 use Rattle.rl_labels.specs.Name.{is_name_start, is_name_byte}
 use Rattle.rl_query.specs.declared.fault.QueryFault.{QueryFault}
 use Rattle.rl_query.specs.declared.fault.QueryFault.TheVariants.{Syntax}

@@ -1,5 +1,6 @@
 pub mod Escapes
 pub mod Form
+pub mod Grammar
 pub mod Lexing
 pub mod Limits
 pub mod Parsing

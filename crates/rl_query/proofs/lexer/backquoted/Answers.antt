@@ -1,6 +1,5 @@
 -- The text up to the backquote.
-use Rattle.std.proofs.Common.{◌≡◌, ◌==◌, ◌<◌, Some, false, true, length, drop, get_or, sym, ap, subst, ◌∙◌}
-use Rattle.std.specs.List.{prefix_len}
+use Rattle.std.proofs.Common.{◌==◌, Some, length, drop, sym, ap, ◌∙◌}
 use Rattle.rl_query.specs.Lexing.{is_raw}
 use Rattle.rl_query.proofs.Texts.{backquoted_none, backquoted_some, none_left, first_of, stops, raw_stop}
 use Rattle.rl_query.proofs.lexer.backquoted.Goals as goal

@@ -1,5 +1,5 @@
 -- A gap ends behind an ASCII byte.
-use Rattle.std.proofs.Common.{◌≡◌, false, sym, ap, subst, ◌∙◌}
+use Rattle.std.proofs.Common.{false, sym, ap, subst, ◌∙◌}
 use Rattle.std.specs.Str.{IsCharBoundary}
 use Rattle.rl_query.specs.Lexing.{gap_len}
 use Rattle.rl_query.proofs.Cuts.{gap_boundary}

@@ -1,5 +1,5 @@
 -- Each turn reads up to the next quote or escape.
-use Rattle.std.proofs.Common.{◌≡◌, ◌==◌, ◌<◌, ◌≤◌, ◌-◌, false, Some, length, drop, get_or, string_bytes, sym, ap, subst, ◌∙◌, arith, length-drop}
+use Rattle.std.proofs.Common.{◌≡◌, ◌==◌, ◌≤◌, ◌-◌, false, Some, length, get_or, string_bytes, sym, ap, ◌∙◌, arith, length-drop}
 use Rattle.std.specs.List.{prefix_len}
 use Rattle.std.proofs.lemmas.Bool.{eqb-false}
 use Rattle.rl_query.specs.Lexing.{quoted, is_plain}

@@ -1,9 +1,9 @@
 -- Each turn reads one matcher more.
-use Rattle.std.proofs.Common.{◌≡◌, ◌++◌, ◌∷◌, [], length, map, Bool, true, false, Ok, rules, sym, ap, ◌∙◌}
+use Rattle.std.proofs.Common.{◌≡◌, ◌++◌, ◌∷◌, [], length, map, Bool, Ok, rules, ap, ◌∙◌}
 use Rattle.std.proofs.lemmas.Result.{err_from_is_err_and}
 use Rattle.std.proofs.lemmas.List.{map_push}
 use Rattle.rl_query.specs.Form.{matcher_form}
-use Rattle.rl_query.specs.Parsing.{element_at, matchers_at}
+use Rattle.rl_query.specs.Parsing.{matchers_at}
 use Rattle.rl_query.proofs.Elements.{one_more, last_one, ends, none_ends}
 use Rattle.rl_query.proofs.parser.matchers_at.Goals as goal
 

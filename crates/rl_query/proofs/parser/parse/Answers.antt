@@ -1,6 +1,9 @@
--- A printed query is read as itself.
-use Rattle.rl_query.proofs.Answered.{read_again}
+-- What is read is derived, and a printed query is read as itself.
+use Rattle.rl_query.proofs.Answered.{derived, read_again}
 use Rattle.rl_query.proofs.parser.parse.Goals as goal
 
 pub returns-clause-again : goal.returns-clause-again
 returns-clause-again c = read_again c.read.result c.args.text.now c.read.ensures
+
+pub returns-clause-derives : goal.returns-clause-derives
+returns-clause-derives c = derived c.read.result c.args.text.now c.read.ensures
