@@ -3,6 +3,7 @@ use Rattle.std.specs.Prelude.{ℕ, zero, suc, ◌+◌, ◌-◌, ◌*◌, ◌==�
 use Rattle.std.specs.Option.{option_and_then}
 use Rattle.std.specs.List.{list_any, list_all}
 use Rattle.std.specs.Char.{is_ascii_digit}
+use Rattle.std.specs.Str.{str_eq_ignore_ascii_case}
 use Rattle.rl_labels.specs.Name.{is_text, is_name}
 use Rattle.rl_labels.specs.declared.matcher.MatchOp.TheVariants as operators
 use Rattle.rl_query.specs.declared.fault.QueryFault.{QueryFault}
@@ -74,6 +75,10 @@ abbrev pub is_at : Sign → Bool
 is_at signs.At = true
 is_at _ = false
 
+-- LogQL reads its words in any case, the ruler in lower case alone
+abbrev pub is_in_any_case : List ℕ → List ℕ → Bool
+is_in_any_case = str_eq_ignore_ascii_case
+
 -- the words that begin a query in LogQL
 abbrev pub later_words : List (List ℕ)
 later_words =
@@ -81,16 +86,16 @@ later_words =
     codes "topk" ∷ codes "avg" ∷ codes "stddev" ∷ codes "stdvar" ∷ codes "bottomk" ∷ codes "approx_topk" ∷ codes "sort" ∷ codes "sort_desc" ∷
     codes "label_replace" ∷ codes "vector" ∷ codes "sum_over_time" ∷ codes "avg_over_time" ∷ codes "max_over_time" ∷ codes "min_over_time" ∷
     codes "first_over_time" ∷ codes "last_over_time" ∷ codes "stdvar_over_time" ∷ codes "stddev_over_time" ∷ codes "quantile_over_time" ∷ codes "rate_counter" ∷
-    codes "COUNT_OVER_TIME" ∷ codes "SUM" ∷ []
+    codes "count_over_time" ∷ []
 
 abbrev pub is_later_word : List ℕ → Bool
-is_later_word word = list_any (λ later. is_text later word) later_words
+is_later_word word = list_any (λ later. is_in_any_case later word) later_words
 
 -- LogQL has the word at the position, and the ruler has it not
 abbrev pub is_unsupported_word : Position → List ℕ → Bool
 is_unsupported_word positions.Start word = is_later_word word
-is_unsupported_word positions.BehindRange word = is_text word (codes "offset")
-is_unsupported_word positions.BehindTerm word = is_text word (codes "and") || (is_text word (codes "or") || is_text word (codes "unless"))
+is_unsupported_word positions.BehindRange word = is_in_any_case word (codes "offset")
+is_unsupported_word positions.BehindTerm word = is_in_any_case word (codes "and") || (is_in_any_case word (codes "or") || is_in_any_case word (codes "unless"))
 is_unsupported_word _ word = false
 
 -- and the same of a sign

@@ -7,7 +7,7 @@ ghost use Rattle.rl_query.specs.Grammar.{Derives};
 ghost use Rattle.rl_query.specs.Printing.{query_text};
 ghost use Rattle.rl_query.specs.Reading.{Gives};
 ghost use Rattle.rl_query.specs.declared.query.Query.{Query};
-ghost use Rattle.rl_query.specs.Parsing.{is_unsupported, is_unsupported_word, is_unsupported_sign, is_stage, is_operator, is_later_word, refusal, expected, is_mark, is_mark_sign, name_of, content_of, matcher_at, goes_on, element_at, matchers_at, selector_at, unit_of, duration_of, digit_behind, is_unit_letter, is_duration_byte, looks_like_duration, range_of, seconds_of, checked_range, function_of, named_function, range_at, term_at, query_of, ends};
+ghost use Rattle.rl_query.specs.Parsing.{is_unsupported, is_unsupported_word, is_unsupported_sign, is_stage, is_operator, is_in_any_case, is_later_word, refusal, expected, is_mark, is_mark_sign, name_of, content_of, matcher_at, goes_on, element_at, matchers_at, selector_at, unit_of, duration_of, digit_behind, is_unit_letter, is_duration_byte, looks_like_duration, range_of, seconds_of, checked_range, function_of, named_function, range_at, term_at, query_of, ends};
 ghost use Rattle.rl_query.specs.Limits.{has_real_matcher, longest_range};
 ghost use Rattle.rl_labels.specs.Selects.{passes};
 ghost use Rattle.std.specs.Char.{is_ascii_digit};
@@ -23,8 +23,8 @@ use std::alloc::Global;
 /// The longest range, in seconds: 30 days.
 pub const LONGEST_RANGE: u64 = 2_592_000;
 
-/// Words that begin a query in LogQL and that are not supported.
-pub const LATER_WORDS: [&str; 30] = [
+/// The words that begin a query in LogQL. `count_over_time` is supported in lower case, the others in no case.
+pub const LATER_WORDS: [&str; 29] = [
     "rate",
     "bytes_over_time",
     "bytes_rate",
@@ -53,8 +53,7 @@ pub const LATER_WORDS: [&str; 30] = [
     "stddev_over_time",
     "quantile_over_time",
     "rate_counter",
-    "COUNT_OVER_TIME",
-    "SUM",
+    "count_over_time",
 ];
 
 /// Where in a query a token was looked for.
@@ -96,8 +95,12 @@ fn is_unsupported_word(position: Position, word: &str) -> bool
 {
     match position {
         Position::Start => is_later_word(word),
-        Position::BehindRange => word == "offset",
-        Position::BehindTerm => word == "and" || word == "or" || word == "unless",
+        Position::BehindRange => word.eq_ignore_ascii_case("offset"),
+        Position::BehindTerm => {
+            word.eq_ignore_ascii_case("and")
+                || word.eq_ignore_ascii_case("or")
+                || word.eq_ignore_ascii_case("unless")
+        }
         _ => false,
     }
 }
@@ -109,9 +112,9 @@ fn is_later_word(word: &str) -> bool
 }
 
 fn is_one_of(words: &[&str], word: &str) -> bool
-    ensures { result ≡ list_any (λ one. is_text one.now word.now) words.now }
+    ensures { result ≡ list_any (λ one. is_in_any_case one.now word.now) words.now }
 {
-    words.iter().any(|one| *one == word)
+    words.iter().any(|one| one.eq_ignore_ascii_case(word))
 }
 
 fn is_unsupported_sign(position: Position, sign: Sign) -> bool

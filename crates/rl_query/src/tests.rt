@@ -240,13 +240,27 @@ fn texts_that_are_queries_4(rt: HostRuntime) {
     }
 }
 
+// Asserts that the word is Unsupported in upper case, and a longer word Syntax.
+fn other_cases(rt: &impl Abort, alloc: Global, word: &str) -> Result<(), AllocError> {
+    let mut upper = String::from_str(alloc, word)?;
+    upper.make_ascii_uppercase();
+    answers(rt, alloc, upper.as_str(), Expected::Unsupported(0));
+    let mut longer = String::from_str(alloc, word)?;
+    longer.push_str("_(")?;
+    answers(rt, alloc, longer.as_str(), Expected::Syntax(0));
+    Ok(())
+}
+
 #[test]
 fn words_of_later_queries(rt: HostRuntime) -> Result<(), Fail> {
     for word in LATER_WORDS {
-        let text = format!(in rt.alloc(); "{word}(")?;
-        answers(&rt, rt.alloc(), text.as_str(), Expected::Unsupported(0));
-        let text = format!(in rt.alloc(); "{word}_(")?;
-        answers(&rt, rt.alloc(), text.as_str(), Expected::Syntax(0));
+        other_cases(&rt, rt.alloc(), word)?;
+        let lower = if word == "count_over_time" {
+            Expected::Syntax(15)
+        } else {
+            Expected::Unsupported(0)
+        };
+        answers(&rt, rt.alloc(), word, lower);
     }
     assert_eq!(rt; LONGEST_RANGE, 2_592_000);
     Ok(())

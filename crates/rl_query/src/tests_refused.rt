@@ -82,7 +82,7 @@ fn texts_of_no_grammar_1(rt: HostRuntime) {
         ("count_over_tim({app=\"a\"}[5m])", Expected::Syntax(0)),
         ("count_over_times({app=\"a\"}[5m])", Expected::Syntax(0)),
         ("count_over_time1({app=\"a\"}[5m])", Expected::Syntax(0)),
-        ("Count_over_time({app=\"a\"}[5m])", Expected::Syntax(0)),
+        ("Count_over_times({app=\"a\"}[5m])", Expected::Syntax(0)),
         ("rates({app=\"a\"}[5m])", Expected::Syntax(0)),
     ];
     for (text, expected) in cases {
@@ -94,7 +94,7 @@ fn texts_of_no_grammar_1(rt: HostRuntime) {
 fn texts_of_no_grammar_2(rt: HostRuntime) {
     let cases = [
         ("su", Expected::Syntax(0)),
-        ("Rate", Expected::Syntax(0)),
+        ("Rates", Expected::Syntax(0)),
         ("$", Expected::Syntax(0)),
         (
             "\u{a0}count_over_time({app=\"a\"}[5m])",
@@ -287,7 +287,7 @@ fn texts_of_no_grammar_9(rt: HostRuntime) {
         ("count_over_time({app=\"a\"}[5m]/ 2)", Expected::Syntax(29)),
         ("count_over_time({app=\"a\"}[5m][5m])", Expected::Syntax(29)),
         (
-            "count_over_time({app=\"a\"}[5m] Offset 5m)",
+            "count_over_time({app=\"a\"}[5m] Offsets 5m)",
             Expected::Syntax(30),
         ),
         (
@@ -305,7 +305,10 @@ fn texts_of_no_grammar_9(rt: HostRuntime) {
             Expected::Syntax(31),
         ),
         ("count_over_time({app=\"a\"}[5m]) by", Expected::Syntax(31)),
-        ("count_over_time({app=\"a\"}[5m]) And", Expected::Syntax(31)),
+        (
+            "count_over_time({app=\"a\"}[5m]) Ands",
+            Expected::Syntax(31),
+        ),
     ];
     for (text, expected) in cases {
         answers(&rt, rt.alloc(), text, expected);
@@ -340,6 +343,42 @@ fn texts_of_no_grammar_10(rt: HostRuntime) {
             Expected::Syntax(33),
         ),
         ("count_over_time({app=\"é\"}[5m]),", Expected::Syntax(31)),
+    ];
+    for (text, expected) in cases {
+        answers(&rt, rt.alloc(), text, expected);
+    }
+}
+
+#[test]
+fn words_in_another_case(rt: HostRuntime) {
+    let cases = [
+        ("COUNT_OVER_TIME({app=\"a\"}[5m])", Expected::Unsupported(0)),
+        ("Count_Over_Time", Expected::Unsupported(0)),
+        ("RATE", Expected::Unsupported(0)),
+        ("Rate#s", Expected::Unsupported(0)),
+        ("AVG by", Expected::Unsupported(0)),
+        ("RATES", Expected::Syntax(0)),
+        ("BY", Expected::Syntax(0)),
+        (
+            "count_over_time({app=\"a\"}[5m] OFFSET 5m)",
+            Expected::Unsupported(30),
+        ),
+        (
+            "count_over_time({app=\"a\"}[5m]) AND",
+            Expected::Unsupported(31),
+        ),
+        (
+            "count_over_time({app=\"a\"}[5m]) Or",
+            Expected::Unsupported(31),
+        ),
+        (
+            "count_over_time({app=\"a\"}[5m]) UNLESS",
+            Expected::Unsupported(31),
+        ),
+        (
+            "count_over_time({app=\"a\"}[5m]) ANDS",
+            Expected::Syntax(31),
+        ),
     ];
     for (text, expected) in cases {
         answers(&rt, rt.alloc(), text, expected);
