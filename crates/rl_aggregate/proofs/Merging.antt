@@ -1,0 +1,105 @@
+-- Totals while the entries of others go into them, one after another.
+use Rattle.std.proofs.Common.{◌≡◌, ◌+◌, true, false, cond, ◌||◌, [], ◌∷◌, Option, None, Some, T, refl, sym, ap, ◌∙◌, arith}
+use Rattle.std.specs.Option.{unwrap_or, is_some}
+use Rattle.std.specs.Ordering.{eq_by_cmp, is_eq, is_lt}
+use Rattle.std.specs.FinMap.{get, insert, get-insert, get-from_entries}
+use Rattle.std.specs.FinMap.Entries.{find, is_sorted, below_all}
+use Rattle.std.specs.declared.cmp.Ordering.{Ordering}
+use Rattle.std.specs.declared.cmp.Ordering.TheVariants.{Less, Equal, Greater}
+use Rattle.std.proofs.lemmas.Bool.{and_parts, true≢false}
+use Rattle.rl_labels.specs.LabelSet.{LabelSet}
+use Rattle.rl_labels.specs.LabelText.{label_set_cmp}
+use Rattle.rl_labels.specs.LabelLaws.{true_from, from_true}
+use Rattle.rl_labels.specs.TextLaws.{label_set_cmp_total, label_set_eq-true, label_set_eq_itself}
+use Rattle.rl_aggregate.specs.Laws.{label_set_eq-cmp}
+use Rattle.rl_aggregate.specs.TotalsMap.{TotalsMap, no_total, plus, total_at, added}
+use Rattle.rl_aggregate.specs.declared.total.Total.{Total}
+use Rattle.rl_aggregate.proofs.Maps.{Entries, totals_in}
+
+-- the sum of two totals, of which either may be missing
+abbrev pub joined : Option Total → Option Total → Option Total
+joined a b = cond (is_some a || is_some b) (Some (plus (unwrap_or a no_total) (unwrap_or b no_total))) None
+
+-- the first, or else the second
+abbrev pub either : Option Total → Option Total → Option Total
+either None b = b
+either (Some a) b = Some a
+
+pub either-None : (a : Option Total) → either a None ≡ a
+either-None None = refl
+either-None (Some a) = refl
+
+plus-none : (total : Total) → plus total no_total ≡ total
+plus-none total =
+    let count : total.count + 0 ≡ total.count = omega arith in
+    let bytes : total.bytes + 0 ≡ total.bytes = omega arith in
+    λ i. record { count = count i; bytes = bytes i }
+
+pub joined-None : (a : Option Total) → joined a None ≡ a
+joined-None None = refl
+joined-None (Some a) = ap (λ t. Some t) (plus-none a)
+
+pub joined-Some : (a : Option Total) (b : Total) → joined a (Some b) ≡ Some (plus (unwrap_or a no_total) b)
+joined-Some None b = refl
+joined-Some (Some a) b = refl
+
+not_equal : (o : Ordering) → is_lt o ≡ true → is_eq o ≡ false
+not_equal Less h = refl
+not_equal Equal h = absurd (true≢false (sym h))
+not_equal Greater h = refl
+
+-- a label set below each of some entries is not among them
+find_below : (k : LabelSet) (es : Entries) → below_all label_set_cmp k es ≡ true → find label_set_cmp k es ≡ None
+find_below k [] h = refl
+find_below k (e ∷ es) h =
+    let parts = and_parts (is_lt (label_set_cmp k e.0)) (below_all label_set_cmp k es) h in
+    ap (λ b. cond b (Some e.1) (find label_set_cmp k es)) (not_equal (label_set_cmp k e.0) parts.0) ∙ find_below k es parts.1
+
+-- the label set of an entry that is tested equal
+same_key : (q k : LabelSet) → eq_by_cmp label_set_cmp q k ≡ true → q ≡ k
+same_key q k is = label_set_eq-true q k (label_set_eq-cmp q k ∙ is)
+
+-- a look-up by the first entry's label set
+find_first : (k : LabelSet) (v : Total) (es : Entries) → find label_set_cmp k ((k, v) ∷ es) ≡ Some v
+find_first k v es = ap (λ b. cond b (Some v) (find label_set_cmp k es)) (sym (label_set_eq-cmp k k) ∙ label_set_eq_itself k)
+
+-- a label set that is first in order does not stand again
+find_again : (k : LabelSet) (v : Total) (rest : Entries) (q : LabelSet) → T (is_sorted label_set_cmp ((k, v) ∷ rest)) → q ≡ k → find label_set_cmp q rest ≡ None
+find_again k v rest q sorted same =
+    ap (λ s. find label_set_cmp s rest) same ∙ find_below k rest (and_parts (below_all label_set_cmp k rest) (is_sorted label_set_cmp rest) (true_from _ sorted)).0
+
+-- the rest of entries in order is in order
+pub sorted_rest : (k : LabelSet) (v : Total) (rest : Entries) → T (is_sorted label_set_cmp ((k, v) ∷ rest)) → T (is_sorted label_set_cmp rest)
+sorted_rest k v rest sorted = from_true _ (and_parts (below_all label_set_cmp k rest) (is_sorted label_set_cmp rest) (true_from _ sorted)).1
+
+-- one entry goes from the rest into the totals, and the sums of both stay
+pub joined-added : (m : TotalsMap) (k : LabelSet) (v : Total) (rest : Entries) (q : LabelSet) → T (is_sorted label_set_cmp ((k, v) ∷ rest)) → joined (get (added m k v) q) (find label_set_cmp q rest) ≡ joined (get m q) (find label_set_cmp q ((k, v) ∷ rest))
+joined-added m k v rest q sorted =
+    ap (λ t. joined t (find label_set_cmp q rest)) (get-insert label_set_cmp_total m k (plus (total_at m k) v) q)
+    ∙ elim (eq_by_cmp label_set_cmp q k) as (λ b. eq_by_cmp label_set_cmp q k ≡ b → joined (cond b (Some (plus (total_at m k) v)) (get m q)) (find label_set_cmp q rest) ≡ joined (get m q) (cond b (Some v) (find label_set_cmp q rest))) [
+      | true ↦ λ is.
+          let same = same_key q k is in
+          ap (λ t. joined (Some (plus (total_at m k) v)) t) (find_again k v rest q sorted same)
+          ∙ joined-None (Some (plus (total_at m k) v))
+          ∙ ap (λ s. Some (plus (total_at m s) v)) (sym same)
+          ∙ sym (joined-Some (get m q) v)
+      | false ↦ λ _. refl
+    ] refl
+
+-- what the next entry makes of a total is what both have
+pub total_at-next : (m both : TotalsMap) (k : LabelSet) (v : Total) (rest : Entries) → joined (get m k) (find label_set_cmp k ((k, v) ∷ rest)) ≡ get both k → plus (total_at m k) v ≡ total_at both k
+total_at-next m both k v rest is =
+    ap (λ t. unwrap_or t no_total) (sym (joined-Some (get m k) v) ∙ ap (joined (get m k)) (sym (find_first k v rest)) ∙ is)
+
+-- one entry goes from the rest into a copy, and what either has stays
+pub either-inserted : (m : TotalsMap) (k : LabelSet) (v : Total) (rest : Entries) (q : LabelSet) → T (is_sorted label_set_cmp ((k, v) ∷ rest)) → either (find label_set_cmp q rest) (get (insert m k v) q) ≡ either (find label_set_cmp q ((k, v) ∷ rest)) (get m q)
+either-inserted m k v rest q sorted =
+    ap (either (find label_set_cmp q rest)) (get-insert label_set_cmp_total m k v q)
+    ∙ elim (eq_by_cmp label_set_cmp q k) as (λ b. eq_by_cmp label_set_cmp q k ≡ b → either (find label_set_cmp q rest) (cond b (Some v) (get m q)) ≡ either (cond b (Some v) (find label_set_cmp q rest)) (get m q)) [
+      | true ↦ λ is. ap (λ t. either t (Some v)) (find_again k v rest q sorted (same_key q k is))
+      | false ↦ λ _. refl
+    ] refl
+
+-- what the entries of totals find, the totals have
+pub find-entries : (totals : TotalsMap) (es : Entries) (q : LabelSet) → totals_in es ≡ totals → find label_set_cmp q es ≡ get totals q
+find-entries totals es q view = sym (get-from_entries label_set_cmp_total es q) ∙ ap (λ m. get m q) view

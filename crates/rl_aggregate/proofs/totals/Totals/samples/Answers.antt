@@ -1,0 +1,14 @@
+-- The entries of the tree are those of the totals.
+use Rattle.std.proofs.Common.{◌++◌, sym, ap, ◌∙◌}
+use Rattle.std.proofs.Common.{map as map_list}
+use Rattle.std.specs.FinMap as map
+use Rattle.rl_aggregate.specs.Evaluated.{sample}
+use Rattle.rl_aggregate.proofs.Maps.{entries-totals_in}
+use Rattle.rl_aggregate.proofs.totals.Totals.samples.Goals as goal
+
+pub loop-labels-init : goal.loop-labels-init
+loop-labels-init c =
+    let es = c.self.inside.by_labels.entries in
+    ap (λ front. front ++ map_list (sample c.args.function) c.into_iter-labels-iterator.result) c.in_ok-samples.ensures.items
+    ∙ ap (map_list (sample c.args.function)) (c.into_iter-labels-iterator.ensures.into_iter_gives ∙ c.iter-labels-items.ensures.rest
+    ∙ sym (entries-totals_in es c.iter-labels-items.ensures.ordered) ∙ ap (λ m. map.entries m) c.self.view_is)

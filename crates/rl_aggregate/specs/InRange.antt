@@ -1,0 +1,30 @@
+-- The elements that the range of a term has at a moment.
+use Rattle.std.specs.Prelude.{ℕ, ◌+◌, ◌*◌, nat_lt, nat_le, Bool, ◌&&◌, List, map, length}
+use Rattle.std.specs.List.{filter}
+use Rattle.rl_labels.specs.LabelSet.{LabelSet}
+use Rattle.rl_labels.specs.Selects.{selects}
+use Rattle.rl_labels.specs.declared.entry.Entry.{Entry}
+use Rattle.rl_query.specs.declared.query.Term.{Term}
+
+-- a second, in nanoseconds
+abbrev pub second : ℕ
+second = 1000000000
+
+-- t - r < ts <= t; the window may begin below 0, so the range stands beside the timestamp
+abbrev pub in_window : ℕ → ℕ → ℕ → Bool
+in_window seconds t timestamp = nat_lt t (timestamp + seconds * second) && nat_le timestamp t
+
+-- what an entry counts as: its labels, and the bytes of its line
+pub record Element : Type 0 where
+  pub labels : LabelSet
+  pub bytes : ℕ
+
+abbrev pub element : Entry → Element
+element entry = record { labels = entry.labels; bytes = length entry.line }
+
+-- the window has the entry, and the selector selects it
+abbrev pub is_in_range : Term → ℕ → Entry → Bool
+is_in_range term t entry = in_window term.range.seconds t entry.timestamp && selects term.range.selector.matchers entry.labels
+
+abbrev pub in_range : List Entry → Term → ℕ → List Element
+in_range entries term t = map element (filter (is_in_range term t) entries)

@@ -1,0 +1,232 @@
+-- What totals answer, and how the partials of lists of entries go together: one list behind another, another order, and
+-- that their numbers fit.
+use Rattle.std.specs.Prelude.{◌≡◌, ℕ, ◌+◌, ◌*◌, ◌≤◌, Bool, true, false, cond, not, ◌&&◌, ◌||◌, List, [], ◌∷◌, ◌++◌, map, length, Option, None, Some, is_some, refl}
+use Rattle.std.specs.Option.{unwrap_or}
+use Rattle.std.specs.List.{filter, list_any, count_by, sum_by}
+use Rattle.std.specs.List.Sorted.{IsPermutation}
+use Rattle.std.specs.Ordering.{eq_by_cmp}
+use Rattle.std.specs.Cmp.Lexicographic.{texts_ties}
+use Rattle.std.specs.FinMap.{get, keys, get-from_entries, contains_key-keys, same_map}
+use Rattle.std.specs.FinMap.Entries.{find}
+use Rattle.std.proofs.Common.{sym, ap, subst, ◌∙◌, arith}
+use Rattle.std.proofs.lemmas.Bool.{and_right, or_parts}
+use Rattle.std.proofs.lemmas.List.{map-append}
+use Rattle.std.proofs.lemmas.List.Elements.{filter-append}
+use Rattle.std.proofs.lemmas.List.Folds.{list_any-append}
+use Rattle.std.proofs.lemmas.List.Sums.{sum_by-cons, sum_by-append}
+use Rattle.std.proofs.lemmas.List.Sorted.{sum_by-IsPermutation, list_any-IsPermutation}
+use Rattle.rl_labels.specs.EntryParts.{longest_line}
+use Rattle.rl_labels.specs.LabelSet.{LabelSet}
+use Rattle.rl_labels.specs.LabelText.{canonical_text, label_set_cmp, label_set_eq}
+use Rattle.rl_labels.specs.TextLaws.{label_set_cmp_total, label_set_cmp-IsAntisymmetric, label_set_eq-true}
+use Rattle.rl_labels.specs.declared.entry.Entry.{Entry}
+use Rattle.rl_query.specs.declared.query.Term.{Term}
+use Rattle.rl_aggregate.specs.InRange.{Element, element, is_in_range, in_range}
+use Rattle.rl_aggregate.specs.TotalsMap.{TotalsMap, no_total, plus, total_at}
+use Rattle.rl_aggregate.specs.Partials.{has_error, counts_for, total_of, totals_of, partial_of, partial, both_totals, merge, most_entries, Fits}
+use Rattle.rl_aggregate.specs.declared.total.Total.{Total}
+use Rattle.rl_aggregate.specs.declared.partial.Partial.{Partial}
+
+-- the two tests of equal label sets are one
+pub label_set_eq-cmp : (s t : LabelSet) → label_set_eq s t ≡ eq_by_cmp label_set_cmp s t
+label_set_eq-cmp s t = texts_ties (canonical_text s) (canonical_text t)
+
+-- totals that answer alike are one
+pub same_totals : (a b : TotalsMap) → ((q : LabelSet) → get a q ≡ get b q) → a ≡ b
+same_totals a b alike = same_map label_set_cmp_total label_set_cmp-IsAntisymmetric a b alike
+
+-- a look-up among one total for each label set of the elements that pass
+find_made : (f : LabelSet → Total) (p : Element → Bool) (q : LabelSet) (es : List Element) → find label_set_cmp q (map (λ e. (e.labels, f e.labels)) (filter p es)) ≡ cond (list_any (λ e. label_set_eq q e.labels && p e) es) (Some (f q)) None
+find_made f p q [] = refl
+find_made f p q (e ∷ es) =
+    let rest = find_made f p q es in
+    let others = list_any (λ x. label_set_eq q x.labels && p x) es in
+    elim (p e) as (λ b. find label_set_cmp q (map (λ x. (x.labels, f x.labels)) (cond b (e ∷ filter p es) (filter p es))) ≡ cond ((label_set_eq q e.labels && b) || others) (Some (f q)) None) [
+      | true ↦ ap (λ b. cond b (Some (f e.labels)) (find label_set_cmp q (map (λ x. (x.labels, f x.labels)) (filter p es)))) (sym (label_set_eq-cmp q e.labels))
+          ∙ elim (label_set_eq q e.labels) as (λ b. label_set_eq q e.labels ≡ b → cond b (Some (f e.labels)) (find label_set_cmp q (map (λ x. (x.labels, f x.labels)) (filter p es))) ≡ cond ((b && true) || others) (Some (f q)) None) [
+            | true ↦ λ is. ap (λ k. Some (f k)) (sym (label_set_eq-true q e.labels is))
+            | false ↦ λ _. rest
+          ] refl
+      | false ↦ rest ∙ ap (λ b. cond (b || others) (Some (f q)) None) (sym (and_right (label_set_eq q e.labels) false refl))
+    ]
+
+-- totals have what their elements add up to, where one counts
+pub get-totals_of : (es : List Element) (q : LabelSet) → get (totals_of es) q ≡ cond (list_any (counts_for q) es) (Some (total_of es q)) None
+get-totals_of es q = get-from_entries label_set_cmp_total _ q ∙ find_made (total_of es) (λ e. not (has_error e.labels)) q es
+
+-- a look-up among one total for each of some label sets
+find_keyed : (f : LabelSet → Total) (q : LabelSet) (ks : List LabelSet) → find label_set_cmp q (map (λ k. (k, f k)) ks) ≡ cond (list_any (eq_by_cmp label_set_cmp q) ks) (Some (f q)) None
+find_keyed f q [] = refl
+find_keyed f q (k ∷ ks) =
+    elim (eq_by_cmp label_set_cmp q k) as (λ b. eq_by_cmp label_set_cmp q k ≡ b → cond b (Some (f k)) (find label_set_cmp q (map (λ k. (k, f k)) ks)) ≡ cond (b || list_any (eq_by_cmp label_set_cmp q) ks) (Some (f q)) None) [
+      | true ↦ λ is. ap (λ k. Some (f k)) (sym (label_set_eq-true q k (label_set_eq-cmp q k ∙ is)))
+      | false ↦ λ _. find_keyed f q ks
+    ] refl
+
+-- merged totals have the sum of both, where either has one
+pub get-both_totals : (a b : TotalsMap) (q : LabelSet) → get (both_totals a b) q ≡ cond (is_some (get a q) || is_some (get b q)) (Some (plus (total_at a q) (total_at b q))) None
+get-both_totals a b q =
+    let sum = plus (total_at a q) (total_at b q) in
+    get-from_entries label_set_cmp_total _ q
+    ∙ find_keyed (λ k. plus (total_at a k) (total_at b k)) q (keys a ++ keys b)
+    ∙ ap (λ t. cond t (Some sum) None) (list_any-append (eq_by_cmp label_set_cmp q) (keys a) (keys b) ∙ (λ i. sym (contains_key-keys a q) i || sym (contains_key-keys b q) i))
+
+-- so the total at a label set is the sum, also where neither has one
+pub total_at-both_totals : (a b : TotalsMap) (q : LabelSet) → total_at (both_totals a b) q ≡ plus (total_at a q) (total_at b q)
+total_at-both_totals a b q = ap (λ t. unwrap_or t no_total) (get-both_totals a b q) ∙ summed (get a q) (get b q)
+  where
+    summed : (x y : Option Total) → unwrap_or (cond (is_some x || is_some y) (Some (plus (unwrap_or x no_total) (unwrap_or y no_total))) None) no_total ≡ plus (unwrap_or x no_total) (unwrap_or y no_total)
+    summed None None = refl
+    summed None (Some y) = refl
+    summed (Some x) y = refl
+
+-- no element counts, and the total is none
+total_of-none : (es : List Element) (q : LabelSet) → list_any (counts_for q) es ≡ false → total_of es q ≡ no_total
+total_of-none es q none = λ i. record { count = counted es none i; bytes = weighed es none i }
+  where
+    counted : (es : List Element) → list_any (counts_for q) es ≡ false → count_by (counts_for q) es ≡ 0
+    counted [] none = refl
+    counted (e ∷ es) none =
+        let parts = or_parts (counts_for q e) (list_any (counts_for q) es) none in
+        sum_by-cons (λ x. cond (counts_for q x) 1 0) e es ∙ (λ i. cond (parts.0 i) 1 0 + counted es parts.1 i)
+
+    weighed : (es : List Element) → list_any (counts_for q) es ≡ false → sum_by (λ x. cond (counts_for q x) x.bytes 0) es ≡ 0
+    weighed [] none = refl
+    weighed (e ∷ es) none =
+        let parts = or_parts (counts_for q e) (list_any (counts_for q) es) none in
+        sum_by-cons (λ x. cond (counts_for q x) x.bytes 0) e es ∙ (λ i. cond (parts.0 i) e.bytes 0 + weighed es parts.1 i)
+
+-- so the total at a label set is what the elements add up to, also where none counts
+pub total_at-totals_of : (es : List Element) (q : LabelSet) → total_at (totals_of es) q ≡ total_of es q
+total_at-totals_of es q =
+    ap (λ t. unwrap_or t no_total) (get-totals_of es q)
+    ∙ elim (list_any (counts_for q) es) as (λ b. list_any (counts_for q) es ≡ b → unwrap_or (cond b (Some (total_of es q)) None) no_total ≡ total_of es q) [
+      | true ↦ λ _. refl
+      | false ↦ λ none. sym (total_of-none es q none)
+    ] refl
+
+-- what a list behind another adds up to
+pub total_of-append : (es fs : List Element) (q : LabelSet) → total_of (es ++ fs) q ≡ plus (total_of es q) (total_of fs q)
+total_of-append es fs q = λ i. record {
+  count = sum_by-append (λ x. cond (counts_for q x) 1 0) es fs i;
+  bytes = sum_by-append (λ x. cond (counts_for q x) x.bytes 0) es fs i;
+}
+
+pub totals_of-append : (es fs : List Element) → totals_of (es ++ fs) ≡ both_totals (totals_of es) (totals_of fs)
+totals_of-append es fs = same_totals _ _ (λ q.
+    let here = list_any (counts_for q) es in
+    let there = list_any (counts_for q) fs in
+    get-totals_of (es ++ fs) q
+    ∙ (λ i. cond (list_any-append (counts_for q) es fs i) (Some (total_of-append es fs q i)) None)
+    ∙ (λ i. cond (sym (found es q) i || sym (found fs q) i) (Some (plus (sym (total_at-totals_of es q) i) (sym (total_at-totals_of fs q) i))) None)
+    ∙ sym (get-both_totals (totals_of es) (totals_of fs) q))
+  where
+    found : (es : List Element) (q : LabelSet) → is_some (get (totals_of es) q) ≡ list_any (counts_for q) es
+    found es q = ap (λ t. is_some t) (get-totals_of es q) ∙ elim (list_any (counts_for q) es) as (λ b. is_some (cond b (Some (total_of es q)) None) ≡ b) [ true ↦ refl | false ↦ refl ]
+
+pub partial_of-append : (es fs : List Element) → partial_of (es ++ fs) ≡ merge (partial_of es) (partial_of fs)
+partial_of-append es fs = λ i. record {
+  errors = sum_by-append (λ e. cond (has_error e.labels) 1 0) es fs i;
+  totals = totals_of-append es fs i;
+}
+
+pub in_range-append : (first second : List Entry) (term : Term) (t : ℕ) → in_range (first ++ second) term t ≡ in_range first term t ++ in_range second term t
+in_range-append first second term t =
+    ap (map element) (filter-append (is_in_range term t) first second) ∙ map-append element (filter (is_in_range term t) first) (filter (is_in_range term t) second)
+
+-- the partial of one list of entries behind another is the merge of their partials
+pub partial-append : (first second : List Entry) (term : Term) (t : ℕ) → partial (first ++ second) term t ≡ merge (partial first term t) (partial second term t)
+partial-append first second term t = ap partial_of (in_range-append first second term t) ∙ partial_of-append (in_range first term t) (in_range second term t)
+
+-- a sum over the elements of a range is one over the entries
+sum_by-in_range : (f : Element → ℕ) (entries : List Entry) (term : Term) (t : ℕ) → sum_by f (in_range entries term t) ≡ sum_by (λ e. cond (is_in_range term t e) (f (element e)) 0) entries
+sum_by-in_range f [] term t = refl
+sum_by-in_range f (e ∷ es) term t =
+    elim (is_in_range term t e) as (λ b. sum_by f (map element (cond b (e ∷ filter (is_in_range term t) es) (filter (is_in_range term t) es))) ≡ cond b (f (element e)) 0 + sum_by (λ x. cond (is_in_range term t x) (f (element x)) 0) es) [
+      | true ↦ sum_by-cons f (element e) (in_range es term t) ∙ ap (λ n. f (element e) + n) (sum_by-in_range f es term t)
+      | false ↦ omega (arith, sum_by-in_range f es term t)
+    ]
+    ∙ sym (sum_by-cons (λ x. cond (is_in_range term t x) (f (element x)) 0) e es)
+
+-- a test of the elements of a range is one of the entries
+list_any-in_range : (p : Element → Bool) (entries : List Entry) (term : Term) (t : ℕ) → list_any p (in_range entries term t) ≡ list_any (λ e. is_in_range term t e && p (element e)) entries
+list_any-in_range p [] term t = refl
+list_any-in_range p (e ∷ es) term t =
+    elim (is_in_range term t e) as (λ b. list_any p (map element (cond b (e ∷ filter (is_in_range term t) es) (filter (is_in_range term t) es))) ≡ ((b && p (element e)) || list_any (λ x. is_in_range term t x && p (element x)) es)) [
+      | true ↦ ap (λ b. p (element e) || b) (list_any-in_range p es term t)
+      | false ↦ list_any-in_range p es term t
+    ]
+
+sum_by-permuted : (f : Element → ℕ) (entries others : List Entry) (term : Term) (t : ℕ) → IsPermutation entries others → sum_by f (in_range entries term t) ≡ sum_by f (in_range others term t)
+sum_by-permuted f entries others term t moved =
+    sum_by-in_range f entries term t
+    ∙ sym (sum_by-IsPermutation (λ e. cond (is_in_range term t e) (f (element e)) 0) entries others moved)
+    ∙ sym (sum_by-in_range f others term t)
+
+list_any-permuted : (p : Element → Bool) (entries others : List Entry) (term : Term) (t : ℕ) → IsPermutation entries others → list_any p (in_range entries term t) ≡ list_any p (in_range others term t)
+list_any-permuted p entries others term t moved =
+    list_any-in_range p entries term t
+    ∙ list_any-IsPermutation (λ e. is_in_range term t e && p (element e)) entries others moved
+    ∙ sym (list_any-in_range p others term t)
+
+-- the order of entries does not matter
+pub partial-permuted : (entries others : List Entry) (term : Term) (t : ℕ) → IsPermutation entries others → partial entries term t ≡ partial others term t
+partial-permuted entries others term t moved =
+    let es = in_range entries term t in
+    let fs = in_range others term t in
+    let same : totals_of es ≡ totals_of fs = same_totals _ _ (λ q.
+    let total : total_of es q ≡ total_of fs q = λ i. record {
+      count = sum_by-permuted (λ x. cond (counts_for q x) 1 0) entries others term t moved i;
+      bytes = sum_by-permuted (λ x. cond (counts_for q x) x.bytes 0) entries others term t moved i;
+    } in
+    get-totals_of es q
+    ∙ (λ i. cond (list_any-permuted (counts_for q) entries others term t moved i) (Some (total i)) None)
+    ∙ sym (get-totals_of fs q)) in
+    λ i. record { errors = sum_by-permuted (λ e. cond (has_error e.labels) 1 0) entries others term t moved i; totals = same i }
+
+-- a sum over the elements of a range, each of them within a bound
+sum_by-within : (f : Element → ℕ) (m : ℕ) (entries : List Entry) (term : Term) (t : ℕ) → ((e : Entry) → f (element e) ≤ m) → sum_by f (in_range entries term t) ≤ length entries * m
+sum_by-within f m [] term t within = omega arith
+sum_by-within f m (e ∷ es) term t within =
+    elim (is_in_range term t e) as (λ b. sum_by f (map element (cond b (e ∷ filter (is_in_range term t) es) (filter (is_in_range term t) es))) ≤ length (e ∷ es) * m) [
+      | true ↦ omega (arith, sum_by-cons f (element e) (in_range es term t), sum_by-within f m es term t within, within e)
+      | false ↦ omega (arith, sum_by-within f m es term t within)
+    ]
+
+-- what a test keeps is within the bound
+cond-within : (b : Bool) (n m : ℕ) → n ≤ m → cond b n 0 ≤ m
+cond-within true n m h = h
+cond-within false n m h = omega arith
+
+-- how large a partial's numbers are
+pub errors-within : (entries : List Entry) (term : Term) (t : ℕ) → (partial entries term t).errors ≤ length entries
+errors-within entries term t = omega (arith, sum_by-within (λ e. cond (has_error e.labels) 1 0) 1 entries term t (λ e. cond-within (has_error e.labels) 1 1 (omega arith)))
+
+pub count-within : (entries : List Entry) (term : Term) (t : ℕ) (q : LabelSet) → (total_at (partial entries term t).totals q).count ≤ length entries
+count-within entries term t q = omega (
+  arith,
+  ap (λ total. total.count) (total_at-totals_of (in_range entries term t) q),
+  sum_by-within (λ e. cond (counts_for q e) 1 0) 1 entries term t (λ e. cond-within (counts_for q (element e)) 1 1 (omega arith)),
+)
+
+pub bytes-within : (entries : List Entry) (term : Term) (t : ℕ) (q : LabelSet) → (total_at (partial entries term t).totals q).bytes ≤ length entries * longest_line
+bytes-within entries term t q = omega (
+  arith,
+  ap (λ total. total.bytes) (total_at-totals_of (in_range entries term t) q),
+  sum_by-within (λ e. cond (counts_for q e) e.bytes 0) longest_line entries term t (λ e. cond-within (counts_for q (element e)) (length e.line) longest_line e.fits),
+)
+
+-- the merge of the partials of few enough entries fits
+pub partial-fits : (first second : List Entry) (term : Term) (t : ℕ) → length first + length second ≤ most_entries → Fits (merge (partial first term t) (partial second term t))
+partial-fits first second term t few = (
+  omega (arith, errors-within first term t, errors-within second term t),
+  λ q.
+      let sum = total_at-both_totals (partial first term t).totals (partial second term t).totals q in (
+        omega (arith, ap (λ total. total.count) sum, count-within first term t q, count-within second term t q),
+        omega (arith, ap (λ total. total.bytes) sum, bytes-within first term t q, bytes-within second term t q),
+      ),
+)
+
+-- the same of two partials with a name of their own
+pub merge_fits : (a b : Partial) (first second : List Entry) (term : Term) (t : ℕ) → a ≡ partial first term t → b ≡ partial second term t → length first + length second ≤ most_entries → Fits (merge a b)
+merge_fits a b first second term t of_first of_second few = subst Fits (λ i. merge (sym of_first i) (sym of_second i)) (partial-fits first second term t few)

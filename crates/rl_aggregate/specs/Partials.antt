@@ -1,0 +1,53 @@
+-- What the elements of a range add up to, and how two such sums are merged.
+use Rattle.std.specs.Prelude.{ℕ, ◌+◌, ◌<◌, ◌^◌, Bool, not, ◌&&◌, List, map, ◌++◌, codes, if◌then◌else◌}
+use Rattle.std.specs.List.{filter, count_by, sum_by}
+use Rattle.std.specs.FinMap.{from_entries, keys}
+use Rattle.rl_labels.specs.LabelSet.{LabelSet, value_of, is_empty}
+use Rattle.rl_labels.specs.LabelText.{label_set_eq}
+use Rattle.rl_labels.specs.declared.entry.Entry.{Entry}
+use Rattle.rl_query.specs.declared.query.Term.{Term}
+use Rattle.rl_aggregate.specs.InRange.{Element, in_range}
+use Rattle.rl_aggregate.specs.TotalsMap.{TotalsMap, plus, total_at}
+use Rattle.rl_aggregate.specs.declared.total.Total.{Total}
+use Rattle.rl_aggregate.specs.declared.partial.Partial.{Partial}
+
+-- a pipeline could not make sense of the line
+abbrev pub has_error : LabelSet → Bool
+has_error labels = not (is_empty (value_of labels (codes "__error__")))
+
+-- the element has these labels, and no error
+abbrev pub counts_for : LabelSet → Element → Bool
+counts_for labels element = label_set_eq labels element.labels && not (has_error element.labels)
+
+-- how many elements have the labels, and the bytes of their lines
+abbrev pub total_of : List Element → LabelSet → Total
+total_of elements labels = record { count = count_by (counts_for labels) elements; bytes = sum_by (λ element. if counts_for labels element then element.bytes else 0) elements }
+
+-- the total of each label set that an element without an error has
+abbrev pub totals_of : List Element → TotalsMap
+totals_of elements = from_entries (map (λ element. (element.labels, total_of elements element.labels)) (filter (λ element. not (has_error element.labels)) elements))
+
+-- the number of errors, and the totals
+abbrev pub partial_of : List Element → Partial
+partial_of elements = record { errors = count_by (λ element. has_error element.labels) elements; totals = totals_of elements }
+
+abbrev pub partial : List Entry → Term → ℕ → Partial
+partial entries term t = partial_of (in_range entries term t)
+
+-- each label set of either, with the sum of its totals in both
+abbrev pub both_totals : TotalsMap → TotalsMap → TotalsMap
+both_totals a b = from_entries (map (λ labels. (labels, plus (total_at a labels) (total_at b labels))) (keys a ++ keys b))
+
+abbrev pub merge : Partial → Partial → Partial
+merge a b = record { errors = a.errors + b.errors; totals = both_totals a.totals b.totals }
+
+-- the most entries that all shards hold
+abbrev pub most_entries : ℕ
+most_entries = 1073741824
+
+-- a number of 64 bits holds each number of the total
+abbrev pub TotalFits : Total → Type 0
+TotalFits total = (total.count < 2 ^ 64) × (total.bytes < 2 ^ 64)
+
+abbrev pub Fits : Partial → Type 0
+Fits partial = (partial.errors < 2 ^ 64) × ((labels : LabelSet) → TotalFits (total_at partial.totals labels))

@@ -1,0 +1,94 @@
+//! What a query gives at a moment: a vector, or nothing for an error in a line.
+ghost use Rattle.std.specs.Prelude.{◌≡◌};
+
+use crate::total::Total;
+use rl_labels::Labels;
+use rl_plain::{PlainList, Same, TryCopy};
+use rl_query::RangeFunction;
+use std::alloc::AllocError;
+
+/// A value: a fraction as it was computed, never reduced.
+#[derive(Clone, Copy, Debug, PartialEq, Eq)]
+pub struct Fraction {
+    pub numerator: u128,
+    pub denominator: u128,
+}
+
+/// An element of a vector.
+#[derive(Debug, Drop, PartialEq, Eq)]
+pub struct Sample {
+    pub labels: Labels,
+    pub value: Fraction,
+}
+
+/// What a query gives at a moment.
+#[derive(Debug, Drop, PartialEq, Eq)]
+pub enum Outcome {
+    /// The elements, in the order of their label sets.
+    Vector(PlainList<Sample>),
+    /// A line had an error.
+    Failed,
+}
+
+impl Fraction {
+    ghost use Rattle.rl_aggregate.specs.Evaluated.{fraction};
+
+    /// What a range aggregation gives of a total.
+    pub fn of(function: RangeFunction, total: Total) -> Fraction
+        ensures { result ≡ fraction function total }
+    {
+        match function {
+            RangeFunction::CountOverTime => Fraction {
+                numerator: u128::from(total.count),
+                denominator: 1,
+            },
+        }
+    }
+}
+
+impl TryCopy for Fraction {
+    fn try_copy(&self) -> Result<Self, AllocError> {
+        Ok(*self)
+    }
+}
+
+impl Same for Fraction {
+    fn is_same(&self, other: &Self) -> bool {
+        self.numerator == other.numerator && self.denominator == other.denominator
+    }
+}
+
+impl TryCopy for Sample {
+    fn try_copy(&self) -> Result<Self, AllocError> {
+        let labels = self.labels.try_copy()?;
+        Ok(Sample {
+            labels,
+            value: self.value,
+        })
+    }
+}
+
+impl Same for Sample {
+    fn is_same(&self, other: &Self) -> bool {
+        self.value.is_same(&other.value) && self.labels.is_same(&other.labels)
+    }
+}
+
+impl TryCopy for Outcome {
+    fn try_copy(&self) -> Result<Self, AllocError> {
+        match self {
+            Outcome::Vector(samples) => Ok(Outcome::Vector(samples.try_copy()?)),
+            Outcome::Failed => Ok(Outcome::Failed),
+        }
+    }
+}
+
+impl Same for Outcome {
+    fn is_same(&self, other: &Self) -> bool {
+        match (self, other) {
+            (Outcome::Vector(samples), Outcome::Vector(others)) => samples.is_same(others),
+            (Outcome::Failed, Outcome::Failed) => true,
+            _ => false,
+        }
+    }
+}

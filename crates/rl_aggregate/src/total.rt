@@ -1,0 +1,22 @@
+//! A number of elements, and the bytes of their lines.
+use rl_plain::{Same, TryCopy};
+use std::alloc::AllocError;
+
+/// How many elements there are, and how many bytes their lines have.
+#[derive(Clone, Copy, Debug, PartialEq, Eq)]
+pub struct Total {
+    pub count: u64,
+    pub bytes: u64,
+}
+
+impl TryCopy for Total {
+    fn try_copy(&self) -> Result<Self, AllocError> {
+        Ok(*self)
+    }
+}
+
+impl Same for Total {
+    fn is_same(&self, other: &Self) -> bool {
+        self.count == other.count && self.bytes == other.bytes
+    }
+}

@@ -1,0 +1,126 @@
+//! Totals by label set.
+ghost use Rattle.std.specs.Prelude.{◌≡◌, ◌==◌, IfOk, OnOk, OnErr, map as map_list};
+ghost use Rattle.std.specs.FinMap as map;
+ghost use Rattle.rl_aggregate.specs.TotalsMap.{added, plus, total_at};
+ghost use Rattle.rl_aggregate.specs.Partials.{TotalFits, both_totals};
+ghost use Rattle.rl_aggregate.specs.Evaluated.{sample};
+ghost use Rattle.rl_labels.specs.LabelSet.{LabelSet};
+
+use crate::outcome::{Fraction, Sample};
+use crate::total::Total;
+use rl_labels::Labels;
+use rl_plain::TryCopy;
+use rl_query::RangeFunction;
+use std::alloc::{AllocError, Global};
+use std::collections::BTreeMap;
+use std::marker::Model;
+
+/// Totals by label set. Contracts see a finite map.
+#[derive(Debug, Drop)]
+pub struct Totals {
+    alloc: Global,
+    by_labels: BTreeMap<Labels, Total>,
+}
+
+impl Model for Totals {
+    ghost use Rattle.std.specs.Coded.{coded_ℕ, coded×, code_by};
+    ghost use Rattle.std.specs.Prelude.{ℕ, refl};
+    ghost use Rattle.std.specs.FinMap as map;
+    ghost use Rattle.rl_labels.specs.LabelSet.{label_set_code};
+    ghost use Rattle.rl_aggregate.specs.TotalsMap.{TotalsMap};
+
+    ghost Value = { TotalsMap };
+
+    ghost coded = { map.code label_set_code (code_by (ℕ × ℕ) (coded× coded_ℕ coded_ℕ) (λ t. (t.count, t.bytes)) (λ p. record { count = p.0; bytes = p.1 }) (λ _. refl)) };
+
+    ghost view = { λ a. map.from_entries a.by_labels.entries };
+}
+
+impl Totals {
+    /// No totals.
+    pub fn new(alloc: Global) -> Self
+        ensures { result ≡ map.empty }
+    {
+        Totals {
+            alloc,
+            by_labels: BTreeMap::new(alloc),
+        }
+    }
+
+    /// How many label sets there are.
+    pub fn len(&self) -> usize
+        ensures { result ≡ map.len self.now }
+    {
+        self.by_labels.len()
+    }
+
+    pub fn is_empty(&self) -> bool
+        ensures { result ≡ (map.len self.now == 0) }
+    {
+        self.len() == 0
+    }
+
+    /// The total of a label set, if there is one.
+    pub fn get(&self, labels: &Labels) -> Option<Total>
+        ensures { result ≡ map.get self.now labels.now }
+    {
+        self.by_labels.get(labels).copied()
+    }
+
+    /// Adds a total at a label set.
+    pub fn add(&mut self, labels: &Labels, total: Total) -> Result<(), AllocError>
+        requires { TotalFits (plus (total_at self.old labels.now) total) }
+        ensures ok { OnOk result (self.new ≡ added self.old labels.now total) }
+        ensures err { OnErr result (self.new ≡ self.old) }
+    {
+        if let Some(sum) = self.by_labels.get_mut(labels) {
+            sum.count += total.count;
+            sum.bytes += total.bytes;
+            return Ok(());
+        }
+        self.by_labels.insert(labels.try_copy()?, total)?;
+        Ok(())
+    }
+
+    // Adds each total of the others at its label set.
+    pub(crate) fn add_all(&mut self, others: &Totals) -> Result<(), AllocError>
+        requires { (labels : LabelSet) → TotalFits (plus (total_at self.old labels) (total_at others.now labels)) }
+        ensures { OnOk result (self.new ≡ both_totals self.old others.now) }
+    {
+        for (labels, total) in others.by_labels.iter() {
+            self.add(labels, *total)?;
+        }
+        Ok(())
+    }
+
+    // An element of a vector for each label set, in their order.
+    pub(crate) fn samples(
+        &self,
+        alloc: Global,
+        function: RangeFunction,
+    ) -> Result<Vec<Sample>, AllocError>
+        ensures { IfOk result (λ samples. samples.items ≡ map_list (sample function) (map.entries self.now)) }
+    {
+        let mut samples = Vec::with_capacity(alloc, self.len())?;
+        for (labels, total) in self.by_labels.iter() {
+            let labels = labels.try_copy()?;
+            let value = Fraction::of(function, *total);
+            samples.push(Sample { labels, value })?;
+        }
+        Ok(samples)
+    }
+}
+
+impl TryCopy for Totals {
+    /// Takes memory for the copy's places, and shares the label sets.
+    fn try_copy(&self) -> Result<Self, AllocError> {
+        let mut by_labels = BTreeMap::new(self.alloc);
+        for (labels, total) in self.by_labels.iter() {
+            by_labels.insert(labels.try_copy()?, *total)?;
+        }
+        Ok(Totals {
+            alloc: self.alloc,
+            by_labels,
+        })
+    }
+}
