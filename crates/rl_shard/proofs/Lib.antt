@@ -1,0 +1,4 @@
+pub mod Answered
+pub mod InOrder
+pub mod LabelMap
+pub mod SameOrder

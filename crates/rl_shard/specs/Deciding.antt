@@ -1,0 +1,23 @@
+-- How a push is decided before anything is held.
+use Rattle.std.specs.Prelude.{◌≡◌, ℕ, ◌≤◌, true, false, List, length}
+use Rattle.std.specs.List.{AllWithin}
+use Rattle.std.specs.declared.cmp.Ordering.TheVariants.{Less, Greater}
+use Rattle.rl_labels.specs.EntryOrder.{entry_cmp}
+use Rattle.rl_labels.specs.declared.entry.Entry.{Entry}
+use Rattle.rl_labels.specs.declared.limits.Limits.{Limits}
+use Rattle.rl_shard.specs.ShardState.{ShardState}
+use Rattle.rl_shard.specs.ShardStep.{push_reply, is_taken}
+use Rattle.rl_shard.specs.declared.decision.Decision.{Decision}
+use Rattle.rl_shard.specs.declared.decision.Decision.TheVariants as decisions
+use Rattle.rl_shard.specs.declared.step.ShardReply.TheVariants as replies
+
+-- the entry belongs at the place: the entries before it are less, and those from it on greater
+pub record BelongsAt (entries : List Entry) (entry : Entry) (place : ℕ) : Type 0 where
+  pub within : place ≤ length entries
+  pub before : AllWithin (λ other. entry_cmp other entry ≡ Less) entries 0 place
+  pub after : AllWithin (λ other. entry_cmp other entry ≡ Greater) entries place (length entries)
+
+-- an answer is the reply of a push that holds nothing new; else the push is accepted, and has its place
+abbrev pub Decides : Decision → Limits → ShardState → List Entry → Entry → Type 0
+Decides (decisions.Answer reply) limits shard entries entry = (is_taken limits shard entry ≡ false) × (reply ≡ push_reply limits shard entry)
+Decides (decisions.Hold place) limits shard entries entry = (is_taken limits shard entry ≡ true) × ((push_reply limits shard entry ≡ replies.Accepted) × BelongsAt entries entry place)

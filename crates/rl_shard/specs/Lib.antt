@@ -1,0 +1,3 @@
+pub mod Deciding
+pub mod ShardState
+pub mod ShardStep

@@ -1,0 +1,73 @@
+-- What a shard answers to a step, and what it holds afterwards.
+use Rattle.std.specs.Prelude.{ℕ, ◌+◌, ◌*◌, nat_lt, nat_le, max, Bool, false, not, ◌&&◌, map, if◌then◌else◌}
+use Rattle.std.specs.Option.{unwrap_or}
+use Rattle.std.specs.FinMap.{get, insert, contains_key, len}
+use Rattle.rl_labels.specs.LabelSet.{LabelSet}
+use Rattle.rl_labels.specs.declared.entry.Entry.{Entry}
+use Rattle.rl_labels.specs.declared.limits.Limits.{Limits}
+use Rattle.rl_aggregate.specs.Partials.{partial}
+use Rattle.rl_shard.specs.ShardState.{ShardState, Journalled, visible}
+use Rattle.rl_shard.specs.declared.step.ShardStep.{ShardStep}
+use Rattle.rl_shard.specs.declared.step.ShardStep.TheVariants as steps
+use Rattle.rl_shard.specs.declared.step.ShardReply.{ShardReply}
+use Rattle.rl_shard.specs.declared.step.ShardReply.TheVariants as replies
+
+-- half of a second, in nanoseconds
+abbrev pub half_second : ℕ
+half_second = 500000000
+
+-- the newest timestamp of a stream, 0 for a new one
+abbrev pub newest_of : ShardState → LabelSet → ℕ
+newest_of shard labels = unwrap_or (get shard.newest labels) 0
+
+abbrev pub is_expired : ShardState → Entry → Bool
+is_expired shard entry = nat_lt entry.timestamp shard.horizon
+
+-- older than the newest of its stream by more than half of the age of a chunk
+abbrev pub is_too_far_behind : Limits → ShardState → Entry → Bool
+is_too_far_behind limits shard entry = nat_lt (entry.timestamp + limits.chunk_age * half_second) (newest_of shard entry.labels)
+
+abbrev pub is_full : Limits → ShardState → Bool
+is_full limits shard = nat_le limits.entries (len shard.held)
+
+-- the first that holds
+abbrev pub push_reply : Limits → ShardState → Entry → ShardReply
+push_reply limits shard entry =
+    if is_expired shard entry then replies.Expired shard.horizon
+    else (if is_too_far_behind limits shard entry then replies.TooFarBehind (newest_of shard entry.labels)
+    else (if contains_key shard.held entry then replies.Accepted
+    else (if is_full limits shard then replies.Full
+    else replies.Accepted)))
+
+-- the entry is new, and nothing speaks against it
+abbrev pub is_taken : Limits → ShardState → Entry → Bool
+is_taken limits shard entry = not (is_expired shard entry) && (not (is_too_far_behind limits shard entry) && (not (contains_key shard.held entry) && not (is_full limits shard)))
+
+-- with the entry; the newest of its stream is never lowered
+abbrev pub with_entry : ShardState → Entry → ShardState
+with_entry shard entry = record { held = insert shard.held entry tt; newest = insert shard.newest entry.labels (max (newest_of shard entry.labels) entry.timestamp); horizon = shard.horizon }
+
+abbrev pub pushed : Limits → ShardState → Entry → ShardState
+pushed limits shard entry = if is_taken limits shard entry then with_entry shard entry else shard
+
+-- a Collect answers one partial for each term, of what the shard shows
+abbrev pub step_reply : Limits → ShardState → ShardStep → ShardReply
+step_reply limits shard (steps.Push entry) = push_reply limits shard entry
+step_reply limits shard (steps.Collect slot terms t) = replies.Collected (map (λ term. partial (visible shard) term t) terms)
+
+abbrev pub stepped : Limits → ShardState → ShardStep → ShardState
+stepped limits shard (steps.Push entry) = pushed limits shard entry
+stepped limits shard (steps.Collect slot terms t) = shard
+
+-- the journal has as many records as it may have
+abbrev pub is_journal_full : Journalled → Bool
+is_journal_full shard = nat_le shard.limits.records shard.records
+
+-- a step that is decided makes a record
+abbrev pub recorded : Journalled → ShardStep → Journalled
+recorded shard step = record { limits = shard.limits; state = stepped shard.limits shard.state step; records = shard.records + 1 }
+
+-- a push that holds nothing new takes no memory
+abbrev pub needs_no_memory : Limits → ShardState → ShardStep → Bool
+needs_no_memory limits shard (steps.Push entry) = not (is_taken limits shard entry)
+needs_no_memory limits shard (steps.Collect slot terms t) = false

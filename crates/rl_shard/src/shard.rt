@@ -1,0 +1,128 @@
+//! A shard, by its steps.
+ghost use Rattle.std.specs.Prelude.{◌≡◌, IsTrue, not, ◌&&◌, Err, IsOk, IfOk, OnOk, OnErr, IsErrOf};
+
+use crate::decision::Decision;
+use crate::step::{ShardFault, ShardReply, ShardStep};
+use crate::streams::{collect, decide, hold};
+use rl_aggregate::Partial;
+use rl_labels::{Entry, Labels, Limits, Ns};
+use rl_plain::PlainList;
+use rl_query::Term;
+use std::alloc::{AllocError, Global};
+use std::collections::BTreeMap;
+use std::marker::Model;
+
+/// One shard. Contracts see its limits, what it holds, and how many records its journal has.
+#[derive(Debug, Drop)]
+pub struct Shard {
+    limits: Limits,
+    // By label text, timestamp and line.
+    held: Vec<Entry>,
+    newest: BTreeMap<Labels, Ns>,
+    // None until entries are first removed for their age.
+    horizon: Option<Ns>,
+    records: u64,
+}
+
+impl Model for Shard {
+    ghost use Rattle.std.specs.Prelude.{◌≤◌, length};
+    ghost use Rattle.std.specs.Option.{unwrap_or};
+    ghost use Rattle.std.specs.List.Sorted.{IsStrictlySortedBy};
+    ghost use Rattle.std.specs.FinMap as map;
+    ghost use Rattle.rl_labels.specs.EntryOrder.{entry_cmp};
+    ghost use Rattle.rl_shard.specs.ShardState.{Journalled, set_of};
+
+    ghost Value = { Journalled };
+
+    ghost use Rattle.std.specs.Coded.{code_by, coded×, coded_ℕ};
+    ghost use base.Stored.{coded_unit};
+    ghost use Rattle.std.specs.Prelude.{ℕ, refl};
+    ghost use Rattle.rl_labels.specs.EntryOrder.{EntrySet};
+    ghost use Rattle.rl_labels.specs.LabelSet.{label_set_code};
+    ghost use Rattle.rl_labels.specs.LabelText.{label_set_cmp};
+    ghost use Rattle.rl_labels.specs.declared.limits.Limits.{Limits};
+    ghost use Rattle.rl_labels.specs.contracts.entry.Entry as entry_type;
+    ghost use Rattle.rl_labels.specs.contracts.limits.Limits as limits_type;
+
+    ghost coded = { code_by (Limits × ((EntrySet × ((map.FinMap label_set_cmp ℕ) × ℕ)) × ℕ)) (coded× limits_type.the_row.coded (coded× (coded× (map.code entry_type.the_row.coded coded_unit) (coded× (map.code label_set_code coded_ℕ) coded_ℕ)) coded_ℕ)) (λ j. (j.limits, ((j.state.held, (j.state.newest, j.state.horizon)), j.records))) (λ p. record { limits = p.0; state = record { held = p.1.0.0; newest = p.1.0.1.0; horizon = p.1.0.1.1 }; records = p.1.1 }) (λ _. refl) };
+
+    ghost view = { λ a. record { limits = a.limits; state = record { held = set_of a.held.items; newest = map.from_entries a.newest.entries; horizon = unwrap_or a.horizon 0 }; records = a.records } };
+
+    ghost invariant = { λ a. (IsStrictlySortedBy entry_cmp a.held.items) × ((length a.held.items ≤ a.limits.entries) × (a.records ≤ a.limits.records)) };
+}
+
+impl Shard {
+    ghost use Rattle.rl_shard.specs.ShardState.{empty_shard};
+    ghost use Rattle.rl_shard.specs.ShardStep.{push_reply, pushed, is_taken, step_reply, recorded, is_journal_full, needs_no_memory};
+    ghost use Rattle.rl_shard.specs.declared.step.ShardFault.TheVariants as faults;
+    ghost use Rattle.rl_shard.specs.declared.step.ShardReply.TheVariants as replies;
+    ghost use Rattle.rl_shard.specs.ShardState.{visible};
+    ghost use Rattle.rl_aggregate.specs.Partials.{partial};
+    ghost use Rattle.std.specs.Prelude.{map as map_list};
+
+    /// A shard that holds nothing, with an empty journal.
+    pub fn open(alloc: Global, limits: Limits) -> Self
+        ensures { result ≡ record { limits = limits; state = empty_shard; records = 0 } }
+    {
+        Shard {
+            limits,
+            held: Vec::new(alloc),
+            newest: BTreeMap::new(alloc),
+            horizon: None,
+            records: 0,
+        }
+    }
+
+    /// How many records the journal has.
+    pub fn journal_len(&self) -> u64
+        ensures { result ≡ self.now.records }
+    {
+        self.records
+    }
+
+    /// Decides a step, and answers its place in the journal, counted from 0, with the reply.
+    pub fn apply(&mut self, step: ShardStep) -> Result<(u64, ShardReply), ShardFault>
+        ensures journal_full { IsTrue (is_journal_full self.old) → result ≡ Err faults.JournalFull }
+        ensures room { IsErrOf result faults.JournalFull → IsTrue (is_journal_full self.old) }
+        ensures decided { IfOk result (λ answer. (answer.0 ≡ self.old.records) × (answer.1 ≡ step_reply self.old.limits self.old.state step)) }
+        ensures changed { OnOk result (self.new ≡ recorded self.old step) }
+        ensures same { OnErr result (self.new ≡ self.old) }
+        ensures no_memory { IsTrue (not (is_journal_full self.old) && needs_no_memory self.old.limits self.old.state step) → IsOk result }
+    {
+        if self.records >= self.limits.records {
+            return Err(ShardFault::JournalFull);
+        }
+        let reply = match step {
+            ShardStep::Push(entry) => self.push(entry)?,
+            ShardStep::Collect { slot: _, terms, t } => ShardReply::Collected(self.show(
+                &terms, t,
+            )?),
+        };
+        let place = self.records;
+        self.records += 1;
+        Ok((place, reply))
+    }
+
+    // Takes an entry, or says why not.
+    fn push(&mut self, entry: Entry) -> Result<ShardReply, AllocError>
+        ensures reply { IfOk result (λ reply. reply ≡ push_reply self.old.limits self.old.state entry) }
+        ensures state { OnOk result (self.new ≡ record { limits = self.old.limits; state = pushed self.old.limits self.old.state entry; records = self.old.records }) }
+        ensures err { OnErr result (self.new ≡ self.old) }
+        ensures no_memory { IsTrue (not (is_taken self.old.limits self.old.state entry)) → IsOk result }
+    {
+        match decide(&self.limits, &self.held, &self.newest, self.horizon, &entry) {
+            Decision::Answer(reply) => Ok(reply),
+            Decision::Hold(place) => {
+                hold(&mut self.held, &mut self.newest, entry, place)?;
+                Ok(ShardReply::Accepted)
+            }
+        }
+    }
+
+    // What the shard shows of each term's range.
+    fn show(&self, terms: &PlainList<Term>, t: Ns) -> Result<PlainList<Partial>, AllocError>
+        ensures { IfOk result (λ partials. partials ≡ map_list (λ term. partial (visible self.now.state) term t) terms.now) }
+    {
+        collect(*self.held.allocator(), &self.held, terms.as_slice(), t)
+    }
+}

@@ -1,0 +1,133 @@
+//! The entries of a shard in one sorted list, and the newest timestamp of each stream.
+ghost use Rattle.std.specs.Prelude.{◌≡◌, ◌≤◌, ◌+◌, ◌*◌, nat_lt, true, false, max, length, IfOk, OnOk, OnErr, map as map_list};
+ghost use Rattle.std.specs.Option.{unwrap_or, MatchOption};
+ghost use Rattle.std.specs.List.Sorted.{IsStrictlySortedBy};
+ghost use Rattle.rl_labels.specs.EntryOrder.{entry_cmp};
+ghost use Rattle.rl_shard.specs.Deciding.{Decides};
+ghost use Rattle.rl_shard.specs.ShardState.{state_of};
+ghost use Rattle.rl_shard.specs.ShardStep.{half_second};
+ghost use Rattle.std.specs.List.{insert};
+ghost use Rattle.std.specs.FinMap as map;
+ghost use Rattle.rl_labels.specs.LabelText.{label_set_cmp};
+ghost use Rattle.rl_aggregate.specs.Partials.{partial, most_entries};
+
+use crate::decision::Decision;
+use crate::step::ShardReply;
+use rl_aggregate::{Partial, scratch};
+use rl_labels::{Entry, Labels, Limits, Ns};
+use rl_plain::{PlainList, TryCopy};
+use rl_query::Term;
+use std::alloc::{AllocError, Global};
+use std::collections::BTreeMap;
+
+// The newest timestamp of a stream, if it ever had an entry.
+pub(crate) fn newest_of(newest: &BTreeMap<Labels, Ns>, labels: &Labels) -> Option<Ns>
+    ensures { result ≡ map.get (map.from_entries {R = label_set_cmp} newest.now.entries) labels.now }
+{
+    newest.get(labels).copied()
+}
+
+// Half of a second, in nanoseconds.
+const HALF_SECOND: u64 = 500_000_000;
+
+// The horizon, if the entry is older.
+fn horizon_after(horizon: Option<Ns>, entry: &Entry) -> Option<Ns>
+    ensures { MatchOption result (nat_lt entry.now.timestamp (unwrap_or horizon 0) ≡ false) (λ past. (nat_lt entry.now.timestamp (unwrap_or horizon 0) ≡ true) × (past ≡ unwrap_or horizon 0)) }
+{
+    match horizon {
+        Some(horizon) if entry.timestamp < horizon => Some(horizon),
+        _ => None,
+    }
+}
+
+// The newest timestamp of the entry's stream, if the entry is too far behind it.
+fn newest_far_after(limits: &Limits, newest: &BTreeMap<Labels, Ns>, entry: &Entry) -> Option<Ns>
+    ensures { MatchOption result (nat_lt (entry.now.timestamp + limits.now.chunk_age * half_second) (unwrap_or (map.get (map.from_entries {R = label_set_cmp} newest.now.entries) entry.now.labels) 0) ≡ false)
+        (λ latest. (nat_lt (entry.now.timestamp + limits.now.chunk_age * half_second) (unwrap_or (map.get (map.from_entries {R = label_set_cmp} newest.now.entries) entry.now.labels) 0) ≡ true)
+        × (latest ≡ unwrap_or (map.get (map.from_entries {R = label_set_cmp} newest.now.entries) entry.now.labels) 0)) }
+{
+    let latest = newest_of(newest, &entry.labels)?;
+    if entry.timestamp.get() + limits.chunk_age * HALF_SECOND < latest.get() {
+        Some(latest)
+    } else {
+        None
+    }
+}
+
+// What becomes of the entry, by the first that holds.
+pub(crate) fn decide(
+    limits: &Limits,
+    held: &[Entry],
+    newest: &BTreeMap<Labels, Ns>,
+    horizon: Option<Ns>,
+    entry: &Entry,
+) -> Decision
+    requires { IsStrictlySortedBy entry_cmp held.now }
+    ensures { Decides result limits.now (state_of held.now newest.now.entries horizon) held.now entry.now }
+{
+    if let Some(horizon) = horizon_after(horizon, entry) {
+        return Decision::Answer(ShardReply::Expired { horizon });
+    }
+    if let Some(newest) = newest_far_after(limits, newest, entry) {
+        return Decision::Answer(ShardReply::TooFarBehind { newest });
+    }
+    match held.binary_search(entry) {
+        Ok(_) => Decision::Answer(ShardReply::Accepted),
+        Err(_) if held.len() as u64 >= limits.entries => Decision::Answer(ShardReply::Full),
+        Err(place) => Decision::Hold(place),
+    }
+}
+
+// Holds the entry at its place, and raises the newest timestamp of its stream.
+pub(crate) fn hold(
+    held: &mut Vec<Entry>,
+    newest: &mut BTreeMap<Labels, Ns>,
+    entry: Entry,
+    place: usize,
+) -> Result<(), AllocError>
+    requires { place ≤ length held.old.items }
+    ensures held { OnOk result (held.new.items ≡ insert held.old.items place entry) }
+    ensures newest { OnOk result (map.from_entries {R = label_set_cmp} newest.new.entries ≡ map.insert (map.from_entries newest.old.entries) entry.labels (max (unwrap_or (map.get (map.from_entries {R = label_set_cmp} newest.old.entries) entry.labels) 0) entry.timestamp)) }
+    ensures err { OnErr result ((held.new.items ≡ held.old.items) × (newest.new.entries ≡ newest.old.entries)) }
+{
+    held.reserve(1)?;
+    raise(newest, &entry.labels, entry.timestamp)?;
+    held.insert(place, entry)?;
+    Ok(())
+}
+
+// Raises the newest timestamp of a stream, unless it is as new already.
+fn raise(
+    newest: &mut BTreeMap<Labels, Ns>,
+    labels: &Labels,
+    timestamp: Ns,
+) -> Result<(), AllocError>
+    ensures ok { OnOk result (map.from_entries {R = label_set_cmp} newest.new.entries ≡ map.insert (map.from_entries newest.old.entries) labels.now (max (unwrap_or (map.get (map.from_entries {R = label_set_cmp} newest.old.entries) labels.now) 0) timestamp)) }
+    ensures err { OnErr result (newest.new.entries ≡ newest.old.entries) }
+{
+    if let Some(latest) = newest.get_mut(labels) {
+        if *latest < timestamp {
+            *latest = timestamp;
+        }
+        return Ok(());
+    }
+    newest.insert(labels.try_copy()?, timestamp)?;
+    Ok(())
+}
+
+// What the entries in each term's range add up to.
+pub(crate) fn collect(
+    alloc: Global,
+    held: &[Entry],
+    terms: &[Term],
+    t: Ns,
+) -> Result<PlainList<Partial>, AllocError>
+    requires { length held.now ≤ most_entries }
+    ensures { IfOk result (λ partials. partials ≡ map_list (λ term. partial held.now term t) terms.now) }
+{
+    let mut partials = Vec::with_capacity(alloc, terms.len())?;
+    for term in terms {
+        partials.push(scratch(alloc, held, term, t)?)?;
+    }
+    Ok(PlainList::from_vec(partials))
+}
