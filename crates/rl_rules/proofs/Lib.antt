@@ -1,0 +1,5 @@
+mod Keyed
+mod Named
+mod Recorded
+mod Shapes
+mod Walks

@@ -1,0 +1,44 @@
+-- Tests of groups, as the code makes them.
+use Rattle.std.proofs.Common.{◌≡◌, ℕ, ◌+◌, ◌<◌, ◌≤◌, nat_lt, Bool, true, false, ◌&&◌, ◌||◌, List, [], ◌∷◌, length, map, get_or, drop, refl, sym, ap, ◌∙◌}
+use Rattle.std.specs.List.{list_all, list_any}
+use Rattle.std.proofs.lemmas.Bool.{le-ltb}
+use Rattle.std.proofs.lemmas.List.{drop_more, length-map}
+use Rattle.std.proofs.lemmas.List.Folds.{list_all-map}
+use Rattle.rl_labels.specs.Name.{is_text}
+use Rattle.rl_rules.specs.declared.rule.Group.{Group}
+use Rattle.rl_rules.specs.Forms.{GroupForm, group_form, rule_form}
+use Rattle.rl_rules.specs.RuleNames.{is_group_name, is_metric_name}
+use Rattle.rl_rules.specs.Document.{names_are_good, has_same_group, has_too_many}
+
+-- groups and their forms have the same names
+pub good_names : (groups : List Group) → names_are_good (map group_form groups) ≡ list_all (λ group. is_group_name group.name && list_all (λ rule. is_metric_name rule.name) group.rules) groups
+good_names [] = refl
+good_names (group ∷ groups) = λ i. (is_group_name group.name && list_all-map (λ rule. is_metric_name rule.name) rule_form group.rules i) && good_names groups i
+
+many_rules : (groups : List Group) → list_any (λ group. nat_lt 1 (length group.rules)) (map group_form groups) ≡ list_any (λ group. nat_lt 1 (length group.rules)) groups
+many_rules [] = refl
+many_rules (group ∷ groups) = λ i. nat_lt 1 (length-map group.rules rule_form i) || many_rules groups i
+
+-- of one group at most, the rules are counted
+pub too_many : (groups : List Group) → length groups ≤ 1 → has_too_many (map group_form groups) ≡ list_any (λ group. nat_lt 1 (length group.rules)) groups
+too_many groups few =
+    ap (λ b. b || list_any (λ group. nat_lt 1 (length group.rules)) (map group_form groups)) (ap (nat_lt 1) (length-map groups group_form) ∙ le-ltb 1 (length groups) few)
+    ∙ many_rules groups
+
+same_name : (group : Group) (groups : List Group) → list_any (λ other. is_text group.name other.name) (map group_form groups) ≡ list_any (λ other. is_text group.name other.name) groups
+same_name group [] = refl
+same_name group (other ∷ groups) = ap (λ b. is_text group.name other.name || b) (same_name group groups)
+
+-- whether two from a place on have one name
+same_from : (groups : List Group) (i : ℕ) (group : Group) (b : Bool) → i < length groups → group ≡ get_or groups i group → list_any (λ other. is_text group.name other.name) (drop (i + 1) groups) ≡ b
+    → has_same_group (map group_form (drop i groups)) ≡ (b || has_same_group (map group_form (drop (i + 1) groups)))
+same_from groups i group b within is named =
+    ap (λ gs. has_same_group (map group_form gs)) (drop_more groups i group within)
+    ∙ ap (λ g. has_same_group (map group_form (g ∷ drop (i + 1) groups))) (sym is)
+    ∙ ap (λ c. c || has_same_group (map group_form (drop (i + 1) groups))) (same_name group (drop (i + 1) groups) ∙ named)
+
+pub named_again : (groups : List Group) (i : ℕ) (group : Group) (whole : Bool) → i < length groups → group ≡ get_or groups i group → list_any (λ other. is_text group.name other.name) (drop (i + 1) groups) ≡ true → has_same_group (map group_form (drop i groups)) ≡ whole → true ≡ whole
+named_again groups i group whole within is named so_far = sym (same_from groups i group true within is named) ∙ so_far
+
+pub named_once : (groups : List Group) (i : ℕ) (group : Group) (whole : Bool) → i < length groups → group ≡ get_or groups i group → list_any (λ other. is_text group.name other.name) (drop (i + 1) groups) ≡ false → has_same_group (map group_form (drop i groups)) ≡ whole → has_same_group (map group_form (drop (i + 1) groups)) ≡ whole
+named_once groups i group whole within is named so_far = sym (same_from groups i group false within is named) ∙ so_far

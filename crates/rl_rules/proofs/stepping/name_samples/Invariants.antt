@@ -1,0 +1,7 @@
+-- The samples so far are named, the others as they were.
+use Rattle.std.proofs.Common.{◌≡◌, ◌++◌, map, take, drop}
+use Rattle.rl_rules.specs.Recording.{named}
+use Rattle.rl_rules.proofs.stepping.name_samples.Given as goal
+
+abbrev pub invariant-loop-sample : goal.invariant-loop-sample
+invariant-loop-sample l = l.samples ≡ map (named l.name) (take l.sample-index l.initial.samples) ++ drop l.sample-index l.initial.samples

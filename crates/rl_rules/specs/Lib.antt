@@ -1,0 +1,5 @@
+pub mod Document
+pub mod Forms
+pub mod Outcomes
+pub mod Recording
+pub mod RuleNames

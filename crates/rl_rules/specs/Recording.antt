@@ -1,0 +1,20 @@
+-- Samples as they are recorded: under their final label sets, and in order.
+use Rattle.std.specs.Prelude.{ℕ, Bool, false, ◌||◌, List, [], ◌∷◌, codes}
+use Rattle.std.specs.declared.cmp.Ordering.{Ordering}
+use Rattle.rl_labels.specs.LabelSet.{with_label}
+use Rattle.rl_labels.specs.LabelText.{label_set_cmp, label_set_eq}
+use Rattle.rl_aggregate.specs.declared.outcome.Sample.{Sample}
+
+-- a sample with the name of what is recorded
+abbrev pub named : List ℕ → Sample → Sample
+named name sample = record { labels = with_label sample.labels (codes "__name__") name; value = sample.value }
+
+-- by label set
+abbrev pub sample_cmp : Sample → Sample → Ordering
+sample_cmp sample other = label_set_cmp sample.labels other.labels
+
+-- two neighbours have one label set
+abbrev pub has_same_neighbours : List Sample → Bool
+has_same_neighbours [] = false
+has_same_neighbours (sample ∷ []) = false
+has_same_neighbours (sample ∷ next ∷ samples) = label_set_eq sample.labels next.labels || has_same_neighbours (next ∷ samples)

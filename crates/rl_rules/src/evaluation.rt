@@ -1,0 +1,123 @@
+//! Evaluations of a group: what each of its rules made of its query's outcome at a moment.
+use crate::rule::RuleKind;
+use rl_aggregate::Sample;
+use rl_labels::{Labels, Ns};
+use rl_plain::{PlainList, PlainText, Same, TryCopy};
+use std::alloc::AllocError;
+
+/// An evaluation of a group at a moment.
+#[derive(Debug, Drop, PartialEq, Eq)]
+pub struct Evaluation {
+    /// The name of the group.
+    pub group: PlainText,
+    pub t: Ns,
+    /// For each shard, where its journal has what it showed.
+    pub places: PlainList<u64>,
+    /// What each rule gave, in the order of the rules.
+    pub outcomes: PlainList<RuleResult>,
+}
+
+/// What a rule gave, with what a sink says of the rule.
+#[derive(Debug, Drop, PartialEq, Eq)]
+pub struct RuleResult {
+    pub kind: RuleKind,
+    pub name: PlainText,
+    pub annotations: Labels,
+    pub outcome: RuleOutcome,
+}
+
+/// What a rule gave.
+#[derive(Debug, Drop, PartialEq, Eq)]
+pub enum RuleOutcome {
+    /// The recorded samples, in the order of their label sets.
+    Samples(PlainList<Sample>),
+    Failed(Cause),
+}
+
+/// Why a rule failed.
+#[derive(Clone, Copy, Debug, PartialEq, Eq)]
+pub enum Cause {
+    /// A line had an error.
+    PipelineError,
+    /// Two elements have one final label set.
+    SameLabels,
+}
+
+impl TryCopy for Cause {
+    fn try_copy(&self) -> Result<Self, AllocError> {
+        Ok(*self)
+    }
+}
+
+impl Same for Cause {
+    fn is_same(&self, other: &Self) -> bool {
+        self == other
+    }
+}
+
+impl TryCopy for RuleOutcome {
+    fn try_copy(&self) -> Result<Self, AllocError> {
+        match self {
+            RuleOutcome::Samples(samples) => Ok(RuleOutcome::Samples(samples.try_copy()?)),
+            RuleOutcome::Failed(cause) => Ok(RuleOutcome::Failed(*cause)),
+        }
+    }
+}
+
+impl Same for RuleOutcome {
+    fn is_same(&self, other: &Self) -> bool {
+        match (self, other) {
+            (RuleOutcome::Samples(samples), RuleOutcome::Samples(others)) => samples.is_same(
+                others,
+            ),
+            (RuleOutcome::Failed(cause), RuleOutcome::Failed(other)) => cause.is_same(other),
+            _ => false,
+        }
+    }
+}
+
+impl TryCopy for RuleResult {
+    fn try_copy(&self) -> Result<Self, AllocError> {
+        let name = self.name.try_copy()?;
+        let annotations = self.annotations.try_copy()?;
+        let outcome = self.outcome.try_copy()?;
+        Ok(RuleResult {
+            kind: self.kind,
+            name,
+            annotations,
+            outcome,
+        })
+    }
+}
+
+impl Same for RuleResult {
+    fn is_same(&self, other: &Self) -> bool {
+        self.kind.is_same(&other.kind)
+            && self.name.is_same(&other.name)
+            && self.annotations.is_same(&other.annotations)
+            && self.outcome.is_same(&other.outcome)
+    }
+}
+
+impl TryCopy for Evaluation {
+    fn try_copy(&self) -> Result<Self, AllocError> {
+        let group = self.group.try_copy()?;
+        let places = self.places.try_copy()?;
+        let outcomes = self.outcomes.try_copy()?;
+        Ok(Evaluation {
+            group,
+            t: self.t,
+            places,
+            outcomes,
+        })
+    }
+}
+
+impl Same for Evaluation {
+    fn is_same(&self, other: &Self) -> bool {
+        self.t == other.t
+            && self.group.is_same(&other.group)
+            && self.places.is_same(&other.places)
+            && self.outcomes.is_same(&other.outcomes)
+    }
+}

@@ -1,0 +1,27 @@
+//! Rules: groups read from TOML, and what a rule makes of the outcome of its query.
+//!
+//! `read_rules` gives exactly the groups that the document has, or its lowest fault. `step_rule` gives the samples of a
+//! recording rule, or why it failed.
+//!
+//! - `rule`: `Group`, `Rule`. `evaluation`: `Evaluation`, `RuleResult`, `RuleOutcome`, `Cause`.
+//! - `fault`: why a rule file is refused. `reading`: `read_rules`. `stepping`: `step_rule`.
+#![tactic(auto)]
+
+pub mod evaluation;
+pub mod fault;
+mod names;
+pub mod reading;
+pub mod rule;
+mod shape;
+pub mod stepping;
+
+pub use evaluation::{Cause, Evaluation, RuleOutcome, RuleResult};
+pub use fault::{RulesError, RulesFault};
+pub use reading::read_rules;
+pub use rule::{Group, Rule, RuleKind};
+pub use stepping::step_rule;
+
+#[cfg(test)]
+mod tests;
+#[cfg(test)]
+mod tests_refused;

@@ -1,0 +1,178 @@
+//! Rule files: groups of rules from a TOML text.
+ghost use Rattle.std.specs.Prelude.{◌≡◌, ◌&&◌, nat_lt, length, map};
+ghost use Rattle.std.specs.List.{list_all, list_any};
+ghost use Rattle.toml.specs.View.{table_view, items_view};
+ghost use Rattle.rl_labels.specs.Name.{is_text};
+ghost use Rattle.rl_query.specs.Form.{query_form};
+ghost use Rattle.rl_query.specs.Parsing.{query_of};
+ghost use Rattle.rl_rules.specs.Forms.{Gives, group_form, rule_form};
+ghost use Rattle.rl_rules.specs.RuleNames.{is_group_name, is_metric_name};
+ghost use Rattle.rl_rules.specs.Document.{groups_of, document_groups, tables_of, query_at, rule_at, rules_from, group_at, groups_from, names_are_good, has_same_group, has_too_many, checked};
+
+use crate::fault::{RulesError, RulesFault};
+use crate::names::{is_group_name, is_metric_name};
+use crate::rule::{Group, Rule, RuleKind};
+use crate::shape::{is_known, is_typed, is_whole, items_at, text_at};
+use rl_plain::{PlainList, PlainText};
+use rl_query::{Query, QueryError, parse};
+use std::alloc::Global;
+use toml::{Table, Value};
+
+/// The groups of a rule file, unless its document has a fault: the lowest that it has anywhere.
+#[tactic(auto, unfolding(crate::specs::Document::groups_of))]
+pub fn read_rules(alloc: Global, text: &str) -> Result<Vec<Group>, RulesError>
+    ensures { Gives (λ groups. map group_form groups.items) result (groups_of text.now) }
+{
+    match toml::table_from_str(alloc, text) {
+        Ok(document) => groups_in(alloc, &document),
+        Err(error) if error.is_memory() => Err(RulesError::Memory),
+        Err(_) => Err(RulesError::Fault(RulesFault::BadToml)),
+    }
+}
+
+// The groups of a document.
+fn groups_in(alloc: Global, document: &Table) -> Result<Vec<Group>, RulesError>
+    ensures { Gives (λ groups. map group_form groups.items) result (document_groups (table_view document.now)) }
+{
+    if !is_typed(document) {
+        return Err(RulesError::Fault(RulesFault::BadToml));
+    }
+    if !is_known(document) {
+        return Err(RulesError::Fault(RulesFault::UnknownKey));
+    }
+    if !is_whole(document) {
+        return Err(RulesError::Fault(RulesFault::MissingKey));
+    }
+    let groups = groups_from(alloc, items_at(document, "groups"))?;
+    checked(groups)
+}
+
+// The groups of an array's tables.
+fn groups_from(alloc: Global, items: &[Value]) -> Result<Vec<Group>, RulesError>
+    ensures { Gives (λ groups. map group_form groups.items) result (groups_from 0 (tables_of (items_view items.now))) }
+{
+    let mut groups = Vec::new(alloc);
+    for item in items {
+        if let Some(table) = item.as_table() {
+            let group = group_at(alloc, groups.len(), table)?;
+            groups.push(group)?;
+        }
+    }
+    Ok(groups)
+}
+
+fn group_at(alloc: Global, group: usize, table: &Table) -> Result<Group, RulesError>
+    ensures { Gives group_form result (group_at group (table_view table.now)) }
+{
+    let rules = rules_from(alloc, group, items_at(table, "rules"))?;
+    let name = PlainText::from_str(alloc, text_at(table, "name"))?;
+    let rules = PlainList::from_vec(rules);
+    Ok(Group { name, rules })
+}
+
+// The rules of an array's tables.
+fn rules_from(alloc: Global, group: usize, items: &[Value]) -> Result<Vec<Rule>, RulesError>
+    ensures { Gives (λ rules. map rule_form rules.items) result (rules_from group 0 (tables_of (items_view items.now))) }
+{
+    let mut rules = Vec::new(alloc);
+    for item in items {
+        if let Some(table) = item.as_table() {
+            let rule = rule_at(alloc, group, rules.len(), table)?;
+            rules.push(rule)?;
+        }
+    }
+    Ok(rules)
+}
+
+fn rule_at(alloc: Global, group: usize, rule: usize, table: &Table) -> Result<Rule, RulesError>
+    ensures { Gives rule_form result (rule_at group rule (table_view table.now)) }
+{
+    let query = query_at(alloc, group, rule, text_at(table, "expr"))?;
+    let name = PlainText::from_str(alloc, text_at(table, "record"))?;
+    Ok(Rule {
+        kind: RuleKind::Recording,
+        name,
+        query,
+    })
+}
+
+// The query of a rule, or its fault with the places of the group and of the rule.
+fn query_at(alloc: Global, group: usize, rule: usize, text: &str) -> Result<Query, RulesError>
+    ensures { Gives query_form result (query_at group rule (query_of text.now)) }
+{
+    match parse(alloc, text) {
+        Ok(query) => Ok(query),
+        Err(QueryError::Fault(fault)) => Err(RulesError::Fault(RulesFault::BadQuery {
+            group,
+            rule,
+            fault,
+        })),
+        Err(QueryError::Memory) => Err(RulesError::Memory),
+    }
+}
+
+// The groups, unless a name or a number is refused.
+fn checked(groups: Vec<Group>) -> Result<Vec<Group>, RulesError>
+    ensures { Gives (λ groups. map group_form groups.items) result (checked (map group_form groups.items)) }
+{
+    if !names_are_good(&groups) {
+        return Err(RulesError::Fault(RulesFault::BadName));
+    }
+    if has_same_group(&groups) {
+        return Err(RulesError::Fault(RulesFault::SameGroup));
+    }
+    if has_too_many(&groups) {
+        return Err(RulesError::Fault(RulesFault::TooMany));
+    }
+    Ok(groups)
+}
+
+// Whether each name is one that a group or a recorded metric may have.
+fn names_are_good(groups: &[Group]) -> bool
+    ensures { result ≡ names_are_good (map group_form groups.now) }
+{
+    groups.iter().all(has_good_names)
+}
+
+fn has_good_names(group: &Group) -> bool
+    ensures { result ≡ (is_group_name group.now.name && list_all (λ rule. is_metric_name rule.name) group.now.rules) }
+{
+    is_group_name(group.name.as_str()) && are_metric_names(group.rules.as_slice())
+}
+
+fn are_metric_names(rules: &[Rule]) -> bool
+    ensures { result ≡ list_all (λ rule. is_metric_name rule.name) rules.now }
+{
+    rules.iter().all(|rule| is_metric_name(rule.name.as_str()))
+}
+
+// Whether two groups have one name.
+fn has_same_group(groups: &[Group]) -> bool
+    ensures { result ≡ has_same_group (map group_form groups.now) }
+{
+    for (index, group) in groups.iter().enumerate() {
+        if has_name(&groups[index + 1..], group.name.as_str()) {
+            return true;
+        }
+    }
+    false
+}
+
+fn has_name(groups: &[Group], name: &str) -> bool
+    ensures { result ≡ list_any (λ group. is_text name.now group.name) groups.now }
+{
+    groups.iter().any(|group| name == group.name.as_str())
+}
+
+// Whether there are more groups, or more rules of a group, than are evaluated yet: one.
+fn has_too_many(groups: &[Group]) -> bool
+    ensures { result ≡ has_too_many (map group_form groups.now) }
+{
+    groups.len() > 1 || groups.iter().any(has_many_rules)
+}
+
+fn has_many_rules(group: &Group) -> bool
+    ensures { result ≡ nat_lt 1 (length group.now.rules) }
+{
+    group.rules.len() > 1
+}

@@ -1,0 +1,73 @@
+//! Rules and groups of rules, as in Prometheus' rule files.
+use rl_plain::{PlainList, PlainText, Same, TryCopy};
+use rl_query::Query;
+use std::alloc::AllocError;
+
+/// A group of rules, evaluated one after another at one moment.
+#[derive(Debug, Drop, PartialEq, Eq)]
+pub struct Group {
+    pub name: PlainText,
+    pub rules: PlainList<Rule>,
+}
+
+/// A rule: a query under a name.
+#[derive(Debug, Drop, PartialEq, Eq)]
+pub struct Rule {
+    pub kind: RuleKind,
+    /// The name of the metric that is recorded.
+    pub name: PlainText,
+    pub query: Query,
+}
+
+/// What a rule is for.
+#[derive(Clone, Copy, Debug, PartialEq, Eq)]
+pub enum RuleKind {
+    /// Its vector is recorded under a new name.
+    Recording,
+}
+
+impl TryCopy for RuleKind {
+    fn try_copy(&self) -> Result<Self, AllocError> {
+        Ok(*self)
+    }
+}
+
+impl Same for RuleKind {
+    fn is_same(&self, other: &Self) -> bool {
+        self == other
+    }
+}
+
+impl TryCopy for Rule {
+    fn try_copy(&self) -> Result<Self, AllocError> {
+        let name = self.name.try_copy()?;
+        let query = self.query.try_copy()?;
+        Ok(Rule {
+            kind: self.kind,
+            name,
+            query,
+        })
+    }
+}
+
+impl Same for Rule {
+    fn is_same(&self, other: &Self) -> bool {
+        self.kind == other.kind
+            && self.name.is_same(&other.name)
+            && self.query.is_same(&other.query)
+    }
+}
+
+impl TryCopy for Group {
+    fn try_copy(&self) -> Result<Self, AllocError> {
+        let name = self.name.try_copy()?;
+        let rules = self.rules.try_copy()?;
+        Ok(Group { name, rules })
+    }
+}
+
+impl Same for Group {
+    fn is_same(&self, other: &Self) -> bool {
+        self.name.is_same(&other.name) && self.rules.is_same(&other.rules)
+    }
+}
