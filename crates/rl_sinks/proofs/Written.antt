@@ -1,0 +1,83 @@
+-- What a writer got, step by step.
+use Rattle.std.proofs.Common.{◌≡◌, ◌≢◌, ℕ, ◌+◌, ◌-◌, ◌<◌, ◌≤◌, List, [], ◌++◌, length, take, drop, get_or, Option, None, Some, Result, Ok, Err, OnOk, OnErr, sym, ap, subst, ◌∙◌, refl, arith, append_assoc, length-append}
+use Rattle.std.proofs.lemmas.List.{take-append-drop, append-nil, take_all, drop-append-le, drop_more, length-drop}
+use Rattle.std.specs.List.{flat_map}
+use Rattle.std.specs.Io.KnownBytes.{Appends, Keeps}
+use Rattle.rl_sinks.specs.Pieces.{Writes, rest_of}
+
+-- one write after another
+pub Appends-trans : (o m n : Option (List ℕ)) (f g : List ℕ) → Appends o m f → Appends m n g → Appends o n (f ++ g)
+Appends-trans None m n f g a b = tt
+Appends-trans (Some xs) None n f g a b = absurd a
+Appends-trans (Some xs) (Some ys) None f g a b = absurd b
+Appends-trans (Some xs) (Some ys) (Some zs) f g a b = b ∙ ap (λ l. l ++ g) a ∙ append_assoc xs f g
+
+-- nothing was written
+pub Writes-none : (o : Option (List ℕ)) (rest : List ℕ) → Writes o o rest rest
+Writes-none None rest = ([], refl, tt)
+Writes-none (Some xs) rest = ([], refl, sym (append-nil xs))
+
+-- a write that failed
+pub Writes-kept : (o n : Option (List ℕ)) (rest : List ℕ) → Keeps o n → Writes o n rest rest
+Writes-kept None n rest k = ([], refl, tt)
+Writes-kept (Some xs) None rest k = absurd k
+Writes-kept (Some xs) (Some ys) rest k = ([], refl, k ∙ sym (append-nil xs))
+
+-- a write that took some bytes of the rest
+pub Writes-step : (o m n : Option (List ℕ)) (all rest : List ℕ) (count : ℕ) → Writes o m all rest → Appends m n (take count rest) → Writes o n all (drop count rest)
+Writes-step o m n all rest count w a = (w.0 ++ take count rest, w.1 ∙ ap (λ l. w.0 ++ l) (sym (take-append-drop count rest)) ∙ sym (append_assoc w.0 (take count rest) (drop count rest)), Appends-trans o m n w.0 (take count rest) w.2 a)
+
+pub Writes-trans : (o m n : Option (List ℕ)) (a b c : List ℕ) → Writes o m a b → Writes m n b c → Writes o n a c
+Writes-trans o m n a b c v w = (v.0 ++ w.0, v.1 ∙ ap (λ l. v.0 ++ l) w.1 ∙ sym (append_assoc v.0 w.0 c), Appends-trans o m n v.0 w.0 v.2 w.2)
+
+-- with more to write behind
+pub Writes-behind : (o n : Option (List ℕ)) (a b more : List ℕ) → Writes o n a b → Writes o n (a ++ more) (b ++ more)
+Writes-behind o n a b more w = (w.0, ap (λ l. l ++ more) w.1 ∙ append_assoc w.0 b more, w.2)
+
+-- all that stands behind some bytes
+pub behind : (n : ℕ) (bytes : List ℕ) → take (length bytes - n) (drop n bytes) ≡ drop n bytes
+behind n bytes = take_all (length bytes - n) (drop n bytes) (omega (arith, length-drop n bytes))
+
+-- what is left: the rest of the next piece, and those behind it
+pub rest_of-next : (all : List (List ℕ)) (next part : ℕ) → next < length all → part ≤ length (get_or all next []) → rest_of all next part ≡ drop part (get_or all next []) ++ rest_of all (next + 1) 0
+rest_of-next all next part within fits =
+    ap (λ left. drop part (flat_map (λ piece. piece) left)) (drop_more all next [] within)
+    ∙ drop-append-le part (get_or all next []) (flat_map (λ piece. piece) (drop (next + 1) all)) fits
+
+-- a piece was written to its end
+piece_done : (o n : Option (List ℕ)) (all : List (List ℕ)) (next part : ℕ) → next < length all → part ≤ length (get_or all next []) → Writes o n (drop part (get_or all next [])) [] → Writes o n (rest_of all next part) (rest_of all (next + 1) 0)
+piece_done o n all next part within fits w =
+    subst (λ left. Writes o n left (rest_of all (next + 1) 0)) (sym (rest_of-next all next part within fits)) (Writes-behind o n (drop part (get_or all next [])) [] (rest_of all (next + 1) 0) w)
+
+-- a piece was written up to a byte
+piece_begun : (o n : Option (List ℕ)) (all : List (List ℕ)) (next part new : ℕ) → next < length all → part ≤ length (get_or all next []) → new ≤ length (get_or all next []) → Writes o n (drop part (get_or all next [])) (drop new (get_or all next [])) → Writes o n (rest_of all next part) (rest_of all next new)
+piece_begun o n all next part new within fits room w =
+    subst (λ left. Writes o n left (rest_of all next new)) (sym (rest_of-next all next part within fits))
+    (subst (λ left. Writes o n (drop part (get_or all next []) ++ rest_of all (next + 1) 0) left) (sym (rest_of-next all next new within room))
+    (Writes-behind o n (drop part (get_or all next [])) (drop new (get_or all next [])) (rest_of all (next + 1) 0) w))
+
+-- a piece was written, in whole or in part
+pub piece_written : {A E : Type 0} (r : Result A E) (o n : Option (List ℕ)) (all : List (List ℕ)) (next part next_after part_after : ℕ) (piece : List ℕ) → next < length all → part ≤ length (get_or all next []) → piece ≡ get_or all next []
+    → OnOk r ((next_after ≡ next + 1) × (part_after ≡ 0) × Writes o n (drop part piece) [])
+    → OnErr r ((next_after ≡ next) × (part_after < length piece) × Writes o n (drop part piece) (drop part_after piece))
+    → Writes o n (rest_of all next part) (rest_of all next_after part_after)
+piece_written (Ok x) o n all next part next_after part_after piece within fits read ok err =
+    subst (λ place. Writes o n (rest_of all next part) (rest_of all place part_after)) (sym ok.0)
+    (subst (λ byte. Writes o n (rest_of all next part) (rest_of all (next + 1) byte)) (sym ok.1)
+    (piece_done o n all next part within fits (subst (λ text. Writes o n (drop part text) []) read ok.2)))
+piece_written (Err e) o n all next part next_after part_after piece within fits read ok err =
+    subst (λ place. Writes o n (rest_of all next part) (rest_of all place part_after)) (sym err.0)
+    (piece_begun o n all next part part_after within fits (subst (λ text. part_after ≤ length text) read (omega (arith, err.1))) (subst (λ text. Writes o n (drop part text) (drop part_after text)) read err.2))
+
+-- bytes of the next piece are left
+rest_of-left : (all : List (List ℕ)) (next part : ℕ) → next < length all → part < length (get_or all next []) → rest_of all next part ≢ []
+rest_of-left all next part within fits none =
+    let piece = get_or all next [] in
+    omega (arith, fits, length-drop part piece, length-append (drop part piece) (rest_of all (next + 1) 0), ap length (sym (rest_of-next all next part within (omega (arith, fits))) ∙ none))
+
+-- a write that failed leaves bytes of its piece
+pub piece_left : {A E : Type 0} (P : Type 0) (r : Result A E) (all : List (List ℕ)) (next next_after part_after : ℕ) (piece : List ℕ) → next < length all → piece ≡ get_or all next []
+    → OnErr r ((next_after ≡ next) × (part_after < length piece) × P) → OnErr r (rest_of all next_after part_after ≢ [])
+piece_left P (Ok x) all next next_after part_after piece within read err = tt
+piece_left P (Err e) all next next_after part_after piece within read err =
+    subst (λ place. rest_of all place part_after ≢ []) (sym err.0) (rest_of-left all next part_after within (subst (λ text. part_after < length text) read err.1))

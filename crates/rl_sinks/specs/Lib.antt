@@ -1,0 +1,4 @@
+pub mod Pieces
+pub mod RecorderState
+pub mod SinkState
+pub mod Texts

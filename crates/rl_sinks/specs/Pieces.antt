@@ -1,0 +1,26 @@
+-- What a recorder writes, piece by piece: its texts, and the last line.
+use Rattle.std.specs.Prelude.{◌≡◌, ℕ, List, [], ◌∷◌, ◌++◌, ◌≤◌, length, drop, slice_index_or, Option, codes}
+use Rattle.std.specs.List.{flat_map}
+use Rattle.std.specs.Fmt.{decimal}
+use Rattle.std.specs.Io.KnownBytes.{Appends}
+
+-- the parts of the last line, # end n
+abbrev pub end_pieces : ℕ → List (List ℕ)
+end_pieces count = codes "# end " ∷ decimal count ∷ codes "\n" ∷ []
+
+-- the texts, and then the last line
+abbrev pub pieces : List (List ℕ) → List (List ℕ)
+pieces texts = texts ++ end_pieces (length texts)
+
+-- what is left of pieces behind the first ones and a part of the next
+abbrev pub rest_of : List (List ℕ) → ℕ → ℕ → List ℕ
+rest_of all next part = drop part (flat_map (λ piece. piece) (drop next all))
+
+-- a byte of a piece, or the end of all
+pub record IsPlace (all : List (List ℕ)) (next part : ℕ) : Type 0 where
+  pub within : next ≤ length all
+  pub fits : part ≤ length (slice_index_or all next [])
+
+-- the writer got a front of what was to write, and the rest is left
+abbrev pub Writes : Option (List ℕ) → Option (List ℕ) → List ℕ → List ℕ → Type 0
+Writes old new before after = (front : List ℕ) × (before ≡ front ++ after) × Appends old new front

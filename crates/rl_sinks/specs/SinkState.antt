@@ -1,0 +1,31 @@
+-- How a sink is seen, and what a call makes of that.
+use Rattle.std.specs.Prelude.{ℕ, ◌+◌, ◌-◌, ◌%◌, ◌^◌, Bool, true, List, [], ◌∷◌, ◌++◌, length, drop, Option, None, Some}
+use Rattle.rl_sinks.specs.declared.sink.SinkKind.{SinkKind}
+
+pub record SinkState : Type 0 where
+  pub kind : SinkKind
+  -- how many texts it keeps, if not all
+  pub limit : Option ℕ
+  -- how many texts it has taken
+  pub count : ℕ
+  -- the texts that it keeps, oldest first
+  pub kept : List (List ℕ)
+  pub closed : Bool
+  -- how often it refused to take a text, modulo 2 to the power 64
+  pub refusals : ℕ
+
+-- a list, or its last texts where there is a limit
+abbrev pub within : Option ℕ → List (List ℕ) → List (List ℕ)
+within None texts = texts
+within (Some limit) texts = drop (length texts - limit) texts
+
+-- one text more
+abbrev pub taken : SinkState → List ℕ → SinkState
+taken sink text = record { kind = sink.kind; limit = sink.limit; count = sink.count + 1; kept = within sink.limit (sink.kept ++ text ∷ []); closed = sink.closed; refusals = sink.refusals }
+
+-- a text refused
+abbrev pub refused : SinkState → SinkState
+refused sink = record { kind = sink.kind; limit = sink.limit; count = sink.count; kept = sink.kept; closed = sink.closed; refusals = (sink.refusals + 1) % 2 ^ 64 }
+
+abbrev pub closed : SinkState → SinkState
+closed sink = record { kind = sink.kind; limit = sink.limit; count = sink.count; kept = sink.kept; closed = true; refusals = sink.refusals }

@@ -1,0 +1,60 @@
+-- What a sink is told of an evaluation, by its kind.
+use Rattle.std.specs.Prelude.{ℕ, ◌==◌, List, [], ◌++◌, codes, if◌then◌else◌}
+use Rattle.std.specs.List.{flat_map}
+use Rattle.std.specs.Fmt.{decimal}
+use Rattle.rl_labels.specs.LabelText.{canonical_text}
+use Rattle.rl_aggregate.specs.declared.outcome.Fraction.{Fraction}
+use Rattle.rl_aggregate.specs.declared.outcome.Sample.{Sample}
+use Rattle.rl_rules.specs.declared.rule.RuleKind.{RuleKind}
+use Rattle.rl_rules.specs.declared.rule.RuleKind.TheVariants as kinds
+use Rattle.rl_rules.specs.declared.evaluation.Evaluation.{Evaluation}
+use Rattle.rl_rules.specs.declared.evaluation.RuleOutcome.{RuleOutcome}
+use Rattle.rl_rules.specs.declared.evaluation.RuleOutcome.TheVariants as outcomes
+use Rattle.rl_rules.specs.declared.evaluation.Cause.{Cause}
+use Rattle.rl_rules.specs.declared.evaluation.Cause.TheVariants as causes
+use Rattle.rl_sinks.specs.declared.sink.SinkKind.{SinkKind}
+use Rattle.rl_sinks.specs.declared.sink.SinkKind.TheVariants as sinks
+
+-- n where the divisor is 1, else n/d
+abbrev pub value_text : Fraction → List ℕ
+value_text value = if value.denominator == 1 then decimal value.numerator else decimal value.numerator ++ codes "/" ++ decimal value.denominator
+
+-- labels and value
+abbrev pub sample_text : Sample → List ℕ
+sample_text sample = canonical_text sample.labels ++ codes " " ++ value_text sample.value
+
+abbrev pub cause_text : Cause → List ℕ
+cause_text causes.PipelineError = codes "PipelineError"
+cause_text causes.SameLabels = codes "SameLabels"
+
+-- a recorder's line of a sample, and of a recording rule that failed
+abbrev pub recorded_line : ℕ → Sample → List ℕ
+recorded_line t sample = sample_text sample ++ codes " " ++ decimal t ++ codes "\n"
+
+abbrev pub failed_line : RuleKind → ℕ → Cause → List ℕ → List ℕ
+failed_line kinds.Recording t cause name = codes "# failed " ++ decimal t ++ codes " " ++ cause_text cause ++ codes " " ++ name ++ codes "\n"
+
+abbrev pub recorded_lines : ℕ → RuleKind → List ℕ → RuleOutcome → List ℕ
+recorded_lines t kind name (outcomes.Samples samples) = flat_map (recorded_line t) samples
+recorded_lines t kind name (outcomes.Failed cause) = failed_line kind t cause name
+
+abbrev pub recorder_text : Evaluation → List ℕ
+recorder_text evaluation = flat_map (λ rule. recorded_lines evaluation.t rule.kind rule.name rule.outcome) evaluation.outcomes
+
+-- a tail's line of a sample, and of a rule that failed
+abbrev pub tail_line : Sample → List ℕ
+tail_line sample = sample_text sample ++ codes "\n"
+
+abbrev pub tail_lines : List ℕ → RuleOutcome → List ℕ
+tail_lines name (outcomes.Samples samples) = flat_map tail_line samples
+tail_lines name (outcomes.Failed cause) = codes "failed " ++ cause_text cause ++ codes " " ++ name ++ codes "\n"
+
+-- the moment and the group, then the lines of the rules in their order
+abbrev pub tail_text : Evaluation → List ℕ
+tail_text evaluation = codes "eval " ++ decimal evaluation.t ++ codes " " ++ evaluation.group ++ codes "\n" ++ flat_map (λ rule. tail_lines rule.name rule.outcome) evaluation.outcomes
+
+-- a notifier is told of alerts alone, and no rule makes one yet
+abbrev pub evaluation_text : SinkKind → Evaluation → List ℕ
+evaluation_text sinks.Recorder evaluation = recorder_text evaluation
+evaluation_text sinks.Notifier evaluation = []
+evaluation_text sinks.Tail evaluation = tail_text evaluation

@@ -1,0 +1,20 @@
+//! Sinks: they take the text of each evaluation, and keep it or refuse it.
+//!
+//! A sink is seen as its kind, the texts that it keeps, how many it has taken, whether it is closed, and how often it
+//! refused. `take` that is answered Ok adds one text; a refusal counts as one and changes nothing else.
+//!
+//! - `sink`: `Sink`, `SinkKind`, `SinkFault`, and boxes of sinks. `text`: `evaluation_text`.
+//! - `recorder`: `Recorder`, which writes the samples of recording rules.
+#![tactic(auto)]
+
+pub mod recorder;
+pub mod sink;
+pub mod text;
+mod writing;
+
+pub use recorder::Recorder;
+pub use sink::{Sink, SinkFault, SinkKind};
+pub use text::evaluation_text;
+
+#[cfg(test)]
+mod tests;

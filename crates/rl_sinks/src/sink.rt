@@ -1,0 +1,112 @@
+//! What a sink is, and why it refuses.
+ghost use Rattle.std.specs.Prelude.{◌≡◌, ℕ, ◌+◌, ◌<◌, ◌^◌, IsTrue, Err, OnOk, OnErr, IfErr, slice_get};
+ghost use Rattle.std.specs.Option.{option_copied};
+ghost use Rattle.rl_sinks.specs.SinkState.{SinkState, taken, refused, closed};
+ghost use Rattle.rl_sinks.specs.Texts.{evaluation_text};
+ghost use Rattle.rl_sinks.specs.declared.sink.SinkFault.TheVariants as faults;
+ghost use Rattle.rl_sinks.specs.declared.sink.SinkFault.TheVariants.{Memory};
+
+use rl_rules::Evaluation;
+use std::alloc::{AllocError, AllocFailed};
+use thiserror::Error;
+
+/// What a sink is told of an evaluation.
+#[derive(Clone, Copy, Debug, PartialEq, Eq)]
+pub enum SinkKind {
+    /// The samples of recording rules.
+    Recorder,
+    /// Alerts that began to fire, or that are resolved.
+    Notifier,
+    /// All, as a human reads it.
+    Tail,
+}
+
+/// Why a sink did not take a text, or did not write it.
+#[derive(Clone, Copy, Debug, Drop, Error, PartialEq, Eq)]
+pub enum SinkFault {
+    #[error("as many texts wait to be written as the sink has room for")]
+    Full,
+    /// The sink's own reason; 1 says that it is closed.
+    #[error("refused, reason {0}")]
+    Refused(u64),
+    #[error("out of memory")]
+    Memory,
+    #[error("a write failed")]
+    WriteFault,
+}
+
+impl From<AllocError> for SinkFault {
+    ghost from_gives = { λ _ e. e ≡ Memory };
+
+    fn from(_error: AllocError) -> Self {
+        SinkFault::Memory
+    }
+}
+
+impl<T: Drop> From<AllocFailed<T>> for SinkFault {
+    ghost from_gives = { λ _ e. e ≡ Memory };
+
+    fn from(_error: AllocFailed<T>) -> Self {
+        SinkFault::Memory
+    }
+}
+
+/// Takes the text of each evaluation.
+pub trait Sink: Send + Drop {
+    ghost state: { Self → SinkState };
+
+    fn kind(&self) -> SinkKind
+        ensures { result ≡ (state self.now).kind };
+
+    /// How many texts it keeps, if not all.
+    fn limit(&self) -> Option<u64>
+        ensures { result ≡ (state self.now).limit };
+
+    /// How many texts it has taken.
+    fn count(&self) -> u64
+        ensures { result ≡ (state self.now).count };
+
+    /// A text that it keeps, counted from 0, the oldest first.
+    fn kept(&self, index: u64) -> Option<&str>
+        ensures { option_copied result ≡ slice_get (state self.now).kept index };
+
+    /// Takes the evaluation's text for its kind.
+    fn take(&mut self, evaluation: &Evaluation) -> Result<(), SinkFault>
+        requires { (state self.old).count + 1 < 2 ^ 64 }
+        ensures ok { OnOk result (state self.new ≡ taken (state self.old) (evaluation_text (state self.old).kind evaluation.now)) }
+        ensures err { OnErr result (state self.new ≡ refused (state self.old)) }
+        ensures closed { IsTrue (state self.old).closed → result ≡ Err (faults.Refused 1) };
+
+    /// Writes what is not yet written, and closes the sink with either answer.
+    fn close(&mut self) -> Result<(), SinkFault>
+        ensures closed { state self.new ≡ closed (state self.old) }
+        ensures fault { IfErr result (λ fault. fault ≡ faults.WriteFault) };
+}
+
+impl Sink for Box<dyn Sink> {
+    ghost state = { λ sink. (Sink-box sink).state sink.value };
+
+    fn kind(&self) -> SinkKind {
+        (**self).kind()
+    }
+
+    fn limit(&self) -> Option<u64> {
+        (**self).limit()
+    }
+
+    fn count(&self) -> u64 {
+        (**self).count()
+    }
+
+    fn kept(&self, index: u64) -> Option<&str> {
+        (**self).kept(index)
+    }
+
+    fn take(&mut self, evaluation: &Evaluation) -> Result<(), SinkFault> {
+        (**self).take(evaluation)
+    }
+
+    fn close(&mut self) -> Result<(), SinkFault> {
+        (**self).close()
+    }
+}
