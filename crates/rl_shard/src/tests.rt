@@ -5,7 +5,7 @@ ghost use Rattle.rl_labels.specs.EntryParts.{are_stream_labels};
 use super::*;
 use rl_labels::{DEFAULT_LIMITS, Entry, Labels, Limits, Ns, RawLimits};
 use rl_plain::{PlainList, PlainText};
-use rl_query::{Term, parse};
+use rl_query::parse;
 use std::alloc::Global;
 use std::test::Fail;
 
