@@ -1,5 +1,5 @@
 //! A list inside a plain type, seen as the list of its items.
-ghost use Rattle.std.specs.Prelude.{◌≡◌, ◌==◌, [], length};
+ghost use Rattle.std.specs.Prelude.{◌≡◌, ◌==◌, ◌<◌, [], length, slice_set};
 ghost use Rattle.std.specs.Cmp.Lexicographic.{pointwise, slice_cmp, slice_partial_cmp, lists_equiv, lists_agrees, lists_total, lists_ties, lists_po, lists_per};
 ghost use Rattle.std.specs.Hash as fed;
 ghost use Rattle.std.specs.Hash.{items_Alike};
@@ -68,6 +68,16 @@ impl<T> PlainList<T> {
     /// The allocator that the list was made with.
     pub fn allocator(&self) -> Global {
         *self.items.allocator()
+    }
+}
+
+impl<T: Drop> PlainList<T> {
+    /// Puts an item in the place of the one at the index.
+    pub fn set(&mut self, index: usize, item: T)
+        requires { index < length self.old }
+        ensures { self.new ≡ slice_set self.old index item }
+    {
+        self.items[index] = item;
     }
 }
 

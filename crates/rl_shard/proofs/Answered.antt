@@ -1,5 +1,5 @@
 -- What is decided of a push, by the tests that were made.
-use Rattle.std.proofs.Common.{◌≡◌, ◌<◌, ℕ, List, Option, length, nat_le, arith, Bool, true, false, cond, not, ◌&&◌, refl, sym, ap, ◌∙◌}
+use Rattle.std.proofs.Common.{◌≡◌, ◌<◌, ◌≤◌, ℕ, List, Option, length, nat_le, arith, Bool, true, false, cond, not, ◌&&◌, refl, sym, ap, subst, ◌∙◌}
 use Rattle.std.specs.FinMap.{contains_key, len}
 use Rattle.std.specs.List.Sorted.{IsStrictlySortedBy}
 use Rattle.std.proofs.lemmas.Bool.{true≢false}
@@ -8,8 +8,8 @@ use Rattle.rl_labels.specs.LabelSet.{LabelSet}
 use Rattle.rl_labels.specs.EntryOrder.{entry_cmp, entry_cmp_total, entry_cmp-IsAntisymmetric}
 use Rattle.rl_labels.specs.declared.entry.Entry.{Entry}
 use Rattle.rl_labels.specs.declared.limits.Limits.{Limits}
-use Rattle.rl_shard.specs.ShardState.{ShardState, state_of, set_of}
-use Rattle.rl_shard.proofs.InOrder.{len-of_set}
+use Rattle.rl_shard.specs.ShardState.{ShardState, Journalled, state_of, set_of, visible}
+use Rattle.rl_shard.proofs.InOrder.{keys-of_set, len-of_set}
 use Rattle.rl_shard.specs.ShardStep.{is_expired, is_too_far_behind, is_full, push_reply, is_taken, newest_of}
 use Rattle.rl_shard.specs.declared.step.ShardReply.{ShardReply}
 use Rattle.rl_shard.specs.declared.step.ShardReply.TheVariants as replies
@@ -52,3 +52,9 @@ room_left limits held newest horizon entry h taken =
     let many : len (set_of held) ≡ length held = len-of_set entry_cmp_total entry_cmp-IsAntisymmetric held h in
     let room : nat_le limits.entries (length held) ≡ false = sym (ap (nat_le limits.entries) many) ∙ full in
     grind (arith, nat_tests, room)
+
+-- what is seen is no more than may be held
+pub seen_few : (shard : Journalled) (limits : Limits) (held : List Entry) (newest : List (LabelSet × ℕ)) (horizon : Option ℕ) (records : ℕ) → ◌≡◌ {A = Journalled} (record { limits = limits; state = state_of held newest horizon; records = records }) shard → IsStrictlySortedBy entry_cmp held → length held ≤ limits.entries → length (visible shard.state) ≤ shard.limits.entries
+seen_few shard limits held newest horizon records seen h few =
+    subst (λ (s : Journalled). length (visible s.state) ≤ s.limits.entries) seen
+    (subst (λ entries. length entries ≤ limits.entries) (sym (keys-of_set entry_cmp_total entry_cmp-IsAntisymmetric held h)) few)

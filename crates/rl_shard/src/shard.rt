@@ -58,7 +58,7 @@ impl Shard {
     ghost use Rattle.rl_shard.specs.declared.step.ShardReply.TheVariants as replies;
     ghost use Rattle.rl_shard.specs.ShardState.{visible};
     ghost use Rattle.rl_aggregate.specs.Partials.{partial};
-    ghost use Rattle.std.specs.Prelude.{map as map_list};
+    ghost use Rattle.std.specs.Prelude.{map as map_list, length, ◌≤◌};
 
     /// A shard that holds nothing, with an empty journal.
     pub fn open(alloc: Global, limits: Limits) -> Self
@@ -87,6 +87,7 @@ impl Shard {
         ensures decided { IfOk result (λ answer. (answer.0 ≡ self.old.records) × (answer.1 ≡ step_reply self.old.limits self.old.state step)) }
         ensures changed { OnOk result (self.new ≡ recorded self.old step) }
         ensures same { OnErr result (self.new ≡ self.old) }
+        ensures few { length (visible self.old.state) ≤ self.old.limits.entries }
         ensures no_memory { IsTrue (not (is_journal_full self.old) && needs_no_memory self.old.limits self.old.state step) → IsOk result }
     {
         if self.records >= self.limits.records {

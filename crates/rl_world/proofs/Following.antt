@@ -1,0 +1,329 @@
+-- A run of a world, turn by turn, and what it makes of each sink.
+use Rattle.std.proofs.Common.{◌≡◌, ◌⊎◌, ℕ, zero, suc, ◌+◌, ◌<◌, ◌≤◌, ◌%◌, ◌^◌, Bool, true, false, cond, ◌||◌, List, [], ◌∷◌, ◌++◌, map, length, drop, Option, None, Some, MatchOption, option_map, option_and_then, slice_get, slice_set, nat_lt, nat_eq, refl, sym, ap, subst, ◌∙◌, arith}
+use Rattle.std.specs.List.{AllByRecursion, list_any, count_by, zip}
+use Rattle.std.proofs.lemmas.List.{append-nil, append_assoc}
+use Rattle.std.proofs.Math.Seq.{drop-append_seam}
+use Rattle.std.proofs.lemmas.List.Sums.{sum_by-cons}
+use Rattle.std.proofs.lemmas.Option.{slice_get-map}
+use Rattle.std.proofs.lemmas.Bool.{eqb-true, eqb-false, eq-eqb, ne_eqb}
+use Rattle.rl_rules.specs.declared.evaluation.Evaluation.{Evaluation}
+use Rattle.rl_shard.specs.ShardState.{Journalled}
+use Rattle.rl_shard.specs.declared.step.ShardStep.{ShardStep}
+use Rattle.rl_sinks.specs.SinkState.{SinkState}
+use Rattle.rl_world.specs.Offering.{TookPrefix, Offered, AllOffered, is_behind, behind_from, behind_of}
+use Rattle.rl_world.specs.WorldRun.{gained, CommitSinks, SinkStep, Follows, FollowsIn, SinksFollow, told, listing, listings, is_listed, latest, last_listing}
+use Rattle.rl_world.specs.WorldState.{WorldState, BookState, IsBookOf, world_of, sink_at}
+use Rattle.rl_world.specs.WorldStep.{WorldStep, Replay, partials}
+use Rattle.rl_world.specs.declared.step.Committed.{Committed}
+use Rattle.rl_world.specs.declared.step.Step.{Step}
+use Rattle.rl_world.specs.declared.step.Step.TheVariants as steps
+use Rattle.rl_world.specs.declared.step.Reply.{Reply}
+use Rattle.rl_world.specs.declared.step.Reply.TheVariants as replies
+
+-- turn after turn, with what each makes of the sinks
+abbrev pub RunFrom : List Journalled → List BookState → List Step → List Reply → List Journalled → List BookState → Type 0
+RunFrom shards books [] [] shards' books' = (shards' ≡ shards) × (books' ≡ books)
+RunFrom shards books (step ∷ steps) (reply ∷ replies) shards' books' = (mid : List Journalled) × (between : List BookState) × WorldStep partials (world_of shards books) step reply (world_of mid between) × SinkStep books step reply between × RunFrom mid between steps replies shards' books'
+RunFrom shards books [] (reply ∷ replies) shards' books' = ⊥
+RunFrom shards books (step ∷ steps) [] shards' books' = ⊥
+
+-- a run goes on by one turn
+pub run_more : (shards : List Journalled) (books : List BookState) (steps : List Step) (replies : List Reply) (shards1 : List Journalled) (books1 : List BookState) (step : Step) (reply : Reply) (shards2 : List Journalled) (books2 : List BookState)
+    → RunFrom shards books steps replies shards1 books1 → WorldStep partials (world_of shards1 books1) step reply (world_of shards2 books2) → SinkStep books1 step reply books2
+    → RunFrom shards books (steps ++ step ∷ []) (replies ++ reply ∷ []) shards2 books2
+run_more shards books [] [] shards1 books1 step reply shards2 books2 run turn sinks = (
+  shards2,
+  books2,
+  subst (λ s. WorldStep partials (world_of s books) step reply (world_of shards2 books2)) run.0 (subst (λ b. WorldStep partials (world_of shards1 b) step reply (world_of shards2 books2)) run.1 turn),
+  subst (λ b. SinkStep b step reply books2) run.1 sinks,
+  (refl, refl),
+)
+run_more shards books (first ∷ steps) (answer ∷ replies) shards1 books1 step reply shards2 books2 run turn sinks =
+    (run.0, run.1, run.2, run.3, run_more run.0 run.1 steps replies shards1 books1 step reply shards2 books2 run.4 turn sinks)
+run_more shards books [] (answer ∷ replies) shards1 books1 step reply shards2 books2 run turn sinks = absurd run
+run_more shards books (first ∷ steps) [] shards1 books1 step reply shards2 books2 run turn sinks = absurd run
+
+-- it is a replay on what is kept
+pub run_replays : (shards : List Journalled) (books : List BookState) (steps : List Step) (replies : List Reply) (shards' : List Journalled) (books' : List BookState) → RunFrom shards books steps replies shards' books' → Replay partials (world_of shards books) steps replies (world_of shards' books')
+run_replays shards books [] [] shards' books' run = λ i. world_of (run.0 i) (run.1 i)
+run_replays shards books (step ∷ steps) (reply ∷ replies) shards' books' run = (world_of run.0 run.1, run.2, run_replays run.0 run.1 steps replies shards' books' run.4)
+run_replays shards books [] (reply ∷ replies) shards' books' run = absurd run
+run_replays shards books (step ∷ steps) [] shards' books' run = absurd run
+
+-- one reply for each step
+pub run_length : (shards : List Journalled) (books : List BookState) (steps : List Step) (replies : List Reply) (shards' : List Journalled) (books' : List BookState) → RunFrom shards books steps replies shards' books' → length replies ≡ length steps
+run_length shards books [] [] shards' books' run = refl
+run_length shards books (step ∷ steps) (reply ∷ replies) shards' books' run = ap suc (run_length run.0 run.1 steps replies shards' books' run.4)
+run_length shards books [] (reply ∷ replies) shards' books' run = absurd run
+run_length shards books (step ∷ steps) [] shards' books' run = absurd run
+
+-- a run so far, whose replies were added to a list
+pub record RunSoFar (shards : List Journalled) (books : List BookState) (before : List Reply) (steps : List Step) (shards' : List Journalled) (books' : List BookState) (out : List Reply) : Type 0 where
+  pub replies : List Reply
+  pub told_so : out ≡ before ++ replies
+  pub run : RunFrom shards books steps replies shards' books'
+
+pub run_none : (shards : List Journalled) (books : List BookState) (before : List Reply) (out : List Reply) → out ≡ before → RunSoFar shards books before [] shards books out
+run_none shards books before out same = record { replies = []; told_so = same ∙ sym (append-nil before); run = (refl, refl) }
+
+pub run_next : (shards : List Journalled) (books : List BookState) (before : List Reply) (steps : List Step) (shards1 : List Journalled) (books1 : List BookState) (out : List Reply) (step : Step) (reply : Reply) (shards2 : List Journalled) (books2 : List BookState) (now : List Reply)
+    → RunSoFar shards books before steps shards1 books1 out → WorldStep partials (world_of shards1 books1) step reply (world_of shards2 books2) → SinkStep books1 step reply books2 → now ≡ out ++ reply ∷ [] → RunSoFar shards books before (steps ++ step ∷ []) shards2 books2 now
+run_next shards books before steps shards1 books1 out step reply shards2 books2 now so_far turn sinks more = record {
+  replies = so_far.replies ++ reply ∷ [];
+  told_so = more ∙ ap (λ l. l ++ reply ∷ []) so_far.told_so ∙ append_assoc before so_far.replies (reply ∷ []);
+  run = run_more shards books steps so_far.replies shards1 books1 step reply shards2 books2 so_far.run turn sinks;
+}
+
+some_is : {X : Type 0} (a b : X) → Some a ≡ Some b → a ≡ b
+some_is a b h = cc
+
+none_some : {X : Type 0} (x : X) → None ≡ Some x → ⊥
+none_some x h = cc
+
+true_false : true ≡ false → ⊥
+true_false h = cc
+
+-- a look-up in a list of which one item was replaced
+get_set : {X : Type 0} (xs : List X) (k : ℕ) (x y : X) → slice_get xs k ≡ Some x → slice_get (slice_set xs k y) k ≡ Some y
+get_set [] k x y there = absurd (none_some x there)
+get_set (z ∷ xs) zero x y there = refl
+get_set (z ∷ xs) (suc k) x y there = get_set xs k x y there
+
+get_set_other : {X : Type 0} (xs : List X) (j k : ℕ) (y : X) → (j ≡ k → ⊥) → slice_get (slice_set xs j y) k ≡ slice_get xs k
+get_set_other [] j k y apart = refl
+get_set_other (z ∷ xs) zero zero y apart = absurd (apart refl)
+get_set_other (z ∷ xs) zero (suc k) y apart = refl
+get_set_other (z ∷ xs) (suc j) zero y apart = refl
+get_set_other (z ∷ xs) (suc j) (suc k) y apart = get_set_other xs j k y (λ h. apart (ap suc h))
+
+-- a sink among those that were offered
+record OfferedAt (evaluations : List Evaluation) (old : SinkState) (news : List SinkState) (k : ℕ) : Type 0 where
+  pub new : SinkState
+  pub there : slice_get news k ≡ Some new
+  pub offered : Offered evaluations old new
+
+offered_at : (evaluations : List Evaluation) (olds news : List SinkState) (k : ℕ) (old : SinkState) → AllOffered evaluations olds news → slice_get olds k ≡ Some old → OfferedAt evaluations old news k
+offered_at evaluations [] [] k old all there = absurd (none_some old there)
+offered_at evaluations (x ∷ olds) (y ∷ news) zero old all there = record { new = y; there = refl; offered = subst (λ o. Offered evaluations o y) (some_is x old there) all.0 }
+offered_at evaluations (x ∷ olds) (y ∷ news) (suc k) old all there = let rest = offered_at evaluations olds news k old all.1 there in record { new = rest.new; there = rest.there; offered = rest.offered }
+offered_at evaluations [] (y ∷ news) k old all there = absurd all
+offered_at evaluations (x ∷ olds) [] k old all there = absurd all
+
+-- the numbers of those that are behind
+none_before : (evaluations : List Evaluation) (sinks : List SinkState) (n m : ℕ) → m < n → list_any (λ behind. nat_eq behind m) (behind_from n evaluations sinks) ≡ false
+none_before evaluations [] n m low = refl
+none_before evaluations (sink ∷ sinks) n m low =
+    elim (is_behind evaluations sink) as (λ b. list_any (λ behind. nat_eq behind m) (cond b (n ∷ behind_from (suc n) evaluations sinks) (behind_from (suc n) evaluations sinks)) ≡ false) [
+      | true ↦ ap (λ b. b || list_any (λ behind. nat_eq behind m) (behind_from (suc n) evaluations sinks)) (ne_eqb n m (λ h. absurd (omega (arith, h, low)))) ∙ none_before evaluations sinks (suc n) m (omega (arith, low))
+      | false ↦ none_before evaluations sinks (suc n) m (omega (arith, low))
+    ]
+
+listed_at : (evaluations : List Evaluation) (sinks : List SinkState) (n k : ℕ) (sink : SinkState) → slice_get sinks k ≡ Some sink → list_any (λ behind. nat_eq behind (n + k)) (behind_from n evaluations sinks) ≡ is_behind evaluations sink
+listed_at evaluations [] n k sink there = absurd (none_some sink there)
+listed_at evaluations (x ∷ sinks) n zero sink there =
+    elim (is_behind evaluations x) as (λ b. is_behind evaluations x ≡ b → list_any (λ behind. nat_eq behind (n + 0)) (cond b (n ∷ behind_from (suc n) evaluations sinks) (behind_from (suc n) evaluations sinks)) ≡ is_behind evaluations sink) [
+      | true ↦ λ is. ap (λ b. b || list_any (λ behind. nat_eq behind (n + 0)) (behind_from (suc n) evaluations sinks)) (eq-eqb n (n + 0) (omega arith)) ∙ sym is ∙ ap (is_behind evaluations) (some_is x sink there)
+      | false ↦ λ is. none_before evaluations sinks (suc n) (n + 0) (omega arith) ∙ sym is ∙ ap (is_behind evaluations) (some_is x sink there)
+    ] refl
+listed_at evaluations (x ∷ sinks) n (suc k) sink there =
+    let rest : list_any (λ behind. nat_eq behind (n + suc k)) (behind_from (suc n) evaluations sinks) ≡ is_behind evaluations sink = ap (λ m. list_any (λ behind. nat_eq behind m) (behind_from (suc n) evaluations sinks)) (omega arith) ∙ listed_at evaluations sinks (suc n) k sink there in
+    elim (is_behind evaluations x) as (λ b. list_any (λ behind. nat_eq behind (n + suc k)) (cond b (n ∷ behind_from (suc n) evaluations sinks) (behind_from (suc n) evaluations sinks)) ≡ is_behind evaluations sink) [
+      | true ↦ ap (λ b. b || list_any (λ behind. nat_eq behind (n + suc k)) (behind_from (suc n) evaluations sinks)) (ne_eqb n (n + suc k) (λ h. absurd (omega (arith, h)))) ∙ rest
+      | false ↦ rest
+    ]
+
+-- what turns made of one sink: so many refusals, and what the last commit says; with none, nothing
+record FollowsOn (count : ℕ) (last : Option Bool) (group number : ℕ) (book : BookState) (sink : SinkState) (books : List BookState) : Type 0 where
+  pub after : BookState
+  pub there : slice_get books group ≡ Some after
+  pub new : SinkState
+  pub here : slice_get after.sinks number ≡ Some new
+  pub refusals : new.refusals % 2 ^ 64 ≡ (sink.refusals + count) % 2 ^ 64
+  pub behind : MatchOption last ((new.count ≡ sink.count) × (after.history.evaluations ≡ book.history.evaluations)) (λ listed. is_behind after.history.evaluations new ≡ listed)
+
+mod_again : (n : ℕ) → n % 2 ^ 64 % 2 ^ 64 ≡ n % 2 ^ 64
+mod_again n = omega arith
+
+mod_chain : (new mid old a b : ℕ) → new % 2 ^ 64 ≡ (mid + b) % 2 ^ 64 → mid % 2 ^ 64 ≡ (old + a) % 2 ^ 64 → new % 2 ^ 64 ≡ (old + (a + b)) % 2 ^ 64
+mod_chain new mid old a b first second = omega (arith, first, second)
+
+-- a look-up through what sinks are told of
+record ToldAt (books : List BookState) (group : ℕ) (book : BookState) : Type 0 where
+  pub after : BookState
+  pub there : slice_get books group ≡ Some after
+  pub same : told after ≡ told book
+
+told_in : (o : Option BookState) (book : BookState) → option_map told o ≡ Some (told book) → (after : BookState) × (o ≡ Some after) × (told after ≡ told book)
+told_in None book h = absurd (none_some (told book) h)
+told_in (Some after) book h = (after, refl, some_is (told after) (told book) h)
+
+told_at : (old new : List BookState) (group : ℕ) (book : BookState) → map told new ≡ map told old → slice_get old group ≡ Some book → ToldAt new group book
+told_at old new group book same there =
+    let found = told_in (slice_get new group) book (sym (slice_get-map told new group) ∙ ap (λ l. slice_get l group) same ∙ slice_get-map told old group ∙ ap (option_map told) there) in
+    record { after = found.0; there = found.1; same = found.2 }
+
+-- a turn that touches no sink
+untouched : (old new : List BookState) (group number : ℕ) (book : BookState) (sink : SinkState) → map told new ≡ map told old → slice_get old group ≡ Some book → slice_get book.sinks number ≡ Some sink → FollowsOn 0 None group number book sink new
+untouched old new group number book sink same there here =
+    let found = told_at old new group book same there in
+    record {
+      after = found.after;
+      there = found.there;
+      new = sink;
+      here = ap (λ (t : List Evaluation × List SinkState). slice_get t.1 number) found.same ∙ here;
+      refusals = ap (λ n. n % 2 ^ 64) (omega arith);
+      behind = (refl, ap (λ (t : List Evaluation × List SinkState). t.0) found.same);
+    }
+
+-- one refusal where the sink is behind
+one_refusal : (old new : ℕ) (behind : Bool) → new ≡ cond behind ((old + 1) % 2 ^ 64) old → new % 2 ^ 64 ≡ (old + cond behind 1 0) % 2 ^ 64
+one_refusal old new true is = ap (λ n. n % 2 ^ 64) is ∙ mod_again (old + 1)
+one_refusal old new false is = ap (λ n. n % 2 ^ 64) (is ∙ omega arith)
+
+-- a commit of the sink's group
+offered_follows : (old new : List BookState) (group number : ℕ) (book : BookState) (sink : SinkState) (answer : Committed) → CommitSinks old group answer new → slice_get old group ≡ Some book → slice_get book.sinks number ≡ Some sink
+    → FollowsOn (cond (list_any (λ behind. nat_eq behind number) answer.behind) 1 0) (Some (list_any (λ behind. nat_eq behind number) answer.behind)) group number book sink new
+offered_follows old new group number book sink answer commit there here =
+    let after = commit.after in
+    let evaluations = after.history.evaluations in
+    let mine : commit.before ≡ book = some_is commit.before book (sym commit.there ∙ there) in
+    let offered = offered_at evaluations book.sinks after.sinks number sink (subst (λ (b : BookState). AllOffered evaluations b.sinks after.sinks) mine commit.offered) here in
+    let says : list_any (λ behind. nat_eq behind number) answer.behind ≡ is_behind evaluations offered.new = ap (list_any (λ behind. nat_eq behind number)) commit.behind ∙ ap (λ n. list_any (λ behind. nat_eq behind n) (behind_of evaluations after.sinks)) (omega arith) ∙ listed_at evaluations after.sinks 0 number offered.new offered.there in
+    record {
+      after = after;
+      there = ap (λ l. slice_get l group) commit.now ∙ get_set old group commit.before after commit.there;
+      new = offered.new;
+      here = offered.there;
+      refusals = one_refusal sink.refusals offered.new.refusals (is_behind evaluations offered.new) (ap (λ (s : SinkState). s.refusals) offered.offered.state) ∙ ap (λ b. (sink.refusals + cond b 1 0) % 2 ^ 64) (sym says);
+      behind = sym says;
+    }
+
+-- a commit of any group
+commit_follows : (old new : List BookState) (at group number : ℕ) (book : BookState) (sink : SinkState) (answer : Committed) → CommitSinks old at answer new → slice_get old group ≡ Some book → slice_get book.sinks number ≡ Some sink
+    → FollowsOn (cond (is_listed (listing group number (steps.Commit at, replies.Committed answer))) 1 0) (listing group number (steps.Commit at, replies.Committed answer)) group number book sink new
+commit_follows old new at group number book sink answer commit there here =
+    let Says : Bool → Type 0 = λ b. FollowsOn (cond (is_listed (cond b (Some (list_any (λ behind. nat_eq behind number) answer.behind)) None)) 1 0) (cond b (Some (list_any (λ behind. nat_eq behind number) answer.behind)) None) group number book sink new in
+    elim (nat_eq at group) as (λ b. nat_eq at group ≡ b → Says b) [
+      | true ↦ λ is. offered_follows old new group number book sink answer (subst (λ g. CommitSinks old g answer new) (eqb-true at group is) commit) there here
+      | false ↦ λ apart. record {
+        after = book;
+        there = ap (λ l. slice_get l group) commit.now ∙ get_set_other old at group commit.after (eqb-false at group apart) ∙ there;
+        new = sink;
+        here = here;
+        refusals = ap (λ n. n % 2 ^ 64) (omega arith);
+        behind = (refl, refl);
+      }
+    ] refl
+
+-- what one turn makes of a sink
+turn_follows : (old new : List BookState) (step : Step) (reply : Reply) (group number : ℕ) (book : BookState) (sink : SinkState) → SinkStep old step reply new → slice_get old group ≡ Some book → slice_get book.sinks number ≡ Some sink
+    → FollowsOn (cond (is_listed (listing group number (step, reply))) 1 0) (listing group number (step, reply)) group number book sink new
+turn_follows old new (steps.Shard at step) (replies.Decided place reply) group number book sink sinks there here = untouched old new group number book sink sinks there here
+turn_follows old new (steps.Shard at step) replies.Begun group number book sink sinks there here = untouched old new group number book sink sinks there here
+turn_follows old new (steps.Shard at step) (replies.Gathered place) group number book sink sinks there here = untouched old new group number book sink sinks there here
+turn_follows old new (steps.Shard at step) (replies.Committed answer) group number book sink sinks there here = untouched old new group number book sink sinks there here
+turn_follows old new (steps.Shard at step) replies.Abandoned group number book sink sinks there here = untouched old new group number book sink sinks there here
+turn_follows old new (steps.Shard at step) (replies.Refused refusal) group number book sink sinks there here = untouched old new group number book sink sinks there here
+turn_follows old new (steps.Begin at t) (replies.Decided place reply) group number book sink sinks there here = untouched old new group number book sink sinks there here
+turn_follows old new (steps.Begin at t) replies.Begun group number book sink sinks there here = untouched old new group number book sink sinks there here
+turn_follows old new (steps.Begin at t) (replies.Gathered place) group number book sink sinks there here = untouched old new group number book sink sinks there here
+turn_follows old new (steps.Begin at t) (replies.Committed answer) group number book sink sinks there here = untouched old new group number book sink sinks there here
+turn_follows old new (steps.Begin at t) replies.Abandoned group number book sink sinks there here = untouched old new group number book sink sinks there here
+turn_follows old new (steps.Begin at t) (replies.Refused refusal) group number book sink sinks there here = untouched old new group number book sink sinks there here
+turn_follows old new (steps.Gather at asked) (replies.Decided place reply) group number book sink sinks there here = untouched old new group number book sink sinks there here
+turn_follows old new (steps.Gather at asked) replies.Begun group number book sink sinks there here = untouched old new group number book sink sinks there here
+turn_follows old new (steps.Gather at asked) (replies.Gathered place) group number book sink sinks there here = untouched old new group number book sink sinks there here
+turn_follows old new (steps.Gather at asked) (replies.Committed answer) group number book sink sinks there here = untouched old new group number book sink sinks there here
+turn_follows old new (steps.Gather at asked) replies.Abandoned group number book sink sinks there here = untouched old new group number book sink sinks there here
+turn_follows old new (steps.Gather at asked) (replies.Refused refusal) group number book sink sinks there here = untouched old new group number book sink sinks there here
+turn_follows old new (steps.Commit at) (replies.Decided place reply) group number book sink sinks there here = untouched old new group number book sink sinks there here
+turn_follows old new (steps.Commit at) replies.Begun group number book sink sinks there here = untouched old new group number book sink sinks there here
+turn_follows old new (steps.Commit at) (replies.Gathered place) group number book sink sinks there here = untouched old new group number book sink sinks there here
+turn_follows old new (steps.Commit at) (replies.Committed answer) group number book sink sinks there here = commit_follows old new at group number book sink answer sinks there here
+turn_follows old new (steps.Commit at) replies.Abandoned group number book sink sinks there here = untouched old new group number book sink sinks there here
+turn_follows old new (steps.Commit at) (replies.Refused refusal) group number book sink sinks there here = untouched old new group number book sink sinks there here
+turn_follows old new (steps.Abandon at) (replies.Decided place reply) group number book sink sinks there here = untouched old new group number book sink sinks there here
+turn_follows old new (steps.Abandon at) replies.Begun group number book sink sinks there here = untouched old new group number book sink sinks there here
+turn_follows old new (steps.Abandon at) (replies.Gathered place) group number book sink sinks there here = untouched old new group number book sink sinks there here
+turn_follows old new (steps.Abandon at) (replies.Committed answer) group number book sink sinks there here = untouched old new group number book sink sinks there here
+turn_follows old new (steps.Abandon at) replies.Abandoned group number book sink sinks there here = untouched old new group number book sink sinks there here
+turn_follows old new (steps.Abandon at) (replies.Refused refusal) group number book sink sinks there here = untouched old new group number book sink sinks there here
+
+-- and a turn before others
+follows_more : (count : ℕ) (last : Option Bool) (more : ℕ) (rest : Option Bool) (group number : ℕ) (book : BookState) (sink : SinkState) (mid new : List BookState) → (first : FollowsOn count last group number book sink mid) → FollowsOn more rest group number first.after first.new new
+    → FollowsOn (count + more) (latest last rest) group number book sink new
+follows_more count last more rest group number book sink mid new first then = record {
+  after = then.after;
+  there = then.there;
+  new = then.new;
+  here = then.here;
+  refusals = mod_chain then.new.refusals first.new.refusals sink.refusals count more then.refusals first.refusals;
+  behind = joined last rest first.behind then.behind;
+}
+  where
+    joined : (last rest : Option Bool)
+        → MatchOption last ((first.new.count ≡ sink.count) × (first.after.history.evaluations ≡ book.history.evaluations)) (λ listed. is_behind first.after.history.evaluations first.new ≡ listed)
+        → MatchOption rest ((then.new.count ≡ first.new.count) × (then.after.history.evaluations ≡ first.after.history.evaluations)) (λ listed. is_behind then.after.history.evaluations then.new ≡ listed)
+        → MatchOption (latest last rest) ((then.new.count ≡ sink.count) × (then.after.history.evaluations ≡ book.history.evaluations)) (λ listed. is_behind then.after.history.evaluations then.new ≡ listed)
+    joined None None a b = (b.0 ∙ a.0, b.1 ∙ a.1)
+    joined (Some listed) None a b = (λ i. nat_lt (b.0 i) (length (b.1 i))) ∙ a
+    joined None (Some listed) a b = b
+    joined (Some early) (Some listed) a b = b
+
+run_follows : (shards : List Journalled) (books : List BookState) (steps : List Step) (replies : List Reply) (shards' : List Journalled) (books' : List BookState) (group number : ℕ) (book : BookState) (sink : SinkState) → RunFrom shards books steps replies shards' books' → slice_get books group ≡ Some book → slice_get book.sinks number ≡ Some sink
+    → FollowsOn (listings group number (zip steps replies)) (last_listing group number (zip steps replies)) group number book sink books'
+run_follows shards books [] [] shards' books' group number book sink run there here = record {
+  after = book;
+  there = ap (λ l. slice_get l group) run.1 ∙ there;
+  new = sink;
+  here = here;
+  refusals = ap (λ n. n % 2 ^ 64) (omega arith);
+  behind = (refl, refl);
+}
+run_follows shards books (step ∷ steps) (reply ∷ replies) shards' books' group number book sink run there here =
+    let first = turn_follows books run.1 step reply group number book sink run.3 there here in
+    let rest = run_follows run.0 run.1 steps replies shards' books' group number first.after first.new run.4 first.there first.here in
+    let both = follows_more _ _ _ _ group number book sink run.1 books' first rest in
+    subst (λ n. FollowsOn n (last_listing group number (zip (step ∷ steps) (reply ∷ replies))) group number book sink books') (sym (sum_by-cons (λ turn. cond (is_listed (listing group number turn)) 1 0) (step, reply) (zip steps replies))) both
+run_follows shards books [] (reply ∷ replies) shards' books' group number book sink run there here = absurd run
+run_follows shards books (step ∷ steps) [] shards' books' group number book sink run there here = absurd run
+
+-- a sink by its numbers is in a book
+record SinkIn (books : List BookState) (group number : ℕ) (sink : SinkState) : Type 0 where
+  pub book : BookState
+  pub there : slice_get books group ≡ Some book
+  pub here : slice_get book.sinks number ≡ Some sink
+
+sink_in : (o : Option BookState) (number : ℕ) (sink : SinkState) → option_and_then (λ (book : BookState). slice_get book.sinks number) o ≡ Some sink → (book : BookState) × (o ≡ Some book) × (slice_get book.sinks number ≡ Some sink)
+sink_in None number sink h = absurd (none_some sink h)
+sink_in (Some book) number sink h = (book, refl, h)
+
+weaker : (last : Option Bool) (A B : Type 0) (P : Bool → Type 0) → MatchOption last (A × B) P → MatchOption last A P
+weaker None A B P h = h.0
+weaker (Some listed) A B P h = h
+
+-- every sink follows
+pub sinks_follow : (shards : List Journalled) (books : List BookState) (steps : List Step) (replies : List Reply) (shards' : List Journalled) (books' : List BookState) → RunFrom shards books steps replies shards' books' → SinksFollow books steps replies books'
+sinks_follow shards books steps replies shards' books' run group number sink at =
+    let found = sink_in (slice_get books group) number sink at in
+    let on = run_follows shards books steps replies shards' books' group number found.0 sink run found.1 found.2 in
+    let last = last_listing group number (zip steps replies) in
+    record {
+      book = on.after;
+      there = on.there;
+      new = on.new;
+      here = on.here;
+      follows = record { refusals = on.refusals; behind = weaker last (on.new.count ≡ sink.count) (on.after.history.evaluations ≡ found.0.history.evaluations) (λ listed. is_behind on.after.history.evaluations on.new ≡ listed) on.behind };
+    }
+
+-- what a list gained is what was added to it
+gained_is : (before replies out : List Reply) → out ≡ before ++ replies → gained before out ≡ replies
+gained_is before replies out told_so = ap (drop (length before)) told_so ∙ drop-append_seam before replies
+
+pub run_done : (shards : List Journalled) (books : List BookState) (before : List Reply) (steps : List Step) (shards' : List Journalled) (books' : List BookState) (out : List Reply) → RunSoFar shards books before steps shards' books' out → RunFrom shards books steps (gained before out) shards' books'
+run_done shards books before steps shards' books' out so_far = subst (λ replies. RunFrom shards books steps replies shards' books') (sym (gained_is before so_far.replies out so_far.told_so)) so_far.run
+
+-- the sinks of each book of a world took prefixes
+pub each_prefix : (n : ℕ) (books : List BookState) → AllByRecursion (IsBookOf n) books → AllByRecursion (λ (book : BookState). AllByRecursion (TookPrefix book.history.evaluations) book.sinks) books
+each_prefix n [] fits = tt
+each_prefix n (book ∷ books) fits = (fits.0.1, each_prefix n books fits.1)

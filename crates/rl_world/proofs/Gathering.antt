@@ -1,0 +1,105 @@
+-- What a gather makes of a world.
+use Rattle.std.proofs.Common.{◌≡◌, inl, inr, ℕ, Bool, true, false, cond, List, map, length, Option, None, Some, Result, Ok, Err, OnOk, OnErr, option_map, slice_get, slice_set, refl, sym, ap, subst, ◌∙◌}
+use Rattle.std.specs.List.{AllByRecursion}
+use Rattle.std.proofs.lemmas.List.{map-set, length-set}
+use Rattle.rl_aggregate.specs.declared.partial.Partial.{Partial}
+use Rattle.rl_query.specs.declared.query.Term.{Term}
+use Rattle.rl_shard.specs.ShardState.{Journalled, visible}
+use Rattle.rl_shard.specs.ShardStep.{recorded, is_journal_full}
+use Rattle.rl_shard.specs.declared.step.ShardStep.TheVariants as shard_steps
+use Rattle.rl_shard.specs.declared.step.ShardFault.{ShardFault}
+use Rattle.rl_shard.specs.declared.step.ShardFault.TheVariants as shard_faults
+use Rattle.rl_world.specs.BookCalls.{with_history}
+use Rattle.rl_world.specs.Evaluating.{group_terms, partials_of}
+use Rattle.rl_world.specs.History.{History, gather_fault, gathered}
+use Rattle.rl_world.specs.WorldState.{BookState, IsBookOf, world_of}
+use Rattle.rl_world.specs.WorldStep.{WorldStep, MayRefuse, partials, known, or_else, journal_refusal, refusal_of, told_of_shard}
+use Rattle.rl_world.specs.declared.fault.BookFault.{BookFault}
+use Rattle.rl_world.specs.declared.fault.Refusal.{Refusal}
+use Rattle.rl_world.specs.declared.fault.Refusal.TheVariants as refusals
+use Rattle.rl_world.specs.declared.opened.OpenEvaluation.{OpenEvaluation}
+use Rattle.rl_world.specs.declared.step.Step.TheVariants as steps
+use Rattle.rl_world.specs.declared.step.Reply.TheVariants as replies
+use Rattle.rl_world.proofs.Turning.{each_at, each_set, history_at, set_same, not_true}
+
+-- the evaluation that is open, by its moment
+record OpenAt {X : Type 0} (slot : Option (OpenEvaluation X)) (t : ℕ) : Type 0 where
+  pub opened : OpenEvaluation X
+  pub is : slot ≡ Some opened
+  pub moment : opened.t ≡ t
+
+some_is : {X : Type 0} (a b : X) → Some a ≡ Some b → a ≡ b
+some_is a b h = cc
+
+none_some : {X : Type 0} (x : X) → None ≡ Some x → ⊥
+none_some x h = cc
+
+ok_err : {A E : Type 0} (x : A) (e : E) → Ok x ≡ Err e → ⊥
+ok_err x e h = cc
+
+open_at : {X : Type 0} (slot : Option (OpenEvaluation X)) (t : ℕ) → option_map (λ (o : OpenEvaluation X). o.t) slot ≡ Some t → OpenAt slot t
+open_at None t h = absurd (none_some t h)
+open_at (Some opened) t h = record { opened = opened; is = refl; moment = some_is opened.t t h }
+
+-- what was read at one place twice is one
+pub same_read : {X : Type 0} (xs : List X) (k : ℕ) (x y : X) → slice_get xs k ≡ Some x → slice_get xs k ≡ Some y → x ≡ y
+same_read xs k x y first second = some_is x y (sym first ∙ second)
+
+-- a book that was handed partials, or refused them, is still one of its world
+pub fits_put : (n : ℕ) (result : Result (Unit {0}) BookFault) (book after : BookState) (number place : ℕ) (shown : List Partial) → IsBookOf n book
+    → OnOk result (after ≡ with_history book (gathered book.history number place shown)) → OnErr result (after ≡ book) → IsBookOf n after
+fits_put n (Ok x) book after number place shown fits ok err = subst (IsBookOf n) (sym ok) fits
+fits_put n (Err e) book after number place shown fits ok err = subst (IsBookOf n) (sym err) fits
+
+-- the books of a world whose shard and book changed
+pub fits_both : (shards : List Journalled) (books : List BookState) (number : ℕ) (shard : Journalled) (group : ℕ) (after : BookState) → AllByRecursion (IsBookOf (length shards)) books → IsBookOf (length shards) after
+    → AllByRecursion (IsBookOf (length (slice_set shards number shard))) (slice_set books group after)
+fits_both shards books number shard group after all here =
+    subst (λ n. AllByRecursion (IsBookOf n) (slice_set books group after)) (sym (length-set shards number shard)) (each_set (IsBookOf (length shards)) books group after all here)
+
+module _ (shards : List Journalled) (books : List BookState) (group number : ℕ) (book : BookState) (shard : Journalled) (there : slice_get books group ≡ Some book) (shard_there : slice_get shards number ≡ Some shard) where
+  gather_refusal : refusal_of (world_of shards books) (steps.Gather group number) ≡ or_else (option_map refusals.Book (gather_fault book.history number)) (journal_refusal shard)
+  gather_refusal =
+      ap (λ h. known h (λ history. known (slice_get shards number) (λ s. or_else (option_map refusals.Book (gather_fault history number)) (journal_refusal s)))) (history_at shards books group book there)
+      ∙ ap (λ s. known s (λ s. or_else (option_map refusals.Book (gather_fault book.history number)) (journal_refusal s))) shard_there
+
+  asked_free : gather_fault book.history number ≡ None → refusal_of (world_of shards books) (steps.Gather group number) ≡ journal_refusal shard
+  asked_free free = gather_refusal ∙ ap (λ f. or_else (option_map refusals.Book f) (journal_refusal shard)) free
+
+  -- the shard refused
+  pub gather_refused : (after : Journalled) (fault : ShardFault) (refusal : Refusal) → gather_fault book.history number ≡ None → (fault ≡ shard_faults.JournalFull → is_journal_full shard ≡ true) → after ≡ shard → refusal ≡ told_of_shard fault
+      → WorldStep partials (world_of shards books) (steps.Gather group number) (replies.Refused refusal) (world_of (slice_set shards number after) books)
+  gather_refused after fault refusal free full after_is refusal_is = (
+    subst (λ r. MayRefuse (world_of shards books) (steps.Gather group number) r) (sym refusal_is) (may fault full),
+    λ i. record { shards = (ap (slice_set shards number) after_is ∙ set_same shards number shard shard_there) i; histories = map (λ (b : BookState). b.history) books },
+  )
+    where
+      may : (fault : ShardFault) → (fault ≡ shard_faults.JournalFull → is_journal_full shard ≡ true) → MayRefuse (world_of shards books) (steps.Gather group number) (told_of_shard fault)
+      may shard_faults.JournalFull full = inl (asked_free free ∙ ap (λ b. cond b (Some refusals.JournalFull) None) (full refl))
+      may shard_faults.Memory full = inr (refl, refl)
+
+  -- the shard showed what it has, and the book keeps the partials
+  pub gather_turn : (after_shard : Journalled) (after : BookState) (slot t place : ℕ) (terms : List Term) (shown : List Partial) → gather_fault book.history number ≡ None → option_map (λ (o : OpenEvaluation (List Partial)). o.t) book.history.opened ≡ Some t → terms ≡ group_terms book.history.group
+      → (is_journal_full shard ≡ true → ◌≡◌ {A = Result (ℕ × List Partial) ShardFault} (Ok (place, shown)) (Err shard_faults.JournalFull)) → place ≡ shard.records → shown ≡ partials_of (visible shard.state) terms t
+      → after_shard ≡ recorded shard (shard_steps.Collect slot terms t) → after ≡ with_history book (gathered book.history number place shown)
+      → WorldStep partials (world_of shards books) (steps.Gather group number) (replies.Gathered place) (world_of (slice_set shards number after_shard) (slice_set books group after))
+  gather_turn after_shard after slot t place terms shown free moment terms_is full place_is shown_is after_shard_is after_is =
+      let here = open_at book.history.opened t moment in (
+      asked_free free ∙ ap (λ b. cond b (Some refusals.JournalFull) None) (not_true (is_journal_full shard) (λ h. ok_err (place, shown) shard_faults.JournalFull (full h))),
+      record {
+        history = book.history;
+        there = history_at shards books group book there;
+        opened = here.opened;
+        open_is = here.is;
+        shard = shard;
+        shard_there = shard_there;
+        place_is = place_is;
+        after = λ i. record {
+          shards = slice_set shards number (after_shard_is i);
+          histories = (map-set (λ (b : BookState). b.history) books group after
+              ∙ ap (slice_set (map (λ (b : BookState). b.history) books) group)
+              (ap (λ (b : BookState). b.history) after_is
+              ∙ ap (gathered book.history number place) (shown_is ∙ (λ j. partials_of (visible shard.state) (terms_is j) (sym here.moment j))))) i;
+        };
+      },
+    )

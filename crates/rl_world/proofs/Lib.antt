@@ -1,0 +1,10 @@
+pub mod Closing
+pub mod Committing
+pub mod Following
+pub mod Gathering
+pub mod Lifting
+pub mod Merging
+pub mod Offers
+pub mod Opening
+pub mod Shown
+pub mod Turning

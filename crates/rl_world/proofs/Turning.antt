@@ -1,0 +1,179 @@
+-- What each turn makes of a world, by what the calls of its shards and books promise.
+use Rattle.std.proofs.Common.{◌≡◌, ◌⊎◌, inl, inr, ℕ, zero, suc, [], ◌∷◌, Bool, true, false, cond, IsTrue, List, map, length, Option, None, Some, Result, Ok, Err, option_map, slice_get, slice_set, get_or, refl, sym, ap, subst, ◌∙◌}
+use Rattle.std.specs.List.{AllByRecursion}
+use Rattle.std.proofs.lemmas.List.{map-set, set-get_or}
+use Rattle.std.proofs.lemmas.Option.{slice_get-map, get_or_from_slice_get}
+use Rattle.std.proofs.Math.Seq.{map-set_same}
+use Rattle.rl_aggregate.specs.declared.partial.Partial.{Partial}
+use Rattle.rl_shard.specs.ShardState.{Journalled}
+use Rattle.rl_shard.specs.ShardStep.{step_reply, recorded, is_journal_full}
+use Rattle.rl_shard.specs.declared.step.ShardStep.{ShardStep}
+use Rattle.rl_shard.specs.declared.step.ShardReply.{ShardReply}
+use Rattle.rl_shard.specs.declared.step.ShardFault.{ShardFault}
+use Rattle.rl_shard.specs.declared.step.ShardFault.TheVariants as shard_faults
+use Rattle.rl_world.specs.BookCalls.{Answers, Refuses, with_history}
+use Rattle.rl_world.specs.History.{History, begin_fault, gather_fault, commit_fault, abandon_fault, begun, abandoned}
+use Rattle.rl_world.specs.WorldRun.{told, SinkStep}
+use Rattle.rl_world.specs.WorldState.{WorldState, BookState, world_of}
+use Rattle.rl_world.specs.WorldStep.{WorldStep, MayRefuse, Keeping, partials, known, journal_refusal, refusal_of, takes_memory, told_of_shard, told_of_book}
+use Rattle.rl_world.specs.declared.fault.BookFault.{BookFault}
+use Rattle.rl_world.specs.declared.fault.BookError.{BookError}
+use Rattle.rl_world.specs.declared.fault.BookError.TheVariants as errors
+use Rattle.rl_world.specs.declared.fault.Refusal.{Refusal}
+use Rattle.rl_world.specs.declared.fault.Refusal.TheVariants as refusals
+use Rattle.rl_world.specs.declared.step.Step.{Step}
+use Rattle.rl_world.specs.declared.step.Step.TheVariants as steps
+use Rattle.rl_world.specs.declared.step.Reply.TheVariants as replies
+
+ok_apart : {A E : Type 0} (x : A) (e : E) → Ok x ≡ Err e → ⊥
+ok_apart x e h = cc
+
+pub not_true : (b : Bool) → (b ≡ true → ⊥) → b ≡ false
+not_true true h = absurd (h refl)
+not_true false h = refl
+
+-- what an item is put back as it was
+pub set_same : {X : Type 0} (xs : List X) (k : ℕ) (x : X) → slice_get xs k ≡ Some x → slice_set xs k x ≡ xs
+set_same xs k x there = ap (slice_set xs k) (sym (get_or_from_slice_get xs k x x there)) ∙ set-get_or xs k x
+
+-- what holds of each holds of the one at a place
+pub each_at : {X : Type 0} (P : X → Type 0) (xs : List X) (k : ℕ) (x : X) → AllByRecursion P xs → slice_get xs k ≡ Some x → P x
+each_at P [] k x all there = absurd (none_some x there)
+  where
+    none_some : {X : Type 0} (x : X) → None ≡ Some x → ⊥
+    none_some x h = cc
+each_at P (y ∷ xs) zero x all there = subst P (some_is y x there) all.0
+  where
+    some_is : {X : Type 0} (a b : X) → Some a ≡ Some b → a ≡ b
+    some_is a b h = cc
+each_at P (y ∷ xs) (suc k) x all there = each_at P xs k x all.1 there
+
+-- and of each, where one is replaced by another of which it holds
+pub each_set : {X : Type 0} (P : X → Type 0) (xs : List X) (k : ℕ) (x : X) → AllByRecursion P xs → P x → AllByRecursion P (slice_set xs k x)
+each_set P [] k x all here = all
+each_set P (y ∷ xs) zero x all here = (here, all.1)
+each_set P (y ∷ xs) (suc k) x all here = (all.0, each_set P xs k x all.1 here)
+
+-- two errors that are one have one cause
+err_is : {A E : Type 0} (e f : E) → ◌≡◌ {A = Result A E} (Err e) (Err f) → e ≡ f
+err_is e f h = cc
+
+-- what a call of a book that took memory was refused for
+answered_err : (A : Type 0) (fault : Option BookFault) (error : BookError) → Answers {A = A} fault (Err error) → (option_map refusals.Book fault ≡ Some (told_of_book error)) ⊎ (told_of_book error ≡ refusals.Memory)
+answered_err A (Some f) error h = inl (ap (λ e. Some (told_of_book e)) (sym (err_is error (errors.Fault f) h)))
+answered_err A None error h = inr (ap told_of_book h)
+
+pub answered_ok : {A : Type 0} (fault : Option BookFault) (x : A) → Answers fault (Ok x) → fault ≡ None
+answered_ok (Some f) x h = absurd (ok_apart x (errors.Fault f) h)
+answered_ok None x h = refl
+
+pub refused_err : (A : Type 0) (fault : Option BookFault) (f : BookFault) → Refuses {A = A} fault (Err f) → fault ≡ Some f
+refused_err A (Some g) f h = ap (λ x. Some x) (sym (err_is f g h))
+refused_err A None f h = absurd h
+
+pub refused_ok : {A : Type 0} (fault : Option BookFault) (x : A) → Refuses fault (Ok x) → fault ≡ None
+refused_ok (Some f) x h = absurd (ok_apart x f h)
+refused_ok None x h = refl
+
+module _ (shards : List Journalled) (books : List BookState) where
+  -- the history of the book at a number
+  pub history_at : (group : ℕ) (book : BookState) → slice_get books group ≡ Some book → slice_get (map (λ (b : BookState). b.history) books) group ≡ Some book.history
+  history_at group book there = slice_get-map (λ (b : BookState). b.history) books group ∙ ap (option_map (λ (b : BookState). b.history)) there
+
+  -- the world with one history replaced
+  pub world_with : (group : ℕ) (after : BookState) → world_of shards (slice_set books group after) ≡ record { shards = shards; histories = slice_set (map (λ (b : BookState). b.history) books) group after.history }
+  world_with group after = λ i. record { shards = shards; histories = map-set (λ (b : BookState). b.history) books group after i }
+
+  pub shard_decided : (number : ℕ) (step : ShardStep) (shard after : Journalled) (place : ℕ) (reply : ShardReply) → slice_get shards number ≡ Some shard
+      → (is_journal_full shard ≡ true → ◌≡◌ {A = Result (ℕ × ShardReply) ShardFault} (Ok (place, reply)) (Err shard_faults.JournalFull)) → place ≡ shard.records → reply ≡ step_reply shard.limits shard.state step → after ≡ recorded shard step
+      → WorldStep partials (world_of shards books) (steps.Shard number step) (replies.Decided place reply) (world_of (slice_set shards number after) books)
+  shard_decided number step shard after place reply there full place_is reply_is after_is = (
+    ap (λ s. known s journal_refusal) there ∙ ap (λ b. cond b (Some refusals.JournalFull) None) (not_true (is_journal_full shard) (λ h. ok_apart (place, reply) shard_faults.JournalFull (full h))),
+    record {
+      shard = shard;
+      there = there;
+      place_is = place_is;
+      reply_is = reply_is;
+      after = λ i. record { shards = slice_set shards number (after_is i); histories = map (λ (b : BookState). b.history) books };
+    },
+  )
+
+  pub shard_refused : (number : ℕ) (step : ShardStep) (shard after : Journalled) (fault : ShardFault) (refusal : Refusal) → slice_get shards number ≡ Some shard
+      → (fault ≡ shard_faults.JournalFull → is_journal_full shard ≡ true) → after ≡ shard → refusal ≡ told_of_shard fault
+      → WorldStep partials (world_of shards books) (steps.Shard number step) (replies.Refused refusal) (world_of (slice_set shards number after) books)
+  shard_refused number step shard after fault refusal there full after_is refusal_is = (
+    subst (λ r. MayRefuse (world_of shards books) (steps.Shard number step) r) (sym refusal_is) (may fault full),
+    λ i. record { shards = (ap (slice_set shards number) after_is ∙ set_same shards number shard there) i; histories = map (λ (b : BookState). b.history) books },
+  )
+    where
+      may : (fault : ShardFault) → (fault ≡ shard_faults.JournalFull → is_journal_full shard ≡ true) → MayRefuse (world_of shards books) (steps.Shard number step) (told_of_shard fault)
+      may shard_faults.JournalFull full = inl (ap (λ s. known s journal_refusal) there ∙ ap (λ b. cond b (Some refusals.JournalFull) None) (full refl))
+      may shard_faults.Memory full = inr (refl, refl)
+
+  -- a book that a call left as it was
+  pub book_kept : (group : ℕ) (book after : BookState) → slice_get books group ≡ Some book → after ≡ book → world_of shards (slice_set books group after) ≡ world_of shards books
+  book_kept group book after there after_is = ap (world_of shards) (ap (slice_set books group) after_is ∙ set_same books group book there)
+
+  -- a call of a book that takes memory was refused
+  pub book_refused : (A : Type 0) (group : ℕ) (step : Step) (fault : Option BookFault) (error : BookError) (refusal : Refusal) (book after : BookState) → slice_get books group ≡ Some book
+      → refusal_of (world_of shards books) step ≡ option_map refusals.Book fault → takes_memory step ≡ true → Answers {A = A} fault (Err error) → refusal ≡ told_of_book error → after ≡ book
+      → WorldStep partials (world_of shards books) step (replies.Refused refusal) (world_of shards (slice_set books group after))
+  book_refused A group step fault error refusal book after there first takes answer refusal_is after_is = (
+    subst (λ r. MayRefuse (world_of shards books) step r) (sym refusal_is) (may (answered_err A fault error answer)),
+    book_kept group book after there after_is,
+  )
+    where
+      may : (option_map refusals.Book fault ≡ Some (told_of_book error)) ⊎ (told_of_book error ≡ refusals.Memory) → MayRefuse (world_of shards books) step (told_of_book error)
+      may (inl is) = inl (first ∙ is)
+      may (inr memory) = inr (memory, takes)
+
+  begin_refusal : (group t : ℕ) (book : BookState) → slice_get books group ≡ Some book → refusal_of (world_of shards books) (steps.Begin group t) ≡ option_map refusals.Book (begin_fault book.history t)
+  begin_refusal group t book there = ap (λ h. known h (λ history. option_map refusals.Book (begin_fault history t))) (history_at group book there)
+
+  pub commit_refusal : (group : ℕ) (book : BookState) → slice_get books group ≡ Some book → refusal_of (world_of shards books) (steps.Commit group) ≡ option_map refusals.Book (commit_fault book.history)
+  commit_refusal group book there = ap (λ h. known h (λ history. option_map refusals.Book (commit_fault history))) (history_at group book there)
+
+  abandon_refusal : (group : ℕ) (book : BookState) → slice_get books group ≡ Some book → refusal_of (world_of shards books) (steps.Abandon group) ≡ option_map refusals.Book (abandon_fault book.history)
+  abandon_refusal group book there = ap (λ h. known h (λ history. option_map refusals.Book (abandon_fault history))) (history_at group book there)
+
+  pub begin_turn : (group t : ℕ) (book after : BookState) → slice_get books group ≡ Some book → book.shards ≡ length shards
+      → Answers (begin_fault book.history t) (Ok (tt {0})) → after ≡ with_history book (begun book.shards book.history t)
+      → WorldStep partials (world_of shards books) (steps.Begin group t) replies.Begun (world_of shards (slice_set books group after))
+  begin_turn group t book after there many answer after_is = (
+    begin_refusal group t book there ∙ ap (option_map refusals.Book) (answered_ok (begin_fault book.history t) tt answer),
+    record {
+      history = book.history;
+      there = history_at group book there;
+      after = world_with group after ∙ (λ i. record { shards = shards; histories = slice_set (map (λ (b : BookState). b.history) books) group (now i) });
+    },
+  )
+    where
+      now : after.history ≡ begun (length shards) book.history t
+      now = ap (λ (b : BookState). b.history) after_is ∙ ap (λ n. begun n book.history t) many
+
+  pub begin_refused : (group t : ℕ) (book after : BookState) (error : BookError) (refusal : Refusal) → slice_get books group ≡ Some book
+      → Answers {A = Unit {0}} (begin_fault book.history t) (Err error) → refusal ≡ told_of_book error → after ≡ book
+      → WorldStep partials (world_of shards books) (steps.Begin group t) (replies.Refused refusal) (world_of shards (slice_set books group after))
+  begin_refused group t book after error refusal there answer refusal_is after_is = book_refused (Unit {0}) group (steps.Begin group t) (begin_fault book.history t) error refusal book after there (begin_refusal group t book there) refl answer refusal_is after_is
+
+  pub abandon_turn : (group : ℕ) (book after : BookState) → slice_get books group ≡ Some book → Refuses (abandon_fault book.history) (Ok (tt {0})) → after ≡ with_history book (abandoned book.history)
+      → WorldStep partials (world_of shards books) (steps.Abandon group) replies.Abandoned (world_of shards (slice_set books group after))
+  abandon_turn group book after there answer after_is = (
+    abandon_refusal group book there ∙ ap (option_map refusals.Book) (refused_ok (abandon_fault book.history) tt answer),
+    record {
+      history = book.history;
+      there = history_at group book there;
+      after = world_with group after ∙ (λ i. record { shards = shards; histories = slice_set (map (λ (b : BookState). b.history) books) group (after_is i).history });
+    },
+  )
+
+  pub abandon_refused : (group : ℕ) (book after : BookState) (fault : BookFault) → slice_get books group ≡ Some book → Refuses {A = Unit {0}} (abandon_fault book.history) (Err fault) → after ≡ book
+      → WorldStep partials (world_of shards books) (steps.Abandon group) (replies.Refused (refusals.Book fault)) (world_of shards (slice_set books group after))
+  abandon_refused group book after fault there answer after_is = (
+    inl (abandon_refusal group book there ∙ ap (option_map refusals.Book) (refused_err (Unit {0}) (abandon_fault book.history) fault answer)),
+    book_kept group book after there after_is,
+  )
+
+  -- a call that touches no sink and adds no evaluation
+  pub told_same : (group : ℕ) (book after : BookState) → slice_get books group ≡ Some book → told after ≡ told book → map told (slice_set books group after) ≡ map told books
+  told_same group book after there same = map-set_same told books group after book (same ∙ ap told (sym (get_or_from_slice_get books group book book there)))

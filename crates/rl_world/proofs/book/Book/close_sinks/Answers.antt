@@ -1,0 +1,18 @@
+-- The sinks are closed, and took what they took before.
+use Rattle.std.proofs.Common.{map, ap, ◌∙◌, arith}
+use Rattle.rl_sinks.specs.SinkState.{closed}
+use Rattle.rl_world.proofs.Closing.{took_prefix-put}
+use Rattle.rl_world.proofs.book.Book.close_sinks.Goals as goal
+
+pub invariant_of-self : goal.invariant_of-self
+invariant_of-self g c =
+    let book = c.self.inside in
+    let is_closed = c.close_all.ensures.closed ∙ ap (λ sinks. map closed (map g.S.Sink.state sinks)) c.deref_mut.ensures.value in
+    record {
+      terms_are = c.self.invariant.terms_are;
+      few_shards = c.self.invariant.few_shards;
+      few_records = c.self.invariant.few_records;
+      few = c.self.invariant.few;
+      slots = c.self.invariant.slots;
+      prefixes = took_prefix-put g.S.Sink.state book.evaluations.items book.sinks.items c.close_all.new.sinks book.sinks.len (omega (arith, book.sinks.ok.0)) is_closed c.self.invariant.prefixes;
+    }

@@ -1,0 +1,6 @@
+-- The slots so far.
+use Rattle.std.proofs.Common.{◌≡◌, replicate, None}
+use Rattle.rl_world.proofs.book.empty_slots.Given as goal
+
+abbrev pub invariant-loop : goal.invariant-loop
+invariant-loop l = l.slots.items ≡ replicate l.counter None

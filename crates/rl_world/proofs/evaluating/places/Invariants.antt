@@ -1,0 +1,6 @@
+-- The places of the shards so far that were asked.
+use Rattle.std.proofs.Common.{◌≡◌, take, map, flat_map, option_to_list}
+use Rattle.rl_world.proofs.evaluating.places.Given as goal
+
+abbrev pub invariant-loop-slot : goal.invariant-loop-slot
+invariant-loop-slot l = l.places.items ≡ map (λ answer. answer.place) (flat_map option_to_list (take l.slot-index l.slots))

@@ -1,0 +1,54 @@
+-- A shard is asked, and the book keeps what it showed.
+use Rattle.std.proofs.Common.{◌≡◌, None, length, Ok, Err, arith, sym, ap, subst, ◌∙◌}
+use Rattle.std.specs.List.{AllByRecursion}
+use Rattle.std.proofs.lemmas.Option.{slice_get_read}
+use Rattle.rl_world.specs.BookCalls.{with_history}
+use Rattle.rl_world.specs.History.{gather_fault, gathered}
+use Rattle.rl_world.specs.WorldRun.{told}
+use Rattle.rl_world.specs.WorldState.{BookState, IsBookOf}
+use Rattle.rl_world.proofs.Gathering.{fits_put, fits_both, gather_refused, gather_turn, same_read}
+use Rattle.rl_world.proofs.Turning.{each_at, refused_ok, told_same}
+use Rattle.rl_world.proofs.world.World.gather.Goals as goal
+
+pub returns-in-Err-ask-clause-step : goal.returns-in-Err-ask-clause-step
+returns-in-Err-ask-clause-step g c =
+    let shards = c.args.self.now.shards.items in
+    let books = c.args.self.now.books.items in
+    let book = c.index-book.result.now in
+    let shard = c.index_mut.result.now in
+    let there = slice_get_read books c.len.result c.args.group book (omega (arith, c.len.ensures, c.args.self.now.books.ok.0)) c.if-group-len.false c.index-book.ensures in
+    let shard_there = slice_get_read shards c.len-else-group-len.result c.args.number shard (omega (arith, c.len-else-group-len.ensures, c.args.self.now.shards.ok.0)) c.if-number-len.false c.index_mut.ensures.value in
+    let free : gather_fault book.history c.args.number ≡ None = refused_ok (gather_fault book.history c.args.number) c.in-Ok.t c.in-Ok.ensures.answer in
+    gather_refused shards books c.args.group c.args.number book shard there shard_there c.ask.new.shard c.in-Err-ask.fault c.refusal_of_shard.result free (λ h. c.ask.ensures.room (c.in-Err-ask.is ∙ ap (λ f. Err f) h)) c.in-Err-ask.ensures.err c.refusal_of_shard.ensures
+
+pub invariant_of-self-2 : goal.invariant_of-self-2
+invariant_of-self-2 g c =
+    let shards = c.args.self.now.shards.items in
+    let books = c.args.self.now.books.items in
+    let book = c.index_mut-book.result.now in
+    let there = slice_get_read books c.len.result c.args.group book (omega (arith, c.len.ensures, c.args.self.now.books.ok.0)) c.if-group-len.false c.index_mut-book.ensures.value in
+    let fits = each_at (IsBookOf (length shards)) books c.args.group book c.args.self.now.books_fit there in
+    record { books_fit = fits_both shards books c.args.number c.ask.new.shard c.args.group c.put_partials.new.self c.args.self.now.books_fit (fits_put (length shards) c.put_partials.result book c.put_partials.new.self c.args.number c.in-Ok-ask.answer.0 c.in-Ok-ask.answer.1 fits c.put_partials.ensures.ok c.put_partials.ensures.err) }
+
+pub returns-in-Ok-put_partials-clause-step : goal.returns-in-Ok-put_partials-clause-step
+returns-in-Ok-put_partials-clause-step g c =
+    let shards = c.args.self.now.shards.items in
+    let books = c.args.self.now.books.items in
+    let book = c.index-book.result.now in
+    let shard = c.index_mut.result.now in
+    let there = slice_get_read books c.len.result c.args.group book (omega (arith, c.len.ensures, c.args.self.now.books.ok.0)) c.if-group-len.false c.index-book.ensures in
+    let shard_there = slice_get_read shards c.len-else-group-len.result c.args.number shard (omega (arith, c.len-else-group-len.ensures, c.args.self.now.shards.ok.0)) c.if-number-len.false c.index_mut.ensures.value in
+    let free : gather_fault book.history c.args.number ≡ None = refused_ok (gather_fault book.history c.args.number) c.in-Ok.t c.in-Ok.ensures.answer in
+    let again = slice_get_read books c.len.result c.args.group c.index_mut-book.result.now (omega (arith, c.len.ensures, c.args.self.now.books.ok.0)) c.if-group-len.false c.index_mut-book.ensures.value in
+    let one = same_read books c.args.group c.index_mut-book.result.now book again there in
+    let put = subst (λ (b : BookState). c.put_partials.new.self ≡ with_history b (gathered b.history c.args.number c.in-Ok-ask.answer.0 c.in-Ok-ask.answer.1)) one c.in-Ok-put_partials.ensures.ok in
+    gather_turn shards books c.args.group c.args.number book shard there shard_there c.ask.new.shard c.put_partials.new.self c.args.group c.in-Ok.t c.in-Ok-ask.answer.0 c.in-Ok-try_copy.terms c.in-Ok-ask.answer.1 free c.in-Ok.ensures.moment (c.in-Ok-try_copy.ensures ∙ c.terms.ensures)
+    (λ h. sym c.in-Ok-ask.is ∙ c.ask.ensures.journal_full h) c.in-Ok-ask.ensures.shown.0 c.in-Ok-ask.ensures.shown.1 c.in-Ok-ask.ensures.ok put
+
+pub returns-in-Ok-put_partials-clause-sinks : goal.returns-in-Ok-put_partials-clause-sinks
+returns-in-Ok-put_partials-clause-sinks g c =
+    let shards = c.args.self.now.shards.items in
+    let books = c.args.self.now.books.items in
+    let book = c.index_mut-book.result.now in
+    let there = slice_get_read books c.len.result c.args.group book (omega (arith, c.len.ensures, c.args.self.now.books.ok.0)) c.if-group-len.false c.index_mut-book.ensures.value in
+    told_same shards books c.args.group book c.put_partials.new.self there (ap told c.in-Ok-put_partials.ensures.ok)

@@ -1,0 +1,11 @@
+-- The replies so far are those of a run of the steps so far, and there is room for the others.
+use Rattle.std.proofs.Common.{◌≡◌, ◌+◌, ◌≤◌, ◌++◌, length, vec_len, vec_capacity}
+use Rattle.rl_world.proofs.Following.{RunSoFar}
+use Rattle.rl_world.proofs.world.World.run.Given as goal
+
+abbrev pub invariant-loop-step : goal.invariant-loop-step
+invariant-loop-step g l = record {
+  split : l.yielded ++ l.step-iterator.rest.items ≡ l.fn.steps.items;
+  room : vec_len l.out + length l.step-iterator.rest.items ≤ vec_capacity l.out;
+  so_far : RunSoFar l.fn.self.shards.items l.fn.self.books.items l.fn.out.items l.yielded l.self.shards.items l.self.books.items l.out.items;
+}

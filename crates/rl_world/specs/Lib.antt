@@ -1,0 +1,9 @@
+pub mod BookCalls
+pub mod Evaluating
+pub mod History
+pub mod Offering
+pub mod ShownLaws
+pub mod Slots
+pub mod WorldRun
+pub mod WorldState
+pub mod WorldStep

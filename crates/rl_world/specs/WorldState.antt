@@ -1,0 +1,69 @@
+-- The state of a world, of one book, and what is kept in place of lists.
+use Rattle.std.specs.Prelude.{◌≡◌, ℕ, ◌≤◌, List, map, length, Option, option_map, option_and_then, slice_get, IfSome}
+use Rattle.std.specs.List.{AllByRecursion}
+use Rattle.rl_labels.specs.declared.entry.Entry.{Entry}
+use Rattle.rl_query.specs.declared.query.Term.{Term}
+use Rattle.rl_aggregate.specs.declared.partial.Partial.{Partial}
+use Rattle.rl_shard.specs.ShardState.{Journalled}
+use Rattle.rl_sinks.specs.SinkState.{SinkState, closed}
+use Rattle.rl_world.specs.Evaluating.{group_terms, partials_of}
+use Rattle.rl_world.specs.History.{History}
+use Rattle.rl_world.specs.Offering.{TookPrefix}
+use Rattle.rl_world.specs.Slots.{IsKept, most_shards}
+use Rattle.rl_world.specs.declared.opened.Gathered.{Gathered}
+use Rattle.rl_world.specs.declared.opened.OpenEvaluation.{OpenEvaluation}
+
+-- the shards, and the history of each group
+pub record WorldState (X : Type 0) : Type 0 where
+  pub shards : List Journalled
+  pub histories : List (History X)
+
+-- a book as it is seen: the history of its group, what it asks of shards, and its sinks
+pub record BookState : Type 0 where
+  pub history : History (List Partial)
+  -- how many shards it asks
+  pub shards : ℕ
+  -- the number under which it asks them
+  pub slot : ℕ
+  pub sinks : List SinkState
+
+-- the world that shards and books make up
+abbrev pub world_of : List Journalled → List BookState → WorldState (List Partial)
+world_of shards books = record { shards = shards; histories = map (λ book. book.history) books }
+
+-- a sink by the number of its group and its own
+abbrev pub sink_at : List BookState → ℕ → ℕ → Option SinkState
+sink_at books group number = option_and_then (λ book. slice_get book.sinks number) (slice_get books group)
+
+-- with the partials of a list in its place
+abbrev pub kept_answer : List Term → ℕ → Gathered (List Entry) → Gathered (List Partial)
+kept_answer terms t answer = record { place = answer.place; shown = partials_of answer.shown terms t }
+
+abbrev pub kept_open : List Term → OpenEvaluation (List Entry) → OpenEvaluation (List Partial)
+kept_open terms opened = record { t = opened.t; gathered = map (option_map (kept_answer terms opened.t)) opened.gathered }
+
+abbrev pub kept_history : History (List Entry) → History (List Partial)
+kept_history history = record { group = history.group; records = history.records; evaluations = history.evaluations; opened = option_map (kept_open (group_terms history.group)) history.opened }
+
+abbrev pub kept_world : WorldState (List Entry) → WorldState (List Partial)
+kept_world world = record { shards = world.shards; histories = map kept_history world.histories }
+
+-- what is kept stands for every world of shown lists whose partials it has
+abbrev pub Stands : WorldState (List Partial) → WorldState (List Entry) → Type 0
+Stands kept world = kept ≡ kept_world world
+
+-- what holds of every book: its terms are the group's, an open evaluation has a slot for each shard, and its sinks took prefixes
+pub record IsBook (terms : List Term) (book : BookState) : Type 0 where
+  pub terms_are : terms ≡ group_terms book.history.group
+  pub few_shards : book.shards ≤ most_shards
+  pub few_records : book.history.records ≤ 1048576
+  pub few : length book.history.evaluations ≤ book.history.records
+  pub slots : IfSome book.history.opened (λ opened. (length opened.gathered ≡ book.shards) × AllByRecursion (IsKept (length terms)) opened.gathered)
+  pub prefixes : AllByRecursion (TookPrefix book.history.evaluations) book.sinks
+
+-- a book of a world with so many shards
+abbrev pub IsBookOf : ℕ → BookState → Type 0
+IsBookOf shards book = (book.shards ≡ shards) × AllByRecursion (TookPrefix book.history.evaluations) book.sinks
+
+abbrev pub with_sinks_closed : BookState → BookState
+with_sinks_closed book = record { history = book.history; shards = book.shards; slot = book.slot; sinks = map closed book.sinks }

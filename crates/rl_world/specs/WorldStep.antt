@@ -1,0 +1,150 @@
+-- What a world answers to a step, and what it is afterwards.
+use Rattle.std.specs.Prelude.{◌≡◌, ◌⊎◌, ℕ, Bool, true, false, IsTrue, List, [], ◌∷◌, length, Option, None, Some, option_map, slice_get, slice_set, if◌then◌else◌}
+use Rattle.rl_labels.specs.declared.entry.Entry.{Entry}
+use Rattle.rl_query.specs.declared.query.Term.{Term}
+use Rattle.rl_aggregate.specs.declared.partial.Partial.{Partial}
+use Rattle.rl_shard.specs.ShardState.{Journalled, visible}
+use Rattle.rl_shard.specs.ShardStep.{step_reply, recorded, is_journal_full}
+use Rattle.rl_shard.specs.declared.step.ShardStep.{ShardStep}
+use Rattle.rl_shard.specs.declared.step.ShardStep.TheVariants as shard_steps
+use Rattle.rl_shard.specs.declared.step.ShardReply.{ShardReply}
+use Rattle.rl_shard.specs.declared.step.ShardFault.{ShardFault}
+use Rattle.rl_shard.specs.declared.step.ShardFault.TheVariants as shard_faults
+use Rattle.rl_rules.specs.declared.rule.Group.{Group}
+use Rattle.rl_rules.specs.declared.evaluation.Evaluation.{Evaluation}
+use Rattle.rl_world.specs.Evaluating.{group_terms, evaluation_of, evaluation_from, partials_of}
+use Rattle.rl_world.specs.History.{History, begin_fault, gather_fault, commit_fault, abandon_fault, begun, gathered, committed, abandoned}
+use Rattle.rl_world.specs.WorldState.{WorldState}
+use Rattle.rl_world.specs.declared.opened.OpenEvaluation.{OpenEvaluation}
+use Rattle.rl_world.specs.declared.fault.BookError.{BookError}
+use Rattle.rl_world.specs.declared.fault.BookError.TheVariants as errors
+use Rattle.rl_world.specs.declared.fault.Refusal.{Refusal}
+use Rattle.rl_world.specs.declared.fault.Refusal.TheVariants as refusals
+use Rattle.rl_world.specs.declared.step.Committed.{Committed}
+use Rattle.rl_world.specs.declared.step.Step.{Step}
+use Rattle.rl_world.specs.declared.step.Step.TheVariants as steps
+use Rattle.rl_world.specs.declared.step.Reply.{Reply}
+use Rattle.rl_world.specs.declared.step.Reply.TheVariants as replies
+
+-- what an open evaluation keeps of the entries that a shard shows, and what it makes of all that it kept
+pub record Keeping (X : Type 0) : Type 0 where
+  pub keep : List Entry → List Term → ℕ → X
+  pub evaluate : Group → OpenEvaluation X → Evaluation
+
+-- the lists themselves, and LogQL from scratch on them
+abbrev pub lists : Keeping (List Entry)
+lists = record { keep = λ entries terms t. entries; evaluate = evaluation_of }
+
+-- their partials, merged
+abbrev pub partials : Keeping (List Partial)
+partials = record { keep = partials_of; evaluate = evaluation_from }
+
+-- a number that nothing has is refused first
+abbrev pub known : {A : Type 0} → Option A → (A → Option Refusal) → Option Refusal
+known None refusal = Some refusals.NoSuch
+known (Some item) refusal = refusal item
+
+abbrev pub or_else : Option Refusal → Option Refusal → Option Refusal
+or_else None next = next
+or_else (Some refusal) next = Some refusal
+
+abbrev pub journal_refusal : Journalled → Option Refusal
+journal_refusal shard = if is_journal_full shard then Some refusals.JournalFull else None
+
+-- how a world tells what a shard or a book refused
+abbrev pub told_of_shard : ShardFault → Refusal
+told_of_shard shard_faults.JournalFull = refusals.JournalFull
+told_of_shard shard_faults.Memory = refusals.Memory
+
+abbrev pub told_of_book : BookError → Refusal
+told_of_book (errors.Fault fault) = refusals.Book fault
+told_of_book errors.Memory = refusals.Memory
+
+-- Abandon takes no memory
+abbrev pub takes_memory : Step → Bool
+takes_memory (steps.Abandon group) = false
+takes_memory (steps.Shard number step) = true
+takes_memory (steps.Begin group t) = true
+takes_memory (steps.Gather group number) = true
+takes_memory (steps.Commit group) = true
+
+module _ {X : Type 0} where
+  -- the refusal of a step that comes before its work, if one does: the first that applies
+  abbrev pub refusal_of : WorldState X → Step → Option Refusal
+  refusal_of world (steps.Shard number step) = known (slice_get world.shards number) journal_refusal
+  refusal_of world (steps.Begin group t) = known (slice_get world.histories group) (λ history. option_map refusals.Book (begin_fault history t))
+  refusal_of world (steps.Gather group number) = known (slice_get world.histories group) (λ history. known (slice_get world.shards number) (λ shard. or_else (option_map refusals.Book (gather_fault history number)) (journal_refusal shard)))
+  refusal_of world (steps.Commit group) = known (slice_get world.histories group) (λ history. option_map refusals.Book (commit_fault history))
+  refusal_of world (steps.Abandon group) = known (slice_get world.histories group) (λ history. option_map refusals.Book (abandon_fault history))
+
+  -- it is the first refusal that applies, or want of memory
+  abbrev pub MayRefuse : WorldState X → Step → Refusal → Type 0
+  MayRefuse world step refusal = (refusal_of world step ≡ Some refusal) ⊎ ((refusal ≡ refusals.Memory) × IsTrue (takes_memory step))
+
+  abbrev pub with_shard : WorldState X → ℕ → Journalled → WorldState X
+  with_shard world number shard = record { shards = slice_set world.shards number shard; histories = world.histories }
+
+  abbrev pub with_history : WorldState X → ℕ → History X → WorldState X
+  with_history world group history = record { shards = world.shards; histories = slice_set world.histories group history }
+
+  -- a shard decides a step, which makes one record; the place is the number of records before
+  pub record ShardTurn (old : WorldState X) (number : ℕ) (step : ShardStep) (place : ℕ) (reply : ShardReply) (new : WorldState X) : Type 0 where
+    pub shard : Journalled
+    pub there : slice_get old.shards number ≡ Some shard
+    pub place_is : place ≡ shard.records
+    pub reply_is : reply ≡ step_reply shard.limits shard.state step
+    pub after : new ≡ with_shard old number (recorded shard step)
+
+  -- a group opens an evaluation
+  pub record BeginTurn (old : WorldState X) (group t : ℕ) (new : WorldState X) : Type 0 where
+    pub history : History X
+    pub there : slice_get old.histories group ≡ Some history
+    pub after : new ≡ with_history old group (begun (length old.shards) history t)
+
+  -- a shard is asked for an open evaluation: its journal has the question, and the evaluation keeps what the shard shows now
+  pub record GatherTurn (keeping : Keeping X) (old : WorldState X) (group number place : ℕ) (new : WorldState X) : Type 0 where
+    pub history : History X
+    pub there : slice_get old.histories group ≡ Some history
+    pub opened : OpenEvaluation X
+    pub open_is : history.opened ≡ Some opened
+    pub shard : Journalled
+    pub shard_there : slice_get old.shards number ≡ Some shard
+    pub place_is : place ≡ shard.records
+    pub after : new ≡ with_history (with_shard old number (recorded shard (shard_steps.Collect group (group_terms history.group) opened.t))) group (gathered history number place (keeping.keep (visible shard.state) (group_terms history.group) opened.t))
+
+  -- a group closes its evaluation, whose number is counted from 0
+  pub record CommitTurn (keeping : Keeping X) (old : WorldState X) (group : ℕ) (answer : Committed) (new : WorldState X) : Type 0 where
+    pub history : History X
+    pub there : slice_get old.histories group ≡ Some history
+    pub opened : OpenEvaluation X
+    pub open_is : history.opened ≡ Some opened
+    pub number_is : answer.number ≡ length history.evaluations
+    pub evaluation_is : answer.evaluation ≡ keeping.evaluate history.group opened
+    pub after : new ≡ with_history old group (committed history answer.evaluation)
+
+  -- a group closes its evaluation, and nothing of it is left
+  pub record AbandonTurn (old : WorldState X) (group : ℕ) (new : WorldState X) : Type 0 where
+    pub history : History X
+    pub there : slice_get old.histories group ≡ Some history
+    pub after : new ≡ with_history old group (abandoned history)
+
+  -- a step that is not refused; no other reply comes
+  abbrev pub Turn : Keeping X → WorldState X → Step → Reply → WorldState X → Type 0
+  Turn keeping old (steps.Shard number step) (replies.Decided place reply) new = ShardTurn old number step place reply new
+  Turn keeping old (steps.Begin group t) replies.Begun new = BeginTurn old group t new
+  Turn keeping old (steps.Gather group number) (replies.Gathered place) new = GatherTurn keeping old group number place new
+  Turn keeping old (steps.Commit group) (replies.Committed answer) new = CommitTurn keeping old group answer new
+  Turn keeping old (steps.Abandon group) replies.Abandoned new = AbandonTurn old group new
+  Turn keeping old step reply new = ⊥
+
+  -- a refusal leaves the world as it was; any other reply comes only where no refusal does
+  abbrev pub WorldStep : Keeping X → WorldState X → Step → Reply → WorldState X → Type 0
+  WorldStep keeping old step (replies.Refused refusal) new = MayRefuse old step refusal × (new ≡ old)
+  WorldStep keeping old step reply new = (refusal_of old step ≡ None) × Turn keeping old step reply new
+
+  -- step after step
+  abbrev pub Replay : Keeping X → WorldState X → List Step → List Reply → WorldState X → Type 0
+  Replay keeping old [] [] new = new ≡ old
+  Replay keeping old (step ∷ steps) (reply ∷ replies) new = (mid : WorldState X) × WorldStep keeping old step reply mid × Replay keeping mid steps replies new
+  Replay keeping old [] (reply ∷ replies) new = ⊥
+  Replay keeping old (step ∷ steps) [] new = ⊥

@@ -1,0 +1,325 @@
+//! A book: one rule group, its evaluations, and its sinks.
+ghost use Rattle.std.specs.Prelude.{◌≡◌, ◌≤◌, ◌<◌, ◌^◌, List, [], map, length, replicate, slice_get, option_map, option_and_then, IfOk, IfErr, OnOk, OnErr, IfSome, None, Some, is_some, false};
+ghost use Rattle.rl_sinks.specs.SinkState.{closed};
+ghost use Rattle.rl_world.specs.BookCalls.{Refuses};
+ghost use Rattle.rl_world.specs.History.{asked_fault, closing_fault, with_shown};
+ghost use Rattle.std.specs.List.{AllByRecursion, list_all};
+ghost use Rattle.std.specs.Option.{option_copied};
+
+use crate::evaluating::{Slot, evaluate, terms_of_group};
+use crate::fault::{BookError, BookFault};
+use crate::offering::offer_all;
+use crate::opened::{Gathered, OpenEvaluation};
+use crate::step::Committed;
+use rl_aggregate::Partial;
+use rl_labels::Ns;
+use rl_plain::{PlainList, TryCopy};
+use rl_query::Term;
+use rl_rules::{Evaluation, Group};
+use rl_sinks::Sink;
+use std::alloc::{AllocError, Global};
+use std::marker::Model;
+
+/// A rule group with its evaluations and its sinks. Contracts see a `BookState`.
+#[derive(Drop)]
+pub struct Book<S: Sink> {
+    alloc: Global,
+    group: Group,
+    // Of the group's rules, in their order.
+    terms: PlainList<Term>,
+    slot: u64,
+    shards: usize,
+    records: u64,
+    evaluations: Vec<Evaluation>,
+    opened: Option<OpenEvaluation<PlainList<Partial>>>,
+    sinks: Vec<S>,
+}
+
+impl<S: Sink> Model for Book<S> {
+    ghost use Rattle.std.specs.Prelude.{map};
+    ghost use Rattle.rl_world.specs.WorldState.{BookState, IsBook};
+
+    ghost Value = { BookState };
+
+    ghost use Rattle.std.specs.Coded.{codes};
+    ghost use Rattle.rl_labels.specs.LabelSet.{label_set_code};
+    ghost use Rattle.rl_aggregate.specs.contracts.totals.Totals as totals_type;
+
+    ghost coded = { Prim.hlevel (codes, label_set_code, totals_type.the_row.coded) };
+
+    ghost view = { λ a. record { history = record { group = a.group; records = a.records; evaluations = a.evaluations.items; opened = a.opened }; shards = a.shards; slot = a.slot; sinks = map S.state a.sinks.items } };
+
+    ghost invariant = { λ a. IsBook a.terms (record { history = record { group = a.group; records = a.records; evaluations = a.evaluations.items; opened = a.opened }; shards = a.shards; slot = a.slot; sinks = map S.state a.sinks.items }) };
+}
+
+impl<S: Sink> Book<S> {
+    ghost use Rattle.rl_world.specs.BookCalls.{new_book, with_history, IsFresh, Answers, moment_of};
+    ghost use Rattle.rl_labels.specs.declared.entry.Entry.{Entry};
+    ghost use Rattle.rl_world.specs.declared.opened.OpenEvaluation.{OpenEvaluation};
+    ghost use Rattle.rl_world.specs.WorldState.{kept_open};
+    ghost use Rattle.rl_world.specs.Evaluating.{group_terms, evaluation_of, evaluation_from};
+    ghost use Rattle.rl_world.specs.History.{begin_fault, gather_fault, commit_fault, abandon_fault, begun, gathered, committed, abandoned};
+    ghost use Rattle.rl_world.specs.Offering.{AllOffered, behind_of};
+    ghost use Rattle.rl_world.specs.Slots.{AreOfOneShard, most_shards};
+
+    /// A book with no evaluation. It asks so many shards, under the number `slot`, and keeps at most `records` evaluations,
+    /// up to 1,048,576. The sinks have taken nothing.
+    pub fn open(
+        alloc: Global,
+        group: Group,
+        slot: u64,
+        shards: usize,
+        sinks: Vec<S>,
+        records: u64,
+    ) -> Result<Self, AllocError>
+        requires shards { shards ≤ most_shards }
+        requires records { records ≤ 1048576 }
+        requires fresh { AllByRecursion IsFresh (map S.state sinks.items) }
+        ensures { IfOk result (λ book. book ≡ new_book slot records shards group (map S.state sinks.items)) }
+    {
+        let terms = terms_of_group(alloc, &group)?;
+        Ok(Book {
+            alloc,
+            group,
+            terms,
+            slot,
+            shards,
+            records,
+            evaluations: Vec::new(alloc),
+            opened: None,
+            sinks,
+        })
+    }
+
+    /// Opens an evaluation at the moment.
+    pub fn begin(&mut self, t: Ns) -> Result<(), BookError>
+        ensures answer { Answers (begin_fault self.old.history t) result }
+        ensures ok { OnOk result (self.new ≡ with_history self.old (begun self.old.shards self.old.history t)) }
+        ensures err { OnErr result (self.new ≡ self.old) }
+    {
+        if self.opened.is_some() {
+            return Err(BookError::Fault(BookFault::Busy));
+        }
+        if let Some(last) = self.evaluations.last() {
+            if t <= last.t {
+                return Err(BookError::Fault(BookFault::MomentNotLater { last: last.t }));
+            }
+        }
+        let gathered = empty_slots(self.alloc, self.shards)?;
+        self.opened = Some(OpenEvaluation { t, gathered });
+        Ok(())
+    }
+
+    /// The moment at which the shard is to be asked.
+    pub fn asks(&self, shard: usize) -> Result<Ns, BookFault>
+        requires { shard < self.now.shards }
+        ensures answer { Refuses (gather_fault self.now.history shard) result }
+        ensures moment { IfOk result (λ t. moment_of self.now.history ≡ Some t) }
+    {
+        asked(&self.opened, shard)
+    }
+
+    /// Takes what a shard showed: one partial for each of the group's terms, and the place in the shard's journal.
+    pub fn put_partials(
+        &mut self,
+        shard: usize,
+        place: u64,
+        partials: PlainList<Partial>,
+    ) -> Result<(), BookFault>
+        requires shard { shard < self.old.shards }
+        requires partials { AreOfOneShard (length (group_terms self.old.history.group)) partials }
+        ensures answer { Refuses (gather_fault self.old.history shard) result }
+        ensures ok { OnOk result (self.new ≡ with_history self.old (gathered self.old.history shard place partials)) }
+        ensures err { OnErr result (self.new ≡ self.old) }
+    {
+        asked(&self.opened, shard)?;
+        let answer = Gathered {
+            place,
+            shown: partials,
+        };
+        put(&mut self.opened, shard, answer);
+        Ok(())
+    }
+
+    /// Evaluates the group on what its shards showed, and offers each sink all that it has not taken, until it refuses.
+    pub fn commit(&mut self) -> Result<Committed, BookError>
+        ensures answer { Answers (commit_fault self.old.history) result }
+        ensures number { IfOk result (λ answer. answer.number ≡ length self.old.history.evaluations) }
+        ensures evaluation { IfOk result (λ answer. IfSome self.old.history.opened (λ opened. answer.evaluation ≡ evaluation_from self.old.history.group opened)) }
+        ensures from_scratch { IfOk result (λ answer. (shown : OpenEvaluation (List Entry)) → self.old.history.opened ≡ Some (kept_open (group_terms self.old.history.group) shown) → answer.evaluation ≡ evaluation_of self.old.history.group shown) }
+        ensures history { IfOk result (λ answer. self.new.history ≡ committed self.old.history answer.evaluation) }
+        ensures rest { OnOk result ((self.new.shards ≡ self.old.shards) × (self.new.slot ≡ self.old.slot)) }
+        ensures offered { OnOk result (AllOffered self.new.history.evaluations self.old.sinks self.new.sinks) }
+        ensures behind { IfOk result (λ answer. answer.behind ≡ behind_of self.new.history.evaluations self.new.sinks) }
+        ensures err { OnErr result (self.new ≡ self.old) }
+    {
+        let number = self.evaluations.len() as u64;
+        let opened = match complete(&self.opened, number >= self.records) {
+            Ok(opened) => opened,
+            Err(fault) => return Err(BookError::Fault(fault)),
+        };
+        let evaluation = evaluate(self.alloc, &self.group, self.terms.len(), opened)?;
+        let told = evaluation.try_copy()?;
+        let mut behind = Vec::with_capacity(self.alloc, self.sinks.len())?;
+        self.evaluations.push(evaluation)?;
+        self.opened = None;
+        offer_all(&mut self.sinks, &self.evaluations, &mut behind);
+        Ok(Committed {
+            number,
+            evaluation: told,
+            behind: PlainList::from_vec(behind),
+        })
+    }
+
+    /// Closes the open evaluation, of which nothing is left.
+    pub fn abandon(&mut self) -> Result<(), BookFault>
+        ensures answer { Refuses (abandon_fault self.old.history) result }
+        ensures ok { OnOk result (self.new ≡ with_history self.old (abandoned self.old.history)) }
+        ensures err { OnErr result (self.new ≡ self.old) }
+    {
+        if self.opened.is_none() {
+            return Err(BookFault::NotOpen);
+        }
+        self.opened = None;
+        Ok(())
+    }
+
+    /// The group as it was handed in.
+    pub fn group(&self) -> &Group
+        ensures { result.now ≡ self.now.history.group }
+    {
+        &self.group
+    }
+
+    /// The number under which the book asks its shards.
+    pub fn slot(&self) -> u64
+        ensures { result ≡ self.now.slot }
+    {
+        self.slot
+    }
+
+    /// The terms of the group's rules, in their order, with repeats.
+    pub fn terms(&self) -> &PlainList<Term>
+        ensures { result.now ≡ group_terms self.now.history.group }
+    {
+        &self.terms
+    }
+
+    /// A committed evaluation by its number, counted from 0.
+    pub fn evaluation(&self, number: u64) -> Option<&Evaluation>
+        ensures { option_copied result ≡ slice_get self.now.history.evaluations number }
+    {
+        self.evaluations.get(number as usize)
+    }
+
+    /// How many texts a sink has taken, if there is such a sink.
+    pub fn sink_count(&self, sink: usize) -> Option<u64>
+        ensures { result ≡ option_map (λ sink. sink.count) (slice_get self.now.sinks sink) }
+    {
+        let sink = self.sinks.get(sink)?;
+        Some(sink.count())
+    }
+
+    /// A text that a sink keeps, counted from 0, the oldest first.
+    pub fn sink_text(&self, sink: usize, index: u64) -> Option<&str>
+        ensures { option_copied result ≡ option_and_then (λ sink. slice_get sink.kept index) (slice_get self.now.sinks sink) }
+    {
+        let sink = self.sinks.get(sink)?;
+        sink.kept(index)
+    }
+
+    /// Closes each sink in order. How many could not write all.
+    pub fn close_sinks(&mut self) -> u64
+        ensures closed { self.new ≡ record { history = self.old.history; shards = self.old.shards; slot = self.old.slot; sinks = map closed self.old.sinks } }
+        ensures few { result ≤ length self.old.sinks }
+    {
+        close_all(&mut self.sinks)
+    }
+}
+
+// The moment at which the shard is to be asked.
+fn asked(
+    opened: &Option<OpenEvaluation<PlainList<Partial>>>,
+    shard: usize,
+) -> Result<Ns, BookFault>
+    requires { IfSome opened.now (λ opened. shard < length opened.gathered) }
+    ensures answer { Refuses (asked_fault opened.now shard) result }
+    ensures moment { IfOk result (λ t. option_map (λ opened. opened.t) opened.now ≡ Some t) }
+{
+    let Some(opened) = opened else {
+        return Err(BookFault::NotOpen);
+    };
+    if opened.gathered.as_slice()[shard].is_some() {
+        return Err(BookFault::AlreadyGathered);
+    }
+    Ok(opened.t)
+}
+
+// The open evaluation, if it can be committed to a book that is full or not.
+fn complete(
+    opened: &Option<OpenEvaluation<PlainList<Partial>>>,
+    full: bool,
+) -> Result<&OpenEvaluation<PlainList<Partial>>, BookFault>
+    ensures refused { IfErr result (λ fault. closing_fault opened.now full ≡ Some fault) }
+    ensures free { OnOk result (closing_fault opened.now full ≡ None) }
+    ensures room { OnOk result (full ≡ false) }
+    ensures ok { IfOk result (λ complete. opened.now ≡ Some complete.now) }
+{
+    let Some(opened) = opened else {
+        return Err(BookFault::NotOpen);
+    };
+    if !all_asked(opened.gathered.as_slice()) {
+        return Err(BookFault::Incomplete);
+    }
+    if full {
+        return Err(BookFault::SessionFull);
+    }
+    Ok(opened)
+}
+
+// Whether every shard was asked.
+fn all_asked(slots: &[Slot]) -> bool
+    ensures { result ≡ list_all is_some slots.now }
+{
+    slots.iter().all(|slot| slot.is_some())
+}
+
+// Puts what a shard showed into its slot.
+fn put(
+    opened: &mut Option<OpenEvaluation<PlainList<Partial>>>,
+    shard: usize,
+    answer: Gathered<PlainList<Partial>>,
+)
+    requires { IfSome opened.old (λ opened. shard < length opened.gathered) }
+    ensures { opened.new ≡ option_map (with_shown shard answer.place answer.shown) opened.old }
+{
+    if let Some(opened) = opened {
+        opened.gathered.set(shard, Some(answer));
+    }
+}
+
+// A slot for each shard, none of which was asked.
+fn empty_slots(alloc: Global, shards: usize) -> Result<PlainList<Slot>, AllocError>
+    ensures { IfOk result (λ slots. slots ≡ replicate shards None) }
+{
+    let mut slots = Vec::with_capacity(alloc, shards)?;
+    for _ in 0..shards {
+        slots.push(None)?;
+    }
+    Ok(PlainList::from_vec(slots))
+}
+
+// Closes each sink in order. How many could not write all.
+fn close_all<S: Sink>(sinks: &mut [S]) -> u64
+    requires { length sinks.old < 2 ^ 63 }
+    ensures closed { map S.state sinks.new ≡ map closed (map S.state sinks.old) }
+    ensures few { result ≤ length sinks.old }
+{
+    let mut failed = 0;
+    for number in 0..sinks.len() {
+        if sinks[number].close().is_err() {
+            failed += 1;
+        }
+    }
+    failed
+}

@@ -1,0 +1,63 @@
+//! Why a book or a world refuses.
+ghost use Rattle.std.specs.Prelude.{◌≡◌};
+ghost use Rattle.rl_world.specs.declared.fault.BookError.TheVariants.{Memory};
+
+use rl_labels::Ns;
+use std::alloc::{AllocError, AllocFailed};
+use thiserror::Error;
+
+/// Why a book refused a call, which left it as it was.
+#[derive(Clone, Copy, Debug, Drop, Error, PartialEq, Eq)]
+pub enum BookFault {
+    #[error("an evaluation is open")]
+    Busy,
+    /// The moment is not later than that of the last evaluation.
+    #[error("the moment is not later than that of the last evaluation")]
+    MomentNotLater { last: Ns },
+    #[error("no evaluation is open")]
+    NotOpen,
+    #[error("the shard was asked already")]
+    AlreadyGathered,
+    #[error("not every shard was asked")]
+    Incomplete,
+    #[error("the book has as many records as it may have")]
+    SessionFull,
+}
+
+/// A fault of a book, or want of memory. Either left it as it was.
+#[derive(Clone, Copy, Debug, Drop, Error, PartialEq, Eq)]
+pub enum BookError {
+    #[error("{0}")]
+    Fault(BookFault),
+    #[error("out of memory")]
+    Memory,
+}
+
+impl From<AllocError> for BookError {
+    ghost from_gives = { λ _ e. e ≡ Memory };
+
+    fn from(_error: AllocError) -> Self {
+        BookError::Memory
+    }
+}
+
+impl<T: Drop> From<AllocFailed<T>> for BookError {
+    ghost from_gives = { λ _ e. e ≡ Memory };
+
+    fn from(_error: AllocFailed<T>) -> Self {
+        BookError::Memory
+    }
+}
+
+/// Why a world refused a step, which left it as it was.
+#[derive(Clone, Copy, Debug, Drop, Error, PartialEq, Eq)]
+pub enum Refusal {
+    #[error("no such shard or group")]
+    NoSuch,
+    #[error("{0}")]
+    Book(BookFault),
+    #[error("the journal has as many records as it may have")]
+    JournalFull,
+    #[error("out of memory")]
+    Memory,
+}

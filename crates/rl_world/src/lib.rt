@@ -1,0 +1,28 @@
+//! Books and worlds: rule groups over shards, evaluated step by step.
+//!
+//! `World::run` takes any list of steps. What it answers is a replay of the definition of the world step, in which each
+//! evaluation is LogQL from scratch on the entries that each shard showed when it was asked; and every sink has taken
+//! exactly the texts of the first evaluations of its group.
+//!
+//! - `step`: `Step`, `Reply`, `Committed`. `fault`: `BookFault`, `BookError`, `Refusal`. `opened`: an evaluation that is open.
+//! - `book`: `Book`, one group with its sinks. `world`: `World`.
+//! - `aggregate`, `shard`, `rules`, `sinks`: the crates below, passed on.
+#![tactic(auto)]
+
+pub mod book;
+mod evaluating;
+pub mod fault;
+mod offering;
+pub mod opened;
+pub mod step;
+mod turns;
+pub mod world;
+
+pub use book::Book;
+pub use fault::{BookError, BookFault, Refusal};
+pub use rl_aggregate as aggregate;
+pub use rl_rules as rules;
+pub use rl_shard as shard;
+pub use rl_sinks as sinks;
+pub use step::{Committed, Reply, Step};
+pub use world::World;

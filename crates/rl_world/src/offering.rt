@@ -1,0 +1,43 @@
+//! Evaluations offered to sinks.
+ghost use Rattle.std.specs.Prelude.{◌≡◌, ◌+◌, ◌≤◌, ◌<◌, ◌^◌, ◌++◌, map, length, vec_len, vec_capacity};
+ghost use Rattle.std.specs.List.{AllByRecursion};
+ghost use Rattle.rl_world.specs.Offering.{TookPrefix, Offered, AllOffered, is_behind, behind_of};
+
+use rl_rules::Evaluation;
+use rl_sinks::Sink;
+
+/// Offers each sink all that it has not taken, and adds the numbers of those that refused.
+pub(crate) fn offer_all<S: Sink>(
+    sinks: &mut [S],
+    evaluations: &[Evaluation],
+    behind: &mut Vec<u64>,
+)
+    requires few { length evaluations.now < 2 ^ 63 }
+    requires prefixes { AllByRecursion (TookPrefix evaluations.now) (map S.state sinks.old) }
+    requires room { vec_len behind.old + length sinks.old ≤ vec_capacity behind.old }
+    ensures offered { AllOffered evaluations.now (map S.state sinks.old) (map S.state sinks.new) }
+    ensures behind { behind.new.items ≡ behind.old.items ++ behind_of evaluations.now (map S.state sinks.new) }
+{
+    for number in 0..sinks.len() {
+        if offer(&mut sinks[number], evaluations) {
+            behind.push_reserved(number as u64);
+        }
+    }
+}
+
+// Offers what the sink has not taken, until it refuses. Whether it did.
+fn offer<S: Sink>(sink: &mut S, evaluations: &[Evaluation]) -> bool
+    requires few { length evaluations.now < 2 ^ 63 }
+    requires prefix { TookPrefix evaluations.now (S.state sink.old) }
+    ensures offered { Offered evaluations.now (S.state sink.old) (S.state sink.new) }
+    ensures refused { result ≡ is_behind evaluations.now (S.state sink.new) }
+{
+    let mut next = sink.count() as usize;
+    while next < evaluations.len() {
+        if sink.take(&evaluations[next]).is_err() {
+            return true;
+        }
+        next += 1;
+    }
+    false
+}

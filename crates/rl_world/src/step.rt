@@ -1,0 +1,45 @@
+//! What a world can be asked, and what it answers. Shards, groups and sinks go by their number, counted from 0.
+use crate::fault::Refusal;
+use rl_labels::Ns;
+use rl_plain::PlainList;
+use rl_rules::Evaluation;
+use rl_shard::{ShardReply, ShardStep};
+
+/// A step of a world.
+#[derive(Debug, Drop)]
+pub enum Step {
+    /// A step of one shard.
+    Shard { number: usize, step: ShardStep },
+    /// Opens an evaluation of the group at a moment.
+    Begin { group: usize, t: Ns },
+    /// Asks a shard, for the open evaluation of the group.
+    Gather { group: usize, number: usize },
+    /// Evaluates the group on what its shards showed, and offers its sinks what they have not taken.
+    Commit { group: usize },
+    /// Closes the open evaluation of the group, of which nothing is left.
+    Abandon { group: usize },
+}
+
+/// What a world answered to a step.
+#[derive(Debug, Drop)]
+pub enum Reply {
+    /// The shard decided the step; its journal has it at the place.
+    Decided { place: u64, reply: ShardReply },
+    Begun,
+    /// The shard was asked; its journal has the question at the place.
+    Gathered { place: u64 },
+    Committed(Committed),
+    Abandoned,
+    /// Nothing changed.
+    Refused(Refusal),
+}
+
+/// An evaluation that was committed.
+#[derive(Debug, Drop)]
+pub struct Committed {
+    /// Its number in the group's history, counted from 0.
+    pub number: u64,
+    pub evaluation: Evaluation,
+    /// The sinks that refused, by their numbers.
+    pub behind: PlainList<u64>,
+}

@@ -1,0 +1,152 @@
+//! What a world does at each kind of step.
+ghost use Rattle.std.specs.Prelude.{◌≡◌, length, Err, IsTrue, IsErrOf, IfOk, OnOk, OnErr};
+ghost use Rattle.rl_shard.specs.ShardState.{visible};
+ghost use Rattle.rl_shard.specs.ShardStep.{recorded, is_journal_full};
+ghost use Rattle.rl_shard.specs.declared.step.ShardStep.TheVariants as shard_steps;
+ghost use Rattle.rl_shard.specs.declared.step.ShardFault.TheVariants as faults;
+ghost use Rattle.rl_world.specs.Evaluating.{partials_of};
+ghost use Rattle.rl_world.specs.Slots.{AreOfOneShard};
+ghost use Rattle.rl_world.specs.WorldRun.{SinkStep};
+ghost use Rattle.rl_world.specs.WorldState.{world_of};
+ghost use Rattle.rl_world.specs.WorldStep.{WorldStep, partials, told_of_shard, told_of_book};
+ghost use Rattle.rl_world.specs.declared.step.Step.TheVariants as steps;
+
+use crate::fault::{BookError, Refusal};
+use crate::step::Reply;
+use crate::world::World;
+use rl_aggregate::Partial;
+use rl_labels::Ns;
+use rl_plain::{PlainList, TryCopy};
+use rl_query::Term;
+use rl_shard::{Shard, ShardFault, ShardReply, ShardStep};
+use rl_sinks::Sink;
+
+impl<S: Sink> World<S> {
+    // A shard decides a step.
+    pub(crate) fn shard(&mut self, number: usize, step: ShardStep) -> Reply
+        ensures step { WorldStep partials (world_of self.old.shards.items self.old.books.items) (steps.Shard number step) result (world_of self.new.shards.items self.new.books.items) }
+        ensures sinks { SinkStep self.old.books.items (steps.Shard number step) result self.new.books.items }
+    {
+        if number >= self.shards.len() {
+            return Reply::Refused(Refusal::NoSuch);
+        }
+        let shard = &mut self.shards[number];
+        match shard.apply(step) {
+            Ok((place, reply)) => Reply::Decided { place, reply },
+            Err(fault) => Reply::Refused(refusal_of_shard(fault)),
+        }
+    }
+
+    // A group opens an evaluation.
+    pub(crate) fn begin(&mut self, group: usize, t: Ns) -> Reply
+        ensures step { WorldStep partials (world_of self.old.shards.items self.old.books.items) (steps.Begin group t) result (world_of self.new.shards.items self.new.books.items) }
+        ensures sinks { SinkStep self.old.books.items (steps.Begin group t) result self.new.books.items }
+    {
+        if group >= self.books.len() {
+            return Reply::Refused(Refusal::NoSuch);
+        }
+        let book = &mut self.books[group];
+        match book.begin(t) {
+            Ok(()) => Reply::Begun,
+            Err(error) => Reply::Refused(refusal_of_book(error)),
+        }
+    }
+
+    // A shard is asked for the open evaluation of a group.
+    pub(crate) fn gather(&mut self, group: usize, number: usize) -> Reply
+        ensures step { WorldStep partials (world_of self.old.shards.items self.old.books.items) (steps.Gather group number) result (world_of self.new.shards.items self.new.books.items) }
+        ensures sinks { SinkStep self.old.books.items (steps.Gather group number) result self.new.books.items }
+    {
+        if group >= self.books.len() || number >= self.shards.len() {
+            return Reply::Refused(Refusal::NoSuch);
+        }
+        let book = &self.books[group];
+        let t = match book.asks(number) {
+            Ok(t) => t,
+            Err(fault) => return Reply::Refused(Refusal::Book(fault)),
+        };
+        let Ok(terms) = book.terms().try_copy() else {
+            return Reply::Refused(Refusal::Memory);
+        };
+        let (place, shown) = match ask(&mut self.shards[number], group as u64, terms, t) {
+            Ok(answer) => answer,
+            Err(fault) => return Reply::Refused(refusal_of_shard(fault)),
+        };
+        let book = &mut self.books[group];
+        match book.put_partials(number, place, shown) {
+            Ok(()) => Reply::Gathered { place },
+            Err(fault) => Reply::Refused(Refusal::Book(fault)),
+        }
+    }
+
+    // A group closes its evaluation.
+    pub(crate) fn commit(&mut self, group: usize) -> Reply
+        ensures step { WorldStep partials (world_of self.old.shards.items self.old.books.items) (steps.Commit group) result (world_of self.new.shards.items self.new.books.items) }
+        ensures sinks { SinkStep self.old.books.items (steps.Commit group) result self.new.books.items }
+    {
+        if group >= self.books.len() {
+            return Reply::Refused(Refusal::NoSuch);
+        }
+        let book = &mut self.books[group];
+        match book.commit() {
+            Ok(answer) => Reply::Committed(answer),
+            Err(error) => Reply::Refused(refusal_of_book(error)),
+        }
+    }
+
+    // A group closes its evaluation, of which nothing is left.
+    pub(crate) fn abandon(&mut self, group: usize) -> Reply
+        ensures step { WorldStep partials (world_of self.old.shards.items self.old.books.items) (steps.Abandon group) result (world_of self.new.shards.items self.new.books.items) }
+        ensures sinks { SinkStep self.old.books.items (steps.Abandon group) result self.new.books.items }
+    {
+        if group >= self.books.len() {
+            return Reply::Refused(Refusal::NoSuch);
+        }
+        let book = &mut self.books[group];
+        match book.abandon() {
+            Ok(()) => Reply::Abandoned,
+            Err(fault) => Reply::Refused(Refusal::Book(fault)),
+        }
+    }
+}
+
+// Asks a shard what it shows of the terms at the moment: the place of the question in its journal, and the partials.
+fn ask(
+    shard: &mut Shard,
+    slot: u64,
+    terms: PlainList<Term>,
+    t: Ns,
+) -> Result<(u64, PlainList<Partial>), ShardFault>
+    ensures room { IsErrOf result faults.JournalFull → IsTrue (is_journal_full shard.old) }
+    ensures journal_full { IsTrue (is_journal_full shard.old) → result ≡ Err faults.JournalFull }
+    ensures shown { IfOk result (λ answer. (answer.0 ≡ shard.old.records) × (answer.1 ≡ partials_of (visible shard.old.state) terms t)) }
+    ensures one_shard { IfOk result (λ answer. AreOfOneShard (length terms) answer.1) }
+    ensures ok { OnOk result (shard.new ≡ recorded shard.old (shard_steps.Collect slot terms t)) }
+    ensures err { OnErr result (shard.new ≡ shard.old) }
+{
+    let (place, reply) = shard.apply(ShardStep::Collect { slot, terms, t })?;
+    match reply {
+        ShardReply::Collected(partials) => Ok((place, partials)),
+        _ => unreachable!(),
+    }
+}
+
+// A fault of a shard, as a world tells it.
+fn refusal_of_shard(fault: ShardFault) -> Refusal
+    ensures { result ≡ told_of_shard fault }
+{
+    match fault {
+        ShardFault::JournalFull => Refusal::JournalFull,
+        ShardFault::Memory => Refusal::Memory,
+    }
+}
+
+// A refusal of a book, as a world tells it.
+fn refusal_of_book(error: BookError) -> Refusal
+    ensures { result ≡ told_of_book error }
+{
+    match error {
+        BookError::Fault(fault) => Refusal::Book(fault),
+        BookError::Memory => Refusal::Memory,
+    }
+}
