@@ -183,6 +183,9 @@ fn lists_hold_what_they_are_given(rt: HostRuntime) -> Result<(), Fail> {
     assert_eq!(rt; list.len(), 2);
     assert_eq!(rt; list.as_slice(), [7, 8].as_slice());
     assert!(rt; none < list && none != list);
+    let mut other: PlainList<u64> = PlainList::from_vec(vec![in rt.alloc(); 7, 8]?);
+    other.set(1, 9);
+    assert_eq!(rt; other.as_slice(), [7, 9].as_slice());
     let kept = Vec::with_capacity(list.allocator(), 1)?;
     let empty: PlainList<u64> = PlainList::from_vec(kept);
     assert!(rt; empty == none);

@@ -1,5 +1,5 @@
 -- What a commit makes of a book's sinks.
-use Rattle.std.proofs.Common.{◌≡◌, ℕ, ◌≤◌, Bool, List, [], ◌∷◌, ◌++◌, map, length, take, Option, None, Some, IfSome, Result, Ok, Err, OnOk, OnErr, option_map, slice_get, slice_set, refl, sym, ap, subst, ◌∙◌, arith, length-append}
+use Rattle.std.proofs.Common.{◌≡◌, ℕ, Bool, List, [], ◌∷◌, ◌++◌, map, length, take, Option, None, Some, IfSome, Result, Ok, Err, OnOk, OnErr, option_map, slice_get, slice_set, refl, sym, ap, subst, ◌∙◌, arith, length-append}
 use Rattle.std.specs.List.{AllByRecursion}
 use Rattle.std.proofs.lemmas.List.{take-append-le}
 use Rattle.rl_rules.specs.declared.evaluation.Evaluation.{Evaluation}
@@ -14,7 +14,6 @@ use Rattle.rl_world.specs.WorldState.{BookState, IsBookOf, kept_open, world_of}
 use Rattle.rl_labels.specs.declared.entry.Entry.{Entry}
 use Rattle.rl_world.specs.ShownLaws.{kept_evaluation}
 use Rattle.rl_world.specs.WorldStep.{WorldStep, partials}
-use Rattle.rl_world.specs.declared.fault.BookFault.{BookFault}
 use Rattle.rl_world.specs.declared.fault.BookError.{BookError}
 use Rattle.rl_world.specs.declared.fault.Refusal.{Refusal}
 use Rattle.rl_world.specs.declared.fault.Refusal.TheVariants as refusals
@@ -42,7 +41,7 @@ took_offered evaluations old new offered =
     let state = offered.state in (
       offered.few,
       ap (λ (s : SinkState). s.kept) state
-      ∙ (λ i. within (sym (ap (λ (s : SinkState). s.limit) state) i) (texts_of (sym (ap (λ (s : SinkState). s.kind) state) i) (take new.count evaluations))),
+          ∙ (λ i. within (sym (ap (λ (s : SinkState). s.limit) state) i) (texts_of (sym (ap (λ (s : SinkState). s.kind) state) i) (take new.count evaluations))),
     )
 
 pub each_took_offered : (evaluations : List Evaluation) (olds news : List SinkState) → AllOffered evaluations olds news → AllByRecursion (TookPrefix evaluations) news
@@ -84,17 +83,17 @@ module _ (shards : List Journalled) (books : List BookState) (group : ℕ) (book
   commit_turn answer free number evaluation history =
       let none = answered_ok (commit_fault book.history) answer free in
       let here = open_with (λ opened. answer.evaluation ≡ evaluation_from book.history.group opened) book.history.opened (is_session_full book.history) none evaluation in (
-      commit_refusal shards books group book there ∙ ap (option_map refusals.Book) none,
-      record {
-        history = book.history;
-        there = history_at shards books group book there;
-        opened = here.opened;
-        open_is = here.is;
-        number_is = number;
-        evaluation_is = here.holds;
-        after = world_with shards books group after ∙ (λ i. record { shards = shards; histories = slice_set (map (λ (b : BookState). b.history) books) group (history i) });
-      },
-    )
+        commit_refusal shards books group book there ∙ ap (option_map refusals.Book) none,
+        record {
+          history = book.history;
+          there = history_at shards books group book there;
+          opened = here.opened;
+          open_is = here.is;
+          number_is = number;
+          evaluation_is = here.holds;
+          after = world_with shards books group after ∙ (λ i. record { shards = shards; histories = slice_set (map (λ (b : BookState). b.history) books) group (history i) });
+        },
+      )
 
   pub commit_refused : (error : BookError) (refusal : Refusal) → Answers {A = Committed} (commit_fault book.history) (Err error) → refusal ≡ told_of_book error → after ≡ book
       → WorldStep partials (world_of shards books) (steps.Commit group) (replies.Refused refusal) (world_of shards (slice_set books group after))

@@ -1,6 +1,6 @@
 -- A run of a world, turn by turn, and what it makes of each sink.
-use Rattle.std.proofs.Common.{◌≡◌, ◌⊎◌, ℕ, zero, suc, ◌+◌, ◌<◌, ◌≤◌, ◌%◌, ◌^◌, Bool, true, false, cond, ◌||◌, List, [], ◌∷◌, ◌++◌, map, length, drop, Option, None, Some, MatchOption, option_map, option_and_then, slice_get, slice_set, nat_lt, nat_eq, refl, sym, ap, subst, ◌∙◌, arith}
-use Rattle.std.specs.List.{AllByRecursion, list_any, count_by, zip}
+use Rattle.std.proofs.Common.{◌≡◌, ℕ, zero, suc, ◌+◌, ◌<◌, ◌%◌, ◌^◌, Bool, true, false, cond, ◌||◌, List, [], ◌∷◌, ◌++◌, map, length, drop, Option, None, Some, MatchOption, option_map, option_and_then, slice_get, slice_set, nat_lt, nat_eq, refl, sym, ap, subst, ◌∙◌, arith}
+use Rattle.std.specs.List.{AllByRecursion, list_any, zip}
 use Rattle.std.proofs.lemmas.List.{append-nil, append_assoc}
 use Rattle.std.proofs.Math.Seq.{drop-append_seam}
 use Rattle.std.proofs.lemmas.List.Sums.{sum_by-cons}
@@ -8,11 +8,10 @@ use Rattle.std.proofs.lemmas.Option.{slice_get-map}
 use Rattle.std.proofs.lemmas.Bool.{eqb-true, eqb-false, eq-eqb, ne_eqb}
 use Rattle.rl_rules.specs.declared.evaluation.Evaluation.{Evaluation}
 use Rattle.rl_shard.specs.ShardState.{Journalled}
-use Rattle.rl_shard.specs.declared.step.ShardStep.{ShardStep}
 use Rattle.rl_sinks.specs.SinkState.{SinkState}
 use Rattle.rl_world.specs.Offering.{TookPrefix, Offered, AllOffered, is_behind, behind_from, behind_of}
-use Rattle.rl_world.specs.WorldRun.{gained, CommitSinks, SinkStep, Follows, FollowsIn, SinksFollow, told, listing, listings, is_listed, latest, last_listing}
-use Rattle.rl_world.specs.WorldState.{WorldState, BookState, IsBookOf, world_of, sink_at}
+use Rattle.rl_world.specs.WorldRun.{gained, CommitSinks, SinkStep, SinksFollow, told, listing, listings, is_listed, latest, last_listing}
+use Rattle.rl_world.specs.WorldState.{BookState, IsBookOf, world_of}
 use Rattle.rl_world.specs.WorldStep.{WorldStep, Replay, partials}
 use Rattle.rl_world.specs.declared.step.Committed.{Committed}
 use Rattle.rl_world.specs.declared.step.Step.{Step}

@@ -1,5 +1,5 @@
 -- What a gather makes of a world.
-use Rattle.std.proofs.Common.{◌≡◌, inl, inr, ℕ, Bool, true, false, cond, List, map, length, Option, None, Some, Result, Ok, Err, OnOk, OnErr, option_map, slice_get, slice_set, refl, sym, ap, subst, ◌∙◌}
+use Rattle.std.proofs.Common.{◌≡◌, inl, inr, ℕ, true, cond, List, map, length, Option, None, Some, Result, Ok, Err, OnOk, OnErr, option_map, slice_get, slice_set, refl, sym, ap, subst, ◌∙◌}
 use Rattle.std.specs.List.{AllByRecursion}
 use Rattle.std.proofs.lemmas.List.{map-set, length-set}
 use Rattle.rl_aggregate.specs.declared.partial.Partial.{Partial}
@@ -11,7 +11,7 @@ use Rattle.rl_shard.specs.declared.step.ShardFault.{ShardFault}
 use Rattle.rl_shard.specs.declared.step.ShardFault.TheVariants as shard_faults
 use Rattle.rl_world.specs.BookCalls.{with_history}
 use Rattle.rl_world.specs.Evaluating.{group_terms, partials_of}
-use Rattle.rl_world.specs.History.{History, gather_fault, gathered}
+use Rattle.rl_world.specs.History.{gather_fault, gathered}
 use Rattle.rl_world.specs.WorldState.{BookState, IsBookOf, world_of}
 use Rattle.rl_world.specs.WorldStep.{WorldStep, MayRefuse, partials, known, or_else, journal_refusal, refusal_of, told_of_shard}
 use Rattle.rl_world.specs.declared.fault.BookFault.{BookFault}
@@ -20,7 +20,7 @@ use Rattle.rl_world.specs.declared.fault.Refusal.TheVariants as refusals
 use Rattle.rl_world.specs.declared.opened.OpenEvaluation.{OpenEvaluation}
 use Rattle.rl_world.specs.declared.step.Step.TheVariants as steps
 use Rattle.rl_world.specs.declared.step.Reply.TheVariants as replies
-use Rattle.rl_world.proofs.Turning.{each_at, each_set, history_at, set_same, not_true}
+use Rattle.rl_world.proofs.Turning.{each_set, history_at, set_same, not_true}
 
 -- the evaluation that is open, by its moment
 record OpenAt {X : Type 0} (slot : Option (OpenEvaluation X)) (t : ℕ) : Type 0 where
@@ -85,21 +85,21 @@ module _ (shards : List Journalled) (books : List BookState) (group number : ℕ
       → WorldStep partials (world_of shards books) (steps.Gather group number) (replies.Gathered place) (world_of (slice_set shards number after_shard) (slice_set books group after))
   gather_turn after_shard after slot t place terms shown free moment terms_is full place_is shown_is after_shard_is after_is =
       let here = open_at book.history.opened t moment in (
-      asked_free free ∙ ap (λ b. cond b (Some refusals.JournalFull) None) (not_true (is_journal_full shard) (λ h. ok_err (place, shown) shard_faults.JournalFull (full h))),
-      record {
-        history = book.history;
-        there = history_at shards books group book there;
-        opened = here.opened;
-        open_is = here.is;
-        shard = shard;
-        shard_there = shard_there;
-        place_is = place_is;
-        after = λ i. record {
-          shards = slice_set shards number (after_shard_is i);
-          histories = (map-set (λ (b : BookState). b.history) books group after
-              ∙ ap (slice_set (map (λ (b : BookState). b.history) books) group)
-              (ap (λ (b : BookState). b.history) after_is
-              ∙ ap (gathered book.history number place) (shown_is ∙ (λ j. partials_of (visible shard.state) (terms_is j) (sym here.moment j))))) i;
-        };
-      },
-    )
+        asked_free free ∙ ap (λ b. cond b (Some refusals.JournalFull) None) (not_true (is_journal_full shard) (λ h. ok_err (place, shown) shard_faults.JournalFull (full h))),
+        record {
+          history = book.history;
+          there = history_at shards books group book there;
+          opened = here.opened;
+          open_is = here.is;
+          shard = shard;
+          shard_there = shard_there;
+          place_is = place_is;
+          after = λ i. record {
+            shards = slice_set shards number (after_shard_is i);
+            histories = (map-set (λ (b : BookState). b.history) books group after
+                ∙ ap (slice_set (map (λ (b : BookState). b.history) books) group)
+                (ap (λ (b : BookState). b.history) after_is
+                ∙ ap (gathered book.history number place) (shown_is ∙ (λ j. partials_of (visible shard.state) (terms_is j) (sym here.moment j))))) i;
+          };
+        },
+      )

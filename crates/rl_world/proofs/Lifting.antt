@@ -1,13 +1,12 @@
 -- A step on kept partials is a step on every world of shown lists that they stand for.
-use Rattle.std.proofs.Common.{◌≡◌, inl, inr, ℕ, zero, suc, cond, ◌&&◌, List, [], ◌∷◌, map, length, replicate, Option, None, Some, is_some, unwrap_or, option_map, slice_get, slice_set, refl, sym, ap, subst, ◌∙◌, ◌⊎◌}
+use Rattle.std.proofs.Common.{◌≡◌, inl, inr, ℕ, zero, suc, cond, ◌&&◌, List, [], ◌∷◌, map, length, replicate, Option, None, Some, is_some, unwrap_or, option_map, slice_get, refl, sym, ap, subst, ◌∙◌}
 use Rattle.std.specs.List.{list_all}
 use Rattle.std.proofs.lemmas.List.{map-set}
-use Rattle.std.proofs.lemmas.List.Folds.{list_all-map}
 use Rattle.std.proofs.lemmas.Option.{slice_get-map}
 use Rattle.rl_labels.specs.declared.entry.Entry.{Entry}
 use Rattle.rl_query.specs.declared.query.Term.{Term}
 use Rattle.rl_aggregate.specs.declared.partial.Partial.{Partial}
-use Rattle.rl_shard.specs.ShardState.{Journalled, visible}
+use Rattle.rl_shard.specs.ShardState.{visible}
 use Rattle.rl_shard.specs.ShardStep.{recorded}
 use Rattle.rl_shard.specs.declared.step.ShardStep.{ShardStep}
 use Rattle.rl_shard.specs.declared.step.ShardStep.TheVariants as shard_steps
@@ -16,8 +15,7 @@ use Rattle.rl_world.specs.Evaluating.{group_terms, partials_of}
 use Rattle.rl_world.specs.History.{History, begin_fault, gather_fault, commit_fault, abandon_fault, asked_fault, closing_fault, is_session_full, last_moment, not_later, is_gathered, is_complete, begun, gathered, with_shown, committed, abandoned}
 use Rattle.rl_world.specs.ShownLaws.{kept_evaluation}
 use Rattle.rl_world.specs.WorldState.{WorldState, Stands, kept_answer, kept_open, kept_history, kept_world}
-use Rattle.rl_world.specs.WorldStep.{WorldStep, Turn, MayRefuse, ShardTurn, BeginTurn, GatherTurn, CommitTurn, AbandonTurn, Replay, lists, partials, known, or_else, journal_refusal, refusal_of, with_shard, with_history, takes_memory}
-use Rattle.rl_world.specs.declared.fault.BookFault.{BookFault}
+use Rattle.rl_world.specs.WorldStep.{WorldStep, Turn, MayRefuse, ShardTurn, BeginTurn, GatherTurn, CommitTurn, AbandonTurn, Replay, lists, partials, known, or_else, journal_refusal, refusal_of, with_shard, with_history}
 use Rattle.rl_world.specs.declared.fault.BookFault.TheVariants as faults
 use Rattle.rl_world.specs.declared.fault.Refusal.{Refusal}
 use Rattle.rl_world.specs.declared.fault.Refusal.TheVariants as refusals
@@ -181,7 +179,7 @@ lift_gather world group number place new turn =
     let terms = group_terms history.group in
     let asked = recorded turn.shard (shard_steps.Collect group terms opened.t) in
     let kept_now : gathered turn.history number place (partials_of entries (group_terms turn.history.group) turn.opened.t) ≡ kept_history (gathered history number place entries)
-        = (λ i. gathered (sym found.value i) number place (partials_of entries (group_terms (sym found.value i).group) (sym open_found.value i).t)) ∙ gathered-kept history opened number place entries open_found.is in
+    = (λ i. gathered (sym found.value i) number place (partials_of entries (group_terms (sym found.value i).group) (sym open_found.value i).t)) ∙ gathered-kept history opened number place entries open_found.is in
     record {
       after = with_history (with_shard world number asked) group (gathered history number place entries);
       stands = turn.after ∙ ap (with_history (kept_world (with_shard world number asked)) group) kept_now ∙ set-kept (with_shard world number asked) group (gathered history number place entries);

@@ -44,7 +44,7 @@ behind_from-push number evaluations [] sink =
 behind_from-push number evaluations (first ∷ sinks) sink =
     let place : suc number + length sinks ≡ number + length (first ∷ sinks) = omega arith in
     cond-append (is_behind evaluations first) number _ (behind_from (suc number) evaluations sinks) _
-        (behind_from-push (suc number) evaluations sinks sink ∙ ap (λ n. behind_from (suc number) evaluations sinks ++ cond (is_behind evaluations sink) (n ∷ []) []) place)
+    (behind_from-push (suc number) evaluations sinks sink ∙ ap (λ n. behind_from (suc number) evaluations sinks ++ cond (is_behind evaluations sink) (n ∷ []) []) place)
 
 behind_of-more : (evaluations : List Evaluation) (nows : List SinkState) (i : ℕ) (new : SinkState) → i < length nows → behind_of evaluations (take (i + 1) (set nows i new)) ≡ behind_of evaluations (take i nows) ++ cond (is_behind evaluations new) (i ∷ []) []
 behind_of-more evaluations nows i new within =

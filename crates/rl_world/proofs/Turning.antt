@@ -1,10 +1,9 @@
 -- What each turn makes of a world, by what the calls of its shards and books promise.
-use Rattle.std.proofs.Common.{◌≡◌, ◌⊎◌, inl, inr, ℕ, zero, suc, [], ◌∷◌, Bool, true, false, cond, IsTrue, List, map, length, Option, None, Some, Result, Ok, Err, option_map, slice_get, slice_set, get_or, refl, sym, ap, subst, ◌∙◌}
+use Rattle.std.proofs.Common.{◌≡◌, ◌⊎◌, inl, inr, ℕ, zero, suc, [], ◌∷◌, Bool, true, false, cond, List, map, length, Option, None, Some, Result, Ok, Err, option_map, slice_get, slice_set, refl, sym, ap, subst, ◌∙◌}
 use Rattle.std.specs.List.{AllByRecursion}
 use Rattle.std.proofs.lemmas.List.{map-set, set-get_or}
 use Rattle.std.proofs.lemmas.Option.{slice_get-map, get_or_from_slice_get}
 use Rattle.std.proofs.Math.Seq.{map-set_same}
-use Rattle.rl_aggregate.specs.declared.partial.Partial.{Partial}
 use Rattle.rl_shard.specs.ShardState.{Journalled}
 use Rattle.rl_shard.specs.ShardStep.{step_reply, recorded, is_journal_full}
 use Rattle.rl_shard.specs.declared.step.ShardStep.{ShardStep}
@@ -12,10 +11,10 @@ use Rattle.rl_shard.specs.declared.step.ShardReply.{ShardReply}
 use Rattle.rl_shard.specs.declared.step.ShardFault.{ShardFault}
 use Rattle.rl_shard.specs.declared.step.ShardFault.TheVariants as shard_faults
 use Rattle.rl_world.specs.BookCalls.{Answers, Refuses, with_history}
-use Rattle.rl_world.specs.History.{History, begin_fault, gather_fault, commit_fault, abandon_fault, begun, abandoned}
-use Rattle.rl_world.specs.WorldRun.{told, SinkStep}
-use Rattle.rl_world.specs.WorldState.{WorldState, BookState, world_of}
-use Rattle.rl_world.specs.WorldStep.{WorldStep, MayRefuse, Keeping, partials, known, journal_refusal, refusal_of, takes_memory, told_of_shard, told_of_book}
+use Rattle.rl_world.specs.History.{begin_fault, commit_fault, abandon_fault, begun, abandoned}
+use Rattle.rl_world.specs.WorldRun.{told}
+use Rattle.rl_world.specs.WorldState.{BookState, world_of}
+use Rattle.rl_world.specs.WorldStep.{WorldStep, MayRefuse, partials, known, journal_refusal, refusal_of, takes_memory, told_of_shard, told_of_book}
 use Rattle.rl_world.specs.declared.fault.BookFault.{BookFault}
 use Rattle.rl_world.specs.declared.fault.BookError.{BookError}
 use Rattle.rl_world.specs.declared.fault.BookError.TheVariants as errors

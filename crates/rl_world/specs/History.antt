@@ -1,11 +1,10 @@
 -- The history of a group: the evaluations that were committed, and the one that is open.
-use Rattle.std.specs.Prelude.{ℕ, ◌-◌, nat_le, Bool, not, List, [], ◌∷◌, ◌++◌, length, replicate, Option, None, Some, is_some, option_map, unwrap_or, slice_get, slice_set, if◌then◌else◌}
+use Rattle.std.specs.Prelude.{ℕ, ◌-◌, nat_le, Bool, List, [], ◌∷◌, ◌++◌, length, replicate, Option, None, Some, is_some, option_map, unwrap_or, slice_get, slice_set, if◌then◌else◌}
 use Rattle.std.specs.List.{list_all}
 use Rattle.rl_rules.specs.declared.rule.Group.{Group}
 use Rattle.rl_rules.specs.declared.evaluation.Evaluation.{Evaluation}
 use Rattle.rl_world.specs.declared.fault.BookFault.{BookFault}
 use Rattle.rl_world.specs.declared.fault.BookFault.TheVariants as faults
-use Rattle.rl_world.specs.declared.opened.Gathered.{Gathered}
 use Rattle.rl_world.specs.declared.opened.OpenEvaluation.{OpenEvaluation}
 
 -- X is what an open evaluation keeps of what a shard showed

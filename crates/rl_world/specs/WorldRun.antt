@@ -1,5 +1,5 @@
 -- What a run of steps makes of the sinks.
-use Rattle.std.specs.Prelude.{◌≡◌, ◌==◌, ℕ, ◌+◌, ◌%◌, ◌^◌, Bool, false, ◌&&◌, List, [], ◌∷◌, map, length, drop, Option, None, Some, MatchOption, slice_get, slice_set, count_by, zip, if◌then◌else◌}
+use Rattle.std.specs.Prelude.{◌≡◌, ◌==◌, ℕ, ◌+◌, ◌%◌, ◌^◌, Bool, false, List, [], ◌∷◌, map, length, drop, Option, None, Some, MatchOption, slice_get, slice_set, count_by, zip, if◌then◌else◌}
 use Rattle.std.specs.List.{list_any}
 use Rattle.rl_rules.specs.declared.evaluation.Evaluation.{Evaluation}
 use Rattle.rl_sinks.specs.SinkState.{SinkState}

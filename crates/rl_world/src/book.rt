@@ -238,10 +238,7 @@ impl<S: Sink> Book<S> {
 }
 
 // The moment at which the shard is to be asked.
-fn asked(
-    opened: &Option<OpenEvaluation<PlainList<Partial>>>,
-    shard: usize,
-) -> Result<Ns, BookFault>
+fn asked(opened: &Option<OpenEvaluation<PlainList<Partial>>>, shard: usize) -> Result<Ns, BookFault>
     requires { IfSome opened.now (λ opened. shard < length opened.gathered) }
     ensures answer { Refuses (asked_fault opened.now shard) result }
     ensures moment { IfOk result (λ t. option_map (λ opened. opened.t) opened.now ≡ Some t) }

@@ -7,11 +7,7 @@ use rl_rules::Evaluation;
 use rl_sinks::Sink;
 
 /// Offers each sink all that it has not taken, and adds the numbers of those that refused.
-pub(crate) fn offer_all<S: Sink>(
-    sinks: &mut [S],
-    evaluations: &[Evaluation],
-    behind: &mut Vec<u64>,
-)
+pub(crate) fn offer_all<S: Sink>(sinks: &mut [S], evaluations: &[Evaluation], behind: &mut Vec<u64>)
     requires few { length evaluations.now < 2 ^ 63 }
     requires prefixes { AllByRecursion (TookPrefix evaluations.now) (map S.state sinks.old) }
     requires room { vec_len behind.old + length sinks.old ≤ vec_capacity behind.old }

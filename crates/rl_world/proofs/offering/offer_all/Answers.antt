@@ -25,11 +25,11 @@ loop-number-preserved g c =
       offered = all_offered-next state evaluations olds nows number c.index-sinks-number.result new (omega arith) (omega arith) so_far.rest so_far.offered c.offer.ensures.offered;
       rest = rest-next state olds nows number new so_far.rest;
       behind = elim c.if-offer.branch [
-        then-offer w ↦ behind-next state evaluations nows number new true before numbers more (omega arith) (cc) so_far.behind (cc)
-      | else-offer w ↦ behind-next state evaluations nows number new false before numbers more (omega arith) (cc) so_far.behind (cc (append-nil numbers))
+        | then-offer w ↦ behind-next state evaluations nows number new true before numbers more (omega arith) (cc) so_far.behind (cc)
+        | else-offer w ↦ behind-next state evaluations nows number new false before numbers more (omega arith) (cc) so_far.behind (cc (append-nil numbers))
       ];
       room = elim c.if-offer.branch [
-        then-offer w ↦ omega (arith, ap vec_len w.behind-is, ap vec_capacity w.behind-is)
-      | else-offer w ↦ omega (arith, ap vec_len w.behind-is, ap vec_capacity w.behind-is)
+        | then-offer w ↦ omega (arith, ap vec_len w.behind-is, ap vec_capacity w.behind-is)
+        | else-offer w ↦ omega (arith, ap vec_len w.behind-is, ap vec_capacity w.behind-is)
       ];
     }

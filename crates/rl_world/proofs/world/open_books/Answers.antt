@@ -17,7 +17,7 @@ loop-group-preserved g c =
     let step = c.in-Some.ensures.steps in
     record {
       books = books-more (λ own. map g.S.Sink.state own.items) c.args.records c.args.shards c.len-slot.result all c.loop-group.books.items c.push.new.self.items c.in-Some.group groups groups_left c.in-Some.own sinks sinks_left c.in_ok-book.book
-        step.0.0 step.1.0 (omega (arith, c.len-slot.ensures, c.loop-group.books.ok.0)) c.in_ok-book.ensures c.in_ok-push.ensures.items c.loop-group.invariant.books;
+          step.0.0 step.1.0 (omega (arith, c.len-slot.ensures, c.loop-group.books.ok.0)) c.in_ok-book.ensures c.in_ok-push.ensures.items c.loop-group.invariant.books;
       fresh = (subst (AllByRecursion (λ own. AllByRecursion IsFresh (map g.S.Sink.state own.items))) step.1.0 c.loop-group.invariant.fresh).1;
     }
 

@@ -13,4 +13,3 @@ returns-in_err-show-in-Collect-clause-few c = seen_few c.args.self.now _ c.self.
 
 pub returns-clause-few : goal.returns-clause-few
 returns-clause-few c = seen_few c.args.self.now _ c.self.inside.held.items c.self.inside.newest.entries c.self.inside.horizon _ c.self.view_is c.self.invariant.0 c.self.invariant.1.0
-

@@ -1,6 +1,5 @@
 -- A shard is asked, and the book keeps what it showed.
-use Rattle.std.proofs.Common.{◌≡◌, None, length, Ok, Err, arith, sym, ap, subst, ◌∙◌}
-use Rattle.std.specs.List.{AllByRecursion}
+use Rattle.std.proofs.Common.{◌≡◌, None, length, Err, arith, sym, ap, subst, ◌∙◌}
 use Rattle.std.proofs.lemmas.Option.{slice_get_read}
 use Rattle.rl_world.specs.BookCalls.{with_history}
 use Rattle.rl_world.specs.History.{gather_fault, gathered}

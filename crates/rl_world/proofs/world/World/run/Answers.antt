@@ -16,7 +16,7 @@ loop-step-preserved g c =
       split = append_assoc loop.yielded (c.in-Some.step ∷ []) c.next.new.self.rest.items ∙ ap (λ rest. loop.yielded ++ rest) (sym next) ∙ kept.split;
       room = omega (arith, kept.room, ap length next, c.push_reserved.ensures.len, c.push_reserved.ensures.capacity);
       so_far = run_next c.args.self.now.shards.items c.args.self.now.books.items c.args.out.now.items loop.yielded loop.self.shards.items loop.self.books.items loop.out.items c.in-Some.step c.answer-reply.result c.answer-reply.new.self.shards.items c.answer-reply.new.self.books.items c.push_reserved.new.self.items
-      kept.so_far c.answer-reply.ensures.step c.answer-reply.ensures.sinks c.push_reserved.ensures.items;
+          kept.so_far c.answer-reply.ensures.step c.answer-reply.ensures.sinks c.push_reserved.ensures.items;
     }
 
 pub returns-clause-one_each : goal.returns-clause-one_each

@@ -1,0 +1,17 @@
+-- Lists of sinks that have taken nothing.
+use Rattle.std.proofs.Common.{List, [], ◌∷◌, ◌++◌, ◌≡◌, map, Vec, Global}
+use Rattle.std.specs.List.{AllByRecursion}
+use Rattle.rl_sinks.specs.SinkState.{SinkState}
+use Rattle.rl_world.specs.BookCalls.{IsFresh}
+
+All-last : {X : Type 0} (P : X → Type 0) (xs : List X) (x : X) → AllByRecursion P xs → P x → AllByRecursion P (xs ++ x ∷ [])
+All-last P [] x all last = (last, tt)
+All-last P (y ∷ ys) x all last = (all.0, All-last P ys x all.1 last)
+
+-- a group more, whose sinks have taken nothing
+pub fresh_more : {B : Type 0} (state : B → SinkState) (all : List (Vec B Global)) (own : Vec B Global) → AllByRecursion (λ own. AllByRecursion IsFresh (map state own.items)) all → AllByRecursion IsFresh (map state own.items) → AllByRecursion (λ own. AllByRecursion IsFresh (map state own.items)) (all ++ own ∷ [])
+fresh_more state all own = All-last (λ own. AllByRecursion IsFresh (map state own.items)) all own
+
+-- a lone sink that has taken nothing
+pub fresh_one : {B : Type 0} (state : B → SinkState) (own : Vec B Global) (sink : B) → own.items ≡ sink ∷ [] → (state sink).count ≡ 0 → (state sink).kept ≡ [] → AllByRecursion IsFresh (map state own.items)
+fresh_one state own sink lone count kept = rw lone (((count, kept), tt))

@@ -1,0 +1,9 @@
+mod Documents
+mod Moments
+mod Walks
+pub mod Answering
+pub mod Cut
+pub mod Gathering
+pub mod Lines
+mod Numbers
+mod FreshSinks

@@ -1,0 +1,6 @@
+pub mod Names
+pub mod Command
+pub mod PushBody
+pub mod PushForms
+pub mod Front
+pub mod Reading

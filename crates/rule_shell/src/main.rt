@@ -1,0 +1,140 @@
+//! The program: rules, a mark and commands from standard input, and what the commands print.
+//!
+//! - `front`: `read_front`, what stands before the mark and behind it. `push`: `read_push`, entries from JSON.
+//! - `command`: `Command`, one line. `session`: `run_commands`.
+//! - `names`: the names of faults and refusals. `output`: standard output for a sink in a box.
+#![tactic(auto)]
+
+mod command;
+mod front;
+mod names;
+mod output;
+mod push;
+mod session;
+
+use clap::Command;
+use clap::error::ErrorKind as OptionsFault;
+use front::{Front, FrontError, FrontFault, read_front};
+use names::front_fault_name;
+use output::Output;
+use rl_labels::{DEFAULT_LIMITS, Limits};
+use rl_sinks::{Recorder, Sink};
+use session::{RunError, Status, run_commands};
+use std::alloc::{AllocError, AllocFailed, Global};
+use std::env;
+use std::io::{BufWriter, ErrorKind};
+use std::process::ExitCode;
+
+#[cfg(test)]
+mod tests;
+#[cfg(test)]
+mod tests_command;
+#[cfg(test)]
+mod tests_push;
+#[cfg(test)]
+mod tests_scripts;
+
+// How many texts of a recorder may wait to be written.
+const RECORDER_CAP: usize = 1_024;
+
+// What ends the program before the commands.
+#[derive(Clone, Copy, Debug, Drop)]
+enum Stop {
+    BadOptions,
+    BadInput(FrontFault),
+    // Reading, writing or memory failed.
+    Failed,
+}
+
+impl From<AllocError> for Stop {
+    fn from(_error: AllocError) -> Self {
+        Stop::Failed
+    }
+}
+
+impl<T: Drop> From<AllocFailed<T>> for Stop {
+    fn from(_error: AllocFailed<T>) -> Self {
+        Stop::Failed
+    }
+}
+
+fn main(rt: HostRuntime) -> ExitCode {
+    match run(&rt) {
+        Ok(Status::Taken) => ExitCode::SUCCESS,
+        Ok(Status::Refused) => ExitCode::from(1),
+        Ok(Status::Unwritten) | Err(Stop::Failed) => ExitCode::from(3),
+        Err(Stop::BadOptions) => {
+            let _ = eprintln!(rt; "rule_shell: bad options");
+            ExitCode::from(2)
+        }
+        Err(Stop::BadInput(fault)) => {
+            let _ = eprintln!(rt; "rule_shell: bad input {}", front_fault_name(fault));
+            ExitCode::from(2)
+        }
+    }
+}
+
+// Reads the options and the input, and runs the commands.
+fn run(rt: &HostRuntime) -> Result<Status, Stop> {
+    read_options(rt)?;
+    let mut reader = rt.reader();
+    match read_front(rt.alloc(), &mut reader) {
+        Ok(front) => run_front(rt, front),
+        Err(FrontError::Fault(FrontFault::ReadFault)) | Err(FrontError::Memory) => {
+            Err(Stop::Failed)
+        }
+        Err(FrontError::Fault(fault)) => Err(Stop::BadInput(fault)),
+    }
+}
+
+// Refuses the options, of which there are none.
+fn read_options(rt: &HostRuntime) -> Result<(), Stop> {
+    let words: Vec<String> = words_of(rt)?;
+    let words = words.as_slice();
+    options_in(rt.alloc(), words)
+}
+
+// The program's name and the words behind it.
+fn words_of(rt: &HostRuntime) -> Result<Vec<String>, Stop> {
+    match env::args(rt) {
+        Ok(words) => Ok(words.collect(rt.alloc())?),
+        Err(error) if error.kind() == ErrorKind::OutOfMemory => Err(Stop::Failed),
+        Err(_error) => Err(Stop::BadOptions),
+    }
+}
+
+fn options_in<'a>(alloc: Global, words: &'a [String]) -> Result<(), Stop> {
+    let command = Command::new(alloc, "rule_shell");
+    match command.try_get_matches_from(words) {
+        Ok(_matches) => Ok(()),
+        Err(error) => Err(stop_of(error.kind())),
+    }
+}
+
+// Why the program stops at a fault of its options.
+fn stop_of(kind: OptionsFault) -> Stop {
+    match kind {
+        OptionsFault::OutOfMemory => Stop::Failed,
+        _ => Stop::BadOptions,
+    }
+}
+
+// Runs the commands, with a recorder for each group.
+fn run_front(rt: &HostRuntime, front: Front) -> Result<Status, Stop> {
+    let alloc = rt.alloc();
+    let Ok(limits) = Limits::check(DEFAULT_LIMITS) else {
+        return Err(Stop::Failed);
+    };
+    let Front { groups, commands } = front;
+    let mut sinks = Vec::with_capacity(alloc, groups.len())?;
+    for _ in 0..groups.len() {
+        let recorder = Recorder::new(alloc, Output::new(*rt), RECORDER_CAP);
+        let boxed: Box<dyn Sink> = Box::new(alloc, recorder)?;
+        sinks.push(vec![in alloc; boxed]?)?;
+    }
+    let mut out = BufWriter::new(alloc, Output::new(*rt)).map_err(|_| Stop::Failed)?;
+    match run_commands(alloc, limits, groups, commands.as_str(), sinks, &mut out) {
+        Ok(status) => Ok(status),
+        Err(RunError::WriteFault) | Err(RunError::Memory) => Err(Stop::Failed),
+    }
+}

@@ -1,0 +1,339 @@
+//! A session: commands in their order over a world of one shard, and what they print.
+ghost use Rattle.std.specs.Prelude.{◌≡◌, length, map};
+ghost use Rattle.std.specs.List.{AllByRecursion};
+ghost use Rattle.rl_world.specs.BookCalls.{IsFresh};
+ghost use Rattle.rule_shell.specs.declared.session.RunError.TheVariants.{WriteFault, Memory};
+
+use crate::command::{Command, is_blank, read_command};
+use crate::names::{push_error_name, push_refusal, refusal_name};
+use crate::push::read_push;
+use rl_labels::{Entry, Limits, Ns};
+use rl_rules::Group;
+use rl_shard::ShardStep;
+use rl_sinks::{Sink, SinkKind, evaluation_text};
+use rl_world::{Book, Committed, Refusal, Reply, Step, World};
+use std::alloc::{AllocError, AllocFailed, Global};
+use std::io;
+use std::io::Write;
+use thiserror::Error;
+
+/// How a session ended.
+#[derive(Clone, Copy, Debug, PartialEq, Eq)]
+pub enum Status {
+    /// Each command was taken whole.
+    Taken,
+    /// A command was refused, wholly or in part.
+    Refused,
+    /// A sink could not write all that it had.
+    Unwritten,
+}
+
+/// Why a session stopped before its end.
+#[derive(Clone, Copy, Debug, Drop, Error, PartialEq, Eq)]
+pub enum RunError {
+    #[error("a write failed")]
+    WriteFault,
+    #[error("out of memory")]
+    Memory,
+}
+
+impl From<io::Error> for RunError {
+    ghost from_gives = { λ _ e. e ≡ WriteFault };
+
+    fn from(_error: io::Error) -> Self {
+        RunError::WriteFault
+    }
+}
+
+impl From<AllocError> for RunError {
+    ghost from_gives = { λ _ e. e ≡ Memory };
+
+    fn from(_error: AllocError) -> Self {
+        RunError::Memory
+    }
+}
+
+impl<T: Drop> From<AllocFailed<T>> for RunError {
+    ghost from_gives = { λ _ e. e ≡ Memory };
+
+    fn from(_error: AllocFailed<T>) -> Self {
+        RunError::Memory
+    }
+}
+
+// What became of a command.
+#[derive(Clone, Copy, Debug, PartialEq, Eq)]
+enum Answer {
+    Taken,
+    // Wholly or in part.
+    Refused,
+    Ended,
+}
+
+// A world of one shard, and how many groups it has.
+#[derive(Drop)]
+struct Session<S: Sink> {
+    alloc: Global,
+    world: World<S>,
+    groups: usize,
+}
+
+/// Carries out the commands of a text over empty shards and sinks that have taken nothing, and writes what they print.
+/// At `end`, or at the end of the text, it closes the sinks.
+pub fn run_commands<S: Sink, W: Write>(
+    alloc: Global,
+    limits: Limits,
+    groups: Vec<Group>,
+    commands: &str,
+    sinks: Vec<Vec<S>>,
+    out: &mut W,
+) -> Result<Status, RunError>
+    requires lists { length sinks.items ≡ length groups.items }
+    requires fresh { AllByRecursion (λ own. AllByRecursion IsFresh (map S.state own.items)) sinks.items }
+{
+    let mut session = Session {
+        alloc,
+        groups: groups.len(),
+        world: World::open(alloc, limits, 1, groups, sinks)?,
+    };
+    let answer = answer_lines(&mut session, commands, out);
+    // Also a session that stopped early writes what its sinks have taken.
+    let failed = session.world.close_sinks();
+    let answer = answer?;
+    out.write_all(b"closed\n")?;
+    out.flush()?;
+    Ok(status_of(answer, failed))
+}
+
+fn status_of(answer: Answer, failed: u64) -> Status {
+    match answer {
+        _ if failed > 0 => Status::Unwritten,
+        Answer::Refused => Status::Refused,
+        Answer::Taken | Answer::Ended => Status::Taken,
+    }
+}
+
+// Answers each line in order up to `end`. Refused if one is.
+fn answer_lines<S: Sink, W: Write>(
+    session: &mut Session<S>,
+    commands: &str,
+    out: &mut W,
+) -> Result<Answer, RunError> {
+    let mut all = Answer::Taken;
+    for line in commands.split('\n') {
+        if is_blank(line) {
+            continue;
+        }
+        match session.answer(line, out)? {
+            Answer::Taken => {}
+            Answer::Refused => all = Answer::Refused,
+            Answer::Ended => break,
+        }
+        out.flush()?;
+    }
+    Ok(all)
+}
+
+impl<S: Sink> Session<S> {
+    // Carries out the command of a line.
+    fn answer<W: Write>(&mut self, line: &str, out: &mut W) -> Result<Answer, RunError> {
+        match read_command(line) {
+            Some(command) => self.obey(command, out),
+            None => refuse(out, "BadCommand"),
+        }
+    }
+
+    fn obey<W: Write>(&mut self, command: Command<'_>, out: &mut W) -> Result<Answer, RunError> {
+        match command {
+            Command::Push(json) => self.push(json, out),
+            Command::Eval { t, group } => self.eval(t, group, out),
+            Command::Show { sink, group } => self.show(sink, group, out),
+            Command::End => Ok(Answer::Ended),
+        }
+    }
+
+    // Hands the entries of a push body to the shard, in their order.
+    fn push<W: Write>(&mut self, json: &str, out: &mut W) -> Result<Answer, RunError> {
+        let entries = match read_push(self.alloc, json.as_bytes()) {
+            Ok(entries) => entries,
+            Err(error) => {
+                writeln!(out, "refused BadPush {}", push_error_name(error))?;
+                return Ok(Answer::Refused);
+            }
+        };
+        let count = entries.len();
+        match self.push_all(entries) {
+            Ok(replies) => tell_pushed(&replies, out),
+            Err(AllocError) => tell_none_pushed(count, out),
+        }
+    }
+
+    // What the world replied to each entry. With no room for all replies it takes none.
+    fn push_all(&mut self, entries: Vec<Entry>) -> Result<Vec<Reply>, AllocError> {
+        let mut steps = Vec::with_capacity(self.alloc, entries.len())?;
+        for entry in entries {
+            let step = ShardStep::Push(entry);
+            steps.push(Step::Shard { number: 0, step })?;
+        }
+        let mut replies = Vec::new(self.alloc);
+        self.world.run(steps, &mut replies)?;
+        Ok(replies)
+    }
+
+    // Evaluates a group at a moment.
+    fn eval<W: Write>(&mut self, t: Ns, group: &str, out: &mut W) -> Result<Answer, RunError> {
+        let Some(number) = self.group_number(group) else {
+            return refuse(out, "BadCommand");
+        };
+        match self.evaluate(number, t) {
+            Ok(committed) => tell_committed(self.alloc, &committed, out),
+            Err(refusal) => refuse(out, refusal_name(refusal)),
+        }
+    }
+
+    // An evaluation of a group, or the first refusal, which leaves no evaluation open.
+    fn evaluate(&mut self, group: usize, t: Ns) -> Result<Committed, Refusal> {
+        match self.run_evaluation(group, t) {
+            Ok(replies) => committed_of(replies),
+            Err(AllocError) => Err(Refusal::Memory),
+        }
+    }
+
+    // Begin, Gather and Commit, and Abandon where one of the last two is refused. Room for all comes first.
+    fn run_evaluation(&mut self, group: usize, t: Ns) -> Result<Vec<Reply>, AllocError> {
+        let gather = Step::Gather { group, number: 0 };
+        let commit = Step::Commit { group };
+        let steps = vec![in self.alloc; Step::Begin { group, t }, gather, commit]?;
+        let abandon = vec![in self.alloc; Step::Abandon { group }]?;
+        let mut replies = Vec::with_capacity(self.alloc, 4)?;
+        self.world.run(steps, &mut replies)?;
+        if is_left_open(&replies) {
+            self.world.run(abandon, &mut replies)?;
+        }
+        Ok(replies)
+    }
+
+    // Shows what a sink of a group keeps.
+    fn show<W: Write>(
+        &mut self,
+        sink: usize,
+        group: &str,
+        out: &mut W,
+    ) -> Result<Answer, RunError> {
+        match self.book_of(group) {
+            Some(book) => tell_kept(book, sink, out),
+            None => refuse(out, "BadCommand"),
+        }
+    }
+
+    // The number of the group with the name, if there is one.
+    fn group_number(&self, name: &str) -> Option<usize> {
+        for number in 0..self.groups {
+            if let Some(book) = self.world.book(number) {
+                if book.group().name.as_str() == name {
+                    return Some(number);
+                }
+            }
+        }
+        None
+    }
+
+    fn book_of(&self, name: &str) -> Option<&Book<S>> {
+        self.world.book(self.group_number(name)?)
+    }
+}
+
+// Whether an evaluation was begun and not committed.
+fn is_left_open(replies: &[Reply]) -> bool {
+    matches!(replies.first(), Some(Reply::Begun))
+        && !matches!(replies.last(), Some(Reply::Committed(_)))
+}
+
+// The evaluation that was committed, or the first refusal.
+fn committed_of(replies: Vec<Reply>) -> Result<Committed, Refusal> {
+    for reply in replies {
+        match reply {
+            Reply::Committed(committed) => return Ok(committed),
+            Reply::Refused(refusal) => return Err(refusal),
+            _ => {}
+        }
+    }
+    Err(Refusal::NoSuch)
+}
+
+fn refuse<W: Write>(out: &mut W, name: &str) -> Result<Answer, RunError> {
+    writeln!(out, "refused {name}")?;
+    Ok(Answer::Refused)
+}
+
+// Tells how many entries were accepted, and of the others each with its number and its refusal.
+fn tell_pushed<W: Write>(replies: &[Reply], out: &mut W) -> Result<Answer, RunError> {
+    let accepted = replies.iter().filter(|reply| is_taken(reply)).count();
+    let refused = replies.iter().filter(|reply| !is_taken(reply)).count();
+    if refused == 0 {
+        writeln!(out, "accepted {accepted}")?;
+        return Ok(Answer::Taken);
+    }
+    writeln!(out, "accepted {accepted} refused {refused}")?;
+    for (number, reply) in replies.iter().enumerate() {
+        if let Some(name) = push_refusal(reply) {
+            writeln!(out, "  {number} {name}")?;
+        }
+    }
+    Ok(Answer::Refused)
+}
+
+fn is_taken(reply: &Reply) -> bool {
+    push_refusal(reply).is_none()
+}
+
+// Tells that there was no memory for any of so many entries.
+fn tell_none_pushed<W: Write>(count: usize, out: &mut W) -> Result<Answer, RunError> {
+    writeln!(out, "accepted 0 refused {count}")?;
+    for number in 0..count {
+        writeln!(out, "  {number} Memory")?;
+    }
+    Ok(Answer::Refused)
+}
+
+// Tells what an evaluation found, and which sinks are behind.
+fn tell_committed<W: Write>(
+    alloc: Global,
+    committed: &Committed,
+    out: &mut W,
+) -> Result<Answer, RunError> {
+    let text = evaluation_text(alloc, SinkKind::Tail, &committed.evaluation)?;
+    out.write_all(text.as_bytes())?;
+    tell_behind(committed.behind.as_slice(), out)?;
+    Ok(Answer::Taken)
+}
+
+fn tell_behind<W: Write>(behind: &[u64], out: &mut W) -> io::Result<()> {
+    if behind.is_empty() {
+        return Ok(());
+    }
+    out.write_all(b"behind")?;
+    for sink in behind {
+        write!(out, " {sink}")?;
+    }
+    out.write_all(b"\n")
+}
+
+// Tells how many texts a sink has taken, and those that it keeps.
+fn tell_kept<S: Sink, W: Write>(
+    book: &Book<S>,
+    sink: usize,
+    out: &mut W,
+) -> Result<Answer, RunError> {
+    let Some(count) = book.sink_count(sink) else {
+        return refuse(out, "BadCommand");
+    };
+    writeln!(out, "count {count}")?;
+    for index in 0..count {
+        let Some(text) = book.sink_text(sink, index) else {
+            break;
+        };
+        out.write_all(text.as_bytes())?;
+    }
+    Ok(Answer::Taken)
+}
