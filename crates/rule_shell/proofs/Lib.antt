@@ -7,3 +7,4 @@ pub mod Gathering
 pub mod Lines
 mod Numbers
 mod FreshSinks
+mod Growing

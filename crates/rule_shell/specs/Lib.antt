@@ -1,5 +1,6 @@
 pub mod Names
 pub mod Command
+pub mod Printed
 pub mod PushBody
 pub mod PushForms
 pub mod Front

@@ -1,7 +1,10 @@
 //! A session: commands in their order over a world of one shard, and what they print.
-ghost use Rattle.std.specs.Prelude.{◌≡◌, length, map};
+ghost use Rattle.std.specs.Prelude.{◌≡◌, ◌≢◌, ◌<◌, length, map, codes, None, Some, Ok, OnOk, IfOk};
 ghost use Rattle.std.specs.List.{AllByRecursion};
 ghost use Rattle.rl_world.specs.BookCalls.{IsFresh};
+ghost use Rattle.std.specs.Io.KnownBytes.{Appends};
+ghost use Rattle.rule_shell.specs.Command.{asked, command_of, ends};
+ghost use Rattle.rule_shell.specs.Printed.{Grows, GrowsTo, refusal_line};
 ghost use Rattle.rule_shell.specs.declared.session.RunError.TheVariants.{WriteFault, Memory};
 
 use crate::command::{Command, is_blank, read_command};
@@ -90,6 +93,7 @@ pub fn run_commands<S: Sink, W: Write>(
 ) -> Result<Status, RunError>
     requires lists { length sinks.items ≡ length groups.items }
     requires fresh { AllByRecursion (λ own. AllByRecursion IsFresh (map S.state own.items)) sinks.items }
+    ensures { OnOk result (GrowsTo (codes "closed\n") (W.contents out.old) (W.contents out.new)) }
 {
     let mut session = Session {
         alloc,
@@ -105,7 +109,11 @@ pub fn run_commands<S: Sink, W: Write>(
     Ok(status_of(answer, failed))
 }
 
-fn status_of(answer: Answer, failed: u64) -> Status {
+fn status_of(answer: Answer, failed: u64) -> Status
+    ensures unwritten { 0 < failed → result ≡ Status.Unwritten }
+    ensures refused { failed ≡ 0 → answer ≡ Answer.Refused → result ≡ Status.Refused }
+    ensures taken { failed ≡ 0 → answer ≢ Answer.Refused → result ≡ Status.Taken }
+{
     match answer {
         _ if failed > 0 => Status::Unwritten,
         Answer::Refused => Status::Refused,
@@ -118,7 +126,9 @@ fn answer_lines<S: Sink, W: Write>(
     session: &mut Session<S>,
     commands: &str,
     out: &mut W,
-) -> Result<Answer, RunError> {
+) -> Result<Answer, RunError>
+    ensures { OnOk result (Grows (W.contents out.old) (W.contents out.new)) }
+{
     let mut all = Answer::Taken;
     for line in commands.split('\n') {
         if is_blank(line) {
@@ -136,14 +146,22 @@ fn answer_lines<S: Sink, W: Write>(
 
 impl<S: Sink> Session<S> {
     // Carries out the command of a line.
-    fn answer<W: Write>(&mut self, line: &str, out: &mut W) -> Result<Answer, RunError> {
+    fn answer<W: Write>(&mut self, line: &str, out: &mut W) -> Result<Answer, RunError>
+        ensures grows { OnOk result (Grows (W.contents out.old) (W.contents out.new)) }
+        ensures no_command { command_of line.now ≡ None → OnOk result (Appends (W.contents out.old) (W.contents out.new) (refusal_line (codes "BadCommand"))) }
+        ensures refused { command_of line.now ≡ None → IfOk result (λ answer. answer ≡ Answer.Refused) }
+        ensures end { command_of line.now ≡ Some ends → result ≡ Ok Answer.Ended }
+    {
         match read_command(line) {
             Some(command) => self.obey(command, out),
             None => refuse(out, "BadCommand"),
         }
     }
 
-    fn obey<W: Write>(&mut self, command: Command<'_>, out: &mut W) -> Result<Answer, RunError> {
+    fn obey<W: Write>(&mut self, command: Command<'_>, out: &mut W) -> Result<Answer, RunError>
+        ensures grows { OnOk result (Grows (W.contents out.old) (W.contents out.new)) }
+        ensures end { asked command.entry ≡ ends → result ≡ Ok Answer.Ended }
+    {
         match command {
             Command::Push(json) => self.push(json, out),
             Command::Eval { t, group } => self.eval(t, group, out),
@@ -153,7 +171,9 @@ impl<S: Sink> Session<S> {
     }
 
     // Hands the entries of a push body to the shard, in their order.
-    fn push<W: Write>(&mut self, json: &str, out: &mut W) -> Result<Answer, RunError> {
+    fn push<W: Write>(&mut self, json: &str, out: &mut W) -> Result<Answer, RunError>
+        ensures { OnOk result (Grows (W.contents out.old) (W.contents out.new)) }
+    {
         let entries = match read_push(self.alloc, json.as_bytes()) {
             Ok(entries) => entries,
             Err(error) => {
@@ -181,7 +201,9 @@ impl<S: Sink> Session<S> {
     }
 
     // Evaluates a group at a moment.
-    fn eval<W: Write>(&mut self, t: Ns, group: &str, out: &mut W) -> Result<Answer, RunError> {
+    fn eval<W: Write>(&mut self, t: Ns, group: &str, out: &mut W) -> Result<Answer, RunError>
+        ensures { OnOk result (Grows (W.contents out.old) (W.contents out.new)) }
+    {
         let Some(number) = self.group_number(group) else {
             return refuse(out, "BadCommand");
         };
@@ -214,12 +236,9 @@ impl<S: Sink> Session<S> {
     }
 
     // Shows what a sink of a group keeps.
-    fn show<W: Write>(
-        &mut self,
-        sink: usize,
-        group: &str,
-        out: &mut W,
-    ) -> Result<Answer, RunError> {
+    fn show<W: Write>(&mut self, sink: usize, group: &str, out: &mut W) -> Result<Answer, RunError>
+        ensures { OnOk result (Grows (W.contents out.old) (W.contents out.new)) }
+    {
         match self.book_of(group) {
             Some(book) => tell_kept(book, sink, out),
             None => refuse(out, "BadCommand"),
@@ -261,13 +280,18 @@ fn committed_of(replies: Vec<Reply>) -> Result<Committed, Refusal> {
     Err(Refusal::NoSuch)
 }
 
-fn refuse<W: Write>(out: &mut W, name: &str) -> Result<Answer, RunError> {
+fn refuse<W: Write>(out: &mut W, name: &str) -> Result<Answer, RunError>
+    ensures line { OnOk result (Appends (W.contents out.old) (W.contents out.new) (refusal_line name.now)) }
+    ensures answer { IfOk result (λ answer. answer ≡ Answer.Refused) }
+{
     writeln!(out, "refused {name}")?;
     Ok(Answer::Refused)
 }
 
 // Tells how many entries were accepted, and of the others each with its number and its refusal.
-fn tell_pushed<W: Write>(replies: &[Reply], out: &mut W) -> Result<Answer, RunError> {
+fn tell_pushed<W: Write>(replies: &[Reply], out: &mut W) -> Result<Answer, RunError>
+    ensures { OnOk result (Grows (W.contents out.old) (W.contents out.new)) }
+{
     let accepted = replies.iter().filter(|reply| is_taken(reply)).count();
     let refused = replies.iter().filter(|reply| !is_taken(reply)).count();
     if refused == 0 {
@@ -276,11 +300,18 @@ fn tell_pushed<W: Write>(replies: &[Reply], out: &mut W) -> Result<Answer, RunEr
     }
     writeln!(out, "accepted {accepted} refused {refused}")?;
     for (number, reply) in replies.iter().enumerate() {
-        if let Some(name) = push_refusal(reply) {
-            writeln!(out, "  {number} {name}")?;
-        }
+        tell_refusal(number, reply, out)?;
     }
     Ok(Answer::Refused)
+}
+
+fn tell_refusal<W: Write>(number: usize, reply: &Reply, out: &mut W) -> io::Result<()>
+    ensures { OnOk result (Grows (W.contents out.old) (W.contents out.new)) }
+{
+    if let Some(name) = push_refusal(reply) {
+        writeln!(out, "  {number} {name}")?;
+    }
+    Ok(())
 }
 
 fn is_taken(reply: &Reply) -> bool {
@@ -288,7 +319,9 @@ fn is_taken(reply: &Reply) -> bool {
 }
 
 // Tells that there was no memory for any of so many entries.
-fn tell_none_pushed<W: Write>(count: usize, out: &mut W) -> Result<Answer, RunError> {
+fn tell_none_pushed<W: Write>(count: usize, out: &mut W) -> Result<Answer, RunError>
+    ensures { OnOk result (Grows (W.contents out.old) (W.contents out.new)) }
+{
     writeln!(out, "accepted 0 refused {count}")?;
     for number in 0..count {
         writeln!(out, "  {number} Memory")?;
@@ -301,14 +334,18 @@ fn tell_committed<W: Write>(
     alloc: Global,
     committed: &Committed,
     out: &mut W,
-) -> Result<Answer, RunError> {
+) -> Result<Answer, RunError>
+    ensures { OnOk result (Grows (W.contents out.old) (W.contents out.new)) }
+{
     let text = evaluation_text(alloc, SinkKind::Tail, &committed.evaluation)?;
     out.write_all(text.as_bytes())?;
     tell_behind(committed.behind.as_slice(), out)?;
     Ok(Answer::Taken)
 }
 
-fn tell_behind<W: Write>(behind: &[u64], out: &mut W) -> io::Result<()> {
+fn tell_behind<W: Write>(behind: &[u64], out: &mut W) -> io::Result<()>
+    ensures { OnOk result (Grows (W.contents out.old) (W.contents out.new)) }
+{
     if behind.is_empty() {
         return Ok(());
     }
@@ -316,7 +353,8 @@ fn tell_behind<W: Write>(behind: &[u64], out: &mut W) -> io::Result<()> {
     for sink in behind {
         write!(out, " {sink}")?;
     }
-    out.write_all(b"\n")
+    out.write_all(b"\n")?;
+    Ok(())
 }
 
 // Tells how many texts a sink has taken, and those that it keeps.
@@ -324,7 +362,9 @@ fn tell_kept<S: Sink, W: Write>(
     book: &Book<S>,
     sink: usize,
     out: &mut W,
-) -> Result<Answer, RunError> {
+) -> Result<Answer, RunError>
+    ensures { OnOk result (Grows (W.contents out.old) (W.contents out.new)) }
+{
     let Some(count) = book.sink_count(sink) else {
         return refuse(out, "BadCommand");
     };
