@@ -1,5 +1,5 @@
 -- What a commit makes of a book's sinks.
-use Rattle.std.proofs.Common.{◌≡◌, ℕ, Bool, List, [], ◌∷◌, ◌++◌, map, length, take, Option, None, Some, IfSome, Result, Ok, Err, OnOk, OnErr, option_map, slice_get, slice_set, refl, sym, ap, subst, ◌∙◌, arith, length-append}
+use Rattle.std.proofs.Common.{◌≡◌, ℕ, suc, Bool, List, [], ◌∷◌, ◌++◌, map, length, take, Option, None, Some, IfSome, Result, Ok, Err, OnOk, OnErr, option_map, slice_get, slice_set, refl, sym, ap, subst, ◌∙◌, arith, length-append}
 use Rattle.std.specs.List.{AllByRecursion}
 use Rattle.std.proofs.lemmas.List.{take-append-le}
 use Rattle.rl_rules.specs.declared.evaluation.Evaluation.{Evaluation}
@@ -34,6 +34,25 @@ took_more evaluations evaluation sink took = (
 pub each_took_more : (evaluations : List Evaluation) (evaluation : Evaluation) (sinks : List SinkState) → AllByRecursion (TookPrefix evaluations) sinks → AllByRecursion (TookPrefix (evaluations ++ evaluation ∷ [])) sinks
 each_took_more evaluations evaluation [] took = tt
 each_took_more evaluations evaluation (sink ∷ sinks) took = (took_more evaluations evaluation sink took.0, each_took_more evaluations evaluation sinks took.1)
+
+-- what was committed is one more than before
+pub one_more : (evaluations now : List Evaluation) (evaluation : Evaluation) → now ≡ evaluations ++ evaluation ∷ [] → length now ≡ suc (length evaluations)
+one_more evaluations now evaluation is = omega (arith, ap length {x = now} {y = evaluations ++ evaluation ∷ []} is, length-append evaluations (evaluation ∷ []))
+
+-- of what is not there anything holds
+pub holds_of_none : {X : Type 0} (P : X → Type 0) (slot : Option X) → slot ≡ None → IfSome slot P
+holds_of_none P None none = tt
+holds_of_none P (Some x) none = absurd (some_none x none)
+  where
+    some_none : {X : Type 0} (x : X) → Some x ≡ None → ⊥
+    some_none x h = cc
+
+-- what took prefixes before one more was committed takes prefixes of all
+pub each_took_now : (evaluations now : List Evaluation) (evaluation : Evaluation) (sinks same : List SinkState) → now ≡ evaluations ++ evaluation ∷ [] → same ≡ sinks → AllByRecursion (TookPrefix evaluations) sinks → AllByRecursion (TookPrefix now) same
+each_took_now evaluations now evaluation sinks same is listed took =
+    let more = each_took_more evaluations evaluation sinks took in
+    let known = subst (λ all. AllByRecursion (TookPrefix all) sinks) {x = evaluations ++ evaluation ∷ []} {y = now} (sym is) more in
+    subst (AllByRecursion (TookPrefix now)) {x = sinks} {y = same} (sym listed) known
 
 -- a sink that was offered what it had not taken has taken a prefix
 took_offered : (evaluations : List Evaluation) (old new : SinkState) → Offered evaluations old new → TookPrefix evaluations new

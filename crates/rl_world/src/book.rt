@@ -154,21 +154,34 @@ impl<S: Sink> Book<S> {
         ensures err { OnErr result (self.new ≡ self.old) }
     {
         let number = self.evaluations.len() as u64;
-        let opened = match complete(&self.opened, number >= self.records) {
-            Ok(opened) => opened,
-            Err(fault) => return Err(BookError::Fault(fault)),
-        };
-        let evaluation = evaluate(self.alloc, &self.group, self.terms.len(), opened)?;
-        let told = evaluation.try_copy()?;
+        let (evaluation, told) = self.evaluated()?;
         let mut behind = Vec::with_capacity(self.alloc, self.sinks.len())?;
         self.evaluations.push(evaluation)?;
-        self.opened = None;
+        close(&mut self.opened);
         offer_all(&mut self.sinks, &self.evaluations, &mut behind);
         Ok(Committed {
             number,
             evaluation: told,
             behind: PlainList::from_vec(behind),
         })
+    }
+
+    // The evaluation that a commit adds, and its copy for the caller.
+    fn evaluated(&self) -> Result<(Evaluation, Evaluation), BookError>
+        ensures answer { Answers (commit_fault self.now.history) result }
+        ensures room { OnOk result (length self.now.history.evaluations < self.now.history.records) }
+        ensures evaluation { IfOk result (λ both. IfSome self.now.history.opened (λ opened. both.0 ≡ evaluation_from self.now.history.group opened)) }
+        ensures from_scratch { IfOk result (λ both. (shown : OpenEvaluation (List Entry)) → self.now.history.opened ≡ Some (kept_open (group_terms self.now.history.group) shown) → both.0 ≡ evaluation_of self.now.history.group shown) }
+        ensures copy { IfOk result (λ both. both.1 ≡ both.0) }
+    {
+        let full = self.evaluations.len() as u64 >= self.records;
+        let opened = match complete(&self.opened, full) {
+            Ok(opened) => opened,
+            Err(fault) => return Err(BookError::Fault(fault)),
+        };
+        let evaluation = evaluate(self.alloc, &self.group, self.terms.len(), opened)?;
+        let told = evaluation.try_copy()?;
+        Ok((evaluation, told))
     }
 
     /// Closes the open evaluation, of which nothing is left.
@@ -293,6 +306,13 @@ fn put(
     if let Some(opened) = opened {
         opened.gathered.set(shard, Some(answer));
     }
+}
+
+// Nothing is open afterwards.
+fn close(opened: &mut Option<OpenEvaluation<PlainList<Partial>>>)
+    ensures { opened.new ≡ None }
+{
+    *opened = None;
 }
 
 // A slot for each shard, none of which was asked.
