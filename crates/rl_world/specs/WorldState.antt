@@ -27,6 +27,11 @@ pub record BookState : Type 0 where
   pub slot : ℕ
   pub sinks : List SinkState
 
+-- a world as it is seen: its shards, and the book of each group
+pub record WorldBooks : Type 0 where
+  pub shards : List Journalled
+  pub books : List BookState
+
 -- the world that shards and books make up
 abbrev pub world_of : List Journalled → List BookState → WorldState (List Partial)
 world_of shards books = record { shards = shards; histories = map (λ book. book.history) books }

@@ -14,6 +14,7 @@ mod evaluating;
 pub mod fault;
 mod offering;
 pub mod opened;
+mod parts;
 pub mod step;
 mod turns;
 pub mod world;

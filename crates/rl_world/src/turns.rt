@@ -12,8 +12,8 @@ ghost use Rattle.rl_world.specs.WorldStep.{WorldStep, partials, told_of_shard, t
 ghost use Rattle.rl_world.specs.declared.step.Step.TheVariants as steps;
 
 use crate::fault::{BookError, Refusal};
+use crate::parts::WorldParts;
 use crate::step::Reply;
-use crate::world::World;
 use rl_aggregate::Partial;
 use rl_labels::Ns;
 use rl_plain::{PlainList, TryCopy};
@@ -21,7 +21,7 @@ use rl_query::Term;
 use rl_shard::{Shard, ShardFault, ShardReply, ShardStep};
 use rl_sinks::Sink;
 
-impl<S: Sink> World<S> {
+impl<S: Sink> WorldParts<S> {
     // A shard decides a step.
     pub(crate) fn shard(&mut self, number: usize, step: ShardStep) -> Reply
         ensures step { WorldStep partials (world_of self.old.shards.items self.old.books.items) (steps.Shard number step) result (world_of self.new.shards.items self.new.books.items) }

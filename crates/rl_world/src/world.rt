@@ -2,34 +2,48 @@
 ghost use Rattle.std.specs.Prelude.{◌≡◌, ◌≤◌, ◌++◌, ℕ, List, map, length, replicate, slice_get, IfOk, OnOk, OnErr};
 ghost use Rattle.std.specs.List.{AllByRecursion};
 ghost use Rattle.std.specs.Option.{option_copied};
-ghost use Rattle.std.proofs.Props.{props};
-ghost use Rattle.rl_world.specs.WorldState.{IsBookOf, with_sinks_closed};
+ghost use Rattle.rl_world.specs.WorldState.{with_sinks_closed};
 ghost use Rattle.rl_world.specs.BookCalls.{books_from, IsFresh};
 ghost use Rattle.rl_world.specs.Slots.{most_shards};
 ghost use Rattle.rl_shard.specs.ShardState.{empty_shard};
 
 use crate::book::Book;
+use crate::parts::WorldParts;
 use crate::step::{Reply, Step};
 use rl_labels::Limits;
 use rl_rules::Group;
 use rl_shard::Shard;
 use rl_sinks::Sink;
 use std::alloc::{AllocError, Global};
+use std::marker::Model;
 
-/// Shards, and a book for each rule group. The numbers of both are counted from 0.
+/// Shards, and a book for each rule group. The numbers of both are counted from 0. Contracts see a `WorldBooks`.
 #[derive(Drop)]
 pub struct World<S: Sink> {
-    pub(crate) shards: Vec<Shard>,
-    pub(crate) books: Vec<Book<S>>,
-    ghost books_fit: { AllByRecursion (IsBookOf (length shards.items)) books.items } by { Prim.hlevel props },
+    parts: WorldParts<S>,
+}
+
+impl<S: Sink> Model for World<S> {
+    ghost use Rattle.rl_world.specs.WorldState.{WorldBooks};
+
+    ghost Value = { WorldBooks };
+
+    ghost use Rattle.std.specs.Coded.{codes};
+    ghost use Rattle.rl_labels.specs.LabelSet.{label_set_code};
+    ghost use Rattle.rl_aggregate.specs.contracts.totals.Totals as totals_type;
+    ghost use Rattle.rl_shard.specs.contracts.shard.Shard as shard_type;
+
+    ghost coded = { Prim.hlevel (codes, label_set_code, totals_type.the_row.coded, shard_type.the_row.coded) };
+
+    ghost view = { λ a. record { shards = a.parts.shards.items; books = a.parts.books.items } };
 }
 
 impl<S: Sink> World<S> {
     ghost use Rattle.rl_labels.specs.declared.entry.Entry.{Entry};
     ghost use Rattle.rl_world.specs.Offering.{TookPrefix};
-    ghost use Rattle.rl_world.specs.WorldRun.{SinkStep, SinksFollow, gained};
+    ghost use Rattle.rl_world.specs.WorldRun.{SinksFollow, gained};
     ghost use Rattle.rl_world.specs.WorldState.{WorldState, world_of, Stands};
-    ghost use Rattle.rl_world.specs.WorldStep.{WorldStep, Replay, lists, partials};
+    ghost use Rattle.rl_world.specs.WorldStep.{Replay, lists};
 
     /// A world with so many empty shards, and a book for each group with its sinks. The sinks have taken nothing.
     pub fn open(
@@ -42,58 +56,46 @@ impl<S: Sink> World<S> {
         requires shards { shards ≤ most_shards }
         requires lists { length sinks.items ≡ length groups.items }
         requires fresh { AllByRecursion (λ own. AllByRecursion IsFresh (map S.state own.items)) sinks.items }
-        ensures shards { IfOk result (λ world. world.shards.items ≡ replicate shards (record { limits = limits; state = empty_shard; records = 0 })) }
-        ensures books { IfOk result (λ world. world.books.items ≡ books_from 0 limits.records shards groups.items (map (λ own. map S.state own.items) sinks.items)) }
+        ensures shards { IfOk result (λ world. world.shards ≡ replicate shards (record { limits = limits; state = empty_shard; records = 0 })) }
+        ensures books { IfOk result (λ world. world.books ≡ books_from 0 limits.records shards groups.items (map (λ own. map S.state own.items) sinks.items)) }
     {
         let books = open_books(alloc, limits.records, shards, groups, sinks)?;
         let shards = open_shards(alloc, limits, shards)?;
-        Ok(World { shards, books })
+        Ok(World {
+            parts: WorldParts { shards, books },
+        })
     }
 
     /// Answers each step in order, with one reply at the end of `out`. With no room for all replies it does nothing.
     pub fn run(&mut self, steps: Vec<Step>, out: &mut Vec<Reply>) -> Result<(), AllocError>
-        ensures memory { OnErr result ((self.new.shards.items ≡ self.old.shards.items) × ((self.new.books.items ≡ self.old.books.items) × (out.new.items ≡ out.old.items))) }
+        ensures memory { OnErr result ((self.new ≡ self.old) × (out.new.items ≡ out.old.items)) }
         ensures replies { OnOk result (out.new.items ≡ out.old.items ++ gained out.old.items out.new.items) }
         ensures one_each { OnOk result (length (gained out.old.items out.new.items) ≡ length steps.items) }
-        ensures replay { OnOk result ((before : WorldState (List Entry)) → Stands (world_of self.old.shards.items self.old.books.items) before → (after : WorldState (List Entry)) × Stands (world_of self.new.shards.items self.new.books.items) after × Replay lists before steps.items (gained out.old.items out.new.items) after) }
-        ensures prefixes { AllByRecursion (λ book. AllByRecursion (TookPrefix book.history.evaluations) book.sinks) self.new.books.items }
-        ensures sinks { OnOk result (SinksFollow self.old.books.items steps.items (gained out.old.items out.new.items) self.new.books.items) }
+        ensures replay { OnOk result ((before : WorldState (List Entry)) → Stands (world_of self.old.shards self.old.books) before → (after : WorldState (List Entry)) × Stands (world_of self.new.shards self.new.books) after × Replay lists before steps.items (gained out.old.items out.new.items) after) }
+        ensures prefixes { AllByRecursion (λ book. AllByRecursion (TookPrefix book.history.evaluations) book.sinks) self.new.books }
+        ensures sinks { OnOk result (SinksFollow self.old.books steps.items (gained out.old.items out.new.items) self.new.books) }
     {
+        let parts = &mut self.parts;
         out.reserve(steps.len())?;
         for step in steps {
-            let reply = self.answer(step);
+            let reply = parts.answer(step);
             out.push_reserved(reply);
         }
         Ok(())
     }
 
-    // Answers one step.
-    fn answer(&mut self, step: Step) -> Reply
-        ensures step { WorldStep partials (world_of self.old.shards.items self.old.books.items) step result (world_of self.new.shards.items self.new.books.items) }
-        ensures sinks { SinkStep self.old.books.items step result self.new.books.items }
-    {
-        match step {
-            Step::Shard { number, step } => self.shard(number, step),
-            Step::Begin { group, t } => self.begin(group, t),
-            Step::Gather { group, number } => self.gather(group, number),
-            Step::Commit { group } => self.commit(group),
-            Step::Abandon { group } => self.abandon(group),
-        }
-    }
-
     /// The book of a group by its number.
     pub fn book(&self, group: usize) -> Option<&Book<S>>
-        ensures { option_copied result ≡ slice_get self.now.books.items group }
+        ensures { option_copied result ≡ slice_get self.now.books group }
     {
-        self.books.get(group)
+        self.parts.books.get(group)
     }
 
     /// Closes the sinks of each group in order. How many could not write all.
     pub fn close_sinks(&mut self) -> u64
-        ensures shards { self.new.shards.items ≡ self.old.shards.items }
-        ensures books { self.new.books.items ≡ map with_sinks_closed self.old.books.items }
+        ensures { self.new ≡ record { shards = self.old.shards; books = map with_sinks_closed self.old.books } }
     {
-        close_books(&mut self.books)
+        self.parts.close_sinks()
     }
 }
 
@@ -129,15 +131,4 @@ fn open_books<S: Sink>(
         books.push(book)?;
     }
     Ok(books)
-}
-
-// Closes the sinks of each book in order. How many could not write all.
-fn close_books<S: Sink>(books: &mut [Book<S>]) -> u64
-    ensures { books.new ≡ map with_sinks_closed books.old }
-{
-    let mut failed = 0u64;
-    for number in 0..books.len() {
-        failed = failed.saturating_add(books[number].close_sinks());
-    }
-    failed
 }

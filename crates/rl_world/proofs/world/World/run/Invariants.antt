@@ -7,5 +7,5 @@ abbrev pub invariant-loop-step : goal.invariant-loop-step
 invariant-loop-step g l = record {
   split : l.yielded ++ l.step-iterator.rest.items ≡ l.fn.steps.items;
   room : vec_len l.out + length l.step-iterator.rest.items ≤ vec_capacity l.out;
-  so_far : RunSoFar l.fn.self.shards.items l.fn.self.books.items l.fn.out.items l.yielded l.self.shards.items l.self.books.items l.out.items;
+  so_far : RunSoFar l.fn.self.shards l.fn.self.books l.fn.out.items l.yielded l.parts.shards.items l.parts.books.items l.out.items;
 }

@@ -3,7 +3,7 @@ use Rattle.std.proofs.Common.{arith, Err, ap, ◌∙◌}
 use Rattle.std.proofs.lemmas.Bool.Decides.{nat_tests}
 use Rattle.std.proofs.lemmas.Option.{slice_get_read}
 use Rattle.rl_world.proofs.Turning.{shard_decided, shard_refused}
-use Rattle.rl_world.proofs.world.World.shard.Goals as goal
+use Rattle.rl_world.proofs.parts.WorldParts.shard.Goals as goal
 
 pub returns-in-Ok-clause-step : goal.returns-in-Ok-clause-step
 returns-in-Ok-clause-step g c =

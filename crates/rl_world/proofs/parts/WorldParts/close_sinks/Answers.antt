@@ -4,7 +4,7 @@ use Rattle.std.specs.List.{AllByRecursion}
 use Rattle.std.proofs.lemmas.List.{with_items_is}
 use Rattle.rl_world.specs.WorldState.{IsBookOf, with_sinks_closed}
 use Rattle.rl_world.proofs.Closing.{books_of-closed}
-use Rattle.rl_world.proofs.world.World.close_sinks.Goals as goal
+use Rattle.rl_world.proofs.parts.WorldParts.close_sinks.Goals as goal
 
 pub invariant_of-self : goal.invariant_of-self
 invariant_of-self g c =

@@ -4,7 +4,7 @@ use Rattle.std.proofs.lemmas.Option.{slice_get_read}
 use Rattle.rl_world.specs.WorldState.{IsBookOf}
 use Rattle.rl_world.proofs.Committing.{commit_turn, commit_refused, fits_commit}
 use Rattle.rl_world.proofs.Turning.{each_at, each_set}
-use Rattle.rl_world.proofs.world.World.commit.Goals as goal
+use Rattle.rl_world.proofs.parts.WorldParts.commit.Goals as goal
 
 pub invariant_of-self : goal.invariant_of-self
 invariant_of-self g c =

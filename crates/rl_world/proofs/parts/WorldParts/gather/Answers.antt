@@ -7,7 +7,7 @@ use Rattle.rl_world.specs.WorldRun.{told}
 use Rattle.rl_world.specs.WorldState.{BookState, IsBookOf}
 use Rattle.rl_world.proofs.Gathering.{fits_put, fits_both, gather_refused, gather_turn, same_read}
 use Rattle.rl_world.proofs.Turning.{each_at, refused_ok, told_same}
-use Rattle.rl_world.proofs.world.World.gather.Goals as goal
+use Rattle.rl_world.proofs.parts.WorldParts.gather.Goals as goal
 
 pub returns-in-Err-ask-clause-step : goal.returns-in-Err-ask-clause-step
 returns-in-Err-ask-clause-step g c =

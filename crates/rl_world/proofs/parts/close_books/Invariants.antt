@@ -1,7 +1,7 @@
 -- The sinks of the first books are closed, and the other books are as they were.
 use Rattle.std.proofs.Common.{◌≡◌, ◌++◌, map, take, drop}
 use Rattle.rl_world.specs.WorldState.{with_sinks_closed}
-use Rattle.rl_world.proofs.world.close_books.Given as goal
+use Rattle.rl_world.proofs.parts.close_books.Given as goal
 
 abbrev pub invariant-loop-number : goal.invariant-loop-number
 invariant-loop-number g l = l.books ≡ map with_sinks_closed (take l.number l.fn.books) ++ drop l.number l.fn.books

@@ -1,0 +1,55 @@
+//! The shards and the books of a world, as they are kept.
+ghost use Rattle.std.specs.Prelude.{◌≡◌, length, map};
+ghost use Rattle.std.specs.List.{AllByRecursion};
+ghost use Rattle.std.proofs.Props.{props};
+ghost use Rattle.rl_world.specs.WorldRun.{SinkStep};
+ghost use Rattle.rl_world.specs.WorldState.{IsBookOf, with_sinks_closed, world_of};
+ghost use Rattle.rl_world.specs.WorldStep.{WorldStep, partials};
+
+use crate::book::Book;
+use crate::step::{Reply, Step};
+use rl_shard::Shard;
+use rl_sinks::Sink;
+
+/// The shards, and the books of the rule groups.
+#[derive(Drop)]
+pub(crate) struct WorldParts<S: Sink> {
+    pub(crate) shards: Vec<Shard>,
+    pub(crate) books: Vec<Book<S>>,
+    ghost books_fit: { AllByRecursion (IsBookOf (length shards.items)) books.items } by { Prim.hlevel props },
+}
+
+impl<S: Sink> WorldParts<S> {
+    /// Answers one step.
+    pub(crate) fn answer(&mut self, step: Step) -> Reply
+        ensures step { WorldStep partials (world_of self.old.shards.items self.old.books.items) step result (world_of self.new.shards.items self.new.books.items) }
+        ensures sinks { SinkStep self.old.books.items step result self.new.books.items }
+    {
+        match step {
+            Step::Shard { number, step } => self.shard(number, step),
+            Step::Begin { group, t } => self.begin(group, t),
+            Step::Gather { group, number } => self.gather(group, number),
+            Step::Commit { group } => self.commit(group),
+            Step::Abandon { group } => self.abandon(group),
+        }
+    }
+
+    /// Closes the sinks of each book in order. How many could not write all.
+    pub(crate) fn close_sinks(&mut self) -> u64
+        ensures shards { self.new.shards.items ≡ self.old.shards.items }
+        ensures books { self.new.books.items ≡ map with_sinks_closed self.old.books.items }
+    {
+        close_books(&mut self.books)
+    }
+}
+
+// Closes the sinks of each book in order. How many could not write all.
+fn close_books<S: Sink>(books: &mut [Book<S>]) -> u64
+    ensures { books.new ≡ map with_sinks_closed books.old }
+{
+    let mut failed = 0u64;
+    for number in 0..books.len() {
+        failed = failed.saturating_add(books[number].close_sinks());
+    }
+    failed
+}
