@@ -1,5 +1,5 @@
 //! Copies of plain data.
-ghost use Rattle.std.specs.Prelude.{◌≡◌, IfOk};
+ghost use Rattle.std.specs.Prelude.{◌≡◌, IfOk, IsOk};
 
 use crate::list::PlainList;
 use crate::text::PlainText;
@@ -8,18 +8,27 @@ use std::alloc::AllocError;
 /// Plain data, whose copy is the value. It takes the memory of the allocators that the value keeps, and answers
 /// `AllocError` where that has none.
 pub trait TryCopy: Drop {
+    /// The copy.
     fn try_copy(&self) -> Result<Self, AllocError>
         ensures { IfOk result (λ copy. copy ≡ self.now) };
 }
 
 impl TryCopy for bool {
-    fn try_copy(&self) -> Result<Self, AllocError> {
+    /// Takes no memory, and is never refused.
+    fn try_copy(&self) -> Result<Self, AllocError>
+        ensures copy { IfOk result (λ copy. copy ≡ self.now) }
+        ensures made { IsOk result }
+    {
         Ok(*self)
     }
 }
 
 impl TryCopy for u64 {
-    fn try_copy(&self) -> Result<Self, AllocError> {
+    /// Takes no memory, and is never refused.
+    fn try_copy(&self) -> Result<Self, AllocError>
+        ensures copy { IfOk result (λ copy. copy ≡ self.now) }
+        ensures made { IsOk result }
+    {
         Ok(*self)
     }
 }

@@ -6,6 +6,7 @@ use crate::text::PlainText;
 
 /// Plain data of which two values can be told apart, without memory.
 pub trait Same {
+    /// Whether the two values are one.
     fn is_same(&self, other: &Self) -> bool
         ensures { IsTrue result ↔ (self.now ≡ other.now) };
 }

@@ -51,6 +51,7 @@ impl PlainText {
         self.text
     }
 
+    /// The text, borrowed.
     pub fn as_str(&self) -> &str
         ensures { result.now ≡ self.now }
     {
@@ -64,6 +65,7 @@ impl PlainText {
         self.text.len()
     }
 
+    /// Whether there is no byte.
     pub fn is_empty(&self) -> bool
         ensures { result ≡ (length self.now == 0) }
     {
