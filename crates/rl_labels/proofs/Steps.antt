@@ -96,15 +96,6 @@ put_equal name value pairs i pair in' is tied =
     ∙ ap (λ o. by_order o ((name, value) ∷ pair ∷ drop (i + 1) pairs) ((pair.0, value) ∷ drop (i + 1) pairs) (pair ∷ put name_cmp name value (drop (i + 1) pairs))) tied
     ∙ ap (λ n. (n, value) ∷ drop (i + 1) pairs) (sym (name_cmp-IsAntisymmetric name pair.0 tied))
 
--- the labels so far, the new label and the rest behind the one that gives way
-pub put_in_place : (so_far pushed copied : List Pair) (name value : List ℕ) (pairs : List Pair) (i : ℕ) (pair new : Pair) → i < length pairs → pair ≡ get_or pairs i pair → name_cmp name pair.0 ≡ Equal → new ≡ (name, value) → pushed ≡ so_far ++ new ∷ [] → copied ≡ pushed ++ drop (i + 1) pairs → so_far ++ put name_cmp name value (drop i pairs) ≡ put name_cmp name value pairs → copied ≡ put name_cmp name value pairs
-put_in_place so_far pushed copied name value pairs i pair new in' is tied new_is pushed_is copied_is kept =
-    copied_is
-    ∙ ap (λ t. t ++ drop (i + 1) pairs) (pushed_is ∙ ap (λ n. so_far ++ n ∷ []) new_is)
-    ∙ append_assoc so_far ((name, value) ∷ []) (drop (i + 1) pairs)
-    ∙ ap (λ t. so_far ++ t) (sym (put_equal name value pairs i pair in' is tied))
-    ∙ kept
-
 -- the texts of labels that are not empty
 pub labels_from_front : (labels : List Pair) (first : Pair) → 0 < length labels → first ≡ get_or labels 0 first → join_with_byte 44 (map label_text labels) ≡ label_text first ++ flat_map (λ l. 44 ∷ label_text l) (drop 1 labels)
 labels_from_front [] first full is = absurd (omega arith)

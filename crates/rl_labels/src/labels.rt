@@ -150,7 +150,6 @@ fn overridden(
 }
 
 // The labels but the one with this name.
-
 fn without(
     alloc: Global,
     labels: &[(PlainText, PlainText)],
@@ -180,7 +179,6 @@ fn push_other(
 }
 
 // The labels with this one in its place.
-
 fn with(
     alloc: Global,
     labels: &[(PlainText, PlainText)],
@@ -189,28 +187,43 @@ fn with(
 ) -> Result<Vec<(PlainText, PlainText)>, AllocError>
     ensures { IfOk result (λ all. all.items ≡ put name_cmp name.now value.now labels.now) }
 {
-    let new = (
-        PlainText::from_str(alloc, name)?,
-        PlainText::from_str(alloc, value)?,
-    );
-    let mut all = Vec::new(alloc);
+    let (before, behind) = around(labels, name);
+    let mut all = Vec::with_capacity(alloc, labels.len().saturating_add(1))?;
+    push_copies(&mut all, before)?;
+    push_new(&mut all, alloc, name, value)?;
+    push_copies(&mut all, behind)?;
+    Ok(all)
+}
+
+// The labels that stand before one with this name, and those that stand behind it.
+fn around<'a>(
+    labels: &'a [(PlainText, PlainText)],
+    name: &str,
+) -> (&'a [(PlainText, PlainText)], &'a [(PlainText, PlainText)])
+    ensures { (value : List ℕ) → put name_cmp name.now value labels.now ≡ result.0.now ++ (name.now, value) ∷ result.1.now }
+{
     for (index, label) in labels.iter().enumerate() {
         match name.cmp(label.0.as_str()) {
-            Ordering::Less => {
-                all.push(new)?;
-                push_copies(&mut all, &labels[index..])?;
-                return Ok(all);
-            }
-            Ordering::Equal => {
-                all.push(new)?;
-                push_copies(&mut all, &labels[index + 1..])?;
-                return Ok(all);
-            }
-            Ordering::Greater => all.push(label.try_copy()?)?,
+            Ordering::Less => return labels.split_at(index),
+            Ordering::Equal => return (&labels[..index], &labels[index + 1..]),
+            Ordering::Greater => {}
         }
     }
-    all.push(new)?;
-    Ok(all)
+    labels.split_at(labels.len())
+}
+
+fn push_new(
+    all: &mut Vec<(PlainText, PlainText)>,
+    alloc: Global,
+    name: &str,
+    value: &str,
+) -> Result<(), AllocError>
+    ensures { OnOk result (all.new.items ≡ all.old.items ++ (name.now, value.now) ∷ []) }
+{
+    let name = PlainText::from_str(alloc, name)?;
+    let value = PlainText::from_str(alloc, value)?;
+    all.push((name, value))?;
+    Ok(())
 }
 
 fn push_copies(

@@ -4,6 +4,10 @@
 //! ordered and hashed by their canonical texts. Upper crates speak of it by `label`, `value_of` and `canonical_text`.
 //!
 //! - `labels`: `Labels`, made from pairs with named refusals.
+//! - `entry`: `Entry`, labels with a moment and a line.
+//! - `matcher`: `Matcher`, and its built code that accepts label sets.
+//! - `ns`: `Ns`, moments in nanoseconds.
+//! - `limits`: `Limits`, made from numbers that are in their ranges.
 #![tactic(auto)]
 
 pub mod entry;

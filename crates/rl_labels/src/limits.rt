@@ -17,9 +17,14 @@ pub enum LimitField {
     FirstBlob,
 }
 
-impl fmt::Display for LimitField {
-    fn fmt<W: fmt::Write>(&self, f: &mut fmt::Formatter<W>) -> fmt::Result {
-        f.write_str(match self {
+impl LimitField {
+    ghost use Rattle.rl_labels.specs.LimitRanges.{range_text};
+
+    // The limit by its name, and its range.
+    fn range(self) -> &'static str
+        ensures { result.now ≡ range_text self }
+    {
+        match self {
             LimitField::Entries => "entries is 1 to 67108864",
             LimitField::ChunkEntries => "chunk_entries is 1 to 1048576",
             LimitField::ChunkAge => "chunk_age is 0 to 2592000 seconds",
@@ -28,7 +33,18 @@ impl fmt::Display for LimitField {
             LimitField::Cache => "cache is 0 to 4096 chunks",
             LimitField::Records => "records is 1 to 1048576",
             LimitField::FirstBlob => "first_blob is any number",
-        })
+        }
+    }
+}
+
+impl fmt::Display for LimitField {
+    ghost use Rattle.std.specs.Prelude.{Some};
+    ghost use Rattle.rl_labels.specs.LimitRanges.{range_text};
+
+    ghost output = { λ field. Some (range_text field) };
+
+    fn fmt<W: fmt::Write>(&self, f: &mut fmt::Formatter<W>) -> fmt::Result {
+        f.write_str(self.range())
     }
 }
 
@@ -96,7 +112,7 @@ impl Limits {
     ghost use Rattle.std.specs.Prelude.{None, Some};
     ghost use Rattle.rl_labels.specs.LimitRanges.{raw_limits, first_out_of_range};
 
-    /// The limits, if each is in its range.
+    /// The limits, if each is in its range. Of several that are not, the first in the order of the fields is told.
     pub fn check(raw: RawLimits) -> Result<Limits, BadLimit>
         ensures in_range { MatchResult result (λ _. first_out_of_range raw ≡ None) (λ bad. first_out_of_range raw ≡ Some bad.field) }
         ensures same { MatchResult result (λ limits. raw_limits limits ≡ raw) (λ _. Unit {0}) }

@@ -32,7 +32,7 @@ pub enum MatcherError {
 }
 
 impl Matcher {
-    /// The matcher of its parts.
+    /// The matcher of its parts. `BadName` where the name is none of a label; any value will do.
     pub fn new(name: PlainText, op: MatchOp, value: PlainText) -> Result<Matcher, MatcherError>
         ensures bad_name { MatchResult result (λ _. IsTrue (is_name name)) (λ _. IsTrue (not (is_name name))) }
         ensures parts { IfOk result (λ matcher. (matcher.name ≡ name) × (matcher.op ≡ op) × (matcher.value ≡ value)) }
@@ -82,7 +82,11 @@ impl MatcherCode {
 }
 
 impl TryCopy for MatchOp {
-    fn try_copy(&self) -> Result<Self, AllocError> {
+    /// Takes no memory, and is never refused.
+    fn try_copy(&self) -> Result<Self, AllocError>
+        ensures copy { IfOk result (λ copy. copy ≡ self.now) }
+        ensures made { IsOk result }
+    {
         Ok(*self)
     }
 }

@@ -1,5 +1,5 @@
 //! Moments and timestamps.
-ghost use Rattle.std.specs.Prelude.{◌≡◌, ◌≤◌, ℕ, SomeIff};
+ghost use Rattle.std.specs.Prelude.{◌≡◌, ◌≤◌, ℕ, IfOk, IsOk, SomeIff};
 
 use rl_plain::{Same, TryCopy};
 use std::alloc::AllocError;
@@ -47,7 +47,11 @@ impl Ns {
 }
 
 impl TryCopy for Ns {
-    fn try_copy(&self) -> Result<Self, AllocError> {
+    /// Takes no memory, and is never refused.
+    fn try_copy(&self) -> Result<Self, AllocError>
+        ensures copy { IfOk result (λ copy. copy ≡ self.now) }
+        ensures made { IsOk result }
+    {
         Ok(*self)
     }
 }

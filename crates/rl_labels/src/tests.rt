@@ -257,25 +257,31 @@ fn entry(alloc: Global, value: &str, moment: u64, line: &str) -> Result<Entry, F
     Ok(Entry::new(labels, moment, text(alloc, line)?)?)
 }
 
+// An entry against the one of `a="x"` at 5 with the line "m": its order, and whether it is the same.
+fn beside_middle(
+    alloc: Global,
+    value: &str,
+    moment: u64,
+    line: &str,
+) -> Result<(Ordering, bool), Fail> {
+    let middle = entry(alloc, "x", 5, "m")?;
+    let other = entry(alloc, value, moment, line)?;
+    Ok((order_of(&other, &middle), other.is_same(&middle)))
+}
+
+// More rows of `entry_cmp`, which `order_of` is proved to be, stand in proofs/Examples.antt.
 #[test]
 fn entries_are_ordered(rt: HostRuntime) -> Result<(), Fail> {
-    let middle = entry(rt.alloc(), "x", 5, "m")?;
     let cases = [
         ("w", 9, "z", Ordering::Less),
-        ("\n", 9, "z", Ordering::Less),
         ("x", 4, "z", Ordering::Less),
         ("x", 5, "l", Ordering::Less),
-        ("x", 5, "", Ordering::Less),
         ("x", 5, "m", Ordering::Equal),
-        ("x", 5, "mm", Ordering::Greater),
         ("x", 6, "a", Ordering::Greater),
-        ("x,", 1, "a", Ordering::Greater),
-        ("y", 1, "a", Ordering::Greater),
     ];
     for (value, moment, line, want) in cases {
-        let other = entry(rt.alloc(), value, moment, line)?;
-        assert_eq!(rt; order_of(&other, &middle), want, "{value} {moment} {line}");
-        assert_eq!(rt; other.is_same(&middle), want == Ordering::Equal);
+        let answer = beside_middle(rt.alloc(), value, moment, line)?;
+        assert_eq!(rt; answer, (want, want == Ordering::Equal));
     }
     Ok(())
 }
