@@ -4,6 +4,7 @@ pub mod Cuts
 pub mod Derived
 pub mod Elements
 pub mod Escaping
+pub mod Examples
 pub mod Parts
 pub mod Rules
 pub mod SameQuery

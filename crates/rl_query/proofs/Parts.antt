@@ -16,8 +16,9 @@ use Rattle.rl_query.specs.declared.token.Token.TheVariants as tokens
 use Rattle.rl_query.specs.Form.{MatcherForm, QueryForm, has_real_form}
 use Rattle.rl_query.specs.Lexing.{is_space, gap_len, lexeme_at, is_number_byte, run_at, token_at}
 use Rattle.rl_query.specs.Limits.{longest_range}
-use Rattle.rl_query.specs.Parsing.{expected, matcher_at, element_at, matchers_at, selector_at, capped, Progress, digit_behind, duration_from, duration_of, range_at, term_at, query_of}
+use Rattle.rl_query.specs.Parsing.{expected, matcher_at, element_at, matchers_at, selector_at, capped, Progress, digit_behind, duration_from, duration_of, seconds_at, range_at, term_at, query_of}
 use Rattle.rl_query.specs.Printing.{escaped, matcher_text, query_text}
+use Rattle.rl_query.specs.Reading.{◌>>=◌}
 use Rattle.rl_query.proofs.Again.{lexeme_here, space_passed, word_again, text_again, run_again, open_parenthesis, close_parenthesis, open_brace, close_brace, open_bracket, close_bracket, comma, equal_sign, at_end}
 
 -- the text of a matcher and what follows it
@@ -99,7 +100,8 @@ selector_again total m ms rest named real =
     let first = word_again total m.name (61 ∷ 34 ∷ (escaped m.value ++ 34 ∷ tail)) (and_parts (is_name m.name) (are_named ms) named).0 refl in
     let first_here : lexeme_at total whole ≡ Ok (record { token = tokens.Word m.name; place = total - length (spelled m.name m.value tail) }, 61 ∷ 34 ∷ (escaped m.value ++ 34 ∷ tail)) = ap (lexeme_at total) (matcher_regrouped m tail) ∙ first in
     let few : length ms < length whole = omega (arith, few_matchers ms, length-append (matcher_text m) tail, length-append (others_text ms) (125 ∷ rest)) in
-    rw (first_here, matchers_again (length whole) total m ms rest few named) (cond-true (has_real_form (m ∷ ms)) _ _ real)
+    rw (first_here, matchers_again (length whole) total m ms rest few named)
+    (ap (λ r. r >>= λ (matchers : List MatcherForm). Ok (matchers, rest)) (cond-true (has_real_form (m ∷ ms)) _ _ real))
 
 -- the digits of a number
 digit_byte : (n : ℕ) → n < 10 → is_ascii_digit (48 + n) ≡ true
@@ -193,7 +195,7 @@ number_again total n rest small =
 -- a range, a term and a query
 pub range_again : (total : ℕ) (m : MatcherForm) (ms : List MatcherForm) (n : ℕ) (rest : List ℕ) → are_named (m ∷ ms) ≡ true → has_real_form (m ∷ ms) ≡ true → 1 ≤ n → n ≤ longest_range
     → range_at total (40 ∷ 123 ∷ (matcher_text m ++ (others_text ms ++ 125 ∷ 32 ∷ 91 ∷ (decimal n ++ 115 ∷ 93 ∷ 41 ∷ rest)))) ≡ Ok (record { matchers = m ∷ ms; seconds = n }, rest)
-unfolding range_at expected
+unfolding range_at seconds_at expected
 range_again total m ms n rest named real low high =
     let small : n < 2 ^ 64 = omega arith in
     let number = decimal n ++ 115 ∷ 93 ∷ 41 ∷ rest in

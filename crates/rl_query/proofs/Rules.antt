@@ -27,7 +27,7 @@ use Rattle.rl_query.specs.Form.{MatcherForm, RangeForm, TermForm, QueryForm, has
 use Rattle.rl_query.specs.Grammar.{Lexes, Parts, none, part, IsMatcher, AreMatchers, IsRange, Derives}
 use Rattle.rl_query.specs.Lexing.{lexeme_at}
 use Rattle.rl_query.specs.Limits.{longest_range}
-use Rattle.rl_query.specs.Parsing.{is_equal, is_open_parenthesis, is_close_parenthesis, is_open_brace, is_close_brace, is_open_bracket, is_close_bracket, is_comma, is_mark_sign, is_mark, refusal, expected, name_of, content_of, matcher_at, goes_on, element_at, matchers_at, selector_at, capped, unit_of, Progress, with_unit, digit_behind, duration_from, duration_of, looks_like_duration, seconds_of, range_of, checked_range, function_of, range_at, term_at, ends, query_of}
+use Rattle.rl_query.specs.Parsing.{is_equal, is_open_parenthesis, is_close_parenthesis, is_open_brace, is_close_brace, is_open_bracket, is_close_bracket, is_comma, is_mark_sign, is_mark, refusal, expected, name_of, content_of, matcher_at, goes_on, element_at, matchers_at, some_matcher, real_matchers, selector_at, capped, unit_of, Progress, with_unit, digit_behind, duration_from, duration_of, looks_like_duration, seconds_of, range_of, checked_range, function_of, seconds_at, range_at, term_at, ends, query_of}
 use Rattle.rl_query.specs.Reading.{◌>>=◌}
 use Rattle.rl_query.proofs.Derived.{bind_ok, chosen, no_err, none_some, same_some, lexeme_read}
 
@@ -183,19 +183,24 @@ record IsSelector (ms : List MatcherForm) (bytes rest : List ℕ) : Type 0 where
   pub matchers : AreMatchers ms bytes rest
   pub real : has_real_form ms ≡ true
 
+real_read : (ms found : List MatcherForm) → real_matchers ms ≡ Ok found → (ms ≡ found) × (has_real_form found ≡ true)
+real_read ms found h =
+    ⊎_elim
+    (λ real. let same : ms ≡ found = same_ok _ _ real.1 in (same, subst (λ t. has_real_form t ≡ true) same real.0))
+    (λ other. absurd (no_err _ found other.1))
+    (chosen (has_real_form ms) (Ok ms) (Err faults.NoRealMatcher) (Ok found) h)
+
 selector_read : (total : ℕ) (bytes : List ℕ) (ms : List MatcherForm) (rest : List ℕ) → selector_at total bytes ≡ Ok (ms, rest) → IsSelector ms bytes rest
 unfolding selector_at
 selector_read total bytes ms rest h =
     let a = bind_ok (lexeme_at total bytes) _ (ms, rest) h in
-    ⊎_elim
-    (λ empty. absurd (no_err _ (ms, rest) empty.1))
-    (λ some.
-    let b = bind_ok (matchers_at (length bytes) total bytes) (λ (found : List MatcherForm × List ℕ). cond (has_real_form found.0) (Ok found) (Err faults.NoRealMatcher)) (ms, rest) some.1 in
-    ⊎_elim
-    (λ real. let whole : IsSelector b.0.0 bytes b.0.1 = record { matchers = matchers_read (length bytes) total bytes b.0.0 b.0.1 b.1; real = real.0 } in subst (λ (p : List MatcherForm × List ℕ). IsSelector p.0 bytes p.1) (same_ok _ _ real.1) whole)
-    (λ other. absurd (no_err _ (ms, rest) other.1))
-    (chosen (has_real_form b.0.0) (Ok b.0) (Err faults.NoRealMatcher) (Ok (ms, rest)) b.2))
-    (chosen (is_mark marks.CloseBrace a.0.0.token) _ _ (Ok (ms, rest)) a.2)
+    let b = bind_ok (some_matcher a.0.0.token) _ (ms, rest) a.2 in
+    let c = bind_ok (matchers_at (length bytes) total bytes) _ (ms, rest) b.2 in
+    let d = bind_ok (real_matchers c.0.0) _ (ms, rest) c.2 in
+    let made : ◌≡◌ {A = List MatcherForm × List ℕ} (d.0, c.0.1) (ms, rest) = same_ok _ _ d.2 in
+    let real = real_read c.0.0 d.0 d.1 in
+    let whole : IsSelector d.0 bytes c.0.1 = record { matchers = subst (λ t. AreMatchers t bytes c.0.1) real.0 (matchers_read (length bytes) total bytes c.0.0 c.0.1 c.1); real = real.1 } in
+    subst (λ (p : List MatcherForm × List ℕ). IsSelector p.0 bytes p.1) made whole
 
 -- the cap: one second above the longest range
 abbrev top : ℕ
@@ -321,38 +326,67 @@ range_text_read place n (tokens.Text w) h = absurd (no_err _ n h)
 range_text_read place n (tokens.Sign s) h = absurd (no_err _ n h)
 range_text_read place n tokens.End h = absurd (no_err _ n h)
 
+-- a range in brackets
+record IsBracketed (n : ℕ) (bytes rest : List ℕ) : Type 0 where
+  pub behind_bracket : List ℕ
+  pub duration : List ℕ
+  pub behind_duration : List ℕ
+  pub bracket : Lexes bytes (tokens.Sign signs.OpenBracket) behind_bracket
+  pub number : Lexes behind_bracket (tokens.Number duration) behind_duration
+  pub seconds : Parts 0 duration n
+  pub in_range : (1 ≤ n) × (n ≤ longest_range)
+  pub closing_bracket : Lexes behind_duration (tokens.Sign signs.CloseBracket) rest
+
+seconds_read : (total : ℕ) (bytes : List ℕ) (n : ℕ) (rest : List ℕ) → seconds_at total bytes ≡ Ok (n, rest) → IsBracketed n bytes rest
+unfolding seconds_at
+seconds_read total bytes n rest h =
+    let a = bind_ok (expected total bytes marks.OpenBracket positions.BehindSelector) _ (n, rest) h in
+    let b = bind_ok (lexeme_at total a.0) _ (n, rest) a.2 in
+    let c = bind_ok (range_of b.0.0.place b.0.0.token) _ (n, rest) b.2 in
+    let d = bind_ok (expected total b.0.1 marks.CloseBracket positions.InRange) _ (n, rest) c.2 in
+    let made : ◌≡◌ {A = ℕ × List ℕ} (c.0, d.0) (n, rest) = same_ok _ _ d.2 in
+    let text = range_text_read b.0.0.place c.0 b.0.0.token c.1 in
+    let whole : IsBracketed c.0 bytes d.0 = record {
+      behind_bracket = a.0;
+      duration = text.number;
+      behind_duration = b.0.1;
+      bracket = expected_read total bytes marks.OpenBracket positions.BehindSelector a.0 a.1;
+      number = subst (λ t. Lexes a.0 t b.0.1) text.token_is (lexeme_read total a.0 b.0.0 b.0.1 b.1);
+      seconds = text.seconds;
+      in_range = text.in_range;
+      closing_bracket = expected_read total b.0.1 marks.CloseBracket positions.InRange d.0 d.1;
+    } in
+    subst (λ (p : ℕ × List ℕ). IsBracketed p.0 bytes p.1) made whole
+
 range_read : (total : ℕ) (bytes : List ℕ) (range : RangeForm) (rest : List ℕ) → range_at total bytes ≡ Ok (range, rest) → IsRange range bytes rest
 unfolding range_at
 range_read total bytes range rest h =
     let a = bind_ok (expected total bytes marks.OpenParenthesis positions.Elsewhere) _ (range, rest) h in
     let b = bind_ok (expected total a.0 marks.OpenBrace positions.Elsewhere) _ (range, rest) a.2 in
     let c = bind_ok (selector_at total b.0) _ (range, rest) b.2 in
-    let d = bind_ok (expected total c.0.1 marks.OpenBracket positions.BehindSelector) _ (range, rest) c.2 in
-    let e = bind_ok (lexeme_at total d.0) _ (range, rest) d.2 in
-    let f = bind_ok (range_of e.0.0.place e.0.0.token) _ (range, rest) e.2 in
-    let g = bind_ok (expected total e.0.1 marks.CloseBracket positions.InRange) _ (range, rest) f.2 in
-    let i = bind_ok (expected total g.0 marks.CloseParenthesis positions.BehindRange) _ (range, rest) g.2 in
-    let made : ◌≡◌ {A = RangeForm × List ℕ} (record { matchers = c.0.0; seconds = f.0 }, i.0) (range, rest) = same_ok _ _ i.2 in
+    let d = bind_ok (seconds_at total c.0.1) _ (range, rest) c.2 in
+    let e = bind_ok (expected total d.0.1 marks.CloseParenthesis positions.BehindRange) _ (range, rest) d.2 in
+    let made : ◌≡◌ {A = RangeForm × List ℕ} (record { matchers = c.0.0; seconds = d.0.0 }, e.0) (range, rest) = same_ok _ _ e.2 in
     let selector = selector_read total b.0 c.0.0 c.0.1 c.1 in
-    let text = range_text_read e.0.0.place f.0 e.0.0.token f.1 in
-    let whole : IsRange (record { matchers = c.0.0; seconds = f.0 }) bytes i.0 = record {
+    let bracketed = seconds_read total c.0.1 d.0.0 d.0.1 d.1 in
+    let whole : IsRange (record { matchers = c.0.0; seconds = d.0.0 }) bytes e.0 = record {
       behind_parenthesis = a.0;
       behind_brace = b.0;
       behind_selector = c.0.1;
-      behind_bracket = d.0;
-      duration = text.number;
-      behind_duration = e.0.1;
-      behind_range = g.0;
+      behind_bracket = bracketed.behind_bracket;
+      duration = bracketed.duration;
+      behind_duration = bracketed.behind_duration;
+      behind_range = d.0.1;
       parenthesis = expected_read total bytes marks.OpenParenthesis positions.Elsewhere a.0 a.1;
       brace = expected_read total a.0 marks.OpenBrace positions.Elsewhere b.0 b.1;
       matchers = selector.matchers;
       real = selector.real;
-      bracket = expected_read total c.0.1 marks.OpenBracket positions.BehindSelector d.0 d.1;
-      number = subst (λ t. Lexes d.0 t e.0.1) text.token_is (lexeme_read total d.0 e.0.0 e.0.1 e.1);
-      seconds = text.seconds;
-      in_range = text.in_range;
-      closing_bracket = expected_read total e.0.1 marks.CloseBracket positions.InRange g.0 g.1;
-      closing_parenthesis = expected_read total g.0 marks.CloseParenthesis positions.BehindRange i.0 i.1;
+      bracket = bracketed.bracket;
+      number = bracketed.number;
+      seconds = bracketed.seconds;
+      in_range = bracketed.in_range;
+      closing_bracket = bracketed.closing_bracket;
+      closing_parenthesis = expected_read total d.0.1 marks.CloseParenthesis positions.BehindRange e.0 e.1;
     } in
     subst (λ (p : RangeForm × List ℕ). IsRange p.0 bytes p.1) made whole
 

@@ -209,11 +209,22 @@ matchers_at (suc most) total bytes = do
   element ← element_at total bytes
   if element.1 then (matchers_at most total element.2 >>= λ others. Ok (element.0 ∷ others.0, others.1)) else Ok (element.0 ∷ [], element.2)
 
--- behind the opening brace: matchers, of which one at least refuses the empty text
+-- a selector that closes at once has no matcher
+abbrev pub some_matcher : Token → Result (Unit {0}) QueryFault
+some_matcher token = if is_mark marks.CloseBrace token then Err faults.NoRealMatcher else Ok tt
+
+-- matchers of which one at least refuses the empty text
+abbrev pub real_matchers : List MatcherForm → Result (List MatcherForm) QueryFault
+real_matchers matchers = if has_real_form matchers then Ok matchers else Err faults.NoRealMatcher
+
+-- behind the opening brace: the matchers of a selector
 unfoldable pub selector_at : ℕ → List ℕ → Result (List MatcherForm × List ℕ) QueryFault
 selector_at total bytes = do
   lexeme ← lexeme_at total bytes
-  if is_mark marks.CloseBrace lexeme.0.token then Err faults.NoRealMatcher else (matchers_at (length bytes) total bytes >>= λ found. if has_real_form found.0 then Ok found else Err faults.NoRealMatcher)
+  some ← some_matcher lexeme.0.token
+  found ← matchers_at (length bytes) total bytes
+  matchers ← real_matchers found.0
+  Ok (matchers, found.1)
 
 -- no range is longer, so a longer one counts as one second above
 abbrev pub capped : ℕ → ℕ
@@ -285,18 +296,24 @@ abbrev pub function_of : ℕ → Token → Result RangeFunction QueryFault
 function_of place (tokens.Word word) = named_function place word
 function_of place token = Err (refusal positions.Start place token)
 
+-- a range in brackets
+unfoldable pub seconds_at : ℕ → List ℕ → Result (ℕ × List ℕ) QueryFault
+seconds_at total bytes = do
+  bracket ← expected total bytes marks.OpenBracket positions.BehindSelector
+  number ← lexeme_at total bracket
+  seconds ← range_of number.0.place number.0.token
+  closed ← expected total number.1 marks.CloseBracket positions.InRange
+  Ok (seconds, closed)
+
 -- a selector and a range in parentheses
 unfoldable pub range_at : ℕ → List ℕ → Result (RangeForm × List ℕ) QueryFault
 range_at total bytes = do
   opened ← expected total bytes marks.OpenParenthesis positions.Elsewhere
   braced ← expected total opened marks.OpenBrace positions.Elsewhere
   matchers ← selector_at total braced
-  bracket ← expected total matchers.1 marks.OpenBracket positions.BehindSelector
-  number ← lexeme_at total bracket
-  seconds ← range_of number.0.place number.0.token
-  ranged ← expected total number.1 marks.CloseBracket positions.InRange
-  closed ← expected total ranged marks.CloseParenthesis positions.BehindRange
-  Ok (record { matchers = matchers.0; seconds = seconds }, closed)
+  seconds ← seconds_at total matchers.1
+  closed ← expected total seconds.1 marks.CloseParenthesis positions.BehindRange
+  Ok (record { matchers = matchers.0; seconds = seconds.0 }, closed)
 
 -- a range aggregation
 unfoldable pub term_at : ℕ → List ℕ → Result (TermForm × List ℕ) QueryFault

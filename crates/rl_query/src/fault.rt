@@ -1,6 +1,6 @@
 //! Why a query text is refused.
 ghost use Rattle.std.specs.Prelude.{◌≡◌};
-ghost use Rattle.rl_query.specs.declared.fault.QueryError.TheVariants.{Memory};
+ghost use Rattle.rl_query.specs.declared.fault.QueryError.TheVariants.{Fault, Memory};
 
 use std::alloc::{AllocError, AllocFailed};
 use thiserror::Error;
@@ -25,6 +25,14 @@ pub enum QueryError {
     Fault(QueryFault),
     #[error("out of memory")]
     Memory,
+}
+
+impl From<QueryFault> for QueryError {
+    ghost from_gives = { λ fault e. e ≡ Fault fault };
+
+    fn from(fault: QueryFault) -> Self {
+        QueryError::Fault(fault)
+    }
 }
 
 impl From<AllocError> for QueryError {

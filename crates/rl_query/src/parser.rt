@@ -1,13 +1,14 @@
 //! The parser: queries from texts, by the first fault from the left.
 ghost use Rattle.std.specs.Prelude.{◌≡◌, ◌+◌, ◌-◌, slice_index, ◌<◌, ◌≤◌, ℕ, List, [], Option, None, Ok, Err, Some, IfSome, IfOk, MatchResult, IsTrue, length, map, min, not};
 ghost use Rattle.std.specs.List.{list_all, list_any};
+ghost use Rattle.std.specs.Result.{result_map_both};
 ghost use Rattle.rl_labels.specs.Name.{is_text};
 ghost use Rattle.rl_query.specs.Form.{matcher_form, range_form, term_form, query_form};
 ghost use Rattle.rl_query.specs.Grammar.{Derives};
 ghost use Rattle.rl_query.specs.Printing.{query_text};
 ghost use Rattle.rl_query.specs.Reading.{Gives};
 ghost use Rattle.rl_query.specs.declared.query.Query.{Query};
-ghost use Rattle.rl_query.specs.Parsing.{is_unsupported, is_unsupported_word, is_unsupported_sign, is_stage, is_operator, is_in_any_case, is_later_word, refusal, expected, is_mark, is_mark_sign, name_of, content_of, matcher_at, goes_on, element_at, matchers_at, selector_at, unit_of, duration_of, digit_behind, is_unit_letter, is_duration_byte, looks_like_duration, range_of, seconds_of, checked_range, function_of, named_function, range_at, term_at, query_of, ends};
+ghost use Rattle.rl_query.specs.Parsing.{is_unsupported, is_unsupported_word, is_unsupported_sign, is_stage, is_operator, is_in_any_case, is_later_word, refusal, expected, is_mark, is_mark_sign, name_of, content_of, matcher_at, goes_on, element_at, matchers_at, some_matcher, real_matchers, selector_at, unit_of, duration_of, digit_behind, is_unit_letter, is_duration_byte, looks_like_duration, range_of, seconds_of, checked_range, function_of, named_function, seconds_at, range_at, term_at, query_of, ends};
 ghost use Rattle.rl_query.specs.Limits.{has_real_matcher, longest_range};
 ghost use Rattle.rl_labels.specs.Selects.{passes};
 ghost use Rattle.std.specs.Char.{is_ascii_digit};
@@ -59,11 +60,17 @@ pub const LATER_WORDS: [&str; 29] = [
 /// Where in a query a token was looked for.
 #[derive(Clone, Copy, Debug, PartialEq, Eq)]
 pub enum Position {
+    /// At the start of a query.
     Start,
+    /// Behind the name of a matcher.
     Operator,
+    /// Behind a selector, and in place of the duration.
     BehindSelector,
+    /// Behind the duration.
     InRange,
+    /// Behind the bracket that closes a range.
     BehindRange,
+    /// Behind a range aggregation.
     BehindTerm,
     Elsewhere,
 }
@@ -229,22 +236,22 @@ fn is_mark_sign(mark: Mark, sign: Sign) -> bool
 }
 
 // The word that a token is.
-fn name_of(lexeme: Lexeme) -> Result<PlainText, QueryError>
-    ensures { Gives (λ name. name) result (name_of lexeme.place lexeme.token) }
+fn name_of(lexeme: Lexeme) -> Result<PlainText, QueryFault>
+    ensures { result ≡ name_of lexeme.place lexeme.token }
 {
     match lexeme.token {
         Token::Word(name) => Ok(name),
-        token => Err(QueryError::Fault(refusal(Position::Elsewhere, lexeme.place, &token))),
+        token => Err(refusal(Position::Elsewhere, lexeme.place, &token)),
     }
 }
 
 // The text that a token is.
-fn content_of(lexeme: Lexeme) -> Result<PlainText, QueryError>
-    ensures { Gives (λ content. content) result (content_of lexeme.place lexeme.token) }
+fn content_of(lexeme: Lexeme) -> Result<PlainText, QueryFault>
+    ensures { result ≡ content_of lexeme.place lexeme.token }
 {
     match lexeme.token {
         Token::Text(content) => Ok(content),
-        token => Err(QueryError::Fault(refusal(Position::Elsewhere, lexeme.place, &token))),
+        token => Err(refusal(Position::Elsewhere, lexeme.place, &token)),
     }
 }
 
@@ -266,8 +273,8 @@ fn matcher_at(alloc: Global, total: usize, text: &str) -> Result<(Matcher, &str)
 }
 
 // Whether another matcher follows.
-fn goes_on(lexeme: &Lexeme) -> Result<bool, QueryError>
-    ensures { Gives (λ more. more) result (goes_on lexeme.now.place lexeme.now.token) }
+fn goes_on(lexeme: Lexeme) -> Result<bool, QueryFault>
+    ensures { result ≡ goes_on lexeme.place lexeme.token }
 {
     if is_mark(Mark::Comma, &lexeme.token) {
         return Ok(true);
@@ -275,7 +282,7 @@ fn goes_on(lexeme: &Lexeme) -> Result<bool, QueryError>
     if is_mark(Mark::CloseBrace, &lexeme.token) {
         return Ok(false);
     }
-    Err(QueryError::Fault(refusal(Position::Elsewhere, lexeme.place, &lexeme.token)))
+    Err(refusal(Position::Elsewhere, lexeme.place, &lexeme.token))
 }
 
 // A matcher, and whether another follows.
@@ -285,7 +292,7 @@ fn element_at(alloc: Global, total: usize, text: &str) -> Result<(Matcher, bool,
 {
     let (matcher, rest) = matcher_at(alloc, total, text)?;
     let (lexeme, rest) = lexeme_at(alloc, total, rest)?;
-    let more = goes_on(&lexeme)?;
+    let more = goes_on(lexeme)?;
     Ok((matcher, more, rest))
 }
 
@@ -307,20 +314,37 @@ fn matchers_at(alloc: Global, total: usize, text: &str) -> Result<(Vec<Matcher>,
 }
 
 // The selector behind its opening brace.
-#[tactic(auto, using(crate::proofs::Elements::real_forms), unfolding(crate::specs::Parsing::selector_at))]
+#[tactic(auto, unfolding(crate::specs::Parsing::selector_at))]
 fn selector_at(alloc: Global, total: usize, text: &str) -> Result<(Selector, &str), QueryError>
     ensures { Gives (λ x. (map matcher_form x.0.matchers, x.1.now)) result (selector_at total text.now) }
 {
     let (lexeme, _) = lexeme_at(alloc, total, text)?;
-    if is_mark(Mark::CloseBrace, &lexeme.token) {
-        return Err(QueryError::Fault(QueryFault::NoRealMatcher));
-    }
+    some_matcher(lexeme)?;
     let (matchers, rest) = matchers_at(alloc, total, text)?;
+    let selector = real_selector(matchers)?;
+    Ok((selector, rest))
+}
+
+// A selector that closes at once has no matcher.
+fn some_matcher(lexeme: Lexeme) -> Result<(), QueryFault>
+    ensures { result ≡ some_matcher lexeme.token }
+{
+    if is_mark(Mark::CloseBrace, &lexeme.token) {
+        return Err(QueryFault::NoRealMatcher);
+    }
+    Ok(())
+}
+
+// The selector of matchers of which one at least refuses a stream without its label.
+#[tactic(auto, using(crate::proofs::Elements::real_forms))]
+fn real_selector(matchers: Vec<Matcher>) -> Result<Selector, QueryFault>
+    ensures { result_map_both (λ selector. map matcher_form selector.matchers) (λ fault. fault) result ≡ real_matchers (map matcher_form matchers.items) }
+{
     if !has_real_matcher(&matchers) {
-        return Err(QueryError::Fault(QueryFault::NoRealMatcher));
+        return Err(QueryFault::NoRealMatcher);
     }
     let matchers = PlainList::from_vec(matchers);
-    Ok((Selector { matchers }, rest))
+    Ok(Selector { matchers })
 }
 
 fn has_real_matcher(matchers: &[Matcher]) -> bool
@@ -426,64 +450,83 @@ fn is_duration_byte(byte: u8) -> bool
 }
 
 // The seconds of a range.
-fn range_of(lexeme: &Lexeme) -> Result<u64, QueryError>
-    ensures read { Gives (λ seconds. seconds) result (range_of lexeme.now.place lexeme.now.token) }
+fn range_of(lexeme: Lexeme) -> Result<u64, QueryFault>
+    ensures read { result ≡ range_of lexeme.place lexeme.token }
     ensures fits { IfOk result (λ seconds. (1 ≤ seconds) × (seconds ≤ longest_range)) }
 {
     match &lexeme.token {
         Token::Number(number) => seconds_of(lexeme.place, number.as_str().as_bytes()),
-        token => Err(QueryError::Fault(refusal(Position::BehindSelector, lexeme.place, token))),
+        token => Err(refusal(Position::BehindSelector, lexeme.place, token)),
     }
 }
 
-fn seconds_of(place: usize, number: &[u8]) -> Result<u64, QueryError>
-    ensures read { Gives (λ seconds. seconds) result (seconds_of (duration_of number.now) place number.now) }
+fn seconds_of(place: usize, number: &[u8]) -> Result<u64, QueryFault>
+    ensures read { result ≡ seconds_of (duration_of number.now) place number.now }
     ensures fits { IfOk result (λ seconds. (1 ≤ seconds) × (seconds ≤ longest_range)) }
 {
     match duration_of(number) {
         Some(seconds) => checked_range(seconds),
-        None => Err(QueryError::Fault(if looks_like_duration(number) {
+        None => Err(if looks_like_duration(number) {
             QueryFault::BadRange
         } else {
             QueryFault::Syntax(place)
-        })),
+        }),
     }
 }
 
-fn checked_range(seconds: u64) -> Result<u64, QueryError>
-    ensures read { Gives (λ seconds. seconds) result (checked_range seconds) }
+fn checked_range(seconds: u64) -> Result<u64, QueryFault>
+    ensures read { result ≡ checked_range seconds }
     ensures fits { IfOk result (λ seconds. (1 ≤ seconds) × (seconds ≤ longest_range)) }
 {
     if seconds >= 1 && seconds <= LONGEST_RANGE {
         return Ok(seconds);
     }
-    Err(QueryError::Fault(QueryFault::BadRange))
+    Err(QueryFault::BadRange)
 }
 
 // The range aggregation that a token names.
-fn function_of(lexeme: &Lexeme) -> Result<RangeFunction, QueryError>
-    ensures { Gives (λ function. function) result (function_of lexeme.now.place lexeme.now.token) }
+fn function_of(lexeme: Lexeme) -> Result<RangeFunction, QueryFault>
+    ensures { result ≡ function_of lexeme.place lexeme.token }
 {
     match &lexeme.token {
         Token::Word(word) => named_function(lexeme.place, word.as_str()),
-        _ => Err(QueryError::Fault(refusal(Position::Start, lexeme.place, &lexeme.token))),
+        token => Err(refusal(Position::Start, lexeme.place, token)),
     }
 }
 
-fn named_function(place: usize, word: &str) -> Result<RangeFunction, QueryError>
-    ensures { Gives (λ function. function) result (named_function place word.now) }
+fn named_function(place: usize, word: &str) -> Result<RangeFunction, QueryFault>
+    ensures { result ≡ named_function place word.now }
 {
     if word == "count_over_time" {
         return Ok(RangeFunction::CountOverTime);
     }
-    Err(QueryError::Fault(if is_later_word(word) {
+    Err(if is_later_word(word) {
         QueryFault::Unsupported(place)
     } else {
         QueryFault::Syntax(place)
-    }))
+    })
 }
 
-// The selector and its range, behind the name of the aggregation.
+// The seconds of a range between its brackets.
+#[tactic(auto, unfolding(crate::specs::Parsing::seconds_at))]
+fn seconds_at(alloc: Global, total: usize, text: &str) -> Result<(u64, &str), QueryError>
+    ensures read { Gives (λ x. (x.0, x.1.now)) result (seconds_at total text.now) }
+    ensures fits { IfOk result (λ x. (1 ≤ x.0) × (x.0 ≤ longest_range)) }
+{
+    let rest = expected(
+        alloc,
+        total,
+        text,
+        Mark::OpenBracket,
+        Position::BehindSelector,
+    )?;
+    let (lexeme, rest) = lexeme_at(alloc, total, rest)?;
+    let seconds = range_of(lexeme)?;
+    let rest = expected(alloc, total, rest, Mark::CloseBracket, Position::InRange)?;
+    Ok((seconds, rest))
+}
+
+// The selector and its range in parentheses, behind the name of the aggregation.
 #[tactic(auto, unfolding(crate::specs::Parsing::range_at))]
 fn range_at(alloc: Global, total: usize, text: &str) -> Result<(LogRange, &str), QueryError>
     ensures { Gives (λ x. (range_form x.0, x.1.now)) result (range_at total text.now) }
@@ -497,16 +540,7 @@ fn range_at(alloc: Global, total: usize, text: &str) -> Result<(LogRange, &str),
     )?;
     let rest = expected(alloc, total, rest, Mark::OpenBrace, Position::Elsewhere)?;
     let (selector, rest) = selector_at(alloc, total, rest)?;
-    let rest = expected(
-        alloc,
-        total,
-        rest,
-        Mark::OpenBracket,
-        Position::BehindSelector,
-    )?;
-    let (lexeme, rest) = lexeme_at(alloc, total, rest)?;
-    let seconds = range_of(&lexeme)?;
-    let rest = expected(alloc, total, rest, Mark::CloseBracket, Position::InRange)?;
+    let (seconds, rest) = seconds_at(alloc, total, rest)?;
     let rest = expected(
         alloc,
         total,
@@ -523,7 +557,7 @@ fn term_at(alloc: Global, total: usize, text: &str) -> Result<(Term, &str), Quer
     ensures { Gives (λ x. (term_form x.0, x.1.now)) result (term_at total text.now) }
 {
     let (lexeme, rest) = lexeme_at(alloc, total, text)?;
-    let function = function_of(&lexeme)?;
+    let function = function_of(lexeme)?;
     let (range, rest) = range_at(alloc, total, rest)?;
     Ok((Term { function, range }, rest))
 }
@@ -543,15 +577,15 @@ fn read(alloc: Global, text: &str) -> Result<Query, QueryError>
 {
     let (left, rest) = term_at(alloc, text.len(), text)?;
     let (lexeme, _) = lexeme_at(alloc, text.len(), rest)?;
-    ends(&lexeme)?;
+    ends(lexeme)?;
     Ok(Query { left })
 }
 
-fn ends(lexeme: &Lexeme) -> Result<(), QueryError>
-    ensures { Gives (λ nothing. nothing) result (ends lexeme.now.place lexeme.now.token) }
+fn ends(lexeme: Lexeme) -> Result<(), QueryFault>
+    ensures { result ≡ ends lexeme.place lexeme.token }
 {
     match &lexeme.token {
         Token::End => Ok(()),
-        token => Err(QueryError::Fault(refusal(Position::BehindTerm, lexeme.place, token))),
+        token => Err(refusal(Position::BehindTerm, lexeme.place, token)),
     }
 }
