@@ -3,3 +3,4 @@ pub mod InRange
 pub mod Laws
 pub mod Partials
 pub mod TotalsMap
+pub mod TreeMaps

@@ -30,7 +30,7 @@ impl Partial {
     }
 }
 
-/// What two partials of one term add up to together.
+/// What two partials of one term add up to together. Where memory runs out, the first is gone.
 pub fn merge(a: Partial, b: &Partial) -> Result<Partial, AllocError>
     requires { Fits (merge a b.now) }
     ensures merged { IfOk result (λ both. both ≡ merge a b.now) }

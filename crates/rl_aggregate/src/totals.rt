@@ -67,7 +67,7 @@ impl Totals {
         self.by_labels.get(labels).copied()
     }
 
-    /// Adds a total at a label set.
+    /// Adds a total at a label set. Takes memory for a label set that is new alone; refused, the totals stay as they were.
     pub fn add(&mut self, labels: &Labels, total: Total) -> Result<(), AllocError>
         requires { TotalFits (plus (total_at self.old labels.now) total) }
         ensures ok { OnOk result (self.new ≡ added self.old labels.now total) }

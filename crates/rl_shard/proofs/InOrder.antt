@@ -1,20 +1,20 @@
 -- Keys in order: where a search ends, and what an insert there makes.
-use Rattle.std.proofs.Common.{◌≡◌, ℕ, zero, suc, ◌+◌, ◌-◌, ◌<◌, ◌≤◌, Bool, true, false, cond, is_some, ◌||◌, Some, None, List, [], ◌∷◌, length, map, get_or, T, refl, sym, ap, ◌∙◌, inl, inr, ◌⊎◌, arith}
-use Rattle.std.specs.List.{insert as List_insert, list_any, AllByRecursion, AllWithin}
+use Rattle.std.proofs.Common.{◌≡◌, ℕ, zero, suc, ◌+◌, ◌-◌, ◌<◌, ◌≤◌, Bool, true, false, cond, is_some, ◌||◌, Some, None, List, [], ◌∷◌, length, map, get_or, refl, sym, ap, subst, ◌∙◌, inl, inr, ◌⊎◌, arith}
+use Rattle.std.specs.List.{insert as List_insert, list_any, AllWithin}
 use Rattle.std.specs.List.Sorted.{IsStrictlySortedBy, IsNonDecreasingBy}
 use Rattle.std.specs.Ordering.{eq_by_cmp, is_lt, is_eq, ordering_index, ordering_reverse}
 use Rattle.std.specs.declared.cmp.Ordering.{Ordering}
 use Rattle.std.specs.declared.cmp.Ordering.TheVariants.{Less, Equal, Greater}
 use Rattle.std.specs.Cmp.{IsTotalOrder}
-use Rattle.std.specs.FinMap.{IsAntisymmetric, entries, keys, len, contains_key, insert, from_entries, entries_sorted, get-entries, get-from_entries, get-insert, len-entries, same_map}
-use Rattle.std.specs.FinMap.Entries.{find, is_sorted, below_all, same_entries}
-use Rattle.std.proofs.lemmas.Bool.{and_from, cases_lt, cases_eq}
+use Rattle.std.specs.FinMap.{IsAntisymmetric, keys, len, contains_key, insert, from_entries, get-from_entries, get-insert, same_map}
+use Rattle.std.specs.FinMap.Entries.{find}
+use Rattle.std.proofs.lemmas.Bool.{cases_lt, cases_eq}
 use Rattle.std.proofs.lemmas.List.{length-map}
 use Rattle.std.proofs.lemmas.List.Edits.{length-insert, get_or-insert_below, get_or-insert_at, get_or-insert_above}
 use Rattle.std.proofs.lemmas.List.Folds.{list_any_at}
 use Rattle.std.proofs.lemmas.List.Sorted.{searchable_from_sorted}
-use Rattle.std.proofs.lemmas.Map.Keys.{sorted_head, sorted_tail, Less-from_sorted, sorted_from_all_adjacent}
-use Rattle.rl_labels.specs.LabelLaws.{true_from, from_true}
+use Rattle.std.proofs.lemmas.Map.Keys.{Less-from_sorted, sorted_from_all_adjacent}
+use Rattle.rl_aggregate.specs.TreeMaps.{entries-of_tree, len-of_tree}
 use Rattle.rl_shard.specs.ShardState.{mark}
 
 or_swap : (a b c : Bool) → (a || (b || c)) ≡ (b || (a || c))
@@ -104,14 +104,6 @@ module _ {K : Type 0} {R : K → K → Ordering} (o : IsTotalOrder R) where
       next : (k : ℕ) → k + 1 < length (List_insert xs i q) → R (get_or (List_insert xs i q) k q) (get_or (List_insert xs i q) (k + 1) q) ≡ Less
       next k high = step k high (places k)
 
-  below_from_sorted : (k : K) (xs : List K) → AllByRecursion (λ y. R k y ≡ Less) xs → T (below_all R k (map mark xs))
-  below_from_sorted k [] h = tt
-  below_from_sorted k (x ∷ xs) h = from_true _ (and_from _ _ (ap is_lt h.0) (true_from _ (below_from_sorted k xs h.1)))
-
-  sorted_marks : (xs : List K) → IsStrictlySortedBy R xs → T (is_sorted R (map mark xs))
-  sorted_marks [] h = tt
-  sorted_marks (x ∷ xs) h = from_true _ (and_from _ _ (true_from _ (below_from_sorted x xs (sorted_head R x xs h))) (true_from _ (sorted_marks xs (sorted_tail R x xs h))))
-
   keys_marked : (xs : List K) → map (λ (e : K × Unit {0}). e.0) (map mark xs) ≡ xs
   keys_marked [] = refl
   keys_marked (x ∷ xs) = ap (λ l. x ∷ l) (keys_marked xs)
@@ -122,16 +114,15 @@ module _ {K : Type 0} {R : K → K → Ordering} (o : IsTotalOrder R) where
   find_marked (x ∷ xs) q = ap (cond (eq_by_cmp R q x) (Some tt)) (find_marked xs q) ∙ one_of (eq_by_cmp R q x) (list_any (eq_by_cmp R q) xs)
 
   module _ (same : IsAntisymmetric R) where
-    entries_marked : (xs : List K) → IsStrictlySortedBy R xs → entries (from_entries {R = R} (map mark xs)) ≡ map mark xs
-    entries_marked xs h = same_entries R o same _ _ (entries_sorted (from_entries {R = R} (map mark xs))) (sorted_marks xs h)
-        (λ q. sym (get-entries (from_entries {R = R} (map mark xs)) q) ∙ get-from_entries o (map mark xs) q)
+    keys_rise : (xs : List K) → IsStrictlySortedBy R xs → IsStrictlySortedBy R (map (λ (e : K × Unit {0}). e.0) (map mark xs))
+    keys_rise xs h = subst (IsStrictlySortedBy R) (sym (keys_marked xs)) h
 
     -- keys in order are those of their set
     pub keys-of_set : (xs : List K) → IsStrictlySortedBy R xs → keys (from_entries {R = R} (map mark xs)) ≡ xs
-    keys-of_set xs h = ap (map (λ (e : K × Unit {0}). e.0)) (entries_marked xs h) ∙ keys_marked xs
+    keys-of_set xs h = ap (map (λ (e : K × Unit {0}). e.0)) (entries-of_tree o same (map mark xs) (keys_rise xs h)) ∙ keys_marked xs
 
     pub len-of_set : (xs : List K) → IsStrictlySortedBy R xs → len (from_entries {R = R} (map mark xs)) ≡ length xs
-    len-of_set xs h = len-entries (from_entries {R = R} (map mark xs)) ∙ ap (λ l. length l) (entries_marked xs h) ∙ length-map xs mark
+    len-of_set xs h = len-of_tree o same (map mark xs) (keys_rise xs h) ∙ length-map xs mark
 
     pub contains_key-of_set : (xs : List K) (q : K) → contains_key (from_entries {R = R} (map mark xs)) q ≡ list_any (eq_by_cmp R q) xs
     contains_key-of_set xs q = ap is_some (get-from_entries o (map mark xs) q ∙ find_marked xs q) ∙ is_some-one (list_any (eq_by_cmp R q) xs)

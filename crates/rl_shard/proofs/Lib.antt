@@ -1,4 +1,5 @@
 pub mod Answered
+pub mod Examples
 pub mod InOrder
-pub mod LabelMap
+pub mod Raising
 pub mod SameOrder

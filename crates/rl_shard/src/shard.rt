@@ -80,7 +80,8 @@ impl Shard {
         self.records
     }
 
-    /// Decides a step, and answers its place in the journal, counted from 0, with the reply.
+    /// Decides a step, and answers its place in the journal, counted from 0, with the reply. JournalFull comes before
+    /// all else; else only memory can be refused. A step that is refused changes nothing.
     pub fn apply(&mut self, step: ShardStep) -> Result<(u64, ShardReply), ShardFault>
         ensures journal_full { IsTrue (is_journal_full self.old) → result ≡ Err faults.JournalFull }
         ensures room { IsErrOf result faults.JournalFull → IsTrue (is_journal_full self.old) }

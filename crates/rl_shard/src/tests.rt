@@ -163,6 +163,14 @@ fn too_far_behind(rt: HostRuntime) -> Result<(), Fail> {
             Pushed::TooFarBehind(7_200_000_000_000),
         ),
         ("b", 3_599_999_999_999, "z", Pushed::Accepted),
+        ("a", 7_200_000_000_001, "w", Pushed::Accepted),
+        // It is held, but too far behind comes first.
+        (
+            "a",
+            3_600_000_000_000,
+            "y",
+            Pushed::TooFarBehind(7_200_000_000_001),
+        ),
     ];
     for (app, moment, line, want) in cases {
         let (_, pushed) = push_to(&mut shard, rt.alloc(), app, moment, line)?;

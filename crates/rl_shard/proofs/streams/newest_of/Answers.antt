@@ -1,7 +1,8 @@
 -- The tree's look-up is that of the map.
 use Rattle.std.proofs.Common.{sym, ◌∙◌}
-use Rattle.rl_shard.proofs.LabelMap.{get-map_of}
+use Rattle.rl_labels.specs.TextLaws.{label_set_cmp_total}
+use Rattle.rl_aggregate.specs.TreeMaps.{get-of_tree}
 use Rattle.rl_shard.proofs.streams.newest_of.Goals as goal
 
 pub returns : goal.returns
-returns c = c.copied.ensures ∙ c.get.ensures.value ∙ sym (get-map_of c.args.newest.now.entries c.args.labels.now)
+returns c = c.copied.ensures ∙ c.get.ensures.value ∙ sym (get-of_tree label_set_cmp_total c.args.newest.now.entries c.args.labels.now)

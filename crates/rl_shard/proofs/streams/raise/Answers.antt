@@ -4,7 +4,7 @@ use Rattle.std.specs.BTreeMap.{is_at}
 use Rattle.std.specs.Map.{lookup}
 use Rattle.std.proofs.lemmas.Bool.Decides.{nat_tests}
 use Rattle.rl_labels.specs.LabelText.{label_set_cmp}
-use Rattle.rl_shard.proofs.LabelMap.{raised}
+use Rattle.rl_shard.proofs.Raising.{raised}
 use Rattle.rl_shard.proofs.streams.raise.Goals as goal
 
 pub returns-then-lt-clause-ok : goal.returns-then-lt-clause-ok

@@ -5,7 +5,7 @@ use Rattle.std.specs.FinMap.Entries.{find, is_sorted}
 use Rattle.rl_labels.specs.LabelText.{label_set_cmp}
 use Rattle.rl_aggregate.specs.Laws.{get-both_totals, total_at-both_totals, same_totals}
 use Rattle.rl_aggregate.specs.Partials.{both_totals, TotalFits}
-use Rattle.rl_aggregate.proofs.Maps.{sorted_entries}
+use Rattle.rl_aggregate.specs.TreeMaps.{sorted_entries}
 use Rattle.rl_aggregate.proofs.Merging.{joined, joined-None, joined-added, sorted_rest, total_at-next, find-entries}
 use Rattle.rl_aggregate.proofs.totals.Totals.add_all.Goals as goal
 
@@ -14,7 +14,7 @@ loop-labels-init c =
     let es = c.others.inside.by_labels.entries in
     let all : c.into_iter-labels-iterator.result ≡ es = c.into_iter-labels-iterator.ensures.into_iter_gives ∙ c.iter-labels-items.ensures.rest in
     record {
-      in_order = subst (λ t. T (is_sorted label_set_cmp t)) (sym all) (sorted_entries es c.iter-labels-items.ensures.ordered);
+      in_order = subst (λ t. T (is_sorted label_set_cmp t)) (sym all) (sorted_entries label_set_cmp es c.iter-labels-items.ensures.ordered);
       sums = λ q.
           ap (joined (map.get c.args.self.now q)) (ap (find label_set_cmp q) all ∙ find-entries c.args.others.now es q c.others.view_is)
           ∙ sym (get-both_totals c.args.self.now c.args.others.now q);

@@ -1,11 +1,12 @@
 -- The tree's look-up is that of the totals.
 use Rattle.std.proofs.Common.{sym, ap, ◌∙◌}
 use Rattle.std.specs.FinMap as map
-use Rattle.rl_aggregate.proofs.Maps.{get-totals_in}
+use Rattle.rl_labels.specs.TextLaws.{label_set_cmp_total}
+use Rattle.rl_aggregate.specs.TreeMaps.{get-of_tree}
 use Rattle.rl_aggregate.proofs.totals.Totals.get.Goals as goal
 
 pub returns : goal.returns
 returns c =
     c.copied.ensures ∙ c.get.ensures.value
-    ∙ sym (get-totals_in c.self.inside.by_labels.entries c.args.labels.now)
+    ∙ sym (get-of_tree label_set_cmp_total c.self.inside.by_labels.entries c.args.labels.now)
     ∙ ap (λ m. map.get m c.args.labels.now) c.self.view_is

@@ -3,7 +3,8 @@ use Rattle.std.proofs.Common.{◌++◌, sym, ap, ◌∙◌}
 use Rattle.std.proofs.Common.{map as map_list}
 use Rattle.std.specs.FinMap as map
 use Rattle.rl_aggregate.specs.Evaluated.{sample}
-use Rattle.rl_aggregate.proofs.Maps.{entries-totals_in}
+use Rattle.rl_labels.specs.TextLaws.{label_set_cmp_total, label_set_cmp-IsAntisymmetric}
+use Rattle.rl_aggregate.specs.TreeMaps.{entries-of_tree}
 use Rattle.rl_aggregate.proofs.totals.Totals.samples.Goals as goal
 
 pub loop-labels-init : goal.loop-labels-init
@@ -11,4 +12,4 @@ loop-labels-init c =
     let es = c.self.inside.by_labels.entries in
     ap (λ front. front ++ map_list (sample c.args.function) c.into_iter-labels-iterator.result) c.in_ok-samples.ensures.items
     ∙ ap (map_list (sample c.args.function)) (c.into_iter-labels-iterator.ensures.into_iter_gives ∙ c.iter-labels-items.ensures.rest
-    ∙ sym (entries-totals_in es c.iter-labels-items.ensures.ordered) ∙ ap (λ m. map.entries m) c.self.view_is)
+    ∙ sym (entries-of_tree label_set_cmp_total label_set_cmp-IsAntisymmetric es c.iter-labels-items.ensures.ordered) ∙ ap (λ m. map.entries m) c.self.view_is)
