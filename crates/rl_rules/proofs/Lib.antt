@@ -1,3 +1,4 @@
+mod Examples
 mod Keyed
 mod Named
 mod Recorded

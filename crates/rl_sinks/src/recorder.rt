@@ -9,7 +9,7 @@ use rl_rules::Evaluation;
 use std::alloc::Global;
 use std::io::Write;
 
-/// Keeps every text, and writes them to its writer.
+/// Keeps every text, and writes them to its writer when it is closed, with the last line `# end <count>` behind them.
 #[derive(Debug, Drop)]
 pub struct Recorder<W> {
     pub(crate) writer: W,
@@ -55,11 +55,15 @@ impl<W: Write + Send + Drop> Sink for Recorder<W> {
     ghost use Rattle.std.specs.Option.{option_copied};
     ghost use Rattle.rl_sinks.specs.SinkState.{taken, refused, closed};
     ghost use Rattle.rl_sinks.specs.Texts.{evaluation_text};
-    ghost use Rattle.rl_sinks.specs.RecorderState.{recorder_state, unwritten, is_full};
+    ghost use Rattle.rl_sinks.specs.RecorderState.{recorder_state, unwritten, is_full, TakeAnswers, CloseAnswers};
     ghost use Rattle.rl_sinks.specs.declared.sink.SinkFault.TheVariants as faults;
     ghost use Rattle.rl_sinks.specs.declared.sink.SinkKind.TheVariants as kinds;
 
     ghost state = { recorder_state };
+
+    ghost take_answers = { TakeAnswers };
+
+    ghost close_answers = { CloseAnswers };
 
     fn kind(&self) -> SinkKind {
         SinkKind::Recorder
@@ -84,6 +88,7 @@ impl<W: Write + Send + Drop> Sink for Recorder<W> {
         ensures closed { IsTrue self.old.closed → result ≡ Err (faults.Refused 1) }
         ensures full { IsTrue (not self.old.closed && is_full self.old) → result ≡ Err faults.Full }
         ensures open { IsTrue (not self.old.closed && not (is_full self.old)) → IsOk result ⊎ (result ≡ Err faults.Memory) }
+        ensures answer { TakeAnswers self.old result }
         ensures room { self.new.cap ≡ self.old.cap }
         ensures writer { self.new.writer ≡ self.old.writer }
         ensures unwritten { (self.new.next ≡ self.old.next) × (self.new.part ≡ self.old.part) }
@@ -101,6 +106,7 @@ impl<W: Write + Send + Drop> Sink for Recorder<W> {
         ensures writes { Writes (W.contents self.old.writer) (W.contents self.new.writer) (unwritten self.old) (unwritten self.new) }
         ensures all { OnOk result (unwritten self.new ≡ []) }
         ensures left { OnErr result (unwritten self.new ≢ []) }
+        ensures answer { CloseAnswers self.new result }
         ensures room { self.new.cap ≡ self.old.cap }
     {
         self.closed = true;

@@ -1,8 +1,9 @@
 //! What a sink is, and why it refuses.
-ghost use Rattle.std.specs.Prelude.{◌≡◌, ℕ, ◌+◌, ◌<◌, ◌^◌, IsTrue, Err, OnOk, OnErr, IfErr, slice_get};
+ghost use Rattle.std.specs.Prelude.{◌≡◌, ℕ, ◌+◌, ◌<◌, ◌^◌, ⊤, IsTrue, Result, Err, OnOk, OnErr, IfErr, slice_get};
 ghost use Rattle.std.specs.Option.{option_copied};
 ghost use Rattle.rl_sinks.specs.SinkState.{SinkState, taken, refused, closed};
 ghost use Rattle.rl_sinks.specs.Texts.{evaluation_text};
+ghost use Rattle.rl_sinks.specs.declared.sink.SinkFault.{SinkFault};
 ghost use Rattle.rl_sinks.specs.declared.sink.SinkFault.TheVariants as faults;
 ghost use Rattle.rl_sinks.specs.declared.sink.SinkFault.TheVariants.{Memory};
 
@@ -54,6 +55,10 @@ impl<T: Drop> From<AllocFailed<T>> for SinkFault {
 /// Takes the text of each evaluation.
 pub trait Sink: Send + Drop {
     ghost state: { Self → SinkState };
+    // What a sink says beside of an answer: of `take`, by the sink before it, and of `close`, by the sink after it.
+    ghost take_answers: { Self → Result ⊤ SinkFault → Type 0 } = { λ _ _. ⊤ };
+
+    ghost close_answers: { Self → Result ⊤ SinkFault → Type 0 } = { λ _ _. ⊤ };
 
     fn kind(&self) -> SinkKind
         ensures { result ≡ (state self.now).kind };
@@ -70,21 +75,27 @@ pub trait Sink: Send + Drop {
     fn kept(&self, index: u64) -> Option<&str>
         ensures { option_copied result ≡ slice_get (state self.now).kept index };
 
-    /// Takes the evaluation's text for its kind.
+    /// Takes the evaluation's text for its kind. A refusal keeps nothing and is counted; a closed sink refuses with reason 1.
     fn take(&mut self, evaluation: &Evaluation) -> Result<(), SinkFault>
         requires { (state self.old).count + 1 < 2 ^ 64 }
         ensures ok { OnOk result (state self.new ≡ taken (state self.old) (evaluation_text (state self.old).kind evaluation.now)) }
         ensures err { OnErr result (state self.new ≡ refused (state self.old)) }
-        ensures closed { IsTrue (state self.old).closed → result ≡ Err (faults.Refused 1) };
+        ensures closed { IsTrue (state self.old).closed → result ≡ Err (faults.Refused 1) }
+        ensures answer { take_answers self.old result };
 
-    /// Writes what is not yet written, and closes the sink with either answer.
+    /// Writes what is not yet written, and closes the sink with either answer. A sink that is closed can be closed again, to go on.
     fn close(&mut self) -> Result<(), SinkFault>
         ensures closed { state self.new ≡ closed (state self.old) }
-        ensures fault { IfErr result (λ fault. fault ≡ faults.WriteFault) };
+        ensures fault { IfErr result (λ fault. fault ≡ faults.WriteFault) }
+        ensures answer { close_answers self.new result };
 }
 
 impl Sink for Box<dyn Sink> {
     ghost state = { λ sink. (Sink-box sink).state sink.value };
+
+    ghost take_answers = { λ sink. (Sink-box sink).take_answers sink.value };
+
+    ghost close_answers = { λ sink. (Sink-box sink).close_answers sink.value };
 
     fn kind(&self) -> SinkKind {
         (**self).kind()

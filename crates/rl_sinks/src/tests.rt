@@ -18,6 +18,7 @@ struct FailingWriter {
     writes: u64,
     // Which write fails, counted from 1; none where it is 0.
     fails_at: u64,
+    kind: io::ErrorKind,
 }
 
 impl FailingWriter {
@@ -27,6 +28,7 @@ impl FailingWriter {
             step,
             writes: 0,
             fails_at,
+            kind: io::ErrorKind::StorageFull,
         }
     }
 }
@@ -35,7 +37,7 @@ impl Write for FailingWriter {
     fn write(&mut self, buf: &[u8]) -> io::Result<usize> {
         self.writes = self.writes.wrapping_add(1);
         if self.writes == self.fails_at {
-            return Err(io::Error::from(io::ErrorKind::StorageFull));
+            return Err(io::Error::from(self.kind));
         }
         let count = buf.len().min(self.step);
         self.bytes.extend_from_slice(&buf[..count])?;
@@ -275,6 +277,19 @@ fn a_failed_write_goes_on_where_it_stopped(rt: HostRuntime) -> Result<(), Fail> 
         recorder.close()?;
         assert_eq!(rt; recorder.writer.bytes.as_slice(), all, "at {fails_at}");
     }
+    Ok(())
+}
+
+#[test]
+fn an_interrupted_write_ends_the_writing(rt: HostRuntime) -> Result<(), Fail> {
+    let mut writer = FailingWriter::new(rt.alloc(), 4, 2);
+    writer.kind = io::ErrorKind::Interrupted;
+    let mut recorder = Recorder::new(rt.alloc(), writer, 1);
+    assert_eq!(rt; recorder.close(), Err(SinkFault::WriteFault));
+    assert_eq!(rt; recorder.writer.writes, 2);
+    assert_eq!(rt; recorder.writer.bytes.as_slice(), b"# en".as_slice());
+    recorder.close()?;
+    assert_eq!(rt; recorder.writer.bytes.as_slice(), b"# end 0\n".as_slice());
     Ok(())
 }
 
