@@ -1,5 +1,6 @@
 pub mod Closing
 pub mod Committing
+mod Examples
 pub mod Following
 pub mod Gathering
 pub mod Lifting
@@ -7,4 +8,5 @@ pub mod Merging
 pub mod Offers
 pub mod Opening
 pub mod Shown
+mod StoredRun
 pub mod Turning

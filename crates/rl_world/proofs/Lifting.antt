@@ -15,7 +15,7 @@ use Rattle.rl_world.specs.Evaluating.{group_terms, partials_of}
 use Rattle.rl_world.specs.History.{History, begin_fault, gather_fault, commit_fault, abandon_fault, asked_fault, closing_fault, is_session_full, last_moment, not_later, is_gathered, is_complete, begun, gathered, with_shown, committed, abandoned}
 use Rattle.rl_world.specs.ShownLaws.{kept_evaluation}
 use Rattle.rl_world.specs.WorldState.{WorldState, Stands, kept_answer, kept_open, kept_history, kept_world}
-use Rattle.rl_world.specs.WorldStep.{WorldStep, Turn, MayRefuse, ShardTurn, BeginTurn, GatherTurn, CommitTurn, AbandonTurn, Replay, lists, partials, known, or_else, journal_refusal, refusal_of, with_shard, with_history}
+use Rattle.rl_world.specs.WorldStep.{WorldStep, Turn, MayRefuse, ShardTurn, BeginTurn, GatherTurn, CommitTurn, AbandonTurn, Replay, lists, partials, known, or_else, journal_refusal, refusal_of, with_shard, with_history, may_want}
 use Rattle.rl_world.specs.declared.fault.BookFault.TheVariants as faults
 use Rattle.rl_world.specs.declared.fault.Refusal.{Refusal}
 use Rattle.rl_world.specs.declared.fault.Refusal.TheVariants as refusals
@@ -248,7 +248,7 @@ lift_turn world (steps.Abandon group) (replies.Refused refusal) new turn = absur
 
 refused_kept : (world : Lists) (step : Step) (refusal : Refusal) → MayRefuse (kept_world world) step refusal → MayRefuse world step refusal
 refused_kept world step refusal (inl first) = inl (sym (refusal-kept world step) ∙ first)
-refused_kept world step refusal (inr memory) = inr memory
+refused_kept world step refusal (inr memory) = inr (memory.0, ap (may_want step) (sym (refusal-kept world step)) ∙ memory.1)
 
 lift_free : (world : Lists) (step : Step) (reply : Reply) (new : Parts) → (refusal_of (kept_world world) step ≡ None) × Turn partials (kept_world world) step reply new → (after : Lists) × Stands new after × ((refusal_of world step ≡ None) × Turn lists world step reply after)
 lift_free world step reply new free =

@@ -14,7 +14,7 @@ use Rattle.rl_world.specs.BookCalls.{Answers, Refuses, with_history}
 use Rattle.rl_world.specs.History.{begin_fault, commit_fault, abandon_fault, begun, abandoned}
 use Rattle.rl_world.specs.WorldRun.{told}
 use Rattle.rl_world.specs.WorldState.{BookState, world_of}
-use Rattle.rl_world.specs.WorldStep.{WorldStep, MayRefuse, partials, known, journal_refusal, refusal_of, takes_memory, told_of_shard, told_of_book}
+use Rattle.rl_world.specs.WorldStep.{WorldStep, MayRefuse, partials, known, journal_refusal, refusal_of, takes_memory, may_want, told_of_shard, told_of_book}
 use Rattle.rl_world.specs.declared.fault.BookFault.{BookFault}
 use Rattle.rl_world.specs.declared.fault.BookError.{BookError}
 use Rattle.rl_world.specs.declared.fault.BookError.TheVariants as errors
@@ -54,13 +54,13 @@ each_set P (y ∷ xs) zero x all here = (here, all.1)
 each_set P (y ∷ xs) (suc k) x all here = (all.0, each_set P xs k x all.1 here)
 
 -- two errors that are one have one cause
-err_is : {A E : Type 0} (e f : E) → ◌≡◌ {A = Result A E} (Err e) (Err f) → e ≡ f
+pub err_is : {A E : Type 0} (e f : E) → ◌≡◌ {A = Result A E} (Err e) (Err f) → e ≡ f
 err_is e f h = cc
 
 -- what a call of a book that took memory was refused for
-answered_err : (A : Type 0) (fault : Option BookFault) (error : BookError) → Answers {A = A} fault (Err error) → (option_map refusals.Book fault ≡ Some (told_of_book error)) ⊎ (told_of_book error ≡ refusals.Memory)
+answered_err : (A : Type 0) (fault : Option BookFault) (error : BookError) → Answers {A = A} fault (Err error) → (option_map refusals.Book fault ≡ Some (told_of_book error)) ⊎ ((told_of_book error ≡ refusals.Memory) × (fault ≡ None))
 answered_err A (Some f) error h = inl (ap (λ e. Some (told_of_book e)) (sym (err_is error (errors.Fault f) h)))
-answered_err A None error h = inr (ap told_of_book h)
+answered_err A None error h = inr (ap told_of_book h, refl)
 
 pub answered_ok : {A : Type 0} (fault : Option BookFault) (x : A) → Answers fault (Ok x) → fault ≡ None
 answered_ok (Some f) x h = absurd (ok_apart x (errors.Fault f) h)
@@ -98,16 +98,20 @@ module _ (shards : List Journalled) (books : List BookState) where
   )
 
   pub shard_refused : (number : ℕ) (step : ShardStep) (shard after : Journalled) (fault : ShardFault) (refusal : Refusal) → slice_get shards number ≡ Some shard
-      → (fault ≡ shard_faults.JournalFull → is_journal_full shard ≡ true) → after ≡ shard → refusal ≡ told_of_shard fault
+      → (fault ≡ shard_faults.JournalFull → is_journal_full shard ≡ true) → (is_journal_full shard ≡ true → fault ≡ shard_faults.JournalFull) → after ≡ shard → refusal ≡ told_of_shard fault
       → WorldStep partials (world_of shards books) (steps.Shard number step) (replies.Refused refusal) (world_of (slice_set shards number after) books)
-  shard_refused number step shard after fault refusal there full after_is refusal_is = (
-    subst (λ r. MayRefuse (world_of shards books) (steps.Shard number step) r) (sym refusal_is) (may fault full),
+  shard_refused number step shard after fault refusal there full first after_is refusal_is = (
+    subst (λ r. MayRefuse (world_of shards books) (steps.Shard number step) r) (sym refusal_is) (may fault full first),
     λ i. record { shards = (ap (slice_set shards number) after_is ∙ set_same shards number shard there) i; histories = map (λ (b : BookState). b.history) books },
   )
     where
-      may : (fault : ShardFault) → (fault ≡ shard_faults.JournalFull → is_journal_full shard ≡ true) → MayRefuse (world_of shards books) (steps.Shard number step) (told_of_shard fault)
-      may shard_faults.JournalFull full = inl (ap (λ s. known s journal_refusal) there ∙ ap (λ b. cond b (Some refusals.JournalFull) None) (full refl))
-      may shard_faults.Memory full = inr (refl, refl)
+      is_other : shard_faults.Memory ≡ shard_faults.JournalFull → ⊥
+      is_other h = cc
+      may : (fault : ShardFault) → (fault ≡ shard_faults.JournalFull → is_journal_full shard ≡ true) → (is_journal_full shard ≡ true → fault ≡ shard_faults.JournalFull) → MayRefuse (world_of shards books) (steps.Shard number step) (told_of_shard fault)
+      may shard_faults.JournalFull full first = inl (ap (λ s. known s journal_refusal) there ∙ ap (λ b. cond b (Some refusals.JournalFull) None) (full refl))
+      may shard_faults.Memory full first = inr (refl,
+        ap (λ s. may_want (steps.Shard number step) (known s journal_refusal)) there
+          ∙ ap (λ b. may_want (steps.Shard number step) (cond b (Some refusals.JournalFull) None)) (not_true (is_journal_full shard) (λ h. is_other (first h))))
 
   -- a book that a call left as it was
   pub book_kept : (group : ℕ) (book after : BookState) → slice_get books group ≡ Some book → after ≡ book → world_of shards (slice_set books group after) ≡ world_of shards books
@@ -122,9 +126,9 @@ module _ (shards : List Journalled) (books : List BookState) where
     book_kept group book after there after_is,
   )
     where
-      may : (option_map refusals.Book fault ≡ Some (told_of_book error)) ⊎ (told_of_book error ≡ refusals.Memory) → MayRefuse (world_of shards books) step (told_of_book error)
+      may : (option_map refusals.Book fault ≡ Some (told_of_book error)) ⊎ ((told_of_book error ≡ refusals.Memory) × (fault ≡ None)) → MayRefuse (world_of shards books) step (told_of_book error)
       may (inl is) = inl (first ∙ is)
-      may (inr memory) = inr (memory, takes)
+      may (inr memory) = inr (memory.0, ap (may_want step) (first ∙ ap (option_map refusals.Book) memory.1) ∙ takes)
 
   begin_refusal : (group t : ℕ) (book : BookState) → slice_get books group ≡ Some book → refusal_of (world_of shards books) (steps.Begin group t) ≡ option_map refusals.Book (begin_fault book.history t)
   begin_refusal group t book there = ap (λ h. known h (λ history. option_map refusals.Book (begin_fault history t))) (history_at group book there)

@@ -68,6 +68,16 @@ takes_memory (steps.Begin group t) = true
 takes_memory (steps.Gather group number) = true
 takes_memory (steps.Commit group) = true
 
+-- a gather copies the terms before the shard tells that its journal is full
+abbrev pub copies_before : Step → Refusal → Bool
+copies_before (steps.Gather group number) refusals.JournalFull = true
+copies_before step refusal = false
+
+-- whether a step that has this refusal, if any, may want memory in its place
+abbrev pub may_want : Step → Option Refusal → Bool
+may_want step None = takes_memory step
+may_want step (Some refusal) = copies_before step refusal
+
 module _ {X : Type 0} where
   -- the refusal of a step that comes before its work, if one does: the first that applies
   abbrev pub refusal_of : WorldState X → Step → Option Refusal
@@ -79,7 +89,7 @@ module _ {X : Type 0} where
 
   -- it is the first refusal that applies, or want of memory
   abbrev pub MayRefuse : WorldState X → Step → Refusal → Type 0
-  MayRefuse world step refusal = (refusal_of world step ≡ Some refusal) ⊎ ((refusal ≡ refusals.Memory) × IsTrue (takes_memory step))
+  MayRefuse world step refusal = (refusal_of world step ≡ Some refusal) ⊎ ((refusal ≡ refusals.Memory) × IsTrue (may_want step (refusal_of world step)))
 
   abbrev pub with_shard : WorldState X → ℕ → Journalled → WorldState X
   with_shard world number shard = record { shards = slice_set world.shards number shard; histories = world.histories }
