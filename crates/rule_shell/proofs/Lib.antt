@@ -8,3 +8,4 @@ pub mod Lines
 mod Numbers
 mod FreshSinks
 mod Growing
+mod Examples

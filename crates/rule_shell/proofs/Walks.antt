@@ -5,13 +5,13 @@ use Rattle.serde_json.specs.Data.{Data, item, Members, member}
 use Rattle.serde_json.specs.Find.{as_str}
 use Rattle.serde_json.specs.View.{view, items_view}
 use Rattle.serde_json.specs.declared.value.Value.{Value}
-use Rattle.rl_labels.specs.LabelSet.{Pair}
+use Rattle.rl_labels.specs.LabelSet.{Pair, LabelSet}
 use Rattle.rule_shell.specs.declared.push.PushFault.{PushFault}
 use Rattle.rule_shell.specs.declared.push.PushFault.TheVariants as faults
 use Rattle.rule_shell.specs.declared.push.PushError.{PushError}
 use Rattle.rule_shell.specs.declared.push.PushError.TheVariants as errors
 use Rattle.rule_shell.specs.PushForms.{EntryForm, ◌>>=◌, with_front, Fails}
-use Rattle.rule_shell.specs.PushBody.{required, pairs_of, stream_entries, streams_entries}
+use Rattle.rule_shell.specs.PushBody.{required, pairs_of, value_entry, entries_from, stream_entries, streams_entries}
 
 regroup : {A : Type 0} (front : List A) (x : A) (read : Result (List A) PushFault) → with_front front (read >>= λ xs. Ok (x ∷ xs)) ≡ with_front (front ++ x ∷ []) read
 regroup front x (Ok xs) = ap (λ ys. Ok ys) (sym (append_assoc front (x ∷ []) xs))
@@ -36,6 +36,22 @@ first_fails front fault (Err e) others is = is
 pub items_here : (vs : List Value) (i : ℕ) (v : Value) → i < length vs → v ≡ get_or vs i v → items_view (drop i vs) ≡ item (view v) (items_view (drop (i + 1) vs))
 items_here vs i v within is =
     ap items_view (drop_more vs i v within) ∙ ap (λ w. item (view w) (items_view (drop (i + 1) vs))) (sym is)
+
+-- the entry of a value was read
+pub value_read : (labels : LabelSet) (front : List EntryForm) (first : EntryForm) (vs : List Value) (i : ℕ) (v : Value) (whole : Result (List EntryForm) PushFault) → i < length vs → v ≡ get_or vs i v → value_entry labels (view v) ≡ Ok first → with_front front (entries_from labels (items_view (drop i vs))) ≡ whole → with_front (front ++ first ∷ []) (entries_from labels (items_view (drop (i + 1) vs))) ≡ whole
+value_read labels front first vs i v whole within is here so_far =
+    let others = entries_from labels (items_view (drop (i + 1) vs)) in
+    sym (ap (λ r. with_front front (r >>= λ x. others >>= λ xs. Ok (x ∷ xs))) here ∙ regroup front first others)
+    ∙ ap (λ items. with_front front (entries_from labels items)) (sym (items_here vs i v within is))
+    ∙ so_far
+
+-- a value was refused
+pub value_fails : (e : PushError) (labels : LabelSet) (front : List EntryForm) (vs : List Value) (i : ℕ) (v : Value) (whole : Result (List EntryForm) PushFault) → i < length vs → v ≡ get_or vs i v → Fails e (value_entry labels (view v)) → with_front front (entries_from labels (items_view (drop i vs))) ≡ whole → Fails e whole
+value_fails errors.Memory labels front vs i v whole within is here so_far = tt
+value_fails (errors.Fault fault) labels front vs i v whole within is here so_far =
+    sym so_far
+    ∙ ap (λ items. with_front front (entries_from labels items)) (items_here vs i v within is)
+    ∙ ap (λ r. with_front front (r >>= λ x. entries_from labels (items_view (drop (i + 1) vs)) >>= λ xs. Ok (x ∷ xs))) here
 
 -- the entries of a stream were read
 pub stream_read : (front grown : List EntryForm) (vs : List Value) (i : ℕ) (v : Value) (whole : Result (List EntryForm) PushFault) → i < length vs → v ≡ get_or vs i v → with_front front (stream_entries (view v)) ≡ Ok grown → with_front front (streams_entries (items_view (drop i vs))) ≡ whole → with_front grown (streams_entries (items_view (drop (i + 1) vs))) ≡ whole

@@ -13,3 +13,7 @@ GrowsTo end old new = (text : List ℕ) × Appends old new (text ++ end)
 -- the line of a refusal
 abbrev pub refusal_line : List ℕ → List ℕ
 refusal_line name = codes "refused " ++ (name ++ codes "\n")
+
+-- the line of a push body that was refused
+abbrev pub bad_push_line : List ℕ → List ℕ
+bad_push_line name = codes "refused BadPush " ++ (name ++ codes "\n")

@@ -101,11 +101,15 @@ entry_of labels parts = do
   line ← line_of parts.line
   if has_no_metadata parts.metadata then Ok (record { labels = labels; timestamp = timestamp; line = line }) else Err faults.Metadata
 
+-- the entry of a value, with these labels
+abbrev pub value_entry : LabelSet → Data → Result EntryForm PushFault
+value_entry labels value = parts_of value >>= entry_of labels
+
 -- the entries of values with these labels
 abbrev pub entries_from : LabelSet → Items → Result (List EntryForm) PushFault
 entries_from labels no_items = Ok []
 entries_from labels (item value values) = do
-  first ← parts_of value >>= entry_of labels
+  first ← value_entry labels value
   others ← entries_from labels values
   Ok (first ∷ others)
 

@@ -6,7 +6,7 @@ ghost use Rattle.serde_json.specs.View.{view, items_view, members_view};
 ghost use Rattle.rl_labels.specs.EntryParts.{is_stream};
 ghost use Rattle.serde_json.specs.Find.{as_str, as_object};
 ghost use Rattle.rule_shell.specs.PushForms.{Gives, Answers, entry_form, parts_form, with_front};
-ghost use Rattle.rule_shell.specs.PushBody.{entries_of, document_of, array_at, object_at, pairs_of, labels_at, metadata_in, parts_in, parts_of, required, is_time, moment_of, is_empty_object, has_no_metadata, entry_of, entries_from, stream_entries, streams_entries};
+ghost use Rattle.rule_shell.specs.PushBody.{entries_of, document_of, array_at, object_at, pairs_of, labels_at, metadata_in, parts_in, parts_of, required, is_time, moment_of, is_empty_object, has_no_metadata, entry_of, value_entry, entries_from, stream_entries, streams_entries};
 ghost use Rattle.rule_shell.specs.declared.push.PushError.TheVariants.{Memory, Fault};
 
 use rl_labels::entry::MAX_LINE_LEN;
@@ -146,10 +146,19 @@ fn push_values(
     ensures { Gives (λ _. map entry_form entries.new.items) result (with_front (map entry_form entries.old.items) (entries_from labels.now (items_view values.now))) }
 {
     for value in values {
-        let entry = entry_of(alloc, labels, parts_of(value)?)?;
+        let entry = value_entry(alloc, labels, value)?;
         entries.push(entry)?;
     }
     Ok(())
+}
+
+// The entry of a value, with the labels.
+fn value_entry(alloc: Global, labels: &Labels, value: &Value) -> Result<Entry, PushError>
+    requires { IsTrue (is_stream labels.now) }
+    ensures { Gives entry_form result (value_entry labels.now (view value.now)) }
+{
+    let parts = parts_of(value)?;
+    entry_of(alloc, labels, parts)
 }
 
 // The labels of a stream.

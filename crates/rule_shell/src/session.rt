@@ -4,7 +4,7 @@ ghost use Rattle.std.specs.List.{AllByRecursion};
 ghost use Rattle.rl_world.specs.BookCalls.{IsFresh};
 ghost use Rattle.std.specs.Io.KnownBytes.{Appends};
 ghost use Rattle.rule_shell.specs.Command.{asked, command_of, ends};
-ghost use Rattle.rule_shell.specs.Printed.{Grows, GrowsTo, refusal_line};
+ghost use Rattle.rule_shell.specs.Printed.{Grows, GrowsTo, refusal_line, bad_push_line};
 ghost use Rattle.rule_shell.specs.declared.session.RunError.TheVariants.{WriteFault, Memory};
 
 use crate::command::{Command, is_blank, read_command};
@@ -176,10 +176,7 @@ impl<S: Sink> Session<S> {
     {
         let entries = match read_push(self.alloc, json.as_bytes()) {
             Ok(entries) => entries,
-            Err(error) => {
-                writeln!(out, "refused BadPush {}", push_error_name(error))?;
-                return Ok(Answer::Refused);
-            }
+            Err(error) => return refuse_push(out, push_error_name(error)),
         };
         let count = entries.len();
         match self.push_all(entries) {
@@ -285,6 +282,14 @@ fn refuse<W: Write>(out: &mut W, name: &str) -> Result<Answer, RunError>
     ensures answer { IfOk result (λ answer. answer ≡ Answer.Refused) }
 {
     writeln!(out, "refused {name}")?;
+    Ok(Answer::Refused)
+}
+
+fn refuse_push<W: Write>(out: &mut W, name: &str) -> Result<Answer, RunError>
+    ensures line { OnOk result (Appends (W.contents out.old) (W.contents out.new) (bad_push_line name.now)) }
+    ensures answer { IfOk result (λ answer. answer ≡ Answer.Refused) }
+{
+    writeln!(out, "refused BadPush {name}")?;
     Ok(Answer::Refused)
 }
 

@@ -1,0 +1,163 @@
+-- Definitions, computed at values that were worked out by hand.
+use Rattle.std.specs.Prelude.{codes}
+use Rattle.std.proofs.Common.{◌≡◌, ℕ, true, false, [], ◌∷◌, None, Some, Ok, Err, inl, inr, refl, arith}
+use Rattle.serde_json.specs.Data.{null, string, array, object, no_items, item, no_members, member}
+use Rattle.rl_rules.specs.declared.fault.RulesFault.TheVariants as rules
+use Rattle.rl_shard.specs.declared.step.ShardReply.TheVariants as replies
+use Rattle.rl_world.specs.declared.fault.BookFault.TheVariants as books
+use Rattle.rl_world.specs.declared.fault.Refusal.TheVariants as refusals
+use Rattle.rl_world.specs.declared.step.Reply.TheVariants as world
+use Rattle.rule_shell.specs.Command.{pushes, evaluates, shows, ends, command_of, time_of, is_blank_byte}
+use Rattle.rule_shell.specs.Front.{IsFirstLine, front_of, IsCut}
+use Rattle.rule_shell.specs.Names.{push_error_name, front_fault_name, refusal_name, push_refusal}
+use Rattle.rule_shell.specs.Printed.{Grows, GrowsTo, refusal_line, bad_push_line}
+use Rattle.rule_shell.specs.PushBody.{array_at, object_at, pairs_of, parts_of, moment_of, has_no_metadata}
+use Rattle.rule_shell.specs.PushForms.{with_front}
+use Rattle.rule_shell.specs.Reading.{Reads, ReadsFront, Tells}
+use Rattle.rule_shell.specs.declared.front.fault.FrontFault.TheVariants as fronts
+use Rattle.rule_shell.specs.declared.push.PushError.TheVariants as errors
+use Rattle.rule_shell.specs.declared.push.PushFault.TheVariants as pushes
+
+-- commands
+
+evaluation_of_a_name_with_a_space : command_of (codes "eval 1.5 a b") ≡ Some (evaluates 1500000000 (codes "a b"))
+evaluation_of_a_name_with_a_space = refl
+
+texts_of_a_sink : command_of (codes "show 12 g") ≡ Some (shows 12 (codes "g"))
+texts_of_a_sink = refl
+
+push_of_nothing : command_of (codes "push ") ≡ Some (pushes [])
+push_of_nothing = refl
+
+end_of_a_session : command_of (codes "end") ≡ Some ends
+end_of_a_session = refl
+
+no_command_behind_a_space : command_of (codes " end") ≡ None
+no_command_behind_a_space = refl
+
+no_command_in_upper_case : command_of (codes "PUSH {}") ≡ None
+no_command_in_upper_case = refl
+
+greatest_time : time_of (codes "9223372036.854775807") ≡ Some 9223372036854775807
+greatest_time = refl
+
+no_time_past_the_greatest : time_of (codes "9223372036.854775808") ≡ None
+no_time_past_the_greatest = refl
+
+no_time_with_two_points : time_of (codes "1.2.3") ≡ None
+no_time_with_two_points = refl
+
+carriage_return_is_blank : is_blank_byte 13 ≡ true
+carriage_return_is_blank = refl
+
+line_feed_is_not_blank : is_blank_byte 10 ≡ false
+line_feed_is_not_blank = refl
+
+-- the parts of an input
+
+line_with_a_line_behind : IsFirstLine (codes "a\nb\n") (codes "a") (Some (codes "b\n"))
+line_with_a_line_behind = (refl, refl)
+
+line_without_a_line_feed : IsFirstLine (codes "a") (codes "a") None
+line_without_a_line_feed = refl
+
+front_at_the_first_mark : front_of (codes "d\n%%\nc\n%%\n") ≡ Some (codes "d\n", codes "c\n%%\n")
+front_at_the_first_mark = refl
+
+no_front_at_a_mark_with_more : front_of (codes "d\n%% \n") ≡ None
+no_front_at_a_mark_with_more = refl
+
+cut_round_a_mark : IsCut (codes "d\n%%\nc") (codes "d\n", codes "c")
+cut_round_a_mark = inl refl
+
+cut_at_the_last_mark : IsCut (codes "d\n%%") (codes "d\n", [])
+cut_at_the_last_mark = inr (refl, refl)
+
+-- reading to the end
+
+read_in_two_turns : Reads 4 (Some (codes "abc")) (Some []) (Ok (codes "abc"))
+read_in_two_turns = (codes "ab" ∷ codes "c" ∷ [], omega arith, refl, (refl, omega arith, refl))
+
+not_read_past_the_longest : Reads 2 (Some (codes "abc")) (Some []) (Ok (codes "abc")) → ⊥
+not_read_past_the_longest reads = absurd (omega (arith, reads.3.1))
+
+too_long_by_a_byte : Reads 2 (Some (codes "abcd")) (Some (codes "d")) (Err fronts.TooLong)
+too_long_by_a_byte = (codes "abc" ∷ [], omega arith, refl, inl (omega arith))
+
+reading_never_tells_of_the_mark : Reads 2 (Some []) (Some []) (Err fronts.NoMark) → ⊥
+reading_never_tells_of_the_mark reads = reads.3
+
+front_of_a_reading_that_failed : ReadsFront 2 (Some (codes "abcd")) (Some (codes "d")) (Err fronts.TooLong)
+front_of_a_reading_that_failed = (Err fronts.TooLong, too_long_by_a_byte, refl)
+
+not_told_past_the_longest : Tells 4 (codes "abcde") (Err fronts.NoMark) → ⊥
+not_told_past_the_longest told = absurd (omega (arith, told.0))
+
+-- push bodies
+
+array_at_its_key : array_at (codes "k") (object (member (codes "j") null (member (codes "k") (array no_items) no_members))) ≡ Ok no_items
+array_at_its_key = refl
+
+no_array_at_an_object : array_at (codes "k") (object (member (codes "k") (object no_members) no_members)) ≡ Err pushes.Shape
+no_array_at_an_object = refl
+
+object_at_its_key : object_at (codes "k") (object (member (codes "k") (object no_members) no_members)) ≡ Ok no_members
+object_at_its_key = refl
+
+pair_of_texts : pairs_of (member (codes "a") (string (codes "x")) no_members) ≡ Ok ((codes "a", codes "x") ∷ [])
+pair_of_texts = refl
+
+no_pair_of_null : pairs_of (member (codes "a") null no_members) ≡ Err pushes.Shape
+no_pair_of_null = refl
+
+parts_of_two : parts_of (array (item (string (codes "5")) (item (string (codes "l")) no_items))) ≡ Ok (record { time = codes "5"; line = codes "l"; metadata = None })
+parts_of_two = refl
+
+no_parts_of_four : parts_of (array (item (string (codes "5")) (item (string (codes "l")) (item null (item null no_items))))) ≡ Err pushes.Shape
+no_parts_of_four = refl
+
+moment_of_digits : moment_of (codes "05") ≡ Ok 5
+moment_of_digits = refl
+
+no_moment_past_the_greatest : moment_of (codes "9223372036854775808") ≡ Err pushes.Time
+no_moment_past_the_greatest = refl
+
+empty_object_is_no_metadata : has_no_metadata (Some (object no_members)) ≡ true
+empty_object_is_no_metadata = refl
+
+null_is_metadata : has_no_metadata (Some null) ≡ false
+null_is_metadata = refl
+
+behind_what_was_read : with_front {A = ℕ} (1 ∷ []) (Ok (2 ∷ 3 ∷ [])) ≡ Ok (1 ∷ 2 ∷ 3 ∷ [])
+behind_what_was_read = refl
+
+-- names
+
+name_of_a_long_line : push_error_name (errors.Fault pushes.Line) ≡ codes "Line"
+name_of_a_long_line = refl
+
+name_of_a_group_twice : front_fault_name (fronts.Rules rules.SameGroup) ≡ codes "SameGroup"
+name_of_a_group_twice = refl
+
+name_of_a_busy_book : refusal_name (refusals.Book books.Busy) ≡ codes "Busy"
+name_of_a_busy_book = refl
+
+name_of_a_full_shard : push_refusal (world.Decided 0 replies.Full) ≡ Some (codes "Full")
+name_of_a_full_shard = refl
+
+no_name_where_an_entry_was_taken : push_refusal (world.Decided 0 replies.Accepted) ≡ None
+no_name_where_an_entry_was_taken = refl
+
+-- what is printed
+
+line_of_a_refusal : refusal_line (codes "NoSuch") ≡ codes "refused NoSuch\n"
+line_of_a_refusal = refl
+
+line_of_a_refused_push : bad_push_line (codes "Time") ≡ codes "refused BadPush Time\n"
+line_of_a_refused_push = refl
+
+printed_to_its_end : GrowsTo (codes "closed\n") (Some (codes "a\n")) (Some (codes "a\nb\nclosed\n"))
+printed_to_its_end = (codes "b\n", refl)
+
+nothing_is_taken_back : Grows (Some (codes "a")) (Some []) → ⊥
+nothing_is_taken_back grows = let never = grows.1 in cc
