@@ -107,11 +107,14 @@ module _ (shards : List Journalled) (books : List BookState) where
     where
       is_other : shard_faults.Memory ≡ shard_faults.JournalFull → ⊥
       is_other h = cc
+
       may : (fault : ShardFault) → (fault ≡ shard_faults.JournalFull → is_journal_full shard ≡ true) → (is_journal_full shard ≡ true → fault ≡ shard_faults.JournalFull) → MayRefuse (world_of shards books) (steps.Shard number step) (told_of_shard fault)
       may shard_faults.JournalFull full first = inl (ap (λ s. known s journal_refusal) there ∙ ap (λ b. cond b (Some refusals.JournalFull) None) (full refl))
-      may shard_faults.Memory full first = inr (refl,
+      may shard_faults.Memory full first = inr (
+        refl,
         ap (λ s. may_want (steps.Shard number step) (known s journal_refusal)) there
-          ∙ ap (λ b. may_want (steps.Shard number step) (cond b (Some refusals.JournalFull) None)) (not_true (is_journal_full shard) (λ h. is_other (first h))))
+            ∙ ap (λ b. may_want (steps.Shard number step) (cond b (Some refusals.JournalFull) None)) (not_true (is_journal_full shard) (λ h. is_other (first h))),
+      )
 
   -- a book that a call left as it was
   pub book_kept : (group : ℕ) (book after : BookState) → slice_get books group ≡ Some book → after ≡ book → world_of shards (slice_set books group after) ≡ world_of shards books
