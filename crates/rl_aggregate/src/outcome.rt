@@ -1,5 +1,5 @@
 //! What a query gives at a moment: a vector, or nothing for an error in a line.
-ghost use Rattle.std.specs.Prelude.{◌≡◌};
+ghost use Rattle.std.specs.Prelude.{◌≡◌, IfOk, IsOk};
 
 use crate::total::Total;
 use rl_labels::Labels;
@@ -47,7 +47,11 @@ impl Fraction {
 }
 
 impl TryCopy for Fraction {
-    fn try_copy(&self) -> Result<Self, AllocError> {
+    /// Takes no memory, and is never refused.
+    fn try_copy(&self) -> Result<Self, AllocError>
+        ensures copy { IfOk result (λ copy. copy ≡ self.now) }
+        ensures made { IsOk result }
+    {
         Ok(*self)
     }
 }

@@ -1,4 +1,6 @@
 //! A number of elements, and the bytes of their lines.
+ghost use Rattle.std.specs.Prelude.{◌≡◌, IfOk, IsOk};
+
 use rl_plain::{Same, TryCopy};
 use std::alloc::AllocError;
 
@@ -10,7 +12,11 @@ pub struct Total {
 }
 
 impl TryCopy for Total {
-    fn try_copy(&self) -> Result<Self, AllocError> {
+    /// Takes no memory, and is never refused.
+    fn try_copy(&self) -> Result<Self, AllocError>
+        ensures copy { IfOk result (λ copy. copy ≡ self.now) }
+        ensures made { IsOk result }
+    {
         Ok(*self)
     }
 }

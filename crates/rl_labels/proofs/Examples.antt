@@ -1,10 +1,10 @@
 -- Definitions, computed at values that were worked out by hand.
-use Rattle.std.specs.Prelude.{◌≡◌, ℕ, ◌+◌, ◌^◌, ◌≤◌, nat_le, Bool, true, false, not, ◌&&◌, ◌==◌, List, [], ◌∷◌, codes, length, map, None, Some, Err, Result, if◌then◌else◌, refl}
+use Rattle.std.specs.Prelude.{◌≡◌, ℕ, ◌+◌, ◌^◌, nat_le, true, false, not, ◌&&◌, ◌==◌, List, [], ◌∷◌, codes, length, map, None, Some, Err, Result, if◌then◌else◌, refl}
 use Rattle.std.specs.Option.{unwrap_or}
 use Rattle.std.specs.Ordering.{nat_cmp, ordering_then}
 use Rattle.std.specs.declared.cmp.Ordering.TheVariants.{Less, Equal, Greater}
 use Rattle.std.specs.Cmp.Lexicographic.{slice_cmp}
-use Rattle.std.proofs.Common.{⊎_elim, inr, ap, sym, ◌∙◌, nat_lt}
+use Rattle.std.proofs.Common.{⊎_elim, is_ok, ap, sym, ◌∙◌, nat_lt}
 use Rattle.std.proofs.lemmas.Bool.{true≢false}
 use Rattle.rl_labels.specs.EntryAnswers.{entry_fault}
 use Rattle.rl_labels.specs.EntryOrder.{entry_cmp}
@@ -20,11 +20,11 @@ use Rattle.rl_labels.specs.Rising.{pair_cmp, rises, has_value, is_escaped}
 use Rattle.rl_labels.specs.Selects.{passes, accepts, selects, needs_no_memory}
 use Rattle.rl_labels.specs.declared.entry.Entry.{Entry}
 use Rattle.rl_labels.specs.declared.labels.LabelsError.{LabelsError}
-use Rattle.rl_labels.specs.declared.labels.LabelsError.TheVariants.{BadName, SameName, Memory}
+use Rattle.rl_labels.specs.declared.labels.LabelsError.TheVariants.{BadName, SameName, Memory, TooLong as TextTooLong}
 use Rattle.rl_labels.specs.declared.entry.EntryFault.TheVariants.{NoLabels, TooLong}
 use Rattle.rl_labels.specs.declared.limits.LimitField.TheVariants.{Entries, Cancel, Cache}
-use Rattle.rl_labels.specs.declared.matcher.Matcher.{Matcher}
 use Rattle.rl_labels.specs.declared.matcher.MatchOp.TheVariants.{Equal as OpEqual}
+use Rattle.rl_labels.proofs.PairAnswers.{no_memory}
 
 name_of_all_kinds : is_name (codes "Z9_") ≡ true
 name_of_all_kinds = refl
@@ -153,7 +153,8 @@ unfolding labels_from
 same_name_answered = refl
 
 memory_may_run_out : AnswersPairs (Err Memory) ((codes "a", codes "x") ∷ [])
-memory_may_run_out = inr (refl, refl)
+unfolding canonical_text
+memory_may_run_out = no_memory ((codes "a", codes "x") ∷ []) refl refl (ap (λ es. nat_lt longest_text (length (labels_text es))) (labels_of-label_set_of ((codes "a", codes "x") ∷ []) refl))
 
 -- but it hides no bad name
 bad_name_not_hidden : AnswersPairs (Err Memory) ((codes "9", codes "x") ∷ []) → ⊥
@@ -161,6 +162,13 @@ unfolding labels_from
 bad_name_not_hidden h = ⊎_elim answered (λ m. true≢false (sym m.1)) h
   where
     answered : ◌≡◌ {A = Result LabelSet LabelsError} (Err Memory) (Err BadName) → ⊥
+    answered e = cc
+
+-- and no text that is too long
+long_text_not_hidden : (pairs : List Pair) → labels_from pairs ≡ Err TextTooLong → AnswersPairs (Err Memory) pairs → ⊥
+long_text_not_hidden pairs long h = ⊎_elim (λ e. answered (e ∙ long)) (λ m. true≢false (sym m.1 ∙ ap is_ok long)) h
+  where
+    answered : ◌≡◌ {A = Result LabelSet LabelsError} (Err Memory) (Err TextTooLong) → ⊥
     answered e = cc
 
 -- pairs in order, as they are sorted

@@ -14,7 +14,8 @@ use Rattle.std.proofs.lemmas.List.Sums.{sum_by-cons, AllPass-from_list_all, list
 use Rattle.std.proofs.lemmas.Cmp.{tied_itself}
 use Rattle.rl_labels.specs.Name.{name_cmp, is_text, is_name, is_stream_name}
 use Rattle.rl_labels.specs.LabelSet.{Pair, is_empty, is_label, are_labels, label, label_set_of, non_empty, given}
-use Rattle.rl_labels.specs.LabelLaws.{name_cmp_total, name_cmp-IsAntisymmetric, same_text, is_text_itself, other_texts, same_label_set, are_named, are_named-labels, label-label_set_of, given-labels}
+use Rattle.rl_labels.specs.LabelText.{canonical_text, labels_text}
+use Rattle.rl_labels.specs.LabelLaws.{labels_of-label_set_of, name_cmp_total, name_cmp-IsAntisymmetric, same_text, is_text_itself, other_texts, same_label_set, are_named, are_named-labels, label-label_set_of, given-labels}
 use Rattle.rl_labels.specs.Pairs.{names_are_good, times_named, has_same_name}
 use Rattle.rl_labels.specs.Rising.{pair_cmp, rises, has_value}
 
@@ -294,3 +295,8 @@ set_sorts pairs sorted h up =
 -- and the set gives what the pairs give
 pub given_by_set : (pairs : List Pair) (q : List ℕ) → names_are_good pairs ≡ true → label (label_set_of pairs) q ≡ given pairs q
 given_by_set pairs q good = label-label_set_of pairs q (named_from_good pairs good)
+
+-- and their text is that of the set
+pub text_sorts : (pairs sorted : List Pair) → Sorts pairs sorted → rises sorted ≡ true → canonical_text (label_set_of pairs) ≡ labels_text (filter has_value sorted)
+unfolding canonical_text
+text_sorts pairs sorted h up = ap canonical_text (sym (set_sorts pairs sorted h up)) ∙ ap labels_text (labels_of-label_set_of (filter has_value sorted) (labels_sorts pairs sorted h up))

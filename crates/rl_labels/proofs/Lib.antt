@@ -4,3 +4,4 @@ pub mod Overrides
 pub mod PairAnswers
 pub mod Sameness
 pub mod Steps
+pub mod TextLengths

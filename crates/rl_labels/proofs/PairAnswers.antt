@@ -1,6 +1,6 @@
 -- What the pairs answer, case by case.
-use Rattle.std.proofs.Common.{◌≡◌, ◌⊎◌, inl, inr, ⊎_elim, ℕ, ◌<◌, ◌≤◌, nat_lt, Bool, true, false, cond, not, ◌&&◌, List, Ok, Err, Result, length, refl, sym, ap, ◌∙◌, IsTrue, IfOk}
-use Rattle.std.proofs.lemmas.Bool.{and_parts, and_from, true≢false, lt-ltb, le-ltb, le-leb, ltb-false}
+use Rattle.std.proofs.Common.{◌≡◌, inl, inr, ⊎_elim, ℕ, nat_lt, Bool, true, false, cond, not, List, Ok, Err, Result, length, refl, sym, ap, ◌∙◌, is_ok, IfOk, IsTrue}
+use Rattle.std.proofs.lemmas.Bool.{and_from, le-leb, ltb-false}
 use Rattle.rl_labels.specs.LabelSet.{Pair, LabelSet, labels_of, label, label_set_of, given}
 use Rattle.rl_labels.specs.LabelText.{canonical_text}
 use Rattle.rl_labels.specs.Pairs.{names_are_good, has_same_name, longest_text, labels_from, AnswersPairs}
@@ -27,33 +27,14 @@ bad_names pairs bad = inl (sym (answer_is pairs false _ _ bad refl refl))
 pub same_names : (pairs : List Pair) → names_are_good pairs ≡ true → has_same_name pairs ≡ true → AnswersPairs (Err SameName) pairs
 same_names pairs good same = inl (sym (answer_is pairs true true _ good same refl))
 
-pub no_memory : (pairs : List Pair) → names_are_good pairs ≡ true → has_same_name pairs ≡ false → AnswersPairs (Err Memory) pairs
-no_memory pairs good apart = inr (refl, and_from _ _ good (ap not apart))
+pub long_text : (pairs : List Pair) → names_are_good pairs ≡ true → has_same_name pairs ≡ false → nat_lt longest_text (length (canonical_text (label_set_of pairs))) ≡ true → AnswersPairs (Err TooLong) pairs
+long_text pairs good apart long = inl (sym (answer_is pairs true false true good apart long))
 
-pub long_text : (pairs : List Pair) → names_are_good pairs ≡ true → has_same_name pairs ≡ false → longest_text < length (canonical_text (label_set_of pairs)) → AnswersPairs (Err TooLong) pairs
-long_text pairs good apart long = inl (sym (answer_is pairs true false true good apart (lt-ltb _ _ long)))
+pub labels_made : (pairs : List Pair) (set : LabelSet) → names_are_good pairs ≡ true → has_same_name pairs ≡ false → nat_lt longest_text (length (canonical_text (label_set_of pairs))) ≡ false → set ≡ label_set_of pairs → AnswersPairs (Ok set) pairs
+labels_made pairs set good apart short same = inl (ap Ok same ∙ sym (answer_is pairs true false false good apart short))
 
-pub labels_made : (pairs : List Pair) (set : LabelSet) → names_are_good pairs ≡ true → has_same_name pairs ≡ false → length (canonical_text set) ≤ longest_text → set ≡ label_set_of pairs → AnswersPairs (Ok set) pairs
-labels_made pairs set good apart short same =
-    inl (ap Ok same ∙ sym (answer_is pairs true false false good apart (ap (λ s. nat_lt longest_text (length (canonical_text s))) (sym same) ∙ le-ltb _ _ short)))
-
--- the clauses of the public call
-pub exact_answer : (pairs : List Pair) (r : Result LabelSet LabelsError) → AnswersPairs r pairs → (r ≡ Err Memory) ⊎ (r ≡ labels_from pairs)
-exact_answer pairs r h = ⊎_elim inr (λ m. inl m.0) h
-
-pub bad_name_answer : (pairs : List Pair) (r : Result LabelSet LabelsError) → AnswersPairs r pairs → IsTrue (not (names_are_good pairs)) → r ≡ Err BadName
-bad_name_answer pairs r h bad =
-    let is_bad : names_are_good pairs ≡ false = turned (names_are_good pairs) bad in
-    ⊎_elim (λ e. e ∙ answer_is pairs false _ _ is_bad refl refl) (λ m. absurd (true≢false (sym (and_parts (names_are_good pairs) (not (has_same_name pairs)) m.1).0 ∙ is_bad))) h
-  where
-    turned : (b : Bool) → not b ≡ true → b ≡ false
-    turned true e = sym e
-    turned false e = refl
-
-pub same_name_answer : (pairs : List Pair) (r : Result LabelSet LabelsError) → AnswersPairs r pairs → IsTrue (names_are_good pairs && has_same_name pairs) → r ≡ Err SameName
-same_name_answer pairs r h twice =
-    let parts = and_parts (names_are_good pairs) (has_same_name pairs) twice in
-    ⊎_elim (λ e. e ∙ answer_is pairs true true _ parts.0 parts.1 refl) (λ m. absurd (true≢false (sym (and_parts (names_are_good pairs) (not (has_same_name pairs)) m.1).1 ∙ ap not parts.1))) h
+pub no_memory : (pairs : List Pair) → names_are_good pairs ≡ true → has_same_name pairs ≡ false → nat_lt longest_text (length (canonical_text (label_set_of pairs))) ≡ false → AnswersPairs (Err Memory) pairs
+no_memory pairs good apart short = inr (refl, ap is_ok (answer_is pairs true false false good apart short))
 
 -- what an answer that is a set gives
 pub given_answer : (pairs : List Pair) (r : Result LabelSet LabelsError) → AnswersPairs r pairs → IfOk r (λ set. (name : List ℕ) → label set name ≡ given pairs name)

@@ -1,5 +1,5 @@
 -- What `Labels::from_pairs` answers.
-use Rattle.std.specs.Prelude.{◌≡◌, ◌⊎◌, ◌&&◌, IsTrue, ℕ, Bool, not, nat_lt, List, length, Result, Ok, Err, if◌then◌else◌}
+use Rattle.std.specs.Prelude.{◌≡◌, ◌⊎◌, IsOk, ℕ, Bool, not, nat_lt, List, length, Result, Ok, Err, if◌then◌else◌}
 use Rattle.std.specs.List.{list_all, list_any, count_by}
 use Rattle.rl_labels.specs.Name.{is_text, is_stream_name}
 use Rattle.rl_labels.specs.LabelSet.{Pair, LabelSet, label_set_of}
@@ -31,6 +31,6 @@ labels_from pairs =
     else (if nat_lt longest_text (length (canonical_text (label_set_of pairs))) then Err TooLong
     else Ok (label_set_of pairs)))
 
--- the answer is that of the pairs, or memory ran out, where their names are good and differ
+-- the answer is that of the pairs, or memory ran out where they make a label set
 abbrev pub AnswersPairs : Result LabelSet LabelsError → List Pair → Type 0
-AnswersPairs answer pairs = (answer ≡ labels_from pairs) ⊎ ((answer ≡ Err Memory) × IsTrue (names_are_good pairs && not (has_same_name pairs)))
+AnswersPairs answer pairs = (answer ≡ labels_from pairs) ⊎ ((answer ≡ Err Memory) × IsOk (labels_from pairs))

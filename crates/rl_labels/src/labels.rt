@@ -1,14 +1,14 @@
 //! Label sets: a finite map from names to values, with its canonical text kept beside it.
-ghost use Rattle.std.specs.Prelude.{◌≡◌, ◌⊎◌, ◌==◌, map, if◌then◌else◌, [], nat_lt, length, not, ◌&&◌, IsTrue, IfOk, OnOk, Err, ◌++◌, Some, ◌∷◌, encode_utf8, List, ℕ, string_bytes};
+ghost use Rattle.std.specs.Prelude.{◌≡◌, ◌==◌, ◌-◌, ◌≤◌, map, if◌then◌else◌, [], nat_lt, length, not, IsTrue, IfOk, OnOk, SomeIff, ◌++◌, Some, ◌∷◌, encode_utf8, List, ℕ, string_bytes};
 ghost use Rattle.std.specs.Option.{option_copied};
-ghost use Rattle.std.specs.List.{filter, list_all, list_any, flat_map, join_with_byte};
+ghost use Rattle.std.specs.List.{count_by, filter, list_all, list_any, flat_map, join_with_byte};
 ghost use Rattle.std.specs.List.Sorted.{IsPermutation, IsSorted};
 ghost use Rattle.std.specs.FinMap.Entries.{find, put, where_key};
 ghost use Rattle.rl_labels.specs.Name.{name_cmp, is_text, is_name, is_name_start, is_name_byte, is_stream_name};
 ghost use Rattle.rl_labels.specs.LabelSet.{are_labels, override};
 ghost use Rattle.rl_labels.specs.LabelText.{label_text, labels_text, escaped};
 ghost use Rattle.rl_labels.specs.Rising.{pair_cmp, rises, has_value, is_escaped};
-ghost use Rattle.rl_labels.specs.Pairs.{AnswersPairs, names_are_good};
+ghost use Rattle.rl_labels.specs.Pairs.{AnswersPairs, longest_text, names_are_good};
 
 use rl_plain::{PlainList, PlainText, Same, TryCopy};
 use std::alloc::{AllocError, Global};
@@ -79,13 +79,13 @@ fn labels_from(alloc: Global, mut pairs: Vec<(PlainText, PlainText)>) -> Result<
         return Err(LabelsError::SameName);
     }
     keep_values(&mut pairs);
-    let Ok(labels) = Labels::from_labels(alloc, pairs) else {
-        return Err(LabelsError::Memory);
-    };
-    if labels.as_text().len() > MAX_TEXT_LEN {
+    if is_long(&pairs) {
         return Err(LabelsError::TooLong);
     }
-    Ok(labels)
+    match Labels::from_labels(alloc, pairs) {
+        Ok(labels) => Ok(labels),
+        Err(AllocError) => Err(LabelsError::Memory),
+    }
 }
 
 // Whether each name is one that a stream may have.
@@ -120,6 +120,34 @@ fn keep_values(pairs: &mut Vec<(PlainText, PlainText)>)
     ensures { pairs.new.items ≡ filter has_value pairs.old.items }
 {
     pairs.retain(|pair| !pair.1.is_empty());
+}
+
+// Whether the text of these labels is longer than a stream's may be, counted without memory. Before each label stands a
+// brace or a comma, and one brace behind the last.
+#[tactic(auto, using(crate::proofs::TextLengths::long_from_marked))]
+fn is_long(labels: &[(PlainText, PlainText)]) -> bool
+    ensures { result ≡ nat_lt longest_text (length (labels_text labels.now)) }
+{
+    let mut room = MAX_TEXT_LEN - 1;
+    for label in labels {
+        let Some(left) = room_after(room, label) else {
+            return true;
+        };
+        room = left;
+    }
+    false
+}
+
+// The room that is left behind a label and the mark before it, if they fit. Four bytes are the mark, `=` and two quotes.
+#[tactic(auto, using(crate::proofs::TextLengths::marked_length))]
+fn room_after(room: usize, label: &(PlainText, PlainText)) -> Option<usize>
+    ensures { SomeIff result (length (44 ∷ label_text label.now) ≤ room) (room - length (44 ∷ label_text label.now)) }
+{
+    let value = label.1.as_str();
+    room.checked_sub(4)?
+        .checked_sub(label.0.len())?
+        .checked_sub(value.len())?
+        .checked_sub(count_escapes(value.as_bytes()))
 }
 
 // The value of the label with this name.
@@ -322,9 +350,21 @@ fn push_char(text: &mut String, c: char) -> Result<(), AllocError>
 fn has_escapes(bytes: &[u8]) -> bool
     ensures { result ≡ list_any is_escaped bytes.now }
 {
-    bytes
-        .iter()
-        .any(|byte| *byte == b'\\' || *byte == b'"' || *byte == b'\n')
+    bytes.iter().any(|byte| is_escaped(*byte))
+}
+
+// How many of the bytes are escaped.
+fn count_escapes(bytes: &[u8]) -> usize
+    ensures { result ≡ count_by is_escaped bytes.now }
+{
+    bytes.iter().filter(|byte| is_escaped(**byte)).count()
+}
+
+// Whether the byte is written as two bytes.
+fn is_escaped(byte: u8) -> bool
+    ensures { result ≡ is_escaped byte }
+{
+    byte == b'\\' || byte == b'"' || byte == b'\n'
 }
 
 // The labels by rising name, and their canonical text.
@@ -358,7 +398,6 @@ impl Model for Labels {
 impl Labels {
     ghost use Rattle.rl_labels.specs.LabelSet.{no_labels, with_label, label_set_of, label, labels_of, given};
     ghost use Rattle.rl_labels.specs.LabelText.{canonical_text};
-    ghost use Rattle.rl_labels.specs.Pairs.{labels_from, has_same_name};
     ghost use Rattle.rl_labels.specs.EntryParts.{are_stream_labels};
 
     /// The set of the pairs with a value that is not empty, in any order. The lowest fault is answered.
@@ -366,9 +405,7 @@ impl Labels {
         alloc: Global,
         pairs: Vec<(PlainText, PlainText)>,
     ) -> Result<Labels, LabelsError>
-        ensures exact { (result ≡ Err LabelsError.Memory) ⊎ (result ≡ labels_from pairs.items) }
-        ensures bad_name { IsTrue (not (names_are_good pairs.items)) → result ≡ Err LabelsError.BadName }
-        ensures same_name { IsTrue (names_are_good pairs.items && has_same_name pairs.items) → result ≡ Err LabelsError.SameName }
+        ensures exact { AnswersPairs result pairs.items }
         ensures of_stream { IfOk result (λ labels. IsTrue (are_stream_labels labels)) }
         ensures given { IfOk result (λ labels. (name : List ℕ) → label labels name ≡ given pairs.items name) }
     {

@@ -118,15 +118,17 @@ fn refused_pairs(rt: HostRuntime) -> Result<(), Fail> {
 #[test]
 fn the_longest_text(rt: HostRuntime) -> Result<(), Fail> {
     let cases = [
-        ("a", 'x', 4090, None),
-        ("a", 'x', 4091, Some(LabelsError::TooLong)),
-        ("a", '"', 2045, None),
-        ("a", '"', 2046, Some(LabelsError::TooLong)),
-        ("9", 'x', 4091, Some(LabelsError::BadName)),
-        ("b", 'x', 4091, Some(LabelsError::SameName)),
+        ("a", 'x', 4090, "", None),
+        ("a", 'x', 4091, "", Some(LabelsError::TooLong)),
+        ("a", '"', 2045, "", None),
+        ("a", '"', 2046, "", Some(LabelsError::TooLong)),
+        ("a", 'x', 4083, "\n", None),
+        ("a", 'x', 4084, "\n", Some(LabelsError::TooLong)),
+        ("9", 'x', 4091, "", Some(LabelsError::BadName)),
+        ("b", 'x', 4091, "", Some(LabelsError::SameName)),
     ];
-    for (name, c, count, want) in cases {
-        let mut pairs = pairs_of(rt.alloc(), [("b", "")].as_slice())?;
+    for (name, c, count, other, want) in cases {
+        let mut pairs = pairs_of(rt.alloc(), [("b", other)].as_slice())?;
         pairs.push((text(rt.alloc(), name)?, row(rt.alloc(), c, count)?))?;
         let made = Labels::from_pairs(rt.alloc(), pairs);
         assert_eq!(rt; made.err(), want, "{name} {c} {count}");

@@ -1,4 +1,6 @@
 //! Evaluations of a group: what each of its rules made of its query's outcome at a moment.
+ghost use Rattle.std.specs.Prelude.{◌≡◌, IfOk, IsOk};
+
 use crate::rule::RuleKind;
 use rl_aggregate::Sample;
 use rl_labels::{Labels, Ns};
@@ -44,7 +46,11 @@ pub enum Cause {
 }
 
 impl TryCopy for Cause {
-    fn try_copy(&self) -> Result<Self, AllocError> {
+    /// Takes no memory, and is never refused.
+    fn try_copy(&self) -> Result<Self, AllocError>
+        ensures copy { IfOk result (λ copy. copy ≡ self.now) }
+        ensures made { IsOk result }
+    {
         Ok(*self)
     }
 }

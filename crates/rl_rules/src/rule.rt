@@ -1,4 +1,6 @@
 //! Rules and groups of rules, as in Prometheus' rule files.
+ghost use Rattle.std.specs.Prelude.{◌≡◌, IfOk, IsOk};
+
 use rl_plain::{PlainList, PlainText, Same, TryCopy};
 use rl_query::Query;
 use std::alloc::AllocError;
@@ -27,7 +29,11 @@ pub enum RuleKind {
 }
 
 impl TryCopy for RuleKind {
-    fn try_copy(&self) -> Result<Self, AllocError> {
+    /// Takes no memory, and is never refused.
+    fn try_copy(&self) -> Result<Self, AllocError>
+        ensures copy { IfOk result (λ copy. copy ≡ self.now) }
+        ensures made { IsOk result }
+    {
         Ok(*self)
     }
 }

@@ -3,8 +3,8 @@ ghost use Rattle.rl_world.specs.BookCalls.{IsFresh};
 
 use super::*;
 use crate::testing::{
-    A_MINUTE, ANOTHER_GROUP, Do, TEN_SECONDS, count_of, evaluate, list_of, opened, recorded,
-    recorder, run, text_of,
+    A_MINUTE, ANOTHER_GROUP, Do, TEN_SECONDS, THREE_RULES, count_of, evaluate, list_of, opened,
+    recorded, recorder, run, text_of,
 };
 use rl_labels::DEFAULT_LIMITS;
 use rl_sinks::Sink;
@@ -130,6 +130,29 @@ eval 10000000000 g
     evaluate(&mut world, rt.alloc(), 0, 11)?;
     let text = "{__name__=\"c\",app=\"a\"} 2 11000000000\n";
     assert_eq!(rt; text_of(&world, 0, 0, 1), Some(text));
+    Ok(())
+}
+
+// The rules of a group stand in their order, also two with one term and one without a sample.
+#[test]
+fn three_rules(rt: HostRuntime) -> Result<(), Fail> {
+    let mut world = recorded(rt.alloc(), DEFAULT_LIMITS, 1, THREE_RULES, 8)?;
+    let pushes = [Do::Push(0, 1, "x"), Do::Push(0, 5, "y")];
+    run(&mut world, rt.alloc(), pushes.as_slice())?;
+    let told = evaluate(&mut world, rt.alloc(), 0, 12)?;
+    let want = r#"0 committed, places 2, behind
+eval 12000000000 g
+{__name__="c",app="a"} 1
+{__name__="d",app="a"} 2
+{__name__="e",app="a"} 1
+"#;
+    assert_eq!(rt; told.as_str(), want);
+    let told = evaluate(&mut world, rt.alloc(), 0, 20)?;
+    let want = r#"1 committed, places 3, behind
+eval 20000000000 g
+{__name__="d",app="a"} 2
+"#;
+    assert_eq!(rt; told.as_str(), want);
     Ok(())
 }
 

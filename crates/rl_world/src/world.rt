@@ -84,6 +84,13 @@ impl<S: Sink> World<S> {
         Ok(())
     }
 
+    /// How many groups it has.
+    pub fn groups(&self) -> usize
+        ensures { result ≡ length self.now.books }
+    {
+        self.parts.books.len()
+    }
+
     /// The book of a group by its number.
     pub fn book(&self, group: usize) -> Option<&Book<S>>
         ensures { option_copied result ≡ slice_get self.now.books group }

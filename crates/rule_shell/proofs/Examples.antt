@@ -10,7 +10,7 @@ use Rattle.rl_world.specs.declared.step.Reply.TheVariants as world
 use Rattle.rule_shell.specs.Command.{pushes, evaluates, shows, ends, command_of, time_of, is_blank_byte}
 use Rattle.rule_shell.specs.Front.{IsFirstLine, front_of, IsCut}
 use Rattle.rule_shell.specs.Names.{push_error_name, front_fault_name, refusal_name, push_refusal}
-use Rattle.rule_shell.specs.Printed.{Grows, GrowsTo, refusal_line, bad_push_line}
+use Rattle.rule_shell.specs.Printed.{refusal_line, bad_push_line}
 use Rattle.rule_shell.specs.PushBody.{array_at, object_at, pairs_of, parts_of, moment_of, has_no_metadata}
 use Rattle.rule_shell.specs.PushForms.{with_front}
 use Rattle.rule_shell.specs.Reading.{Reads, ReadsFront, Tells}
@@ -155,9 +155,3 @@ line_of_a_refusal = refl
 
 line_of_a_refused_push : bad_push_line (codes "Time") ≡ codes "refused BadPush Time\n"
 line_of_a_refused_push = refl
-
-printed_to_its_end : GrowsTo (codes "closed\n") (Some (codes "a\n")) (Some (codes "a\nb\nclosed\n"))
-printed_to_its_end = (codes "b\n", refl)
-
-nothing_is_taken_back : Grows (Some (codes "a")) (Some []) → ⊥
-nothing_is_taken_back grows = let never = grows.1 in cc

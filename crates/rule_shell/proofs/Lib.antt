@@ -7,5 +7,7 @@ pub mod Gathering
 pub mod Lines
 mod Numbers
 mod FreshSinks
-mod Growing
+mod Printing
+pub mod Telling
+mod Groups
 mod Examples

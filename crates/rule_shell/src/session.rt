@@ -1,13 +1,16 @@
 //! A session: commands in their order over a world of one shard, and what they print.
-ghost use Rattle.std.specs.Prelude.{◌≡◌, ◌≢◌, ◌<◌, length, map, codes, None, Some, Ok, OnOk, IfOk};
-ghost use Rattle.std.specs.List.{AllByRecursion};
-ghost use Rattle.rl_world.specs.BookCalls.{IsFresh};
+ghost use Rattle.std.specs.Prelude.{◌≡◌, ◌≢◌, ◌<◌, length, map, take, flat_map, codes, None, Some, Ok, IfSome, OnOk, IfOk, slice_get};
+ghost use Rattle.std.specs.List.{AllByRecursion, concat};
+ghost use Rattle.std.specs.Option.{option_copied};
 ghost use Rattle.std.specs.Io.KnownBytes.{Appends};
-ghost use Rattle.rule_shell.specs.Command.{asked, command_of, ends};
-ghost use Rattle.rule_shell.specs.Printed.{Grows, GrowsTo, refusal_line, bad_push_line};
+ghost use Rattle.rl_world.specs.BookCalls.{IsFresh};
+ghost use Rattle.rule_shell.specs.Command.{asked, pushes, evaluates, shows, ends, command_of};
+ghost use Rattle.rule_shell.specs.Printed.{refusal_line, bad_push_line, counts_line, entry_line, entry_lines, is_refused, pushed_text, none_pushed, number_text, behind_line, committed_text, shown_text};
+ghost use Rattle.rule_shell.specs.Session.{Tells, TellsLine, TellsText, TellsSession, ended_by, group_number, book_of, answer_of, pushed_answer, shown_answer, committed_of};
 ghost use Rattle.rule_shell.specs.declared.session.RunError.TheVariants.{WriteFault, Memory};
 
 use crate::command::{Command, is_blank, read_command};
+use crate::front::first_line;
 use crate::names::{push_error_name, push_refusal, refusal_name};
 use crate::push::read_push;
 use rl_labels::{Entry, Limits, Ns};
@@ -73,12 +76,11 @@ enum Answer {
     Ended,
 }
 
-// A world of one shard, and how many groups it has.
+// A world of one shard.
 #[derive(Drop)]
 struct Session<S: Sink> {
     alloc: Global,
     world: World<S>,
-    groups: usize,
 }
 
 /// Carries out the commands of a text over empty shards and sinks that have taken nothing, and writes what they print.
@@ -93,63 +95,78 @@ pub fn run_commands<S: Sink, W: Write>(
 ) -> Result<Status, RunError>
     requires lists { length sinks.items ≡ length groups.items }
     requires fresh { AllByRecursion (λ own. AllByRecursion IsFresh (map S.state own.items)) sinks.items }
-    ensures { OnOk result (GrowsTo (codes "closed\n") (W.contents out.old) (W.contents out.new)) }
+    ensures { TellsSession commands.now (W.contents out.old) result (W.contents out.new) }
 {
     let mut session = Session {
         alloc,
-        groups: groups.len(),
         world: World::open(alloc, limits, 1, groups, sinks)?,
     };
-    let answer = answer_lines(&mut session, commands, out);
+    let refused = answer_lines(&mut session, commands, out);
     // Also a session that stopped early writes what its sinks have taken.
     let failed = session.world.close_sinks();
-    let answer = answer?;
+    let refused = refused?;
     out.write_all(b"closed\n")?;
     out.flush()?;
-    Ok(status_of(answer, failed))
+    Ok(status_of(refused, failed))
 }
 
-fn status_of(answer: Answer, failed: u64) -> Status
+fn status_of(refused: bool, failed: u64) -> Status
     ensures unwritten { 0 < failed → result ≡ Status.Unwritten }
-    ensures refused { failed ≡ 0 → answer ≡ Answer.Refused → result ≡ Status.Refused }
-    ensures taken { failed ≡ 0 → answer ≢ Answer.Refused → result ≡ Status.Taken }
+    ensures written { failed ≡ 0 → result ≡ ended_by refused }
 {
-    match answer {
-        _ if failed > 0 => Status::Unwritten,
-        Answer::Refused => Status::Refused,
-        Answer::Taken | Answer::Ended => Status::Taken,
+    if failed > 0 {
+        Status::Unwritten
+    } else if refused {
+        Status::Refused
+    } else {
+        Status::Taken
     }
 }
 
-// Answers each line in order up to `end`. Refused if one is.
+// Answers each line in order up to `end`. Whether one was refused, wholly or in part.
 fn answer_lines<S: Sink, W: Write>(
     session: &mut Session<S>,
     commands: &str,
     out: &mut W,
-) -> Result<Answer, RunError>
-    ensures { OnOk result (Grows (W.contents out.old) (W.contents out.new)) }
+) -> Result<bool, RunError>
+    ensures { TellsText commands.now (W.contents out.old) result (W.contents out.new) }
 {
-    let mut all = Answer::Taken;
-    for line in commands.split('\n') {
-        if is_blank(line) {
-            continue;
-        }
-        match session.answer(line, out)? {
+    let mut refused = false;
+    let mut rest = commands;
+    loop {
+        let (line, behind) = first_line(rest);
+        match answer_line(session, line, out)? {
             Answer::Taken => {}
-            Answer::Refused => all = Answer::Refused,
-            Answer::Ended => break,
+            Answer::Refused => refused = true,
+            Answer::Ended => return Ok(refused),
         }
-        out.flush()?;
+        let Some(behind) = behind else {
+            return Ok(refused);
+        };
+        rest = behind;
     }
-    Ok(all)
+}
+
+// Answers a line, and passes over a blank one.
+fn answer_line<S: Sink, W: Write>(
+    session: &mut Session<S>,
+    line: &str,
+    out: &mut W,
+) -> Result<Answer, RunError>
+    ensures { TellsLine line.now (W.contents out.old) result (W.contents out.new) }
+{
+    if is_blank(line) {
+        return Ok(Answer::Taken);
+    }
+    let answer = session.answer(line, out)?;
+    out.flush()?;
+    Ok(answer)
 }
 
 impl<S: Sink> Session<S> {
     // Carries out the command of a line.
     fn answer<W: Write>(&mut self, line: &str, out: &mut W) -> Result<Answer, RunError>
-        ensures grows { OnOk result (Grows (W.contents out.old) (W.contents out.new)) }
-        ensures no_command { command_of line.now ≡ None → OnOk result (Appends (W.contents out.old) (W.contents out.new) (refusal_line (codes "BadCommand"))) }
-        ensures refused { command_of line.now ≡ None → IfOk result (λ answer. answer ≡ Answer.Refused) }
+        ensures told { Tells self.old.world.books (command_of line.now) (W.contents out.old) result (W.contents out.new) }
         ensures end { command_of line.now ≡ Some ends → result ≡ Ok Answer.Ended }
     {
         match read_command(line) {
@@ -159,7 +176,7 @@ impl<S: Sink> Session<S> {
     }
 
     fn obey<W: Write>(&mut self, command: Command<'_>, out: &mut W) -> Result<Answer, RunError>
-        ensures grows { OnOk result (Grows (W.contents out.old) (W.contents out.new)) }
+        ensures told { Tells self.old.world.books (Some (asked command.entry)) (W.contents out.old) result (W.contents out.new) }
         ensures end { asked command.entry ≡ ends → result ≡ Ok Answer.Ended }
     {
         match command {
@@ -172,7 +189,7 @@ impl<S: Sink> Session<S> {
 
     // Hands the entries of a push body to the shard, in their order.
     fn push<W: Write>(&mut self, json: &str, out: &mut W) -> Result<Answer, RunError>
-        ensures { OnOk result (Grows (W.contents out.old) (W.contents out.new)) }
+        ensures { Tells self.old.world.books (Some (pushes json.now)) (W.contents out.old) result (W.contents out.new) }
     {
         let entries = match read_push(self.alloc, json.as_bytes()) {
             Ok(entries) => entries,
@@ -186,7 +203,9 @@ impl<S: Sink> Session<S> {
     }
 
     // What the world replied to each entry. With no room for all replies it takes none.
-    fn push_all(&mut self, entries: Vec<Entry>) -> Result<Vec<Reply>, AllocError> {
+    fn push_all(&mut self, entries: Vec<Entry>) -> Result<Vec<Reply>, AllocError>
+        ensures { IfOk result (λ replies. length replies.items ≡ length entries.items) }
+    {
         let mut steps = Vec::with_capacity(self.alloc, entries.len())?;
         for entry in entries {
             let step = ShardStep::Push(entry);
@@ -199,7 +218,7 @@ impl<S: Sink> Session<S> {
 
     // Evaluates a group at a moment.
     fn eval<W: Write>(&mut self, t: Ns, group: &str, out: &mut W) -> Result<Answer, RunError>
-        ensures { OnOk result (Grows (W.contents out.old) (W.contents out.new)) }
+        ensures { Tells self.old.world.books (Some (evaluates t group.now)) (W.contents out.old) result (W.contents out.new) }
     {
         let Some(number) = self.group_number(group) else {
             return refuse(out, "BadCommand");
@@ -233,8 +252,8 @@ impl<S: Sink> Session<S> {
     }
 
     // Shows what a sink of a group keeps.
-    fn show<W: Write>(&mut self, sink: usize, group: &str, out: &mut W) -> Result<Answer, RunError>
-        ensures { OnOk result (Grows (W.contents out.old) (W.contents out.new)) }
+    fn show<W: Write>(&self, sink: usize, group: &str, out: &mut W) -> Result<Answer, RunError>
+        ensures { Tells self.now.world.books (Some (shows sink group.now)) (W.contents out.old) result (W.contents out.new) }
     {
         match self.book_of(group) {
             Some(book) => tell_kept(book, sink, out),
@@ -243,18 +262,20 @@ impl<S: Sink> Session<S> {
     }
 
     // The number of the group with the name, if there is one.
-    fn group_number(&self, name: &str) -> Option<usize> {
-        for number in 0..self.groups {
-            if let Some(book) = self.world.book(number) {
-                if book.group().name.as_str() == name {
-                    return Some(number);
-                }
+    fn group_number(&self, name: &str) -> Option<usize>
+        ensures { result ≡ group_number name.now self.now.world.books }
+    {
+        for number in 0..self.world.groups() {
+            if self.world.book(number)?.group().name.as_str() == name {
+                return Some(number);
             }
         }
         None
     }
 
-    fn book_of(&self, name: &str) -> Option<&Book<S>> {
+    fn book_of(&self, name: &str) -> Option<&Book<S>>
+        ensures { option_copied result ≡ book_of name.now self.now.world.books }
+    {
         self.world.book(self.group_number(name)?)
     }
 }
@@ -266,7 +287,9 @@ fn is_left_open(replies: &[Reply]) -> bool {
 }
 
 // The evaluation that was committed, or the first refusal.
-fn committed_of(replies: Vec<Reply>) -> Result<Committed, Refusal> {
+fn committed_of(replies: Vec<Reply>) -> Result<Committed, Refusal>
+    ensures { result ≡ committed_of replies.items }
+{
     for reply in replies {
         match reply {
             Reply::Committed(committed) => return Ok(committed),
@@ -295,43 +318,70 @@ fn refuse_push<W: Write>(out: &mut W, name: &str) -> Result<Answer, RunError>
 
 // Tells how many entries were accepted, and of the others each with its number and its refusal.
 fn tell_pushed<W: Write>(replies: &[Reply], out: &mut W) -> Result<Answer, RunError>
-    ensures { OnOk result (Grows (W.contents out.old) (W.contents out.new)) }
+    ensures text { OnOk result (Appends (W.contents out.old) (W.contents out.new) (pushed_text replies.now)) }
+    ensures answer { IfOk result (λ answer. answer ≡ pushed_answer replies.now) }
 {
-    let accepted = replies.iter().filter(|reply| is_taken(reply)).count();
-    let refused = replies.iter().filter(|reply| !is_taken(reply)).count();
+    let refused = replies.iter().filter(|reply| is_refused(reply)).count();
+    let answer = tell_counts(replies.len() - refused, refused, out)?;
+    tell_refusals(replies, out)?;
+    Ok(answer)
+}
+
+fn is_refused(reply: &Reply) -> bool
+    ensures { result ≡ is_refused reply.now }
+{
+    push_refusal(reply).is_some()
+}
+
+// Tells how many entries were accepted, and how many refused if some were.
+fn tell_counts<W: Write>(accepted: usize, refused: usize, out: &mut W) -> Result<Answer, RunError>
+    ensures text { OnOk result (Appends (W.contents out.old) (W.contents out.new) (counts_line accepted refused)) }
+    ensures answer { IfOk result (λ answer. answer ≡ answer_of refused) }
+{
     if refused == 0 {
         writeln!(out, "accepted {accepted}")?;
         return Ok(Answer::Taken);
     }
     writeln!(out, "accepted {accepted} refused {refused}")?;
-    for (number, reply) in replies.iter().enumerate() {
-        tell_refusal(number, reply, out)?;
-    }
     Ok(Answer::Refused)
 }
 
-fn tell_refusal<W: Write>(number: usize, reply: &Reply, out: &mut W) -> io::Result<()>
-    ensures { OnOk result (Grows (W.contents out.old) (W.contents out.new)) }
+// Tells of each entry that was refused its number and its refusal.
+fn tell_refusals<W: Write>(replies: &[Reply], out: &mut W) -> io::Result<()>
+    ensures { OnOk result (Appends (W.contents out.old) (W.contents out.new) (entry_lines 0 replies.now)) }
 {
-    if let Some(name) = push_refusal(reply) {
-        writeln!(out, "  {number} {name}")?;
+    for (number, reply) in replies.iter().enumerate() {
+        if let Some(name) = push_refusal(reply) {
+            tell_refusal(number, name, out)?;
+        }
     }
     Ok(())
 }
 
-fn is_taken(reply: &Reply) -> bool {
-    push_refusal(reply).is_none()
+fn tell_refusal<W: Write>(number: usize, name: &str, out: &mut W) -> io::Result<()>
+    ensures { OnOk result (Appends (W.contents out.old) (W.contents out.new) (entry_line number (Some name.now))) }
+{
+    writeln!(out, "  {number} {name}")
 }
 
 // Tells that there was no memory for any of so many entries.
 fn tell_none_pushed<W: Write>(count: usize, out: &mut W) -> Result<Answer, RunError>
-    ensures { OnOk result (Grows (W.contents out.old) (W.contents out.new)) }
+    ensures text { OnOk result (Appends (W.contents out.old) (W.contents out.new) (pushed_text (none_pushed count))) }
+    ensures answer { IfOk result (λ answer. answer ≡ answer_of count) }
 {
-    writeln!(out, "accepted 0 refused {count}")?;
+    let answer = tell_counts(0, count, out)?;
+    tell_each_refused(count, out)?;
+    Ok(answer)
+}
+
+// Tells of each of so many entries that there was no memory for it.
+fn tell_each_refused<W: Write>(count: usize, out: &mut W) -> io::Result<()>
+    ensures { OnOk result (Appends (W.contents out.old) (W.contents out.new) (entry_lines 0 (none_pushed count))) }
+{
     for number in 0..count {
-        writeln!(out, "  {number} Memory")?;
+        tell_refusal(number, "Memory", out)?;
     }
-    Ok(Answer::Refused)
+    Ok(())
 }
 
 // Tells what an evaluation found, and which sinks are behind.
@@ -340,7 +390,8 @@ fn tell_committed<W: Write>(
     committed: &Committed,
     out: &mut W,
 ) -> Result<Answer, RunError>
-    ensures { OnOk result (Grows (W.contents out.old) (W.contents out.new)) }
+    ensures text { OnOk result (Appends (W.contents out.old) (W.contents out.new) (committed_text committed.now)) }
+    ensures answer { IfOk result (λ answer. answer ≡ Answer.Taken) }
 {
     let text = evaluation_text(alloc, SinkKind::Tail, &committed.evaluation)?;
     out.write_all(text.as_bytes())?;
@@ -348,17 +399,24 @@ fn tell_committed<W: Write>(
     Ok(Answer::Taken)
 }
 
+// Tells the numbers of the sinks that are behind, if some are.
 fn tell_behind<W: Write>(behind: &[u64], out: &mut W) -> io::Result<()>
-    ensures { OnOk result (Grows (W.contents out.old) (W.contents out.new)) }
+    ensures { OnOk result (Appends (W.contents out.old) (W.contents out.new) (behind_line behind.now)) }
 {
     if behind.is_empty() {
         return Ok(());
     }
     out.write_all(b"behind")?;
-    for sink in behind {
-        write!(out, " {sink}")?;
+    tell_numbers(behind, out)?;
+    out.write_all(b"\n")
+}
+
+fn tell_numbers<W: Write>(numbers: &[u64], out: &mut W) -> io::Result<()>
+    ensures { OnOk result (Appends (W.contents out.old) (W.contents out.new) (flat_map number_text numbers.now)) }
+{
+    for number in numbers {
+        write!(out, " {number}")?;
     }
-    out.write_all(b"\n")?;
     Ok(())
 }
 
@@ -368,17 +426,31 @@ fn tell_kept<S: Sink, W: Write>(
     sink: usize,
     out: &mut W,
 ) -> Result<Answer, RunError>
-    ensures { OnOk result (Grows (W.contents out.old) (W.contents out.new)) }
+    ensures text { OnOk result (Appends (W.contents out.old) (W.contents out.new) (shown_text (slice_get book.now.sinks sink))) }
+    ensures answer { IfOk result (λ answer. answer ≡ shown_answer (slice_get book.now.sinks sink)) }
 {
     let Some(count) = book.sink_count(sink) else {
         return refuse(out, "BadCommand");
     };
     writeln!(out, "count {count}")?;
+    tell_texts(book, sink, count, out)?;
+    Ok(Answer::Taken)
+}
+
+// Tells at most so many of the texts that a sink keeps.
+fn tell_texts<S: Sink, W: Write>(
+    book: &Book<S>,
+    sink: usize,
+    count: u64,
+    out: &mut W,
+) -> io::Result<()>
+    ensures { IfSome (slice_get book.now.sinks sink) (λ sink. OnOk result (Appends (W.contents out.old) (W.contents out.new) (concat (take count sink.kept)))) }
+{
     for index in 0..count {
         let Some(text) = book.sink_text(sink, index) else {
             break;
         };
         out.write_all(text.as_bytes())?;
     }
-    Ok(Answer::Taken)
+    Ok(())
 }

@@ -1,6 +1,15 @@
--- What was written so far.
-use Rattle.rule_shell.specs.Printed.{Grows}
+-- What was told of the lines so far.
+use Rattle.std.proofs.Common.{length}
+use denote.Text.{Utf8}
+use denote.Shadow.{shadow}
+use Rattle.rule_shell.proofs.Telling.{ToldSoFar}
 use Rattle.rule_shell.proofs.session.answer_lines.Given as goal
 
-abbrev pub invariant-loop-line : goal.invariant-loop-line
-invariant-loop-line g l = Grows (g.W.Write.contents l.fn.out) (g.W.Write.contents l.out)
+abbrev pub decreases-loop-refused : goal.decreases-loop-refused
+decreases-loop-refused g l = length l.rest
+
+abbrev pub invariant-loop-refused : goal.invariant-loop-refused
+invariant-loop-refused g l = record {
+  text : shadow (Utf8 l.rest);
+  so_far : ToldSoFar l.commands l.rest l.refused (g.W.Write.contents l.fn.out) (g.W.Write.contents l.out);
+}
