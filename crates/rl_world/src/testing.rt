@@ -21,12 +21,6 @@ pub(crate) const TEN_SECONDS: &str =
 pub(crate) const A_MINUTE: &str =
     r#"groups = [{name = "g", rules = [{record = "c", expr = 'count_over_time({app="a"}[60s])'}]}]"#;
 
-pub(crate) const THREE_RULES: &str = r#"groups = [{name = "g", rules = [
-    {record = "c", expr = 'count_over_time({app="a"}[10s])'},
-    {record = "d", expr = 'count_over_time({app="a"}[60s])'},
-    {record = "e", expr = 'count_over_time({app="a"}[10s])'},
-]}]"#;
-
 pub(crate) const ANOTHER_GROUP: &str =
     r#"groups = [{name = "h", rules = [{record = "d", expr = 'count_over_time({app="a"}[60s])'}]}]"#;
 

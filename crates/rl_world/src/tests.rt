@@ -3,10 +3,12 @@ ghost use Rattle.rl_world.specs.BookCalls.{IsFresh};
 
 use super::*;
 use crate::testing::{
-    A_MINUTE, ANOTHER_GROUP, Do, TEN_SECONDS, THREE_RULES, count_of, evaluate, list_of, opened,
+    A_MINUTE, ANOTHER_GROUP, Do, TEN_SECONDS, count_of, evaluate, groups_of, list_of, opened,
     recorded, recorder, run, text_of,
 };
-use rl_labels::DEFAULT_LIMITS;
+use rl_labels::{DEFAULT_LIMITS, Limits};
+use rl_plain::{PlainList, PlainText};
+use rl_rules::Group;
 use rl_sinks::Sink;
 use std::alloc::Global;
 use std::process::Abort;
@@ -133,10 +135,27 @@ eval 10000000000 g
     Ok(())
 }
 
+// A group of the rules of these files, in their order.
+fn group_of_all(alloc: Global, files: &[&str]) -> Result<Group, Fail> {
+    let mut rules = Vec::new(alloc);
+    for group in groups_of(alloc, files)? {
+        for rule in group.rules.into_vec() {
+            rules.push(rule)?;
+        }
+    }
+    let name = PlainText::from_str(alloc, "g")?;
+    let rules = PlainList::from_vec(rules);
+    Ok(Group { name, rules })
+}
+
 // The rules of a group stand in their order, also two with one term and one without a sample.
 #[test]
 fn three_rules(rt: HostRuntime) -> Result<(), Fail> {
-    let mut world = recorded(rt.alloc(), DEFAULT_LIMITS, 1, THREE_RULES, 8)?;
+    let files = [TEN_SECONDS, ANOTHER_GROUP, TEN_SECONDS];
+    let groups = list_of(rt.alloc(), group_of_all(rt.alloc(), files.as_slice())?)?;
+    let sinks = list_of(rt.alloc(), list_of(rt.alloc(), recorder(rt.alloc(), 8))?)?;
+    let limits = Limits::check(DEFAULT_LIMITS)?;
+    let mut world = World::open(rt.alloc(), limits, 1, groups, sinks)?;
     let pushes = [Do::Push(0, 1, "x"), Do::Push(0, 5, "y")];
     run(&mut world, rt.alloc(), pushes.as_slice())?;
     let told = evaluate(&mut world, rt.alloc(), 0, 12)?;
@@ -144,7 +163,7 @@ fn three_rules(rt: HostRuntime) -> Result<(), Fail> {
 eval 12000000000 g
 {__name__="c",app="a"} 1
 {__name__="d",app="a"} 2
-{__name__="e",app="a"} 1
+{__name__="c",app="a"} 1
 "#;
     assert_eq!(rt; told.as_str(), want);
     let told = evaluate(&mut world, rt.alloc(), 0, 20)?;

@@ -1,19 +1,26 @@
 -- Definitions, computed at values that were worked out by hand.
 use Rattle.std.specs.Prelude.{codes}
-use Rattle.std.proofs.Common.{◌≡◌, ℕ, true, false, [], ◌∷◌, None, Some, Ok, Err, inl, inr, refl, arith}
+use Rattle.std.specs.Fmt.{digits}
+use Rattle.std.proofs.Common.{◌≡◌, ℕ, true, false, List, [], ◌∷◌, None, Some, Ok, Err, inl, inr, refl, arith}
 use Rattle.serde_json.specs.Data.{null, string, array, object, no_items, item, no_members, member}
 use Rattle.rl_rules.specs.declared.fault.RulesFault.TheVariants as rules
 use Rattle.rl_shard.specs.declared.step.ShardReply.TheVariants as replies
+use Rattle.rl_sinks.specs.SinkState.{SinkState}
+use Rattle.rl_sinks.specs.declared.sink.SinkKind.TheVariants as kinds
+use Rattle.rl_world.specs.BookCalls.{new_book}
+use Rattle.rl_world.specs.WorldState.{BookState}
 use Rattle.rl_world.specs.declared.fault.BookFault.TheVariants as books
 use Rattle.rl_world.specs.declared.fault.Refusal.TheVariants as refusals
 use Rattle.rl_world.specs.declared.step.Reply.TheVariants as world
 use Rattle.rule_shell.specs.Command.{pushes, evaluates, shows, ends, command_of, time_of, is_blank_byte}
-use Rattle.rule_shell.specs.Front.{IsFirstLine, front_of, IsCut}
+use Rattle.rule_shell.specs.Front.{lines_of, IsFirstLine, front_of, IsCut}
 use Rattle.rule_shell.specs.Names.{push_error_name, front_fault_name, refusal_name, push_refusal}
-use Rattle.rule_shell.specs.Printed.{refusal_line, bad_push_line}
+use Rattle.rule_shell.specs.Printed.{refusal_line, bad_push_line, pushed_text, none_pushed, behind_line, shown_text}
 use Rattle.rule_shell.specs.PushBody.{array_at, object_at, pairs_of, parts_of, moment_of, has_no_metadata}
 use Rattle.rule_shell.specs.PushForms.{with_front}
 use Rattle.rule_shell.specs.Reading.{Reads, ReadsFront, Tells}
+use Rattle.rule_shell.specs.Session.{group_number, sink_of, committed_of, AreLinesTold}
+use Rattle.rule_shell.specs.declared.session.Answer.TheVariants.{Taken, Refused, Ended}
 use Rattle.rule_shell.specs.declared.front.fault.FrontFault.TheVariants as fronts
 use Rattle.rule_shell.specs.declared.push.PushError.TheVariants as errors
 use Rattle.rule_shell.specs.declared.push.PushFault.TheVariants as pushes
@@ -155,3 +162,58 @@ line_of_a_refusal = refl
 
 line_of_a_refused_push : bad_push_line (codes "Time") ≡ codes "refused BadPush Time\n"
 line_of_a_refused_push = refl
+
+counts_without_a_refusal : pushed_text (world.Decided 0 replies.Accepted ∷ world.Decided 1 replies.Accepted ∷ []) ≡ codes "accepted 2\n"
+unfolding digits
+counts_without_a_refusal = refl
+
+counts_with_refusals : pushed_text (world.Decided 0 replies.Accepted ∷ world.Decided 1 replies.Full ∷ world.Refused refusals.Memory ∷ []) ≡ codes "accepted 1 refused 2\n  1 Full\n  2 Memory\n"
+unfolding digits
+counts_with_refusals = refl
+
+no_memory_for_two : pushed_text (none_pushed 2) ≡ codes "accepted 0 refused 2\n  0 Memory\n  1 Memory\n"
+unfolding digits
+no_memory_for_two = refl
+
+two_sinks_behind : behind_line (0 ∷ 12 ∷ []) ≡ codes "behind 0 12\n"
+unfolding digits
+two_sinks_behind = refl
+
+no_sink_behind : behind_line [] ≡ []
+no_sink_behind = refl
+
+-- a recorder with two texts
+abbrev recorder : SinkState
+recorder = record { kind = kinds.Recorder; limit = None; count = 2; kept = codes "a\n" ∷ codes "b\n" ∷ []; closed = false; refusals = 0 }
+
+texts_of_a_recorder : shown_text (Some recorder) ≡ codes "count 2\na\nb\n"
+unfolding digits
+texts_of_a_recorder = refl
+
+no_sink_to_show : shown_text None ≡ codes "refused BadCommand\n"
+no_sink_to_show = refl
+
+-- sessions
+
+-- two books of groups with these names, the second with a sink
+abbrev two_books : List BookState
+two_books = new_book 0 8 1 (record { name = codes "g"; rules = [] }) [] ∷ new_book 1 8 1 (record { name = codes "h"; rules = [] }) (recorder ∷ []) ∷ []
+
+number_of_the_second_group : group_number (codes "h") two_books ≡ Some 1
+number_of_the_second_group = refl
+
+no_number_of_a_longer_name : group_number (codes "hh") two_books ≡ None
+no_number_of_a_longer_name = refl
+
+sink_of_the_second_group : sink_of 0 (codes "h") two_books ≡ Some recorder
+sink_of_the_second_group = refl
+
+no_sink_of_the_first_group : sink_of 0 (codes "g") two_books ≡ None
+no_sink_of_the_first_group = refl
+
+refused_before_it_was_committed : committed_of (world.Begun ∷ world.Refused refusals.JournalFull ∷ world.Refused refusals.NoSuch ∷ []) ≡ Err refusals.JournalFull
+refused_before_it_was_committed = refl
+
+-- a blank line, a line that is no command, an end, and a line that is not looked at
+lines_up_to_an_end : AreLinesTold (lines_of (codes " \t\nx\nend\nx")) (codes "refused BadCommand\n") true
+lines_up_to_an_end = ([], Taken, (refl, refl), (codes "refused BadCommand\n", true, (codes "refused BadCommand\n", Refused, ([], (refl, refl)), ([], false, ([], Ended, ([], (refl, refl)), (refl, refl)), refl, refl)), refl, refl))
