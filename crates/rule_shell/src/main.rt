@@ -5,6 +5,9 @@
 //! - `names`: the names of faults and refusals. `output`: standard output for a sink in a box.
 #![tactic(auto)]
 
+ghost use Rattle.std.specs.Prelude.{◌≡◌, ◌≢◌};
+ghost use Rattle.rule_shell.specs.declared.Stop.TheVariants.{Failed};
+
 mod command;
 mod front;
 mod names;
@@ -47,12 +50,16 @@ enum Stop {
 }
 
 impl From<AllocError> for Stop {
+    ghost from_gives = { λ _ e. e ≡ Failed };
+
     fn from(_error: AllocError) -> Self {
         Stop::Failed
     }
 }
 
 impl<T: Drop> From<AllocFailed<T>> for Stop {
+    ghost from_gives = { λ _ e. e ≡ Failed };
+
     fn from(_error: AllocFailed<T>) -> Self {
         Stop::Failed
     }
@@ -112,7 +119,10 @@ fn options_in<'a>(alloc: Global, words: &'a [String]) -> Result<(), Stop> {
 }
 
 // Why the program stops at a fault of its options.
-fn stop_of(kind: OptionsFault) -> Stop {
+fn stop_of(kind: OptionsFault) -> Stop
+    ensures memory { kind ≡ OptionsFault.OutOfMemory → result ≡ Stop.Failed }
+    ensures other { kind ≢ OptionsFault.OutOfMemory → result ≡ Stop.BadOptions }
+{
     match kind {
         OptionsFault::OutOfMemory => Stop::Failed,
         _ => Stop::BadOptions,
