@@ -1,10 +1,12 @@
 -- What a run of steps makes of the sinks.
 use Rattle.std.specs.Prelude.{◌≡◌, ◌==◌, ℕ, ◌+◌, ◌%◌, ◌^◌, Bool, false, List, [], ◌∷◌, map, length, drop, Option, None, Some, MatchOption, slice_get, slice_set, count_by, zip, if◌then◌else◌}
-use Rattle.std.specs.List.{list_any}
+use Rattle.std.specs.List.{AllByRecursion, list_any}
+use Rattle.rl_labels.specs.declared.entry.Entry.{Entry}
 use Rattle.rl_rules.specs.declared.evaluation.Evaluation.{Evaluation}
 use Rattle.rl_sinks.specs.SinkState.{SinkState}
-use Rattle.rl_world.specs.Offering.{AllOffered, behind_of, is_behind}
-use Rattle.rl_world.specs.WorldState.{BookState, sink_at}
+use Rattle.rl_world.specs.Offering.{AllOffered, TookPrefix, behind_of, is_behind}
+use Rattle.rl_world.specs.WorldState.{BookState, WorldBooks, WorldState, Stands, sink_at, world_of}
+use Rattle.rl_world.specs.WorldStep.{Replay, lists}
 use Rattle.rl_world.specs.declared.step.Committed.{Committed}
 use Rattle.rl_world.specs.declared.step.Step.{Step}
 use Rattle.rl_world.specs.declared.step.Step.TheVariants as steps
@@ -72,3 +74,10 @@ SinksFollow old steps replies new = (group sink : ℕ) (before : SinkState) → 
 -- what a list gained at its end
 abbrev pub gained : List Reply → List Reply → List Reply
 gained old new = drop (length old) new
+
+-- a world answered steps in their order: by LogQL from scratch on the lists that its shards showed, with sinks that took
+-- prefixes of what was committed
+pub record Ran (old : WorldBooks) (steps : List Step) (replies : List Reply) (new : WorldBooks) : Type 0 where
+  pub replay : (before : WorldState (List Entry)) → Stands (world_of old.shards old.books) before → (after : WorldState (List Entry)) × Stands (world_of new.shards new.books) after × Replay lists before steps replies after
+  pub prefixes : AllByRecursion (λ book. AllByRecursion (TookPrefix book.history.evaluations) book.sinks) new.books
+  pub sinks : SinksFollow old.books steps replies new.books

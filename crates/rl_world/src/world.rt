@@ -1,5 +1,5 @@
 //! A world: shards and books, by lists of steps.
-ghost use Rattle.std.specs.Prelude.{◌≡◌, ◌≤◌, ◌++◌, ℕ, List, map, length, replicate, slice_get, IfOk, OnOk, OnErr};
+ghost use Rattle.std.specs.Prelude.{◌≡◌, ◌+◌, ◌≤◌, ◌++◌, ℕ, List, map, length, replicate, slice_get, vec_capacity, IsOk, IfOk, OnOk, OnErr};
 ghost use Rattle.std.specs.List.{AllByRecursion};
 ghost use Rattle.std.specs.Option.{option_copied};
 ghost use Rattle.rl_world.specs.WorldState.{with_sinks_closed};
@@ -69,6 +69,8 @@ impl<S: Sink> World<S> {
     /// Answers each step in order, with one reply at the end of `out`. With no room for all replies it does nothing.
     pub fn run(&mut self, steps: Vec<Step>, out: &mut Vec<Reply>) -> Result<(), AllocError>
         ensures memory { OnErr result ((self.new ≡ self.old) × (out.new.items ≡ out.old.items)) }
+        ensures room { length out.old.items + length steps.items ≤ vec_capacity out.old → IsOk result }
+        ensures capacity { vec_capacity out.old ≤ vec_capacity out.new }
         ensures replies { OnOk result (out.new.items ≡ out.old.items ++ gained out.old.items out.new.items) }
         ensures one_each { OnOk result (length (gained out.old.items out.new.items) ≡ length steps.items) }
         ensures replay { OnOk result ((before : WorldState (List Entry)) → Stands (world_of self.old.shards self.old.books) before → (after : WorldState (List Entry)) × Stands (world_of self.new.shards self.new.books) after × Replay lists before steps.items (gained out.old.items out.new.items) after) }

@@ -3,23 +3,26 @@ use Rattle.std.specs.Prelude.{codes}
 use Rattle.std.specs.Fmt.{digits}
 use Rattle.std.proofs.Common.{◌≡◌, ℕ, true, false, List, [], ◌∷◌, None, Some, Ok, Err, inl, inr, refl, arith}
 use Rattle.serde_json.specs.Data.{null, string, array, object, no_items, item, no_members, member}
+use Rattle.rl_labels.specs.declared.limits.Limits.{Limits}
 use Rattle.rl_rules.specs.declared.fault.RulesFault.TheVariants as rules
 use Rattle.rl_shard.specs.declared.step.ShardReply.TheVariants as replies
 use Rattle.rl_sinks.specs.SinkState.{SinkState}
 use Rattle.rl_sinks.specs.declared.sink.SinkKind.TheVariants as kinds
 use Rattle.rl_world.specs.BookCalls.{new_book}
-use Rattle.rl_world.specs.WorldState.{BookState}
+use Rattle.rl_world.specs.WorldRun.{Ran}
+use Rattle.rl_world.specs.WorldState.{BookState, WorldBooks}
 use Rattle.rl_world.specs.declared.fault.BookFault.TheVariants as books
 use Rattle.rl_world.specs.declared.fault.Refusal.TheVariants as refusals
+use Rattle.rl_world.specs.declared.step.Committed.{Committed}
 use Rattle.rl_world.specs.declared.step.Reply.TheVariants as world
 use Rattle.rule_shell.specs.Command.{pushes, evaluates, shows, ends, command_of, time_of, is_blank_byte}
 use Rattle.rule_shell.specs.Front.{lines_of, IsFirstLine, front_of, IsCut}
 use Rattle.rule_shell.specs.Names.{push_error_name, front_fault_name, refusal_name, push_refusal}
 use Rattle.rule_shell.specs.Printed.{refusal_line, bad_push_line, pushed_text, none_pushed, behind_line, shown_text}
 use Rattle.rule_shell.specs.PushBody.{array_at, object_at, pairs_of, parts_of, moment_of, has_no_metadata}
-use Rattle.rule_shell.specs.PushForms.{with_front}
+use Rattle.rule_shell.specs.PushForms.{EntryForm, with_front}
 use Rattle.rule_shell.specs.Reading.{Reads, ReadsFront, Tells}
-use Rattle.rule_shell.specs.Session.{group_number, sink_of, committed_of, AreLinesTold}
+use Rattle.rule_shell.specs.Session.{group_number, sink_of, committed_of, opened, is_left_open, TellsPush, TellsEval, TellsCommand, AreLinesTold}
 use Rattle.rule_shell.specs.declared.session.Answer.TheVariants.{Taken, Refused, Ended}
 use Rattle.rule_shell.specs.declared.front.fault.FrontFault.TheVariants as fronts
 use Rattle.rule_shell.specs.declared.push.PushError.TheVariants as errors
@@ -214,6 +217,40 @@ no_sink_of_the_first_group = refl
 refused_before_it_was_committed : committed_of (world.Begun ∷ world.Refused refusals.JournalFull ∷ world.Refused refusals.NoSuch ∷ []) ≡ Err refusals.JournalFull
 refused_before_it_was_committed = refl
 
+-- a world without groups, as a session opens it
+abbrev no_groups : Limits → WorldBooks
+no_groups limits = opened limits [] []
+
+nothing_is_asked : (limits : Limits) → Ran (no_groups limits) [] [] (no_groups limits)
+nothing_is_asked limits = record {
+  replay = λ before stands. (before, stands, refl);
+  prefixes = tt;
+  sinks = λ group sink before there. cc;
+}
+
+push_without_an_entry : (limits : Limits) → TellsPush (no_groups limits) (Ok []) (codes "accepted 0\n") Taken (no_groups limits)
+unfolding digits
+push_without_an_entry limits = inl (record { entries = []; forms_are = refl; replies = []; ran = nothing_is_asked limits; text_is = refl; answer_is = refl })
+
+push_without_memory : (start : WorldBooks) (form : EntryForm) → TellsPush start (Ok (form ∷ [])) (codes "accepted 0 refused 1\n  0 Memory\n") Refused start
+unfolding digits
+push_without_memory start form = inr (inr (refl, refl), refl)
+
+evaluation_without_memory : (start : WorldBooks) → TellsEval start 5 (Some 0) (codes "refused Memory\n") Refused start
+evaluation_without_memory start = (Err refusals.Memory, inr (refl, refl), (refl, refl))
+
+evaluation_of_no_group : (limits : Limits) → TellsCommand (no_groups limits) (Some (evaluates 5 (codes "g"))) (codes "refused BadCommand\n") Refused (no_groups limits)
+evaluation_of_no_group limits = ((refl, refl), refl)
+
+left_open_where_a_step_was_refused : is_left_open (world.Begun ∷ world.Refused refusals.JournalFull ∷ world.Refused (refusals.Book books.Incomplete) ∷ []) ≡ true
+left_open_where_a_step_was_refused = refl
+
+not_left_open_where_it_was_not_begun : is_left_open (world.Refused (refusals.Book books.Busy) ∷ world.Refused (refusals.Book books.NotOpen) ∷ []) ≡ false
+not_left_open_where_it_was_not_begun = refl
+
+not_left_open_where_it_was_committed : (answer : Committed) → is_left_open (world.Begun ∷ world.Gathered 0 ∷ world.Committed answer ∷ []) ≡ false
+not_left_open_where_it_was_committed answer = refl
+
 -- a blank line, a line that is no command, an end, and a line that is not looked at
-lines_up_to_an_end : AreLinesTold (lines_of (codes " \t\nx\nend\nx")) (codes "refused BadCommand\n") true
-lines_up_to_an_end = ([], Taken, (refl, refl), (codes "refused BadCommand\n", true, (codes "refused BadCommand\n", Refused, ([], (refl, refl)), ([], false, ([], Ended, ([], (refl, refl)), (refl, refl)), refl, refl)), refl, refl))
+lines_up_to_an_end : (start : WorldBooks) → AreLinesTold (lines_of (codes " \t\nx\nend\nx")) start (codes "refused BadCommand\n") true start
+lines_up_to_an_end start = ([], Taken, start, (refl, refl, refl), (codes "refused BadCommand\n", true, (codes "refused BadCommand\n", Refused, start, ((refl, refl), refl), ([], false, ([], Ended, start, (refl, refl, refl), (refl, refl, refl)), refl, refl)), refl, refl))

@@ -7,6 +7,8 @@ pub mod Gathering
 pub mod Lines
 mod Numbers
 mod FreshSinks
+mod Runs
+mod Pushing
 mod Printing
 pub mod Telling
 mod Groups

@@ -2,6 +2,7 @@
 use Rattle.std.proofs.Common.{◌≡◌, ◌⊎◌, inl, inr, ℕ, zero, suc, ◌<◌, Bool, true, false, ◌||◌, List, [], ◌∷◌, ◌++◌, Option, None, Some, Ok, refl, sym, ap, subst, ◌∙◌, arith, length, length-append, append_assoc, append-nil, codes}
 use Rattle.std.specs.Io.KnownBytes.{Appends, Keeps}
 use Rattle.std.proofs.KnownBytes.{Appends-trans}
+use Rattle.rl_world.specs.WorldState.{WorldBooks}
 use Rattle.rule_shell.specs.Front.{IsFirstLine, lines_of}
 use Rattle.rule_shell.specs.Session.{TellsLine, TellsText, TellsSession, AreLinesTold, is_refusal, ended_by}
 use Rattle.rule_shell.specs.declared.session.Answer.{Answer}
@@ -10,9 +11,9 @@ use Rattle.rule_shell.specs.declared.session.Status.{Status}
 use Rattle.rule_shell.specs.declared.session.Status.TheVariants as statuses
 
 -- whatever is told of the rest is told of the whole behind what was written
-pub record ToldSoFar (commands rest : List ℕ) (refused : Bool) (old new : Option (List ℕ)) : Type 0 where
+pub record ToldSoFar (commands rest : List ℕ) (refused : Bool) (world now : WorldBooks) (old new : Option (List ℕ)) : Type 0 where
   pub written : List ℕ
-  pub whole : (text : List ℕ) (later : Bool) → AreLinesTold (lines_of rest) text later → AreLinesTold (lines_of commands) (written ++ text) (refused || later)
+  pub whole : (text : List ℕ) (later : Bool) (after : WorldBooks) → AreLinesTold (lines_of rest) now text later after → AreLinesTold (lines_of commands) world (written ++ text) (refused || later) after
   pub appended : Appends old new written
 
 or_assoc : (a b c : Bool) → (a || (b || c)) ≡ ((a || b) || c)
@@ -49,44 +50,44 @@ counted_refused refused after Ended is same = let never : ⊥ = cc in absurd nev
 pub shorter : (rest line behind : List ℕ) → rest ≡ line ++ 10 ∷ behind → length behind < length rest
 shorter rest line behind is = omega (arith, ap length is ∙ length-append line (10 ∷ behind))
 
-pub told_none : (commands : List ℕ) (known : Option (List ℕ)) → ToldSoFar commands commands false known known
-told_none commands known = record {
+pub told_none : (commands : List ℕ) (world : WorldBooks) (known : Option (List ℕ)) → ToldSoFar commands commands false world world known known
+told_none commands world known = record {
   written = [];
-  whole = λ text later told. told;
+  whole = λ text later after told. told;
   appended = none_kept known;
 }
 
 -- a line that is not the last, and no end
-pub told_line : (commands rest line behind : List ℕ) (refused : Bool) (here : Answer) (old mid new : Option (List ℕ)) → (here ≡ Ended → ⊥) → IsFirstLine rest line (Some behind) → TellsLine line mid (Ok here) new → ToldSoFar commands rest refused old mid → ToldSoFar commands behind (refused || is_refusal here) old new
-told_line commands rest line behind refused Ended old mid new goes first told so_far = absurd (goes refl)
-told_line commands rest line behind refused Taken old mid new goes first told so_far = record {
+pub told_line : (commands rest line behind : List ℕ) (refused : Bool) (here : Answer) (world before now : WorldBooks) (old mid new : Option (List ℕ)) → (here ≡ Ended → ⊥) → IsFirstLine rest line (Some behind) → TellsLine before line mid (Ok here) now new → ToldSoFar commands rest refused world before old mid → ToldSoFar commands behind (refused || is_refusal here) world now old new
+told_line commands rest line behind refused Ended world before now old mid new goes first told so_far = absurd (goes refl)
+told_line commands rest line behind refused Taken world before now old mid new goes first told so_far = record {
   written = so_far.written ++ told.0;
-  whole = λ text later others.
-      subst (λ t. AreLinesTold (lines_of commands) t ((refused || false) || later)) (sym (append_assoc so_far.written told.0 text))
-      (subst (AreLinesTold (lines_of commands) (so_far.written ++ (told.0 ++ text))) (or_assoc refused false later)
-      (so_far.whole (told.0 ++ text) later (subst (λ lines. AreLinesTold lines (told.0 ++ text) later) (sym first.0) (told.0, Taken, told.1, (text, later, others, refl, refl)))));
+  whole = λ text later after others.
+      subst (λ t. AreLinesTold (lines_of commands) world t ((refused || false) || later) after) (sym (append_assoc so_far.written told.0 text))
+      (subst (λ r. AreLinesTold (lines_of commands) world (so_far.written ++ (told.0 ++ text)) r after) (or_assoc refused false later)
+      (so_far.whole (told.0 ++ text) later after (subst (λ lines. AreLinesTold lines before (told.0 ++ text) later after) (sym first.0) (told.0, Taken, now, told.1, (text, later, others, refl, refl)))));
   appended = Appends-trans old mid new so_far.written told.0 so_far.appended told.2;
 }
-told_line commands rest line behind refused Refused old mid new goes first told so_far = record {
+told_line commands rest line behind refused Refused world before now old mid new goes first told so_far = record {
   written = so_far.written ++ told.0;
-  whole = λ text later others.
-      subst (λ t. AreLinesTold (lines_of commands) t ((refused || true) || later)) (sym (append_assoc so_far.written told.0 text))
-      (subst (AreLinesTold (lines_of commands) (so_far.written ++ (told.0 ++ text))) (or_assoc refused true later)
-      (so_far.whole (told.0 ++ text) true (subst (λ lines. AreLinesTold lines (told.0 ++ text) true) (sym first.0) (told.0, Refused, told.1, (text, later, others, refl, refl)))));
+  whole = λ text later after others.
+      subst (λ t. AreLinesTold (lines_of commands) world t ((refused || true) || later) after) (sym (append_assoc so_far.written told.0 text))
+      (subst (λ r. AreLinesTold (lines_of commands) world (so_far.written ++ (told.0 ++ text)) r after) (or_assoc refused true later)
+      (so_far.whole (told.0 ++ text) true after (subst (λ lines. AreLinesTold lines before (told.0 ++ text) true after) (sym first.0) (told.0, Refused, now, told.1, (text, later, others, refl, refl)))));
   appended = Appends-trans old mid new so_far.written told.0 so_far.appended told.2;
 }
 
 -- the last line, and no end
-pub told_last : (commands rest line : List ℕ) (refused : Bool) (here : Answer) (old mid new : Option (List ℕ)) → (here ≡ Ended → ⊥) → IsFirstLine rest line None → TellsLine line mid (Ok here) new → ToldSoFar commands rest refused old mid → TellsText commands old (Ok (refused || is_refusal here)) new
-told_last commands rest line refused Ended old mid new goes first told so_far = absurd (goes refl)
-told_last commands rest line refused Taken old mid new goes first told so_far = (
+pub told_last : (commands rest line : List ℕ) (refused : Bool) (here : Answer) (world before now : WorldBooks) (old mid new : Option (List ℕ)) → (here ≡ Ended → ⊥) → IsFirstLine rest line None → TellsLine before line mid (Ok here) now new → ToldSoFar commands rest refused world before old mid → TellsText world commands old (Ok (refused || is_refusal here)) now new
+told_last commands rest line refused Ended world before now old mid new goes first told so_far = absurd (goes refl)
+told_last commands rest line refused Taken world before now old mid new goes first told so_far = (
   so_far.written ++ told.0,
-  so_far.whole told.0 false (subst (λ lines. AreLinesTold lines told.0 false) (sym first) (told.0, Taken, told.1, ([], false, (refl, refl), sym (append-nil told.0), refl))),
+  so_far.whole told.0 false now (subst (λ lines. AreLinesTold lines before told.0 false now) (sym first) (told.0, Taken, now, told.1, ([], false, (refl, refl, refl), sym (append-nil told.0), refl))),
   Appends-trans old mid new so_far.written told.0 so_far.appended told.2,
 )
-told_last commands rest line refused Refused old mid new goes first told so_far = (
+told_last commands rest line refused Refused world before now old mid new goes first told so_far = (
   so_far.written ++ told.0,
-  so_far.whole told.0 true (subst (λ lines. AreLinesTold lines told.0 true) (sym first) (told.0, Refused, told.1, ([], false, (refl, refl), sym (append-nil told.0), refl))),
+  so_far.whole told.0 true now (subst (λ lines. AreLinesTold lines before told.0 true now) (sym first) (told.0, Refused, now, told.1, ([], false, (refl, refl, refl), sym (append-nil told.0), refl))),
   Appends-trans old mid new so_far.written told.0 so_far.appended told.2,
 )
 
@@ -95,11 +96,11 @@ ended_lines rest line None first = ([], first)
 ended_lines rest line (Some behind) first = (lines_of behind, first.0)
 
 -- an end, and nothing behind it
-pub told_end : (commands rest line : List ℕ) (behind : Option (List ℕ)) (refused : Bool) (old mid new : Option (List ℕ)) → IsFirstLine rest line behind → TellsLine line mid (Ok Ended) new → ToldSoFar commands rest refused old mid → TellsText commands old (Ok refused) new
-told_end commands rest line behind refused old mid new first told so_far =
+pub told_end : (commands rest line : List ℕ) (behind : Option (List ℕ)) (refused : Bool) (world before now : WorldBooks) (old mid new : Option (List ℕ)) → IsFirstLine rest line behind → TellsLine before line mid (Ok Ended) now new → ToldSoFar commands rest refused world before old mid → TellsText world commands old (Ok refused) now new
+told_end commands rest line behind refused world before now old mid new first told so_far =
     let lines = ended_lines rest line behind first in (
       so_far.written ++ told.0,
-      subst (AreLinesTold (lines_of commands) (so_far.written ++ told.0)) (or_false refused) (so_far.whole told.0 false (subst (λ lines. AreLinesTold lines told.0 false) (sym lines.1) (told.0, Ended, told.1, (refl, refl)))),
+      subst (λ r. AreLinesTold (lines_of commands) world (so_far.written ++ told.0) r now) (or_false refused) (so_far.whole told.0 false now (subst (λ lines. AreLinesTold lines before told.0 false now) (sym lines.1) (told.0, Ended, now, told.1, (refl, refl, refl)))),
       Appends-trans old mid new so_far.written told.0 so_far.appended told.2,
     )
 
@@ -111,9 +112,9 @@ appended_kept (Some xs) (Some ys) None text appends keeps = absurd keeps
 appended_kept (Some xs) (Some ys) (Some zs) text appends keeps = keeps ∙ appends
 
 -- the lines, and the last line behind them
-pub told_session : (commands : List ℕ) (old mid last new : Option (List ℕ)) (refused : Bool) (failed : ℕ) (status : Status) → TellsText commands old (Ok refused) mid → Appends mid last (codes "closed\n") → Keeps last new → (0 < failed → status ≡ statuses.Unwritten) → (failed ≡ 0 → status ≡ ended_by refused) → TellsSession commands old (Ok status) new
-told_session commands old mid last new refused failed status told closes keeps unwritten written =
-    (told.0, refused, told.1, by failed unwritten written, appended_kept old last new (told.0 ++ codes "closed\n") (Appends-trans old mid last told.0 (codes "closed\n") told.2 closes) keeps)
+pub told_session : (world start after : WorldBooks) (commands : List ℕ) (old mid last new : Option (List ℕ)) (refused : Bool) (failed : ℕ) (status : Status) → start ≡ world → TellsText start commands old (Ok refused) after mid → Appends mid last (codes "closed\n") → Keeps last new → (0 < failed → status ≡ statuses.Unwritten) → (failed ≡ 0 → status ≡ ended_by refused) → TellsSession world commands old (Ok status) new
+told_session world start after commands old mid last new refused failed status is told closes keeps unwritten written =
+    (told.0, refused, after, subst (λ w. AreLinesTold (lines_of commands) w told.0 refused after) is told.1, by failed unwritten written, appended_kept old last new (told.0 ++ codes "closed\n") (Appends-trans old mid last told.0 (codes "closed\n") told.2 closes) keeps)
   where
     by : (failed : ℕ) → (0 < failed → status ≡ statuses.Unwritten) → (failed ≡ 0 → status ≡ ended_by refused) → (status ≡ statuses.Unwritten) ⊎ (status ≡ ended_by refused)
     by zero unwritten written = inr (written refl)

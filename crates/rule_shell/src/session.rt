@@ -1,12 +1,13 @@
 //! A session: commands in their order over a world of one shard, and what they print.
-ghost use Rattle.std.specs.Prelude.{◌≡◌, ◌≢◌, ◌<◌, length, map, take, flat_map, codes, None, Some, Ok, IfSome, OnOk, IfOk, slice_get};
+ghost use Rattle.std.specs.Prelude.{◌≡◌, ◌≢◌, ◌<◌, length, map, take, flat_map, codes, None, Some, Ok, IfSome, OnOk, OnErr, IfOk, slice_get};
 ghost use Rattle.std.specs.List.{AllByRecursion, concat};
 ghost use Rattle.std.specs.Option.{option_copied};
 ghost use Rattle.std.specs.Io.KnownBytes.{Appends};
 ghost use Rattle.rl_world.specs.BookCalls.{IsFresh};
 ghost use Rattle.rule_shell.specs.Command.{asked, pushes, evaluates, shows, ends, command_of};
 ghost use Rattle.rule_shell.specs.Printed.{refusal_line, bad_push_line, counts_line, entry_line, entry_lines, is_refused, pushed_text, none_pushed, number_text, behind_line, committed_text, shown_text};
-ghost use Rattle.rule_shell.specs.Session.{Tells, TellsLine, TellsText, TellsSession, ended_by, group_number, book_of, answer_of, pushed_answer, shown_answer, committed_of};
+ghost use Rattle.rule_shell.specs.Session.{opened, push_steps, EvaluationRun, Evaluates, Tells, TellsLine, TellsText, TellsSession, is_left_open, ended_by, group_number, book_of, answer_of, pushed_answer, shown_answer, committed_of};
+ghost use Rattle.rl_world.specs.WorldRun.{Ran};
 ghost use Rattle.rule_shell.specs.declared.session.RunError.TheVariants.{WriteFault, Memory};
 
 use crate::command::{Command, is_blank, read_command};
@@ -95,7 +96,7 @@ pub fn run_commands<S: Sink, W: Write>(
 ) -> Result<Status, RunError>
     requires lists { length sinks.items ≡ length groups.items }
     requires fresh { AllByRecursion (λ own. AllByRecursion IsFresh (map S.state own.items)) sinks.items }
-    ensures { TellsSession commands.now (W.contents out.old) result (W.contents out.new) }
+    ensures { TellsSession (opened limits groups.items (map (λ own. map S.state own.items) sinks.items)) commands.now (W.contents out.old) result (W.contents out.new) }
 {
     let mut session = Session {
         alloc,
@@ -129,7 +130,7 @@ fn answer_lines<S: Sink, W: Write>(
     commands: &str,
     out: &mut W,
 ) -> Result<bool, RunError>
-    ensures { TellsText commands.now (W.contents out.old) result (W.contents out.new) }
+    ensures { TellsText session.old.world commands.now (W.contents out.old) result session.new.world (W.contents out.new) }
 {
     let mut refused = false;
     let mut rest = commands;
@@ -153,7 +154,7 @@ fn answer_line<S: Sink, W: Write>(
     line: &str,
     out: &mut W,
 ) -> Result<Answer, RunError>
-    ensures { TellsLine line.now (W.contents out.old) result (W.contents out.new) }
+    ensures { TellsLine session.old.world line.now (W.contents out.old) result session.new.world (W.contents out.new) }
 {
     if is_blank(line) {
         return Ok(Answer::Taken);
@@ -166,7 +167,7 @@ fn answer_line<S: Sink, W: Write>(
 impl<S: Sink> Session<S> {
     // Carries out the command of a line.
     fn answer<W: Write>(&mut self, line: &str, out: &mut W) -> Result<Answer, RunError>
-        ensures told { Tells self.old.world.books (command_of line.now) (W.contents out.old) result (W.contents out.new) }
+        ensures told { Tells self.old.world (command_of line.now) (W.contents out.old) result self.new.world (W.contents out.new) }
         ensures end { command_of line.now ≡ Some ends → result ≡ Ok Answer.Ended }
     {
         match read_command(line) {
@@ -176,7 +177,7 @@ impl<S: Sink> Session<S> {
     }
 
     fn obey<W: Write>(&mut self, command: Command<'_>, out: &mut W) -> Result<Answer, RunError>
-        ensures told { Tells self.old.world.books (Some (asked command.entry)) (W.contents out.old) result (W.contents out.new) }
+        ensures told { Tells self.old.world (Some (asked command.entry)) (W.contents out.old) result self.new.world (W.contents out.new) }
         ensures end { asked command.entry ≡ ends → result ≡ Ok Answer.Ended }
     {
         match command {
@@ -189,7 +190,7 @@ impl<S: Sink> Session<S> {
 
     // Hands the entries of a push body to the shard, in their order.
     fn push<W: Write>(&mut self, json: &str, out: &mut W) -> Result<Answer, RunError>
-        ensures { Tells self.old.world.books (Some (pushes json.now)) (W.contents out.old) result (W.contents out.new) }
+        ensures { Tells self.old.world (Some (pushes json.now)) (W.contents out.old) result self.new.world (W.contents out.new) }
     {
         let entries = match read_push(self.alloc, json.as_bytes()) {
             Ok(entries) => entries,
@@ -204,7 +205,8 @@ impl<S: Sink> Session<S> {
 
     // What the world replied to each entry. With no room for all replies it takes none.
     fn push_all(&mut self, entries: Vec<Entry>) -> Result<Vec<Reply>, AllocError>
-        ensures { IfOk result (λ replies. length replies.items ≡ length entries.items) }
+        ensures ran { IfOk result (λ replies. Ran self.old.world (push_steps entries.items) replies.items self.new.world) }
+        ensures memory { OnErr result (self.new.world ≡ self.old.world) }
     {
         let mut steps = Vec::with_capacity(self.alloc, entries.len())?;
         for entry in entries {
@@ -218,7 +220,7 @@ impl<S: Sink> Session<S> {
 
     // Evaluates a group at a moment.
     fn eval<W: Write>(&mut self, t: Ns, group: &str, out: &mut W) -> Result<Answer, RunError>
-        ensures { Tells self.old.world.books (Some (evaluates t group.now)) (W.contents out.old) result (W.contents out.new) }
+        ensures { Tells self.old.world (Some (evaluates t group.now)) (W.contents out.old) result self.new.world (W.contents out.new) }
     {
         let Some(number) = self.group_number(group) else {
             return refuse(out, "BadCommand");
@@ -230,7 +232,9 @@ impl<S: Sink> Session<S> {
     }
 
     // An evaluation of a group, or the first refusal, which leaves no evaluation open.
-    fn evaluate(&mut self, group: usize, t: Ns) -> Result<Committed, Refusal> {
+    fn evaluate(&mut self, group: usize, t: Ns) -> Result<Committed, Refusal>
+        ensures { Evaluates self.old.world group t result self.new.world }
+    {
         match self.run_evaluation(group, t) {
             Ok(replies) => committed_of(replies),
             Err(AllocError) => Err(Refusal::Memory),
@@ -238,7 +242,10 @@ impl<S: Sink> Session<S> {
     }
 
     // Begin, Gather and Commit, and Abandon where one of the last two is refused. Room for all comes first.
-    fn run_evaluation(&mut self, group: usize, t: Ns) -> Result<Vec<Reply>, AllocError> {
+    fn run_evaluation(&mut self, group: usize, t: Ns) -> Result<Vec<Reply>, AllocError>
+        ensures ran { IfOk result (λ replies. EvaluationRun self.old.world group t replies.items self.new.world) }
+        ensures memory { OnErr result (self.new.world ≡ self.old.world) }
+    {
         let gather = Step::Gather { group, number: 0 };
         let commit = Step::Commit { group };
         let steps = vec![in self.alloc; Step::Begin { group, t }, gather, commit]?;
@@ -253,7 +260,7 @@ impl<S: Sink> Session<S> {
 
     // Shows what a sink of a group keeps.
     fn show<W: Write>(&self, sink: usize, group: &str, out: &mut W) -> Result<Answer, RunError>
-        ensures { Tells self.now.world.books (Some (shows sink group.now)) (W.contents out.old) result (W.contents out.new) }
+        ensures { Tells self.now.world (Some (shows sink group.now)) (W.contents out.old) result self.now.world (W.contents out.new) }
     {
         match self.book_of(group) {
             Some(book) => tell_kept(book, sink, out),
@@ -281,7 +288,9 @@ impl<S: Sink> Session<S> {
 }
 
 // Whether an evaluation was begun and not committed.
-fn is_left_open(replies: &[Reply]) -> bool {
+fn is_left_open(replies: &[Reply]) -> bool
+    ensures { result ≡ is_left_open replies.now }
+{
     matches!(replies.first(), Some(Reply::Begun))
         && !matches!(replies.last(), Some(Reply::Committed(_)))
 }

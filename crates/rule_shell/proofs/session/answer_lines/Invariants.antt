@@ -11,5 +11,5 @@ decreases-loop-refused g l = length l.rest
 abbrev pub invariant-loop-refused : goal.invariant-loop-refused
 invariant-loop-refused g l = record {
   text : shadow (Utf8 l.rest);
-  so_far : ToldSoFar l.commands l.rest l.refused (g.W.Write.contents l.fn.out) (g.W.Write.contents l.out);
+  so_far : ToldSoFar l.commands l.rest l.refused l.fn.session.world l.session.world (g.W.Write.contents l.fn.out) (g.W.Write.contents l.out);
 }

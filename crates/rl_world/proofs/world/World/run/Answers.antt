@@ -14,6 +14,7 @@ loop-step-preserved g c =
     let next : loop.step-iterator.rest.items ≡ c.in-Some.step ∷ c.next.new.self.rest.items = c.in-Some.ensures.steps.0 in
     record {
       split = append_assoc loop.yielded (c.in-Some.step ∷ []) c.next.new.self.rest.items ∙ ap (λ rest. loop.yielded ++ rest) (sym next) ∙ kept.split;
+      capacity = omega (arith, kept.capacity, c.push_reserved.ensures.capacity);
       room = omega (arith, kept.room, ap length next, c.push_reserved.ensures.len, c.push_reserved.ensures.capacity);
       so_far = run_next c.args.self.now.shards c.args.self.now.books c.args.out.now.items loop.yielded loop.parts.shards.items loop.parts.books.items loop.out.items c.in-Some.step c.answer-reply.result c.answer-reply.new.self.shards.items c.answer-reply.new.self.books.items c.push_reserved.new.self.items
           kept.so_far c.answer-reply.ensures.step c.answer-reply.ensures.sinks c.push_reserved.ensures.items;

@@ -6,6 +6,7 @@ use Rattle.rl_world.proofs.world.World.run.Given as goal
 abbrev pub invariant-loop-step : goal.invariant-loop-step
 invariant-loop-step g l = record {
   split : l.yielded ++ l.step-iterator.rest.items ≡ l.fn.steps.items;
+  capacity : vec_capacity l.fn.out ≤ vec_capacity l.out;
   room : vec_len l.out + length l.step-iterator.rest.items ≤ vec_capacity l.out;
   so_far : RunSoFar l.fn.self.shards l.fn.self.books l.fn.out.items l.yielded l.parts.shards.items l.parts.books.items l.out.items;
 }

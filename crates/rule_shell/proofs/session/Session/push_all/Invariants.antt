@@ -1,6 +1,7 @@
 -- A step for each entry so far.
-use Rattle.std.proofs.Common.{◌≡◌, ◌+◌, length}
+use Rattle.std.proofs.Common.{◌≡◌, ◌++◌}
+use Rattle.rule_shell.specs.Session.{push_steps}
 use Rattle.rule_shell.proofs.session.Session.push_all.Given as goal
 
 abbrev pub invariant-loop-entry : goal.invariant-loop-entry
-invariant-loop-entry g l = length l.steps.items + length l.entry-iterator.rest.items ≡ length l.fn.entries.items
+invariant-loop-entry g l = l.steps.items ++ push_steps l.entry-iterator.rest.items ≡ push_steps l.fn.entries.items
