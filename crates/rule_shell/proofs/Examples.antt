@@ -23,7 +23,11 @@ use Rattle.rule_shell.specs.PushBody.{array_at, object_at, pairs_of, parts_of, m
 use Rattle.rule_shell.specs.PushForms.{EntryForm, with_front}
 use Rattle.rule_shell.specs.Reading.{Reads, ReadsFront, Tells}
 use Rattle.rule_shell.specs.Session.{group_number, sink_of, committed_of, opened, is_left_open, TellsPush, TellsEval, TellsCommand, AreLinesTold}
+use Rattle.rule_shell.specs.Statuses.{status_number, stop_at}
+use Rattle.rule_shell.specs.declared.Stop.TheVariants as stops
 use Rattle.rule_shell.specs.declared.session.Answer.TheVariants.{Taken, Refused, Ended}
+use Rattle.rule_shell.specs.declared.session.Status.TheVariants as statuses
+use Rattle.rule_shell.specs.declared.front.fault.FrontError.TheVariants as front_errors
 use Rattle.rule_shell.specs.declared.front.fault.FrontFault.TheVariants as fronts
 use Rattle.rule_shell.specs.declared.push.PushError.TheVariants as errors
 use Rattle.rule_shell.specs.declared.push.PushFault.TheVariants as pushes
@@ -157,6 +161,23 @@ name_of_a_full_shard = refl
 
 no_name_where_an_entry_was_taken : push_refusal (world.Decided 0 replies.Accepted) ≡ None
 no_name_where_an_entry_was_taken = refl
+
+-- how the program ends
+
+failed_at_a_failed_read : stop_at (front_errors.Fault fronts.ReadFault) ≡ stops.Failed
+failed_at_a_failed_read = refl
+
+bad_input_without_a_mark : stop_at (front_errors.Fault fronts.NoMark) ≡ stops.BadInput fronts.NoMark
+bad_input_without_a_mark = refl
+
+status_of_a_refused_command : status_number (Ok statuses.Refused) ≡ 1
+status_of_a_refused_command = refl
+
+status_of_bad_input : status_number (Err (stops.BadInput fronts.NoMark)) ≡ 2
+status_of_bad_input = refl
+
+status_of_a_sink_that_did_not_write : status_number (Ok statuses.Unwritten) ≡ 3
+status_of_a_sink_that_did_not_write = refl
 
 -- what is printed
 

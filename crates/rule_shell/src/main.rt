@@ -6,6 +6,8 @@
 #![tactic(auto)]
 
 ghost use Rattle.std.specs.Prelude.{◌≡◌, ◌≢◌};
+ghost use Rattle.std.specs.Process.{exit_status};
+ghost use Rattle.rule_shell.specs.Statuses.{status_number, stop_at};
 ghost use Rattle.rule_shell.specs.declared.Stop.TheVariants.{Failed};
 
 mod command;
@@ -66,19 +68,34 @@ impl<T: Drop> From<AllocFailed<T>> for Stop {
 }
 
 fn main(rt: HostRuntime) -> ExitCode {
-    match run(&rt) {
-        Ok(Status::Taken) => ExitCode::SUCCESS,
-        Ok(Status::Refused) => ExitCode::from(1),
-        Ok(Status::Unwritten) | Err(Stop::Failed) => ExitCode::from(3),
-        Err(Stop::BadOptions) => {
-            let _ = eprintln!(rt; "rule_shell: bad options");
-            ExitCode::from(2)
-        }
-        Err(Stop::BadInput(fault)) => {
-            let _ = eprintln!(rt; "rule_shell: bad input {}", front_fault_name(fault));
-            ExitCode::from(2)
-        }
+    let ended = run(&rt);
+    if let Err(stop) = ended {
+        tell_stop(&rt, stop);
     }
+    exit_code(ended)
+}
+
+// Tells what the options or the input had, if the program stopped for that.
+fn tell_stop(rt: &HostRuntime, stop: Stop) {
+    let _ = match stop {
+        Stop::BadOptions => eprintln!(rt; "rule_shell: bad options"),
+        Stop::BadInput(fault) => {
+            eprintln!(rt; "rule_shell: bad input {}", front_fault_name(fault))
+        }
+        Stop::Failed => Ok(()),
+    };
+}
+
+// The status of the process.
+fn exit_code(ended: Result<Status, Stop>) -> ExitCode
+    ensures { exit_status result ≡ status_number ended }
+{
+    ExitCode::from(match ended {
+        Ok(Status::Taken) => 0,
+        Ok(Status::Refused) => 1,
+        Err(Stop::BadOptions) | Err(Stop::BadInput(_)) => 2,
+        Ok(Status::Unwritten) | Err(Stop::Failed) => 3,
+    })
 }
 
 // Reads the options and the input, and runs the commands.
@@ -87,10 +104,17 @@ fn run(rt: &HostRuntime) -> Result<Status, Stop> {
     let mut reader = rt.reader();
     match read_front(rt.alloc(), &mut reader) {
         Ok(front) => run_front(rt, front),
-        Err(FrontError::Fault(FrontFault::ReadFault)) | Err(FrontError::Memory) => {
-            Err(Stop::Failed)
-        }
-        Err(FrontError::Fault(fault)) => Err(Stop::BadInput(fault)),
+        Err(error) => Err(stop_at(error)),
+    }
+}
+
+// Why the program stops at an input that gave no commands.
+fn stop_at(error: FrontError) -> Stop
+    ensures { result ≡ stop_at error }
+{
+    match error {
+        FrontError::Fault(FrontFault::ReadFault) | FrontError::Memory => Stop::Failed,
+        FrontError::Fault(fault) => Stop::BadInput(fault),
     }
 }
 
