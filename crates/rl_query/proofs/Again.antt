@@ -48,10 +48,10 @@ run_again p run rest all stop =
     let n = run_len p run rest all stop in
     λ i. ((ap (λ k. take k (run ++ rest)) n ∙ take_run run rest) i, (ap (λ k. drop k (run ++ rest)) n ∙ drop_run run rest) i)
 
-start_is_byte : (b : ℕ) → is_name_start b ≡ true → is_name_byte b ≡ true
+pub start_is_byte : (b : ℕ) → is_name_start b ≡ true → is_name_byte b ≡ true
 start_is_byte b h = ap (λ t. t || is_ascii_digit b) h
 
-start_no_gap : (b : ℕ) (bytes : List ℕ) → is_name_start b ≡ true → gap_len false (b ∷ bytes) ≡ 0
+pub start_no_gap : (b : ℕ) (bytes : List ℕ) → is_name_start b ≡ true → gap_len false (b ∷ bytes) ≡ 0
 start_no_gap b bytes h =
     ap (λ t. cond t (1 + gap_len false bytes) (cond (b == 35) (1 + gap_len true bytes) 0)) (no_space b h) ∙ ap (λ t. cond t (1 + gap_len true bytes) 0) (no_hash b h)
   where
@@ -61,7 +61,7 @@ start_no_gap b bytes h =
     no_hash : (b : ℕ) → is_name_start b ≡ true → (b == 35) ≡ false
     no_hash b h = grind (arith, nat_tests)
 
-word_token : (place b : ℕ) (bytes : List ℕ) → is_name_start b ≡ true → token_at place (b ∷ bytes) ≡ Ok (tokens.Word (run_at is_name_byte (b ∷ bytes)).0, (run_at is_name_byte (b ∷ bytes)).1)
+pub word_token : (place b : ℕ) (bytes : List ℕ) → is_name_start b ≡ true → token_at place (b ∷ bytes) ≡ Ok (tokens.Word (run_at is_name_byte (b ∷ bytes)).0, (run_at is_name_byte (b ∷ bytes)).1)
 unfolding token_at
 word_token place b bytes h = cond-true (is_name_start b) _ _ h
 
@@ -100,7 +100,7 @@ quoted_again (byte ∷ value) rest =
     plain : (byte : ℕ) (tail : List ℕ) → (byte == 34) ≡ false → (byte == 92) ≡ false → quoted 0 (byte ∷ tail) ≡ onto (byte ∷ []) (quoted 0 tail)
     plain byte tail q b = cond-false (byte == 34) _ _ q ∙ cond-false (byte == 92) _ _ b
 
-text_token : (place : ℕ) (bytes : List ℕ) → token_at place (34 ∷ bytes) ≡ at_place place tokens.Text (quoted 0 bytes)
+pub text_token : (place : ℕ) (bytes : List ℕ) → token_at place (34 ∷ bytes) ≡ at_place place tokens.Text (quoted 0 bytes)
 unfolding token_at
 text_token place bytes = refl
 
@@ -115,7 +115,7 @@ sign_again first (second ∷ rest) sign one two =
     ap (λ o. or_else (option_map (λ sign. (sign, rest)) o) (option_map (λ sign. (sign, second ∷ rest)) (one_byte first))) (two second)
     ∙ ap (option_map (λ sign. (sign, second ∷ rest))) one
 
-not_second : (first second : ℕ) → (first == 61) ≡ false → (first == 33) ≡ false → (first == 62) ≡ false → (first == 60) ≡ false → (first == 124) ≡ false → two_bytes first second ≡ None
+pub not_second : (first second : ℕ) → (first == 61) ≡ false → (first == 33) ≡ false → (first == 62) ≡ false → (first == 60) ≡ false → (first == 124) ≡ false → two_bytes first second ≡ None
 not_second first second a b c d e =
     by_second (second == 61) (second == 126) (second == 62)
   where

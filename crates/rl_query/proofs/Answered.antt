@@ -10,6 +10,7 @@ use Rattle.rl_query.specs.Grammar.{Derives}
 use Rattle.rl_query.specs.Parsing.{query_of}
 use Rattle.rl_query.specs.Printing.{term_text, query_text}
 use Rattle.rl_query.specs.Reading.{Gives}
+use Rattle.rl_query.proofs.Complete.{derived_is_read}
 use Rattle.rl_query.proofs.Parts.{query_again}
 use Rattle.rl_query.proofs.Rules.{query_derived}
 use Rattle.rl_query.proofs.SameQuery.{same_query, same_term, keeps_limits}
@@ -42,3 +43,13 @@ alone a b e =
 pub derived : (r : Result Query QueryError) (text : List ℕ) → Gives query_form r (query_of text) → IfOk r (λ q. Derives text (query_form q))
 derived (Ok q) text read = query_derived text (query_form q) read
 derived (Err e) text read = tt
+
+-- a query that is derived was read
+pub all_read : (r : Result Query QueryError) (text : List ℕ) → Gives query_form r (query_of text) → (q : QueryForm) → Derives text q → MatchResult r (λ same. query_form same ≡ q) (λ e. e ≡ errors.Memory)
+all_read (Ok p) text read q derived =
+    let both : ◌≡◌ {A = Result QueryForm QueryFault} (Ok (query_form p)) (Ok q) = sym read ∙ derived_is_read text q derived in
+    cc
+all_read (Err errors.Memory) text read q derived = λ i. errors.Memory
+all_read (Err (errors.Fault fault)) text read q derived =
+    let both : ◌≡◌ {A = Result QueryForm QueryFault} (Err fault) (Ok q) = sym read ∙ derived_is_read text q derived in
+    cc

@@ -6,6 +6,8 @@ pub mod Elements
 pub mod Escaping
 pub mod Examples
 pub mod Parts
+mod Lexed
+mod Complete
 pub mod Rules
 pub mod SameQuery
 pub mod Texts

@@ -107,11 +107,11 @@ selector_again total m ms rest named real =
 digit_byte : (n : ℕ) → n < 10 → is_ascii_digit (48 + n) ≡ true
 digit_byte n small = grind (arith, nat_tests)
 
-all_append : (p : ℕ → Bool) (xs : List ℕ) (y : ℕ) → list_all p xs ≡ true → p y ≡ true → list_all p (xs ++ y ∷ []) ≡ true
+pub all_append : (p : ℕ → Bool) (xs : List ℕ) (y : ℕ) → list_all p xs ≡ true → p y ≡ true → list_all p (xs ++ y ∷ []) ≡ true
 all_append p [] y all this = and_from (p y) true this refl
 all_append p (x ∷ xs) y all this = let parts = and_parts (p x) (list_all p xs) all in and_from (p x) _ parts.0 (all_append p xs y parts.1 this)
 
-digit_step : (so_far : Progress) (b : ℕ) (rest : List ℕ) → is_ascii_digit b ≡ true → duration_from so_far (b ∷ rest) ≡ duration_from (record { seconds = so_far.seconds; rank = so_far.rank; digits = Some (digit_behind so_far.digits b) }) rest
+pub digit_step : (so_far : Progress) (b : ℕ) (rest : List ℕ) → is_ascii_digit b ≡ true → duration_from so_far (b ∷ rest) ≡ duration_from (record { seconds = so_far.seconds; rank = so_far.rank; digits = Some (digit_behind so_far.digits b) }) rest
 digit_step so_far b rest digit = ap (option_and_then (λ (next : Progress). duration_from next rest)) (cond-true (is_ascii_digit b) _ _ digit)
 
 -- digits that begin with a digit, and read as the number
@@ -164,7 +164,7 @@ duration_again n fits =
     let same : capped (0 + n * 1) ≡ n = omega arith in
     (decimal_reads n small).value fits (115 ∷ []) ∙ ap Some same
 
-digit_no_gap : (b : ℕ) (bytes : List ℕ) → is_ascii_digit b ≡ true → gap_len false (b ∷ bytes) ≡ 0
+pub digit_no_gap : (b : ℕ) (bytes : List ℕ) → is_ascii_digit b ≡ true → gap_len false (b ∷ bytes) ≡ 0
 digit_no_gap b bytes h = cond-false (is_space b) _ _ (no_space b h) ∙ cond-false (b == 35) _ _ (no_hash b h)
   where
     no_space : (b : ℕ) → is_ascii_digit b ≡ true → is_space b ≡ false
@@ -173,7 +173,7 @@ digit_no_gap b bytes h = cond-false (is_space b) _ _ (no_space b h) ∙ cond-fal
     no_hash : (b : ℕ) → is_ascii_digit b ≡ true → (b == 35) ≡ false
     no_hash b h = grind (arith, nat_tests)
 
-no_start : (b : ℕ) → is_ascii_digit b ≡ true → is_name_start b ≡ false
+pub no_start : (b : ℕ) → is_ascii_digit b ≡ true → is_name_start b ≡ false
 no_start b h = grind (arith, nat_tests)
 
 by_first : (total : ℕ) (digits rest : List ℕ) → list_all is_ascii_digit digits ≡ true → 0 < length digits → lexeme_at total (digits ++ rest) ≡ Ok (record { token = tokens.Number (run_at is_number_byte (digits ++ rest)).0; place = total - length (digits ++ rest) }, (run_at is_number_byte (digits ++ rest)).1)

@@ -34,7 +34,7 @@ use Rattle.rl_query.proofs.Derived.{bind_ok, chosen, no_err, none_some, same_som
 same_ok : {A : Type 0} (x y : A) → ◌≡◌ {A = Result A QueryFault} (Ok x) (Ok y) → x ≡ y
 same_ok x y e = cc
 
-abbrev mark_sign : Mark → Sign
+abbrev pub mark_sign : Mark → Sign
 mark_sign marks.Equal = signs.Equal
 mark_sign marks.OpenParenthesis = signs.OpenParenthesis
 mark_sign marks.CloseParenthesis = signs.CloseParenthesis
@@ -206,11 +206,11 @@ selector_read total bytes ms rest h =
 abbrev top : ℕ
 top = longest_range + 1
 
-abbrev HasSeconds : Option (ℕ × ℕ) → Type 0
+abbrev pub HasSeconds : Option (ℕ × ℕ) → Type 0
 HasSeconds None = Unit {0}
 HasSeconds (Some unit) = 1 ≤ unit.0
 
-unit_seconds : (b : ℕ) → HasSeconds (unit_of b)
+pub unit_seconds : (b : ℕ) → HasSeconds (unit_of b)
 unit_seconds b =
     elim (b == 119) as (λ t. HasSeconds (cond t (Some (604800, 1)) (cond (b == 100) (Some (86400, 2)) (cond (b == 104) (Some (3600, 3)) (cond (b == 109) (Some (60, 4)) (cond (b == 115) (Some (1, 5)) None)))))) [
       | true ↦ omega arith
@@ -226,11 +226,11 @@ unit_seconds b =
       ]
     ]
 
-digit_value_of : (b : ℕ) → is_ascii_digit b ≡ true → (digit_value b ≡ b - 48) × (b - 48 ≤ 9)
+pub digit_value_of : (b : ℕ) → is_ascii_digit b ≡ true → (digit_value b ≡ b - 48) × (b - 48 ≤ 9)
 digit_value_of b h = (grind (arith, nat_tests), grind (arith, nat_tests))
 
 -- the digits behind the last unit are read as their value, up to the cap
-abbrev Pending : Option ℕ → List ℕ → Type 0
+abbrev pub Pending : Option ℕ → List ℕ → Type 0
 Pending None ds = ds ≡ []
 Pending (Some n) ds = (0 < length ds) × (list_all is_ascii_digit ds ≡ true) × (n ≡ capped (digits_value 10 ds))
 
@@ -238,7 +238,7 @@ all_append : (p : ℕ → Bool) (xs : List ℕ) (y : ℕ) → list_all p xs ≡ 
 all_append p [] y all this = and_from (p y) true this refl
 all_append p (x ∷ xs) y all this = let parts = and_parts (p x) (list_all p xs) all in and_from (p x) _ parts.0 (all_append p xs y parts.1 this)
 
-digit_pending : (o : Option ℕ) (ds : List ℕ) (b : ℕ) → is_ascii_digit b ≡ true → Pending o ds → Pending (Some (digit_behind o b)) (ds ++ b ∷ [])
+pub digit_pending : (o : Option ℕ) (ds : List ℕ) (b : ℕ) → is_ascii_digit b ≡ true → Pending o ds → Pending (Some (digit_behind o b)) (ds ++ b ∷ [])
 digit_pending None ds b digit pending =
     let value = digit_value_of b digit in
     let one : digits_value 10 ([] ++ b ∷ []) ≡ digits_value 10 [] * 10 + digit_value b = digits_value_push 10 [] b in

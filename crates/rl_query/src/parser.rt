@@ -3,7 +3,7 @@ ghost use Rattle.std.specs.Prelude.{◌≡◌, ◌+◌, ◌-◌, slice_index, �
 ghost use Rattle.std.specs.List.{list_all, list_any};
 ghost use Rattle.std.specs.Result.{result_map_both};
 ghost use Rattle.rl_labels.specs.Name.{is_text};
-ghost use Rattle.rl_query.specs.Form.{matcher_form, range_form, term_form, query_form};
+ghost use Rattle.rl_query.specs.Form.{QueryForm, matcher_form, range_form, term_form, query_form};
 ghost use Rattle.rl_query.specs.Grammar.{Derives};
 ghost use Rattle.rl_query.specs.Printing.{query_text};
 ghost use Rattle.rl_query.specs.Reading.{Gives};
@@ -566,6 +566,7 @@ fn term_at(alloc: Global, total: usize, text: &str) -> Result<(Term, &str), Quer
 pub fn parse(alloc: Global, text: &str) -> Result<Query, QueryError>
     ensures read { Gives query_form result (query_of text.now) }
     ensures derives { IfOk result (λ query. Derives text.now (query_form query)) }
+    ensures complete { (query : QueryForm) → Derives text.now query → MatchResult result (λ same. query_form same ≡ query) (λ e. e ≡ QueryError.Memory) }
     ensures again { (query : Query) → text.now ≡ query_text (query_form query) → MatchResult result (λ same. same ≡ query) (λ e. e ≡ QueryError.Memory) }
 {
     read(alloc, text)
