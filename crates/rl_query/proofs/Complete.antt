@@ -1,10 +1,11 @@
 -- What the grammar derives is read, rule by rule.
-use Rattle.std.proofs.Common.{◌≡◌, inl, inr, ℕ, zero, suc, ◌+◌, ◌*◌, ◌<◌, ◌≤◌, ◌==◌, nat_le, nat_lt, Bool, true, false, cond, ◌&&◌, List, [], ◌∷◌, ◌++◌, Option, Some, None, Ok, length, drop, refl, sym, ap, subst, ◌∙◌, arith, length-append, append_assoc, append-nil, codes}
+use Rattle.std.proofs.Common.{◌≡◌, inl, inr, ℕ, zero, suc, ◌+◌, ◌*◌, ◌<◌, ◌≤◌, ◌==◌, nat_le, nat_lt, Bool, true, false, cond, ◌&&◌, List, [], ◌∷◌, ◌++◌, Option, Some, None, Ok, length, refl, sym, ap, subst, ◌∙◌, arith, length-append, append_assoc, append-nil, codes}
 use Rattle.std.specs.List.{list_all}
 use Rattle.std.specs.Option.{option_map, option_and_then}
 use Rattle.std.specs.Char.{is_ascii_digit}
 use Rattle.std.specs.Str.Parse.{digits_value}
 use Rattle.std.proofs.Math.Nat.{mul-le-mul_left}
+use Rattle.std.proofs.lemmas.List.{length-drop}
 use Rattle.std.proofs.lemmas.Bool.{and_from, and_parts, true≢false, lt-ltb, le-leb, cond-true, cond-false}
 use Rattle.rl_labels.specs.Name.{is_name}
 use Rattle.rl_labels.specs.declared.matcher.MatchOp.TheVariants as operators
@@ -23,7 +24,8 @@ use Rattle.rl_query.specs.Lexing.{sign_at, one_byte, two_bytes, or_else}
 use Rattle.rl_query.specs.Limits.{longest_range}
 use Rattle.rl_query.specs.Parsing.{is_mark_sign, expected, matcher_at, element_at, matchers_at, selector_at, capped, unit_of, Progress, digit_behind, with_unit, duration_from, duration_of, seconds_at, range_at, term_at, query_of}
 use Rattle.rl_query.specs.Reading.{◌>>=◌}
-use Rattle.rl_query.proofs.Lexed.{Found, lexed, gap_shorter, apart, none_some}
+use Rattle.rl_query.proofs.Derived.{none_some}
+use Rattle.rl_query.proofs.Lexed.{Found, lexed, gap_shorter, apart}
 use Rattle.rl_query.proofs.Parts.{digit_step}
 use Rattle.rl_query.proofs.Rules.{mark_sign, HasSeconds, unit_seconds, Pending, digit_pending}
 
@@ -44,15 +46,10 @@ expected_is total bytes mark position rest lexes =
     rw found.is (cond-true (is_mark_sign mark (mark_sign mark)) _ _ (marked mark))
 
 -- what follows a token is no longer than what began with it
-drop_shorter : (n : ℕ) (bytes : List ℕ) → length (drop n bytes) ≤ length bytes
-drop_shorter zero bytes = omega arith
-drop_shorter (suc n) [] = omega arith
-drop_shorter (suc n) (b ∷ bytes) = omega (arith, drop_shorter n bytes)
-
 quoted_shorter : {bytes value rest : List ℕ} → Quoted bytes value rest → length rest ≤ length bytes
 quoted_shorter (closed rest) = omega arith
 quoted_shorter (plain byte bytes value rest is more) = omega (arith, quoted_shorter more)
-quoted_shorter (escaped c n bytes value rest at more) = omega (arith, quoted_shorter more, drop_shorter n bytes)
+quoted_shorter (escaped c n bytes value rest at more) = omega (arith, quoted_shorter more, length-drop n bytes)
 
 -- what is left behind a sign
 left_behind : (o : Option Sign) (front rest : List ℕ) (sign : Sign) → option_map {U = Sign × List ℕ} (λ s. (s, front)) o ≡ Some (sign, rest) → length rest ≤ length front

@@ -4,7 +4,7 @@ use Rattle.std.specs.List.{prefix_len, list_all, list_any}
 use Rattle.std.specs.Option.{option_map, option_and_then}
 use Rattle.std.specs.Char.{is_ascii_digit}
 use Rattle.std.proofs.Math.Utf8.{encode}
-use Rattle.std.proofs.lemmas.Bool.{and_parts, and_from, true≢false, ne_eqb, cond-true, cond-false}
+use Rattle.std.proofs.lemmas.Bool.{and_parts, and_from, true≢false, ne_eqb, cond-true, cond-false, or_parts, not-true}
 use Rattle.rl_labels.specs.Name.{is_name, is_name_start, is_name_byte}
 use Rattle.rl_query.specs.declared.token.Sign.{Sign}
 use Rattle.rl_query.specs.declared.token.Sign.TheVariants as signs
@@ -14,6 +14,7 @@ use Rattle.rl_query.specs.Grammar.{BehindGap, NotBegin, BeginsWithDigit, Quoted,
 use Rattle.rl_query.specs.Lexing.{is_space, gap_len, is_number_byte, run_at, onto, quoted, backquoted, or_else, sign_at, one_byte, at_place, token_at, lexeme_at, is_raw}
 use Rattle.rl_query.specs.Reading.{◌>>=◌}
 use Rattle.rl_query.proofs.Again.{run_again, start_is_byte, start_no_gap, word_token, text_token, not_second}
+use Rattle.rl_query.proofs.Derived.{none_some}
 use Rattle.rl_query.proofs.Parts.{digit_no_gap, no_start}
 
 -- what stands behind a gap, where no gap begins
@@ -41,14 +42,6 @@ gap_shorter true (b ∷ bytes) start behind = omega (arith, gap_shorter (not (b 
 gap_shorter false (b ∷ bytes) start (inl space) = omega (arith, gap_shorter false bytes start space.1)
 gap_shorter false (b ∷ bytes) start (inr (inl hash)) = omega (arith, gap_shorter true bytes start hash.1)
 gap_shorter false (b ∷ bytes) start (inr (inr same)) = omega (arith, ap length same)
-
-or_parts : (a b : Bool) → (a || b) ≡ false → (a ≡ false) × (b ≡ false)
-or_parts true b h = absurd (true≢false h)
-or_parts false b h = (refl, h)
-
-not_true : (a : Bool) → not a ≡ true → a ≡ false
-not_true true h = absurd (true≢false (sym h))
-not_true false h = refl
 
 -- a byte of a kind is none that is not of it
 pub apart : (p : ℕ → Bool) (b k : ℕ) → p b ≡ true → p k ≡ false → (b == k) ≡ false
@@ -91,9 +84,6 @@ no_sign p b bytes same_kind none = by_rest bytes
     by_rest (second ∷ rest) =
         ap (λ o. or_else (option_map (λ sign. (sign, rest)) o) (option_map (λ sign. (sign, second ∷ rest)) (one_byte b))) (not_second b second (apart p b 61 same_kind none.equal) (apart p b 33 same_kind none.bang) (apart p b 62 same_kind none.greater) (apart p b 60 same_kind none.less) (apart p b 124 same_kind none.pipe))
         ∙ ap (option_map (λ sign. (sign, second ∷ rest))) one
-
-pub none_some : {A : Type 0} (x : A) → None ≡ Some x → ⊥
-none_some x h = cc
 
 -- the first byte of a sign is of no kind that begins none
 sign_apart : (p : ℕ → Bool) (b : ℕ) (bytes : List ℕ) (x : Sign × List ℕ) → sign_at (b ∷ bytes) ≡ Some x → BeginsNone p → p b ≡ false
@@ -161,7 +151,7 @@ skipped (suc n) (b ∷ bytes) = skipped n bytes
 quoted_is : {bytes value rest : List ℕ} → Quoted bytes value rest → quoted 0 bytes ≡ Some (value, rest)
 quoted_is (closed rest) = refl
 quoted_is (plain byte bytes value rest is more) =
-    let others = or_parts (byte == 34) (byte == 92) (not_true ((byte == 34) || (byte == 92)) is) in
+    let others = or_parts (byte == 34) (byte == 92) (not-true ((byte == 34) || (byte == 92)) is) in
     cond-false (byte == 34) _ _ others.0 ∙ cond-false (byte == 92) _ _ others.1 ∙ ap (onto (byte ∷ [])) (quoted_is more)
 quoted_is (escaped c n bytes value rest at more) =
     ap (option_and_then (λ (e : ℕ × ℕ). onto (encode e.0) (quoted e.1 bytes))) at ∙ ap (onto (encode c)) (skipped n bytes ∙ quoted_is more)
@@ -170,7 +160,7 @@ raw_is : (value rest : List ℕ) → list_all is_raw value ≡ true → backquot
 raw_is [] rest all = refl
 raw_is (b ∷ value) rest all =
     let parts = and_parts (is_raw b) (list_all is_raw value) all in
-    cond-false (b == 96) _ _ (not_true (b == 96) parts.0) ∙ ap (onto (b ∷ [])) (raw_is value rest parts.1)
+    cond-false (b == 96) _ _ (not-true (b == 96) parts.0) ∙ ap (onto (b ∷ [])) (raw_is value rest parts.1)
 
 raw_token : (place : ℕ) (bytes : List ℕ) → token_at place (96 ∷ bytes) ≡ at_place place tokens.Text (backquoted bytes)
 unfolding token_at

@@ -1,5 +1,6 @@
 -- What was told of the lines so far.
 use Rattle.std.proofs.Common.{◌≡◌, ◌⊎◌, inl, inr, ℕ, zero, suc, ◌<◌, Bool, true, false, ◌||◌, List, [], ◌∷◌, ◌++◌, Option, None, Some, Ok, refl, sym, ap, subst, ◌∙◌, arith, length, length-append, append_assoc, append-nil, codes}
+use Rattle.std.proofs.Math.Bool.{or_assoc, or-false, or-true}
 use Rattle.std.specs.Io.KnownBytes.{Appends, Keeps}
 use Rattle.std.proofs.KnownBytes.{Appends-trans}
 use Rattle.rl_world.specs.WorldState.{WorldBooks}
@@ -16,34 +17,22 @@ pub record ToldSoFar (commands rest : List ℕ) (refused : Bool) (world now : Wo
   pub whole : (text : List ℕ) (later : Bool) (after : WorldBooks) → AreLinesTold (lines_of rest) now text later after → AreLinesTold (lines_of commands) world (written ++ text) (refused || later) after
   pub appended : Appends old new written
 
-or_assoc : (a b c : Bool) → (a || (b || c)) ≡ ((a || b) || c)
-or_assoc true b c = refl
-or_assoc false b c = refl
-
-or_false : (a : Bool) → (a || false) ≡ a
-or_false true = refl
-or_false false = refl
-
 none_kept : (known : Option (List ℕ)) → Appends known known []
 none_kept None = tt
 none_kept (Some bytes) = sym (append-nil bytes)
-
-or_true : (a : Bool) → (a || true) ≡ true
-or_true true = refl
-or_true false = refl
 
 -- no end, and counted where it was refused
 abbrev pub IsCounted : Bool → Answer → Bool → Type 0
 IsCounted refused here after = (here ≡ Ended → ⊥) × (after ≡ (refused || is_refusal here))
 
 pub counted_taken : (refused after : Bool) (here : Answer) → here ≡ Taken → after ≡ refused → IsCounted refused here after
-counted_taken refused after Taken is same = ((λ e. cc), same ∙ sym (or_false refused))
+counted_taken refused after Taken is same = ((λ e. cc), same ∙ sym (or-false refused))
 counted_taken refused after Refused is same = let never : ⊥ = cc in absurd never
 counted_taken refused after Ended is same = let never : ⊥ = cc in absurd never
 
 pub counted_refused : (refused after : Bool) (here : Answer) → here ≡ Refused → after ≡ true → IsCounted refused here after
 counted_refused refused after Taken is same = let never : ⊥ = cc in absurd never
-counted_refused refused after Refused is same = ((λ e. cc), same ∙ sym (or_true refused))
+counted_refused refused after Refused is same = ((λ e. cc), same ∙ sym (or-true refused))
 counted_refused refused after Ended is same = let never : ⊥ = cc in absurd never
 
 -- what stands behind a line feed is shorter
@@ -64,7 +53,7 @@ told_line commands rest line behind refused Taken world before now old mid new g
   written = so_far.written ++ told.0;
   whole = λ text later after others.
       subst (λ t. AreLinesTold (lines_of commands) world t ((refused || false) || later) after) (sym (append_assoc so_far.written told.0 text))
-      (subst (λ r. AreLinesTold (lines_of commands) world (so_far.written ++ (told.0 ++ text)) r after) (or_assoc refused false later)
+      (subst (λ r. AreLinesTold (lines_of commands) world (so_far.written ++ (told.0 ++ text)) r after) (sym (or_assoc refused false later))
       (so_far.whole (told.0 ++ text) later after (subst (λ lines. AreLinesTold lines before (told.0 ++ text) later after) (sym first.0) (told.0, Taken, now, told.1, (text, later, others, refl, refl)))));
   appended = Appends-trans old mid new so_far.written told.0 so_far.appended told.2;
 }
@@ -72,7 +61,7 @@ told_line commands rest line behind refused Refused world before now old mid new
   written = so_far.written ++ told.0;
   whole = λ text later after others.
       subst (λ t. AreLinesTold (lines_of commands) world t ((refused || true) || later) after) (sym (append_assoc so_far.written told.0 text))
-      (subst (λ r. AreLinesTold (lines_of commands) world (so_far.written ++ (told.0 ++ text)) r after) (or_assoc refused true later)
+      (subst (λ r. AreLinesTold (lines_of commands) world (so_far.written ++ (told.0 ++ text)) r after) (sym (or_assoc refused true later))
       (so_far.whole (told.0 ++ text) true after (subst (λ lines. AreLinesTold lines before (told.0 ++ text) true after) (sym first.0) (told.0, Refused, now, told.1, (text, later, others, refl, refl)))));
   appended = Appends-trans old mid new so_far.written told.0 so_far.appended told.2;
 }
@@ -100,7 +89,7 @@ pub told_end : (commands rest line : List ℕ) (behind : Option (List ℕ)) (ref
 told_end commands rest line behind refused world before now old mid new first told so_far =
     let lines = ended_lines rest line behind first in (
       so_far.written ++ told.0,
-      subst (λ r. AreLinesTold (lines_of commands) world (so_far.written ++ told.0) r now) (or_false refused) (so_far.whole told.0 false now (subst (λ lines. AreLinesTold lines before told.0 false now) (sym lines.1) (told.0, Ended, now, told.1, (refl, refl, refl)))),
+      subst (λ r. AreLinesTold (lines_of commands) world (so_far.written ++ told.0) r now) (or-false refused) (so_far.whole told.0 false now (subst (λ lines. AreLinesTold lines before told.0 false now) (sym lines.1) (told.0, Ended, now, told.1, (refl, refl, refl)))),
       Appends-trans old mid new so_far.written told.0 so_far.appended told.2,
     )
 
