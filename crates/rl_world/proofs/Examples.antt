@@ -1,5 +1,6 @@
 -- Definitions, computed at values that were worked out by hand.
-use Rattle.std.proofs.Common.{◌≡◌, ℕ, zero, suc, ◌+◌, ◌%◌, ◌^◌, true, false, List, [], ◌∷◌, codes, Option, None, Some, Ok, Err, zip, refl, ap, arith}
+use Rattle.std.proofs.Common.{◌≡◌, ℕ, zero, suc, ◌+◌, ◌%◌, ◌^◌, true, false, List, [], ◌∷◌, ◌++◌, codes, Option, None, Some, Result, Ok, Err, zip, refl, ap, arith}
+use Rattle.std.specs.Prelude.{⊤}
 use Rattle.std.specs.FinMap.{empty}
 use Rattle.rl_labels.specs.LabelSet.{no_labels}
 use Rattle.rl_labels.specs.declared.entry.Entry.{Entry}
@@ -16,9 +17,12 @@ use Rattle.rl_rules.specs.declared.evaluation.Cause.TheVariants as causes
 use Rattle.rl_rules.specs.declared.evaluation.Evaluation.{Evaluation}
 use Rattle.rl_rules.specs.declared.evaluation.RuleOutcome.TheVariants as made
 use Rattle.rl_sinks.specs.SinkState.{SinkState}
+use Rattle.rl_sinks.specs.declared.sink.SinkFault.{SinkFault}
+use Rattle.rl_sinks.specs.declared.sink.SinkFault.TheVariants as sink_faults
 use Rattle.rl_sinks.specs.Texts.{evaluation_text}
 use Rattle.rl_sinks.specs.declared.sink.SinkKind.TheVariants as sinks
 use Rattle.rl_world.specs.BookCalls.{IsFresh, new_book, books_from, moment_of, Refuses, Answers}
+use Rattle.rl_world.specs.Closed.{SinksClosed, sinks_of}
 use Rattle.rl_world.specs.Evaluating.{group_terms, answers, result_of, evaluation_with, shown_entries, partials_of, no_partial, merged_terms, results_from}
 use Rattle.rl_world.specs.History.{History, last_moment, begin_fault, gather_fault, commit_fault, abandon_fault, begun, gathered, committed, abandoned}
 use Rattle.rl_world.specs.Offering.{TookPrefix, Offered, AllOffered, behind_of}
@@ -362,3 +366,16 @@ each_follows group (suc number) own before is = cc
 
 follow : (group : Group) → SinksFollow (only_group group at_start []) told_steps told_replies (only_group group after_second at_both)
 follow group = each_follows group
+
+-- ---- two sinks are closed, and the second says that it could not write all
+
+one_of_two_failed : {S : Type 0} (state : S → SinkState) (Says : S → Result ⊤ SinkFault → Type 0) (first second : S) → Says first (Ok tt) → Says second (Err sink_faults.WriteFault) → SinksClosed state Says (state first ∷ state second ∷ []) 1
+one_of_two_failed state Says first second wrote failed = record {
+  closes = (first, Ok tt) ∷ (second, Err sink_faults.WriteFault) ∷ [];
+  sinks_are = refl;
+  said = (wrote, (failed, tt));
+  failures_are = refl;
+}
+
+sinks_book_by_book : (group : Group) (own others : List SinkState) → sinks_of (book group [] own ∷ book group [] others ∷ []) ≡ own ++ (others ++ [])
+sinks_book_by_book group own others = refl

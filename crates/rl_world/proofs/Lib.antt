@@ -1,5 +1,6 @@
 pub mod Closing
 pub mod Committing
+pub mod Counting
 mod Examples
 pub mod Following
 pub mod Gathering

@@ -1,4 +1,5 @@
 pub mod BookCalls
+pub mod Closed
 pub mod Evaluating
 pub mod History
 pub mod Offering

@@ -2,6 +2,7 @@
 ghost use Rattle.std.specs.Prelude.{◌≡◌, ◌≤◌, ◌<◌, ◌^◌, List, [], map, length, replicate, slice_get, option_map, option_and_then, IfOk, IfErr, OnOk, OnErr, IfSome, None, Some, is_some, false};
 ghost use Rattle.rl_sinks.specs.SinkState.{closed};
 ghost use Rattle.rl_world.specs.BookCalls.{Refuses};
+ghost use Rattle.rl_world.specs.Closed.{SinksClosed};
 ghost use Rattle.rl_world.specs.History.{asked_fault, closing_fault, with_shown};
 ghost use Rattle.std.specs.List.{AllByRecursion, list_all};
 ghost use Rattle.std.specs.Option.{option_copied};
@@ -244,7 +245,7 @@ impl<S: Sink> Book<S> {
     /// Closes each sink in order. How many could not write all.
     pub fn close_sinks(&mut self) -> u64
         ensures closed { self.new ≡ record { history = self.old.history; shards = self.old.shards; slot = self.old.slot; sinks = map closed self.old.sinks } }
-        ensures few { result ≤ length self.old.sinks }
+        ensures counted { SinksClosed S.state S.close_answers self.new.sinks result }
     {
         close_all(&mut self.sinks)
     }
@@ -330,7 +331,7 @@ fn empty_slots(alloc: Global, shards: usize) -> Result<PlainList<Slot>, AllocErr
 fn close_all<S: Sink>(sinks: &mut [S]) -> u64
     requires { length sinks.old < 2 ^ 63 }
     ensures closed { map S.state sinks.new ≡ map closed (map S.state sinks.old) }
-    ensures few { result ≤ length sinks.old }
+    ensures counted { SinksClosed S.state S.close_answers (map S.state sinks.new) result }
 {
     let mut failed = 0;
     for number in 0..sinks.len() {

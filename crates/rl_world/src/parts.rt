@@ -2,6 +2,7 @@
 ghost use Rattle.std.specs.Prelude.{◌≡◌, length, map};
 ghost use Rattle.std.specs.List.{AllByRecursion};
 ghost use Rattle.std.proofs.Props.{props};
+ghost use Rattle.rl_world.specs.Closed.{BooksClosed};
 ghost use Rattle.rl_world.specs.WorldRun.{SinkStep};
 ghost use Rattle.rl_world.specs.WorldState.{IsBookOf, with_sinks_closed, world_of};
 ghost use Rattle.rl_world.specs.WorldStep.{WorldStep, partials};
@@ -38,6 +39,7 @@ impl<S: Sink> WorldParts<S> {
     pub(crate) fn close_sinks(&mut self) -> u64
         ensures shards { self.new.shards.items ≡ self.old.shards.items }
         ensures books { self.new.books.items ≡ map with_sinks_closed self.old.books.items }
+        ensures counted { BooksClosed S.state S.close_answers self.new.books.items result }
     {
         close_books(&mut self.books)
     }
@@ -45,7 +47,8 @@ impl<S: Sink> WorldParts<S> {
 
 // Closes the sinks of each book in order. How many could not write all.
 fn close_books<S: Sink>(books: &mut [Book<S>]) -> u64
-    ensures { books.new ≡ map with_sinks_closed books.old }
+    ensures closed { books.new ≡ map with_sinks_closed books.old }
+    ensures counted { BooksClosed S.state S.close_answers books.new result }
 {
     let mut failed = 0u64;
     for number in 0..books.len() {

@@ -4,6 +4,7 @@ ghost use Rattle.std.specs.List.{AllByRecursion};
 ghost use Rattle.std.specs.Option.{option_copied};
 ghost use Rattle.rl_world.specs.WorldState.{with_sinks_closed};
 ghost use Rattle.rl_world.specs.BookCalls.{books_from, IsFresh};
+ghost use Rattle.rl_world.specs.Closed.{BooksClosed};
 ghost use Rattle.rl_world.specs.Slots.{most_shards};
 ghost use Rattle.rl_shard.specs.ShardState.{empty_shard};
 
@@ -102,7 +103,8 @@ impl<S: Sink> World<S> {
 
     /// Closes the sinks of each group in order. How many could not write all.
     pub fn close_sinks(&mut self) -> u64
-        ensures { self.new ≡ record { shards = self.old.shards; books = map with_sinks_closed self.old.books } }
+        ensures closed { self.new ≡ record { shards = self.old.shards; books = map with_sinks_closed self.old.books } }
+        ensures counted { BooksClosed S.state S.close_answers self.new.books result }
     {
         self.parts.close_sinks()
     }

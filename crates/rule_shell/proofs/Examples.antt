@@ -22,7 +22,7 @@ use Rattle.rule_shell.specs.Printed.{refusal_line, bad_push_line, pushed_text, n
 use Rattle.rule_shell.specs.PushBody.{array_at, object_at, pairs_of, parts_of, moment_of, has_no_metadata}
 use Rattle.rule_shell.specs.PushForms.{EntryForm, with_front}
 use Rattle.rule_shell.specs.Reading.{Reads, ReadsFront, Tells}
-use Rattle.rule_shell.specs.Session.{group_number, sink_of, committed_of, opened, is_left_open, TellsPush, TellsEval, TellsCommand, AreLinesTold}
+use Rattle.rule_shell.specs.Session.{group_number, sink_of, committed_of, opened, is_left_open, TellsPush, TellsEval, TellsCommand, AreLinesTold, ended_by}
 use Rattle.rule_shell.specs.Statuses.{status_number, stop_at}
 use Rattle.rule_shell.specs.declared.Stop.TheVariants as stops
 use Rattle.rule_shell.specs.declared.session.Answer.TheVariants.{Taken, Refused, Ended}
@@ -178,6 +178,15 @@ status_of_bad_input = refl
 
 status_of_a_sink_that_did_not_write : status_number (Ok statuses.Unwritten) ≡ 3
 status_of_a_sink_that_did_not_write = refl
+
+end_of_a_session_that_was_taken : ended_by 0 false ≡ statuses.Taken
+end_of_a_session_that_was_taken = refl
+
+end_behind_a_refused_command : ended_by 0 true ≡ statuses.Refused
+end_behind_a_refused_command = refl
+
+end_of_two_sinks_that_did_not_write : ended_by 2 true ≡ statuses.Unwritten
+end_of_two_sinks_that_did_not_write = refl
 
 -- what is printed
 

@@ -1,15 +1,18 @@
 -- What was told of the lines so far.
-use Rattle.std.proofs.Common.{◌≡◌, ◌⊎◌, inl, inr, ℕ, zero, suc, ◌<◌, Bool, true, false, ◌||◌, List, [], ◌∷◌, ◌++◌, Option, None, Some, Ok, refl, sym, ap, subst, ◌∙◌, arith, length, length-append, append_assoc, append-nil, codes}
+use Rattle.std.proofs.Common.{◌≡◌, ℕ, ◌<◌, Bool, true, false, ◌||◌, List, [], ◌∷◌, ◌++◌, Option, None, Some, Result, Ok, map, refl, sym, ap, subst, ◌∙◌, arith, length, length-append, append_assoc, append-nil, codes}
+use Rattle.std.specs.Prelude.{⊤}
 use Rattle.std.proofs.Math.Bool.{or_assoc, or-false, or-true}
 use Rattle.std.specs.Io.KnownBytes.{Appends, Keeps}
 use Rattle.std.proofs.KnownBytes.{Appends-trans}
-use Rattle.rl_world.specs.WorldState.{WorldBooks}
+use Rattle.rl_sinks.specs.SinkState.{SinkState}
+use Rattle.rl_sinks.specs.declared.sink.SinkFault.{SinkFault}
+use Rattle.rl_world.specs.Closed.{BooksClosed}
+use Rattle.rl_world.specs.WorldState.{BookState, WorldBooks, with_sinks_closed}
 use Rattle.rule_shell.specs.Front.{IsFirstLine, lines_of}
 use Rattle.rule_shell.specs.Session.{TellsLine, TellsText, TellsSession, AreLinesTold, is_refusal, ended_by}
 use Rattle.rule_shell.specs.declared.session.Answer.{Answer}
 use Rattle.rule_shell.specs.declared.session.Answer.TheVariants.{Taken, Refused, Ended}
 use Rattle.rule_shell.specs.declared.session.Status.{Status}
-use Rattle.rule_shell.specs.declared.session.Status.TheVariants as statuses
 
 -- whatever is told of the rest is told of the whole behind what was written
 pub record ToldSoFar (commands rest : List ℕ) (refused : Bool) (world now : WorldBooks) (old new : Option (List ℕ)) : Type 0 where
@@ -100,11 +103,8 @@ appended_kept (Some xs) None new text appends keeps = absurd appends
 appended_kept (Some xs) (Some ys) None text appends keeps = absurd keeps
 appended_kept (Some xs) (Some ys) (Some zs) text appends keeps = keeps ∙ appends
 
--- the lines, and the last line behind them
-pub told_session : (world start after : WorldBooks) (commands : List ℕ) (old mid last new : Option (List ℕ)) (refused : Bool) (failed : ℕ) (status : Status) → start ≡ world → TellsText start commands old (Ok refused) after mid → Appends mid last (codes "closed\n") → Keeps last new → (0 < failed → status ≡ statuses.Unwritten) → (failed ≡ 0 → status ≡ ended_by refused) → TellsSession world commands old (Ok status) new
-told_session world start after commands old mid last new refused failed status is told closes keeps unwritten written =
-    (told.0, refused, after, subst (λ w. AreLinesTold (lines_of commands) w told.0 refused after) is told.1, by failed unwritten written, appended_kept old last new (told.0 ++ codes "closed\n") (Appends-trans old mid last told.0 (codes "closed\n") told.2 closes) keeps)
-  where
-    by : (failed : ℕ) → (0 < failed → status ≡ statuses.Unwritten) → (failed ≡ 0 → status ≡ ended_by refused) → (status ≡ statuses.Unwritten) ⊎ (status ≡ ended_by refused)
-    by zero unwritten written = inr (written refl)
-    by (suc failed) unwritten written = inl (unwritten (omega arith))
+-- the lines, the closed sinks, and the last line behind them
+pub told_session : {S : Type 0} (state : S → SinkState) (Says : S → Result ⊤ SinkFault → Type 0) (world start after : WorldBooks) (closed : List BookState) (commands : List ℕ) (old mid last new : Option (List ℕ)) (refused : Bool) (failures : ℕ) (status : Status) → start ≡ world → TellsText start commands old (Ok refused) after mid
+    → closed ≡ map with_sinks_closed after.books → BooksClosed state Says closed failures → status ≡ ended_by failures refused → Appends mid last (codes "closed\n") → Keeps last new → TellsSession state Says world commands old (Ok status) new
+told_session state Says world start after closed commands old mid last new refused failures status is told are counted ends closes keeps =
+    (told.0, refused, after, failures, subst (λ w. AreLinesTold (lines_of commands) w told.0 refused after) is told.1, subst (λ books. BooksClosed state Says books failures) are counted, ends, appended_kept old last new (told.0 ++ codes "closed\n") (Appends-trans old mid last told.0 (codes "closed\n") told.2 closes) keeps)

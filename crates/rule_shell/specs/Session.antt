@@ -1,5 +1,5 @@
 -- What a session answers to its commands, and what they make of its world.
-use Rattle.std.specs.Prelude.{◌≡◌, ◌⊎◌, ℕ, ◌-◌, ◌==◌, Bool, true, false, not, ◌&&◌, ◌||◌, List, [], ◌∷◌, ◌++◌, map, length, replicate, count_by, Option, None, Some, option_and_then, Result, Ok, Err, slice_get, codes, if◌then◌else◌}
+use Rattle.std.specs.Prelude.{◌≡◌, ◌⊎◌, ℕ, ◌-◌, ◌==◌, nat_lt, ⊤, Bool, true, false, not, ◌&&◌, ◌||◌, List, [], ◌∷◌, ◌++◌, map, length, replicate, count_by, Option, None, Some, option_and_then, Result, Ok, Err, slice_get, codes, if◌then◌else◌}
 use Rattle.std.specs.List.{list_all, position_from}
 use Rattle.std.specs.Io.KnownBytes.{Appends}
 use Rattle.rl_labels.specs.Name.{is_text}
@@ -9,9 +9,11 @@ use Rattle.rl_rules.specs.declared.rule.Group.{Group}
 use Rattle.rl_shard.specs.ShardState.{empty_shard}
 use Rattle.rl_shard.specs.declared.step.ShardStep.TheVariants as shard_steps
 use Rattle.rl_sinks.specs.SinkState.{SinkState}
+use Rattle.rl_sinks.specs.declared.sink.SinkFault.{SinkFault}
 use Rattle.rl_world.specs.BookCalls.{books_from}
+use Rattle.rl_world.specs.Closed.{BooksClosed}
 use Rattle.rl_world.specs.WorldRun.{Ran}
-use Rattle.rl_world.specs.WorldState.{BookState, WorldBooks}
+use Rattle.rl_world.specs.WorldState.{BookState, WorldBooks, with_sinks_closed}
 use Rattle.rl_world.specs.declared.fault.Refusal.{Refusal}
 use Rattle.rl_world.specs.declared.fault.Refusal.TheVariants as refusals
 use Rattle.rl_world.specs.declared.step.Committed.{Committed}
@@ -177,11 +179,15 @@ abbrev pub TellsText : WorldBooks → List ℕ → Option (List ℕ) → Result 
 TellsText world commands old (Ok refused) after new = (text : List ℕ) × AreLinesTold (lines_of commands) world text refused after × Appends old new text
 TellsText world commands old (Err error) after new = Unit {0}
 
--- how a session ends where its sinks could write, by whether a command was refused
-abbrev pub ended_by : Bool → Status
-ended_by refused = if refused then statuses.Refused else statuses.Taken
+-- how a session ends, by how many sinks could not write all and whether a command was refused
+abbrev pub ended_by : ℕ → Bool → Status
+ended_by failures refused = if nat_lt 0 failures then statuses.Unwritten else (if refused then statuses.Refused else statuses.Taken)
 
--- a session from this world on: its lines are told, and that it is closed
-abbrev pub TellsSession : WorldBooks → List ℕ → Option (List ℕ) → Result Status RunError → Option (List ℕ) → Type 0
-TellsSession world commands old (Ok status) new = (text : List ℕ) × (refused : Bool) × (after : WorldBooks) × AreLinesTold (lines_of commands) world text refused after × ((status ≡ statuses.Unwritten) ⊎ (status ≡ ended_by refused)) × Appends old new (text ++ codes "closed\n")
-TellsSession world commands old (Err error) new = Unit {0}
+-- the sinks of a world are closed, and so many of them could not write all
+abbrev pub IsClosed : {S : Type 0} → (S → SinkState) → (S → Result ⊤ SinkFault → Type 0) → WorldBooks → ℕ → Type 0
+IsClosed state Says world failures = BooksClosed state Says (map with_sinks_closed world.books) failures
+
+-- a session from this world on: its lines are told, its sinks are closed, and that is told
+abbrev pub TellsSession : {S : Type 0} → (S → SinkState) → (S → Result ⊤ SinkFault → Type 0) → WorldBooks → List ℕ → Option (List ℕ) → Result Status RunError → Option (List ℕ) → Type 0
+TellsSession state Says world commands old (Ok status) new = (text : List ℕ) × (refused : Bool) × (after : WorldBooks) × (failures : ℕ) × AreLinesTold (lines_of commands) world text refused after × IsClosed state Says after failures × (status ≡ ended_by failures refused) × Appends old new (text ++ codes "closed\n")
+TellsSession state Says world commands old (Err error) new = Unit {0}

@@ -96,7 +96,7 @@ pub fn run_commands<S: Sink, W: Write>(
 ) -> Result<Status, RunError>
     requires lists { length sinks.items ≡ length groups.items }
     requires fresh { AllByRecursion (λ own. AllByRecursion IsFresh (map S.state own.items)) sinks.items }
-    ensures { TellsSession (opened limits groups.items (map (λ own. map S.state own.items) sinks.items)) commands.now (W.contents out.old) result (W.contents out.new) }
+    ensures { TellsSession S.state S.close_answers (opened limits groups.items (map (λ own. map S.state own.items) sinks.items)) commands.now (W.contents out.old) result (W.contents out.new) }
 {
     let mut session = Session {
         alloc,
@@ -112,8 +112,7 @@ pub fn run_commands<S: Sink, W: Write>(
 }
 
 fn status_of(refused: bool, failed: u64) -> Status
-    ensures unwritten { 0 < failed → result ≡ Status.Unwritten }
-    ensures written { failed ≡ 0 → result ≡ ended_by refused }
+    ensures { result ≡ ended_by failed refused }
 {
     if failed > 0 {
         Status::Unwritten
