@@ -1,15 +1,1 @@
-mod Documents
-mod Moments
-mod Walks
-pub mod Answering
-pub mod Cut
-pub mod Gathering
-pub mod Lines
-mod Numbers
 mod FreshSinks
-mod Runs
-mod Pushing
-mod Printing
-pub mod Telling
-mod Groups
-mod Examples

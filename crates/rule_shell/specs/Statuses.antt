@@ -2,11 +2,11 @@
 use Rattle.std.specs.Prelude.{ℕ, Result, Ok, Err}
 use Rattle.rule_shell.specs.declared.Stop.{Stop}
 use Rattle.rule_shell.specs.declared.Stop.TheVariants.{BadOptions, BadInput, Failed}
-use Rattle.rule_shell.specs.declared.front.fault.FrontError.{FrontError}
-use Rattle.rule_shell.specs.declared.front.fault.FrontError.TheVariants as errors
-use Rattle.rule_shell.specs.declared.front.fault.FrontFault.TheVariants as faults
-use Rattle.rule_shell.specs.declared.session.Status.{Status}
-use Rattle.rule_shell.specs.declared.session.Status.TheVariants.{Taken, Refused, Unwritten}
+use Rattle.rl_session.specs.declared.front.fault.FrontError.{FrontError}
+use Rattle.rl_session.specs.declared.front.fault.FrontError.TheVariants as errors
+use Rattle.rl_session.specs.declared.front.fault.FrontFault.TheVariants as faults
+use Rattle.rl_session.specs.declared.session.Status.{Status}
+use Rattle.rl_session.specs.declared.session.Status.TheVariants.{Taken, Refused, Unwritten}
 
 -- what an input that gave no commands stops the program with
 abbrev pub stop_at : FrontError → Stop

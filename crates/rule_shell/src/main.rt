@@ -1,8 +1,7 @@
 //! The program: rules, a mark and commands from standard input, and what the commands print.
 //!
-//! - `front`: `read_front`, what stands before the mark and behind it. `push`: `read_push`, entries from JSON.
-//! - `command`: `Command`, one line. `session`: `run_commands`.
-//! - `names`: the names of faults and refusals. `output`: standard output for a sink in a box.
+//! What a session is stands in `rl_session`; here are the options, the status and the sinks of the process.
+//! `output` is standard output for a sink in a box.
 #![tactic(auto)]
 
 ghost use Rattle.std.specs.Prelude.{◌≡◌, ◌≢◌};
@@ -10,34 +9,19 @@ ghost use Rattle.std.specs.Process.{exit_status};
 ghost use Rattle.rule_shell.specs.Statuses.{status_number, stop_at};
 ghost use Rattle.rule_shell.specs.declared.Stop.TheVariants.{Failed};
 
-mod command;
-mod front;
-mod names;
 mod output;
-mod push;
-mod session;
 
 use clap::Command;
 use clap::error::ErrorKind as OptionsFault;
-use front::{Front, FrontError, FrontFault, read_front};
-use names::front_fault_name;
 use output::Output;
 use rl_labels::{DEFAULT_LIMITS, Limits};
+use rl_session::names::front_fault_name;
+use rl_session::{Front, FrontError, FrontFault, RunError, Status, read_front, run_commands};
 use rl_sinks::{Recorder, Sink};
-use session::{RunError, Status, run_commands};
 use std::alloc::{AllocError, AllocFailed, Global};
 use std::env;
 use std::io::{BufWriter, ErrorKind};
 use std::process::ExitCode;
-
-#[cfg(test)]
-mod tests;
-#[cfg(test)]
-mod tests_command;
-#[cfg(test)]
-mod tests_push;
-#[cfg(test)]
-mod tests_scripts;
 
 // How many texts of a recorder may wait to be written.
 const RECORDER_CAP: usize = 1_024;

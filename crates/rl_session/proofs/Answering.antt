@@ -1,0 +1,80 @@
+-- What an input is answered, case by case.
+use Rattle.std.proofs.Common.{◌≡◌, ℕ, ◌≤◌, Bool, true, false, cond, List, ◌++◌, length, arith, Option, None, Some, IfSome, Result, Ok, Err, refl, sym, ap, subst, ◌∙◌}
+use Rattle.std.specs.List.{concat}
+use Rattle.std.specs.Str.{IsUtf8, is_utf8}
+use Rattle.std.proofs.lemmas.List.{append-nil}
+use Rattle.std.proofs.lemmas.Bool.{false_from_ne_true}
+use Rattle.std.proofs.lemmas.Str.{IsUtf8-from_is_utf8, is_utf8-from_IsUtf8}
+use Rattle.rl_rules.specs.Forms.{GroupForm}
+use Rattle.rl_rules.specs.Document.{groups_of}
+use Rattle.rl_session.specs.Front.{FrontForm, Gives, front_of, front_from, front_in, with_rules_fault, with_commands}
+use Rattle.rl_session.specs.Reading.{Answers, Reads, ReadsFront, Tells, read_front}
+use Rattle.rl_session.specs.declared.front.fault.FrontFault.{FrontFault}
+use Rattle.rl_session.specs.declared.front.fault.FrontFault.TheVariants as faults
+use Rattle.rl_session.specs.declared.front.fault.FrontError.{FrontError}
+use Rattle.rl_session.specs.declared.front.fault.FrontError.TheVariants as errors
+
+front_in-test : (bytes : List ℕ) (t : Bool) → is_utf8 bytes ≡ t → front_in bytes ≡ cond t (front_from (front_of bytes)) (Err faults.NotText)
+front_in-test bytes t is = ap (λ b. cond b (front_from (front_of bytes)) (Err faults.NotText)) is
+
+pub front_in-no_text : (bytes : List ℕ) → (IsUtf8 bytes → ⊥) → front_in bytes ≡ Err faults.NotText
+front_in-no_text bytes not = front_in-test bytes false (false_from_ne_true (is_utf8 bytes) (λ is. not (IsUtf8-from_is_utf8 bytes is)))
+
+pub front_in-no_mark : (bytes whole : List ℕ) → IsUtf8 bytes → whole ≡ bytes → None ≡ front_of whole → front_in bytes ≡ Err faults.NoMark
+front_in-no_mark bytes whole utf8 same is = front_in-test bytes true (is_utf8-from_IsUtf8 bytes utf8) ∙ ap front_from (ap front_of (sym same) ∙ sym is)
+
+front_in-parts : (bytes whole document commands : List ℕ) (groups : Result (List GroupForm) FrontFault) → IsUtf8 bytes → whole ≡ bytes → Some (document, commands) ≡ front_of whole → with_rules_fault (groups_of document) ≡ groups → front_in bytes ≡ with_commands commands groups
+front_in-parts bytes whole document commands groups utf8 same is read =
+    front_in-test bytes true (is_utf8-from_IsUtf8 bytes utf8) ∙ ap front_from (ap front_of (sym same) ∙ sym is) ∙ ap (with_commands commands) read
+
+pub front_in-groups : (bytes whole document commands rest : List ℕ) (groups : List GroupForm) → IsUtf8 bytes → whole ≡ bytes → Some (document, commands) ≡ front_of whole → with_rules_fault (groups_of document) ≡ Ok groups → rest ≡ commands → front_in bytes ≡ Ok (record { groups = groups; commands = rest })
+front_in-groups bytes whole document commands rest groups utf8 same is read behind =
+    front_in-parts bytes whole document commands (Ok groups) utf8 same is read ∙ ap (λ c. Ok (record { groups = groups; commands = c })) (sym behind)
+
+-- the fault of the document
+pub front_in-fault : {X Z : Type 0} (view : X → List GroupForm) (form : Z → FrontForm) (bytes whole document commands : List ℕ) (error : FrontError) → IsUtf8 bytes → whole ≡ bytes → Some (document, commands) ≡ front_of whole → Gives view (Err error) (with_rules_fault (groups_of document)) → Gives form (Err error) (front_in bytes)
+front_in-fault view form bytes whole document commands (errors.Fault fault) utf8 same is read = front_in-parts bytes whole document commands (Err fault) utf8 same is read
+front_in-fault view form bytes whole document commands errors.Memory utf8 same is read = tt
+
+-- reading failed
+pub ReadsFront-failed : {X Z : Type 0} (view : X → List ℕ) (form : Z → FrontForm) (most : ℕ) (old new : Option (List ℕ)) (error : FrontError) → Answers view (Reads most old new) (Err error) → Answers form (ReadsFront most old new) (Err error)
+ReadsFront-failed view form most old new (errors.Fault fault) reads = (Err fault, reads, refl)
+ReadsFront-failed view form most old new errors.Memory reads = tt
+
+-- all was read
+pub ReadsFront-read : {Z : Type 0} (form : Z → FrontForm) (most : ℕ) (old new : Option (List ℕ)) (bytes : List ℕ) (result : Result Z FrontError) → Reads most old new (Ok bytes) → Gives form result (front_in bytes) → Answers form (ReadsFront most old new) result
+ReadsFront-read form most old new bytes (Ok front) reads gives = (Ok bytes, reads, sym gives)
+ReadsFront-read form most old new bytes (Err (errors.Fault fault)) reads gives = (Ok bytes, reads, sym gives)
+ReadsFront-read form most old new bytes (Err errors.Memory) reads gives = tt
+
+-- all that a reader gave, where its bytes are known
+Reads-all : (most : ℕ) (all : List ℕ) (new : Option (List ℕ)) (bytes : List ℕ) → Reads most (Some all) new (Ok bytes) → (length all ≤ most) × (bytes ≡ all)
+Reads-all most all None bytes reads = absurd reads.2
+Reads-all most all (Some rest) bytes reads =
+    let same : bytes ≡ all = reads.3.0 ∙ sym (reads.2 ∙ ap (λ l. concat reads.0 ++ l) reads.3.2 ∙ append-nil (concat reads.0)) in
+    (omega (arith, reads.3.1, ap length same), same)
+
+Tells-all : (most : ℕ) (all : List ℕ) (answer : Result FrontForm FrontFault) → (length all ≤ most) × (answer ≡ front_in all) → Tells most all answer
+Tells-all most all (Ok front) told = told
+Tells-all most all (Err faults.ReadFault) told = tt
+Tells-all most all (Err faults.TooLong) told = tt
+Tells-all most all (Err faults.NotText) told = told
+Tells-all most all (Err faults.NoMark) told = told
+Tells-all most all (Err (faults.Rules fault)) told = told
+
+Tells-read : (most : ℕ) (all : List ℕ) (new : Option (List ℕ)) (answer : Result FrontForm FrontFault) (read : Result (List ℕ) FrontFault) → Reads most (Some all) new read → answer ≡ read_front read → Tells most all answer
+Tells-read most all new answer (Ok bytes) reads is =
+    let whole = Reads-all most all new bytes reads in
+    Tells-all most all answer (whole.0, is ∙ ap front_in whole.1)
+Tells-read most all new answer (Err faults.ReadFault) reads is = subst (Tells most all) (sym is) tt
+Tells-read most all new answer (Err faults.TooLong) reads is = subst (Tells most all) (sym is) tt
+Tells-read most all new answer (Err faults.NotText) reads is = absurd reads.3
+Tells-read most all new answer (Err faults.NoMark) reads is = absurd reads.3
+Tells-read most all new answer (Err (faults.Rules fault)) reads is = absurd reads.3
+
+-- what is answered where the reader's bytes are known
+pub Tells-ReadsFront : {Z : Type 0} (form : Z → FrontForm) (most : ℕ) (old new : Option (List ℕ)) (result : Result Z FrontError) → Answers form (ReadsFront most old new) result → IfSome old (λ all. Answers form (Tells most all) result)
+Tells-ReadsFront form most None new result reads = tt
+Tells-ReadsFront form most (Some all) new (Ok front) reads = Tells-read most all new (Ok (form front)) reads.0 reads.1 reads.2
+Tells-ReadsFront form most (Some all) new (Err (errors.Fault fault)) reads = Tells-read most all new (Err fault) reads.0 reads.1 reads.2
+Tells-ReadsFront form most (Some all) new (Err errors.Memory) reads = tt

@@ -1,0 +1,77 @@
+-- The input of the program: a document of rules, a line that is the mark, and commands.
+use Rattle.std.specs.Prelude.{◌≡◌, ◌⊎◌, ℕ, ◌==◌, Bool, List, [], ◌∷◌, ◌++◌, map, Option, None, Some, Result, Ok, Err, codes, if◌then◌else◌}
+use Rattle.std.specs.List.{slice_split, join_with_byte}
+use Rattle.std.specs.Option.{option_map}
+use Rattle.std.specs.Str.{is_utf8}
+use Rattle.rl_labels.specs.Name.{is_text}
+use Rattle.rl_rules.specs.Forms.{GroupForm, group_form}
+use Rattle.rl_rules.specs.Document.{groups_of}
+use Rattle.rl_rules.specs.declared.fault.RulesFault.{RulesFault}
+use Rattle.rl_session.specs.declared.front.Front.{Front}
+use Rattle.rl_session.specs.declared.front.fault.FrontFault.{FrontFault}
+use Rattle.rl_session.specs.declared.front.fault.FrontFault.TheVariants as faults
+use Rattle.rl_session.specs.declared.front.fault.FrontError.{FrontError}
+use Rattle.rl_session.specs.declared.front.fault.FrontError.TheVariants as errors
+
+-- the lines of a text, without their line feeds
+abbrev pub lines_of : List ℕ → List (List ℕ)
+lines_of text = slice_split (λ byte. byte == 10) text
+
+-- the first line of a text, and what stands behind its line feed, if it has one
+abbrev pub IsFirstLine : List ℕ → List ℕ → Option (List ℕ) → Type 0
+IsFirstLine text line None = lines_of text ≡ line ∷ []
+IsFirstLine text line (Some behind) = (lines_of text ≡ line ∷ lines_of behind) × (text ≡ line ++ 10 ∷ behind)
+
+-- a line is the mark: two percent signs, and nothing else
+abbrev pub is_mark : List ℕ → Bool
+is_mark line = is_text line (codes "%%")
+
+-- a line more, with its line feed, in front of a document
+abbrev pub behind_line : List ℕ → List ℕ × List ℕ → List ℕ × List ℕ
+behind_line line parts = (line ++ 10 ∷ parts.0, parts.1)
+
+-- the lines before the first mark as a document, and those behind it as commands
+abbrev pub front_of_lines : List (List ℕ) → Option (List ℕ × List ℕ)
+front_of_lines [] = None
+front_of_lines (line ∷ lines) = if is_mark line then Some ([], join_with_byte 10 lines) else option_map (behind_line line) (front_of_lines lines)
+
+-- the document and the commands of a text
+abbrev pub front_of : List ℕ → Option (List ℕ × List ℕ)
+front_of text = front_of_lines (lines_of text)
+
+-- a text is its document, the mark, and its commands behind a line feed; or the mark ends it
+abbrev pub IsCut : List ℕ → List ℕ × List ℕ → Type 0
+IsCut text parts = (text ≡ parts.0 ++ (codes "%%\n" ++ parts.1)) ⊎ ((text ≡ parts.0 ++ codes "%%") × (parts.1 ≡ []))
+
+-- groups, and the text of the commands
+pub record FrontForm : Type 0 where
+  pub groups : List GroupForm
+  pub commands : List ℕ
+
+abbrev pub front_form : Front → FrontForm
+front_form front = record { groups = map group_form front.groups.items; commands = front.commands }
+
+-- the groups of a document, or its fault
+abbrev pub with_rules_fault : Result (List GroupForm) RulesFault → Result (List GroupForm) FrontFault
+with_rules_fault (Ok groups) = Ok groups
+with_rules_fault (Err fault) = Err (faults.Rules fault)
+
+-- the commands beside the groups
+abbrev pub with_commands : List ℕ → Result (List GroupForm) FrontFault → Result FrontForm FrontFault
+with_commands commands (Ok groups) = Ok (record { groups = groups; commands = commands })
+with_commands commands (Err fault) = Err fault
+
+-- what the two parts of a text say
+abbrev pub front_from : Option (List ℕ × List ℕ) → Result FrontForm FrontFault
+front_from None = Err faults.NoMark
+front_from (Some parts) = with_commands parts.1 (with_rules_fault (groups_of parts.0))
+
+-- what bytes say, or the lowest fault that they have
+abbrev pub front_in : List ℕ → Result FrontForm FrontFault
+front_in bytes = if is_utf8 bytes then front_from (front_of bytes) else Err faults.NotText
+
+-- what a function returned, seen by view, is what reading gives, unless memory ran out
+abbrev pub Gives : {X Y : Type 0} → (X → Y) → Result X FrontError → Result Y FrontFault → Type 0
+Gives view (Ok x) read = read ≡ Ok (view x)
+Gives view (Err (errors.Fault fault)) read = read ≡ Err fault
+Gives view (Err errors.Memory) read = Unit {0}

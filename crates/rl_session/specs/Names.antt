@@ -1,0 +1,74 @@
+-- The names under which faults and refusals are printed: those of their variants, without what they hold.
+use Rattle.std.specs.Prelude.{ℕ, List, Option, None, Some, codes}
+use Rattle.rl_rules.specs.declared.fault.RulesFault.{RulesFault}
+use Rattle.rl_rules.specs.declared.fault.RulesFault.TheVariants as rules
+use Rattle.rl_shard.specs.declared.step.ShardReply.{ShardReply}
+use Rattle.rl_shard.specs.declared.step.ShardReply.TheVariants as replies
+use Rattle.rl_world.specs.declared.fault.BookFault.{BookFault}
+use Rattle.rl_world.specs.declared.fault.BookFault.TheVariants as books
+use Rattle.rl_world.specs.declared.fault.Refusal.{Refusal}
+use Rattle.rl_world.specs.declared.fault.Refusal.TheVariants as refusals
+use Rattle.rl_world.specs.declared.step.Reply.{Reply}
+use Rattle.rl_world.specs.declared.step.Reply.TheVariants as world
+use Rattle.rl_session.specs.declared.front.fault.FrontFault.{FrontFault}
+use Rattle.rl_session.specs.declared.front.fault.FrontFault.TheVariants as fronts
+use Rattle.rl_session.specs.declared.push.PushError.{PushError}
+use Rattle.rl_session.specs.declared.push.PushError.TheVariants as errors
+use Rattle.rl_session.specs.declared.push.PushFault.TheVariants as pushes
+
+-- a push body's fault
+abbrev pub push_error_name : PushError → List ℕ
+push_error_name (errors.Fault pushes.NotJson) = codes "NotJson"
+push_error_name (errors.Fault pushes.Shape) = codes "Shape"
+push_error_name (errors.Fault pushes.Label) = codes "Label"
+push_error_name (errors.Fault pushes.Time) = codes "Time"
+push_error_name (errors.Fault pushes.Line) = codes "Line"
+push_error_name (errors.Fault pushes.Metadata) = codes "Metadata"
+push_error_name errors.Memory = codes "Memory"
+
+-- a rule file's fault
+abbrev pub rules_fault_name : RulesFault → List ℕ
+rules_fault_name rules.BadToml = codes "BadToml"
+rules_fault_name rules.UnknownKey = codes "UnknownKey"
+rules_fault_name rules.MissingKey = codes "MissingKey"
+rules_fault_name (rules.BadQuery _ _ _) = codes "BadQuery"
+rules_fault_name rules.BadName = codes "BadName"
+rules_fault_name rules.SameGroup = codes "SameGroup"
+rules_fault_name rules.TooMany = codes "TooMany"
+
+-- an input's fault, or that of its rules
+abbrev pub front_fault_name : FrontFault → List ℕ
+front_fault_name fronts.ReadFault = codes "ReadFault"
+front_fault_name fronts.TooLong = codes "TooLong"
+front_fault_name fronts.NotText = codes "NotText"
+front_fault_name fronts.NoMark = codes "NoMark"
+front_fault_name (fronts.Rules fault) = rules_fault_name fault
+
+-- a book's fault
+abbrev pub book_fault_name : BookFault → List ℕ
+book_fault_name books.Busy = codes "Busy"
+book_fault_name (books.MomentNotLater _) = codes "MomentNotLater"
+book_fault_name books.NotOpen = codes "NotOpen"
+book_fault_name books.AlreadyGathered = codes "AlreadyGathered"
+book_fault_name books.Incomplete = codes "Incomplete"
+book_fault_name books.SessionFull = codes "SessionFull"
+
+-- a world's refusal, or the fault of the book
+abbrev pub refusal_name : Refusal → List ℕ
+refusal_name refusals.NoSuch = codes "NoSuch"
+refusal_name (refusals.Book fault) = book_fault_name fault
+refusal_name refusals.JournalFull = codes "JournalFull"
+refusal_name refusals.Memory = codes "Memory"
+
+-- why a shard did not take an entry
+abbrev pub shard_refusal : ShardReply → Option (List ℕ)
+shard_refusal (replies.Expired _) = Some (codes "Expired")
+shard_refusal (replies.TooFarBehind _) = Some (codes "TooFarBehind")
+shard_refusal replies.Full = Some (codes "Full")
+shard_refusal _ = None
+
+-- why a push was refused, by the shard or by the world
+abbrev pub push_refusal : Reply → Option (List ℕ)
+push_refusal (world.Decided _ reply) = shard_refusal reply
+push_refusal (world.Refused refusal) = Some (refusal_name refusal)
+push_refusal _ = None

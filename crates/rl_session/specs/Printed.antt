@@ -1,0 +1,64 @@
+-- What a session prints, where the bytes that its writer holds are known.
+use Rattle.std.specs.Prelude.{ℕ, suc, ◌-◌, ◌==◌, Bool, List, [], ◌∷◌, ◌++◌, length, take, replicate, count_by, flat_map, Option, None, Some, is_some, codes, if◌then◌else◌}
+use Rattle.std.specs.List.{concat}
+use Rattle.std.specs.Fmt.{decimal}
+use Rattle.rl_sinks.specs.SinkState.{SinkState}
+use Rattle.rl_sinks.specs.Texts.{tail_text}
+use Rattle.rl_world.specs.declared.fault.Refusal.TheVariants as refusals
+use Rattle.rl_world.specs.declared.step.Committed.{Committed}
+use Rattle.rl_world.specs.declared.step.Reply.{Reply}
+use Rattle.rl_world.specs.declared.step.Reply.TheVariants as replies
+use Rattle.rl_session.specs.Names.{push_refusal}
+
+-- the line of a refusal
+abbrev pub refusal_line : List ℕ → List ℕ
+refusal_line name = codes "refused " ++ (name ++ codes "\n")
+
+-- the line of a push body that was refused
+abbrev pub bad_push_line : List ℕ → List ℕ
+bad_push_line name = codes "refused BadPush " ++ (name ++ codes "\n")
+
+-- how many entries were accepted, and how many refused if some were
+abbrev pub counts_line : ℕ → ℕ → List ℕ
+counts_line accepted refused =
+    if refused == 0 then codes "accepted " ++ decimal accepted ++ codes "\n"
+    else codes "accepted " ++ decimal accepted ++ codes " refused " ++ decimal refused ++ codes "\n"
+
+-- an entry's number and its refusal, if it was refused
+abbrev pub entry_line : ℕ → Option (List ℕ) → List ℕ
+entry_line number None = []
+entry_line number (Some name) = codes "  " ++ decimal number ++ codes " " ++ name ++ codes "\n"
+
+-- the lines of entries, of which the first has this number
+abbrev pub entry_lines : ℕ → List Reply → List ℕ
+entry_lines number [] = []
+entry_lines number (reply ∷ replies) = entry_line number (push_refusal reply) ++ entry_lines (suc number) replies
+
+abbrev pub is_refused : Reply → Bool
+is_refused reply = is_some (push_refusal reply)
+
+-- what a push prints, by the reply to each entry
+abbrev pub pushed_text : List Reply → List ℕ
+pushed_text replies = counts_line (length replies - count_by is_refused replies) (count_by is_refused replies) ++ entry_lines 0 replies
+
+-- no memory for any of so many entries
+abbrev pub none_pushed : ℕ → List Reply
+none_pushed count = replicate count (replies.Refused refusals.Memory)
+
+-- a space and a number
+abbrev pub number_text : ℕ → List ℕ
+number_text number = codes " " ++ decimal number
+
+-- the numbers of the sinks that are behind, if some are
+abbrev pub behind_line : List ℕ → List ℕ
+behind_line [] = []
+behind_line (sink ∷ sinks) = codes "behind" ++ flat_map number_text (sink ∷ sinks) ++ codes "\n"
+
+-- what an evaluation prints
+abbrev pub committed_text : Committed → List ℕ
+committed_text committed = tail_text committed.evaluation ++ behind_line committed.behind
+
+-- what a sink that is shown prints: how many texts it has taken, and those that it keeps
+abbrev pub shown_text : Option SinkState → List ℕ
+shown_text None = refusal_line (codes "BadCommand")
+shown_text (Some sink) = codes "count " ++ decimal sink.count ++ codes "\n" ++ concat (take sink.count sink.kept)

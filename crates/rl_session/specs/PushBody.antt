@@ -1,0 +1,136 @@
+-- Push bodies: the entries that a JSON document has, in its order, or its first fault.
+use Rattle.std.specs.Prelude.{ℕ, nat_lt, nat_le, Bool, true, false, ◌&&◌, List, [], ◌∷◌, ◌++◌, length, Option, None, Some, option_and_then, Result, Ok, Err, codes, if◌then◌else◌}
+use Rattle.std.specs.Str.{is_utf8}
+use Rattle.std.specs.List.{list_all}
+use Rattle.std.specs.Char.{is_ascii_digit}
+use Rattle.std.specs.Str.Parse.{digits_value}
+use Rattle.serde_json.specs.Data.{Data, Items, no_items, item, Members, no_members, member}
+use Rattle.serde_json.specs.Find.{get, as_str, as_array, as_object}
+use Rattle.serde_json.specs.Read.{read}
+use Rattle.rl_labels.specs.LabelSet.{Pair, LabelSet}
+use Rattle.rl_labels.specs.Pairs.{labels_from}
+use Rattle.rl_labels.specs.EntryParts.{has_no_label, longest_line}
+use Rattle.rl_labels.specs.Quantity.{greatest_moment}
+use Rattle.rl_labels.specs.declared.labels.LabelsError.{LabelsError}
+use Rattle.rl_session.specs.PushForms.{EntryForm, ValueParts, ◌>>=◌}
+use Rattle.rl_session.specs.declared.push.PushFault.{PushFault}
+use Rattle.rl_session.specs.declared.push.PushFault.TheVariants as faults
+
+-- what has to be there
+abbrev pub required : {A : Type 0} → PushFault → Option A → Result A PushFault
+required fault None = Err fault
+required fault (Some x) = Ok x
+
+-- the document that the bytes are, as JSON reads them
+abbrev pub document_of : List ℕ → Result Data PushFault
+document_of bytes = required faults.NotJson (if is_utf8 bytes then read bytes else None)
+
+-- the array at a key
+abbrev pub array_at : List ℕ → Data → Result Items PushFault
+array_at key value = required faults.Shape (option_and_then as_array (get key value))
+
+-- the object at a key
+abbrev pub object_at : List ℕ → Data → Result Members PushFault
+object_at key value = required faults.Shape (option_and_then as_object (get key value))
+
+-- the names with their values, which are texts
+abbrev pub pairs_of : Members → Result (List Pair) PushFault
+pairs_of no_members = Ok []
+pairs_of (member name value members) = do
+  text ← required faults.Shape (as_str value)
+  pairs ← pairs_of members
+  Ok ((name, text) ∷ pairs)
+
+-- a label set that a stream may have
+abbrev pub stream_labels : Result LabelSet LabelsError → Result LabelSet PushFault
+stream_labels (Ok labels) = if has_no_label labels then Err faults.Label else Ok labels
+stream_labels (Err _) = Err faults.Label
+
+-- the labels of a stream
+abbrev pub labels_at : Data → Result LabelSet PushFault
+labels_at stream = do
+  members ← object_at (codes "stream") stream
+  pairs ← pairs_of members
+  stream_labels (labels_from pairs)
+
+-- what stands behind the line: metadata, or nothing
+abbrev pub metadata_in : Items → Result (Option Data) PushFault
+metadata_in no_items = Ok None
+metadata_in (item metadata no_items) = Ok (Some metadata)
+metadata_in _ = Err faults.Shape
+
+-- a time and a line as texts, and metadata
+abbrev pub parts_in : Items → Result ValueParts PushFault
+parts_in (item time (item line rest)) = do
+  time ← required faults.Shape (as_str time)
+  line ← required faults.Shape (as_str line)
+  metadata ← metadata_in rest
+  Ok (record { time = time; line = line; metadata = metadata })
+parts_in _ = Err faults.Shape
+
+-- the parts of a value
+abbrev pub parts_of : Data → Result ValueParts PushFault
+parts_of value = required faults.Shape (as_array value) >>= parts_in
+
+-- 1 to 19 decimal digits
+abbrev pub is_time : List ℕ → Bool
+is_time text = nat_lt 0 (length text) && (nat_le (length text) 19 && list_all is_ascii_digit text)
+
+-- the moment that a text is, in nanoseconds
+abbrev pub moment_of : List ℕ → Result ℕ PushFault
+moment_of text = if is_time text && nat_le (digits_value 10 text) greatest_moment then Ok (digits_value 10 text) else Err faults.Time
+
+-- a line, unless it is too long
+abbrev pub line_of : List ℕ → Result (List ℕ) PushFault
+line_of line = if nat_lt longest_line (length line) then Err faults.Line else Ok line
+
+-- an object without members
+abbrev pub is_empty_object : Option Members → Bool
+is_empty_object (Some no_members) = true
+is_empty_object _ = false
+
+-- no metadata, or an empty object
+abbrev pub has_no_metadata : Option Data → Bool
+has_no_metadata None = true
+has_no_metadata (Some value) = is_empty_object (as_object value)
+
+-- the entry of a value's parts, with these labels
+abbrev pub entry_of : LabelSet → ValueParts → Result EntryForm PushFault
+entry_of labels parts = do
+  timestamp ← moment_of parts.time
+  line ← line_of parts.line
+  if has_no_metadata parts.metadata then Ok (record { labels = labels; timestamp = timestamp; line = line }) else Err faults.Metadata
+
+-- the entry of a value, with these labels
+abbrev pub value_entry : LabelSet → Data → Result EntryForm PushFault
+value_entry labels value = parts_of value >>= entry_of labels
+
+-- the entries of values with these labels
+abbrev pub entries_from : LabelSet → Items → Result (List EntryForm) PushFault
+entries_from labels no_items = Ok []
+entries_from labels (item value values) = do
+  first ← value_entry labels value
+  others ← entries_from labels values
+  Ok (first ∷ others)
+
+-- the entries of a stream
+abbrev pub stream_entries : Data → Result (List EntryForm) PushFault
+stream_entries stream = do
+  labels ← labels_at stream
+  values ← array_at (codes "values") stream
+  entries_from labels values
+
+-- the entries of streams, one behind the other
+abbrev pub streams_entries : Items → Result (List EntryForm) PushFault
+streams_entries no_items = Ok []
+streams_entries (item stream streams) = do
+  first ← stream_entries stream
+  others ← streams_entries streams
+  Ok (first ++ others)
+
+-- the entries of a push body, or its first fault
+unfoldable pub entries_of : List ℕ → Result (List EntryForm) PushFault
+entries_of bytes = do
+  document ← document_of bytes
+  streams ← array_at (codes "streams") document
+  streams_entries streams

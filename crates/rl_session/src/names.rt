@@ -1,0 +1,99 @@
+//! The names under which faults and refusals are printed.
+ghost use Rattle.std.specs.Prelude.{◌≡◌};
+ghost use Rattle.std.specs.Option.{option_map};
+ghost use Rattle.rl_session.specs.Names.{push_error_name, front_fault_name, rules_fault_name, book_fault_name, refusal_name, shard_refusal, push_refusal};
+
+use crate::front::FrontFault;
+use crate::push::{PushError, PushFault};
+use rl_rules::RulesFault;
+use rl_shard::ShardReply;
+use rl_world::{BookFault, Refusal, Reply};
+
+/// The name of a push body's fault.
+pub fn push_error_name(error: PushError) -> &'static str
+    ensures { result.now ≡ push_error_name error }
+{
+    match error {
+        PushError::Fault(PushFault::NotJson) => "NotJson",
+        PushError::Fault(PushFault::Shape) => "Shape",
+        PushError::Fault(PushFault::Label) => "Label",
+        PushError::Fault(PushFault::Time) => "Time",
+        PushError::Fault(PushFault::Line) => "Line",
+        PushError::Fault(PushFault::Metadata) => "Metadata",
+        PushError::Memory => "Memory",
+    }
+}
+
+/// The name of an input's fault; that of a rule file's own fault where it has one.
+pub fn front_fault_name(fault: FrontFault) -> &'static str
+    ensures { result.now ≡ front_fault_name fault }
+{
+    match fault {
+        FrontFault::ReadFault => "ReadFault",
+        FrontFault::TooLong => "TooLong",
+        FrontFault::NotText => "NotText",
+        FrontFault::NoMark => "NoMark",
+        FrontFault::Rules(fault) => rules_fault_name(fault),
+    }
+}
+
+fn rules_fault_name(fault: RulesFault) -> &'static str
+    ensures { result.now ≡ rules_fault_name fault }
+{
+    match fault {
+        RulesFault::BadToml => "BadToml",
+        RulesFault::UnknownKey => "UnknownKey",
+        RulesFault::MissingKey => "MissingKey",
+        RulesFault::BadQuery { .. } => "BadQuery",
+        RulesFault::BadName => "BadName",
+        RulesFault::SameGroup => "SameGroup",
+        RulesFault::TooMany => "TooMany",
+    }
+}
+
+// The name of a world's refusal; that of the book's fault where it has one.
+pub(crate) fn refusal_name(refusal: Refusal) -> &'static str
+    ensures { result.now ≡ refusal_name refusal }
+{
+    match refusal {
+        Refusal::NoSuch => "NoSuch",
+        Refusal::Book(fault) => book_fault_name(fault),
+        Refusal::JournalFull => "JournalFull",
+        Refusal::Memory => "Memory",
+    }
+}
+
+fn book_fault_name(fault: BookFault) -> &'static str
+    ensures { result.now ≡ book_fault_name fault }
+{
+    match fault {
+        BookFault::Busy => "Busy",
+        BookFault::MomentNotLater { .. } => "MomentNotLater",
+        BookFault::NotOpen => "NotOpen",
+        BookFault::AlreadyGathered => "AlreadyGathered",
+        BookFault::Incomplete => "Incomplete",
+        BookFault::SessionFull => "SessionFull",
+    }
+}
+
+// The name under which the push of an entry was refused, if it was.
+pub(crate) fn push_refusal(reply: &Reply) -> Option<&'static str>
+    ensures { option_map (λ name. name.now) result ≡ push_refusal reply.now }
+{
+    match reply {
+        Reply::Decided { reply, .. } => shard_refusal(reply),
+        Reply::Refused(refusal) => Some(refusal_name(*refusal)),
+        _ => None,
+    }
+}
+
+fn shard_refusal(reply: &ShardReply) -> Option<&'static str>
+    ensures { option_map (λ name. name.now) result ≡ shard_refusal reply.now }
+{
+    match reply {
+        ShardReply::Expired { .. } => Some("Expired"),
+        ShardReply::TooFarBehind { .. } => Some("TooFarBehind"),
+        ShardReply::Full => Some("Full"),
+        ShardReply::Accepted | ShardReply::Collected(_) => None,
+    }
+}

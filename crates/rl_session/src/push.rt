@@ -1,0 +1,300 @@
+//! Push bodies: log entries from the JSON that a Loki client sends.
+ghost use Rattle.std.specs.Prelude.{◌≡◌, IsTrue, IfOk, map, option_map};
+ghost use Rattle.std.specs.List.{list_all};
+ghost use Rattle.std.specs.Char.{is_ascii_digit};
+ghost use Rattle.serde_json.specs.View.{view, items_view, members_view};
+ghost use Rattle.rl_labels.specs.EntryParts.{is_stream};
+ghost use Rattle.serde_json.specs.Find.{as_str, as_object};
+ghost use Rattle.rl_session.specs.PushForms.{Gives, Answers, entry_form, parts_form, with_front};
+ghost use Rattle.rl_session.specs.PushBody.{entries_of, document_of, array_at, object_at, pairs_of, labels_at, metadata_in, parts_in, parts_of, required, is_time, moment_of, is_empty_object, has_no_metadata, entry_of, value_entry, entries_from, stream_entries, streams_entries};
+ghost use Rattle.rl_session.specs.declared.push.PushError.TheVariants.{Memory, Fault};
+
+use rl_labels::entry::MAX_LINE_LEN;
+use rl_labels::{Entry, Labels, LabelsError, Ns};
+use rl_plain::{PlainText, TryCopy};
+use serde_json::{Map, Value};
+use std::alloc::{AllocError, AllocFailed, Global};
+use thiserror::Error;
+
+/// Why a push body is refused: the first fault that it has.
+#[derive(Clone, Copy, Debug, Drop, Error, PartialEq, Eq)]
+pub enum PushFault {
+    #[error("not JSON in UTF-8")]
+    NotJson,
+    #[error("not a push: streams, each with labels at stream and [nanoseconds, line] pairs of texts at values")]
+    Shape,
+    #[error("a stream needs a label, names as [a-zA-Z_][a-zA-Z0-9_]* but not __error__, and at most 4096 bytes of labels")]
+    Label,
+    #[error("a timestamp is not 1 to 19 digits up to 9223372036854775807")]
+    Time,
+    #[error("a line is longer than 65535 bytes")]
+    Line,
+    #[error("a value has metadata, which is not taken")]
+    Metadata,
+}
+
+/// Why a push body gave no entries.
+#[derive(Clone, Copy, Debug, Drop, Error, PartialEq, Eq)]
+pub enum PushError {
+    #[error("{0}")]
+    Fault(PushFault),
+    #[error("out of memory")]
+    Memory,
+}
+
+impl From<PushFault> for PushError {
+    ghost from_gives = { λ fault e. e ≡ Fault fault };
+
+    fn from(fault: PushFault) -> Self {
+        PushError::Fault(fault)
+    }
+}
+
+impl From<AllocError> for PushError {
+    ghost from_gives = { λ _ e. e ≡ Memory };
+
+    fn from(_error: AllocError) -> Self {
+        PushError::Memory
+    }
+}
+
+impl<T: Drop> From<AllocFailed<T>> for PushError {
+    ghost from_gives = { λ _ e. e ≡ Memory };
+
+    fn from(_error: AllocFailed<T>) -> Self {
+        PushError::Memory
+    }
+}
+
+// What a value has, before it is looked at.
+#[derive(Clone, Copy)]
+struct Parts<'a> {
+    time: &'a str,
+    line: &'a str,
+    metadata: Option<&'a Value>,
+}
+
+/// The entries of a push body in its order, unless it has a fault.
+#[tactic(auto, unfolding(crate::specs::PushBody::entries_of))]
+pub fn read_push(alloc: Global, bytes: &[u8]) -> Result<Vec<Entry>, PushError>
+    ensures { Gives (λ entries. map entry_form entries.items) result (entries_of bytes.now) }
+{
+    let document = document_of(alloc, bytes)?;
+    let mut entries = Vec::new(alloc);
+    push_streams(alloc, &mut entries, array_at(&document, "streams")?)?;
+    Ok(entries)
+}
+
+// The document that the bytes are.
+fn document_of(alloc: Global, bytes: &[u8]) -> Result<Value, PushError>
+    ensures { Gives view result (document_of bytes.now) }
+{
+    match Value::from_slice(alloc, bytes) {
+        Ok(document) => Ok(document),
+        Err(error) if error.is_memory() => Err(PushError::Memory),
+        Err(_) => Err(PushError::Fault(PushFault::NotJson)),
+    }
+}
+
+// The array at a key.
+fn array_at<'a>(value: &'a Value, key: &str) -> Result<&'a [Value], PushFault>
+    ensures { Answers (λ items. items_view items.now) result (array_at key.now (view value.now)) }
+{
+    match value.get(key).and_then(Value::as_array) {
+        Some(items) => Ok(items.as_slice()),
+        None => Err(PushFault::Shape),
+    }
+}
+
+// The object at a key.
+fn object_at<'a>(value: &'a Value, key: &str) -> Result<&'a Map<String, Value>, PushFault>
+    ensures { Answers (λ members. members_view members.now.entries) result (object_at key.now (view value.now)) }
+{
+    match value.get(key).and_then(Value::as_object) {
+        Some(members) => Ok(members),
+        None => Err(PushFault::Shape),
+    }
+}
+
+// Adds the entries of each stream.
+fn push_streams(alloc: Global, entries: &mut Vec<Entry>, streams: &[Value]) -> Result<(), PushError>
+    ensures { Gives (λ _. map entry_form entries.new.items) result (with_front (map entry_form entries.old.items) (streams_entries (items_view streams.now))) }
+{
+    for stream in streams {
+        push_stream(alloc, entries, stream)?;
+    }
+    Ok(())
+}
+
+// Adds the entries of a stream.
+fn push_stream(alloc: Global, entries: &mut Vec<Entry>, stream: &Value) -> Result<(), PushError>
+    ensures { Gives (λ _. map entry_form entries.new.items) result (with_front (map entry_form entries.old.items) (stream_entries (view stream.now))) }
+{
+    let labels = labels_at(alloc, stream)?;
+    let values = array_at(stream, "values")?;
+    push_values(alloc, entries, &labels, values)
+}
+
+// Adds the entry of each value, with the labels.
+fn push_values(
+    alloc: Global,
+    entries: &mut Vec<Entry>,
+    labels: &Labels,
+    values: &[Value],
+) -> Result<(), PushError>
+    requires { IsTrue (is_stream labels.now) }
+    ensures { Gives (λ _. map entry_form entries.new.items) result (with_front (map entry_form entries.old.items) (entries_from labels.now (items_view values.now))) }
+{
+    for value in values {
+        let entry = value_entry(alloc, labels, value)?;
+        entries.push(entry)?;
+    }
+    Ok(())
+}
+
+// The entry of a value, with the labels.
+fn value_entry(alloc: Global, labels: &Labels, value: &Value) -> Result<Entry, PushError>
+    requires { IsTrue (is_stream labels.now) }
+    ensures { Gives entry_form result (value_entry labels.now (view value.now)) }
+{
+    let parts = parts_of(value)?;
+    entry_of(alloc, labels, parts)
+}
+
+// The labels of a stream.
+fn labels_at(alloc: Global, stream: &Value) -> Result<Labels, PushError>
+    ensures labels { Gives (λ labels. labels) result (labels_at (view stream.now)) }
+    ensures of_stream { IfOk result (λ labels. IsTrue (is_stream labels)) }
+{
+    let pairs = pairs_of(alloc, object_at(stream, "stream")?)?;
+    match Labels::from_pairs(alloc, pairs) {
+        Ok(labels) if labels.pairs().is_empty() => Err(PushError::Fault(PushFault::Label)),
+        Ok(labels) => Ok(labels),
+        Err(LabelsError::Memory) => Err(PushError::Memory),
+        Err(_) => Err(PushError::Fault(PushFault::Label)),
+    }
+}
+
+// The names with their values, which are texts.
+fn pairs_of(
+    alloc: Global,
+    members: &Map<String, Value>,
+) -> Result<Vec<(PlainText, PlainText)>, PushError>
+    ensures { Gives (λ pairs. pairs.items) result (pairs_of (members_view members.now.entries)) }
+{
+    let mut pairs = Vec::new(alloc);
+    for (name, value) in members.iter() {
+        let text = text_of(value)?;
+        let name = PlainText::from_str(alloc, name.as_str())?;
+        let text = PlainText::from_str(alloc, text)?;
+        pairs.push((name, text))?;
+    }
+    Ok(pairs)
+}
+
+fn text_of(value: &Value) -> Result<&str, PushFault>
+    ensures { Answers (λ text. text.now) result (required PushFault.Shape (as_str (view value.now))) }
+{
+    value.as_str().ok_or(PushFault::Shape)
+}
+
+// The parts of a value.
+fn parts_of(value: &Value) -> Result<Parts<'_>, PushFault>
+    ensures { Answers parts_form result (parts_of (view value.now)) }
+{
+    match value.as_array() {
+        Some(items) => parts_in(items.as_slice()),
+        None => Err(PushFault::Shape),
+    }
+}
+
+fn parts_in(items: &[Value]) -> Result<Parts<'_>, PushFault>
+    ensures { Answers parts_form result (parts_in (items_view items.now)) }
+{
+    let [time, line, rest @ ..] = items else {
+        return Err(PushFault::Shape);
+    };
+    let time = text_of(time)?;
+    let line = text_of(line)?;
+    let metadata = metadata_in(rest)?;
+    Ok(Parts {
+        time,
+        line,
+        metadata,
+    })
+}
+
+// What stands behind the line: metadata, or nothing.
+fn metadata_in(rest: &[Value]) -> Result<Option<&Value>, PushFault>
+    ensures { Answers (option_map (λ value. view value.now)) result (metadata_in (items_view rest.now)) }
+{
+    match rest {
+        [] => Ok(None),
+        [metadata] => Ok(Some(metadata)),
+        _ => Err(PushFault::Shape),
+    }
+}
+
+// The entry of a value's parts, with the labels.
+fn entry_of(alloc: Global, labels: &Labels, parts: Parts<'_>) -> Result<Entry, PushError>
+    requires { IsTrue (is_stream labels.now) }
+    ensures { Gives entry_form result (entry_of labels.now (parts_form parts.entry)) }
+{
+    let timestamp = moment_of(parts.time)?;
+    if parts.line.len() > MAX_LINE_LEN {
+        return Err(PushError::Fault(PushFault::Line));
+    }
+    if !has_no_metadata(parts.metadata) {
+        return Err(PushError::Fault(PushFault::Metadata));
+    }
+    Ok(Entry {
+        labels: labels.try_copy()?,
+        timestamp,
+        line: PlainText::from_str(alloc, parts.line)?,
+    })
+}
+
+// The moment that a text is, in nanoseconds.
+fn moment_of(text: &str) -> Result<Ns, PushFault>
+    ensures { result ≡ moment_of text.now }
+{
+    if !is_time(text) {
+        return Err(PushFault::Time);
+    }
+    match text.parse::<u64>() {
+        Ok(number) => Ns::new(number).ok_or(PushFault::Time),
+        Err(_) => Err(PushFault::Time),
+    }
+}
+
+// Whether the text is 1 to 19 digits.
+fn is_time(text: &str) -> bool
+    ensures { result ≡ is_time text.now }
+{
+    !text.is_empty() && text.len() <= 19 && are_digits(text.as_bytes())
+}
+
+fn are_digits(bytes: &[u8]) -> bool
+    ensures { result ≡ list_all is_ascii_digit bytes.now }
+{
+    bytes.iter().all(|byte| byte.is_ascii_digit())
+}
+
+// Whether there is none, or an empty object.
+fn has_no_metadata(metadata: Option<&Value>) -> bool
+    ensures { result ≡ has_no_metadata (option_map (λ value. view value.now) metadata.entry) }
+{
+    match metadata {
+        Some(value) => is_empty_object(value),
+        None => true,
+    }
+}
+
+fn is_empty_object(value: &Value) -> bool
+    ensures { result ≡ is_empty_object (as_object (view value.now)) }
+{
+    match value.as_object() {
+        Some(members) => members.is_empty(),
+        None => false,
+    }
+}
