@@ -1,4 +1,4 @@
 pub mod Counting
-pub mod Examples
 pub mod Maps
 pub mod Merging
+mod Examples

@@ -20,6 +20,3 @@ pub use range::scratch;
 pub use total::Total;
 pub use totals::Totals;
 pub use vector::finish;
-
-#[cfg(test)]
-mod tests;

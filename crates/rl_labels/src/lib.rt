@@ -21,6 +21,3 @@ pub use labels::{Labels, LabelsError};
 pub use limits::{BadLimit, DEFAULT_LIMITS, LimitField, Limits, RawLimits};
 pub use matcher::{MatchOp, Matcher, MatcherCode, MatcherError};
 pub use ns::Ns;
-
-#[cfg(test)]
-mod tests;

@@ -16,6 +16,3 @@ pub use copying::TryCopy;
 pub use list::PlainList;
 pub use sameness::Same;
 pub use text::PlainText;
-
-#[cfg(test)]
-mod tests;

@@ -4,10 +4,10 @@ pub mod Cuts
 pub mod Derived
 pub mod Elements
 pub mod Escaping
-pub mod Examples
 pub mod Parts
 mod Lexed
 mod Complete
 pub mod Rules
 pub mod SameQuery
 pub mod Texts
+mod Examples

@@ -20,8 +20,3 @@ pub use fault::{QueryError, QueryFault};
 pub use parser::parse;
 pub use printer::{print, print_term};
 pub use query::{LogRange, Query, RangeFunction, Selector, Term};
-
-#[cfg(test)]
-mod tests;
-#[cfg(test)]
-mod tests_refused;

@@ -1,4 +1,3 @@
-mod Examples
 mod Keyed
 mod Named
 mod Recorded

@@ -20,8 +20,3 @@ pub use fault::{RulesError, RulesFault};
 pub use reading::read_rules;
 pub use rule::{Group, Rule, RuleKind};
 pub use stepping::step_rule;
-
-#[cfg(test)]
-mod tests;
-#[cfg(test)]
-mod tests_refused;

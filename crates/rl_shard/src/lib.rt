@@ -13,6 +13,3 @@ mod streams;
 
 pub use shard::Shard;
 pub use step::{ShardFault, ShardReply, ShardStep};
-
-#[cfg(test)]
-mod tests;

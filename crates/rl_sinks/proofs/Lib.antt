@@ -1,2 +1,2 @@
-mod Examples
 pub mod Written
+mod Examples

@@ -15,6 +15,3 @@ mod writing;
 pub use recorder::Recorder;
 pub use sink::{Sink, SinkFault, SinkKind};
 pub use text::evaluation_text;
-
-#[cfg(test)]
-mod tests;

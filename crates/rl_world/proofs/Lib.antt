@@ -1,7 +1,6 @@
 pub mod Closing
 pub mod Committing
 pub mod Counting
-mod Examples
 pub mod Following
 pub mod Gathering
 pub mod Lifting
@@ -9,5 +8,4 @@ pub mod Merging
 pub mod Offers
 pub mod Opening
 pub mod Shown
-mod StoredRun
 pub mod Turning

@@ -27,12 +27,3 @@ pub use rl_shard as shard;
 pub use rl_sinks as sinks;
 pub use step::{Committed, Reply, Step};
 pub use world::World;
-
-#[cfg(test)]
-mod testing;
-#[cfg(test)]
-mod tests;
-#[cfg(test)]
-mod tests_refused;
-#[cfg(test)]
-mod tests_sinks;

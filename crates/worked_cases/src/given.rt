@@ -1,0 +1,75 @@
+//! Values that cases write in short.
+//!
+//! A label set is `a=x,b=y`, and `-` has no label. A moment is nanoseconds, or seconds as `5s`. An entry is a moment, a
+//! label set and the rest of its line, one space apart.
+ghost use Rattle.std.specs.Prelude.{IsTrue, IfOk};
+ghost use Rattle.rl_labels.specs.EntryParts.{are_stream_labels};
+
+use crate::trouble::Trouble;
+use rl_labels::{Entry, Labels, LabelsError, Ns};
+use rl_plain::PlainText;
+use std::alloc::Global;
+
+pub(crate) fn number_in(text: &str) -> Result<u64, Trouble> {
+    text.parse::<u64>().ok().ok_or(Trouble::BadInput)
+}
+
+/// The bytes of a text in which `⏎` stands for a line feed and `�` for the byte 255, which is in no text.
+pub(crate) fn bytes_in(alloc: Global, text: &str) -> Result<Vec<u8>, Trouble> {
+    let mut bytes = Vec::new(alloc);
+    for c in text.chars() {
+        match c {
+            '⏎' => bytes.push(b'\n')?,
+            '�' => bytes.push(255)?,
+            _ => bytes.extend_from_slice(c.encode_utf8(&mut [0; 4]).as_bytes())?,
+        }
+    }
+    Ok(bytes)
+}
+
+/// A moment, or the longest that there is.
+pub(crate) fn moment_in(text: &str) -> Result<Ns, Trouble> {
+    let nanoseconds = match text.strip_suffix("s") {
+        Some(seconds) => number_in(seconds)?.saturating_mul(1_000_000_000),
+        None => number_in(text)?,
+    };
+    Ns::new(nanoseconds).ok_or(Trouble::BadInput)
+}
+
+/// The pairs in their order, also such as no label set has.
+pub(crate) fn pairs_in(alloc: Global, text: &str) -> Result<Vec<(PlainText, PlainText)>, Trouble> {
+    let mut pairs = Vec::new(alloc);
+    if text == "-" {
+        return Ok(pairs);
+    }
+    for pair in text.split(',') {
+        let (name, value) = pair.split_once('=').ok_or(Trouble::BadInput)?;
+        let name = PlainText::from_str(alloc, name)?;
+        let value = PlainText::from_str(alloc, value)?;
+        pairs.push((name, value))?;
+    }
+    Ok(pairs)
+}
+
+pub(crate) fn labels_in(alloc: Global, text: &str) -> Result<Labels, Trouble>
+    ensures { IfOk result (λ labels. IsTrue (are_stream_labels labels)) }
+{
+    let pairs = pairs_in(alloc, text)?;
+    match Labels::from_pairs(alloc, pairs) {
+        Ok(labels) => Ok(labels),
+        Err(LabelsError::Memory) => Err(Trouble::Memory),
+        Err(_) => Err(Trouble::BadInput),
+    }
+}
+
+pub(crate) fn entry_in(alloc: Global, text: &str) -> Result<Entry, Trouble> {
+    let (moment, rest) = text.split_once(' ').ok_or(Trouble::BadInput)?;
+    let (labels, line) = rest.split_once(' ').unwrap_or((rest, ""));
+    let timestamp = moment_in(moment)?;
+    let line = PlainText::from_str(alloc, line)?;
+    let labels = labels_in(alloc, labels)?;
+    match Entry::new(labels, timestamp, line) {
+        Ok(entry) => Ok(entry),
+        Err(_) => Err(Trouble::BadInput),
+    }
+}

@@ -1,0 +1,121 @@
+//! Worked cases: what the calls of the libraries answer, compared with answers that were worked out by hand.
+//!
+//! Each argument names a file of cases, as `cases` says; the part of its name before the first `_` or `.` is the module
+//! that knows its directives. A directive that ends in `..` is asked of each line of its input, and gives a line each. A
+//! case that differs is printed, and the last line counts.
+#![tactic(auto)]
+
+mod aggregate;
+mod cases;
+mod command;
+mod compared;
+mod front;
+mod given;
+mod labels;
+mod plain;
+mod push;
+mod query;
+mod rules;
+mod session;
+mod shard;
+mod sinks;
+mod trouble;
+mod world;
+mod world_steps;
+
+use cases::{Case, cases_of};
+use std::alloc::Global;
+use std::process::ExitCode;
+use std::rt::{Env, Files};
+use std::{env, fs, io};
+use trouble::Trouble;
+
+fn main(rt: HostRuntime) -> ExitCode {
+    match run(&rt) {
+        Ok(true) => ExitCode::SUCCESS,
+        Ok(false) => ExitCode::from(1),
+        Err(trouble) => {
+            let _ = eprintln!(rt; "worked_cases: {trouble:?}");
+            ExitCode::from(3)
+        }
+    }
+}
+
+// Runs the files that the arguments name. Whether each case has its answer.
+fn run(rt: &HostRuntime) -> Result<bool, Trouble> {
+    let mut count = 0u64;
+    let mut differ = 0u64;
+    for name in env::args(rt)?.skip(1) {
+        let text = fs::read_to_string(rt, name.as_str())?;
+        for case in cases_of(rt.alloc(), text.as_str())? {
+            count = count.saturating_add(1);
+            if !has_its_answer(rt, name.as_str(), &case)? {
+                differ = differ.saturating_add(1);
+            }
+        }
+    }
+    println!(rt; "{count} cases, {differ} differ")?;
+    Ok(differ == 0)
+}
+
+// Runs a case of a file, and prints it where its answer is another one.
+fn has_its_answer(rt: &impl Print, name: &str, case: &Case<'_>) -> Result<bool, Trouble> {
+    let alloc = case.alloc;
+    let answered = answer(alloc, family_of(name), case.directive, case.input());
+    let answered = match answered {
+        Ok(text) => text,
+        Err(trouble) => format!(in alloc; "{trouble:?}")?,
+    };
+    let is_same = answered.as_str().trim_end_matches('\n') == case.want();
+    if !is_same {
+        let (line, directive, want) = (case.line, case.directive, case.want());
+        println!(rt; "{name}:{line}: {directive}: wanted\n{want}\nand not\n{answered}")?;
+    }
+    Ok(is_same)
+}
+
+// The module that knows a file's directives.
+fn family_of(path: &str) -> &str {
+    let (_, name) = path.rsplit_once('/').unwrap_or(("", path));
+    let (name, _) = name.split_once('.').unwrap_or((name, ""));
+    let (family, _) = name.split_once('_').unwrap_or((name, ""));
+    family
+}
+
+// What a directive gives for its input, or for each line of it.
+fn answer(alloc: Global, family: &str, directive: &str, input: &str) -> Result<String, Trouble> {
+    let Some(directive) = directive.strip_suffix("..") else {
+        return answer_once(alloc, family, directive, input);
+    };
+    let mut answers = String::new(alloc);
+    for line in input.split('\n') {
+        match answer_once(alloc, family, directive, line) {
+            Ok(text) => writeln!(answers, "{text}")?,
+            Err(trouble) => writeln!(answers, "{trouble:?}")?,
+        }
+    }
+    Ok(answers)
+}
+
+fn answer_once(
+    alloc: Global,
+    family: &str,
+    directive: &str,
+    input: &str,
+) -> Result<String, Trouble> {
+    match family {
+        "aggregate" => aggregate::answer(alloc, directive, input),
+        "command" => command::answer(alloc, directive, input),
+        "front" => front::answer(alloc, directive, input),
+        "labels" => labels::answer(alloc, directive, input),
+        "plain" => plain::answer(alloc, directive, input),
+        "push" => push::answer(alloc, directive, input),
+        "query" => query::answer(alloc, directive, input),
+        "rules" => rules::answer(alloc, directive, input),
+        "session" => session::answer(alloc, directive, input),
+        "shard" => shard::answer(alloc, directive, input),
+        "sinks" => sinks::answer(alloc, directive, input),
+        "world" => world::answer(alloc, directive, input),
+        _ => Err(Trouble::NoSuchDirective),
+    }
+}

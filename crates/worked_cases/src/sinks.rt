@@ -1,0 +1,153 @@
+//! Evaluations, what sinks are told of them, and recorders.
+//!
+//! An evaluation is `moment place group`, and behind it `; ` and `name annotations outcome` for each rule, where the
+//! outcome is samples, or the cause of its failure.
+use crate::given::{labels_in, moment_in, number_in};
+use crate::rules::{push_compared, samples_in};
+use crate::trouble::Trouble;
+use rl_plain::{PlainList, PlainText};
+use rl_rules::{Cause, Evaluation, RuleKind, RuleOutcome, RuleResult};
+use rl_sinks::{Recorder, Sink, SinkFault, SinkKind, evaluation_text};
+use std::alloc::{AllocError, AllocFailed, Global};
+
+pub(crate) fn answer(alloc: Global, directive: &str, input: &str) -> Result<String, Trouble> {
+    match directive {
+        "evaluations" => evaluations(alloc, input),
+        "text" => text(alloc, input),
+        "recorder" => recorder(alloc, input),
+        "boxed" => boxed(alloc, input),
+        "fault" => fault(alloc),
+        _ => Err(Trouble::NoSuchDirective),
+    }
+}
+
+// The first line's evaluation beside that of each line, in whole and result by result.
+fn evaluations(alloc: Global, input: &str) -> Result<String, Trouble> {
+    let (first, _) = input.split_once('\n').unwrap_or((input, ""));
+    let one = evaluation_in(alloc, first)?;
+    let mut text = String::new(alloc);
+    for line in input.split('\n') {
+        let other = evaluation_in(alloc, line)?;
+        push_compared(&mut text, "Evaluation", &one, &other)?;
+        let (results, others) = (one.outcomes.as_slice(), other.outcomes.as_slice());
+        for (made, other) in results.iter().zip(others) {
+            push_results(&mut text, made, other)?;
+        }
+        text.push('\n')?;
+    }
+    Ok(text)
+}
+
+fn push_results(text: &mut String, one: &RuleResult, other: &RuleResult) -> Result<(), Trouble> {
+    push_compared(text, ", RuleResult", one, other)?;
+    push_compared(text, ", RuleOutcome", &one.outcome, &other.outcome)?;
+    let outcomes = (&one.outcome, &other.outcome);
+    if let (RuleOutcome::Failed(cause), RuleOutcome::Failed(other)) = outcomes {
+        push_compared(text, ", Cause", cause, other)?;
+    }
+    Ok(())
+}
+
+// What each kind of sink is told of an evaluation.
+fn text(alloc: Global, input: &str) -> Result<String, Trouble> {
+    let evaluation = evaluation_in(alloc, input)?;
+    let mut all = String::new(alloc);
+    for kind in [SinkKind::Recorder, SinkKind::Tail, SinkKind::Notifier] {
+        let text = evaluation_text(alloc, kind, &evaluation)?;
+        write!(all, "{kind:?}:\n{text}")?;
+    }
+    Ok(all)
+}
+
+// How many texts a recorder has room for, and in each line `close`, or an evaluation that it takes; and what it wrote.
+fn recorder(alloc: Global, input: &str) -> Result<String, Trouble> {
+    let (cap, lines) = input.split_once('\n').unwrap_or((input, ""));
+    let cap = cap.parse::<usize>().or(Err(Trouble::BadInput))?;
+    let mut written = Vec::new(alloc);
+    let recorder = Recorder::new(alloc, &mut written, cap.max(1));
+    let mut text = answers_of(alloc, recorder, lines)?;
+    let written = str::from_utf8(&written).or(Err(Trouble::BadInput))?;
+    write!(text, "written:\n{written}")?;
+    Ok(text)
+}
+
+// The same with room for one text, in a box.
+fn boxed(alloc: Global, input: &str) -> Result<String, Trouble> {
+    let recorder = Recorder::new(alloc, Vec::new(alloc), 1);
+    let sink: Box<dyn Sink> = Box::new(alloc, recorder)?;
+    answers_of(alloc, sink, input)
+}
+
+// What a sink answers to each line, up to ten texts, and then what it is and keeps.
+fn answers_of<S: Sink>(alloc: Global, mut sink: S, lines: &str) -> Result<String, Trouble> {
+    let mut text = String::new(alloc);
+    for line in lines.split('\n').filter(|line| !line.is_empty()) {
+        let answer = match line {
+            "close" => sink.close(),
+            _ if sink.count() > 9 => return Err(Trouble::BadInput),
+            _ => sink.take(&evaluation_in(alloc, line)?),
+        };
+        write!(text, "{answer:?}\n")?;
+    }
+    push_kept(&mut text, &sink)?;
+    Ok(text)
+}
+
+// Its kind, its limit and its count, and the texts that it keeps, up to one behind the last.
+fn push_kept<S: Sink>(text: &mut String, sink: &S) -> Result<(), Trouble> {
+    let (kind, limit, count) = (sink.kind(), sink.limit(), sink.count());
+    write!(text, "{kind:?}, limit {limit:?}, count {count}\n")?;
+    for index in 0..=count {
+        let kept = sink.kept(index);
+        write!(text, "{index}: {kept:?}\n")?;
+    }
+    Ok(())
+}
+
+// What is told of each fault.
+fn fault(alloc: Global) -> Result<String, Trouble> {
+    let mut text = String::new(alloc);
+    for fault in [
+        SinkFault::Full,
+        SinkFault::Refused(1),
+        SinkFault::WriteFault,
+        SinkFault::from(AllocError),
+        SinkFault::from(AllocFailed { value: 1 }),
+    ] {
+        write!(text, "{fault:?}: {fault}\n")?;
+    }
+    Ok(text)
+}
+
+fn evaluation_in(alloc: Global, line: &str) -> Result<Evaluation, Trouble> {
+    let (head, results) = line.split_once("; ").unwrap_or((line, ""));
+    let (moment, head) = head.split_once(' ').ok_or(Trouble::BadInput)?;
+    let (place, group) = head.split_once(' ').ok_or(Trouble::BadInput)?;
+    let places = vec![in alloc; number_in(place)?]?;
+    let mut outcomes = Vec::new(alloc);
+    for part in results.split("; ").filter(|part| !part.is_empty()) {
+        outcomes.push(result_in(alloc, part)?)?;
+    }
+    Ok(Evaluation {
+        group: PlainText::from_str(alloc, group)?,
+        t: moment_in(moment)?,
+        places: PlainList::from_vec(places),
+        outcomes: PlainList::from_vec(outcomes),
+    })
+}
+
+fn result_in(alloc: Global, text: &str) -> Result<RuleResult, Trouble> {
+    let (name, rest) = text.split_once(' ').ok_or(Trouble::BadInput)?;
+    let (annotations, outcome) = rest.split_once(' ').unwrap_or((rest, ""));
+    let outcome = match outcome {
+        "PipelineError" => RuleOutcome::Failed(Cause::PipelineError),
+        "SameLabels" => RuleOutcome::Failed(Cause::SameLabels),
+        _ => RuleOutcome::Samples(samples_in(alloc, outcome)?),
+    };
+    Ok(RuleResult {
+        kind: RuleKind::Recording,
+        name: PlainText::from_str(alloc, name)?,
+        annotations: labels_in(alloc, annotations)?,
+        outcome,
+    })
+}
