@@ -1,5 +1,6 @@
-# run: proves, builds and runs the program on its example. try: the same without proof. test: the whole gate.
-.PHONY: run try test
+# run: proves, builds and runs the program on its example. try: the same without proof.
+# test: the whole gate. scripts: its last part, which plays the scripts to the program that was built last.
+.PHONY: run try test scripts
 
 PROGRAM = crates/rule_shell
 
@@ -10,4 +11,7 @@ try:
 	@cd $(PROGRAM) && rt try < stdin
 
 test:
-	rt ci
+	@scripts/gate $(PROGRAM)/out/rule_shell
+
+scripts:
+	@scripts/run $(PROGRAM)/out/rule_shell
