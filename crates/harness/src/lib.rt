@@ -1,0 +1,20 @@
+//! Tests of what neither cases nor scripts can show: writers, readers and sinks that fail or refuse by plan, counts of
+//! turns, short and interrupted writes and reads, and want of memory.
+//!
+//! - `tests_sinks`: what a recorder writes when writes fail. `tests_worlds`: sinks in a world that fail or refuse.
+//! - `tests_reading`: readers of an input, turn by turn. `tests_sessions`: a session whose output or recorder fails.
+//! - `tests_memory`: calls that want memory, made again. `tests_given`: what several of these need.
+#![tactic(auto)]
+
+#[cfg(test)]
+mod tests_given;
+#[cfg(test)]
+mod tests_memory;
+#[cfg(test)]
+mod tests_reading;
+#[cfg(test)]
+mod tests_sessions;
+#[cfg(test)]
+mod tests_sinks;
+#[cfg(test)]
+mod tests_worlds;
