@@ -1,5 +1,5 @@
 -- Keys in order: where a search ends, and what an insert there makes.
-use Rattle.std.proofs.Common.{◌≡◌, ℕ, zero, suc, ◌+◌, ◌-◌, ◌<◌, ◌≤◌, Bool, true, false, cond, is_some, ◌||◌, Some, None, List, [], ◌∷◌, length, map, get_or, refl, sym, ap, subst, ◌∙◌, inl, inr, ◌⊎◌, arith}
+use Rattle.std.proofs.Common.{◌≡◌, ℕ, zero, suc, ◌+◌, ◌-◌, ◌<◌, ◌≤◌, Bool, true, false, cond, is_some, slice_get, ◌||◌, Some, None, List, [], ◌∷◌, length, map, get_or, refl, sym, ap, subst, ◌∙◌, inl, inr, ◌⊎◌, arith}
 use Rattle.std.specs.List.{insert as List_insert, list_any, AllWithin}
 use Rattle.std.specs.List.Sorted.{IsStrictlySortedBy, IsNonDecreasingBy}
 use Rattle.std.specs.Ordering.{eq_by_cmp, is_lt, is_eq, ordering_index, ordering_reverse}
@@ -10,6 +10,7 @@ use Rattle.std.specs.FinMap.{IsAntisymmetric, keys, len, contains_key, insert, f
 use Rattle.std.specs.FinMap.Entries.{find}
 use Rattle.std.proofs.lemmas.Bool.{cases_lt, cases_eq}
 use Rattle.std.proofs.lemmas.List.{length-map}
+use Rattle.std.proofs.lemmas.Option.{get_or_from_slice_get}
 use Rattle.std.proofs.lemmas.List.Edits.{length-insert, get_or-insert_below, get_or-insert_at, get_or-insert_above}
 use Rattle.std.proofs.lemmas.List.Folds.{list_any_at}
 use Rattle.std.proofs.lemmas.List.Sorted.{searchable_from_sorted}
@@ -66,6 +67,20 @@ module _ {K : Type 0} {R : K → K → Ordering} (o : IsTotalOrder R) where
   not_found (x ∷ xs) q (suc i) before after =
       ap (λ b. b || list_any (eq_by_cmp R q) xs) (ap is_eq (less_back x q (before 0 x (omega arith) (omega arith))))
       ∙ not_found xs q i (λ k d low high. before (suc k) d (omega arith) (omega arith)) (λ k d low high. after (suc k) d (omega arith) (omega arith))
+
+  -- keys in order are less than what is greater than the last of them
+  pub all_less : (xs : List K) (last q : K) → IsStrictlySortedBy R xs → slice_get xs (length xs - 1) ≡ Some last → R last q ≡ Less → AllWithin (λ y. R y q ≡ Less) xs 0 (length xs)
+  all_less xs last q h is less = λ k d low high. at k d high (cases_lt (k + 1) (length xs))
+    where
+      here : (d : K) → get_or xs (length xs - 1) d ≡ last
+      here d = get_or_from_slice_get xs (length xs - 1) last d is
+
+      at : (k : ℕ) (d : K) → k < length xs → (k + 1 < length xs) ⊎ (length xs ≤ k + 1) → R (get_or xs k d) q ≡ Less
+      at k d high (inl lower) = o.trans (get_or xs k d) last q (subst (λ y. R (get_or xs k d) y ≡ Less) (here d) (Less-from_sorted R xs k (length xs - 1) d h (omega arith) (omega arith))) less
+      at k d high (inr le) = ap (λ i. R (get_or xs i d) q) (end k high le) ∙ ap (λ y. R y q) (here d) ∙ less
+        where
+          end : (k : ℕ) → k < length xs → length xs ≤ k + 1 → k ≡ length xs - 1
+          end k high le = omega arith
 
   -- it goes between them, and the keys stay in order
   pub insert_in_order : (xs : List K) (q : K) (i : ℕ) → IsStrictlySortedBy R xs → i ≤ length xs → AllWithin (λ y. R y q ≡ Less) xs 0 i → AllWithin (λ y. R y q ≡ Greater) xs i (length xs) → IsStrictlySortedBy R (List_insert xs i q)

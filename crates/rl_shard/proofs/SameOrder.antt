@@ -1,6 +1,6 @@
 -- Entries compare as their order says.
-use Rattle.std.proofs.Common.{◌≡◌, ◌≤◌, ℕ, List, get_or, refl, sym, subst, ◌∙◌, Ordering, nat_cmp}
-use Rattle.std.specs.Ordering.{ordering_then, ordering_index}
+use Rattle.std.proofs.Common.{◌≡◌, ◌≤◌, ℕ, true, List, get_or, refl, sym, subst, ◌∙◌, Ordering, nat_cmp}
+use Rattle.std.specs.Ordering.{ordering_then, ordering_index, is_lt}
 use Rattle.std.specs.List.{AllWithin}
 use Rattle.std.specs.List.Sorted.{IsStrictlySortedBy, IsNonDecreasingBy}
 use Rattle.std.specs.Cmp.Lexicographic.{slice_cmp}
@@ -19,6 +19,11 @@ regroup Greater y z = refl
 -- the comparison of the code is that of the order
 pub cmp_is : (a b : Entry) → (entry_order.ghosts).cmp a b ≡ entry_cmp a b
 cmp_is a b = regroup (label_set_cmp a.labels b.labels) (nat_cmp a.timestamp b.timestamp) (slice_cmp nat_cmp a.line b.line)
+
+pub Less-from_is_lt : (o : Ordering) → is_lt o ≡ true → o ≡ Less
+Less-from_is_lt Less h = refl
+Less-from_is_lt Equal h = cc
+Less-from_is_lt Greater h = cc
 
 -- so a search may be made
 pub searchable : (held : List Entry) (entry : Entry) → IsStrictlySortedBy entry_cmp held → IsNonDecreasingBy (λ other. ordering_index ((entry_order.ghosts).cmp other entry)) held

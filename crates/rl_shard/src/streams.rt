@@ -1,10 +1,11 @@
 //! The entries of a shard in one sorted list, and the newest timestamp of each stream.
-ghost use Rattle.std.specs.Prelude.{◌≡◌, ◌≤◌, ◌+◌, ◌*◌, nat_lt, true, false, max, length, IfOk, OnOk, OnErr, map as map_list};
+ghost use Rattle.std.specs.Prelude.{◌≡◌, ◌≤◌, ◌+◌, ◌*◌, nat_lt, true, false, max, length, IfOk, OnOk, OnErr, map as map_list, IfErr};
 ghost use Rattle.std.specs.Option.{unwrap_or, MatchOption};
 ghost use Rattle.std.specs.List.Sorted.{IsStrictlySortedBy};
 ghost use Rattle.rl_labels.specs.EntryOrder.{entry_cmp};
-ghost use Rattle.rl_shard.specs.Deciding.{Decides};
-ghost use Rattle.rl_shard.specs.ShardState.{state_of};
+ghost use Rattle.rl_shard.specs.Deciding.{BelongsAt, Decides};
+ghost use Rattle.rl_shard.specs.ShardState.{set_of, state_of};
+ghost use Rattle.std.specs.FinMap.{contains_key};
 ghost use Rattle.rl_shard.specs.ShardStep.{half_second};
 ghost use Rattle.std.specs.List.{insert};
 ghost use Rattle.std.specs.FinMap as map;
@@ -54,6 +55,30 @@ fn newest_far_after(limits: &Limits, newest: &BTreeMap<Labels, Ns>, entry: &Entr
     }
 }
 
+// The place at which the entry stands, or else the one at which it belongs.
+fn search(held: &[Entry], entry: &Entry) -> Result<usize, usize>
+    requires { IsStrictlySortedBy entry_cmp held.now }
+    ensures stands { IfOk result (λ _. contains_key (set_of held.now) entry.now ≡ true) }
+    ensures belongs { IfErr result (λ place. BelongsAt held.now entry.now place) }
+{
+    match held.binary_search(entry) {
+        Ok(place) => Ok(place),
+        Err(place) => Err(place),
+    }
+}
+
+// The same. An entry that is greater than all belongs behind them, and is not searched for.
+fn place_of(held: &[Entry], entry: &Entry) -> Result<usize, usize>
+    requires { IsStrictlySortedBy entry_cmp held.now }
+    ensures stands { IfOk result (λ _. contains_key (set_of held.now) entry.now ≡ true) }
+    ensures belongs { IfErr result (λ place. BelongsAt held.now entry.now place) }
+{
+    match held.last() {
+        Some(last) if last.cmp(entry).is_lt() => Err(held.len()),
+        _ => search(held, entry),
+    }
+}
+
 // What becomes of the entry, by the first that holds.
 pub(crate) fn decide(
     limits: &Limits,
@@ -71,7 +96,7 @@ pub(crate) fn decide(
     if let Some(newest) = newest_far_after(limits, newest, entry) {
         return Decision::Answer(ShardReply::TooFarBehind { newest });
     }
-    match held.binary_search(entry) {
+    match place_of(held, entry) {
         Ok(_) => Decision::Answer(ShardReply::Accepted),
         Err(_) if held.len() as u64 >= limits.entries => Decision::Answer(ShardReply::Full),
         Err(place) => Decision::Hold(place),
