@@ -9,3 +9,4 @@ pub mod Offers
 pub mod Opening
 pub mod Shown
 pub mod Turning
+mod Examples
