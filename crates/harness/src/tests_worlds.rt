@@ -40,7 +40,7 @@ fn recorders_close(rt: &impl Abort, alloc: Global, fails: (u64, u64), failed: u6
     closes(rt, alloc, sinks, failed)
 }
 
-// How many could not write is told, over all groups; closed again they go on, and take nothing in between.
+// How many could not write is told, over all groups; closed again they write the rest, and none is told.
 #[test]
 fn sinks_of_every_group_are_closed(rt: HostRuntime) {
     for (at, other, failed) in [(0, 0, 0), (1, 0, 1), (0, 3, 1), (4, 1, 2)] {
