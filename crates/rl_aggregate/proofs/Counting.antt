@@ -9,13 +9,13 @@ use Rattle.std.proofs.lemmas.Bool.{and_parts, and_from}
 use Rattle.std.proofs.lemmas.List.{take_more, length-take}
 use Rattle.rl_labels.specs.Name.{name_cmp, is_name}
 use Rattle.rl_labels.specs.LabelSet.{LabelSet, Pair, is_empty, is_label, label, labels_of, labels_are_proper}
-use Rattle.rl_labels.specs.LabelLaws.{true_from}
+use Rattle.rl_plain.specs.laws.Bools.{true_from}
 use Rattle.rl_labels.specs.LabelText.{label_set_cmp}
-use Rattle.rl_labels.specs.TextLaws.{label_set_cmp_total, label_set_eq-true, label_set_eq_itself}
+use Rattle.rl_labels.specs.laws.TextLaws.{label_set_cmp_total, label_set_eq-true, label_set_eq_itself}
 use Rattle.rl_labels.specs.declared.entry.Entry.{Entry}
 use Rattle.rl_query.specs.declared.query.Term.{Term}
 use Rattle.rl_aggregate.specs.InRange.{Element, element, is_in_range, in_range}
-use Rattle.rl_aggregate.specs.Laws.{label_set_eq-cmp, same_totals, get-both_totals, partial-append, errors-within, count-within, bytes-within}
+use Rattle.rl_aggregate.specs.laws.Totals.{label_set_eq-cmp, same_totals, get-both_totals, partial-append, errors-within, count-within, bytes-within}
 use Rattle.rl_aggregate.specs.TotalsMap.{TotalsMap, plus, total_at, added}
 use Rattle.rl_aggregate.specs.Partials.{has_error, total_of, partial_of, partial, both_totals, merge, counts_for, most_entries, TotalFits}
 use Rattle.rl_aggregate.specs.declared.total.Total.{Total}

@@ -9,9 +9,10 @@ use Rattle.std.specs.declared.cmp.Ordering.TheVariants.{Less, Equal, Greater}
 use Rattle.std.proofs.lemmas.Bool.{and_parts, true≢false}
 use Rattle.rl_labels.specs.LabelSet.{LabelSet}
 use Rattle.rl_labels.specs.LabelText.{label_set_cmp}
-use Rattle.rl_labels.specs.LabelLaws.{true_from, from_true}
-use Rattle.rl_labels.specs.TextLaws.{label_set_cmp_total, label_set_eq-true, label_set_eq_itself}
-use Rattle.rl_aggregate.specs.Laws.{label_set_eq-cmp}
+use Rattle.rl_plain.specs.laws.Bools.{true_from}
+use Rattle.std.proofs.lemmas.Float.{T_from_true}
+use Rattle.rl_labels.specs.laws.TextLaws.{label_set_cmp_total, label_set_eq-true, label_set_eq_itself}
+use Rattle.rl_aggregate.specs.laws.Totals.{label_set_eq-cmp}
 use Rattle.rl_aggregate.specs.TotalsMap.{TotalsMap, no_total, plus, total_at, added}
 use Rattle.rl_aggregate.specs.declared.total.Total.{Total}
 use Rattle.rl_aggregate.proofs.Maps.{Entries, totals_in}
@@ -70,7 +71,7 @@ find_again k v rest q sorted same =
 
 -- the rest of entries in order is in order
 pub sorted_rest : (k : LabelSet) (v : Total) (rest : Entries) → T (is_sorted label_set_cmp ((k, v) ∷ rest)) → T (is_sorted label_set_cmp rest)
-sorted_rest k v rest sorted = from_true _ (and_parts (below_all label_set_cmp k rest) (is_sorted label_set_cmp rest) (true_from _ sorted)).1
+sorted_rest k v rest sorted = T_from_true _ (and_parts (below_all label_set_cmp k rest) (is_sorted label_set_cmp rest) (true_from _ sorted)).1
 
 -- one entry goes from the rest into the totals, and the sums of both stay
 pub joined-added : (m : TotalsMap) (k : LabelSet) (v : Total) (rest : Entries) (q : LabelSet) → T (is_sorted label_set_cmp ((k, v) ∷ rest)) → joined (get (added m k v) q) (find label_set_cmp q rest) ≡ joined (get m q) (find label_set_cmp q ((k, v) ∷ rest))

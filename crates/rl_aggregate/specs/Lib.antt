@@ -1,6 +1,5 @@
 pub mod Evaluated
 pub mod InRange
-pub mod Laws
 pub mod Partials
 pub mod TotalsMap
-pub mod TreeMaps
+pub mod laws

@@ -3,7 +3,7 @@ use Rattle.std.specs.Prelude.{◌≡◌, nat_le, true, false, not, ◌&&◌, ◌
 use Rattle.std.proofs.Common.{⊎_elim, is_ok, ap, sym, ◌∙◌}
 use Rattle.std.proofs.lemmas.Bool.{true≢false}
 use Rattle.rl_labels.specs.EntryParts.{is_stream}
-use Rattle.rl_labels.specs.LabelLaws.{labels_of-label_set_of}
+use Rattle.rl_labels.specs.laws.LabelLaws.{labels_of-label_set_of}
 use Rattle.rl_labels.specs.LabelSet.{Pair, LabelSet, are_labels, label_set_of}
 use Rattle.rl_labels.specs.LabelText.{labels_text, canonical_text}
 use Rattle.rl_labels.specs.Pairs.{names_are_good, longest_text, labels_from, AnswersPairs}

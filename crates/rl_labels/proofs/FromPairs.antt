@@ -15,7 +15,7 @@ use Rattle.std.proofs.lemmas.Cmp.{tied_itself}
 use Rattle.rl_labels.specs.Name.{name_cmp, is_text, is_name, is_stream_name}
 use Rattle.rl_labels.specs.LabelSet.{Pair, is_empty, is_label, are_labels, label, label_set_of, non_empty, given}
 use Rattle.rl_labels.specs.LabelText.{canonical_text, labels_text}
-use Rattle.rl_labels.specs.LabelLaws.{labels_of-label_set_of, name_cmp_total, name_cmp-IsAntisymmetric, same_text, is_text_itself, other_texts, same_label_set, are_named, are_named-labels, label-label_set_of, given-labels}
+use Rattle.rl_labels.specs.laws.LabelLaws.{labels_of-label_set_of, name_cmp_total, name_cmp-IsAntisymmetric, same_text, is_text_itself, other_texts, same_label_set, are_named, are_named-labels, label-label_set_of, given-labels}
 use Rattle.rl_labels.specs.Pairs.{names_are_good, times_named, has_same_name}
 use Rattle.rl_labels.specs.Rising.{pair_cmp, rises, has_value}
 

@@ -8,7 +8,7 @@ use Rattle.rl_labels.specs.declared.labels.LabelsError.{LabelsError}
 use Rattle.rl_labels.specs.declared.labels.LabelsError.TheVariants.{BadName, SameName, TooLong, Memory}
 use Rattle.rl_labels.proofs.FromPairs.{given_by_set, named_from_good}
 use Rattle.rl_labels.specs.EntryParts.{are_stream_labels}
-use Rattle.rl_labels.specs.LabelLaws.{names-label_set_of}
+use Rattle.rl_labels.specs.laws.LabelLaws.{names-label_set_of}
 use Rattle.rl_labels.specs.Name.{is_stream_name}
 
 abbrev answer : (good same long : Bool) → LabelSet → Result LabelSet LabelsError

@@ -4,7 +4,7 @@ use Rattle.std.specs.List.{list_any, flat_map, join_with_byte}
 use Rattle.std.specs.Cmp.Lexicographic.{texts_ties}
 use Rattle.std.specs.FinMap.Entries.{find, put, where_key, by_order}
 use Rattle.std.specs.declared.cmp.Ordering.TheVariants.{Equal}
-use Rattle.rl_labels.specs.LabelLaws.{name_cmp-IsAntisymmetric}
+use Rattle.rl_labels.specs.laws.LabelLaws.{name_cmp-IsAntisymmetric}
 use Rattle.std.proofs.lemmas.Bool.{or_parts, ne_eqb}
 use Rattle.std.proofs.lemmas.List.Elements.{filter_more}
 use Rattle.std.proofs.lemmas.Str.{inside_one, encodes-append}

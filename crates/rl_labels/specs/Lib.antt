@@ -1,7 +1,6 @@
 pub mod EntryAnswers
 pub mod EntryOrder
 pub mod EntryParts
-pub mod LabelLaws
 pub mod LabelSet
 pub mod LabelText
 pub mod LimitRanges
@@ -11,4 +10,4 @@ pub mod Parts
 pub mod Quantity
 pub mod Rising
 pub mod Selects
-pub mod TextLaws
+pub mod laws

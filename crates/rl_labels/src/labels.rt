@@ -487,7 +487,7 @@ impl Same for Labels {
 impl PartialEq for Labels {
     ghost use Rattle.std.specs.Cmp;
     ghost use Rattle.rl_labels.specs.LabelText.{label_set_eq};
-    ghost use Rattle.rl_labels.specs.TextLaws.{label_set_eq_equiv};
+    ghost use Rattle.rl_labels.specs.laws.TextLaws.{label_set_eq_equiv};
 
     ghost eq = { label_set_eq };
 
@@ -499,7 +499,7 @@ impl PartialEq for Labels {
 }
 
 impl Eq for Labels {
-    ghost use Rattle.rl_labels.specs.TextLaws.{label_set_eq_equiv};
+    ghost use Rattle.rl_labels.specs.laws.TextLaws.{label_set_eq_equiv};
 
     ghost laws = { label_set_eq_equiv };
 }
@@ -507,7 +507,7 @@ impl Eq for Labels {
 impl PartialOrd for Labels {
     ghost use Rattle.std.specs.Prelude.{Some};
     ghost use Rattle.rl_labels.specs.LabelText.{label_set_cmp};
-    ghost use Rattle.rl_labels.specs.TextLaws.{label_set_po};
+    ghost use Rattle.rl_labels.specs.laws.TextLaws.{label_set_po};
 
     ghost partial_cmp = { λ x y. Some (label_set_cmp x y) };
 
@@ -522,7 +522,7 @@ impl Ord for Labels {
     ghost use Rattle.std.specs.Prelude.{refl};
     ghost use Rattle.std.specs.Cmp.Lexicographic.{texts_ties};
     ghost use Rattle.rl_labels.specs.LabelText.{label_set_cmp, canonical_text};
-    ghost use Rattle.rl_labels.specs.TextLaws.{label_set_cmp_total};
+    ghost use Rattle.rl_labels.specs.laws.TextLaws.{label_set_cmp_total};
 
     ghost cmp = { label_set_cmp };
 

@@ -4,15 +4,18 @@
 //! - `list`: `PlainList<T>`, made from a `Vec` and given back without memory; lawful comparisons and hash.
 //! - `text`: `PlainText`, the same over a `String`.
 //! - `copying`: `TryCopy`, whose copy is the value.
+//! - `refusal`: `OrMemory`, a fault or want of memory.
 //! - `sameness`: `Same`, whose answer is true exactly when the two values are one.
 #![tactic(auto)]
 
 pub mod copying;
 pub mod list;
+pub mod refusal;
 pub mod sameness;
 pub mod text;
 
 pub use copying::TryCopy;
 pub use list::PlainList;
+pub use refusal::OrMemory;
 pub use sameness::Same;
 pub use text::PlainText;

@@ -13,7 +13,7 @@ use Rattle.rl_query.specs.declared.token.Token.{Token}
 use Rattle.rl_query.specs.declared.token.Token.TheVariants as tokens
 use Rattle.rl_query.specs.Lexing.{is_space, gap_len, run_at, onto, quoted, or_else, sign_at, one_byte, two_bytes, at_place, token_at, lexeme_at}
 use Rattle.rl_query.specs.Printing.{escaped}
-use Rattle.rl_query.specs.Reading.{◌>>=◌}
+use Rattle.rl_plain.specs.Answers.{◌>>=◌}
 
 -- a token at the front, with no gap before it
 pub lexeme_here : (total : ℕ) (bytes : List ℕ) (token : Token) (after : List ℕ) → gap_len false bytes ≡ 0 → token_at (total - length bytes) bytes ≡ Ok (token, after) → lexeme_at total bytes ≡ Ok (record { token = token; place = total - length bytes }, after)

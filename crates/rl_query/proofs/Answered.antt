@@ -1,29 +1,26 @@
 -- What `parse` and `print_term` answer of printed texts.
-use Rattle.std.proofs.Common.{◌≡◌, ℕ, List, Result, Ok, Err, sym, ap, ◌∙◌, MatchResult, IfOk}
+use Rattle.std.proofs.Common.{◌≡◌, ℕ, List, Result, Ok, Err, refl, sym, ap, ◌∙◌, MatchResult, IfOk}
 use Rattle.rl_query.specs.declared.fault.QueryFault.{QueryFault}
-use Rattle.rl_query.specs.declared.fault.QueryError.{QueryError}
-use Rattle.rl_query.specs.declared.fault.QueryError.TheVariants as errors
+use Rattle.rl_plain.specs.declared.refusal.OrMemory.{OrMemory}
+use Rattle.rl_plain.specs.declared.refusal.OrMemory.TheVariants as errors
 use Rattle.rl_query.specs.declared.query.Query.{Query}
 use Rattle.rl_query.specs.declared.query.Term.{Term}
 use Rattle.rl_query.specs.Form.{QueryForm, term_form, query_form}
 use Rattle.rl_query.specs.Grammar.{Derives}
 use Rattle.rl_query.specs.Parsing.{query_of}
 use Rattle.rl_query.specs.Printing.{term_text, query_text}
-use Rattle.rl_query.specs.Reading.{Gives}
+use Rattle.rl_plain.specs.Answers.{Gives}
 use Rattle.rl_query.proofs.Complete.{derived_is_read}
 use Rattle.rl_query.proofs.Parts.{query_again}
 use Rattle.rl_query.proofs.Rules.{query_derived}
 use Rattle.rl_query.proofs.SameQuery.{same_query, same_term, keeps_limits}
 
-pub read_again : (r : Result Query QueryError) (text : List ℕ) → Gives query_form r (query_of text) → (q : Query) → text ≡ query_text (query_form q) → MatchResult r (λ same. same ≡ q) (λ e. e ≡ errors.Memory)
+pub read_again : (r : Result Query (OrMemory QueryFault)) (text : List ℕ) → Gives query_form r (query_of text) → (q : Query) → text ≡ query_text (query_form q) → MatchResult r (λ same. same ≡ q) (λ e. e ≡ errors.Memory)
 read_again (Ok p) text read q printed =
     let both : ◌≡◌ {A = Result QueryForm QueryFault} (Ok (query_form p)) (Ok (query_form q)) = sym read ∙ ap query_of printed ∙ query_again (query_form q) (keeps_limits q) in
     let forms : query_form p ≡ query_form q = cc in
     same_query p q forms
-read_again (Err errors.Memory) text read q printed = refl_memory
-  where
-    refl_memory : errors.Memory ≡ errors.Memory
-    refl_memory = λ i. errors.Memory
+read_again (Err errors.Memory) text read q printed = refl
 read_again (Err (errors.Fault fault)) text read q printed =
     let both : ◌≡◌ {A = Result QueryForm QueryFault} (Err fault) (Ok (query_form q)) = sym read ∙ ap query_of printed ∙ query_again (query_form q) (keeps_limits q) in
     cc
@@ -40,16 +37,16 @@ alone a b e =
     same_term a b (ap (λ f. f.left) forms)
 
 -- a query that was read is derived
-pub derived : (r : Result Query QueryError) (text : List ℕ) → Gives query_form r (query_of text) → IfOk r (λ q. Derives text (query_form q))
+pub derived : (r : Result Query (OrMemory QueryFault)) (text : List ℕ) → Gives query_form r (query_of text) → IfOk r (λ q. Derives text (query_form q))
 derived (Ok q) text read = query_derived text (query_form q) read
 derived (Err e) text read = tt
 
 -- a query that is derived was read
-pub all_read : (r : Result Query QueryError) (text : List ℕ) → Gives query_form r (query_of text) → (q : QueryForm) → Derives text q → MatchResult r (λ same. query_form same ≡ q) (λ e. e ≡ errors.Memory)
+pub all_read : (r : Result Query (OrMemory QueryFault)) (text : List ℕ) → Gives query_form r (query_of text) → (q : QueryForm) → Derives text q → MatchResult r (λ same. query_form same ≡ q) (λ e. e ≡ errors.Memory)
 all_read (Ok p) text read q derived =
     let both : ◌≡◌ {A = Result QueryForm QueryFault} (Ok (query_form p)) (Ok q) = sym read ∙ derived_is_read text q derived in
     cc
-all_read (Err errors.Memory) text read q derived = λ i. errors.Memory
+all_read (Err errors.Memory) text read q derived = refl
 all_read (Err (errors.Fault fault)) text read q derived =
     let both : ◌≡◌ {A = Result QueryForm QueryFault} (Err fault) (Ok q) = sym read ∙ derived_is_read text q derived in
     cc

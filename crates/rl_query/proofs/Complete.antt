@@ -23,7 +23,7 @@ use Rattle.rl_query.specs.Grammar.{Quoted, closed, plain, escaped, IsToken, Lexe
 use Rattle.rl_query.specs.Lexing.{sign_at, one_byte, two_bytes, or_else}
 use Rattle.rl_query.specs.Limits.{longest_range}
 use Rattle.rl_query.specs.Parsing.{is_mark_sign, expected, matcher_at, element_at, matchers_at, selector_at, capped, unit_of, Progress, digit_behind, with_unit, duration_from, duration_of, seconds_at, range_at, term_at, query_of}
-use Rattle.rl_query.specs.Reading.{◌>>=◌}
+use Rattle.rl_plain.specs.Answers.{◌>>=◌}
 use Rattle.rl_query.proofs.Derived.{none_some}
 use Rattle.rl_query.proofs.Lexed.{Found, lexed, gap_shorter, apart}
 use Rattle.rl_query.proofs.Parts.{digit_step}

@@ -14,7 +14,7 @@ use Rattle.rl_query.specs.declared.token.Token.TheVariants as tokens
 use Rattle.rl_query.specs.declared.token.Lexeme.{Lexeme}
 use Rattle.rl_query.specs.Grammar.{BehindGap, NotBegin, BeginsWithDigit, Quoted, closed, plain, escaped, IsToken, Lexes}
 use Rattle.rl_query.specs.Lexing.{is_space, gap_len, is_number_byte, is_plain, is_raw, run_at, escape_at, onto, quoted, backquoted, sign_at, at_place, token_at, lexeme_at}
-use Rattle.rl_query.specs.Reading.{◌>>=◌}
+use Rattle.rl_plain.specs.Answers.{◌>>=◌}
 
 pub bind_ok : {A B : Type 0} (r : Result A QueryFault) (f : A → Result B QueryFault) (y : B) → (r >>= f) ≡ Ok y → (x : A) × (r ≡ Ok x) × (f x ≡ Ok y)
 bind_ok (Ok x) f y h = (x, refl, h)

@@ -2,13 +2,13 @@
 use Rattle.std.proofs.Common.{◌≡◌, ℕ, suc, ◌-◌, ◌+◌, ◌≤◌, ◌<◌, true, false, not, ◌||◌, map, List, [], ◌∷◌, ◌++◌, Result, Ok, Err, refl, sym, ap, ◌∙◌, append_assoc, arith}
 use Rattle.rl_query.specs.declared.fault.QueryFault.{QueryFault}
 use Rattle.rl_query.specs.declared.fault.QueryFault.TheVariants as faults
-use Rattle.rl_query.specs.declared.fault.QueryError.{QueryError}
-use Rattle.rl_query.specs.declared.fault.QueryError.TheVariants as errors
+use Rattle.rl_plain.specs.declared.refusal.OrMemory.{OrMemory}
+use Rattle.rl_plain.specs.declared.refusal.OrMemory.TheVariants as errors
 use Rattle.rl_labels.specs.Selects.{passes}
 use Rattle.rl_labels.specs.declared.matcher.Matcher.{Matcher}
 use Rattle.rl_query.specs.Limits.{has_real_matcher}
 use Rattle.rl_query.specs.Form.{MatcherForm, matcher_form, has_real_form}
-use Rattle.rl_query.specs.Reading.{◌>>=◌, Fails}
+use Rattle.rl_plain.specs.Answers.{◌>>=◌, Fails}
 use Rattle.rl_query.specs.Parsing.{element_at, matchers_at}
 
 -- what was read before, and what is still read
@@ -35,7 +35,7 @@ last_one front count i total bytes m after whole lt h so_far =
     let one : with_front front (matchers_at (count - i) total bytes) ≡ Ok (front ++ m ∷ [], after) = rw (k, h) refl in
     sym so_far ∙ one
 
-pub ends : (e : QueryError) (front : List MatcherForm) (count i total : ℕ) (bytes : List ℕ) (whole : Result (List MatcherForm × List ℕ) QueryFault) → i < count → Fails e (element_at total bytes)
+pub ends : (e : OrMemory QueryFault) (front : List MatcherForm) (count i total : ℕ) (bytes : List ℕ) (whole : Result (List MatcherForm × List ℕ) QueryFault) → i < count → Fails e (element_at total bytes)
     → with_front front (matchers_at (count - i) total bytes) ≡ whole → Fails e whole
 unfolding matchers_at
 ends errors.Memory front count i total bytes whole lt h so_far = tt

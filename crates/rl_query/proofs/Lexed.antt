@@ -12,7 +12,7 @@ use Rattle.rl_query.specs.declared.token.Token.{Token}
 use Rattle.rl_query.specs.declared.token.Token.TheVariants as tokens
 use Rattle.rl_query.specs.Grammar.{BehindGap, NotBegin, BeginsWithDigit, Quoted, closed, plain, escaped, IsToken, Lexes}
 use Rattle.rl_query.specs.Lexing.{is_space, gap_len, is_number_byte, run_at, onto, quoted, backquoted, or_else, sign_at, one_byte, at_place, token_at, lexeme_at, is_raw}
-use Rattle.rl_query.specs.Reading.{◌>>=◌}
+use Rattle.rl_plain.specs.Answers.{◌>>=◌}
 use Rattle.rl_query.proofs.Again.{run_again, start_is_byte, start_no_gap, word_token, text_token, not_second}
 use Rattle.rl_query.proofs.Derived.{none_some}
 use Rattle.rl_query.proofs.Parts.{digit_no_gap, no_start}

@@ -18,7 +18,7 @@ use Rattle.rl_query.specs.Lexing.{is_space, gap_len, lexeme_at, is_number_byte, 
 use Rattle.rl_query.specs.Limits.{longest_range}
 use Rattle.rl_query.specs.Parsing.{expected, matcher_at, element_at, matchers_at, selector_at, capped, Progress, digit_behind, duration_from, duration_of, seconds_at, range_at, term_at, query_of}
 use Rattle.rl_query.specs.Printing.{escaped, matcher_text, query_text}
-use Rattle.rl_query.specs.Reading.{◌>>=◌}
+use Rattle.rl_plain.specs.Answers.{◌>>=◌}
 use Rattle.rl_query.proofs.Again.{lexeme_here, space_passed, word_again, text_again, run_again, open_parenthesis, close_parenthesis, open_brace, close_brace, open_bracket, close_bracket, comma, equal_sign, at_end}
 
 -- the text of a matcher and what follows it

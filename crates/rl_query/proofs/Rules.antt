@@ -9,7 +9,7 @@ use Rattle.std.proofs.Math.Nat.{mul-le-mul_left}
 use Rattle.std.proofs.lemmas.Bool.{true≢false, and_parts, and_from, leb-true, ltb-true}
 use Rattle.std.proofs.lemmas.Bool.Decides.{nat_tests}
 use Rattle.rl_labels.specs.Name.{is_name, is_text}
-use Rattle.rl_labels.specs.LabelLaws.{same_text}
+use Rattle.rl_labels.specs.laws.LabelLaws.{same_text}
 use Rattle.rl_labels.specs.declared.matcher.MatchOp.TheVariants as operators
 use Rattle.rl_query.specs.declared.fault.QueryFault.{QueryFault}
 use Rattle.rl_query.specs.declared.fault.QueryFault.TheVariants as faults
@@ -28,7 +28,7 @@ use Rattle.rl_query.specs.Grammar.{Lexes, Parts, none, part, IsMatcher, AreMatch
 use Rattle.rl_query.specs.Lexing.{lexeme_at}
 use Rattle.rl_query.specs.Limits.{longest_range}
 use Rattle.rl_query.specs.Parsing.{is_equal, is_open_parenthesis, is_close_parenthesis, is_open_brace, is_close_brace, is_open_bracket, is_close_bracket, is_comma, is_mark_sign, is_mark, refusal, expected, name_of, content_of, matcher_at, goes_on, element_at, matchers_at, some_matcher, real_matchers, selector_at, capped, unit_of, Progress, with_unit, digit_behind, duration_from, duration_of, looks_like_duration, seconds_of, range_of, checked_range, function_of, seconds_at, range_at, term_at, ends, query_of}
-use Rattle.rl_query.specs.Reading.{◌>>=◌}
+use Rattle.rl_plain.specs.Answers.{◌>>=◌}
 use Rattle.rl_query.proofs.Derived.{bind_ok, chosen, no_err, none_some, same_some, lexeme_read}
 
 same_ok : {A : Type 0} (x y : A) → ◌≡◌ {A = Result A QueryFault} (Ok x) (Ok y) → x ≡ y

@@ -6,14 +6,14 @@ use Rattle.std.specs.Char.{is_ascii_digit}
 use Rattle.rl_labels.specs.Name.{is_name_start, is_name_byte}
 use Rattle.rl_query.specs.declared.fault.QueryFault.{QueryFault}
 use Rattle.rl_query.specs.declared.fault.QueryFault.TheVariants.{Syntax}
-use Rattle.rl_query.specs.declared.fault.QueryError.{QueryError}
-use Rattle.rl_query.specs.declared.fault.QueryError.TheVariants as errors
+use Rattle.rl_plain.specs.declared.refusal.OrMemory.{OrMemory}
+use Rattle.rl_plain.specs.declared.refusal.OrMemory.TheVariants as errors
 use Rattle.rl_query.specs.declared.token.Sign.{Sign}
 use Rattle.rl_query.specs.declared.token.Sign.TheVariants as signs
 use Rattle.rl_query.specs.declared.token.Token.{Token}
 use Rattle.rl_query.specs.declared.token.Token.TheVariants as tokens
 use Rattle.rl_query.specs.declared.token.Lexeme.{Lexeme}
-use Rattle.rl_query.specs.Reading.{◌>>=◌}
+use Rattle.rl_plain.specs.Answers.{◌>>=◌}
 
 -- a space, a tab, a carriage return or a line feed
 abbrev pub is_space : ℕ → Bool
@@ -147,7 +147,7 @@ abbrev pub is_raw : ℕ → Bool
 is_raw byte = not (byte == 96)
 
 -- what was found, seen by view, is what there is, unless memory ran out
-abbrev pub IsReading : {X Y : Type 0} → (X → Y) → Result X QueryError → Y → Type 0
+abbrev pub IsReading : {X Y : Type 0} → (X → Y) → Result X (OrMemory QueryFault) → Y → Type 0
 IsReading view (Ok found) read = view found ≡ read
 IsReading view (Err errors.Memory) read = Unit {0}
 IsReading view (Err (errors.Fault fault)) read = ⊥

@@ -5,4 +5,3 @@ pub mod Lexing
 pub mod Limits
 pub mod Parsing
 pub mod Printing
-pub mod Reading

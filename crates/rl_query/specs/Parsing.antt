@@ -21,7 +21,7 @@ use Rattle.rl_query.specs.declared.token.Token.TheVariants as tokens
 use Rattle.rl_query.specs.Form.{MatcherForm, RangeForm, TermForm, QueryForm, has_real_form}
 use Rattle.rl_query.specs.Lexing.{lexeme_at}
 use Rattle.rl_query.specs.Limits.{longest_range}
-use Rattle.rl_query.specs.Reading.{◌>>=◌}
+use Rattle.rl_plain.specs.Answers.{◌>>=◌}
 
 -- a sign that begins a stage
 abbrev pub is_stage : Sign → Bool

@@ -1,8 +1,8 @@
 //! Why a query text is refused.
 ghost use Rattle.std.specs.Prelude.{◌≡◌};
-ghost use Rattle.rl_query.specs.declared.fault.QueryError.TheVariants.{Fault, Memory};
+ghost use Rattle.rl_plain.specs.declared.refusal.OrMemory.TheVariants.{Fault};
 
-use std::alloc::{AllocError, AllocFailed};
+use rl_plain::OrMemory;
 use thiserror::Error;
 
 /// The first fault of a text, with the byte at which its token begins.
@@ -19,34 +19,12 @@ pub enum QueryFault {
 }
 
 /// Why a text gave no query.
-#[derive(Clone, Copy, Debug, Drop, Error, PartialEq, Eq)]
-pub enum QueryError {
-    #[error("{0}")]
-    Fault(QueryFault),
-    #[error("out of memory")]
-    Memory,
-}
+pub type QueryError = OrMemory<QueryFault>;
 
 impl From<QueryFault> for QueryError {
     ghost from_gives = { λ fault e. e ≡ Fault fault };
 
     fn from(fault: QueryFault) -> Self {
-        QueryError::Fault(fault)
-    }
-}
-
-impl From<AllocError> for QueryError {
-    ghost from_gives = { λ _ e. e ≡ Memory };
-
-    fn from(_error: AllocError) -> Self {
-        QueryError::Memory
-    }
-}
-
-impl<T: Drop> From<AllocFailed<T>> for QueryError {
-    ghost from_gives = { λ _ e. e ≡ Memory };
-
-    fn from(_error: AllocFailed<T>) -> Self {
-        QueryError::Memory
+        OrMemory::Fault(fault)
     }
 }

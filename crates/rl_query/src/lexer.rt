@@ -5,7 +5,7 @@ ghost use Rattle.std.specs.List.{prefix_len};
 ghost use Rattle.rl_labels.specs.Name.{is_name_start, is_name_byte};
 ghost use Rattle.rl_query.specs.Lexing.{is_space, gap_len, is_number_byte, run_at, hex_digit, hex_number, character, unicode_at, escape_at, escape_front, quoted, backquoted, two_bytes, one_byte, sign_at, token_at, lexeme_at, at_place, is_plain, is_raw, IsReading};
 ghost use Rattle.rl_query.specs.declared.token.Token.TheVariants.{Text};
-ghost use Rattle.rl_query.specs.Reading.{Gives};
+ghost use Rattle.rl_plain.specs.Answers.{Gives};
 
 use crate::fault::{QueryError, QueryFault};
 use crate::token::{Lexeme, Sign, Token};

@@ -6,7 +6,7 @@ ghost use Rattle.rl_labels.specs.Name.{is_text};
 ghost use Rattle.rl_query.specs.Form.{QueryForm, matcher_form, range_form, term_form, query_form};
 ghost use Rattle.rl_query.specs.Grammar.{Derives};
 ghost use Rattle.rl_query.specs.Printing.{query_text};
-ghost use Rattle.rl_query.specs.Reading.{Gives};
+ghost use Rattle.rl_plain.specs.Answers.{Gives};
 ghost use Rattle.rl_query.specs.declared.query.Query.{Query};
 ghost use Rattle.rl_query.specs.Parsing.{is_unsupported, is_unsupported_word, is_unsupported_sign, is_stage, is_operator, is_in_any_case, is_later_word, refusal, expected, is_mark, is_mark_sign, name_of, content_of, matcher_at, goes_on, element_at, matchers_at, some_matcher, real_matchers, selector_at, unit_of, duration_of, digit_behind, is_unit_letter, is_duration_byte, looks_like_duration, range_of, seconds_of, checked_range, function_of, named_function, seconds_at, range_at, term_at, query_of, ends};
 ghost use Rattle.rl_query.specs.Limits.{has_real_matcher, longest_range};
@@ -18,7 +18,7 @@ use crate::lexer::lexeme_at;
 use crate::query::{LogRange, Query, RangeFunction, Selector, Term};
 use crate::token::{Lexeme, Sign, Token};
 use rl_labels::{MatchOp, Matcher};
-use rl_plain::{PlainList, PlainText};
+use rl_plain::{OrMemory, PlainList, PlainText};
 use std::alloc::Global;
 
 /// The longest range, in seconds: 30 days.
@@ -566,8 +566,8 @@ fn term_at(alloc: Global, total: usize, text: &str) -> Result<(Term, &str), Quer
 pub fn parse(alloc: Global, text: &str) -> Result<Query, QueryError>
     ensures read { Gives query_form result (query_of text.now) }
     ensures derives { IfOk result (λ query. Derives text.now (query_form query)) }
-    ensures complete { (query : QueryForm) → Derives text.now query → MatchResult result (λ same. query_form same ≡ query) (λ e. e ≡ QueryError.Memory) }
-    ensures again { (query : Query) → text.now ≡ query_text (query_form query) → MatchResult result (λ same. same ≡ query) (λ e. e ≡ QueryError.Memory) }
+    ensures complete { (query : QueryForm) → Derives text.now query → MatchResult result (λ same. query_form same ≡ query) (λ e. e ≡ OrMemory.Memory) }
+    ensures again { (query : Query) → text.now ≡ query_text (query_form query) → MatchResult result (λ same. same ≡ query) (λ e. e ≡ OrMemory.Memory) }
 {
     read(alloc, text)
 }

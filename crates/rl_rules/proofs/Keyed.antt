@@ -18,8 +18,8 @@ true_from : (b : Bool) → T b → b ≡ true
 true_from true h = refl
 true_from false h = absurd h
 
-from_true : (b : Bool) → b ≡ true → T b
-from_true b e = subst T (sym e) tt
+T_from_true : (b : Bool) → b ≡ true → T b
+T_from_true b e = subst T (sym e) tt
 
 is_less : (o : Ordering) → is_lt o ≡ true → o ≡ Less
 is_less Less e = refl
@@ -184,5 +184,5 @@ module _ {K X : Type 0} (R : K → K → Ordering) where
       entries_in_order es fs moved rise =
           let m = from_entries {R = R} es in
           let sorted = sorted_from_rise fs rise in
-          same_entries R o same (entries m) fs (entries_sorted m) (from_true _ sorted)
+          same_entries R o same (entries m) fs (entries_sorted m) (T_from_true _ sorted)
           (λ q. sym (get-entries m q) ∙ get-from_entries o es q ∙ find-permuted es fs q moved (let alike = times-permuted q es fs moved in omega (arith, once_in_order fs sorted q)))

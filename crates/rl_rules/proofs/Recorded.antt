@@ -12,7 +12,7 @@ use Rattle.std.proofs.lemmas.Bool.{and_from, true≢false}
 use Rattle.std.proofs.lemmas.List.Sorted.{IsPermutation-map}
 use Rattle.rl_labels.specs.LabelSet.{LabelSet, with_label}
 use Rattle.rl_labels.specs.LabelText.{canonical_text, label_set_cmp, label_set_eq}
-use Rattle.rl_labels.specs.TextLaws.{label_set_cmp_total, label_set_cmp-IsAntisymmetric, label_set_eq-true, label_set_eq_itself}
+use Rattle.rl_labels.specs.laws.TextLaws.{label_set_cmp_total, label_set_cmp-IsAntisymmetric, label_set_eq-true, label_set_eq_itself}
 use Rattle.rl_aggregate.specs.declared.outcome.Fraction.{Fraction}
 use Rattle.rl_aggregate.specs.declared.outcome.Sample.{Sample}
 use Rattle.rl_rules.specs.declared.rule.Rule.{Rule}

@@ -15,7 +15,7 @@ use Rattle.std.proofs.lemmas.List.Edits.{length-insert, get_or-insert_below, get
 use Rattle.std.proofs.lemmas.List.Folds.{list_any_at}
 use Rattle.std.proofs.lemmas.List.Sorted.{searchable_from_sorted}
 use Rattle.std.proofs.lemmas.Map.Keys.{Less-from_sorted, sorted_from_all_adjacent}
-use Rattle.rl_aggregate.specs.TreeMaps.{entries-of_tree, len-of_tree}
+use Rattle.rl_plain.specs.laws.TreeMaps.{entries-of_tree, len-of_tree}
 use Rattle.rl_shard.specs.ShardState.{mark}
 
 or_swap : (a b c : Bool) → (a || (b || c)) ≡ (b || (a || c))

@@ -6,8 +6,8 @@ use Rattle.std.specs.BTreeMap.{is_at}
 use Rattle.std.specs.Map.{lookup}
 use Rattle.rl_labels.specs.LabelSet.{LabelSet}
 use Rattle.rl_labels.specs.LabelText.{label_set_cmp}
-use Rattle.rl_labels.specs.TextLaws.{label_set_cmp_total, label_set_cmp-IsAntisymmetric}
-use Rattle.rl_aggregate.specs.TreeMaps.{get-of_tree, one_set}
+use Rattle.rl_labels.specs.laws.TextLaws.{label_set_cmp_total, label_set_cmp-IsAntisymmetric}
+use Rattle.rl_plain.specs.laws.TreeMaps.{get-of_tree, one_set}
 
 -- the map that entries make
 abbrev map_of : List (LabelSet × ℕ) → FinMap label_set_cmp ℕ

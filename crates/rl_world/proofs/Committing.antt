@@ -12,7 +12,7 @@ use Rattle.rl_world.specs.History.{History, closing_fault, commit_fault, committ
 use Rattle.rl_world.specs.Offering.{TookPrefix, Offered, AllOffered, texts_of}
 use Rattle.rl_world.specs.WorldState.{BookState, IsBookOf, kept_open, world_of}
 use Rattle.rl_labels.specs.declared.entry.Entry.{Entry}
-use Rattle.rl_world.specs.ShownLaws.{kept_evaluation}
+use Rattle.rl_world.specs.laws.ShownLaws.{kept_evaluation}
 use Rattle.rl_world.specs.WorldStep.{WorldStep, partials}
 use Rattle.rl_world.specs.declared.fault.BookError.{BookError}
 use Rattle.rl_world.specs.declared.fault.Refusal.{Refusal}

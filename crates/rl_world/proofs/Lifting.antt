@@ -13,7 +13,7 @@ use Rattle.rl_shard.specs.declared.step.ShardStep.TheVariants as shard_steps
 use Rattle.rl_shard.specs.declared.step.ShardReply.{ShardReply}
 use Rattle.rl_world.specs.Evaluating.{group_terms, partials_of}
 use Rattle.rl_world.specs.History.{History, begin_fault, gather_fault, commit_fault, abandon_fault, asked_fault, closing_fault, is_session_full, last_moment, not_later, is_gathered, is_complete, begun, gathered, with_shown, committed, abandoned}
-use Rattle.rl_world.specs.ShownLaws.{kept_evaluation}
+use Rattle.rl_world.specs.laws.ShownLaws.{kept_evaluation}
 use Rattle.rl_world.specs.WorldState.{WorldState, Stands, kept_answer, kept_open, kept_history, kept_world}
 use Rattle.rl_world.specs.WorldStep.{WorldStep, Turn, MayRefuse, ShardTurn, BeginTurn, GatherTurn, CommitTurn, AbandonTurn, Replay, lists, partials, known, or_else, journal_refusal, refusal_of, with_shard, with_history, may_want}
 use Rattle.rl_world.specs.declared.fault.BookFault.TheVariants as faults

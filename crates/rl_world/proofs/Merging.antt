@@ -7,7 +7,7 @@ use Rattle.std.proofs.lemmas.List.{at_drop_more, get_or_default}
 use Rattle.std.proofs.lemmas.List.Elements.{All-from_recursion}
 use Rattle.rl_labels.specs.LabelSet.{LabelSet}
 use Rattle.rl_labels.specs.LabelText.{label_set_cmp}
-use Rattle.rl_aggregate.specs.Laws.{total_at-both_totals}
+use Rattle.rl_aggregate.specs.laws.Totals.{total_at-both_totals}
 use Rattle.rl_aggregate.specs.Partials.{merge, most_entries, Fits}
 use Rattle.rl_aggregate.specs.TotalsMap.{no_total, total_at}
 use Rattle.rl_aggregate.specs.declared.partial.Partial.{Partial}

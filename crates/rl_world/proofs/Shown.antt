@@ -4,7 +4,7 @@ use Rattle.std.specs.List.{AllByRecursion}
 use Rattle.std.proofs.lemmas.List.{length-map}
 use Rattle.rl_labels.specs.declared.entry.Entry.{Entry}
 use Rattle.rl_query.specs.declared.query.Term.{Term}
-use Rattle.rl_aggregate.specs.Laws.{errors-within, count-within, bytes-within}
+use Rattle.rl_aggregate.specs.laws.Totals.{errors-within, count-within, bytes-within}
 use Rattle.rl_aggregate.specs.Partials.{partial}
 use Rattle.rl_aggregate.specs.declared.partial.Partial.{Partial}
 use Rattle.rl_shard.specs.declared.step.ShardReply.{ShardReply}

@@ -3,8 +3,8 @@ pub mod Closed
 pub mod Evaluating
 pub mod History
 pub mod Offering
-pub mod ShownLaws
 pub mod Slots
 pub mod WorldRun
 pub mod WorldState
 pub mod WorldStep
+pub mod laws

@@ -4,7 +4,7 @@ use Rattle.std.proofs.Math.Seq.{take-length}
 use Rattle.rl_aggregate.specs.InRange.{element}
 use Rattle.rl_aggregate.specs.TotalsMap.{plus, total_at}
 use Rattle.rl_aggregate.specs.Partials.{partial, partial_of, merge, TotalFits}
-use Rattle.rl_aggregate.specs.Laws.{partial-permuted}
+use Rattle.rl_aggregate.specs.laws.Totals.{partial-permuted}
 use Rattle.rl_aggregate.proofs.Counting.{partial-counted, partial-passed, errors-fit, total-fits}
 use Rattle.rl_aggregate.proofs.range.scratch.Goals as goal
 use Rattle.rl_aggregate.proofs.range.scratch.Goals.{then-branch+in_ok-count, else-branch}

@@ -2,7 +2,7 @@
 use Rattle.std.proofs.Common.{rules}
 use Rattle.std.specs.Ordering.{is_lt}
 use Rattle.std.proofs.lemmas.List.Sorted.{ranks_by, answers_always}
-use Rattle.rl_labels.specs.TextLaws.{label_set_cmp_total}
+use Rattle.rl_labels.specs.laws.TextLaws.{label_set_cmp_total}
 use Rattle.rl_rules.specs.Recording.{sample_cmp}
 use Rattle.rl_rules.proofs.stepping.sort_samples.Goals as goal
 

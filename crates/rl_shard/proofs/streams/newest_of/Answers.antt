@@ -1,7 +1,7 @@
 -- The tree's look-up is that of the map.
 use Rattle.std.proofs.Common.{sym, ◌∙◌}
-use Rattle.rl_labels.specs.TextLaws.{label_set_cmp_total}
-use Rattle.rl_aggregate.specs.TreeMaps.{get-of_tree}
+use Rattle.rl_labels.specs.laws.TextLaws.{label_set_cmp_total}
+use Rattle.rl_plain.specs.laws.TreeMaps.{get-of_tree}
 use Rattle.rl_shard.proofs.streams.newest_of.Goals as goal
 
 pub returns : goal.returns

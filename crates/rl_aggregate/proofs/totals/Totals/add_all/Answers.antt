@@ -3,9 +3,9 @@ use Rattle.std.proofs.Common.{◌≡◌, T, sym, ap, subst, ◌∙◌}
 use Rattle.std.specs.FinMap as map
 use Rattle.std.specs.FinMap.Entries.{find, is_sorted}
 use Rattle.rl_labels.specs.LabelText.{label_set_cmp}
-use Rattle.rl_aggregate.specs.Laws.{get-both_totals, total_at-both_totals, same_totals}
+use Rattle.rl_aggregate.specs.laws.Totals.{get-both_totals, total_at-both_totals, same_totals}
 use Rattle.rl_aggregate.specs.Partials.{both_totals, TotalFits}
-use Rattle.rl_aggregate.specs.TreeMaps.{sorted_entries}
+use Rattle.rl_plain.specs.laws.TreeMaps.{sorted_entries}
 use Rattle.rl_aggregate.proofs.Merging.{joined, joined-None, joined-added, sorted_rest, total_at-next, find-entries}
 use Rattle.rl_aggregate.proofs.totals.Totals.add_all.Goals as goal
 

@@ -1,8 +1,8 @@
 -- The tree's look-up is that of the totals.
 use Rattle.std.proofs.Common.{sym, ap, ◌∙◌}
 use Rattle.std.specs.FinMap as map
-use Rattle.rl_labels.specs.TextLaws.{label_set_cmp_total}
-use Rattle.rl_aggregate.specs.TreeMaps.{get-of_tree}
+use Rattle.rl_labels.specs.laws.TextLaws.{label_set_cmp_total}
+use Rattle.rl_plain.specs.laws.TreeMaps.{get-of_tree}
 use Rattle.rl_aggregate.proofs.totals.Totals.get.Goals as goal
 
 pub returns : goal.returns

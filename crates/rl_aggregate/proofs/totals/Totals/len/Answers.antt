@@ -1,8 +1,8 @@
 -- The tree has an entry for each label set.
 use Rattle.std.proofs.Common.{sym, ap, ◌∙◌}
 use Rattle.std.specs.FinMap as map
-use Rattle.rl_labels.specs.TextLaws.{label_set_cmp_total, label_set_cmp-IsAntisymmetric}
-use Rattle.rl_aggregate.specs.TreeMaps.{len-of_tree}
+use Rattle.rl_labels.specs.laws.TextLaws.{label_set_cmp_total, label_set_cmp-IsAntisymmetric}
+use Rattle.rl_plain.specs.laws.TreeMaps.{len-of_tree}
 use Rattle.rl_aggregate.proofs.totals.Totals.len.Goals as goal
 
 pub returns : goal.returns

@@ -3,8 +3,8 @@ use Rattle.std.proofs.Common.{◌++◌, sym, ap, ◌∙◌}
 use Rattle.std.proofs.Common.{map as map_list}
 use Rattle.std.specs.FinMap as map
 use Rattle.rl_aggregate.specs.Evaluated.{sample}
-use Rattle.rl_labels.specs.TextLaws.{label_set_cmp_total, label_set_cmp-IsAntisymmetric}
-use Rattle.rl_aggregate.specs.TreeMaps.{entries-of_tree}
+use Rattle.rl_labels.specs.laws.TextLaws.{label_set_cmp_total, label_set_cmp-IsAntisymmetric}
+use Rattle.rl_plain.specs.laws.TreeMaps.{entries-of_tree}
 use Rattle.rl_aggregate.proofs.totals.Totals.samples.Goals as goal
 
 pub loop-labels-init : goal.loop-labels-init

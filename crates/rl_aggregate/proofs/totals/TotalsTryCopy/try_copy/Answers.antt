@@ -5,9 +5,9 @@ use Rattle.std.specs.FinMap as map
 use Rattle.std.specs.FinMap.Entries.{find, is_sorted}
 use Rattle.std.specs.Map.{lookup}
 use Rattle.rl_labels.specs.LabelText.{label_set_cmp}
-use Rattle.rl_labels.specs.TextLaws.{label_set_cmp_total, label_set_cmp-IsAntisymmetric}
-use Rattle.rl_aggregate.specs.Laws.{same_totals}
-use Rattle.rl_aggregate.specs.TreeMaps.{get-of_tree, sorted_entries, one_set}
+use Rattle.rl_labels.specs.laws.TextLaws.{label_set_cmp_total, label_set_cmp-IsAntisymmetric}
+use Rattle.rl_aggregate.specs.laws.Totals.{same_totals}
+use Rattle.rl_plain.specs.laws.TreeMaps.{get-of_tree, sorted_entries, one_set}
 use Rattle.rl_aggregate.proofs.Maps.{totals_in}
 use Rattle.rl_aggregate.proofs.Merging.{either, either-None, either-inserted, sorted_rest, find-entries}
 use Rattle.rl_aggregate.proofs.totals.TotalsTryCopy.try_copy.Goals as goal

@@ -1,6 +1,6 @@
 -- The kept text is that of the labels, which are those of the set.
 use Rattle.std.proofs.Common.{sym, ap, ◌∙◌}
-use Rattle.rl_labels.specs.LabelLaws.{labels_of-label_set_of}
+use Rattle.rl_labels.specs.laws.LabelLaws.{labels_of-label_set_of}
 use Rattle.rl_labels.specs.LabelText.{canonical_text, labels_text}
 use Rattle.rl_labels.proofs.labels.Labels.as_text.Goals as goal
 

@@ -1,6 +1,6 @@
 -- The kept labels are those of their set.
 use Rattle.std.proofs.Common.{sym, ap, ◌∙◌}
-use Rattle.rl_labels.specs.LabelLaws.{labels_of-label_set_of}
+use Rattle.rl_labels.specs.laws.LabelLaws.{labels_of-label_set_of}
 use Rattle.rl_labels.specs.LabelSet.{labels_of}
 use Rattle.rl_labels.proofs.labels.Labels.pairs.Goals as goal
 

@@ -11,7 +11,8 @@ use Rattle.std.proofs.lemmas.Bool.{and_parts, true≢false, eqb-true}
 use Rattle.std.proofs.lemmas.Cmp.{on_total, on_equiv}
 use Rattle.rl_labels.specs.Name.{name_cmp, is_name, is_name_byte, is_name_start}
 use Rattle.rl_labels.specs.LabelSet.{Pair, is_empty, is_label, LabelSet, labels_of, labels_are_proper, same_labels}
-use Rattle.rl_labels.specs.LabelLaws.{name_cmp-IsAntisymmetric, same_text, is_text_itself, true_from}
+use Rattle.rl_labels.specs.laws.LabelLaws.{name_cmp-IsAntisymmetric, same_text, is_text_itself}
+use Rattle.rl_plain.specs.laws.Bools.{true_from}
 use Rattle.rl_labels.specs.LabelText.{escaped, label_text, labels_text, canonical_text, label_set_cmp, label_set_eq}
 
 abbrev onto : ℕ → List ℕ × List ℕ → List ℕ × List ℕ

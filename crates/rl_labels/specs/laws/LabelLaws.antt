@@ -11,6 +11,8 @@ use Rattle.std.specs.FinMap.{IsAntisymmetric, slice_cmp-IsAntisymmetric, nat_cmp
 use Rattle.std.specs.FinMap.Entries.{find, put, where_key, is_sorted, is_sorted-put, is_sorted-where_key, find-put, find-where_key, same_entries, by_order}
 use Rattle.std.proofs.Common.{sym, ap, subst, ◌∙◌}
 use Rattle.std.proofs.lemmas.Bool.{and_parts, and_from, true≢false}
+use Rattle.rl_plain.specs.laws.Bools.{true_from}
+use Rattle.std.proofs.lemmas.Float.{T_from_true}
 use Rattle.rl_labels.specs.Name.{name_cmp, is_name, is_text}
 use Rattle.rl_labels.specs.LabelSet.{Pair, is_empty, is_label, are_labels, LabelSet, labels_of, label, same_labels, labels_are_proper, override, with_label, label_set_of, non_empty, given, labels_of-with_label_checked, labels_of-no_labels}
 
@@ -19,14 +21,6 @@ name_cmp_total = nat_list_cmp_total
 
 pub name_cmp-IsAntisymmetric : IsAntisymmetric name_cmp
 name_cmp-IsAntisymmetric = slice_cmp-IsAntisymmetric nat_cmp-IsAntisymmetric
-
--- a test that is true, both ways
-pub true_from : (b : Bool) → T b → b ≡ true
-true_from true h = refl
-true_from false h = absurd h
-
-pub from_true : (b : Bool) → b ≡ true → T b
-from_true b e = subst T (sym e) tt
 
 is_eq-true : (o : Ordering) → is_eq o ≡ true → o ≡ Equal
 is_eq-true Less e = absurd (true≢false (sym e))
@@ -71,14 +65,14 @@ pub proper-override : (name value : List ℕ) (pairs : List Pair) → is_name na
 proper-override name value pairs named h =
     let parts = and_parts (is_sorted name_cmp pairs) (list_all is_label pairs) h in
     elim (is_empty value) as (λ b. is_empty value ≡ b → are_labels (cond b (where_key name_cmp (λ other. not (is_text name other)) pairs) (put name_cmp name value pairs)) ≡ true) [
-      | true ↦ λ e. and_from _ _ (true_from _ (is_sorted-where_key name_cmp (λ other. not (is_text name other)) pairs (from_true _ parts.0))) (labels_filter (λ other. not (is_text name other)) pairs parts.1)
-      | false ↦ λ e. and_from _ _ (true_from _ (is_sorted-put name_cmp name_cmp_total name value pairs (from_true _ parts.0))) (labels_put name value pairs (and_from (is_name name) _ named (ap not e)) parts.1)
+      | true ↦ λ e. and_from _ _ (true_from _ (is_sorted-where_key name_cmp (λ other. not (is_text name other)) pairs (T_from_true _ parts.0))) (labels_filter (λ other. not (is_text name other)) pairs parts.1)
+      | false ↦ λ e. and_from _ _ (true_from _ (is_sorted-put name_cmp name_cmp_total name value pairs (T_from_true _ parts.0))) (labels_put name value pairs (and_from (is_name name) _ named (ap not e)) parts.1)
     ] refl
 
 -- the labels of an overridden set
 pub labels_of-with_label : (set : LabelSet) (name value : List ℕ) → is_name name ≡ true → labels_of (with_label set name value) ≡ override name value (labels_of set)
 labels_of-with_label set name value named =
-    labels_of-with_label_checked set name value (from_true _ (proper-override name value (labels_of set) named (true_from _ (labels_are_proper set))))
+    labels_of-with_label_checked set name value (T_from_true _ (proper-override name value (labels_of set) named (true_from _ (labels_are_proper set))))
 
 -- a look-up after an override of a list of labels
 find-override : (name value : List ℕ) (pairs : List Pair) (q : List ℕ) → find name_cmp q (override name value pairs) ≡ cond (is_text q name) (non_empty value) (find name_cmp q pairs)
@@ -102,7 +96,7 @@ label-with_label set name value q named =
 -- two sets that answer alike are one
 pub same_label_set : (s t : LabelSet) → ((q : List ℕ) → label s q ≡ label t q) → s ≡ t
 same_label_set s t alike =
-    let sorted : (u : LabelSet) → T (is_sorted name_cmp (labels_of u)) = λ u. from_true _ (and_parts (is_sorted name_cmp (labels_of u)) (list_all is_label (labels_of u)) (true_from _ (labels_are_proper u))).0 in
+    let sorted : (u : LabelSet) → T (is_sorted name_cmp (labels_of u)) = λ u. T_from_true _ (and_parts (is_sorted name_cmp (labels_of u)) (list_all is_label (labels_of u)) (true_from _ (labels_are_proper u))).0 in
     same_labels s t (same_entries name_cmp name_cmp_total name_cmp-IsAntisymmetric (labels_of s) (labels_of t) (sorted s) (sorted t) alike)
 
 -- each pair has a name
@@ -150,7 +144,7 @@ pub labels_of-label_set_of : (pairs : List Pair) → are_labels pairs ≡ true �
 labels_of-label_set_of pairs h =
     let parts = and_parts (is_sorted name_cmp pairs) (list_all is_label pairs) h in
     let set = label_set_of pairs in
-    same_entries name_cmp name_cmp_total name_cmp-IsAntisymmetric (labels_of set) pairs (from_true _ (and_parts (is_sorted name_cmp (labels_of set)) (list_all is_label (labels_of set)) (true_from _ (labels_are_proper set))).0) (from_true _ parts.0)
+    same_entries name_cmp name_cmp_total name_cmp-IsAntisymmetric (labels_of set) pairs (T_from_true _ (and_parts (is_sorted name_cmp (labels_of set)) (list_all is_label (labels_of set)) (true_from _ (labels_are_proper set))).0) (T_from_true _ parts.0)
     (λ q. label-label_set_of pairs q (are_named-labels pairs parts.1) ∙ given-labels pairs q parts.1)
 
 -- a test of names passes on a set's labels if it passes on the pairs that make it

@@ -14,7 +14,8 @@ use Rattle.std.specs.FinMap.Entries.{find, is_sorted, below_all, same_entries}
 use Rattle.std.proofs.Common.{sym, ap, ◌∙◌}
 use Rattle.std.proofs.lemmas.Bool.{and_from}
 use Rattle.std.proofs.lemmas.Map.Keys.{sorted_head, sorted_tail}
-use Rattle.rl_labels.specs.LabelLaws.{true_from, from_true}
+use Rattle.rl_plain.specs.laws.Bools.{true_from}
+use Rattle.std.proofs.lemmas.Float.{T_from_true}
 
 module _ {K X : Type 0} (R : K → K → Ordering) where
   find_lookup : (es : List (K × X)) (q : K) → find R q es ≡ lookup (is_at (R q)) es
@@ -23,13 +24,13 @@ module _ {K X : Type 0} (R : K → K → Ordering) where
 
   below_from_sorted : (k : K) (es : List (K × X)) → AllByRecursion (λ y. R k y ≡ Less) (keys_of es) → T (below_all R k es)
   below_from_sorted k [] h = tt
-  below_from_sorted k (e ∷ es) h = from_true _ (and_from _ _ (ap is_lt h.0) (true_from _ (below_from_sorted k es h.1)))
+  below_from_sorted k (e ∷ es) h = T_from_true _ (and_from _ _ (ap is_lt h.0) (true_from _ (below_from_sorted k es h.1)))
 
   -- entries whose keys rise are in order
   pub sorted_entries : (es : List (K × X)) → IsStrictlySortedBy R (keys_of es) → T (is_sorted R es)
   sorted_entries [] h = tt
   sorted_entries (e ∷ es) h =
-      from_true _ (and_from _ _ (true_from _ (below_from_sorted e.0 es (sorted_head R e.0 (keys_of es) h))) (true_from _ (sorted_entries es (sorted_tail R e.0 (keys_of es) h))))
+      T_from_true _ (and_from _ _ (true_from _ (below_from_sorted e.0 es (sorted_head R e.0 (keys_of es) h))) (true_from _ (sorted_entries es (sorted_tail R e.0 (keys_of es) h))))
 
 module _ {K X : Type 0} {R : K → K → Ordering} (o : IsTotalOrder R) where
   -- what the tree finds at a key is what the map has there
