@@ -1,40 +1,18 @@
--- What `parse` and `print_term` answer of printed texts.
-use Rattle.std.proofs.Common.{◌≡◌, ℕ, List, Result, Ok, Err, refl, sym, ap, ◌∙◌, MatchResult, IfOk}
+-- What `parse` and `print_term` answer of derived and of printed texts.
+use Rattle.std.proofs.Common.{◌≡◌, List, ℕ, Result, Ok, Err, sym, ap, ◌∙◌, MatchResult, IfOk, refl}
 use Rattle.rl_query.specs.declared.fault.QueryFault.{QueryFault}
 use Rattle.rl_plain.specs.declared.refusal.OrMemory.{OrMemory}
 use Rattle.rl_plain.specs.declared.refusal.OrMemory.TheVariants as errors
+use Rattle.rl_plain.specs.Answers.{Gives}
 use Rattle.rl_query.specs.declared.query.Query.{Query}
 use Rattle.rl_query.specs.declared.query.Term.{Term}
 use Rattle.rl_query.specs.Form.{QueryForm, term_form, query_form}
 use Rattle.rl_query.specs.Grammar.{Derives}
 use Rattle.rl_query.specs.Parsing.{query_of}
 use Rattle.rl_query.specs.Printing.{term_text, query_text}
-use Rattle.rl_plain.specs.Answers.{Gives}
-use Rattle.rl_query.proofs.Complete.{derived_is_read}
-use Rattle.rl_query.proofs.Parts.{query_again}
-use Rattle.rl_query.proofs.Rules.{query_derived}
+use Rattle.rl_query.proofs.Printed.{query_printed}
 use Rattle.rl_query.proofs.SameQuery.{same_query, same_term, keeps_limits}
-
-pub read_again : (r : Result Query (OrMemory QueryFault)) (text : List ℕ) → Gives query_form r (query_of text) → (q : Query) → text ≡ query_text (query_form q) → MatchResult r (λ same. same ≡ q) (λ e. e ≡ errors.Memory)
-read_again (Ok p) text read q printed =
-    let both : ◌≡◌ {A = Result QueryForm QueryFault} (Ok (query_form p)) (Ok (query_form q)) = sym read ∙ ap query_of printed ∙ query_again (query_form q) (keeps_limits q) in
-    let forms : query_form p ≡ query_form q = cc in
-    same_query p q forms
-read_again (Err errors.Memory) text read q printed = refl
-read_again (Err (errors.Fault fault)) text read q printed =
-    let both : ◌≡◌ {A = Result QueryForm QueryFault} (Err fault) (Ok (query_form q)) = sym read ∙ ap query_of printed ∙ query_again (query_form q) (keeps_limits q) in
-    cc
-
--- a term as a query
-abbrev as_query : Term → Query
-as_query term = record { left = term }
-
-pub alone : (a b : Term) → term_text (term_form a) ≡ term_text (term_form b) → a ≡ b
-alone a b e =
-    let both : ◌≡◌ {A = Result QueryForm QueryFault} (Ok (query_form (as_query a))) (Ok (query_form (as_query b))) =
-    sym (query_again (query_form (as_query a)) (keeps_limits (as_query a))) ∙ ap query_of e ∙ query_again (query_form (as_query b)) (keeps_limits (as_query b)) in
-    let forms : query_form (as_query a) ≡ query_form (as_query b) = cc in
-    same_term a b (ap (λ f. f.left) forms)
+use Rattle.rl_query.proofs.Productions.{query_derived, derived_is_read}
 
 -- a query that was read is derived
 pub derived : (r : Result Query (OrMemory QueryFault)) (text : List ℕ) → Gives query_form r (query_of text) → IfOk r (λ q. Derives text (query_form q))
@@ -50,3 +28,27 @@ all_read (Err errors.Memory) text read q derived = refl
 all_read (Err (errors.Fault fault)) text read q derived =
     let both : ◌≡◌ {A = Result QueryForm QueryFault} (Err fault) (Ok q) = sym read ∙ derived_is_read text q derived in
     cc
+
+-- the text of a query is read as it
+printed_is_read : (q : Query) → query_of (query_text (query_form q)) ≡ Ok (query_form q)
+printed_is_read q = derived_is_read (query_text (query_form q)) (query_form q) (query_printed (query_form q) (keeps_limits q))
+
+pub read_again : (r : Result Query (OrMemory QueryFault)) (text : List ℕ) → Gives query_form r (query_of text) → (q : Query) → text ≡ query_text (query_form q) → MatchResult r (λ same. same ≡ q) (λ e. e ≡ errors.Memory)
+read_again (Ok p) text read q printed =
+    let both : ◌≡◌ {A = Result QueryForm QueryFault} (Ok (query_form p)) (Ok (query_form q)) = sym read ∙ ap query_of printed ∙ printed_is_read q in
+    let forms : query_form p ≡ query_form q = cc in
+    same_query p q forms
+read_again (Err errors.Memory) text read q printed = refl
+read_again (Err (errors.Fault fault)) text read q printed =
+    let both : ◌≡◌ {A = Result QueryForm QueryFault} (Err fault) (Ok (query_form q)) = sym read ∙ ap query_of printed ∙ printed_is_read q in
+    cc
+
+-- a term as a query
+abbrev as_query : Term → Query
+as_query term = record { left = term }
+
+pub alone : (a b : Term) → term_text (term_form a) ≡ term_text (term_form b) → a ≡ b
+alone a b e =
+    let both : ◌≡◌ {A = Result QueryForm QueryFault} (Ok (query_form (as_query a))) (Ok (query_form (as_query b))) = sym (printed_is_read (as_query a)) ∙ ap query_of e ∙ printed_is_read (as_query b) in
+    let forms : query_form (as_query a) ≡ query_form (as_query b) = cc in
+    same_term a b (ap (λ f. f.left) forms)

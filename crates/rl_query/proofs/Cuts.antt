@@ -4,6 +4,7 @@ use Rattle.std.specs.List.{prefix_len}
 use Rattle.std.specs.Str.{IsUtf8, IsCharBoundary}
 use Rattle.std.proofs.lemmas.Bool.Decides.{nat_tests}
 use Rattle.std.proofs.lemmas.Bool.{eqb-true, cases_lt}
+use Rattle.std.proofs.lemmas.List.Sums.{prefix_len-le-length, prefix_len_passes}
 use Rattle.std.proofs.lemmas.Str.{IsCharBoundary-from_take, IsCharBoundary-after_ascii, IsCharBoundary-end}
 use Rattle.rl_labels.specs.Name.{is_name_byte}
 use Rattle.rl_query.specs.Lexing.{is_space, gap_len, is_number_byte}
@@ -16,26 +17,9 @@ behind_ascii bytes (suc m) utf8 fits ascii =
     let next : m + 1 ≡ suc m = omega arith in
     subst (IsCharBoundary bytes) next (IsCharBoundary-after_ascii bytes m utf8 (omega arith) (subst (λ k. get_or bytes k 0 < 128) same (ascii (omega arith))))
 
-run_ascii : (p : ℕ → Bool) (bytes : List ℕ) → ((b : ℕ) → p b ≡ true → b < 128) → (k : ℕ) → k < prefix_len p bytes → get_or bytes k 0 < 128
-run_ascii p [] small k below = absurd (omega arith)
-run_ascii p (b ∷ bytes) small zero below =
-    elim (p b) as (λ t. p b ≡ t → 0 < cond t (1 + prefix_len p bytes) 0 → b < 128) [
-      | true ↦ λ passes _. small b passes
-      | false ↦ λ _ below. absurd (omega arith)
-    ] refl below
-run_ascii p (b ∷ bytes) small (suc k) below =
-    elim (p b) as (λ t. suc k < cond t (1 + prefix_len p bytes) 0 → get_or bytes k 0 < 128) [
-      | true ↦ λ below. run_ascii p bytes small k (omega arith)
-      | false ↦ λ below. absurd (omega arith)
-    ] below
-
-run_fits : (p : ℕ → Bool) (bytes : List ℕ) → prefix_len p bytes ≤ length bytes
-run_fits p [] = omega arith
-run_fits p (b ∷ bytes) = elim (p b) as (λ t. cond t (1 + prefix_len p bytes) 0 ≤ length (b ∷ bytes)) [ true ↦ omega (arith, run_fits p bytes) | false ↦ omega arith ]
-
 -- behind a run of ASCII bytes
 pub run_boundary : (p : ℕ → Bool) (bytes : List ℕ) → ((b : ℕ) → p b ≡ true → b < 128) → IsUtf8 bytes → IsCharBoundary bytes (prefix_len p bytes)
-run_boundary p bytes small utf8 = behind_ascii bytes (prefix_len p bytes) utf8 (run_fits p bytes) (λ some. run_ascii p bytes small (prefix_len p bytes - 1) (omega arith))
+run_boundary p bytes small utf8 = behind_ascii bytes (prefix_len p bytes) utf8 (prefix_len-le-length p bytes) (λ some. small _ (prefix_len_passes p bytes (prefix_len p bytes - 1) 0 (omega arith)))
 
 pub name_byte_small : (b : ℕ) → is_name_byte b ≡ true → b < 128
 name_byte_small b h = grind (arith, nat_tests)

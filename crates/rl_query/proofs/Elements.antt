@@ -1,5 +1,6 @@
 -- Reading matchers one after the other, as a loop does.
 use Rattle.std.proofs.Common.{◌≡◌, ℕ, suc, ◌-◌, ◌+◌, ◌≤◌, ◌<◌, true, false, not, ◌||◌, map, List, [], ◌∷◌, ◌++◌, Result, Ok, Err, refl, sym, ap, ◌∙◌, append_assoc, arith}
+use Rattle.rl_query.specs.declared.token.Lexeme.{Lexeme}
 use Rattle.rl_query.specs.declared.fault.QueryFault.{QueryFault}
 use Rattle.rl_query.specs.declared.fault.QueryFault.TheVariants as faults
 use Rattle.rl_plain.specs.declared.refusal.OrMemory.{OrMemory}
@@ -12,43 +13,43 @@ use Rattle.rl_plain.specs.Answers.{◌>>=◌, Fails}
 use Rattle.rl_query.specs.Parsing.{element_at, matchers_at}
 
 -- what was read before, and what is still read
-abbrev pub with_front : List MatcherForm → Result (List MatcherForm × List ℕ) QueryFault → Result (List MatcherForm × List ℕ) QueryFault
+abbrev pub with_front : List MatcherForm → Result (List MatcherForm × List Lexeme) QueryFault → Result (List MatcherForm × List Lexeme) QueryFault
 with_front front read = read >>= λ x. Ok (front ++ x.0, x.1)
 
-regroup : (front : List MatcherForm) (m : MatcherForm) (read : Result (List MatcherForm × List ℕ) QueryFault) → with_front front (read >>= λ x. Ok (m ∷ x.0, x.1)) ≡ with_front (front ++ m ∷ []) read
+regroup : (front : List MatcherForm) (m : MatcherForm) (read : Result (List MatcherForm × List Lexeme) QueryFault) → with_front front (read >>= λ x. Ok (m ∷ x.0, x.1)) ≡ with_front (front ++ m ∷ []) read
 regroup front m (Ok x) = ap (λ (ms : List MatcherForm). Ok (ms, x.1)) (simp append_assoc)
 regroup front m (Err f) = refl
 
-pub one_more : (front : List MatcherForm) (count i total : ℕ) (bytes : List ℕ) (m : MatcherForm) (after : List ℕ) (whole : Result (List MatcherForm × List ℕ) QueryFault) → i < count → element_at total bytes ≡ Ok (m, true, after)
-    → with_front front (matchers_at (count - i) total bytes) ≡ whole → with_front (front ++ m ∷ []) (matchers_at (count - (i + 1)) total after) ≡ whole
+pub one_more : (front : List MatcherForm) (count i : ℕ) (lexemes : List Lexeme) (m : MatcherForm) (after : List Lexeme) (whole : Result (List MatcherForm × List Lexeme) QueryFault) → i < count → element_at lexemes ≡ Ok (m, true, after)
+    → with_front front (matchers_at (count - i) lexemes) ≡ whole → with_front (front ++ m ∷ []) (matchers_at (count - (i + 1)) after) ≡ whole
 unfolding matchers_at
-one_more front count i total bytes m after whole lt h so_far =
+one_more front count i lexemes m after whole lt h so_far =
     let k : count - i ≡ suc (count - (i + 1)) = omega arith in
-    let one : with_front front (matchers_at (count - i) total bytes) ≡ with_front (front ++ m ∷ []) (matchers_at (count - (i + 1)) total after) = rw (k, h) (regroup front m (matchers_at (count - (i + 1)) total after)) in
+    let one : with_front front (matchers_at (count - i) lexemes) ≡ with_front (front ++ m ∷ []) (matchers_at (count - (i + 1)) after) = rw (k, h) (regroup front m (matchers_at (count - (i + 1)) after)) in
     sym one ∙ so_far
 
-pub last_one : (front : List MatcherForm) (count i total : ℕ) (bytes : List ℕ) (m : MatcherForm) (after : List ℕ) (whole : Result (List MatcherForm × List ℕ) QueryFault) → i < count → element_at total bytes ≡ Ok (m, false, after)
-    → with_front front (matchers_at (count - i) total bytes) ≡ whole → whole ≡ Ok (front ++ m ∷ [], after)
+pub last_one : (front : List MatcherForm) (count i : ℕ) (lexemes : List Lexeme) (m : MatcherForm) (after : List Lexeme) (whole : Result (List MatcherForm × List Lexeme) QueryFault) → i < count → element_at lexemes ≡ Ok (m, false, after)
+    → with_front front (matchers_at (count - i) lexemes) ≡ whole → whole ≡ Ok (front ++ m ∷ [], after)
 unfolding matchers_at
-last_one front count i total bytes m after whole lt h so_far =
+last_one front count i lexemes m after whole lt h so_far =
     let k : count - i ≡ suc (count - (i + 1)) = omega arith in
-    let one : with_front front (matchers_at (count - i) total bytes) ≡ Ok (front ++ m ∷ [], after) = rw (k, h) refl in
+    let one : with_front front (matchers_at (count - i) lexemes) ≡ Ok (front ++ m ∷ [], after) = rw (k, h) refl in
     sym so_far ∙ one
 
-pub ends : (e : OrMemory QueryFault) (front : List MatcherForm) (count i total : ℕ) (bytes : List ℕ) (whole : Result (List MatcherForm × List ℕ) QueryFault) → i < count → Fails e (element_at total bytes)
-    → with_front front (matchers_at (count - i) total bytes) ≡ whole → Fails e whole
+pub ends : (e : OrMemory QueryFault) (front : List MatcherForm) (count i : ℕ) (lexemes : List Lexeme) (whole : Result (List MatcherForm × List Lexeme) QueryFault) → i < count → Fails e (element_at lexemes)
+    → with_front front (matchers_at (count - i) lexemes) ≡ whole → Fails e whole
 unfolding matchers_at
-ends errors.Memory front count i total bytes whole lt h so_far = tt
-ends (errors.Fault f) front count i total bytes whole lt h so_far =
+ends errors.Memory front count i lexemes whole lt h so_far = tt
+ends (errors.Fault f) front count i lexemes whole lt h so_far =
     let k : count - i ≡ suc (count - (i + 1)) = omega arith in
-    let one : with_front front (matchers_at (count - i) total bytes) ≡ Err f = rw (k, h) refl in
+    let one : with_front front (matchers_at (count - i) lexemes) ≡ Err f = rw (k, h) refl in
     sym so_far ∙ one
 
-pub none_ends : (front : List MatcherForm) (count i total : ℕ) (bytes : List ℕ) (whole : Result (List MatcherForm × List ℕ) QueryFault) → count ≤ i → with_front front (matchers_at (count - i) total bytes) ≡ whole → whole ≡ Err (faults.Syntax total)
+pub none_ends : (front : List MatcherForm) (count i : ℕ) (lexemes : List Lexeme) (whole : Result (List MatcherForm × List Lexeme) QueryFault) → count ≤ i → with_front front (matchers_at (count - i) lexemes) ≡ whole → whole ≡ Err (faults.Syntax 0)
 unfolding matchers_at
-none_ends front count i total bytes whole le so_far =
+none_ends front count i lexemes whole le so_far =
     let k : count - i ≡ 0 = omega arith in
-    let one : with_front front (matchers_at (count - i) total bytes) ≡ Err (faults.Syntax total) = rw k refl in
+    let one : with_front front (matchers_at (count - i) lexemes) ≡ Err (faults.Syntax 0) = rw k refl in
     sym so_far ∙ one
 
 -- matchers and their forms refuse the empty text alike

@@ -4,8 +4,8 @@ use Rattle.std.specs.List.{list_any}
 use Rattle.std.proofs.lemmas.Bool.{or_parts, ne_eqb}
 use Rattle.std.proofs.lemmas.Str.{inside_one, encodes-append}
 use Rattle.std.proofs.Math.Utf8.{encode, encodes}
-use Rattle.rl_query.specs.Printing.{escape, escaped}
-use Rattle.rl_query.specs.Escapes.{is_escaped}
+use Rattle.rl_query.specs.Tables.{escape, escaped}
+use Rattle.rl_query.specs.Tables.{is_escaped}
 
 abbrev spelled : Bool → Bool → Bool → Bool → Bool → ℕ → List ℕ
 spelled a b c d e byte = cond a (92 ∷ 92 ∷ []) (cond b (92 ∷ 34 ∷ []) (cond c (92 ∷ 110 ∷ []) (cond d (92 ∷ 114 ∷ []) (cond e (92 ∷ 116 ∷ []) (byte ∷ [])))))

@@ -1,13 +1,11 @@
-pub mod Again
 pub mod Answered
 pub mod Cuts
-pub mod Derived
+pub mod Durations
 pub mod Elements
 pub mod Escaping
-pub mod Parts
-mod Lexed
-mod Complete
-pub mod Rules
+mod Examples
+pub mod Lexemes
+pub mod Printed
+pub mod Productions
 pub mod SameQuery
 pub mod Texts
-mod Examples

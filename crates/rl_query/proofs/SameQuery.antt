@@ -12,7 +12,7 @@ use Rattle.rl_query.specs.declared.query.Selector.{Selector}
 use Rattle.rl_query.specs.Form.{MatcherForm, matcher_form, range_form, term_form, query_form}
 use Rattle.rl_query.specs.Limits.{has_real_matcher, longest_range}
 use Rattle.rl_query.proofs.Elements.{real_forms}
-use Rattle.rl_query.proofs.Parts.{Keeps, are_named}
+use Rattle.rl_query.proofs.Printed.{Keeps, are_named}
 
 same_matcher : (a b : Matcher) → matcher_form a ≡ matcher_form b → a ≡ b
 same_matcher a b e =
@@ -61,6 +61,5 @@ pub keeps_limits : (q : Query) → Keeps (query_form q)
 keeps_limits q = record {
   named = all_named q.left.range.selector.matchers;
   real = real_forms q.left.range.selector.matchers ∙ q.left.range.selector.real;
-  low = q.left.range.in_range.0;
-  high = q.left.range.in_range.1;
+  in_range = q.left.range.in_range;
 }

@@ -7,8 +7,11 @@ use Rattle.std.proofs.lemmas.Bool.Decides.{nat_tests}
 use Rattle.std.proofs.lemmas.Bool.{eqb-true, true≢false, cases_lt, le-ltb}
 use Rattle.std.proofs.lemmas.Str.{IsUtf8-drop}
 use Rattle.std.proofs.Math.Utf8.{encode}
-use Rattle.rl_query.specs.Lexing.{is_plain, is_raw, hex_digit, hex_number, character, unicode_at, escape_at, escape_front, onto, quoted, backquoted}
-use Rattle.rl_query.proofs.Cuts.{behind_ascii}
+use Rattle.rl_query.specs.Lexing.{is_plain, is_raw, is_number_byte, is_in_run, hex_digit, hex_number, character, unicode_at, escape_at, escape_front, onto, quoted, backquoted}
+use Rattle.rl_query.proofs.Cuts.{behind_ascii, run_boundary, name_byte_small, number_byte_small}
+use Rattle.rl_query.specs.declared.lexer.Run.{Run}
+use Rattle.rl_query.specs.declared.lexer.Run.TheVariants as runs
+use Rattle.rl_labels.specs.Name.{is_name_byte}
 
 -- what stands at the place where a run ends
 abbrev at_stop : (ℕ → Bool) → List ℕ → Type 0
@@ -43,6 +46,13 @@ plain_stop b h = grind (arith, nat_tests)
 
 pub raw_stop : (b : ℕ) → is_raw b ≡ false → b < 128
 raw_stop b h = grind (arith, nat_tests)
+
+-- a text may be cut behind a run
+pub run_ends : (run : Run) (bytes : List ℕ) → IsUtf8 bytes → IsCharBoundary bytes (prefix_len (is_in_run run) bytes)
+run_ends runs.Word bytes utf8 = run_boundary is_name_byte bytes name_byte_small utf8
+run_ends runs.Number bytes utf8 = run_boundary is_number_byte bytes number_byte_small utf8
+run_ends runs.Plain bytes utf8 = stop_boundary is_plain bytes plain_stop
+run_ends runs.Raw bytes utf8 = stop_boundary is_raw bytes raw_stop
 
 raw_is : (b : ℕ) → is_raw b ≡ false → (b == 96) ≡ true
 raw_is b h = elim (b == 96) as (λ t. not t ≡ false → t ≡ true) [ true ↦ λ _. refl | false ↦ λ e. absurd (true≢false e) ] h
@@ -244,39 +254,39 @@ pub record Turn (whole : Option (List ℕ × List ℕ)) (so_far rest pushed fron
   pub behind_is : behind ≡ drop (prefix_len is_plain rest) rest
   pub pushed_is : pushed ≡ so_far ++ front
 
-pub turn_none : (whole : Option (List ℕ × List ℕ)) (so_far rest pushed front behind : List ℕ) → Turn whole so_far rest pushed front behind → (length behind == 0) ≡ true → None ≡ whole
-turn_none whole so_far rest pushed front behind turn ends =
+pub turn_none : {whole : Option (List ℕ × List ℕ)} {so_far rest pushed front behind : List ℕ} → Turn whole so_far rest pushed front behind → (length behind == 0) ≡ true → None ≡ whole
+turn_none {so_far = so_far} {rest = rest} {pushed = pushed} {behind = behind} turn ends =
     sym (ap (onto so_far) (quoted_none rest (sym turn.behind_is ∙ none_left behind ends))) ∙ turn.read
 
-full_behind : (whole : Option (List ℕ × List ℕ)) (so_far rest pushed front behind : List ℕ) → Turn whole so_far rest pushed front behind → (length behind == 0) ≡ false → (length (drop (prefix_len is_plain rest) rest) == 0) ≡ false
-full_behind whole so_far rest pushed front behind turn more = ap (λ t. length t == 0) (sym turn.behind_is) ∙ more
+full_behind : {whole : Option (List ℕ × List ℕ)} {so_far rest pushed front behind : List ℕ} → Turn whole so_far rest pushed front behind → (length behind == 0) ≡ false → (length (drop (prefix_len is_plain rest) rest) == 0) ≡ false
+full_behind {so_far = so_far} {rest = rest} {pushed = pushed} {behind = behind} turn more = ap (λ t. length t == 0) (sym turn.behind_is) ∙ more
 
-pub turn_ascii : (whole : Option (List ℕ × List ℕ)) (so_far rest pushed front behind : List ℕ) → Turn whole so_far rest pushed front behind → (length behind == 0) ≡ false → get_or behind 0 0 < 128
-turn_ascii whole so_far rest pushed front behind turn more = plain_stop _ (stops is_plain rest _ _ (sym turn.behind_is ∙ first_of behind more))
+pub turn_ascii : {whole : Option (List ℕ × List ℕ)} {so_far rest pushed front behind : List ℕ} → Turn whole so_far rest pushed front behind → (length behind == 0) ≡ false → get_or behind 0 0 < 128
+turn_ascii {so_far = so_far} {rest = rest} {pushed = pushed} {behind = behind} turn more = plain_stop _ (stops is_plain rest _ _ (sym turn.behind_is ∙ first_of behind more))
 
-pub turn_end : (whole : Option (List ℕ × List ℕ)) (so_far rest pushed front behind : List ℕ) → Turn whole so_far rest pushed front behind → (length behind == 0) ≡ false → get_or behind 0 0 ≡ 34 → (after : List ℕ) → after ≡ drop 1 behind → ◌≡◌ {A = Option (List ℕ × List ℕ)} (Some (pushed, after)) whole
-turn_end whole so_far rest pushed front behind turn more quote after after_is =
+pub turn_end : {whole : Option (List ℕ × List ℕ)} {so_far rest pushed front behind : List ℕ} → Turn whole so_far rest pushed front behind → (length behind == 0) ≡ false → get_or behind 0 0 ≡ 34 → (after : List ℕ) → after ≡ drop 1 behind → ◌≡◌ {A = Option (List ℕ × List ℕ)} (Some (pushed, after)) whole
+turn_end {so_far = so_far} {rest = rest} {pushed = pushed} {behind = behind} turn more quote after after_is =
     (λ i. Some ((turn.pushed_is ∙ ap (λ t. so_far ++ t) turn.front_is) i, (after_is ∙ ap (drop 1) turn.behind_is) i))
-    ∙ sym (ap (onto so_far) (quoted_end rest (full_behind whole so_far rest pushed front behind turn more) (ap (λ t. get_or t 0 0) (sym turn.behind_is) ∙ quote)))
+    ∙ sym (ap (onto so_far) (quoted_end rest (full_behind turn more) (ap (λ t. get_or t 0 0) (sym turn.behind_is) ∙ quote)))
     ∙ turn.read
 
-escaped_turn : (whole : Option (List ℕ × List ℕ)) (so_far rest pushed front behind : List ℕ) → Turn whole so_far rest pushed front behind → (length behind == 0) ≡ false → (get_or behind 0 0 ≡ 34 → ⊥) → (after : List ℕ) → after ≡ drop 1 behind → onto pushed (option_and_then (λ (c : ℕ × List ℕ). onto (encode c.0) (quoted 0 c.1)) (escape_front after)) ≡ whole
-escaped_turn whole so_far rest pushed front behind turn more other after after_is =
+escaped_turn : {whole : Option (List ℕ × List ℕ)} {so_far rest pushed front behind : List ℕ} → Turn whole so_far rest pushed front behind → (length behind == 0) ≡ false → (get_or behind 0 0 ≡ 34 → ⊥) → (after : List ℕ) → after ≡ drop 1 behind → onto pushed (option_and_then (λ (c : ℕ × List ℕ). onto (encode c.0) (quoted 0 c.1)) (escape_front after)) ≡ whole
+escaped_turn {so_far = so_far} {rest = rest} {pushed = pushed} {behind = behind} turn more other after after_is =
     let reads = option_and_then (λ (c : ℕ × List ℕ). onto (encode c.0) (quoted 0 c.1)) in
     ap (λ t. onto pushed (reads (escape_front t))) (after_is ∙ ap (drop 1) turn.behind_is)
     ∙ ap (λ t. onto t (reads (escape_front (drop 1 (drop (prefix_len is_plain rest) rest))))) (turn.pushed_is ∙ ap (λ t. so_far ++ t) turn.front_is)
     ∙ sym (onto-onto so_far (take (prefix_len is_plain rest) rest) _)
-    ∙ sym (ap (onto so_far) (quoted_escape rest (full_behind whole so_far rest pushed front behind turn more) (λ e. other (ap (λ t. get_or t 0 0) turn.behind_is ∙ e))))
+    ∙ sym (ap (onto so_far) (quoted_escape rest (full_behind turn more) (λ e. other (ap (λ t. get_or t 0 0) turn.behind_is ∙ e))))
     ∙ turn.read
 
-pub turn_broken : (whole : Option (List ℕ × List ℕ)) (so_far rest pushed front behind : List ℕ) → Turn whole so_far rest pushed front behind → (length behind == 0) ≡ false → (get_or behind 0 0 ≡ 34 → ⊥) → (after : List ℕ) → after ≡ drop 1 behind → None ≡ escape_front after → None ≡ whole
-turn_broken whole so_far rest pushed front behind turn more other after after_is none =
+pub turn_broken : {whole : Option (List ℕ × List ℕ)} {so_far rest pushed front behind : List ℕ} → Turn whole so_far rest pushed front behind → (length behind == 0) ≡ false → (get_or behind 0 0 ≡ 34 → ⊥) → (after : List ℕ) → after ≡ drop 1 behind → None ≡ escape_front after → None ≡ whole
+turn_broken {so_far = so_far} {rest = rest} {pushed = pushed} {behind = behind} turn more other after after_is none =
     ap (λ e. onto pushed (option_and_then (λ (c : ℕ × List ℕ). onto (encode c.0) (quoted 0 c.1)) e)) none
-    ∙ escaped_turn whole so_far rest pushed front behind turn more other after after_is
+    ∙ escaped_turn turn more other after after_is
 
-pub turn_more : (whole : Option (List ℕ × List ℕ)) (so_far rest pushed front behind : List ℕ) → Turn whole so_far rest pushed front behind → (length behind == 0) ≡ false → (get_or behind 0 0 ≡ 34 → ⊥) → (after : List ℕ) → after ≡ drop 1 behind → (c : ℕ) (left : List ℕ) → ◌≡◌ {A = Option (ℕ × List ℕ)} (Some (c, left)) (escape_front after) → (next : List ℕ) → next ≡ pushed ++ encode c → onto next (quoted 0 left) ≡ whole
-turn_more whole so_far rest pushed front behind turn more other after after_is c left some next next_is =
+pub turn_more : {whole : Option (List ℕ × List ℕ)} {so_far rest pushed front behind : List ℕ} → Turn whole so_far rest pushed front behind → (length behind == 0) ≡ false → (get_or behind 0 0 ≡ 34 → ⊥) → (after : List ℕ) → after ≡ drop 1 behind → (c : ℕ) (left : List ℕ) → ◌≡◌ {A = Option (ℕ × List ℕ)} (Some (c, left)) (escape_front after) → (next : List ℕ) → next ≡ pushed ++ encode c → onto next (quoted 0 left) ≡ whole
+turn_more {so_far = so_far} {rest = rest} {pushed = pushed} {behind = behind} turn more other after after_is c left some next next_is =
     ap (λ t. onto t (quoted 0 left)) next_is
     ∙ sym (onto-onto pushed (encode c) (quoted 0 left))
     ∙ ap (λ e. onto pushed (option_and_then (λ (c : ℕ × List ℕ). onto (encode c.0) (quoted 0 c.1)) e)) some
-    ∙ escaped_turn whole so_far rest pushed front behind turn more other after after_is
+    ∙ escaped_turn turn more other after after_is

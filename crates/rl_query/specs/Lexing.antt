@@ -1,19 +1,16 @@
--- The first token of a text, and what follows it.
-use Rattle.std.specs.Prelude.{◌≡◌, ℕ, zero, suc, ◌+◌, ◌-◌, ◌*◌, ◌==◌, nat_le, nat_lt, Bool, true, false, not, ◌&&◌, ◌||◌, List, [], ◌∷◌, ◌++◌, length, take, drop, slice_index, Option, Some, None, Result, Ok, Err, if◌then◌else◌, encode_utf8}
+-- The tokens of a text.
+use Rattle.std.specs.Prelude.{ℕ, zero, suc, ◌+◌, ◌-◌, ◌*◌, ◌==◌, nat_le, nat_lt, Bool, true, false, not, ◌&&◌, ◌||◌, List, [], ◌∷◌, ◌++◌, length, take, drop, slice_index, Option, Some, None, if◌then◌else◌, encode_utf8}
 use Rattle.std.specs.Option.{option_and_then, option_map}
 use Rattle.std.specs.List.{prefix_len}
 use Rattle.std.specs.Char.{is_ascii_digit}
 use Rattle.rl_labels.specs.Name.{is_name_start, is_name_byte}
-use Rattle.rl_query.specs.declared.fault.QueryFault.{QueryFault}
-use Rattle.rl_query.specs.declared.fault.QueryFault.TheVariants.{Syntax}
-use Rattle.rl_plain.specs.declared.refusal.OrMemory.{OrMemory}
-use Rattle.rl_plain.specs.declared.refusal.OrMemory.TheVariants as errors
 use Rattle.rl_query.specs.declared.token.Sign.{Sign}
-use Rattle.rl_query.specs.declared.token.Sign.TheVariants as signs
+use Rattle.rl_query.specs.declared.lexer.Run.{Run}
+use Rattle.rl_query.specs.declared.lexer.Run.TheVariants as runs
 use Rattle.rl_query.specs.declared.token.Token.{Token}
 use Rattle.rl_query.specs.declared.token.Token.TheVariants as tokens
 use Rattle.rl_query.specs.declared.token.Lexeme.{Lexeme}
-use Rattle.rl_plain.specs.Answers.{◌>>=◌}
+use Rattle.rl_query.specs.Tables.{one_byte, two_bytes}
 
 -- a space, a tab, a carriage return or a line feed
 abbrev pub is_space : ℕ → Bool
@@ -88,25 +85,7 @@ abbrev pub backquoted : List ℕ → Option (List ℕ × List ℕ)
 backquoted [] = None
 backquoted (byte ∷ bytes) = if byte == 96 then Some ([], bytes) else onto (byte ∷ []) (backquoted bytes)
 
--- a sign of two bytes
-abbrev pub two_bytes : ℕ → ℕ → Option Sign
-two_bytes first second =
-    if second == 61 then (if first == 61 then Some signs.EqualTo else (if first == 33 then Some signs.NotEqual else (if first == 62 then Some signs.GreaterOrEqual
-    else (if first == 60 then Some signs.LessOrEqual else (if first == 124 then Some signs.Contains else None)))))
-    else (if second == 126 then (if first == 61 then Some signs.Matches else (if first == 33 then Some signs.NotMatches else (if first == 124 then Some signs.ContainsMatch else None)))
-    else (if second == 62 then (if first == 124 then Some signs.ContainsPattern else (if first == 33 then Some signs.LacksPattern else None))
-    else None))
-
--- a sign of one byte
-abbrev pub one_byte : ℕ → Option Sign
-one_byte byte =
-    if byte == 123 then Some signs.OpenBrace else (if byte == 125 then Some signs.CloseBrace else (if byte == 40 then Some signs.OpenParenthesis
-    else (if byte == 41 then Some signs.CloseParenthesis else (if byte == 91 then Some signs.OpenBracket else (if byte == 93 then Some signs.CloseBracket
-    else (if byte == 44 then Some signs.Comma else (if byte == 58 then Some signs.Colon else (if byte == 61 then Some signs.Equal else (if byte == 62 then Some signs.Greater
-    else (if byte == 60 then Some signs.Less else (if byte == 124 then Some signs.Pipe else (if byte == 47 then Some signs.Slash else (if byte == 43 then Some signs.Plus
-    else (if byte == 45 then Some signs.Minus else (if byte == 42 then Some signs.Times else (if byte == 37 then Some signs.Percent else (if byte == 94 then Some signs.Power
-    else (if byte == 64 then Some signs.At else None))))))))))))))))))
-
+-- the first of two answers
 abbrev pub or_else : Option (Sign × List ℕ) → Option (Sign × List ℕ) → Option (Sign × List ℕ)
 or_else (Some x) other = Some x
 or_else None other = other
@@ -117,27 +96,31 @@ sign_at [] = None
 sign_at (first ∷ []) = option_map (λ sign. (sign, [])) (one_byte first)
 sign_at (first ∷ second ∷ rest) = or_else (option_map (λ sign. (sign, rest)) (two_bytes first second)) (option_map (λ sign. (sign, second ∷ rest)) (one_byte first))
 
--- a token with what follows it, and a fault at the place where there is none
-abbrev pub at_place : {A : Type 0} → ℕ → (A → Token) → Option (A × List ℕ) → Result (Token × List ℕ) QueryFault
-at_place place token None = Err (Syntax place)
-at_place place token (Some x) = Ok (token x.0, x.1)
+-- a token with what follows it; what begins none is a bad token up to the end
+abbrev pub or_bad : {A : Type 0} → (A → Token) → Option (A × List ℕ) → Token × List ℕ
+or_bad token None = (tokens.Bad, [])
+or_bad token (Some x) = (token x.0, x.1)
 
--- the token that begins the text
-unfoldable pub token_at : ℕ → List ℕ → Result (Token × List ℕ) QueryFault
-token_at place [] = Ok (tokens.End, [])
-token_at place (byte ∷ bytes) =
-    if is_name_start byte then Ok (tokens.Word (run_at is_name_byte (byte ∷ bytes)).0, (run_at is_name_byte (byte ∷ bytes)).1)
-    else (if is_ascii_digit byte then Ok (tokens.Number (run_at is_number_byte (byte ∷ bytes)).0, (run_at is_number_byte (byte ∷ bytes)).1)
-    else (if byte == 34 then at_place place tokens.Text (quoted 0 bytes)
-    else (if byte == 96 then at_place place tokens.Text (backquoted bytes)
-    else at_place place tokens.Sign (sign_at (byte ∷ bytes)))))
+-- the token that begins a text, and what follows it: the longest word or number, a text up to its quote, or the longest sign
+unfoldable pub token_at : List ℕ → Token × List ℕ
+token_at [] = (tokens.End, [])
+token_at (byte ∷ bytes) =
+    if is_name_start byte then (tokens.Word (run_at is_name_byte (byte ∷ bytes)).0, (run_at is_name_byte (byte ∷ bytes)).1)
+    else (if is_ascii_digit byte then (tokens.Number (run_at is_number_byte (byte ∷ bytes)).0, (run_at is_number_byte (byte ∷ bytes)).1)
+    else (if byte == 34 then or_bad tokens.Text (quoted 0 bytes)
+    else (if byte == 96 then or_bad tokens.Text (backquoted bytes)
+    else or_bad tokens.Sign (sign_at (byte ∷ bytes)))))
 
--- the first token behind spaces and comments, in a text that had so many bytes
-unfoldable pub lexeme_at : ℕ → List ℕ → Result (Lexeme × List ℕ) QueryFault
-lexeme_at total bytes = do
-  let rest = drop (gap_len false bytes) bytes
-  token ← token_at (total - length rest) rest
-  Ok (record { token = token.0; place = total - length rest }, token.1)
+-- at most so many tokens and the end, each behind spaces and comments, with their places in a text that had so many bytes
+unfoldable pub lexemes_in : ℕ → ℕ → List ℕ → List Lexeme
+lexemes_in zero total bytes = record { token = tokens.End; place = total } ∷ []
+lexemes_in (suc most) total bytes =
+    let start = drop (gap_len false bytes) bytes in
+    if length start == 0 then record { token = tokens.End; place = total } ∷ [] else record { token = (token_at start).0; place = total - length start } ∷ lexemes_in most total (token_at start).1
+
+-- the tokens of a text, which are at most as many as its bytes, and the end
+abbrev pub lexemes_of : List ℕ → List Lexeme
+lexemes_of text = lexemes_in (length text) (length text) text
 
 -- a byte that stands for itself between quotes, and between backquotes
 abbrev pub is_plain : ℕ → Bool
@@ -146,8 +129,9 @@ is_plain byte = not (byte == 34 || byte == 92)
 abbrev pub is_raw : ℕ → Bool
 is_raw byte = not (byte == 96)
 
--- what was found, seen by view, is what there is, unless memory ran out
-abbrev pub IsReading : {X Y : Type 0} → (X → Y) → Result X (OrMemory QueryFault) → Y → Type 0
-IsReading view (Ok found) read = view found ≡ read
-IsReading view (Err errors.Memory) read = Unit {0}
-IsReading view (Err (errors.Fault fault)) read = ⊥
+-- a byte goes on with a run
+abbrev pub is_in_run : Run → ℕ → Bool
+is_in_run runs.Word byte = is_name_byte byte
+is_in_run runs.Number byte = is_number_byte byte
+is_in_run runs.Plain byte = is_plain byte
+is_in_run runs.Raw byte = is_raw byte

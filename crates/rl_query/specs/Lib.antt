@@ -1,4 +1,5 @@
-pub mod Escapes
+pub mod Tables
+pub mod Durations
 pub mod Form
 pub mod Grammar
 pub mod Lexing

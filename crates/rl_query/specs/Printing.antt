@@ -1,21 +1,13 @@
 -- The canonical text of a query.
-use Rattle.std.specs.Prelude.{ℕ, ◌==◌, List, [], ◌∷◌, ◌++◌, if◌then◌else◌, codes}
+use Rattle.std.specs.Prelude.{ℕ, List, [], ◌∷◌, ◌++◌, codes}
 use Rattle.std.specs.List.{flat_map}
 use Rattle.std.specs.Fmt.{decimal}
 use Rattle.rl_labels.specs.declared.matcher.MatchOp.{MatchOp}
 use Rattle.rl_labels.specs.declared.matcher.MatchOp.TheVariants as operators
 use Rattle.rl_query.specs.declared.query.RangeFunction.{RangeFunction}
 use Rattle.rl_query.specs.declared.query.RangeFunction.TheVariants as functions
+use Rattle.rl_query.specs.Tables.{escaped}
 use Rattle.rl_query.specs.Form.{MatcherForm, RangeForm, TermForm, QueryForm}
-
--- a byte between quotes: a backslash, a quote, a newline, a carriage return and a tab are escaped, all else stands for itself
-abbrev pub escape : ℕ → List ℕ
-escape byte =
-    if byte == 92 then 92 ∷ 92 ∷ [] else (if byte == 34 then 92 ∷ 34 ∷ [] else (if byte == 10 then 92 ∷ 110 ∷ []
-    else (if byte == 13 then 92 ∷ 114 ∷ [] else (if byte == 9 then 92 ∷ 116 ∷ [] else byte ∷ []))))
-
-abbrev pub escaped : List ℕ → List ℕ
-escaped = flat_map escape
 
 abbrev pub operator_text : MatchOp → List ℕ
 operator_text operators.Equal = codes "="

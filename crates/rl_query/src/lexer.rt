@@ -1,30 +1,45 @@
-//! The lexer: the first token of a text and what follows it.
-ghost use Rattle.std.specs.Prelude.{◌≡◌, [], ◌∷◌, ◌+◌, ◌-◌, ◌<◌, ◌≤◌, Bool, true, false, length, take, drop, IfSome, Some, slice_index, string_bytes, encode_utf8, ◌++◌};
+//! The lexer: the tokens of a text.
+ghost use Rattle.std.specs.Prelude.{◌≡◌, [], ◌∷◌, ◌+◌, ◌-◌, ◌<◌, ◌≤◌, Bool, true, false, length, take, drop, IfSome, IfOk, Some, slice_index, string_bytes, encode_utf8, ◌++◌};
 ghost use Rattle.std.specs.Option.{option_map};
 ghost use Rattle.std.specs.List.{prefix_len};
 ghost use Rattle.rl_labels.specs.Name.{is_name_start, is_name_byte};
-ghost use Rattle.rl_query.specs.Lexing.{is_space, gap_len, is_number_byte, run_at, hex_digit, hex_number, character, unicode_at, escape_at, escape_front, quoted, backquoted, two_bytes, one_byte, sign_at, token_at, lexeme_at, at_place, is_plain, is_raw, IsReading};
-ghost use Rattle.rl_query.specs.declared.token.Token.TheVariants.{Text};
-ghost use Rattle.rl_plain.specs.Answers.{Gives};
+ghost use Rattle.rl_query.specs.Lexing.{is_space, gap_len, hex_digit, hex_number, character, unicode_at, escape_at, escape_front, quoted, backquoted, sign_at, token_at, lexemes_of, or_bad, is_in_run};
+ghost use Rattle.rl_query.specs.Tables.{two_bytes, one_byte};
+ghost use Rattle.rl_query.specs.declared.token.Token.TheVariants as tokens;
 
-use crate::fault::{QueryError, QueryFault};
 use crate::token::{Lexeme, Sign, Token};
 use rl_plain::PlainText;
-use std::alloc::Global;
+use std::alloc::{AllocError, Global};
 
-/// The first token of a text that had `total` bytes, and what follows it.
-#[tactic(auto, unfolding(crate::specs::Lexing::lexeme_at))]
-pub(crate) fn lexeme_at(
-    alloc: Global,
-    total: usize,
-    text: &str,
-) -> Result<(Lexeme, &str), QueryError>
-    ensures { Gives (λ x. (x.0, x.1.now)) result (lexeme_at total text.now) }
+/// The tokens of a text with the bytes at which they begin. The last is the end.
+pub(crate) fn lexemes_of(alloc: Global, text: &str) -> Result<Vec<Lexeme>, AllocError>
+    ensures { IfOk result (λ lexemes. lexemes.items ≡ lexemes_of text.now) }
 {
-    let rest = behind_gap(text);
-    let place = total.saturating_sub(rest.len());
-    let (token, rest) = token_at(alloc, place, rest)?;
-    Ok((Lexeme { token, place }, rest))
+    let mut lexemes = Vec::new(alloc);
+    let mut rest = text;
+    for _turn in 0..text.len() {
+        let start = behind_gap(rest);
+        if start.is_empty() {
+            return with_end(lexemes, text.len());
+        }
+        let place = text.len().saturating_sub(start.len());
+        let (token, behind) = token_at(alloc, start)?;
+        lexemes.push(Lexeme { token, place })?;
+        rest = behind;
+    }
+    with_end(lexemes, text.len())
+}
+
+// The tokens, and the end.
+fn with_end(lexemes: Vec<Lexeme>, place: usize) -> Result<Vec<Lexeme>, AllocError>
+    ensures { IfOk result (λ all. all.items ≡ lexemes.items ++ record { token = tokens.End; place = place } ∷ []) }
+{
+    let mut lexemes = lexemes;
+    lexemes.push(Lexeme {
+        token: Token::End,
+        place,
+    })?;
+    Ok(lexemes)
 }
 
 // What stands behind spaces and comments.
@@ -57,9 +72,10 @@ fn is_space(byte: u8) -> bool
     byte == b' ' || byte == b'\t' || byte == b'\r' || byte == b'\n'
 }
 
+// The token that begins the text, and what follows it.
 #[tactic(auto, unfolding(crate::specs::Lexing::token_at))]
-fn token_at(alloc: Global, place: usize, text: &str) -> Result<(Token, &str), QueryError>
-    ensures { Gives (λ x. (x.0, x.1.now)) result (token_at place text.now) }
+fn token_at(alloc: Global, text: &str) -> Result<(Token, &str), AllocError>
+    ensures { IfOk result (λ x. (x.0, x.1.now) ≡ token_at text.now) }
 {
     let bytes = text.as_bytes();
     if bytes.is_empty() {
@@ -67,39 +83,64 @@ fn token_at(alloc: Global, place: usize, text: &str) -> Result<(Token, &str), Qu
     }
     let first = bytes[0];
     if is_name_start(first) {
-        let (word, rest) = word_front(text);
+        let (word, rest) = run_front(Run::Word, text);
         return Ok((Token::Word(PlainText::from_str(alloc, word)?), rest));
     }
     if first.is_ascii_digit() {
-        let (number, rest) = number_front(text);
+        let (number, rest) = run_front(Run::Number, text);
         return Ok((Token::Number(PlainText::from_str(alloc, number)?), rest));
     }
     if first == b'"' {
         let behind = behind_first(text);
-        return text_or(place, quoted(alloc, behind)?);
+        return Ok(text_or_bad(quoted(alloc, behind)?));
     }
     if first == b'`' {
         let behind = behind_first(text);
-        return text_or(place, backquoted(alloc, behind)?);
+        return Ok(text_or_bad(backquoted(alloc, behind)?));
     }
-    match sign_front(text) {
-        Some((sign, rest)) => Ok((Token::Sign(sign), rest)),
-        None => Err(QueryError::Fault(QueryFault::Syntax(place))),
+    Ok(sign_or_bad(text))
+}
+
+/// Bytes that go on with each other.
+#[derive(Clone, Copy, Debug)]
+pub enum Run {
+    Word,
+    Number,
+    /// What stands for itself between quotes.
+    Plain,
+    /// What stands for itself between backquotes.
+    Raw,
+}
+
+fn is_in_run(run: Run, byte: u8) -> bool
+    ensures { result ≡ is_in_run run byte }
+{
+    match run {
+        Run::Word => is_name_byte(byte),
+        Run::Number => is_name_byte(byte) || byte == b'.',
+        Run::Plain => byte != b'"' && byte != b'\\',
+        Run::Raw => byte != b'`',
     }
 }
 
-// The word at the front, and what follows it.
-fn word_front(text: &str) -> (&str, &str)
-    ensures { (result.0.now, result.1.now) ≡ run_at is_name_byte text.now }
+// How many bytes of the run stand at the front.
+fn run_len(run: Run, bytes: &[u8]) -> usize
+    ensures { result ≡ prefix_len (is_in_run run) bytes.now }
 {
-    text.split_at(word_len(text.as_bytes()))
+    for (index, byte) in bytes.iter().enumerate() {
+        if !is_in_run(run, *byte) {
+            return index;
+        }
+    }
+    bytes.len()
 }
 
-// The number at the front, and what follows it.
-fn number_front(text: &str) -> (&str, &str)
-    ensures { (result.0.now, result.1.now) ≡ run_at is_number_byte text.now }
+// The longest run at the front, and what follows it.
+fn run_front(run: Run, text: &str) -> (&str, &str)
+    ensures front { result.0.now ≡ take (prefix_len (is_in_run run) text.now) text.now }
+    ensures behind { result.1.now ≡ drop (prefix_len (is_in_run run) text.now) text.now }
 {
-    text.split_at(number_len(text.as_bytes()))
+    text.split_at(run_len(run, text.as_bytes()))
 }
 
 // The longest sign at the front, and what follows it.
@@ -111,57 +152,24 @@ fn sign_front(text: &str) -> Option<(Sign, &str)>
     Some((sign, rest))
 }
 
-// A text with what follows it, or the fault at its place.
-fn text_or<'a>(
-    place: usize,
-    read: Option<(PlainText, &'a str)>,
-) -> Result<(Token, &'a str), QueryError>
-    ensures { Gives (λ x. (x.0, x.1.now)) result (at_place place Text (option_map (λ x. (x.0, x.1.now)) read.entry)) }
+// The sign with what follows it, or a bad token.
+fn sign_or_bad(text: &str) -> (Token, &str)
+    ensures { (result.0, result.1.now) ≡ or_bad tokens.Sign (sign_at text.now) }
+{
+    match sign_front(text) {
+        Some((sign, rest)) => (Token::Sign(sign), rest),
+        None => (Token::Bad, ""),
+    }
+}
+
+// A text with what follows it, or a bad token.
+fn text_or_bad(read: Option<(PlainText, &str)>) -> (Token, &str)
+    ensures { (result.0, result.1.now) ≡ or_bad tokens.Text (option_map (λ x. (x.0, x.1.now)) read.entry) }
 {
     match read {
-        Some((text, rest)) => Ok((Token::Text(text), rest)),
-        None => Err(QueryError::Fault(QueryFault::Syntax(place))),
+        Some((text, rest)) => (Token::Text(text), rest),
+        None => (Token::Bad, ""),
     }
-}
-
-// How many bytes stand before the next quote or backslash.
-fn plain_len(bytes: &[u8]) -> usize
-    ensures { result ≡ prefix_len is_plain bytes.now }
-{
-    for (index, byte) in bytes.iter().enumerate() {
-        if *byte == b'"' || *byte == b'\\' {
-            return index;
-        }
-    }
-    bytes.len()
-}
-
-// How many bytes stand before the next backquote.
-fn raw_len(bytes: &[u8]) -> usize
-    ensures { result ≡ prefix_len is_raw bytes.now }
-{
-    for (index, byte) in bytes.iter().enumerate() {
-        if *byte == b'`' {
-            return index;
-        }
-    }
-    bytes.len()
-}
-
-// The front up to the next quote or backslash, and what begins there.
-fn plain_front(text: &str) -> (&str, &str)
-    ensures front { result.0.now ≡ take (prefix_len is_plain text.now) text.now }
-    ensures behind { result.1.now ≡ drop (prefix_len is_plain text.now) text.now }
-{
-    text.split_at(plain_len(text.as_bytes()))
-}
-
-// The front up to the next backquote, and what begins there.
-fn raw_front(text: &str) -> (&str, &str)
-    ensures front { result.0.now ≡ take (prefix_len is_raw text.now) text.now }
-    ensures behind { result.1.now ≡ drop (prefix_len is_raw text.now) text.now }
-{
-    text.split_at(raw_len(text.as_bytes()))
 }
 
 // What follows the first byte, which is ASCII.
@@ -184,10 +192,10 @@ fn escape_front(text: &str) -> Option<(char, &str)>
 }
 
 // Behind a backquote: the text up to the next one, and what follows it.
-fn backquoted(alloc: Global, text: &str) -> Result<Option<(PlainText, &str)>, QueryError>
-    ensures { IsReading (λ found. option_map (λ x. (x.0, x.1.now)) found) result (backquoted text.now) }
+fn backquoted(alloc: Global, text: &str) -> Result<Option<(PlainText, &str)>, AllocError>
+    ensures { IfOk result (λ found. option_map (λ x. (x.0, x.1.now)) found ≡ backquoted text.now) }
 {
-    let (raw, behind) = raw_front(text);
+    let (raw, behind) = run_front(Run::Raw, text);
     if behind.is_empty() {
         return Ok(None);
     }
@@ -196,13 +204,13 @@ fn backquoted(alloc: Global, text: &str) -> Result<Option<(PlainText, &str)>, Qu
 }
 
 // Behind a quote: the text up to the next quote that is not escaped, and what follows it.
-fn quoted(alloc: Global, text: &str) -> Result<Option<(PlainText, &str)>, QueryError>
-    ensures { IsReading (λ found. option_map (λ x. (x.0, x.1.now)) found) result (quoted 0 text.now) }
+fn quoted(alloc: Global, text: &str) -> Result<Option<(PlainText, &str)>, AllocError>
+    ensures { IfOk result (λ found. option_map (λ x. (x.0, x.1.now)) found ≡ quoted 0 text.now) }
 {
     let mut content = String::new(alloc);
     let mut rest = text;
     loop {
-        let (plain, behind) = plain_front(rest);
+        let (plain, behind) = run_front(Run::Plain, rest);
         content.push_str(plain)?;
         if behind.is_empty() {
             return Ok(None);
@@ -246,30 +254,6 @@ fn is_name_byte(byte: u8) -> bool
     ensures { result ≡ is_name_byte byte }
 {
     is_name_start(byte) || byte.is_ascii_digit()
-}
-
-// How many bytes of a word stand at the front.
-fn word_len(bytes: &[u8]) -> usize
-    ensures { result ≡ prefix_len is_name_byte bytes.now }
-{
-    for (index, byte) in bytes.iter().enumerate() {
-        if !is_name_byte(*byte) {
-            return index;
-        }
-    }
-    bytes.len()
-}
-
-// How many bytes of a number stand at the front.
-fn number_len(bytes: &[u8]) -> usize
-    ensures { result ≡ prefix_len is_number_byte bytes.now }
-{
-    for (index, byte) in bytes.iter().enumerate() {
-        if !is_name_byte(*byte) && *byte != b'.' {
-            return index;
-        }
-    }
-    bytes.len()
 }
 
 // The number of four hexadecimal digits, if they are.

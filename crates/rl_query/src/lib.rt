@@ -6,9 +6,11 @@
 //! - `query`: `Query`, `Term`, `LogRange`, `Selector`.
 //! - `fault`: why a text is refused.
 //! - `token` and `lexer`: the tokens of a text.
+//! - `duration`: the seconds of a range.
 //! - `parser`: `parse`. `printer`: `print` and `print_term`.
 #![tactic(auto)]
 
+pub mod duration;
 pub mod fault;
 pub mod lexer;
 pub mod parser;

@@ -6,23 +6,22 @@ ghost use Rattle.rl_labels.specs.Name.{is_text};
 ghost use Rattle.rl_query.specs.Form.{QueryForm, matcher_form, range_form, term_form, query_form};
 ghost use Rattle.rl_query.specs.Grammar.{Derives};
 ghost use Rattle.rl_query.specs.Printing.{query_text};
-ghost use Rattle.rl_plain.specs.Answers.{Gives};
+ghost use Rattle.rl_plain.specs.Answers.{Gives, Answers};
 ghost use Rattle.rl_query.specs.declared.query.Query.{Query};
-ghost use Rattle.rl_query.specs.Parsing.{is_unsupported, is_unsupported_word, is_unsupported_sign, is_stage, is_operator, is_in_any_case, is_later_word, refusal, expected, is_mark, is_mark_sign, name_of, content_of, matcher_at, goes_on, element_at, matchers_at, some_matcher, real_matchers, selector_at, unit_of, duration_of, digit_behind, is_unit_letter, is_duration_byte, looks_like_duration, range_of, seconds_of, checked_range, function_of, named_function, seconds_at, range_at, term_at, query_of, ends};
+ghost use Rattle.rl_query.specs.Parsing.{is_unsupported, is_unsupported_word, is_unsupported_sign, is_stage, is_operator, is_in_any_case, is_later_word, refusal, next, expected, is_sign, name_of, content_of, matcher_at, goes_on, element_at, matchers_at, some_matcher, real_matchers, selector_at, is_unit_letter, is_duration_byte, looks_like_duration, range_of, seconds_of, checked_range, function_of, named_function, seconds_at, range_at, term_at, query_in, query_of, ends};
+ghost use Rattle.rl_query.specs.Durations.{duration_of};
 ghost use Rattle.rl_query.specs.Limits.{has_real_matcher, longest_range};
 ghost use Rattle.rl_labels.specs.Selects.{passes};
 ghost use Rattle.std.specs.Char.{is_ascii_digit};
 
+use crate::duration::{LONGEST_RANGE, duration_of};
 use crate::fault::{QueryError, QueryFault};
-use crate::lexer::lexeme_at;
+use crate::lexer::lexemes_of;
 use crate::query::{LogRange, Query, RangeFunction, Selector, Term};
 use crate::token::{Lexeme, Sign, Token};
 use rl_labels::{MatchOp, Matcher};
-use rl_plain::{OrMemory, PlainList, PlainText};
+use rl_plain::{OrMemory, PlainList, PlainText, TryCopy};
 use std::alloc::Global;
-
-/// The longest range, in seconds: 30 days.
-pub const LONGEST_RANGE: u64 = 2_592_000;
 
 /// The words that begin a query in LogQL. `count_over_time` is supported in lower case, the others in no case.
 pub const LATER_WORDS: [&str; 29] = [
@@ -180,106 +179,81 @@ fn is_operator(sign: Sign) -> bool
     )
 }
 
-/// A sign that the grammar asks for.
-#[derive(Clone, Copy, Debug, PartialEq, Eq)]
-pub enum Mark {
-    Equal,
-    OpenParenthesis,
-    CloseParenthesis,
-    OpenBrace,
-    CloseBrace,
-    OpenBracket,
-    CloseBracket,
-    Comma,
+// The first token, and those behind it.
+fn next(lexemes: &[Lexeme]) -> Result<(&Lexeme, &[Lexeme]), QueryFault>
+    ensures { Answers (λ x. (x.0.now, x.1.now)) result (next lexemes.now) }
+{
+    match lexemes {
+        [first, rest @ ..] => Ok((first, rest)),
+        [] => Err(QueryFault::Syntax(0)),
+    }
 }
 
-// What follows the mark, which has to stand at the front.
+// What follows the sign, which has to stand at the front.
 #[tactic(auto, unfolding(crate::specs::Parsing::expected))]
-fn expected(
-    alloc: Global,
-    total: usize,
-    text: &str,
-    mark: Mark,
-    position: Position,
-) -> Result<&str, QueryError>
-    ensures { Gives (λ rest. rest.now) result (expected total text.now mark position) }
+fn expected(sign: Sign, position: Position, lexemes: &[Lexeme]) -> Result<&[Lexeme], QueryFault>
+    ensures { Answers (λ rest. rest.now) result (expected sign position lexemes.now) }
 {
-    let (lexeme, rest) = lexeme_at(alloc, total, text)?;
-    if is_mark(mark, &lexeme.token) {
+    let (lexeme, rest) = next(lexemes)?;
+    if is_sign(sign, &lexeme.token) {
         return Ok(rest);
     }
-    Err(QueryError::Fault(refusal(position, lexeme.place, &lexeme.token)))
+    Err(refusal(position, lexeme.place, &lexeme.token))
 }
 
-fn is_mark(mark: Mark, token: &Token) -> bool
-    ensures { result ≡ is_mark mark token.now }
+fn is_sign(sign: Sign, token: &Token) -> bool
+    ensures { result ≡ is_sign sign token.now }
 {
     match token {
-        Token::Sign(sign) => is_mark_sign(mark, *sign),
+        Token::Sign(found) => found.as_str() == sign.as_str(),
         _ => false,
     }
 }
 
-fn is_mark_sign(mark: Mark, sign: Sign) -> bool
-    ensures { result ≡ is_mark_sign mark sign }
-{
-    match mark {
-        Mark::Equal => matches!(sign, Sign::Equal),
-        Mark::OpenParenthesis => matches!(sign, Sign::OpenParenthesis),
-        Mark::CloseParenthesis => matches!(sign, Sign::CloseParenthesis),
-        Mark::OpenBrace => matches!(sign, Sign::OpenBrace),
-        Mark::CloseBrace => matches!(sign, Sign::CloseBrace),
-        Mark::OpenBracket => matches!(sign, Sign::OpenBracket),
-        Mark::CloseBracket => matches!(sign, Sign::CloseBracket),
-        Mark::Comma => matches!(sign, Sign::Comma),
-    }
-}
-
 // The word that a token is.
-fn name_of(lexeme: Lexeme) -> Result<PlainText, QueryFault>
-    ensures { result ≡ name_of lexeme.place lexeme.token }
+fn name_of(lexeme: &Lexeme) -> Result<&PlainText, QueryFault>
+    ensures { Answers (λ name. name.now) result (name_of lexeme.now.place lexeme.now.token) }
 {
-    match lexeme.token {
+    match &lexeme.token {
         Token::Word(name) => Ok(name),
-        token => Err(refusal(Position::Elsewhere, lexeme.place, &token)),
+        token => Err(refusal(Position::Elsewhere, lexeme.place, token)),
     }
 }
 
 // The text that a token is.
-fn content_of(lexeme: Lexeme) -> Result<PlainText, QueryFault>
-    ensures { result ≡ content_of lexeme.place lexeme.token }
+fn content_of(lexeme: &Lexeme) -> Result<&PlainText, QueryFault>
+    ensures { Answers (λ content. content.now) result (content_of lexeme.now.place lexeme.now.token) }
 {
-    match lexeme.token {
+    match &lexeme.token {
         Token::Text(content) => Ok(content),
-        token => Err(refusal(Position::Elsewhere, lexeme.place, &token)),
+        token => Err(refusal(Position::Elsewhere, lexeme.place, token)),
     }
 }
 
 // One matcher: a name, `=` and a text.
 #[tactic(auto, unfolding(crate::specs::Parsing::matcher_at))]
-fn matcher_at(alloc: Global, total: usize, text: &str) -> Result<(Matcher, &str), QueryError>
-    ensures { Gives (λ x. (matcher_form x.0, x.1.now)) result (matcher_at total text.now) }
+fn matcher_at(lexemes: &[Lexeme]) -> Result<(Matcher, &[Lexeme]), QueryError>
+    ensures { Gives (λ x. (matcher_form x.0, x.1.now)) result (matcher_at lexemes.now) }
 {
-    let (lexeme, rest) = lexeme_at(alloc, total, text)?;
-    let place = lexeme.place;
-    let name = name_of(lexeme)?;
-    let rest = expected(alloc, total, rest, Mark::Equal, Position::Operator)?;
-    let (lexeme, rest) = lexeme_at(alloc, total, rest)?;
-    let value = content_of(lexeme)?;
-    match Matcher::new(name, MatchOp::Equal, value) {
+    let (first, rest) = next(lexemes)?;
+    let name = name_of(first)?;
+    let rest = expected(Sign::Equal, Position::Operator, rest)?;
+    let (text, rest) = next(rest)?;
+    let value = content_of(text)?;
+    match Matcher::new(name.try_copy()?, MatchOp::Equal, value.try_copy()?) {
         Ok(matcher) => Ok((matcher, rest)),
-        Err(_) => Err(QueryError::Fault(QueryFault::Syntax(place))),
+        Err(_) => Err(QueryError::Fault(QueryFault::Syntax(first.place))),
     }
 }
 
 // Whether another matcher follows.
-fn goes_on(lexeme: Lexeme) -> Result<bool, QueryFault>
-    ensures { result ≡ goes_on lexeme.place lexeme.token }
+fn goes_on(lexeme: &Lexeme) -> Result<bool, QueryFault>
+    ensures { result ≡ goes_on lexeme.now.place lexeme.now.token }
 {
-    if is_mark(Mark::Comma, &lexeme.token) {
+    if is_sign(Sign::Comma, &lexeme.token) {
         return Ok(true);
     }
-    if is_mark(Mark::CloseBrace, &lexeme.token) {
+    if is_sign(Sign::CloseBrace, &lexeme.token) {
         return Ok(false);
     }
     Err(refusal(Position::Elsewhere, lexeme.place, &lexeme.token))
@@ -287,49 +261,49 @@ fn goes_on(lexeme: Lexeme) -> Result<bool, QueryFault>
 
 // A matcher, and whether another follows.
 #[tactic(auto, unfolding(crate::specs::Parsing::element_at))]
-fn element_at(alloc: Global, total: usize, text: &str) -> Result<(Matcher, bool, &str), QueryError>
-    ensures { Gives (λ x. (matcher_form x.0, x.1, x.2.now)) result (element_at total text.now) }
+fn element_at(lexemes: &[Lexeme]) -> Result<(Matcher, bool, &[Lexeme]), QueryError>
+    ensures { Gives (λ x. (matcher_form x.0, x.1, x.2.now)) result (element_at lexemes.now) }
 {
-    let (matcher, rest) = matcher_at(alloc, total, text)?;
-    let (lexeme, rest) = lexeme_at(alloc, total, rest)?;
+    let (matcher, rest) = matcher_at(lexemes)?;
+    let (lexeme, rest) = next(rest)?;
     let more = goes_on(lexeme)?;
     Ok((matcher, more, rest))
 }
 
 // Matchers joined by commas, up to the closing brace.
-fn matchers_at(alloc: Global, total: usize, text: &str) -> Result<(Vec<Matcher>, &str), QueryError>
-    ensures { Gives (λ x. (map matcher_form x.0.items, x.1.now)) result (matchers_at (length text.now) total text.now) }
+fn matchers_at(alloc: Global, lexemes: &[Lexeme]) -> Result<(Vec<Matcher>, &[Lexeme]), QueryError>
+    ensures { Gives (λ x. (map matcher_form x.0.items, x.1.now)) result (matchers_at (length lexemes.now) lexemes.now) }
 {
     let mut matchers = Vec::new(alloc);
-    let mut rest = text;
-    for _turn in 0..text.len() {
-        let (matcher, more, behind) = element_at(alloc, total, rest)?;
+    let mut rest = lexemes;
+    for _turn in 0..lexemes.len() {
+        let (matcher, more, behind) = element_at(rest)?;
         matchers.push(matcher)?;
         if !more {
             return Ok((matchers, behind));
         }
         rest = behind;
     }
-    Err(QueryError::Fault(QueryFault::Syntax(total)))
+    Err(QueryError::Fault(QueryFault::Syntax(0)))
 }
 
 // The selector behind its opening brace.
 #[tactic(auto, unfolding(crate::specs::Parsing::selector_at))]
-fn selector_at(alloc: Global, total: usize, text: &str) -> Result<(Selector, &str), QueryError>
-    ensures { Gives (λ x. (map matcher_form x.0.matchers, x.1.now)) result (selector_at total text.now) }
+fn selector_at(alloc: Global, lexemes: &[Lexeme]) -> Result<(Selector, &[Lexeme]), QueryError>
+    ensures { Gives (λ x. (map matcher_form x.0.matchers, x.1.now)) result (selector_at lexemes.now) }
 {
-    let (lexeme, _) = lexeme_at(alloc, total, text)?;
+    let (lexeme, _) = next(lexemes)?;
     some_matcher(lexeme)?;
-    let (matchers, rest) = matchers_at(alloc, total, text)?;
+    let (matchers, rest) = matchers_at(alloc, lexemes)?;
     let selector = real_selector(matchers)?;
     Ok((selector, rest))
 }
 
 // A selector that closes at once has no matcher.
-fn some_matcher(lexeme: Lexeme) -> Result<(), QueryFault>
-    ensures { result ≡ some_matcher lexeme.token }
+fn some_matcher(lexeme: &Lexeme) -> Result<(), QueryFault>
+    ensures { result ≡ some_matcher lexeme.now.token }
 {
-    if is_mark(Mark::CloseBrace, &lexeme.token) {
+    if is_sign(Sign::CloseBrace, &lexeme.token) {
         return Err(QueryFault::NoRealMatcher);
     }
     Ok(())
@@ -358,61 +332,6 @@ fn refuses_empty(matcher: &Matcher) -> bool
 {
     match matcher.op {
         MatchOp::Equal => !matcher.value.is_empty(),
-    }
-}
-
-// The seconds of a unit, and its rank.
-fn unit_of(byte: u8) -> Option<(u64, u64)>
-    ensures unit { result ≡ unit_of byte }
-    ensures fits { IfSome result (λ unit. (unit.0 ≤ 604800) × (unit.1 ≤ 5)) }
-{
-    match byte {
-        b'w' => Some((604_800, 1)),
-        b'd' => Some((86_400, 2)),
-        b'h' => Some((3_600, 3)),
-        b'm' => Some((60, 4)),
-        b's' => Some((1, 5)),
-        _ => None,
-    }
-}
-
-// The seconds of a duration, where a longer one than the longest range counts as one second above that.
-fn duration_of(bytes: &[u8]) -> Option<u64>
-    ensures { result ≡ duration_of bytes.now }
-{
-    let mut seconds = 0;
-    let mut rank = 0;
-    let mut digits = None;
-    for byte in bytes {
-        if byte.is_ascii_digit() {
-            digits = Some(digit_behind(digits, *byte));
-        } else {
-            let number = digits?;
-            let (unit, next) = unit_of(*byte)?;
-            if next <= rank {
-                return None;
-            }
-            seconds = (seconds + number * unit).min(LONGEST_RANGE + 1);
-            rank = next;
-            digits = None;
-        }
-    }
-    match digits {
-        None => Some(seconds),
-        Some(_) => None,
-    }
-}
-
-fn digit_behind(digits: Option<u64>, byte: u8) -> u64
-    requires digit { IsTrue (is_ascii_digit byte) }
-    requires capped { IfSome digits (λ n. n ≤ longest_range + 1) }
-    ensures value { result ≡ digit_behind digits byte }
-    ensures fits { result ≤ longest_range + 1 }
-{
-    let digit = u64::from(byte - b'0');
-    match digits {
-        None => digit,
-        Some(number) => (10 * number + digit).min(LONGEST_RANGE + 1),
     }
 }
 
@@ -450,8 +369,8 @@ fn is_duration_byte(byte: u8) -> bool
 }
 
 // The seconds of a range.
-fn range_of(lexeme: Lexeme) -> Result<u64, QueryFault>
-    ensures read { result ≡ range_of lexeme.place lexeme.token }
+fn range_of(lexeme: &Lexeme) -> Result<u64, QueryFault>
+    ensures read { result ≡ range_of lexeme.now.place lexeme.now.token }
     ensures fits { IfOk result (λ seconds. (1 ≤ seconds) × (seconds ≤ longest_range)) }
 {
     match &lexeme.token {
@@ -485,8 +404,8 @@ fn checked_range(seconds: u64) -> Result<u64, QueryFault>
 }
 
 // The range aggregation that a token names.
-fn function_of(lexeme: Lexeme) -> Result<RangeFunction, QueryFault>
-    ensures { result ≡ function_of lexeme.place lexeme.token }
+fn function_of(lexeme: &Lexeme) -> Result<RangeFunction, QueryFault>
+    ensures { result ≡ function_of lexeme.now.place lexeme.now.token }
 {
     match &lexeme.token {
         Token::Word(word) => named_function(lexeme.place, word.as_str()),
@@ -509,56 +428,38 @@ fn named_function(place: usize, word: &str) -> Result<RangeFunction, QueryFault>
 
 // The seconds of a range between its brackets.
 #[tactic(auto, unfolding(crate::specs::Parsing::seconds_at))]
-fn seconds_at(alloc: Global, total: usize, text: &str) -> Result<(u64, &str), QueryError>
-    ensures read { Gives (λ x. (x.0, x.1.now)) result (seconds_at total text.now) }
+fn seconds_at(lexemes: &[Lexeme]) -> Result<(u64, &[Lexeme]), QueryFault>
+    ensures read { Answers (λ x. (x.0, x.1.now)) result (seconds_at lexemes.now) }
     ensures fits { IfOk result (λ x. (1 ≤ x.0) × (x.0 ≤ longest_range)) }
 {
-    let rest = expected(
-        alloc,
-        total,
-        text,
-        Mark::OpenBracket,
-        Position::BehindSelector,
-    )?;
-    let (lexeme, rest) = lexeme_at(alloc, total, rest)?;
+    let rest = expected(Sign::OpenBracket, Position::BehindSelector, lexemes)?;
+    let (lexeme, rest) = next(rest)?;
     let seconds = range_of(lexeme)?;
-    let rest = expected(alloc, total, rest, Mark::CloseBracket, Position::InRange)?;
+    let rest = expected(Sign::CloseBracket, Position::InRange, rest)?;
     Ok((seconds, rest))
 }
 
 // The selector and its range in parentheses, behind the name of the aggregation.
 #[tactic(auto, unfolding(crate::specs::Parsing::range_at))]
-fn range_at(alloc: Global, total: usize, text: &str) -> Result<(LogRange, &str), QueryError>
-    ensures { Gives (λ x. (range_form x.0, x.1.now)) result (range_at total text.now) }
+fn range_at(alloc: Global, lexemes: &[Lexeme]) -> Result<(LogRange, &[Lexeme]), QueryError>
+    ensures { Gives (λ x. (range_form x.0, x.1.now)) result (range_at lexemes.now) }
 {
-    let rest = expected(
-        alloc,
-        total,
-        text,
-        Mark::OpenParenthesis,
-        Position::Elsewhere,
-    )?;
-    let rest = expected(alloc, total, rest, Mark::OpenBrace, Position::Elsewhere)?;
-    let (selector, rest) = selector_at(alloc, total, rest)?;
-    let (seconds, rest) = seconds_at(alloc, total, rest)?;
-    let rest = expected(
-        alloc,
-        total,
-        rest,
-        Mark::CloseParenthesis,
-        Position::BehindRange,
-    )?;
+    let rest = expected(Sign::OpenParenthesis, Position::Elsewhere, lexemes)?;
+    let rest = expected(Sign::OpenBrace, Position::Elsewhere, rest)?;
+    let (selector, rest) = selector_at(alloc, rest)?;
+    let (seconds, rest) = seconds_at(rest)?;
+    let rest = expected(Sign::CloseParenthesis, Position::BehindRange, rest)?;
     Ok((LogRange { selector, seconds }, rest))
 }
 
 // A range aggregation.
 #[tactic(auto, unfolding(crate::specs::Parsing::term_at))]
-fn term_at(alloc: Global, total: usize, text: &str) -> Result<(Term, &str), QueryError>
-    ensures { Gives (λ x. (term_form x.0, x.1.now)) result (term_at total text.now) }
+fn term_at(alloc: Global, lexemes: &[Lexeme]) -> Result<(Term, &[Lexeme]), QueryError>
+    ensures { Gives (λ x. (term_form x.0, x.1.now)) result (term_at lexemes.now) }
 {
-    let (lexeme, rest) = lexeme_at(alloc, total, text)?;
+    let (lexeme, rest) = next(lexemes)?;
     let function = function_of(lexeme)?;
-    let (range, rest) = range_at(alloc, total, rest)?;
+    let (range, rest) = range_at(alloc, rest)?;
     Ok((Term { function, range }, rest))
 }
 
@@ -572,18 +473,26 @@ pub fn parse(alloc: Global, text: &str) -> Result<Query, QueryError>
     read(alloc, text)
 }
 
-#[tactic(auto, unfolding(crate::specs::Parsing::query_of))]
 fn read(alloc: Global, text: &str) -> Result<Query, QueryError>
     ensures { Gives query_form result (query_of text.now) }
 {
-    let (left, rest) = term_at(alloc, text.len(), text)?;
-    let (lexeme, _) = lexeme_at(alloc, text.len(), rest)?;
+    let lexemes = lexemes_of(alloc, text)?;
+    query_in(alloc, &lexemes)
+}
+
+// The query that all tokens are.
+#[tactic(auto, unfolding(crate::specs::Parsing::query_in))]
+fn query_in(alloc: Global, lexemes: &[Lexeme]) -> Result<Query, QueryError>
+    ensures { Gives query_form result (query_in lexemes.now) }
+{
+    let (left, rest) = term_at(alloc, lexemes)?;
+    let (lexeme, _) = next(rest)?;
     ends(lexeme)?;
     Ok(Query { left })
 }
 
-fn ends(lexeme: Lexeme) -> Result<(), QueryFault>
-    ensures { result ≡ ends lexeme.place lexeme.token }
+fn ends(lexeme: &Lexeme) -> Result<(), QueryFault>
+    ensures { result ≡ ends lexeme.now.place lexeme.now.token }
 {
     match &lexeme.token {
         Token::End => Ok(()),

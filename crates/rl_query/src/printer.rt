@@ -2,9 +2,10 @@
 ghost use Rattle.std.specs.Prelude.{◌≡◌, ◌++◌, [], ◌∷◌, map, IfOk, OnOk, string_bytes, encode_utf8, codes};
 ghost use Rattle.std.specs.List.{flat_map, list_any};
 ghost use Rattle.rl_query.specs.Form.{matcher_form, range_form, term_form, query_form};
-ghost use Rattle.rl_query.specs.Printing.{escape, escaped, operator_text, matcher_text, matchers_text, range_text, function_text, term_text, query_text};
+ghost use Rattle.rl_query.specs.Printing.{operator_text, matcher_text, matchers_text, range_text, function_text, term_text, query_text};
+ghost use Rattle.rl_query.specs.Tables.{escape, escaped};
 ghost use Rattle.rl_query.specs.declared.query.Term.{Term};
-ghost use Rattle.rl_query.specs.Escapes.{is_escaped};
+ghost use Rattle.rl_query.specs.Tables.{is_escaped};
 ghost use Rattle.std.specs.Fmt.{decimal};
 
 use crate::query::{LogRange, Query, RangeFunction, Term};

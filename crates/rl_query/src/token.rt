@@ -1,4 +1,6 @@
 //! The tokens of a query text.
+ghost use Rattle.std.specs.Prelude.{◌≡◌};
+ghost use Rattle.rl_query.specs.Tables.{sign_text};
 
 use rl_plain::PlainText;
 
@@ -13,29 +15,19 @@ pub enum Sign {
     CloseBracket,
     Comma,
     Colon,
-    /// `=`
     Equal,
-    /// `==`
     EqualTo,
-    /// `!=`
     NotEqual,
-    /// `=~`
     Matches,
-    /// `!~`
     NotMatches,
     Greater,
     GreaterOrEqual,
     Less,
     LessOrEqual,
-    /// `|`
     Pipe,
-    /// `|=`
     Contains,
-    /// `|~`
     ContainsMatch,
-    /// `|>`
     ContainsPattern,
-    /// `!>`
     LacksPattern,
     Slash,
     Plus,
@@ -44,6 +36,45 @@ pub enum Sign {
     Percent,
     Power,
     At,
+}
+
+impl Sign {
+    /// The sign as it is written.
+    pub fn as_str(self) -> &'static str
+        ensures { result.now ≡ sign_text self }
+    {
+        match self {
+            Sign::OpenBrace => "{",
+            Sign::CloseBrace => "}",
+            Sign::OpenParenthesis => "(",
+            Sign::CloseParenthesis => ")",
+            Sign::OpenBracket => "[",
+            Sign::CloseBracket => "]",
+            Sign::Comma => ",",
+            Sign::Colon => ":",
+            Sign::Equal => "=",
+            Sign::EqualTo => "==",
+            Sign::NotEqual => "!=",
+            Sign::Matches => "=~",
+            Sign::NotMatches => "!~",
+            Sign::Greater => ">",
+            Sign::GreaterOrEqual => ">=",
+            Sign::Less => "<",
+            Sign::LessOrEqual => "<=",
+            Sign::Pipe => "|",
+            Sign::Contains => "|=",
+            Sign::ContainsMatch => "|~",
+            Sign::ContainsPattern => "|>",
+            Sign::LacksPattern => "!>",
+            Sign::Slash => "/",
+            Sign::Plus => "+",
+            Sign::Minus => "-",
+            Sign::Times => "*",
+            Sign::Percent => "%",
+            Sign::Power => "^",
+            Sign::At => "@",
+        }
+    }
 }
 
 /// A token of a query text.
@@ -56,6 +87,8 @@ pub enum Token {
     /// What stands between quotes or backquotes, escapes read.
     Text(PlainText),
     Sign(Sign),
+    /// What begins no token, up to the end of the text.
+    Bad,
     End,
 }
 

@@ -1,7 +1,7 @@
 -- Escapes go character by character.
 use Rattle.std.proofs.Common.{◌++◌, string_bytes, sym, ap, ◌∙◌, append_assoc}
 use Rattle.std.proofs.Math.Utf8.{encode, encodes}
-use Rattle.rl_query.specs.Printing.{escaped}
+use Rattle.rl_query.specs.Tables.{escaped}
 use Rattle.rl_query.proofs.Escaping.{escaped_more}
 use Rattle.rl_query.proofs.printer.push_escaped.Goals as goal
 

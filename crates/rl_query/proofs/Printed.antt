@@ -1,0 +1,370 @@
+-- What is printed is derived, piece by piece.
+use Rattle.std.proofs.Common.{◌≡◌, ℕ, zero, suc, ◌+◌, ◌-◌, ◌*◌, ◌/◌, ◌%◌, ◌^◌, ◌<◌, ◌≤◌, ◌==◌, Bool, true, false, cond, not, ◌&&◌, ◌||◌, List, [], ◌∷◌, ◌++◌, Some, None, length, take, drop, refl, sym, ap, subst, ◌∙◌, arith, append_assoc, length-append}
+use Rattle.std.specs.List.{prefix_len, list_all, flat_map}
+use Rattle.std.specs.Option.{option_map}
+use Rattle.std.specs.Char.{is_ascii_digit}
+use Rattle.std.specs.Fmt.{decimal}
+use Rattle.std.proofs.lemmas.Fmt.{decimal_by_steps}
+use Rattle.std.proofs.lemmas.Bool.{and_parts, and_from, or_parts, not-true, ne_eqb, true≢false, eqb-true, cond-true, cond-false}
+use Rattle.std.proofs.lemmas.Bool.Decides.{nat_tests}
+use Rattle.std.proofs.Math.Seq.{take-append_seam, drop-append_seam}
+use Rattle.std.proofs.Math.Utf8.{encode}
+use Rattle.rl_labels.specs.Name.{is_name, is_name_start, is_name_byte}
+use Rattle.rl_labels.specs.declared.matcher.MatchOp.{MatchOp}
+use Rattle.rl_labels.specs.declared.matcher.MatchOp.TheVariants as operators
+use Rattle.rl_query.specs.declared.query.RangeFunction.{RangeFunction}
+use Rattle.rl_query.specs.declared.query.RangeFunction.TheVariants as functions
+use Rattle.rl_query.specs.declared.token.Sign.{Sign}
+use Rattle.rl_query.specs.declared.token.Sign.TheVariants as signs
+use Rattle.rl_query.specs.declared.token.Token.{Token}
+use Rattle.rl_query.specs.declared.token.Token.TheVariants as tokens
+use Rattle.rl_query.specs.Durations.{duration_from, duration_of}
+use Rattle.rl_query.specs.Form.{MatcherForm, QueryForm, has_real_form}
+use Rattle.rl_query.specs.Grammar.{Stand, matcher_tokens, matchers_tokens, IsRange, Derives}
+use Rattle.rl_query.specs.Lexing.{is_space, is_number_byte, gap_len, run_at, onto, quoted, or_bad, or_else, sign_at, token_at, lexemes_in}
+use Rattle.rl_query.specs.Limits.{longest_range}
+use Rattle.rl_query.specs.Printing.{matcher_text, function_text, query_text}
+use Rattle.rl_query.specs.Tables.{one_byte, two_bytes, escaped}
+use Rattle.rl_query.proofs.Productions.{stand_then}
+
+-- the tokens that a text begins with, and what is left of it
+record Lexes (front : List Token) (text rest : List ℕ) : Type 0 where
+  pub stand : (total most : ℕ) → Stand front (lexemes_in (length front + most) total text) (lexemes_in most total rest)
+  pub shorter : length front + length rest ≤ length text
+
+lexes_then : (front others : List Token) (text behind rest : List ℕ) → Lexes front text behind → Lexes others behind rest → Lexes (front ++ others) text rest
+lexes_then front others text behind rest first second = record {
+  stand = λ total most.
+      let count : length front + (length others + most) ≡ length (front ++ others) + most = omega (arith, length-append front others) in
+      subst (λ n. Stand (front ++ others) (lexemes_in n total text) (lexemes_in most total rest)) count (stand_then front others _ _ _ (first.stand total (length others + most)) (second.stand total most));
+  shorter = omega (arith, length-append front others, first.shorter, second.shorter);
+}
+
+-- a space before tokens
+spaced : (front : List Token) (text rest : List ℕ) → Lexes front text rest → Lexes front (32 ∷ text) rest
+unfolding lexemes_in
+spaced front text rest lexes = record {
+  stand = λ total most. subst (λ ls. Stand front ls (lexemes_in most total rest)) (passed (length front + most) total) (lexes.stand total most);
+  shorter = omega (arith, lexes.shorter);
+}
+  where
+    passed : (most total : ℕ) → lexemes_in most total text ≡ lexemes_in most total (32 ∷ text)
+    passed zero total = refl
+    passed (suc most) total =
+        let next : suc (gap_len false text) ≡ 1 + gap_len false text = omega arith in
+        ap (λ n. let start = drop n (32 ∷ text) in cond (length start == 0) (record { token = tokens.End; place = total } ∷ []) (record { token = (token_at start).0; place = total - length start } ∷ lexemes_in most total (token_at start).1)) next
+
+-- a token at the front, with no gap before it
+token_lexes : (token : Token) (b : ℕ) (bytes rest : List ℕ) → gap_len false (b ∷ bytes) ≡ 0 → token_at (b ∷ bytes) ≡ (token, rest) → length rest ≤ length bytes → Lexes (token ∷ []) (b ∷ bytes) rest
+unfolding lexemes_in
+token_lexes token b bytes rest no_gap is shorter = record {
+  stand = λ total most.
+      let next : suc most ≡ 1 + most = omega arith in
+      let place = total - length (b ∷ bytes) in
+      let some : (length (b ∷ bytes) == 0) ≡ false = ne_eqb (length (b ∷ bytes)) 0 (λ e. omega (arith, e)) in
+      let first : lexemes_in (suc most) total (b ∷ bytes) ≡ record { token = token; place = place } ∷ lexemes_in most total rest =
+      ap (λ n. let start = drop n (b ∷ bytes) in cond (length start == 0) (record { token = tokens.End; place = total } ∷ []) (record { token = (token_at start).0; place = total - length start } ∷ lexemes_in most total (token_at start).1)) no_gap
+      ∙ cond-false (length (b ∷ bytes) == 0) _ _ some
+      ∙ ap (λ (x : Token × List ℕ). record { token = x.0; place = place } ∷ lexemes_in most total x.1) is in
+      subst (λ n. Stand (token ∷ []) (lexemes_in n total (b ∷ bytes)) (lexemes_in most total rest)) next (subst (λ ls. Stand (token ∷ []) ls (lexemes_in most total rest)) (sym first) (refl, refl));
+  shorter = omega (arith, shorter);
+}
+
+run_len : (p : ℕ → Bool) (run rest : List ℕ) → list_all p run ≡ true → prefix_len p rest ≡ 0 → prefix_len p (run ++ rest) ≡ length run
+run_len p [] rest all stop = stop
+run_len p (x ∷ run) rest all stop =
+    let parts = and_parts (p x) (list_all p run) all in
+    ap (λ b. cond b (1 + prefix_len p (run ++ rest)) 0) parts.0 ∙ omega (arith, run_len p run rest parts.1 stop)
+
+run_again : (p : ℕ → Bool) (run rest : List ℕ) → list_all p run ≡ true → prefix_len p rest ≡ 0 → run_at p (run ++ rest) ≡ (run, rest)
+run_again p run rest all stop =
+    let n = run_len p run rest all stop in
+    λ i. ((ap (λ k. take k (run ++ rest)) n ∙ take-append_seam run rest) i, (ap (λ k. drop k (run ++ rest)) n ∙ drop-append_seam run rest) i)
+
+no_gap : (b : ℕ) (bytes : List ℕ) → is_space b ≡ false → (b == 35) ≡ false → gap_len false (b ∷ bytes) ≡ 0
+no_gap b bytes space hash = cond-false (is_space b) _ _ space ∙ cond-false (b == 35) _ _ hash
+
+-- a word, and what does not go on with it
+word_lexes : (word rest : List ℕ) → is_name word ≡ true → prefix_len is_name_byte rest ≡ 0 → Lexes (tokens.Word word ∷ []) (word ++ rest) rest
+unfolding token_at
+word_lexes [] rest h stop = absurd (true≢false (sym h))
+word_lexes (b ∷ word) rest h stop =
+    let parts = and_parts (is_name_start b) (list_all is_name_byte word) h in
+    let run : run_at is_name_byte (b ∷ word ++ rest) ≡ (b ∷ word, rest) = run_again is_name_byte (b ∷ word) rest (and_from _ _ (ap (λ t. t || is_ascii_digit b) parts.0) parts.1) stop in
+    token_lexes (tokens.Word (b ∷ word)) b (word ++ rest) rest (no_gap b (word ++ rest) (no_space b parts.0) (no_hash b parts.0)) (cond-true (is_name_start b) _ _ parts.0 ∙ ap (λ (x : List ℕ × List ℕ). (tokens.Word x.0, x.1)) run) (omega (arith, length-append word rest))
+  where
+    no_space : (b : ℕ) → is_name_start b ≡ true → is_space b ≡ false
+    no_space b h = grind (arith, nat_tests)
+
+    no_hash : (b : ℕ) → is_name_start b ≡ true → (b == 35) ≡ false
+    no_hash b h = grind (arith, nat_tests)
+
+-- a number, and what does not go on with it
+number_lexes : (number rest : List ℕ) → (b : ℕ) (digits : List ℕ) → number ≡ b ∷ digits → is_ascii_digit b ≡ true → list_all is_number_byte number ≡ true → prefix_len is_number_byte rest ≡ 0 → Lexes (tokens.Number number ∷ []) (number ++ rest) rest
+unfolding token_at
+number_lexes number rest b digits is digit all stop = subst (λ n. Lexes (tokens.Number n ∷ []) (n ++ rest) rest) (sym is) (token_lexes (tokens.Number (b ∷ digits)) b (digits ++ rest) rest (no_gap b (digits ++ rest) (no_space b digit) (no_hash b digit))
+    (cond-false (is_name_start b) _ _ (no_start b digit) ∙ cond-true (is_ascii_digit b) _ _ digit ∙ ap (λ (x : List ℕ × List ℕ). (tokens.Number x.0, x.1)) (run_again is_number_byte (b ∷ digits) rest (subst (λ n. list_all is_number_byte n ≡ true) is all) stop)) (omega (arith, length-append digits rest)))
+  where
+    no_space : (b : ℕ) → is_ascii_digit b ≡ true → is_space b ≡ false
+    no_space b h = grind (arith, nat_tests)
+
+    no_hash : (b : ℕ) → is_ascii_digit b ≡ true → (b == 35) ≡ false
+    no_hash b h = grind (arith, nat_tests)
+
+    no_start : (b : ℕ) → is_ascii_digit b ≡ true → is_name_start b ≡ false
+    no_start b h = grind (arith, nat_tests)
+
+-- an escaped text is read up to its closing quote
+quoted_again : (value rest : List ℕ) → quoted 0 (escaped value ++ 34 ∷ rest) ≡ Some (value, rest)
+unfolding encode
+quoted_again [] rest = refl
+quoted_again (byte ∷ value) rest =
+    let tail = escaped value ++ 34 ∷ rest in
+    elim (byte == 92) as (λ b. (byte == 92) ≡ b → quoted 0 (cond b (92 ∷ 92 ∷ []) (cond (byte == 34) (92 ∷ 34 ∷ []) (cond (byte == 10) (92 ∷ 110 ∷ []) (cond (byte == 13) (92 ∷ 114 ∷ []) (cond (byte == 9) (92 ∷ 116 ∷ []) (byte ∷ []))))) ++ escaped value ++ 34 ∷ rest) ≡ Some (byte ∷ value, rest)) [
+      | true ↦ λ is. ap (onto (92 ∷ [])) (quoted_again value rest) ∙ ap (λ n. Some (n ∷ value, rest)) (sym (eqb-true byte 92 is))
+      | false ↦ λ a. elim (byte == 34) as (λ b. (byte == 34) ≡ b → quoted 0 (cond b (92 ∷ 34 ∷ []) (cond (byte == 10) (92 ∷ 110 ∷ []) (cond (byte == 13) (92 ∷ 114 ∷ []) (cond (byte == 9) (92 ∷ 116 ∷ []) (byte ∷ [])))) ++ escaped value ++ 34 ∷ rest) ≡ Some (byte ∷ value, rest)) [
+        | true ↦ λ is. ap (onto (34 ∷ [])) (quoted_again value rest) ∙ ap (λ n. Some (n ∷ value, rest)) (sym (eqb-true byte 34 is))
+        | false ↦ λ b. elim (byte == 10) as (λ b. (byte == 10) ≡ b → quoted 0 (cond b (92 ∷ 110 ∷ []) (cond (byte == 13) (92 ∷ 114 ∷ []) (cond (byte == 9) (92 ∷ 116 ∷ []) (byte ∷ []))) ++ escaped value ++ 34 ∷ rest) ≡ Some (byte ∷ value, rest)) [
+          | true ↦ λ is. ap (onto (10 ∷ [])) (quoted_again value rest) ∙ ap (λ n. Some (n ∷ value, rest)) (sym (eqb-true byte 10 is))
+          | false ↦ λ _. elim (byte == 13) as (λ b. (byte == 13) ≡ b → quoted 0 (cond b (92 ∷ 114 ∷ []) (cond (byte == 9) (92 ∷ 116 ∷ []) (byte ∷ [])) ++ escaped value ++ 34 ∷ rest) ≡ Some (byte ∷ value, rest)) [
+            | true ↦ λ is. ap (onto (13 ∷ [])) (quoted_again value rest) ∙ ap (λ n. Some (n ∷ value, rest)) (sym (eqb-true byte 13 is))
+            | false ↦ λ _. elim (byte == 9) as (λ b. (byte == 9) ≡ b → quoted 0 (cond b (92 ∷ 116 ∷ []) (byte ∷ []) ++ escaped value ++ 34 ∷ rest) ≡ Some (byte ∷ value, rest)) [
+              | true ↦ λ is. ap (onto (9 ∷ [])) (quoted_again value rest) ∙ ap (λ n. Some (n ∷ value, rest)) (sym (eqb-true byte 9 is))
+              | false ↦ λ _. plain byte tail b a ∙ ap (onto (byte ∷ [])) (quoted_again value rest)
+            ] refl
+          ] refl
+        ] refl
+      ] refl
+    ] refl
+  where
+    plain : (byte : ℕ) (tail : List ℕ) → (byte == 34) ≡ false → (byte == 92) ≡ false → quoted 0 (byte ∷ tail) ≡ onto (byte ∷ []) (quoted 0 tail)
+    plain byte tail q b = cond-false (byte == 34) _ _ q ∙ cond-false (byte == 92) _ _ b
+
+-- a text between quotes
+text_lexes : (value rest : List ℕ) → Lexes (tokens.Text value ∷ []) (34 ∷ (escaped value ++ 34 ∷ rest)) rest
+unfolding token_at
+text_lexes value rest = token_lexes (tokens.Text value) 34 (escaped value ++ 34 ∷ rest) rest refl (ap (or_bad tokens.Text) (quoted_again value rest)) (omega (arith, length-append (escaped value) (34 ∷ rest)))
+
+-- a sign of one byte that begins no longer sign
+sign_again : (first : ℕ) (rest : List ℕ) (sign : Sign) → one_byte first ≡ Some sign → ((second : ℕ) → two_bytes first second ≡ None) → sign_at (first ∷ rest) ≡ Some (sign, rest)
+sign_again first [] sign one two = ap (option_map (λ sign. (sign, []))) one
+sign_again first (second ∷ rest) sign one two =
+    ap (λ o. or_else (option_map (λ sign. (sign, rest)) o) (option_map (λ sign. (sign, second ∷ rest)) (one_byte first))) (two second)
+    ∙ ap (option_map (λ sign. (sign, second ∷ rest))) one
+
+not_second : (first second : ℕ) → (first == 61) ≡ false → (first == 33) ≡ false → (first == 62) ≡ false → (first == 60) ≡ false → (first == 124) ≡ false → two_bytes first second ≡ None
+not_second first second a b c d e =
+    by_second (second == 61) (second == 126) (second == 62)
+  where
+    equals : cond (first == 61) (Some signs.EqualTo) (cond (first == 33) (Some signs.NotEqual) (cond (first == 62) (Some signs.GreaterOrEqual) (cond (first == 60) (Some signs.LessOrEqual) (cond (first == 124) (Some signs.Contains) None)))) ≡ None
+    equals = cond-false (first == 61) _ _ a ∙ cond-false (first == 33) _ _ b ∙ cond-false (first == 62) _ _ c ∙ cond-false (first == 60) _ _ d ∙ cond-false (first == 124) _ _ e
+
+    tildes : cond (first == 61) (Some signs.Matches) (cond (first == 33) (Some signs.NotMatches) (cond (first == 124) (Some signs.ContainsMatch) None)) ≡ None
+    tildes = cond-false (first == 61) _ _ a ∙ cond-false (first == 33) _ _ b ∙ cond-false (first == 124) _ _ e
+
+    points : cond (first == 124) (Some signs.ContainsPattern) (cond (first == 33) (Some signs.LacksPattern) None) ≡ None
+    points = cond-false (first == 124) _ _ e ∙ cond-false (first == 33) _ _ b
+
+    by_second : (x y z : Bool) → cond x (cond (first == 61) (Some signs.EqualTo) (cond (first == 33) (Some signs.NotEqual) (cond (first == 62) (Some signs.GreaterOrEqual) (cond (first == 60) (Some signs.LessOrEqual) (cond (first == 124) (Some signs.Contains) None)))))
+        (cond y (cond (first == 61) (Some signs.Matches) (cond (first == 33) (Some signs.NotMatches) (cond (first == 124) (Some signs.ContainsMatch) None))) (cond z (cond (first == 124) (Some signs.ContainsPattern) (cond (first == 33) (Some signs.LacksPattern) None)) None)) ≡ None
+    by_second true y z = equals
+    by_second false true z = tildes
+    by_second false false true = points
+    by_second false false false = refl
+
+-- a byte that is a sign by itself, whatever follows
+abbrev is_lone : ℕ → Bool
+is_lone b = not (is_space b || b == 35) && (not (is_name_start b || is_ascii_digit b) && (not (b == 34 || b == 96) && not (b == 61 || (b == 33 || (b == 62 || (b == 60 || b == 124))))))
+
+lone_sign : (b : ℕ) (rest : List ℕ) (sign : Sign) → one_byte b ≡ Some sign → is_lone b ≡ true → Lexes (tokens.Sign sign ∷ []) (b ∷ rest) rest
+unfolding token_at
+lone_sign b rest sign one lone =
+    let a = and_parts (not (is_space b || b == 35)) _ lone in
+    let c = and_parts (not (is_name_start b || is_ascii_digit b)) _ a.1 in
+    let d = and_parts (not (b == 34 || b == 96)) _ c.1 in
+    let gap = or_parts (is_space b) (b == 35) (not-true _ a.0) in
+    let run = or_parts (is_name_start b) (is_ascii_digit b) (not-true _ c.0) in
+    let quote = or_parts (b == 34) (b == 96) (not-true _ d.0) in
+    let first = or_parts (b == 61) _ (not-true _ d.1) in
+    let second = or_parts (b == 33) _ first.1 in
+    let third = or_parts (b == 62) _ second.1 in
+    let last = or_parts (b == 60) (b == 124) third.1 in
+    token_lexes (tokens.Sign sign) b rest rest (no_gap b rest gap.0 gap.1)
+    (cond-false (is_name_start b) _ _ run.0 ∙ cond-false (is_ascii_digit b) _ _ run.1 ∙ cond-false (b == 34) _ _ quote.0 ∙ cond-false (b == 96) _ _ quote.1
+    ∙ ap (or_bad tokens.Sign) (sign_again b rest sign one (λ next. not_second b next first.0 second.0 third.0 last.0 last.1)))
+    (omega arith)
+
+-- an equality sign before a quote
+equal_sign : (rest : List ℕ) → Lexes (tokens.Sign signs.Equal ∷ []) (61 ∷ 34 ∷ rest) (34 ∷ rest)
+unfolding token_at
+equal_sign rest = token_lexes (tokens.Sign signs.Equal) 61 (34 ∷ rest) (34 ∷ rest) refl refl (omega arith)
+
+matcher_lexes : (m : MatcherForm) (rest : List ℕ) → is_name m.name ≡ true → Lexes (matcher_tokens m) (matcher_text m ++ rest) rest
+matcher_lexes m rest named = by_op m.op
+  where
+    regrouped : (name value : List ℕ) → (name ++ (61 ∷ []) ++ (34 ∷ []) ++ escaped value ++ (34 ∷ [])) ++ rest ≡ name ++ (61 ∷ 34 ∷ (escaped value ++ 34 ∷ rest))
+    regrouped name value = simp append_assoc
+
+    by_op : (op : MatchOp) → Lexes (matcher_tokens (record { name = m.name; op = op; value = m.value })) (matcher_text (record { name = m.name; op = op; value = m.value }) ++ rest) rest
+    by_op operators.Equal =
+        let value = 34 ∷ (escaped m.value ++ 34 ∷ rest) in
+        subst (λ text. Lexes (matcher_tokens (record { name = m.name; op = operators.Equal; value = m.value })) text rest) (sym (regrouped m.name m.value))
+        (lexes_then (tokens.Word m.name ∷ []) (tokens.Sign signs.Equal ∷ tokens.Text m.value ∷ []) (m.name ++ (61 ∷ value)) (61 ∷ value) rest (word_lexes m.name (61 ∷ value) named refl)
+        (lexes_then (tokens.Sign signs.Equal ∷ []) (tokens.Text m.value ∷ []) (61 ∷ value) value rest (equal_sign (escaped m.value ++ 34 ∷ rest)) (text_lexes m.value rest)))
+
+abbrev others_text : List MatcherForm → List ℕ
+others_text = flat_map (λ other. 44 ∷ 32 ∷ matcher_text other)
+
+abbrev pub are_named : List MatcherForm → Bool
+are_named = list_all (λ m. is_name m.name)
+
+matchers_lexes : (m : MatcherForm) (ms : List MatcherForm) (rest : List ℕ) → are_named (m ∷ ms) ≡ true → Lexes (matchers_tokens (m ∷ ms)) (matcher_text m ++ (others_text ms ++ 125 ∷ rest)) rest
+matchers_lexes m [] rest named = lexes_then (matcher_tokens m) (tokens.Sign signs.CloseBrace ∷ []) (matcher_text m ++ 125 ∷ rest) (125 ∷ rest) rest (matcher_lexes m (125 ∷ rest) (and_parts (is_name m.name) true named).0) (lone_sign 125 rest signs.CloseBrace refl refl)
+matchers_lexes m (o ∷ os) rest named =
+    let parts = and_parts (is_name m.name) (are_named (o ∷ os)) named in
+    let behind = matcher_text o ++ (others_text os ++ 125 ∷ rest) in
+    let grouped : others_text (o ∷ os) ++ 125 ∷ rest ≡ 44 ∷ 32 ∷ behind = ap (λ t. 44 ∷ 32 ∷ t) (append_assoc (matcher_text o) (others_text os) (125 ∷ rest)) in
+    subst (λ t. Lexes (matchers_tokens (m ∷ o ∷ os)) (matcher_text m ++ t) rest) (sym grouped)
+    (lexes_then (matcher_tokens m) (tokens.Sign signs.Comma ∷ matchers_tokens (o ∷ os)) (matcher_text m ++ 44 ∷ 32 ∷ behind) (44 ∷ 32 ∷ behind) rest (matcher_lexes m (44 ∷ 32 ∷ behind) parts.0)
+    (lexes_then (tokens.Sign signs.Comma ∷ []) (matchers_tokens (o ∷ os)) (44 ∷ 32 ∷ behind) (32 ∷ behind) rest (lone_sign 44 (32 ∷ behind) signs.Comma refl refl) (spaced (matchers_tokens (o ∷ os)) behind rest (matchers_lexes o os rest parts.1))))
+
+-- the digits of a number
+digit_byte : (n : ℕ) → n < 10 → is_ascii_digit (48 + n) ≡ true
+digit_byte n small = grind (arith, nat_tests)
+
+all_append : (p : ℕ → Bool) (xs : List ℕ) (y : ℕ) → list_all p xs ≡ true → p y ≡ true → list_all p (xs ++ y ∷ []) ≡ true
+all_append p [] y all this = and_from (p y) true this refl
+all_append p (x ∷ xs) y all this = let parts = and_parts (p x) (list_all p xs) all in and_from (p x) _ parts.0 (all_append p xs y parts.1 this)
+
+-- digits, one at least, that read as the number
+record Reads (n : ℕ) (ds : List ℕ) : Type 0 where
+  pub digits : list_all is_ascii_digit ds ≡ true
+  pub first : ℕ
+  pub others : List ℕ
+  pub is : ds ≡ first ∷ others
+  pub value : (rest : List ℕ) → duration_from 0 None (ds ++ rest) ≡ duration_from 0 (Some n) rest
+
+digit_step : (n b : ℕ) (rest : List ℕ) → is_ascii_digit b ≡ true → duration_from 0 (Some n) (b ∷ rest) ≡ duration_from 0 (Some (10 * n + (b - 48))) rest
+digit_step n b rest digit = cond-true (is_ascii_digit b) _ _ digit
+
+one_digit : (n : ℕ) → n < 10 → Reads n ((48 + n) ∷ [])
+one_digit n small = record {
+  digits = and_from (is_ascii_digit (48 + n)) true (digit_byte n small) refl;
+  first = 48 + n;
+  others = [];
+  is = refl;
+  value = λ rest. let less : 48 + n - 48 ≡ n = omega arith in cond-true (is_ascii_digit (48 + n)) _ _ (digit_byte n small) ∙ ap (λ k. duration_from 0 (Some k) rest) less;
+}
+
+more_digits : (n : ℕ) (ds : List ℕ) → 10 ≤ n → Reads (n / 10) ds → Reads n (ds ++ (48 + n % 10) ∷ [])
+more_digits n ds many read =
+    let digit : is_ascii_digit (48 + n % 10) ≡ true = digit_byte (n % 10) (omega arith) in
+    let same : 10 * (n / 10) + (48 + n % 10 - 48) ≡ n = omega arith in
+    record {
+      digits = all_append is_ascii_digit ds (48 + n % 10) read.digits digit;
+      first = read.first;
+      others = read.others ++ (48 + n % 10) ∷ [];
+      is = ap (λ t. t ++ (48 + n % 10) ∷ []) read.is;
+      value = λ rest.
+          ap (duration_from 0 None) (append_assoc ds ((48 + n % 10) ∷ []) rest)
+          ∙ read.value ((48 + n % 10) ∷ rest)
+          ∙ digit_step (n / 10) (48 + n % 10) rest digit
+          ∙ ap (λ k. duration_from 0 (Some k) rest) same;
+    }
+
+decimal_reads : (n : ℕ) → n < 2 ^ 64 → Reads n (decimal n)
+decimal_reads = decimal_by_steps Reads one_digit more_digits
+
+-- seconds, printed with their unit
+seconds_lexes : (n : ℕ) (rest : List ℕ) → n < 2 ^ 64 → Lexes (tokens.Number (decimal n ++ 115 ∷ []) ∷ []) (decimal n ++ 115 ∷ 93 ∷ rest) (93 ∷ rest)
+seconds_lexes n rest small =
+    let reads = decimal_reads n small in
+    let number = decimal n ++ 115 ∷ [] in
+    let is : number ≡ reads.first ∷ (reads.others ++ 115 ∷ []) = ap (λ t. t ++ 115 ∷ []) reads.is in
+    let digit = (and_parts (is_ascii_digit reads.first) (list_all is_ascii_digit reads.others) (subst (λ ds. list_all is_ascii_digit ds ≡ true) reads.is reads.digits)).0 in
+    subst (λ t. Lexes (tokens.Number number ∷ []) t (93 ∷ rest)) (append_assoc (decimal n) (115 ∷ []) (93 ∷ rest))
+    (number_lexes number (93 ∷ rest) reads.first (reads.others ++ 115 ∷ []) is digit (all_append is_number_byte (decimal n) 115 (weaker (decimal n) reads.digits) refl) refl)
+  where
+    number_digit : (x : ℕ) → is_ascii_digit x ≡ true → is_number_byte x ≡ true
+    number_digit x h = grind (arith, nat_tests)
+
+    weaker : (xs : List ℕ) → list_all is_ascii_digit xs ≡ true → list_all is_number_byte xs ≡ true
+    weaker [] h = refl
+    weaker (x ∷ xs) h = let parts = and_parts (is_ascii_digit x) (list_all is_ascii_digit xs) h in and_from (is_number_byte x) _ (number_digit x parts.0) (weaker xs parts.1)
+
+seconds_read : (n : ℕ) → n < 2 ^ 64 → duration_of (decimal n ++ 115 ∷ []) ≡ Some n
+seconds_read n small = let same : n * 1 + 0 ≡ n = omega arith in (decimal_reads n small).value (115 ∷ []) ∙ ap (λ k. Some k) same
+
+-- what a form keeps of a query's limits
+pub record Keeps (query : QueryForm) : Type 0 where
+  pub named : are_named query.left.range.matchers ≡ true
+  pub real : has_real_form query.left.range.matchers ≡ true
+  pub in_range : (1 ≤ query.left.range.seconds) × (query.left.range.seconds ≤ longest_range)
+
+selector_lexes : (m : MatcherForm) (ms : List MatcherForm) (rest : List ℕ) → are_named (m ∷ ms) ≡ true → Lexes (tokens.Sign signs.OpenBrace ∷ matchers_tokens (m ∷ ms)) (123 ∷ (matcher_text m ++ (others_text ms ++ 125 ∷ rest))) rest
+selector_lexes m ms rest named =
+    let matchers = matcher_text m ++ (others_text ms ++ 125 ∷ rest) in
+    lexes_then (tokens.Sign signs.OpenBrace ∷ []) (matchers_tokens (m ∷ ms)) (123 ∷ matchers) matchers rest (lone_sign 123 matchers signs.OpenBrace refl refl) (matchers_lexes m ms rest named)
+
+duration_lexes : (n : ℕ) (rest : List ℕ) → n < 2 ^ 64 → Lexes (tokens.Sign signs.OpenBracket ∷ tokens.Number (decimal n ++ 115 ∷ []) ∷ tokens.Sign signs.CloseBracket ∷ []) (32 ∷ 91 ∷ (decimal n ++ 115 ∷ 93 ∷ rest)) rest
+duration_lexes n rest small =
+    let number = decimal n ++ 115 ∷ 93 ∷ rest in
+    let token = tokens.Number (decimal n ++ 115 ∷ []) in
+    spaced (tokens.Sign signs.OpenBracket ∷ token ∷ tokens.Sign signs.CloseBracket ∷ []) (91 ∷ number) rest
+    (lexes_then (tokens.Sign signs.OpenBracket ∷ []) (token ∷ tokens.Sign signs.CloseBracket ∷ []) (91 ∷ number) number rest (lone_sign 91 number signs.OpenBracket refl refl)
+    (lexes_then (token ∷ []) (tokens.Sign signs.CloseBracket ∷ []) number (93 ∷ rest) rest (seconds_lexes n rest small) (lone_sign 93 rest signs.CloseBracket refl refl)))
+
+function_named : (f : RangeFunction) → is_name (function_text f) ≡ true
+function_named functions.CountOverTime = refl
+
+end_left : (most total : ℕ) → lexemes_in most total [] ≡ record { token = tokens.End; place = total } ∷ []
+unfolding lexemes_in
+end_left zero total = refl
+end_left (suc most) total = refl
+
+-- a printed query is derived
+pub query_printed : (query : QueryForm) → Keeps query → Derives (query_text query) query
+unfolding lexemes_in
+query_printed query keeps = by_matchers query.left.range.matchers keeps.named keeps.real
+  where
+    n : ℕ
+    n = query.left.range.seconds
+
+    f : RangeFunction
+    f = query.left.function
+
+    regrouped : (name first others digits : List ℕ) → name ++ (40 ∷ []) ++ ((123 ∷ []) ++ (first ++ others) ++ (125 ∷ 32 ∷ 91 ∷ []) ++ digits ++ (115 ∷ 93 ∷ [])) ++ (41 ∷ []) ≡ name ++ (40 ∷ 123 ∷ (first ++ (others ++ 125 ∷ 32 ∷ 91 ∷ (digits ++ 115 ∷ 93 ∷ 41 ∷ []))))
+    regrouped name first others digits = simp append_assoc
+
+    form : List MatcherForm → QueryForm
+    form ms = record { left = record { function = f; range = record { matchers = ms; seconds = n } } }
+
+    by_matchers : (ms : List MatcherForm) → are_named ms ≡ true → has_real_form ms ≡ true → Derives (query_text (form ms)) (form ms)
+    by_matchers [] named real = absurd (true≢false (sym real))
+    by_matchers (m ∷ ms) named real =
+        let small : n < 2 ^ 64 = omega (arith, keeps.in_range.1) in
+        let closing = 41 ∷ [] in
+        let duration = 32 ∷ 91 ∷ (decimal n ++ 115 ∷ 93 ∷ closing) in
+        let selector = 123 ∷ (matcher_text m ++ (others_text ms ++ 125 ∷ duration)) in
+        let text = function_text f ++ (40 ∷ selector) in
+        let total = length text in
+        let name = word_lexes (function_text f) (40 ∷ selector) (function_named f) refl in
+        let opened = lone_sign 40 selector signs.OpenParenthesis refl refl in
+        let matchers = selector_lexes m ms duration named in
+        let bracketed = duration_lexes n closing small in
+        let closed = lone_sign 41 [] signs.CloseParenthesis refl refl in
+        let count = length (tokens.Sign signs.OpenBrace ∷ matchers_tokens (m ∷ ms)) in
+        let left = total - (1 + (1 + (count + (3 + (1 + 0))))) in
+        let fuel : 1 + (1 + (count + (3 + (1 + left)))) ≡ total = omega (arith, name.shorter, opened.shorter, matchers.shorter, bracketed.shorter, closed.shorter) in
+        let range : IsRange (record { matchers = m ∷ ms; seconds = n }) (lexemes_in (1 + (count + (3 + (1 + left)))) total (40 ∷ selector)) (lexemes_in left total []) = record {
+          behind_parenthesis = lexemes_in (count + (3 + (1 + left))) total selector;
+          behind_selector = lexemes_in (3 + (1 + left)) total duration;
+          behind_duration = lexemes_in (1 + left) total closing;
+          opened = opened.stand total (count + (3 + (1 + left)));
+          selector = record { stand = matchers.stand total (3 + (1 + left)); named = named; real = real };
+          duration = record { duration = decimal n ++ 115 ∷ []; stand = bracketed.stand total (1 + left); read = seconds_read n small; in_range = keeps.in_range };
+          closed = closed.stand total left;
+        } in
+        let start = subst (λ k. Stand (tokens.Word (function_text f) ∷ []) (lexemes_in k total text) (lexemes_in (1 + (count + (3 + (1 + left)))) total (40 ∷ selector))) fuel (name.stand total (1 + (count + (3 + (1 + left))))) in
+        subst (λ t. Derives t (form (m ∷ ms))) (sym (regrouped (function_text f) (matcher_text m) (others_text ms) (decimal n)))
+        (lexemes_in left total [], [], (lexemes_in (1 + (count + (3 + (1 + left)))) total (40 ∷ selector), start, range), subst (λ ls. Stand (tokens.End ∷ []) ls []) (sym (end_left left total)) (refl, refl))

@@ -1,0 +1,375 @@
+-- Each production of the grammar: what is read is derived, and what is derived is read.
+use Rattle.std.proofs.Common.{◌≡◌, inl, inr, ◌⊎◌, ⊎_elim, ℕ, zero, suc, ◌≤◌, nat_le, Bool, true, false, cond, ◌&&◌, List, [], ◌∷◌, ◌++◌, Option, Some, None, Result, Ok, Err, length, refl, sym, ap, subst, ◌∙◌, arith, codes}
+use Rattle.std.specs.List.{list_all}
+use Rattle.std.proofs.lemmas.Bool.{true≢false, and_parts, and_from, leb-true, le-leb, cond-true}
+use Rattle.rl_labels.specs.Name.{is_name, is_text}
+use Rattle.rl_labels.specs.laws.LabelLaws.{same_text, is_text_itself}
+use Rattle.rl_labels.specs.declared.matcher.MatchOp.{MatchOp}
+use Rattle.rl_labels.specs.declared.matcher.MatchOp.TheVariants as operators
+use Rattle.rl_query.specs.declared.fault.QueryFault.{QueryFault}
+use Rattle.rl_query.specs.declared.fault.QueryFault.TheVariants as faults
+use Rattle.rl_query.specs.declared.parser.Position.{Position}
+use Rattle.rl_query.specs.declared.parser.Position.TheVariants as positions
+use Rattle.rl_query.specs.declared.query.RangeFunction.{RangeFunction}
+use Rattle.rl_query.specs.declared.query.RangeFunction.TheVariants as functions
+use Rattle.rl_query.specs.declared.token.Lexeme.{Lexeme}
+use Rattle.rl_query.specs.declared.token.Sign.{Sign}
+use Rattle.rl_query.specs.declared.token.Sign.TheVariants as signs
+use Rattle.rl_query.specs.declared.token.Token.{Token}
+use Rattle.rl_query.specs.declared.token.Token.TheVariants as tokens
+use Rattle.rl_query.specs.Durations.{duration_of}
+use Rattle.rl_query.specs.Form.{MatcherForm, RangeForm, TermForm, QueryForm, has_real_form}
+use Rattle.rl_query.specs.Grammar.{Stand, operator_sign, matcher_tokens, matchers_tokens, IsSelector, IsDuration, IsRange, IsTerm, Derives}
+use Rattle.rl_query.specs.Lexing.{sign_at, lexemes_of}
+use Rattle.rl_query.specs.Limits.{longest_range}
+use Rattle.rl_query.specs.Parsing.{is_sign, next, refusal, expected, name_of, content_of, matcher_at, goes_on, element_at, matchers_at, some_matcher, real_matchers, selector_at, looks_like_duration, seconds_of, range_of, named_function, function_of, seconds_at, range_at, term_at, ends, query_in}
+use Rattle.rl_query.specs.Printing.{function_text}
+use Rattle.rl_query.specs.Tables.{sign_text}
+use Rattle.rl_plain.specs.Answers.{◌>>=◌}
+
+bind_ok : {A B : Type 0} (r : Result A QueryFault) (f : A → Result B QueryFault) (y : B) → (r >>= f) ≡ Ok y → (x : A) × (r ≡ Ok x) × (f x ≡ Ok y)
+bind_ok (Ok x) f y h = (x, refl, h)
+bind_ok (Err e) f y h = cc
+
+chosen : {A : Type 0} (b : Bool) (x y z : A) → cond b x y ≡ z → ((b ≡ true) × (x ≡ z)) ⊎ ((b ≡ false) × (y ≡ z))
+chosen true x y z h = inl (refl, h)
+chosen false x y z h = inr (refl, h)
+
+no_err : {B : Type 0} (e : QueryFault) (y : B) → Err e ≡ Ok y → ⊥
+no_err e y h = cc
+
+same_ok : {A : Type 0} (x y : A) → ◌≡◌ {A = Result A QueryFault} (Ok x) (Ok y) → x ≡ y
+same_ok x y e = cc
+
+-- an answer that is chosen by a test
+if_ok : {A : Type 0} (b : Bool) (x y : A) (e : QueryFault) → cond b (Ok x) (Err e) ≡ Ok y → (b ≡ true) × (x ≡ y)
+if_ok true x y e h = (refl, same_ok x y h)
+if_ok false x y e h = absurd (no_err e y h)
+
+-- tokens that stand at the front, and others behind them
+pub stand_then : (front others : List Token) (lexemes behind rest : List Lexeme) → Stand front lexemes behind → Stand others behind rest → Stand (front ++ others) lexemes rest
+stand_then [] others lexemes behind rest first second = subst (λ ls. Stand others ls rest) (sym first) second
+stand_then (t ∷ front) others [] behind rest first second = absurd first
+stand_then (t ∷ front) others (l ∷ lexemes) behind rest first second = (first.0, stand_then front others lexemes behind rest first.1 second)
+
+one_read : (token : Token) (lexemes rest : List Lexeme) (l : Lexeme) → next lexemes ≡ Ok (l, rest) → l.token ≡ token → Stand (token ∷ []) lexemes rest
+one_read token [] rest l h is = absurd (no_err _ _ h)
+one_read token (x ∷ lexemes) rest l h is =
+    let same : ◌≡◌ {A = Lexeme × List Lexeme} (x, lexemes) (l, rest) = same_ok _ _ h in
+    (ap (λ (p : Lexeme × List Lexeme). p.0.token) same ∙ is, ap (λ (p : Lexeme × List Lexeme). p.1) same)
+
+-- the token at the front, and those behind it
+record Next (token : Token) (others : List Token) (lexemes rest : List Lexeme) : Type 0 where
+  pub place : ℕ
+  pub behind : List Lexeme
+  pub is : next lexemes ≡ Ok (record { token = token; place = place }, behind)
+  pub more : Stand others behind rest
+
+next_is : (token : Token) (others : List Token) (lexemes rest : List Lexeme) → Stand (token ∷ others) lexemes rest → Next token others lexemes rest
+next_is token others [] rest stand = absurd stand
+next_is token others (l ∷ lexemes) rest stand = record { place = l.place; behind = lexemes; is = ap (λ t. Ok (record { token = t; place = l.place }, lexemes)) stand.0; more = stand.1 }
+
+-- signs, by what they are written as
+sign_read : (s : Sign) → sign_at (sign_text s) ≡ Some (s, [])
+sign_read signs.OpenBrace = refl
+sign_read _ = refl
+
+one_sign : (s t : Sign) → is_text (sign_text s) (sign_text t) ≡ true → s ≡ t
+one_sign s t h =
+    let both : ◌≡◌ {A = Option (Sign × List ℕ)} (Some (s, [])) (Some (t, [])) = sym (sign_read s) ∙ ap sign_at (same_text (sign_text s) (sign_text t) h) ∙ sign_read t in
+    let pairs : ◌≡◌ {A = Sign × List ℕ} (s, []) (t, []) = cc in
+    ap (λ (p : Sign × List ℕ). p.0) pairs
+
+only_sign : (s : Sign) (t : Token) → is_sign s t ≡ true → t ≡ tokens.Sign s
+only_sign s (tokens.Sign x) h = ap tokens.Sign (one_sign x s h)
+only_sign s _ h = absurd (true≢false (sym h))
+
+expected_read : (sign : Sign) (position : Position) (lexemes rest : List Lexeme) → expected sign position lexemes ≡ Ok rest → Stand (tokens.Sign sign ∷ []) lexemes rest
+unfolding expected
+expected_read sign position lexemes rest h =
+    let a = bind_ok (next lexemes) _ rest h in
+    let b = if_ok (is_sign sign a.0.0.token) a.0.1 rest (refusal position a.0.0.place a.0.0.token) a.2 in
+    one_read (tokens.Sign sign) lexemes rest a.0.0 (a.1 ∙ ap (λ r. Ok (a.0.0, r)) b.1) (only_sign sign a.0.0.token b.0)
+
+expected_is : (sign : Sign) (others : List Token) (position : Position) (lexemes rest : List Lexeme) → Stand (tokens.Sign sign ∷ others) lexemes rest → (behind : List Lexeme) × (expected sign position lexemes ≡ Ok behind) × Stand others behind rest
+unfolding expected
+expected_is sign others position lexemes rest stand =
+    let a = next_is (tokens.Sign sign) others lexemes rest stand in
+    (a.behind, rw a.is (cond-true (is_sign sign (tokens.Sign sign)) _ _ (is_text_itself (sign_text sign))), a.more)
+
+named : (place : ℕ) (t : Token) (name : List ℕ) → name_of place t ≡ Ok name → t ≡ tokens.Word name
+named place (tokens.Word w) name h = ap tokens.Word (same_ok _ _ h)
+named place _ name h = absurd (no_err _ name h)
+
+content : (place : ℕ) (t : Token) (value : List ℕ) → content_of place t ≡ Ok value → t ≡ tokens.Text value
+content place (tokens.Text w) value h = ap tokens.Text (same_ok _ _ h)
+content place _ value h = absurd (no_err _ value h)
+
+-- name="value"
+record IsMatcher (m : MatcherForm) (lexemes rest : List Lexeme) : Type 0 where
+  pub stand : Stand (matcher_tokens m) lexemes rest
+  pub named : is_name m.name ≡ true
+
+matcher_read : (lexemes : List Lexeme) (m : MatcherForm) (rest : List Lexeme) → matcher_at lexemes ≡ Ok (m, rest) → IsMatcher m lexemes rest
+unfolding matcher_at
+matcher_read lexemes m rest h =
+    let a = bind_ok (next lexemes) _ (m, rest) h in
+    let b = bind_ok (name_of a.0.0.place a.0.0.token) _ (m, rest) a.2 in
+    let c = bind_ok (expected signs.Equal positions.Operator a.0.1) _ (m, rest) b.2 in
+    let d = bind_ok (next c.0) _ (m, rest) c.2 in
+    let e = bind_ok (content_of d.0.0.place d.0.0.token) _ (m, rest) d.2 in
+    let made = if_ok (is_name b.0) _ (m, rest) _ e.2 in
+    let read : MatcherForm = record { name = b.0; op = operators.Equal; value = e.0 } in
+    let whole : IsMatcher read lexemes d.0.1 = record {
+      stand = stand_then (tokens.Word b.0 ∷ []) (tokens.Sign signs.Equal ∷ tokens.Text e.0 ∷ []) lexemes a.0.1 d.0.1 (one_read (tokens.Word b.0) lexemes a.0.1 a.0.0 a.1 (named a.0.0.place a.0.0.token b.0 b.1))
+          (stand_then (tokens.Sign signs.Equal ∷ []) (tokens.Text e.0 ∷ []) a.0.1 c.0 d.0.1 (expected_read signs.Equal positions.Operator a.0.1 c.0 c.1) (one_read (tokens.Text e.0) c.0 d.0.1 d.0.0 d.1 (content d.0.0.place d.0.0.token e.0 e.1)));
+      named = made.0;
+    } in
+    subst (λ (p : MatcherForm × List Lexeme). IsMatcher p.0 lexemes p.1) made.1 whole
+
+matcher_is : (others : List Token) (m : MatcherForm) (lexemes rest : List Lexeme) → Stand (matcher_tokens m ++ others) lexemes rest → is_name m.name ≡ true → (behind : List Lexeme) × (matcher_at lexemes ≡ Ok (m, behind)) × Stand others behind rest
+unfolding matcher_at
+matcher_is others m lexemes rest stand is = by_op m.op stand
+  where
+    by_op : (op : MatchOp) → Stand (matcher_tokens (record { name = m.name; op = op; value = m.value }) ++ others) lexemes rest → (behind : List Lexeme) × (matcher_at lexemes ≡ Ok (record { name = m.name; op = op; value = m.value }, behind)) × Stand others behind rest
+    by_op operators.Equal stand =
+        let a = next_is (tokens.Word m.name) (tokens.Sign signs.Equal ∷ tokens.Text m.value ∷ others) lexemes rest stand in
+        let b = expected_is signs.Equal (tokens.Text m.value ∷ others) positions.Operator a.behind rest a.more in
+        let c = next_is (tokens.Text m.value) others b.0 rest b.2 in
+        (c.behind, rw (a.is, b.1, c.is) (cond-true (is_name m.name) _ _ is), c.more)
+
+goes_on_read : (place : ℕ) (t : Token) (more : Bool) → goes_on place t ≡ Ok more → t ≡ tokens.Sign (cond more signs.Comma signs.CloseBrace)
+goes_on_read place t more h =
+    ⊎_elim
+    (λ yes. only_sign signs.Comma t yes.0 ∙ ap (λ b. tokens.Sign (cond b signs.Comma signs.CloseBrace)) (same_ok _ _ yes.1))
+    (λ other. let last = if_ok (is_sign signs.CloseBrace t) _ more _ other.1 in only_sign signs.CloseBrace t last.0 ∙ ap (λ b. tokens.Sign (cond b signs.Comma signs.CloseBrace)) last.1)
+    (chosen (is_sign signs.Comma t) _ _ (Ok more) h)
+
+-- a matcher and the sign behind it
+record IsElement (m : MatcherForm) (more : Bool) (lexemes rest : List Lexeme) : Type 0 where
+  pub stand : Stand (matcher_tokens m ++ tokens.Sign (cond more signs.Comma signs.CloseBrace) ∷ []) lexemes rest
+  pub named : is_name m.name ≡ true
+
+element_read : (lexemes : List Lexeme) (m : MatcherForm) (more : Bool) (rest : List Lexeme) → element_at lexemes ≡ Ok (m, more, rest) → IsElement m more lexemes rest
+unfolding element_at
+element_read lexemes m more rest h =
+    let a = bind_ok (matcher_at lexemes) _ (m, more, rest) h in
+    let b = bind_ok (next a.0.1) _ (m, more, rest) a.2 in
+    let c = bind_ok (goes_on b.0.0.place b.0.0.token) _ (m, more, rest) b.2 in
+    let made : ◌≡◌ {A = MatcherForm × Bool × List Lexeme} (a.0.0, c.0, b.0.1) (m, more, rest) = same_ok _ _ c.2 in
+    let matcher = matcher_read lexemes a.0.0 a.0.1 a.1 in
+    let whole : IsElement a.0.0 c.0 lexemes b.0.1 = record { stand = stand_then (matcher_tokens a.0.0) (tokens.Sign (cond c.0 signs.Comma signs.CloseBrace) ∷ []) lexemes a.0.1 b.0.1 matcher.stand (one_read (tokens.Sign (cond c.0 signs.Comma signs.CloseBrace)) a.0.1 b.0.1 b.0.0 b.1 (goes_on_read b.0.0.place b.0.0.token c.0 c.1)); named = matcher.named } in
+    subst (λ (p : MatcherForm × Bool × List Lexeme). IsElement p.0 p.1 lexemes p.2) made whole
+
+element_is : (others : List Token) (m : MatcherForm) (more : Bool) (lexemes rest : List Lexeme) → Stand (matcher_tokens m ++ tokens.Sign (cond more signs.Comma signs.CloseBrace) ∷ others) lexemes rest → is_name m.name ≡ true → (behind : List Lexeme) × (element_at lexemes ≡ Ok (m, more, behind)) × Stand others behind rest
+unfolding element_at
+element_is others m true lexemes rest stand is = let a = matcher_is (tokens.Sign signs.Comma ∷ others) m lexemes rest stand is in let b = next_is (tokens.Sign signs.Comma) others a.0 rest a.2 in (b.behind, rw (a.1, b.is) refl, b.more)
+element_is others m false lexemes rest stand is = let a = matcher_is (tokens.Sign signs.CloseBrace ∷ others) m lexemes rest stand is in let b = next_is (tokens.Sign signs.CloseBrace) others a.0 rest a.2 in (b.behind, rw (a.1, b.is) refl, b.more)
+
+abbrev are_named : List MatcherForm → Bool
+are_named = list_all (λ m. is_name m.name)
+
+-- matchers, one at least, up to the closing brace
+abbrev AreMatchers : List MatcherForm → List Lexeme → List Lexeme → Type 0
+AreMatchers [] lexemes rest = ⊥
+AreMatchers (m ∷ ms) lexemes rest = Stand (matchers_tokens (m ∷ ms)) lexemes rest × (are_named (m ∷ ms) ≡ true)
+
+join : (m : MatcherForm) (others : List MatcherForm) (lexemes behind rest : List Lexeme) → IsElement m true lexemes behind → AreMatchers others behind rest → AreMatchers (m ∷ others) lexemes rest
+join m [] lexemes behind rest element others = absurd others
+join m (o ∷ os) lexemes behind rest element others =
+    (stand_then (matcher_tokens m ++ tokens.Sign signs.Comma ∷ []) (matchers_tokens (o ∷ os)) lexemes behind rest element.stand others.0, and_from (is_name m.name) _ element.named others.1)
+
+abbrev with_first : MatcherForm → List MatcherForm × List Lexeme → Result (List MatcherForm × List Lexeme) QueryFault
+with_first m others = Ok (m ∷ others.0, others.1)
+
+matchers_read : (most : ℕ) (lexemes : List Lexeme) (ms : List MatcherForm) (rest : List Lexeme) → matchers_at most lexemes ≡ Ok (ms, rest) → AreMatchers ms lexemes rest
+unfolding matchers_at
+matchers_read zero lexemes ms rest h = absurd (no_err _ (ms, rest) h)
+matchers_read (suc most) lexemes ms rest h =
+    let a = bind_ok (element_at lexemes) _ (ms, rest) h in
+    by_more a.0.0 a.0.1 a.0.2 (element_read lexemes a.0.0 a.0.1 a.0.2 a.1) a.2 (λ others behind read. matchers_read most a.0.2 others behind read)
+  where
+    by_more : (m : MatcherForm) (more : Bool) (behind : List Lexeme) → IsElement m more lexemes behind → cond more (matchers_at most behind >>= with_first m) (Ok (m ∷ [], behind)) ≡ Ok (ms, rest)
+        → ((others : List MatcherForm) (end : List Lexeme) → matchers_at most behind ≡ Ok (others, end) → AreMatchers others behind end) → AreMatchers ms lexemes rest
+    by_more m true behind element h inner =
+        let b = bind_ok (matchers_at most behind) (with_first m) (ms, rest) h in
+        subst (λ (p : List MatcherForm × List Lexeme). AreMatchers p.0 lexemes p.1) (same_ok _ _ b.2) (join m b.0.0 lexemes behind b.0.1 element (inner b.0.0 b.0.1 b.1))
+    by_more m false behind element h inner = subst (λ (p : List MatcherForm × List Lexeme). AreMatchers p.0 lexemes p.1) (same_ok _ _ h) (element.stand, and_from (is_name m.name) true element.named refl)
+
+few_matchers : (ms : List MatcherForm) (lexemes rest : List Lexeme) → Stand (matchers_tokens ms) lexemes rest → length ms ≤ length lexemes
+few_matchers [] lexemes rest stand = omega arith
+few_matchers (m ∷ []) [] rest stand = absurd stand
+few_matchers (m ∷ []) (l ∷ lexemes) rest stand = omega arith
+few_matchers (m ∷ o ∷ os) (a ∷ b ∷ c ∷ d ∷ lexemes) rest stand = omega (arith, few_matchers (o ∷ os) lexemes rest stand.1.1.1.1)
+few_matchers (m ∷ o ∷ os) (a ∷ b ∷ c ∷ []) rest stand = absurd stand.1.1.1
+few_matchers (m ∷ o ∷ os) (a ∷ b ∷ []) rest stand = absurd stand.1.1
+few_matchers (m ∷ o ∷ os) (a ∷ []) rest stand = absurd stand.1
+few_matchers (m ∷ o ∷ os) [] rest stand = absurd stand
+
+matchers_are : (most : ℕ) (m : MatcherForm) (ms : List MatcherForm) (lexemes rest : List Lexeme) → Stand (matchers_tokens (m ∷ ms)) lexemes rest → are_named (m ∷ ms) ≡ true → length (m ∷ ms) ≤ most → matchers_at most lexemes ≡ Ok (m ∷ ms, rest)
+unfolding matchers_at
+matchers_are zero m ms lexemes rest stand names few = absurd (omega (arith, few))
+matchers_are (suc most) m [] lexemes rest stand names few =
+    let a = element_is [] m false lexemes rest stand (and_parts (is_name m.name) true names).0 in
+    rw a.1 (ap (λ r. Ok (m ∷ [], r)) a.2)
+matchers_are (suc most) m (o ∷ os) lexemes rest stand names few =
+    let parts = and_parts (is_name m.name) (are_named (o ∷ os)) names in
+    let a = element_is (matchers_tokens (o ∷ os)) m true lexemes rest stand parts.0 in
+    rw (a.1, matchers_are most o os a.0 rest a.2 parts.1 (omega (arith, few))) refl
+
+selector_read : (lexemes braced : List Lexeme) (ms : List MatcherForm) (rest : List Lexeme) → Stand (tokens.Sign signs.OpenBrace ∷ []) lexemes braced → selector_at braced ≡ Ok (ms, rest) → IsSelector ms lexemes rest
+unfolding selector_at
+selector_read lexemes braced ms rest opened h =
+    let a = bind_ok (next braced) _ (ms, rest) h in
+    let b = bind_ok (some_matcher a.0.0.token) _ (ms, rest) a.2 in
+    let c = bind_ok (matchers_at (length braced) braced) _ (ms, rest) b.2 in
+    let d = bind_ok (real_matchers c.0.0) _ (ms, rest) c.2 in
+    let made : ◌≡◌ {A = List MatcherForm × List Lexeme} (d.0, c.0.1) (ms, rest) = same_ok _ _ d.2 in
+    let real = if_ok (has_real_form c.0.0) c.0.0 d.0 faults.NoRealMatcher d.1 in
+    let whole = by_matchers c.0.0 c.0.1 (matchers_read (length braced) braced c.0.0 c.0.1 c.1) real.0 in
+    subst (λ (p : List MatcherForm × List Lexeme). IsSelector p.0 lexemes p.1) (ap (λ found. (found, c.0.1)) real.1 ∙ made) whole
+  where
+    by_matchers : (found : List MatcherForm) (behind : List Lexeme) → AreMatchers found braced behind → has_real_form found ≡ true → IsSelector found lexemes behind
+    by_matchers [] behind are real = absurd are
+    by_matchers (x ∷ xs) behind are real = record { stand = stand_then (tokens.Sign signs.OpenBrace ∷ []) (matchers_tokens (x ∷ xs)) lexemes braced behind opened are.0; named = are.1; real = real }
+
+selector_is : (ms : List MatcherForm) (lexemes rest : List Lexeme) → IsSelector ms lexemes rest → (braced : List Lexeme) × (expected signs.OpenBrace positions.Elsewhere lexemes ≡ Ok braced) × (selector_at braced ≡ Ok (ms, rest))
+unfolding selector_at
+selector_is [] lexemes rest is = absurd (true≢false (sym is.real))
+selector_is (m ∷ ms) lexemes rest is =
+    let a = expected_is signs.OpenBrace (matchers_tokens (m ∷ ms)) positions.Elsewhere lexemes rest is.stand in
+    let first = first_name m ms a.0 a.2 in (
+      a.0,
+      a.1,
+      rw (first.2, matchers_are (length a.0) m ms a.0 rest a.2 is.named (few_matchers (m ∷ ms) a.0 rest a.2))
+          (ap (λ r. r >>= λ (matchers : List MatcherForm). Ok (matchers, rest)) (cond-true (has_real_form (m ∷ ms)) _ _ is.real)),
+    )
+  where
+    behind_name : MatcherForm → List Token → List Token
+    behind_name m others = tokens.Sign (operator_sign m.op) ∷ tokens.Text m.value ∷ others
+
+    first_name : (m : MatcherForm) (ms : List MatcherForm) (braced : List Lexeme) → Stand (matchers_tokens (m ∷ ms)) braced rest → (place : ℕ) × (behind : List Lexeme) × (next braced ≡ Ok (record { token = tokens.Word m.name; place = place }, behind))
+    first_name m [] braced stand = let n = next_is (tokens.Word m.name) (behind_name m (tokens.Sign signs.CloseBrace ∷ [])) braced rest stand in (n.place, n.behind, n.is)
+    first_name m (o ∷ os) braced stand = let n = next_is (tokens.Word m.name) (behind_name m (tokens.Sign signs.Comma ∷ matchers_tokens (o ∷ os))) braced rest stand in (n.place, n.behind, n.is)
+
+-- the seconds of a range
+record IsSeconds (token : Token) (seconds : ℕ) : Type 0 where
+  pub number : List ℕ
+  pub is : token ≡ tokens.Number number
+  pub read : duration_of number ≡ Some seconds
+  pub in_range : (1 ≤ seconds) × (seconds ≤ longest_range)
+
+range_read : (place : ℕ) (token : Token) (seconds : ℕ) → range_of place token ≡ Ok seconds → IsSeconds token seconds
+range_read place (tokens.Number number) seconds h = by_duration (duration_of number) refl h
+  where
+    by_duration : (o : Option ℕ) → duration_of number ≡ o → seconds_of o place number ≡ Ok seconds → IsSeconds (tokens.Number number) seconds
+    by_duration None is h = absurd (⊎_elim (λ yes. no_err _ seconds yes.1) (λ other. no_err _ seconds other.1) (chosen (looks_like_duration number) _ _ (Ok seconds) h))
+    by_duration (Some s) is h =
+        let checked = if_ok (nat_le 1 s && nat_le s longest_range) s seconds faults.BadRange h in
+        let bounds = and_parts (nat_le 1 s) (nat_le s longest_range) checked.0 in
+        record { number = number; is = refl; read = is ∙ ap (λ n. Some n) checked.1; in_range = subst (λ n. (1 ≤ n) × (n ≤ longest_range)) checked.1 (leb-true 1 s bounds.0, leb-true s longest_range bounds.1) }
+range_read place _ seconds h = absurd (no_err _ seconds h)
+
+seconds_read : (lexemes : List Lexeme) (seconds : ℕ) (rest : List Lexeme) → seconds_at lexemes ≡ Ok (seconds, rest) → IsDuration seconds lexemes rest
+unfolding seconds_at
+seconds_read lexemes seconds rest h =
+    let a = bind_ok (expected signs.OpenBracket positions.BehindSelector lexemes) _ (seconds, rest) h in
+    let b = bind_ok (next a.0) _ (seconds, rest) a.2 in
+    let c = bind_ok (range_of b.0.0.place b.0.0.token) _ (seconds, rest) b.2 in
+    let d = bind_ok (expected signs.CloseBracket positions.InRange b.0.1) _ (seconds, rest) c.2 in
+    let made : ◌≡◌ {A = ℕ × List Lexeme} (c.0, d.0) (seconds, rest) = same_ok _ _ d.2 in
+    let number = range_read b.0.0.place b.0.0.token c.0 c.1 in
+    let whole : IsDuration c.0 lexemes d.0 = record {
+      duration = number.number;
+      stand = stand_then (tokens.Sign signs.OpenBracket ∷ []) (tokens.Number number.number ∷ tokens.Sign signs.CloseBracket ∷ []) lexemes a.0 d.0 (expected_read signs.OpenBracket positions.BehindSelector lexemes a.0 a.1)
+          (stand_then (tokens.Number number.number ∷ []) (tokens.Sign signs.CloseBracket ∷ []) a.0 b.0.1 d.0 (one_read (tokens.Number number.number) a.0 b.0.1 b.0.0 b.1 number.is) (expected_read signs.CloseBracket positions.InRange b.0.1 d.0 d.1));
+      read = number.read;
+      in_range = number.in_range;
+    } in
+    subst (λ (p : ℕ × List Lexeme). IsDuration p.0 lexemes p.1) made whole
+
+seconds_are : (seconds : ℕ) (lexemes rest : List Lexeme) → IsDuration seconds lexemes rest → seconds_at lexemes ≡ Ok (seconds, rest)
+unfolding seconds_at
+seconds_are seconds lexemes rest is =
+    let a = expected_is signs.OpenBracket (tokens.Number is.duration ∷ tokens.Sign signs.CloseBracket ∷ []) positions.BehindSelector lexemes rest is.stand in
+    let b = next_is (tokens.Number is.duration) (tokens.Sign signs.CloseBracket ∷ []) a.0 rest a.2 in
+    let c = expected_is signs.CloseBracket [] positions.InRange b.behind rest b.more in
+    let checked : nat_le 1 seconds && nat_le seconds longest_range ≡ true = and_from _ _ (le-leb 1 seconds is.in_range.0) (le-leb seconds longest_range is.in_range.1) in
+    rw (a.1, b.is, is.read, checked, c.1) (ap (λ r. Ok (seconds, r)) c.2)
+
+range_derived : (lexemes : List Lexeme) (range : RangeForm) (rest : List Lexeme) → range_at lexemes ≡ Ok (range, rest) → IsRange range lexemes rest
+unfolding range_at
+range_derived lexemes range rest h =
+    let a = bind_ok (expected signs.OpenParenthesis positions.Elsewhere lexemes) _ (range, rest) h in
+    let b = bind_ok (expected signs.OpenBrace positions.Elsewhere a.0) _ (range, rest) a.2 in
+    let c = bind_ok (selector_at b.0) _ (range, rest) b.2 in
+    let d = bind_ok (seconds_at c.0.1) _ (range, rest) c.2 in
+    let e = bind_ok (expected signs.CloseParenthesis positions.BehindRange d.0.1) _ (range, rest) d.2 in
+    let made : ◌≡◌ {A = RangeForm × List Lexeme} (record { matchers = c.0.0; seconds = d.0.0 }, e.0) (range, rest) = same_ok _ _ e.2 in
+    let whole : IsRange (record { matchers = c.0.0; seconds = d.0.0 }) lexemes e.0 = record {
+      behind_parenthesis = a.0;
+      behind_selector = c.0.1;
+      behind_duration = d.0.1;
+      opened = expected_read signs.OpenParenthesis positions.Elsewhere lexemes a.0 a.1;
+      selector = selector_read a.0 b.0 c.0.0 c.0.1 (expected_read signs.OpenBrace positions.Elsewhere a.0 b.0 b.1) c.1;
+      duration = seconds_read c.0.1 d.0.0 d.0.1 d.1;
+      closed = expected_read signs.CloseParenthesis positions.BehindRange d.0.1 e.0 e.1;
+    } in
+    subst (λ (p : RangeForm × List Lexeme). IsRange p.0 lexemes p.1) made whole
+
+range_is : (range : RangeForm) (lexemes rest : List Lexeme) → IsRange range lexemes rest → range_at lexemes ≡ Ok (range, rest)
+unfolding range_at
+range_is range lexemes rest is =
+    let a = expected_is signs.OpenParenthesis [] positions.Elsewhere lexemes is.behind_parenthesis is.opened in
+    let selector = subst (λ ls. IsSelector range.matchers ls is.behind_selector) (sym a.2) is.selector in
+    let b = selector_is range.matchers a.0 is.behind_selector selector in
+    let c = expected_is signs.CloseParenthesis [] positions.BehindRange is.behind_duration rest is.closed in
+    rw (a.1, b.1, b.2, seconds_are range.seconds is.behind_selector is.behind_duration is.duration, c.1) (ap (λ r. Ok (range, r)) c.2)
+
+function_read : (place : ℕ) (token : Token) (function : RangeFunction) → function_of place token ≡ Ok function → token ≡ tokens.Word (function_text function)
+function_read place (tokens.Word word) function h = ap tokens.Word (by_name function h)
+  where
+    by_name : (f : RangeFunction) → named_function place word ≡ Ok f → word ≡ function_text f
+    by_name functions.CountOverTime h = same_text word (codes "count_over_time") (if_ok (is_text word (codes "count_over_time")) _ _ _ h).0
+function_read place _ function h = absurd (no_err _ function h)
+
+function_is : (place : ℕ) (function : RangeFunction) → named_function place (function_text function) ≡ Ok function
+function_is place functions.CountOverTime = refl
+
+term_read : (lexemes : List Lexeme) (term : TermForm) (rest : List Lexeme) → term_at lexemes ≡ Ok (term, rest) → IsTerm term lexemes rest
+unfolding term_at
+term_read lexemes term rest h =
+    let a = bind_ok (next lexemes) _ (term, rest) h in
+    let b = bind_ok (function_of a.0.0.place a.0.0.token) _ (term, rest) a.2 in
+    let c = bind_ok (range_at a.0.1) _ (term, rest) b.2 in
+    let made : ◌≡◌ {A = TermForm × List Lexeme} (record { function = b.0; range = c.0.0 }, c.0.1) (term, rest) = same_ok _ _ c.2 in
+    let whole : IsTerm (record { function = b.0; range = c.0.0 }) lexemes c.0.1 = (a.0.1, one_read (tokens.Word (function_text b.0)) lexemes a.0.1 a.0.0 a.1 (function_read a.0.0.place a.0.0.token b.0 b.1), range_derived a.0.1 c.0.0 c.0.1 c.1) in
+    subst (λ (p : TermForm × List Lexeme). IsTerm p.0 lexemes p.1) made whole
+
+term_is : (term : TermForm) (lexemes rest : List Lexeme) → IsTerm term lexemes rest → term_at lexemes ≡ Ok (term, rest)
+unfolding term_at
+term_is term lexemes rest is =
+    let a = next_is (tokens.Word (function_text term.function)) [] lexemes is.0 is.1 in
+    rw (a.is, function_is a.place term.function, range_is term.range a.behind rest (subst (λ ls. IsRange term.range ls rest) (sym a.more) is.2)) refl
+
+end_read : (place : ℕ) (token : Token) → ends place token ≡ Ok tt → token ≡ tokens.End
+end_read place tokens.End h = refl
+end_read place _ h = absurd (no_err _ tt h)
+
+-- what is read is derived
+pub query_derived : (text : List ℕ) (query : QueryForm) → query_in (lexemes_of text) ≡ Ok query → Derives text query
+unfolding query_in
+query_derived text query h =
+    let a = bind_ok (term_at (lexemes_of text)) _ query h in
+    let b = bind_ok (next a.0.1) _ query a.2 in
+    let c = bind_ok (ends b.0.0.place b.0.0.token) _ query b.2 in
+    let made : ◌≡◌ {A = QueryForm} (record { left = a.0.0 }) query = same_ok _ _ c.2 in
+    let whole : Derives text (record { left = a.0.0 }) = (a.0.1, b.0.1, term_read (lexemes_of text) a.0.0 a.0.1 a.1, one_read tokens.End a.0.1 b.0.1 b.0.0 b.1 (end_read b.0.0.place b.0.0.token c.1)) in
+    subst (Derives text) made whole
+
+-- what is derived is read
+pub derived_is_read : (text : List ℕ) (query : QueryForm) → Derives text query → query_in (lexemes_of text) ≡ Ok query
+unfolding query_in
+derived_is_read text query derived =
+    let a = next_is tokens.End [] derived.0 derived.1 derived.3 in
+    rw (term_is query.left (lexemes_of text) derived.0 derived.2, a.is) refl

@@ -1,0 +1,75 @@
+-- The tables of query texts: signs, escapes and units.
+use Rattle.std.specs.Prelude.{ℕ, ◌==◌, Bool, ◌||◌, List, [], ◌∷◌, Option, Some, None, if◌then◌else◌, codes}
+use Rattle.std.specs.List.{flat_map}
+use Rattle.rl_query.specs.declared.token.Sign.{Sign}
+use Rattle.rl_query.specs.declared.token.Sign.TheVariants as signs
+
+-- a sign as it is written
+abbrev pub sign_text : Sign → List ℕ
+sign_text signs.OpenBrace = codes "{"
+sign_text signs.CloseBrace = codes "}"
+sign_text signs.OpenParenthesis = codes "("
+sign_text signs.CloseParenthesis = codes ")"
+sign_text signs.OpenBracket = codes "["
+sign_text signs.CloseBracket = codes "]"
+sign_text signs.Comma = codes ","
+sign_text signs.Colon = codes ":"
+sign_text signs.Equal = codes "="
+sign_text signs.EqualTo = codes "=="
+sign_text signs.NotEqual = codes "!="
+sign_text signs.Matches = codes "=~"
+sign_text signs.NotMatches = codes "!~"
+sign_text signs.Greater = codes ">"
+sign_text signs.GreaterOrEqual = codes ">="
+sign_text signs.Less = codes "<"
+sign_text signs.LessOrEqual = codes "<="
+sign_text signs.Pipe = codes "|"
+sign_text signs.Contains = codes "|="
+sign_text signs.ContainsMatch = codes "|~"
+sign_text signs.ContainsPattern = codes "|>"
+sign_text signs.LacksPattern = codes "!>"
+sign_text signs.Slash = codes "/"
+sign_text signs.Plus = codes "+"
+sign_text signs.Minus = codes "-"
+sign_text signs.Times = codes "*"
+sign_text signs.Percent = codes "%"
+sign_text signs.Power = codes "^"
+sign_text signs.At = codes "@"
+
+-- the sign that two bytes are
+abbrev pub two_bytes : ℕ → ℕ → Option Sign
+two_bytes first second =
+    if second == 61 then (if first == 61 then Some signs.EqualTo else (if first == 33 then Some signs.NotEqual else (if first == 62 then Some signs.GreaterOrEqual
+    else (if first == 60 then Some signs.LessOrEqual else (if first == 124 then Some signs.Contains else None)))))
+    else (if second == 126 then (if first == 61 then Some signs.Matches else (if first == 33 then Some signs.NotMatches else (if first == 124 then Some signs.ContainsMatch else None)))
+    else (if second == 62 then (if first == 124 then Some signs.ContainsPattern else (if first == 33 then Some signs.LacksPattern else None))
+    else None))
+
+-- the sign that a byte is
+abbrev pub one_byte : ℕ → Option Sign
+one_byte byte =
+    if byte == 123 then Some signs.OpenBrace else (if byte == 125 then Some signs.CloseBrace else (if byte == 40 then Some signs.OpenParenthesis
+    else (if byte == 41 then Some signs.CloseParenthesis else (if byte == 91 then Some signs.OpenBracket else (if byte == 93 then Some signs.CloseBracket
+    else (if byte == 44 then Some signs.Comma else (if byte == 58 then Some signs.Colon else (if byte == 61 then Some signs.Equal else (if byte == 62 then Some signs.Greater
+    else (if byte == 60 then Some signs.Less else (if byte == 124 then Some signs.Pipe else (if byte == 47 then Some signs.Slash else (if byte == 43 then Some signs.Plus
+    else (if byte == 45 then Some signs.Minus else (if byte == 42 then Some signs.Times else (if byte == 37 then Some signs.Percent else (if byte == 94 then Some signs.Power
+    else (if byte == 64 then Some signs.At else None))))))))))))))))))
+
+-- a byte between quotes: a backslash, a quote, a newline, a carriage return and a tab are escaped, all else stands for itself
+abbrev pub escape : ℕ → List ℕ
+escape byte =
+    if byte == 92 then 92 ∷ 92 ∷ [] else (if byte == 34 then 92 ∷ 34 ∷ [] else (if byte == 10 then 92 ∷ 110 ∷ []
+    else (if byte == 13 then 92 ∷ 114 ∷ [] else (if byte == 9 then 92 ∷ 116 ∷ [] else byte ∷ []))))
+
+abbrev pub escaped : List ℕ → List ℕ
+escaped = flat_map escape
+
+-- a byte that is not printed as itself
+abbrev pub is_escaped : ℕ → Bool
+is_escaped byte = byte == 92 || (byte == 34 || (byte == 10 || (byte == 13 || byte == 9)))
+
+-- the seconds of a unit, and its rank, from the longest down
+abbrev pub unit_of : ℕ → Option (ℕ × ℕ)
+unit_of byte =
+    if byte == 119 then Some (604800, 1) else (if byte == 100 then Some (86400, 2) else (if byte == 104 then Some (3600, 3)
+    else (if byte == 109 then Some (60, 4) else (if byte == 115 then Some (1, 5) else None))))
