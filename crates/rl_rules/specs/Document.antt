@@ -4,11 +4,12 @@ use Rattle.std.specs.List.{list_all, list_any}
 use Rattle.std.specs.Option.{option_map_or}
 use Rattle.toml.specs.Parse.{parse_document}
 use Rattle.toml.specs.Data.{Data, string, array, table, as_table, Items, no_items, item, Members, no_members, member, get_member}
+use Rattle.rl_plain.specs.Answers.{◌>>=◌}
 use Rattle.rl_labels.specs.Name.{is_text}
 use Rattle.rl_query.specs.Form.{QueryForm}
 use Rattle.rl_query.specs.Parsing.{query_of}
 use Rattle.rl_query.specs.declared.fault.QueryFault.{QueryFault}
-use Rattle.rl_rules.specs.Forms.{RuleForm, GroupForm, ◌>>=◌}
+use Rattle.rl_rules.specs.Forms.{RuleForm, GroupForm}
 use Rattle.rl_rules.specs.RuleNames.{is_metric_name, is_group_name}
 use Rattle.rl_rules.specs.declared.rule.RuleKind.TheVariants as kinds
 use Rattle.rl_rules.specs.declared.fault.RulesFault.{RulesFault}

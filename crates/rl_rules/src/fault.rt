@@ -1,9 +1,9 @@
 //! Why a rule file is refused.
 ghost use Rattle.std.specs.Prelude.{◌≡◌};
-ghost use Rattle.rl_rules.specs.declared.fault.RulesError.TheVariants.{Memory};
+ghost use Rattle.rl_plain.specs.declared.refusal.OrMemory.TheVariants.{Fault};
 
+use rl_plain::OrMemory;
 use rl_query::QueryFault;
-use std::alloc::{AllocError, AllocFailed};
 use thiserror::Error;
 
 /// Why a document has no groups, the lowest first.
@@ -31,26 +31,12 @@ pub enum RulesFault {
 }
 
 /// Why a rule file gave no groups.
-#[derive(Clone, Copy, Debug, Drop, Error, PartialEq, Eq)]
-pub enum RulesError {
-    #[error("{0}")]
-    Fault(RulesFault),
-    #[error("out of memory")]
-    Memory,
-}
+pub type RulesError = OrMemory<RulesFault>;
 
-impl From<AllocError> for RulesError {
-    ghost from_gives = { λ _ e. e ≡ Memory };
+impl From<RulesFault> for RulesError {
+    ghost from_gives = { λ fault e. e ≡ Fault fault };
 
-    fn from(_error: AllocError) -> Self {
-        RulesError::Memory
-    }
-}
-
-impl<T: Drop> From<AllocFailed<T>> for RulesError {
-    ghost from_gives = { λ _ e. e ≡ Memory };
-
-    fn from(_error: AllocFailed<T>) -> Self {
-        RulesError::Memory
+    fn from(fault: RulesFault) -> Self {
+        OrMemory::Fault(fault)
     }
 }

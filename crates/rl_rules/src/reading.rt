@@ -2,10 +2,11 @@
 ghost use Rattle.std.specs.Prelude.{◌≡◌, ◌&&◌, nat_lt, length, map};
 ghost use Rattle.std.specs.List.{list_all, list_any};
 ghost use Rattle.toml.specs.View.{table_view, items_view};
+ghost use Rattle.rl_plain.specs.Answers.{Gives};
 ghost use Rattle.rl_labels.specs.Name.{is_text};
 ghost use Rattle.rl_query.specs.Form.{query_form};
 ghost use Rattle.rl_query.specs.Parsing.{query_of};
-ghost use Rattle.rl_rules.specs.Forms.{Gives, group_form, rule_form};
+ghost use Rattle.rl_rules.specs.Forms.{group_form, rule_form};
 ghost use Rattle.rl_rules.specs.RuleNames.{is_group_name, is_metric_name};
 ghost use Rattle.rl_rules.specs.Document.{groups_of, document_groups, tables_of, query_at, rule_at, rules_from, group_at, groups_from, names_are_good, has_same_group, has_too_many, checked};
 

@@ -3,7 +3,7 @@ use Rattle.std.proofs.Common.{◌≡◌, length, map, drop}
 use Rattle.toml.specs.View.{items_view}
 use Rattle.rl_rules.specs.Forms.{group_form}
 use Rattle.rl_rules.specs.Document.{tables_of, groups_from}
-use Rattle.rl_rules.proofs.Walks.{with_front}
+use Rattle.rl_plain.specs.Answers.{with_front}
 use Rattle.rl_rules.proofs.reading.groups_from.Given as goal
 
 abbrev pub invariant-loop-item : goal.invariant-loop-item
