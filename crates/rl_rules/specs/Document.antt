@@ -3,93 +3,105 @@ use Rattle.std.specs.Prelude.{ℕ, ◌+◌, nat_lt, Bool, true, false, not, ◌&
 use Rattle.std.specs.List.{list_all, list_any}
 use Rattle.std.specs.Option.{option_map_or}
 use Rattle.toml.specs.Parse.{parse_document}
-use Rattle.toml.specs.Data.{Data, string, array, table, as_table, Items, no_items, item, Members, no_members, member, get_member}
+use Rattle.toml.specs.Data.{Data, string, array, as_str, as_array, as_table, Items, no_items, item, Members, no_members, member, get_member}
 use Rattle.rl_plain.specs.Answers.{◌>>=◌}
 use Rattle.rl_labels.specs.Name.{is_text}
 use Rattle.rl_query.specs.Form.{QueryForm}
 use Rattle.rl_query.specs.Parsing.{query_of}
 use Rattle.rl_query.specs.declared.fault.QueryFault.{QueryFault}
-use Rattle.rl_rules.specs.Forms.{RuleForm, GroupForm}
+use Rattle.rl_rules.specs.Forms.{KeyForm, RuleForm, GroupForm}
 use Rattle.rl_rules.specs.RuleNames.{is_metric_name, is_group_name}
-use Rattle.rl_rules.specs.declared.rule.RuleKind.TheVariants as kinds
+use Rattle.rl_rules.specs.declared.rule.RuleKind.TheVariants as rules
+use Rattle.rl_rules.specs.declared.shape.Kind.{Kind}
+use Rattle.rl_rules.specs.declared.shape.Kind.TheVariants as kinds
+use Rattle.rl_rules.specs.declared.shape.Need.{Need}
+use Rattle.rl_rules.specs.declared.shape.Need.TheVariants as needs
+use Rattle.rl_rules.specs.declared.shape.Test.{Test}
+use Rattle.rl_rules.specs.declared.shape.Test.TheVariants as tests
 use Rattle.rl_rules.specs.declared.fault.RulesFault.{RulesFault}
 use Rattle.rl_rules.specs.declared.fault.RulesFault.TheVariants as faults
 
--- a value that has to be a text, if it is there
-abbrev pub is_text_value : Option Data → Bool
-is_text_value None = true
-is_text_value (Some (string text)) = true
-is_text_value (Some _) = false
+-- the keys of a document
+abbrev pub document_keys : List KeyForm
+document_keys =
+    record { name = codes "groups"; kind = kinds.Tables; need = needs.Required }
+    ∷ []
 
--- a table that passes the test
-abbrev pub is_table_with : (Members → Bool) → Data → Bool
-is_table_with test value = option_map_or test (as_table value) false
+-- the keys of a group
+abbrev pub group_keys : List KeyForm
+group_keys =
+    record { name = codes "name"; kind = kinds.Text; need = needs.Required }
+    ∷ record { name = codes "rules"; kind = kinds.Tables; need = needs.Required }
+    ∷ []
 
--- each item is a table that passes the test
-abbrev pub all_tables : (Members → Bool) → Items → Bool
-all_tables test no_items = true
-all_tables test (item value items) = is_table_with test value && all_tables test items
-
--- a value that has to be an array, if it is there
-abbrev pub is_array_value : Option Data → Bool
-is_array_value None = true
-is_array_value (Some (array items)) = true
-is_array_value (Some _) = false
+-- the keys of a rule
+abbrev pub rule_keys : List KeyForm
+rule_keys =
+    record { name = codes "record"; kind = kinds.Text; need = needs.Required }
+    ∷ record { name = codes "expr"; kind = kinds.Text; need = needs.Required }
+    ∷ []
 
 -- the items of an array, none where there is none
 abbrev pub items_in : Option Data → Items
 items_in (Some (array items)) = items
 items_in _ = no_items
 
--- a value that has to be an array of such tables, if it is there
-abbrev pub are_tables : (Members → Bool) → Option Data → Bool
-are_tables test value = is_array_value value && all_tables test (items_in value)
-
--- the known keys have values of their types
-abbrev pub rule_is_typed : Members → Bool
-rule_is_typed rule = is_text_value (get_member (codes "record") rule) && is_text_value (get_member (codes "expr") rule)
-
-abbrev pub group_is_typed : Members → Bool
-group_is_typed group = is_text_value (get_member (codes "name") group) && are_tables rule_is_typed (get_member (codes "rules") group)
-
-abbrev pub is_typed : Members → Bool
-is_typed document = are_tables group_is_typed (get_member (codes "groups") document)
-
 -- the tables of an array
 abbrev pub tables_of : Items → List Members
 tables_of no_items = []
-tables_of (item (table members) items) = members ∷ tables_of items
-tables_of (item _ items) = tables_of items
+tables_of (item value items) = option_map_or (λ table. table ∷ tables_of items) (as_table value) (tables_of items)
 
 abbrev pub tables_at : List ℕ → Members → List Members
 tables_at key members = tables_of (items_in (get_member key members))
 
--- each key is one of these
-abbrev pub has_only : List (List ℕ) → Members → Bool
-has_only known no_members = true
-has_only known (member key value members) = list_any (λ name. is_text name key) known && has_only known members
+-- each item is a table
+abbrev pub are_tables : Items → Bool
+are_tables no_items = true
+are_tables (item value items) = is_some (as_table value) && are_tables items
 
-abbrev pub rule_is_known : Members → Bool
-rule_is_known = has_only (codes "record" ∷ codes "expr" ∷ [])
+-- a value of the kind
+abbrev pub is_of : Kind → Data → Bool
+is_of kinds.Text value = is_some (as_str value)
+is_of kinds.Tables value = option_map_or are_tables (as_array value) false
 
-abbrev pub group_is_known : Members → Bool
-group_is_known group = has_only (codes "name" ∷ codes "rules" ∷ []) group && list_all rule_is_known (tables_at (codes "rules") group)
+abbrev pub is_optional : Need → Bool
+is_optional needs.Required = false
+is_optional needs.Optional = true
 
-abbrev pub is_known : Members → Bool
-is_known document = has_only (codes "groups" ∷ []) document && list_all group_is_known (tables_at (codes "groups") document)
+-- what stands at a key is of its kind
+abbrev pub has_kind : Members → KeyForm → Bool
+has_kind table key = option_map_or (is_of key.kind) (get_member key.name table) true
 
-abbrev pub has : List ℕ → Members → Bool
-has key members = is_some (get_member key members)
+-- a key that has to be there is there
+abbrev pub has_needed : Members → KeyForm → Bool
+has_needed table key = is_optional key.need || is_some (get_member key.name table)
 
--- no key is missing
-abbrev pub rule_is_whole : Members → Bool
-rule_is_whole rule = has (codes "record") rule && has (codes "expr") rule
+-- what stands at the keys is of their kinds
+abbrev pub is_typed : List KeyForm → Members → Bool
+is_typed keys table = list_all (has_kind table) keys
 
-abbrev pub group_is_whole : Members → Bool
-group_is_whole group = (has (codes "name") group && has (codes "rules") group) && list_all rule_is_whole (tables_at (codes "rules") group)
+-- no other key is there
+abbrev pub is_known : List KeyForm → Members → Bool
+is_known keys no_members = true
+is_known keys (member name value members) = list_any (λ key. is_text key.name name) keys && is_known keys members
 
-abbrev pub is_whole : Members → Bool
-is_whole document = has (codes "groups") document && list_all group_is_whole (tables_at (codes "groups") document)
+-- the keys that have to be there are
+abbrev pub is_whole : List KeyForm → Members → Bool
+is_whole keys table = list_all (has_needed table) keys
+
+-- the one of these three tests that is asked
+abbrev pub passes : Test → List KeyForm → Members → Bool
+passes tests.Typed = is_typed
+passes tests.Known = is_known
+passes tests.Whole = is_whole
+
+-- a test of a table by the keys that it may have holds of a group and of each of its rules
+abbrev pub group_passes : (List KeyForm → Members → Bool) → Members → Bool
+group_passes test group = test group_keys group && list_all (test rule_keys) (tables_at (codes "rules") group)
+
+-- it holds of a document, of each of its groups and of each of their rules
+abbrev pub document_passes : (List KeyForm → Members → Bool) → Members → Bool
+document_passes test document = test document_keys document && list_all (group_passes test) (tables_at (codes "groups") document)
 
 -- the text at a key
 abbrev pub text_in : Option Data → List ℕ
@@ -107,26 +119,20 @@ query_at group rule (Err fault) = Err (faults.BadQuery group rule fault)
 abbrev pub rule_at : ℕ → ℕ → Members → Result RuleForm RulesFault
 rule_at group rule members = do
   query ← query_at group rule (query_of (text_at (codes "expr") members))
-  Ok (record { kind = kinds.Recording; name = text_at (codes "record") members; query = query })
+  Ok (record { kind = rules.Recording; name = text_at (codes "record") members; query = query })
 
-abbrev pub rules_from : ℕ → ℕ → List Members → Result (List RuleForm) RulesFault
-rules_from group rule [] = Ok []
-rules_from group rule (members ∷ rest) = do
-  first ← rule_at group rule members
-  others ← rules_from group (rule + 1) rest
+-- what is read of tables one after the other, each with its place
+abbrev pub each_from : {A : Type 0} → (ℕ → Members → Result A RulesFault) → ℕ → List Members → Result (List A) RulesFault
+each_from read place [] = Ok []
+each_from read place (table ∷ tables) = do
+  first ← read place table
+  others ← each_from read (place + 1) tables
   Ok (first ∷ others)
 
 abbrev pub group_at : ℕ → Members → Result GroupForm RulesFault
 group_at group members = do
-  rules ← rules_from group 0 (tables_at (codes "rules") members)
+  rules ← each_from (rule_at group) 0 (tables_at (codes "rules") members)
   Ok (record { name = text_at (codes "name") members; rules = rules })
-
-abbrev pub groups_from : ℕ → List Members → Result (List GroupForm) RulesFault
-groups_from group [] = Ok []
-groups_from group (members ∷ rest) = do
-  first ← group_at group members
-  others ← groups_from (group + 1) rest
-  Ok (first ∷ others)
 
 -- each name is one that a group or a recorded metric may have
 abbrev pub names_are_good : List GroupForm → Bool
@@ -148,13 +154,19 @@ checked groups =
     else (if has_same_group groups then Err faults.SameGroup
     else (if has_too_many groups then Err faults.TooMany else Ok groups))
 
+-- the lowest fault of the keys, if they have one
+abbrev pub check_keys : Members → Result (Unit {0}) RulesFault
+check_keys document =
+    if not (document_passes is_typed document) then Err faults.BadToml
+    else (if not (document_passes is_known document) then Err faults.UnknownKey
+    else (if not (document_passes is_whole document) then Err faults.MissingKey else Ok tt))
+
 -- the groups of a document
 abbrev pub document_groups : Members → Result (List GroupForm) RulesFault
-document_groups document =
-    if not (is_typed document) then Err faults.BadToml
-    else (if not (is_known document) then Err faults.UnknownKey
-    else (if not (is_whole document) then Err faults.MissingKey
-    else (groups_from 0 (tables_at (codes "groups") document) >>= checked)))
+document_groups document = do
+  _ ← check_keys document
+  groups ← each_from group_at 0 (tables_at (codes "groups") document)
+  checked groups
 
 abbrev pub groups_in : Option Members → Result (List GroupForm) RulesFault
 groups_in None = Err faults.BadToml

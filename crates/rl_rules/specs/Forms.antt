@@ -1,9 +1,18 @@
--- Groups without the facts that their types keep.
+-- Keys, rules and groups as definitions speak of them, without the facts that their types keep.
 use Rattle.std.specs.Prelude.{ℕ, List, map}
 use Rattle.rl_query.specs.Form.{QueryForm, query_form}
 use Rattle.rl_rules.specs.declared.rule.Group.{Group}
 use Rattle.rl_rules.specs.declared.rule.Rule.{Rule}
 use Rattle.rl_rules.specs.declared.rule.RuleKind.{RuleKind}
+use Rattle.rl_rules.specs.declared.shape.Key.{Key}
+use Rattle.rl_rules.specs.declared.shape.Kind.{Kind}
+use Rattle.rl_rules.specs.declared.shape.Need.{Need}
+
+-- a key that a table may have, with what stands there and whether it has to be there
+pub record KeyForm : Type 0 where
+  pub name : List ℕ
+  pub kind : Kind
+  pub need : Need
 
 pub record RuleForm : Type 0 where
   pub kind : RuleKind
@@ -13,6 +22,9 @@ pub record RuleForm : Type 0 where
 pub record GroupForm : Type 0 where
   pub name : List ℕ
   pub rules : List RuleForm
+
+abbrev pub key_form : Key → KeyForm
+key_form key = record { name = key.0.now; kind = key.1; need = key.2 }
 
 abbrev pub rule_form : Rule → RuleForm
 rule_form rule = record { kind = rule.kind; name = rule.name; query = query_form rule.query }

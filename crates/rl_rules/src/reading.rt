@@ -2,18 +2,18 @@
 ghost use Rattle.std.specs.Prelude.{◌≡◌, ◌&&◌, nat_lt, length, map};
 ghost use Rattle.std.specs.List.{list_all, list_any};
 ghost use Rattle.toml.specs.View.{table_view, items_view};
-ghost use Rattle.rl_plain.specs.Answers.{Gives};
+ghost use Rattle.rl_plain.specs.Answers.{Gives, Answers};
 ghost use Rattle.rl_labels.specs.Name.{is_text};
 ghost use Rattle.rl_query.specs.Form.{query_form};
 ghost use Rattle.rl_query.specs.Parsing.{query_of};
 ghost use Rattle.rl_rules.specs.Forms.{group_form, rule_form};
 ghost use Rattle.rl_rules.specs.RuleNames.{is_group_name, is_metric_name};
-ghost use Rattle.rl_rules.specs.Document.{groups_of, document_groups, tables_of, query_at, rule_at, rules_from, group_at, groups_from, names_are_good, has_same_group, has_too_many, checked};
+ghost use Rattle.rl_rules.specs.Document.{groups_of, document_groups, tables_of, query_at, rule_at, group_at, each_from, names_are_good, has_same_group, has_too_many, checked, check_keys};
 
 use crate::fault::{RulesError, RulesFault};
 use crate::names::{is_group_name, is_metric_name};
 use crate::rule::{Group, Rule, RuleKind};
-use crate::shape::{is_known, is_typed, is_whole, items_at, text_at};
+use crate::shape::{Test, document_passes, items_at, text_at};
 use rl_plain::{PlainList, PlainText};
 use rl_query::{Query, QueryError, parse};
 use std::alloc::Global;
@@ -35,22 +35,30 @@ pub fn read_rules(alloc: Global, text: &str) -> Result<Vec<Group>, RulesError>
 fn groups_in(alloc: Global, document: &Table) -> Result<Vec<Group>, RulesError>
     ensures { Gives (λ groups. map group_form groups.items) result (document_groups (table_view document.now)) }
 {
-    if !is_typed(document) {
-        return Err(RulesError::Fault(RulesFault::BadToml));
-    }
-    if !is_known(document) {
-        return Err(RulesError::Fault(RulesFault::UnknownKey));
-    }
-    if !is_whole(document) {
-        return Err(RulesError::Fault(RulesFault::MissingKey));
-    }
+    check_keys(document)?;
     let groups = groups_from(alloc, items_at(document, "groups"))?;
-    checked(groups)
+    Ok(checked(groups)?)
+}
+
+// The lowest fault of the keys, if they have one.
+fn check_keys(document: &Table) -> Result<(), RulesFault>
+    ensures { result ≡ check_keys (table_view document.now) }
+{
+    if !document_passes(Test::Typed, document) {
+        return Err(RulesFault::BadToml);
+    }
+    if !document_passes(Test::Known, document) {
+        return Err(RulesFault::UnknownKey);
+    }
+    if !document_passes(Test::Whole, document) {
+        return Err(RulesFault::MissingKey);
+    }
+    Ok(())
 }
 
 // The groups of an array's tables.
 fn groups_from(alloc: Global, items: &[Value]) -> Result<Vec<Group>, RulesError>
-    ensures { Gives (λ groups. map group_form groups.items) result (groups_from 0 (tables_of (items_view items.now))) }
+    ensures { Gives (λ groups. map group_form groups.items) result (each_from group_at 0 (tables_of (items_view items.now))) }
 {
     let mut groups = Vec::new(alloc);
     for item in items {
@@ -73,7 +81,7 @@ fn group_at(alloc: Global, group: usize, table: &Table) -> Result<Group, RulesEr
 
 // The rules of an array's tables.
 fn rules_from(alloc: Global, group: usize, items: &[Value]) -> Result<Vec<Rule>, RulesError>
-    ensures { Gives (λ rules. map rule_form rules.items) result (rules_from group 0 (tables_of (items_view items.now))) }
+    ensures { Gives (λ rules. map rule_form rules.items) result (each_from (rule_at group) 0 (tables_of (items_view items.now))) }
 {
     let mut rules = Vec::new(alloc);
     for item in items {
@@ -113,17 +121,17 @@ fn query_at(alloc: Global, group: usize, rule: usize, text: &str) -> Result<Quer
 }
 
 // The groups, unless a name or a number is refused.
-fn checked(groups: Vec<Group>) -> Result<Vec<Group>, RulesError>
-    ensures { Gives (λ groups. map group_form groups.items) result (checked (map group_form groups.items)) }
+fn checked(groups: Vec<Group>) -> Result<Vec<Group>, RulesFault>
+    ensures { Answers (λ groups. map group_form groups.items) result (checked (map group_form groups.items)) }
 {
     if !names_are_good(&groups) {
-        return Err(RulesError::Fault(RulesFault::BadName));
+        return Err(RulesFault::BadName);
     }
     if has_same_group(&groups) {
-        return Err(RulesError::Fault(RulesFault::SameGroup));
+        return Err(RulesFault::SameGroup);
     }
     if has_too_many(&groups) {
-        return Err(RulesError::Fault(RulesFault::TooMany));
+        return Err(RulesFault::TooMany);
     }
     Ok(groups)
 }

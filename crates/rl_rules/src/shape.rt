@@ -5,42 +5,59 @@ ghost use Rattle.std.specs.List.{list_all, list_any};
 ghost use Rattle.toml.specs.Data.{get_member, as_table};
 ghost use Rattle.toml.specs.View.{view, table_view, items_view};
 ghost use Rattle.rl_labels.specs.Name.{is_text};
-ghost use Rattle.rl_rules.specs.Document.{is_text_value, is_array_value, items_in, is_table_with, all_tables, rule_is_typed, group_is_typed, is_typed, tables_of, has_only, rule_is_known, group_is_known, is_known, has, rule_is_whole, group_is_whole, is_whole, text_at};
+ghost use Rattle.rl_rules.specs.Forms.{key_form};
+ghost use Rattle.rl_rules.specs.Document.{rule_keys, items_in, tables_of, are_tables, is_of, has_kind, has_needed, is_typed, is_known, is_whole, passes, group_passes, document_passes, text_at};
 
 use toml::{Table, Value};
+
+/// A key that a table may have: its name, what stands there, and whether it has to be there.
+#[derive(Clone, Copy)]
+pub(crate) struct Key(&'static str, Kind, Need);
+
+/// What stands at a key.
+#[derive(Clone, Copy)]
+pub(crate) enum Kind {
+    Text,
+    /// An array of tables.
+    Tables,
+}
+
+/// Whether a key has to be there.
+#[derive(Clone, Copy)]
+pub(crate) enum Need {
+    Required,
+    Optional,
+}
+
+/// A test of a table by the keys that it may have.
+#[derive(Clone, Copy)]
+pub(crate) enum Test {
+    /// Whether what stands at the keys is of their kinds.
+    Typed,
+    /// Whether no other key is there.
+    Known,
+    /// Whether the keys that have to be there are.
+    Whole,
+}
+
+// The keys of a document, of a group and of a rule.
+const DOCUMENT_KEYS: [Key; 1] = [Key("groups", Kind::Tables, Need::Required)];
+
+const GROUP_KEYS: [Key; 2] = [
+    Key("name", Kind::Text, Need::Required),
+    Key("rules", Kind::Tables, Need::Required),
+];
+
+const RULE_KEYS: [Key; 2] = [
+    Key("record", Kind::Text, Need::Required),
+    Key("expr", Kind::Text, Need::Required),
+];
 
 // The value at a key.
 fn value_at<'a>(table: &'a Table, key: &str) -> Option<&'a Value>
     ensures { option_map (λ value. view value.now) result ≡ get_member key.now (table_view table.now) }
 {
     table.get(key)
-}
-
-// Whether the key is there.
-fn has(table: &Table, key: &str) -> bool
-    ensures { result ≡ has key.now (table_view table.now) }
-{
-    value_at(table, key).is_some()
-}
-
-// Whether a value that is there is a text.
-fn has_text(table: &Table, key: &str) -> bool
-    ensures { result ≡ is_text_value (get_member key.now (table_view table.now)) }
-{
-    match value_at(table, key) {
-        Some(value) => value.is_str(),
-        None => true,
-    }
-}
-
-// Whether a value that is there is an array.
-fn has_array(table: &Table, key: &str) -> bool
-    ensures { result ≡ is_array_value (get_member key.now (table_view table.now)) }
-{
-    match value_at(table, key) {
-        Some(value) => value.is_array(),
-        None => true,
-    }
 }
 
 // The text at a key, the empty one where there is none.
@@ -72,146 +89,114 @@ fn items_of(value: &Value) -> &[Value]
     }
 }
 
-// Whether each key of the table is one of these.
-fn has_only(table: &Table, known: &[&str]) -> bool
-    ensures { result ≡ has_only (map (λ name. name.now) known.now) (table_view table.now) }
+// Whether a value is of the kind.
+fn is_of(kind: Kind, value: &Value) -> bool
+    ensures { result ≡ is_of kind (view value.now) }
 {
-    table.keys().all(|key| is_one_of(known, key.as_str()))
+    match kind {
+        Kind::Text => value.is_str(),
+        Kind::Tables => value.as_array().is_some_and(|items| are_tables(items)),
+    }
 }
 
-fn is_one_of(known: &[&str], key: &str) -> bool
-    ensures { result ≡ list_any (λ name. is_text name.now key.now) known.now }
+fn are_tables(items: &[Value]) -> bool
+    ensures { result ≡ are_tables (items_view items.now) }
 {
-    known.iter().any(|name| *name == key)
+    items.iter().all(Value::is_table)
 }
 
-/// Whether the known keys have values of their types.
-pub(crate) fn is_typed(document: &Table) -> bool
-    ensures { result ≡ is_typed (table_view document.now) }
+// Whether what stands at a key is of its kind.
+fn has_kind(table: &Table, key: &Key) -> bool
+    ensures { result ≡ has_kind (table_view table.now) (key_form key.now) }
 {
-    has_array(document, "groups") && are_typed_groups(items_at(document, "groups"))
+    let Key(name, kind, _) = *key;
+    value_at(table, name).is_none_or(|value| is_of(kind, value))
 }
 
-fn are_typed_groups(groups: &[Value]) -> bool
-    ensures { result ≡ all_tables group_is_typed (items_view groups.now) }
+// Whether a key that has to be there is there.
+fn has_needed(table: &Table, key: &Key) -> bool
+    ensures { result ≡ has_needed (table_view table.now) (key_form key.now) }
 {
-    groups.iter().all(is_typed_group)
+    let Key(name, _, need) = *key;
+    match need {
+        Need::Required => value_at(table, name).is_some(),
+        Need::Optional => true,
+    }
 }
 
-fn is_typed_group(item: &Value) -> bool
-    ensures { result ≡ is_table_with group_is_typed (view item.now) }
+// Whether what stands at the keys is of their kinds.
+fn is_typed(table: &Table, keys: &[Key]) -> bool
+    ensures { result ≡ is_typed (map key_form keys.now) (table_view table.now) }
 {
-    item.as_table().is_some_and(group_is_typed)
+    keys.iter().all(|key| has_kind(table, key))
 }
 
-fn group_is_typed(group: &Table) -> bool
-    ensures { result ≡ group_is_typed (table_view group.now) }
+// Whether no other key is there.
+fn is_known(table: &Table, keys: &[Key]) -> bool
+    ensures { result ≡ is_known (map key_form keys.now) (table_view table.now) }
 {
-    has_text(group, "name")
-        && has_array(group, "rules")
-        && are_typed_rules(items_at(group, "rules"))
+    table.keys().all(|name| is_one_of(keys, name.as_str()))
 }
 
-fn are_typed_rules(rules: &[Value]) -> bool
-    ensures { result ≡ all_tables rule_is_typed (items_view rules.now) }
+fn is_one_of(keys: &[Key], name: &str) -> bool
+    ensures { result ≡ list_any (λ key. is_text key.0.now name.now) keys.now }
 {
-    rules.iter().all(is_typed_rule)
+    keys.iter().any(|key| key.0 == name)
 }
 
-fn is_typed_rule(item: &Value) -> bool
-    ensures { result ≡ is_table_with rule_is_typed (view item.now) }
+// Whether the keys that have to be there are.
+fn is_whole(table: &Table, keys: &[Key]) -> bool
+    ensures { result ≡ is_whole (map key_form keys.now) (table_view table.now) }
 {
-    item.as_table().is_some_and(rule_is_typed)
+    keys.iter().all(|key| has_needed(table, key))
 }
 
-fn rule_is_typed(rule: &Table) -> bool
-    ensures { result ≡ rule_is_typed (table_view rule.now) }
+// Whether a table with these keys passes a test.
+fn passes(test: Test, table: &Table, keys: &[Key]) -> bool
+    ensures { result ≡ passes test (map key_form keys.now) (table_view table.now) }
 {
-    has_text(rule, "record") && has_text(rule, "expr")
+    match test {
+        Test::Typed => is_typed(table, keys),
+        Test::Known => is_known(table, keys),
+        Test::Whole => is_whole(table, keys),
+    }
 }
 
-/// Whether no table has another key.
-pub(crate) fn is_known(document: &Table) -> bool
-    ensures { result ≡ is_known (table_view document.now) }
+// Whether an item passes it, if it is the table of a rule.
+fn rule_passes(test: Test, item: &Value) -> bool
+    ensures { result ≡ option_map_or (passes test rule_keys) (as_table (view item.now)) true }
 {
-    has_only(document, &["groups"]) && are_known_groups(items_at(document, "groups"))
+    item.as_table()
+        .is_none_or(|rule| passes(test, rule, &RULE_KEYS))
 }
 
-fn are_known_groups(groups: &[Value]) -> bool
-    ensures { result ≡ list_all group_is_known (tables_of (items_view groups.now)) }
+fn rules_pass(test: Test, items: &[Value]) -> bool
+    ensures { result ≡ list_all (passes test rule_keys) (tables_of (items_view items.now)) }
 {
-    groups.iter().all(is_known_group)
+    items.iter().all(|item| rule_passes(test, item))
 }
 
-fn is_known_group(item: &Value) -> bool
-    ensures { result ≡ option_map_or group_is_known (as_table (view item.now)) true }
+// Whether an item and each of its rules pass it, if it is the table of a group.
+fn group_passes(test: Test, item: &Value) -> bool
+    ensures { result ≡ option_map_or (group_passes (passes test)) (as_table (view item.now)) true }
 {
-    item.as_table().is_none_or(group_is_known)
+    match item.as_table() {
+        Some(group) => {
+            passes(test, group, &GROUP_KEYS) && rules_pass(test, items_at(group, "rules"))
+        }
+        None => true,
+    }
 }
 
-fn group_is_known(group: &Table) -> bool
-    ensures { result ≡ group_is_known (table_view group.now) }
+fn groups_pass(test: Test, items: &[Value]) -> bool
+    ensures { result ≡ list_all (group_passes (passes test)) (tables_of (items_view items.now)) }
 {
-    has_only(group, &["name", "rules"]) && are_known_rules(items_at(group, "rules"))
+    items.iter().all(|item| group_passes(test, item))
 }
 
-fn are_known_rules(rules: &[Value]) -> bool
-    ensures { result ≡ list_all rule_is_known (tables_of (items_view rules.now)) }
+/// Whether a document, each of its groups and each of their rules pass the test.
+pub(crate) fn document_passes(test: Test, document: &Table) -> bool
+    ensures { result ≡ document_passes (passes test) (table_view document.now) }
 {
-    rules.iter().all(is_known_rule)
-}
-
-fn is_known_rule(item: &Value) -> bool
-    ensures { result ≡ option_map_or rule_is_known (as_table (view item.now)) true }
-{
-    item.as_table().is_none_or(rule_is_known)
-}
-
-fn rule_is_known(rule: &Table) -> bool
-    ensures { result ≡ rule_is_known (table_view rule.now) }
-{
-    has_only(rule, &["record", "expr"])
-}
-
-/// Whether no key is missing.
-pub(crate) fn is_whole(document: &Table) -> bool
-    ensures { result ≡ is_whole (table_view document.now) }
-{
-    has(document, "groups") && are_whole_groups(items_at(document, "groups"))
-}
-
-fn are_whole_groups(groups: &[Value]) -> bool
-    ensures { result ≡ list_all group_is_whole (tables_of (items_view groups.now)) }
-{
-    groups.iter().all(is_whole_group)
-}
-
-fn is_whole_group(item: &Value) -> bool
-    ensures { result ≡ option_map_or group_is_whole (as_table (view item.now)) true }
-{
-    item.as_table().is_none_or(group_is_whole)
-}
-
-fn group_is_whole(group: &Table) -> bool
-    ensures { result ≡ group_is_whole (table_view group.now) }
-{
-    has(group, "name") && has(group, "rules") && are_whole_rules(items_at(group, "rules"))
-}
-
-fn are_whole_rules(rules: &[Value]) -> bool
-    ensures { result ≡ list_all rule_is_whole (tables_of (items_view rules.now)) }
-{
-    rules.iter().all(is_whole_rule)
-}
-
-fn is_whole_rule(item: &Value) -> bool
-    ensures { result ≡ option_map_or rule_is_whole (as_table (view item.now)) true }
-{
-    item.as_table().is_none_or(rule_is_whole)
-}
-
-fn rule_is_whole(rule: &Table) -> bool
-    ensures { result ≡ rule_is_whole (table_view rule.now) }
-{
-    has(rule, "record") && has(rule, "expr")
+    passes(test, document, &DOCUMENT_KEYS) && groups_pass(test, items_at(document, "groups"))
 }

@@ -1,9 +1,8 @@
 -- Each turn reads the group of one table more, or passes over an item that is none.
-use Rattle.std.proofs.Common.{◌≡◌, ◌+◌, ◌++◌, ◌∷◌, [], Ok, length, map, refl, sym, ap, ◌∙◌, arith}
-use Rattle.std.proofs.lemmas.List.{map_push, length_push}
+use Rattle.std.proofs.Common.{◌≡◌, Ok, length, sym, ap, ◌∙◌, arith}
 use Rattle.toml.specs.View.{table_view}
 use Rattle.rl_rules.specs.Forms.{group_form}
-use Rattle.rl_rules.specs.Document.{group_at, groups_from}
+use Rattle.rl_rules.specs.Document.{group_at}
 use Rattle.rl_rules.proofs.Walks.{table_read, passed}
 use Rattle.rl_rules.proofs.reading.groups_from.Goals as goal
 use Rattle.rl_rules.proofs.reading.groups_from.Goals.{in-Some+in_ok-group+in_ok-push, in_default}
@@ -11,14 +10,10 @@ use Rattle.rl_rules.proofs.reading.groups_from.Goals.{in-Some+in_ok-group+in_ok-
 pub loop-item-preserved : goal.loop-item-preserved
 loop-item-preserved c =
     let old = c.loop-item.groups.items in
-    let new = c.match-as_table.groups.items in
     elim c.match-as_table.branch [
       | in-Some+in_ok-group+in_ok-push w ↦
-          let pushed : new ≡ old ++ w.in_ok-group.group ∷ [] = ap (λ v. v.items) w.groups-is ∙ w.in_ok-push.ensures.items in
           let count : w.len.result ≡ length old = omega (arith, w.len.ensures, c.loop-item.groups.ok.0) in
           let read : group_at (length old) (table_view w.in-Some.table.now) ≡ Ok (group_form w.in_ok-group.group) = ap (λ n. group_at n (table_view w.in-Some.table.now)) (sym count) ∙ w.in_ok-group.ensures in
-          table_read group_at groups_from (λ _. refl) (λ _ _ _. refl) (map group_form old) (map group_form new) (length old) (length new) c.args.items.now c.loop-item.item-index c.item-item.result _ (group_form w.in_ok-group.group) _ c.loop-item-test.true c.item-item.is w.in-Some.ensures read (rw pushed (map_push group_form old w.in_ok-group.group)) (rw pushed (length_push old w.in_ok-group.group)) c.loop-item.invariant
-      | in_default w ↦
-          let same : new ≡ old = ap (λ v. v.items) w.groups-is in
-          passed group_at groups_from (λ _. refl) (λ _ _ _. refl) (map group_form old) (map group_form new) (length old) (length new) c.args.items.now c.loop-item.item-index c.item-item.result _ c.loop-item-test.true c.item-item.is w.in_default.ensures (ap (map group_form) same) (ap length same) c.loop-item.invariant
+          table_read group_at group_form old _ w.in_ok-group.group c.loop-item.item-index c.args.items.now c.item-item.result _ _ c.loop-item-test.true c.item-item.is w.in-Some.ensures read (ap (λ v. v.items) w.groups-is ∙ w.in_ok-push.ensures.items) c.loop-item.invariant
+      | in_default w ↦ passed group_at group_form old _ c.loop-item.item-index c.args.items.now c.item-item.result _ c.loop-item-test.true c.item-item.is w.in_default.ensures (ap (λ v. v.items) w.groups-is) c.loop-item.invariant
     ]

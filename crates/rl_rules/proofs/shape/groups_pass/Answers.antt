@@ -5,11 +5,11 @@ use Rattle.std.proofs.lemmas.Iterator.Search.{all_from_yields_List}
 use Rattle.std.specs.Option.{option_map_or}
 use Rattle.toml.specs.Data.{as_table}
 use Rattle.toml.specs.View.{view}
-use Rattle.rl_rules.specs.Document.{rule_is_whole}
+use Rattle.rl_rules.specs.Document.{passes, group_passes}
 use Rattle.rl_rules.proofs.Shapes.{tables_of_items}
-use Rattle.rl_rules.proofs.shape.are_whole_rules.Goals as goal
+use Rattle.rl_rules.proofs.shape.groups_pass.Goals as goal
 
 pub returns : goal.returns
 returns c =
-    all_from_yields_List (λ v. option_map_or rule_is_whole (as_table (view v)) true) _ _ c.all.result c.all.ensures.ran (YieldsList-from_slice c.args.rules.now cc) (λ x b q k. search (rules, tests))
-    ∙ sym (tables_of_items rule_is_whole c.args.rules.now)
+    all_from_yields_List (λ v. option_map_or (group_passes (passes c.args.test)) (as_table (view v)) true) _ _ c.all.result c.all.ensures.ran (YieldsList-from_slice c.args.items.now cc) (λ x b q k. search (rules, tests))
+    ∙ sym (tables_of_items (group_passes (passes c.args.test)) c.args.items.now)
