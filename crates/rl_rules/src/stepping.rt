@@ -13,9 +13,10 @@ use std::alloc::AllocError;
 /// The label that has the name of a metric.
 pub const NAME_LABEL: &str = "__name__";
 
-/// What the rule makes of the outcome of its query.
+/// What the rule makes of the outcome of its query. Of a query that failed it takes no memory, and is never refused.
 pub fn step_rule(rule: &Rule, outcome: Outcome) -> Result<RuleOutcome, AllocError>
-    ensures { IfOk result (λ made. made ≡ rule_outcome rule.now outcome) }
+    ensures stepped { IfOk result (λ made. made ≡ rule_outcome rule.now outcome) }
+    ensures failed { outcome ≡ Outcome.Failed → result ≡ Ok (RuleOutcome.Failed Cause.PipelineError) }
 {
     match outcome {
         Outcome::Vector(samples) => record_samples(rule, samples.into_vec()),
