@@ -1,4 +1,3 @@
-mod Keyed
 mod Named
 mod Recorded
 mod Shapes

@@ -6,7 +6,7 @@ use Rattle.std.proofs.lemmas.List.{drop_more, length-map}
 use Rattle.std.proofs.lemmas.List.Folds.{list_all-map}
 use Rattle.rl_labels.specs.Name.{is_text}
 use Rattle.rl_rules.specs.declared.rule.Group.{Group}
-use Rattle.rl_rules.specs.Forms.{GroupForm, group_form, rule_form}
+use Rattle.rl_rules.specs.Forms.{group_form, rule_form}
 use Rattle.rl_rules.specs.RuleNames.{is_group_name, is_metric_name}
 use Rattle.rl_rules.specs.Document.{names_are_good, has_same_group, has_too_many}
 

@@ -1,18 +1,22 @@
 -- Samples that are named, sorted and compared with their neighbours are what a recording rule makes.
-use Rattle.std.proofs.Common.{◌≡◌, ℕ, zero, suc, ◌+◌, ◌<◌, ◌≤◌, Bool, true, false, cond, ◌||◌, List, [], ◌∷◌, ◌++◌, map, length, get_or, take, drop, codes, refl, sym, ap, subst, ◌∙◌, arith, add-one}
+use Rattle.std.proofs.Common.{◌≡◌, ℕ, zero, suc, ◌+◌, ◌<◌, ◌≤◌, Bool, true, false, cond, List, [], ◌∷◌, ◌++◌, map, length, get_or, take, drop, codes, Option, None, Some, refl, sym, ap, subst, ◌∙◌, arith, add-one}
 use Rattle.std.proofs.Math.ListN.{set}
-use Rattle.std.specs.List.{list_any}
-use Rattle.std.specs.List.Sorted.{IsPermutation, IsSorted}
-use Rattle.std.specs.Ordering.{eq_by_cmp, is_eq, is_lt, ordering_reverse}
-use Rattle.std.specs.declared.cmp.Ordering.{Ordering}
-use Rattle.std.specs.declared.cmp.Ordering.TheVariants.{Less, Equal, Greater}
+use Rattle.std.specs.List.{list_any, dedup_from, AllByRecursion, IsDistinct}
+use Rattle.std.specs.List.Sorted.{IsPermutation, IsSorted, IsStrictlySortedBy}
+use Rattle.std.specs.Ordering.{eq_by_cmp, is_lt}
+use Rattle.std.specs.Cmp.{eq_by_cmp_equiv}
 use Rattle.std.specs.Cmp.Lexicographic.{texts_ties}
-use Rattle.std.specs.FinMap.{entries, from_entries}
-use Rattle.std.proofs.lemmas.Bool.{and_from, true≢false}
-use Rattle.std.proofs.lemmas.List.Sorted.{IsPermutation-map}
+use Rattle.std.specs.FinMap.{entries, from_entries, same_map}
+use Rattle.std.specs.Map.{keys_of, lookup}
+use Rattle.std.proofs.lemmas.Bool.{or_parts, or_from, false≢true, true_from_ne_false}
+use Rattle.std.proofs.lemmas.List.Kept.{IsStrictlySortedBy-dedup}
+use Rattle.std.proofs.lemmas.List.Sorted.{IsPermutation-map, IsPermutation-sym, Contains-permutation}
+use Rattle.std.proofs.lemmas.Map.Keys.{IsDistinct-from_sorted, IsDistinct-IsPermutation}
+use Rattle.std.proofs.lemmas.Map.Views.{Contains-from_lookup, lookup-from_Contains}
+use Rattle.rl_plain.specs.laws.TreeMaps.{get-of_tree, entries-of_tree}
 use Rattle.rl_labels.specs.LabelSet.{LabelSet, with_label}
 use Rattle.rl_labels.specs.LabelText.{canonical_text, label_set_cmp, label_set_eq}
-use Rattle.rl_labels.specs.laws.TextLaws.{label_set_cmp_total, label_set_cmp-IsAntisymmetric, label_set_eq-true, label_set_eq_itself}
+use Rattle.rl_labels.specs.laws.TextLaws.{label_set_cmp_total, label_set_cmp-IsAntisymmetric, label_set_eq-true}
 use Rattle.rl_aggregate.specs.declared.outcome.Fraction.{Fraction}
 use Rattle.rl_aggregate.specs.declared.outcome.Sample.{Sample}
 use Rattle.rl_rules.specs.declared.rule.Rule.{Rule}
@@ -20,7 +24,6 @@ use Rattle.rl_rules.specs.declared.evaluation.RuleOutcome.TheVariants as made
 use Rattle.rl_rules.specs.declared.evaluation.Cause.TheVariants as causes
 use Rattle.rl_rules.specs.Outcomes.{recorded, has_same_labels, in_order, samples_of}
 use Rattle.rl_rules.specs.Recording.{named, sample_cmp, has_same_neighbours}
-use Rattle.rl_rules.proofs.Keyed.{times, times-cons, times-permuted, has_same_key, keys_rise, no_same_key, same_key_found, sorted_from_rise, once_in_order, entries_in_order}
 
 -- the first of some elements are changed, and then the next one
 set_next : {A : Type 0} (f : A → A) (xs : List A) (i : ℕ) (d : A) → i < length xs → set (map f (take i xs) ++ drop i xs) i (f (get_or xs i d)) ≡ map f (take (suc i) xs) ++ drop (suc i) xs
@@ -48,94 +51,120 @@ no_neighbours [] h = refl
 no_neighbours (sample ∷ []) h = refl
 no_neighbours (sample ∷ next ∷ samples) h = absurd (omega arith)
 
--- a sample as an entry
-abbrev pair : Sample → LabelSet × Fraction
-pair sample = (sample.labels, sample.value)
+abbrev Element : Type 0
+Element = LabelSet × Fraction
 
-recorded_pairs : (rule : Rule) (samples : List Sample) → recorded rule samples ≡ map pair (map (named rule.name) samples)
-recorded_pairs rule [] = refl
-recorded_pairs rule (sample ∷ samples) = ap (λ es. (with_label sample.labels (codes "__name__") rule.name, sample.value) ∷ es) (recorded_pairs rule samples)
+-- samples as elements, and back
+abbrev pairs : List Sample → List Element
+pairs = map (λ sample. (sample.labels, sample.value))
 
--- the test of equal sets is that of ties
-same_tests : (s : LabelSet) (es : List (LabelSet × Fraction)) → list_any (λ other. label_set_eq s other.0) es ≡ list_any (λ other. eq_by_cmp label_set_cmp s other.0) es
-same_tests s [] = refl
-same_tests s (e ∷ es) = λ i. texts_ties (canonical_text s) (canonical_text e.0) i || same_tests s es i
+recorded-pairs : (rule : Rule) (samples : List Sample) → recorded rule samples ≡ pairs (map (named rule.name) samples)
+recorded-pairs rule [] = refl
+recorded-pairs rule (sample ∷ samples) = ap (λ es. (with_label sample.labels (codes "__name__") rule.name, sample.value) ∷ es) (recorded-pairs rule samples)
 
-has_same_labels-keys : (es : List (LabelSet × Fraction)) → has_same_labels es ≡ has_same_key label_set_cmp es
-has_same_labels-keys [] = refl
-has_same_labels-keys (e ∷ es) = λ i. same_tests e.0 es i || has_same_labels-keys es i
-
--- neighbours with one label set are two elements with it
-twice_from_neighbours : (samples : List Sample) → has_same_neighbours samples ≡ true → (q : LabelSet) × (1 < times label_set_cmp q (map pair samples))
-twice_from_neighbours [] h = absurd (true≢false (sym h))
-twice_from_neighbours (sample ∷ []) h = absurd (true≢false (sym h))
-twice_from_neighbours (sample ∷ next ∷ samples) h =
-    elim (label_set_eq sample.labels next.labels) as (λ b. label_set_eq sample.labels next.labels ≡ b → (b || has_same_neighbours (next ∷ samples)) ≡ true → (q : LabelSet) × (1 < times label_set_cmp q (map pair (sample ∷ next ∷ samples)))) [
-      | true ↦ λ is _.
-          let same : next.labels ≡ sample.labels = sym (label_set_eq-true sample.labels next.labels is) in
-          let first : eq_by_cmp label_set_cmp next.labels sample.labels ≡ true = ap (eq_by_cmp label_set_cmp next.labels) (sym same) ∙ tied_to_itself next.labels in (
-            next.labels,
-            two (eq_by_cmp label_set_cmp next.labels sample.labels) (eq_by_cmp label_set_cmp next.labels next.labels) _ first (tied_to_itself next.labels)
-                (times-cons label_set_cmp next.labels (pair sample) (map pair (next ∷ samples)) ∙ ap (λ n. cond (eq_by_cmp label_set_cmp next.labels sample.labels) 1 0 + n) (times-cons label_set_cmp next.labels (pair next) (map pair samples))),
-          )
-      | false ↦ λ _ rest.
-          let more = twice_from_neighbours (next ∷ samples) rest in
-          (more.0, let many : 1 < times label_set_cmp more.0 (map pair (next ∷ samples)) = more.1 in omega (arith, times-cons label_set_cmp more.0 (pair sample) (map pair (next ∷ samples))))
-    ] refl h
-  where
-    tied_to_itself : (s : LabelSet) → eq_by_cmp label_set_cmp s s ≡ true
-    tied_to_itself s = sym (texts_ties (canonical_text s) (canonical_text s)) ∙ label_set_eq_itself s
-
-    two : {n : ℕ} (a b : Bool) (m : ℕ) → a ≡ true → b ≡ true → n ≡ cond a 1 0 + (cond b 1 0 + m) → 1 < n
-    two true true m p q e = omega arith
-    two true false m p q e = absurd (true≢false (sym q))
-    two false b m p q e = absurd (true≢false (sym p))
-
--- of sets that are not the same, where the second is not below the first, the first is below the second
-below_from : (s t : LabelSet) → label_set_eq s t ≡ false → is_lt (label_set_cmp t s) ≡ false → is_lt (label_set_cmp s t) ≡ true
-below_from s t other up =
-    elim (label_set_cmp s t) as (λ r. label_set_cmp s t ≡ r → is_lt r ≡ true) [
-      | Less ↦ λ _. refl
-      | Equal ↦ λ tied. absurd (true≢false (sym (ap (label_set_eq s) (sym (label_set_cmp-IsAntisymmetric s t tied)) ∙ label_set_eq_itself s) ∙ other))
-      | Greater ↦ λ down. absurd (true≢false (sym (ap is_lt (label_set_cmp_total.antisymm t s ∙ ap ordering_reverse down)) ∙ up))
-    ] refl
-
--- sorted samples without such neighbours rise
-rise_from_sorted : (samples : List Sample) → IsSorted sample_cmp samples → has_same_neighbours samples ≡ false → keys_rise label_set_cmp (map pair samples) ≡ true
-rise_from_sorted [] sorted h = refl
-rise_from_sorted (sample ∷ []) sorted h = refl
-rise_from_sorted (sample ∷ next ∷ samples) sorted h =
-    elim (label_set_eq sample.labels next.labels) as (λ b. label_set_eq sample.labels next.labels ≡ b → (b || has_same_neighbours (next ∷ samples)) ≡ false → keys_rise label_set_cmp (map pair (sample ∷ next ∷ samples)) ≡ true) [
-      | true ↦ λ _ some. absurd (true≢false some)
-      | false ↦ λ other rest.
-          and_from _ _ (below_from sample.labels next.labels other (sorted 0 sample (omega arith) (omega arith)))
-          (rise_from_sorted (next ∷ samples) (λ k d low high. let step : suc k + 1 ≡ suc (k + 1) = omega arith in subst (λ n. is_lt (sample_cmp (get_or (sample ∷ next ∷ samples) n d) (get_or (next ∷ samples) k d)) ≡ false) step (sorted (suc k) d (omega arith) (omega arith))) rest)
-    ] refl h
-
--- samples from entries
-back_again : (samples : List Sample) → map (λ (element : LabelSet × Fraction). record { labels = element.0; value = element.1 }) (map pair samples) ≡ samples
+back_again : (samples : List Sample) → map (λ (element : Element). record { labels = element.0; value = element.1 }) (pairs samples) ≡ samples
 back_again [] = refl
 back_again (sample ∷ samples) = ap (λ ss. sample ∷ ss) (back_again samples)
 
-abbrev elements : Rule → List Sample → List (LabelSet × Fraction)
-elements rule samples = map pair (map (named rule.name) samples)
+-- two label sets are one where they tie
+abbrev ties : LabelSet → LabelSet → Bool
+ties = eq_by_cmp label_set_cmp
+
+same-ties : (s t : LabelSet) → label_set_eq s t ≡ ties s t
+same-ties s t = texts_ties (canonical_text s) (canonical_text t)
+
+flips : (s t : LabelSet) → ties s t ≡ ties t s
+flips = (eq_by_cmp_equiv label_set_cmp_total).symm
+
+-- no two elements have one label set where the sets differ
+none_behind : (s : LabelSet) (es : List Element) → AllByRecursion (λ t. ties s t ≡ false) (keys_of es) → list_any (λ other. label_set_eq s other.0) es ≡ false
+none_behind s [] h = refl
+none_behind s (e ∷ es) h = or_from _ _ (same-ties s e.0 ∙ h.0) (none_behind s es h.1)
+
+all_behind : (s : LabelSet) (es : List Element) → list_any (λ other. label_set_eq s other.0) es ≡ false → AllByRecursion (λ t. ties s t ≡ false) (keys_of es)
+all_behind s [] h = tt
+all_behind s (e ∷ es) h =
+    let parts = or_parts (label_set_eq s e.0) (list_any (λ other. label_set_eq s other.0) es) h in
+    (sym (same-ties s e.0) ∙ parts.0, all_behind s es parts.1)
+
+none_same : (es : List Element) → IsDistinct ties (keys_of es) → has_same_labels es ≡ false
+unfolding IsDistinct
+none_same [] h = refl
+none_same (e ∷ es) h = or_from _ _ (none_behind e.0 es h.0) (none_same es h.1)
+
+all_differ : (es : List Element) → has_same_labels es ≡ false → IsDistinct ties (keys_of es)
+unfolding IsDistinct
+all_differ [] h = tt
+all_differ (e ∷ es) h =
+    let parts = or_parts (list_any (λ other. label_set_eq e.0 other.0) es) (has_same_labels es) h in
+    (all_behind e.0 es parts.0, all_differ es parts.1)
+
+-- neighbours have different label sets where all have
+apart : (samples : List Sample) → IsDistinct ties (keys_of (pairs samples)) → has_same_neighbours samples ≡ false
+unfolding IsDistinct
+apart [] h = refl
+apart (sample ∷ []) h = refl
+apart (sample ∷ next ∷ samples) h = or_from _ _ (same-ties sample.labels next.labels ∙ h.0.0) (apart (next ∷ samples) h.1)
+
+-- where neighbours have, no label set is dropped as that of the one before it
+none_dropped : (sample : Sample) (samples : List Sample) → has_same_neighbours (sample ∷ samples) ≡ false → dedup_from (λ s t. label_set_eq t s) sample.labels (keys_of (pairs samples)) ≡ keys_of (pairs (sample ∷ samples))
+none_dropped sample [] h = refl
+none_dropped sample (next ∷ samples) h =
+    let parts = or_parts (label_set_eq sample.labels next.labels) (has_same_neighbours (next ∷ samples)) h in
+    ap (λ b. cond b (dedup_from (λ s t. label_set_eq t s) sample.labels (keys_of (pairs samples))) (sample.labels ∷ dedup_from (λ s t. label_set_eq t s) next.labels (keys_of (pairs samples)))) parts.0
+    ∙ ap (λ ls. sample.labels ∷ ls) (none_dropped next samples parts.1)
+
+labels_at : (samples : List Sample) (k : ℕ) (d : LabelSet) (e : Sample) → k < length (keys_of (pairs samples)) → get_or (keys_of (pairs samples)) k d ≡ (get_or samples k e).labels
+labels_at [] k d e within = absurd (omega arith)
+labels_at (sample ∷ samples) zero d e within = refl
+labels_at (sample ∷ samples) (suc k) d e within = labels_at samples k d e (omega arith)
+
+same_length : (samples : List Sample) → length (keys_of (pairs samples)) ≡ length samples
+same_length [] = refl
+same_length (sample ∷ samples) = ap suc (same_length samples)
+
+-- and the label sets of sorted samples rise
+rise : (samples : List Sample) → IsSorted sample_cmp samples → has_same_neighbours samples ≡ false → IsStrictlySortedBy label_set_cmp (keys_of (pairs samples))
+unfolding IsStrictlySortedBy
+rise [] sorted h = tt
+rise (sample ∷ samples) sorted h =
+    let all = sample ∷ samples in
+    subst (IsStrictlySortedBy label_set_cmp) (none_dropped sample samples h) (IsStrictlySortedBy-dedup label_set_cmp_total {E = λ s t. label_set_eq t s} (λ s t. same-ties t s ∙ flips t s) (keys_of (pairs all)) (λ k d low high.
+    (λ i. is_lt (label_set_cmp (labels_at all (k + 1) d sample high i) (labels_at all k d sample (omega arith) i))) ∙ sorted k sample low (omega (arith, same_length all))))
+
+same_option : {A : Type 0} (o p : Option A) → ((x : A) → o ≡ Some x → p ≡ Some x) → ((x : A) → p ≡ Some x → o ≡ Some x) → o ≡ p
+same_option None None to back = refl
+same_option None (Some x) to back = back x refl
+same_option (Some x) p to back = sym (to x refl)
+
+-- elements whose label sets rise are those of the map of any permutation of them
+in_map : (es fs : List Element) → IsPermutation es fs → IsDistinct ties (keys_of es) → IsStrictlySortedBy label_set_cmp (keys_of fs) → entries (from_entries {R = label_set_cmp} es) ≡ fs
+in_map es fs moved differ up =
+    ap entries (same_map label_set_cmp_total label_set_cmp-IsAntisymmetric _ _ (λ q. get-of_tree label_set_cmp_total es q ∙ same_option _ _ (found es fs q moved (IsDistinct-from_sorted label_set_cmp (keys_of fs) up)) (found fs es q (IsPermutation-sym es fs moved) differ) ∙ sym (get-of_tree label_set_cmp_total fs q)))
+    ∙ entries-of_tree label_set_cmp_total label_set_cmp-IsAntisymmetric fs up
+  where
+    found : (es fs : List Element) (q : LabelSet) → IsPermutation es fs → IsDistinct ties (keys_of fs) → (v : Fraction) → lookup (ties q) es ≡ Some v → lookup (ties q) fs ≡ Some v
+    found es fs q moved differ v is = lookup-from_Contains (eq_by_cmp_equiv label_set_cmp_total) q v fs differ (Contains-permutation es fs (q, v) moved (Contains-from_lookup (λ s t tied. label_set_eq-true s t (same-ties s t ∙ tied)) q v es is))
+
+-- a permutation of samples with different label sets has different ones
+still_differ : (samples others : List Sample) → IsPermutation samples others → IsDistinct ties (keys_of (pairs samples)) → IsDistinct ties (keys_of (pairs others))
+still_differ samples others moved = IsDistinct-IsPermutation ties flips _ _ (IsPermutation-map (λ (e : Element). e.0) _ _ (IsPermutation-map (λ (s : Sample). (s.labels, s.value)) samples others moved))
+
+chosen : (es : List Element) (b : Bool) → has_same_labels es ≡ b → samples_of es ≡ cond b (made.Failed causes.SameLabels) (made.Samples (in_order es))
+chosen es b is = ap (λ b. cond b (made.Failed causes.SameLabels) (made.Samples (in_order es))) is
 
 -- two neighbours with one label set: the rule fails
 pub same_recorded : (rule : Rule) (samples sorted : List Sample) → IsPermutation (map (named rule.name) samples) sorted → has_same_neighbours sorted ≡ true → made.Failed causes.SameLabels ≡ samples_of (recorded rule samples)
 same_recorded rule samples sorted moved neighbours =
-    let twice = twice_from_neighbours sorted neighbours in
-    let many : 1 < times label_set_cmp twice.0 (map pair sorted) = twice.1 in
-    let alike : times label_set_cmp twice.0 (map pair sorted) ≡ times label_set_cmp twice.0 (elements rule samples) = times-permuted label_set_cmp twice.0 (elements rule samples) (map pair sorted) (IsPermutation-map pair _ _ moved) in
-    let found : has_same_labels (elements rule samples) ≡ true = has_same_labels-keys (elements rule samples) ∙ same_key_found label_set_cmp label_set_cmp_total label_set_cmp-IsAntisymmetric (elements rule samples) twice.0 (omega arith) in
-    sym (ap samples_of (recorded_pairs rule samples) ∙ ap (λ b. cond b (made.Failed causes.SameLabels) (made.Samples (in_order (elements rule samples)))) found)
+    let ours = map (named rule.name) samples in
+    let found : has_same_labels (pairs ours) ≡ true = true_from_ne_false _ (λ none. false≢true (sym (apart sorted (still_differ ours sorted moved (all_differ (pairs ours) none))) ∙ neighbours)) in
+    sym (ap samples_of (recorded-pairs rule samples) ∙ chosen (pairs ours) true found)
 
 -- none: the samples are those of the map
 pub order_recorded : (rule : Rule) (samples sorted : List Sample) → IsPermutation (map (named rule.name) samples) sorted → IsSorted sample_cmp sorted → has_same_neighbours sorted ≡ false → made.Samples sorted ≡ samples_of (recorded rule samples)
 order_recorded rule samples sorted moved up neighbours =
-    let es = elements rule samples in
-    let rise = rise_from_sorted sorted up neighbours in
-    let moved_pairs = IsPermutation-map pair _ _ moved in
-    let once : (q : LabelSet) → times label_set_cmp q es ≤ 1 = λ q. let alike = times-permuted label_set_cmp q es (map pair sorted) moved_pairs in omega (arith, alike, once_in_order label_set_cmp label_set_cmp_total label_set_cmp-IsAntisymmetric (map pair sorted) (sorted_from_rise label_set_cmp label_set_cmp_total label_set_cmp-IsAntisymmetric (map pair sorted) rise) q) in
-    let none : has_same_labels es ≡ false = has_same_labels-keys es ∙ no_same_key label_set_cmp label_set_cmp_total es once in
-    let listed : in_order es ≡ sorted = ap (map (λ (element : LabelSet × Fraction). record { labels = element.0; value = element.1 })) (entries_in_order label_set_cmp label_set_cmp_total label_set_cmp-IsAntisymmetric es (map pair sorted) moved_pairs rise) ∙ back_again sorted in
-    sym (ap samples_of (recorded_pairs rule samples) ∙ ap (λ b. cond b (made.Failed causes.SameLabels) (made.Samples (in_order es))) none ∙ ap (λ ss. made.Samples ss) listed)
+    let ours = map (named rule.name) samples in
+    let higher = rise sorted up neighbours in
+    let differ = still_differ sorted ours (IsPermutation-sym ours sorted moved) (IsDistinct-from_sorted label_set_cmp _ higher) in
+    let listed : in_order (pairs ours) ≡ sorted = ap (map (λ (element : Element). record { labels = element.0; value = element.1 })) (in_map (pairs ours) (pairs sorted) (IsPermutation-map (λ (s : Sample). (s.labels, s.value)) ours sorted moved) differ higher) ∙ back_again sorted in
+    sym (ap samples_of (recorded-pairs rule samples) ∙ chosen (pairs ours) false (none_same (pairs ours) differ) ∙ ap (λ ss. made.Samples ss) listed)

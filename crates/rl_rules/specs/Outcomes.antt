@@ -1,5 +1,5 @@
 -- What a rule makes of the outcome of its query.
-use Rattle.std.specs.Prelude.{ℕ, Bool, false, ◌||◌, List, [], ◌∷◌, map, codes, if◌then◌else◌}
+use Rattle.std.specs.Prelude.{Bool, false, ◌||◌, List, [], ◌∷◌, map, codes, if◌then◌else◌}
 use Rattle.std.specs.List.{list_any}
 use Rattle.std.specs.FinMap.{entries, from_entries}
 use Rattle.rl_labels.specs.LabelSet.{LabelSet, with_label}

@@ -1,5 +1,5 @@
 -- There is one group at most, and the rules of each are counted.
-use Rattle.std.proofs.Common.{◌≡◌, ◌≤◌, ℕ, nat_lt, length, sym, ◌∙◌, rules, tests}
+use Rattle.std.proofs.Common.{nat_lt, length, sym, ◌∙◌, rules, tests}
 use Rattle.std.proofs.lemmas.Iterator.{YieldsList-from_slice}
 use Rattle.std.proofs.lemmas.Iterator.Search.{any_from_yields_List}
 use Rattle.rl_rules.proofs.Named.{too_many}
