@@ -1,6 +1,5 @@
 mod Documents
 mod Moments
-mod Walks
 pub mod Answering
 pub mod Cut
 pub mod Gathering

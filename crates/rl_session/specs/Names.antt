@@ -1,5 +1,7 @@
 -- The names under which faults and refusals are printed: those of their variants, without what they hold.
 use Rattle.std.specs.Prelude.{ℕ, List, Option, None, Some, codes}
+use Rattle.rl_plain.specs.declared.refusal.OrMemory.{OrMemory}
+use Rattle.rl_plain.specs.declared.refusal.OrMemory.TheVariants as errors
 use Rattle.rl_rules.specs.declared.fault.RulesFault.{RulesFault}
 use Rattle.rl_rules.specs.declared.fault.RulesFault.TheVariants as rules
 use Rattle.rl_shard.specs.declared.step.ShardReply.{ShardReply}
@@ -12,12 +14,11 @@ use Rattle.rl_world.specs.declared.step.Reply.{Reply}
 use Rattle.rl_world.specs.declared.step.Reply.TheVariants as world
 use Rattle.rl_session.specs.declared.front.fault.FrontFault.{FrontFault}
 use Rattle.rl_session.specs.declared.front.fault.FrontFault.TheVariants as fronts
-use Rattle.rl_session.specs.declared.push.PushError.{PushError}
-use Rattle.rl_session.specs.declared.push.PushError.TheVariants as errors
+use Rattle.rl_session.specs.declared.push.PushFault.{PushFault}
 use Rattle.rl_session.specs.declared.push.PushFault.TheVariants as pushes
 
 -- a push body's fault
-abbrev pub push_error_name : PushError → List ℕ
+abbrev pub push_error_name : OrMemory PushFault → List ℕ
 push_error_name (errors.Fault pushes.NotJson) = codes "NotJson"
 push_error_name (errors.Fault pushes.Shape) = codes "Shape"
 push_error_name (errors.Fault pushes.Label) = codes "Label"

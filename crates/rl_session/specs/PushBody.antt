@@ -7,12 +7,13 @@ use Rattle.std.specs.Str.Parse.{digits_value}
 use Rattle.serde_json.specs.Data.{Data, Items, no_items, item, Members, no_members, member}
 use Rattle.serde_json.specs.Find.{get, as_str, as_array, as_object}
 use Rattle.serde_json.specs.Read.{read}
+use Rattle.rl_plain.specs.Answers.{◌>>=◌}
 use Rattle.rl_labels.specs.LabelSet.{Pair, LabelSet}
 use Rattle.rl_labels.specs.Pairs.{labels_from}
 use Rattle.rl_labels.specs.EntryParts.{has_no_label, longest_line}
 use Rattle.rl_labels.specs.Quantity.{greatest_moment}
 use Rattle.rl_labels.specs.declared.labels.LabelsError.{LabelsError}
-use Rattle.rl_session.specs.PushForms.{EntryForm, ValueParts, ◌>>=◌}
+use Rattle.rl_session.specs.PushForms.{EntryForm, ValueParts}
 use Rattle.rl_session.specs.declared.push.PushFault.{PushFault}
 use Rattle.rl_session.specs.declared.push.PushFault.TheVariants as faults
 
@@ -25,33 +26,42 @@ required fault (Some x) = Ok x
 abbrev pub document_of : List ℕ → Result Data PushFault
 document_of bytes = required faults.NotJson (if is_utf8 bytes then read bytes else None)
 
--- the array at a key
-abbrev pub array_at : List ℕ → Data → Result Items PushFault
-array_at key value = required faults.Shape (option_and_then as_array (get key value))
+-- the array that was found
+abbrev pub array_of : Option Data → Result Items PushFault
+array_of found = required faults.Shape (option_and_then as_array found)
 
--- the object at a key
-abbrev pub object_at : List ℕ → Data → Result Members PushFault
-object_at key value = required faults.Shape (option_and_then as_object (get key value))
+-- the object that was found
+abbrev pub object_of : Option Data → Result Members PushFault
+object_of found = required faults.Shape (option_and_then as_object found)
 
--- the names with their values, which are texts
+-- a name with its value, which is a text
+abbrev pub pair_of : List ℕ → Data → Result Pair PushFault
+pair_of name value = required faults.Shape (as_str value) >>= λ text. Ok (name, text)
+
+-- the names with their values
 abbrev pub pairs_of : Members → Result (List Pair) PushFault
 pairs_of no_members = Ok []
 pairs_of (member name value members) = do
-  text ← required faults.Shape (as_str value)
-  pairs ← pairs_of members
-  Ok ((name, text) ∷ pairs)
+  first ← pair_of name value
+  others ← pairs_of members
+  Ok (first ∷ others)
 
 -- a label set that a stream may have
 abbrev pub stream_labels : Result LabelSet LabelsError → Result LabelSet PushFault
 stream_labels (Ok labels) = if has_no_label labels then Err faults.Label else Ok labels
 stream_labels (Err _) = Err faults.Label
 
--- the labels of a stream
-abbrev pub labels_at : Data → Result LabelSet PushFault
-labels_at stream = do
-  members ← object_at (codes "stream") stream
+-- the labels that were found
+abbrev pub labels_of : Option Data → Result LabelSet PushFault
+labels_of found = do
+  members ← object_of found
   pairs ← pairs_of members
   stream_labels (labels_from pairs)
+
+-- the text that comes first, and what stands behind it
+abbrev pub first_text : Items → Result (List ℕ × Items) PushFault
+first_text no_items = Err faults.Shape
+first_text (item value rest) = required faults.Shape (as_str value) >>= λ text. Ok (text, rest)
 
 -- what stands behind the line: metadata, or nothing
 abbrev pub metadata_in : Items → Result (Option Data) PushFault
@@ -61,12 +71,11 @@ metadata_in _ = Err faults.Shape
 
 -- a time and a line as texts, and metadata
 abbrev pub parts_in : Items → Result ValueParts PushFault
-parts_in (item time (item line rest)) = do
-  time ← required faults.Shape (as_str time)
-  line ← required faults.Shape (as_str line)
-  metadata ← metadata_in rest
-  Ok (record { time = time; line = line; metadata = metadata })
-parts_in _ = Err faults.Shape
+parts_in items = do
+  time ← first_text items
+  line ← first_text time.1
+  metadata ← metadata_in line.1
+  Ok (record { time = time.0; line = line.0; metadata = metadata })
 
 -- the parts of a value
 abbrev pub parts_of : Data → Result ValueParts PushFault
@@ -116,8 +125,8 @@ entries_from labels (item value values) = do
 -- the entries of a stream
 abbrev pub stream_entries : Data → Result (List EntryForm) PushFault
 stream_entries stream = do
-  labels ← labels_at stream
-  values ← array_at (codes "values") stream
+  labels ← labels_of (get (codes "stream") stream)
+  values ← array_of (get (codes "values") stream)
   entries_from labels values
 
 -- the entries of streams, one behind the other
@@ -132,5 +141,5 @@ streams_entries (item stream streams) = do
 unfoldable pub entries_of : List ℕ → Result (List EntryForm) PushFault
 entries_of bytes = do
   document ← document_of bytes
-  streams ← array_at (codes "streams") document
+  streams ← array_of (get (codes "streams") document)
   streams_entries streams

@@ -2,6 +2,7 @@
 use Rattle.std.specs.Prelude.{◌≡◌, ◌⊎◌, ℕ, ◌-◌, ◌==◌, nat_lt, ⊤, Bool, true, false, not, ◌&&◌, ◌||◌, List, [], ◌∷◌, ◌++◌, map, length, replicate, count_by, Option, None, Some, option_and_then, Result, Ok, Err, slice_get, codes, if◌then◌else◌}
 use Rattle.std.specs.List.{list_all, position_from}
 use Rattle.std.specs.Io.KnownBytes.{Appends}
+use Rattle.rl_plain.specs.declared.refusal.OrMemory.TheVariants as errors
 use Rattle.rl_labels.specs.Name.{is_text}
 use Rattle.rl_labels.specs.declared.entry.Entry.{Entry}
 use Rattle.rl_labels.specs.declared.limits.Limits.{Limits}
@@ -28,7 +29,6 @@ use Rattle.rl_session.specs.Printed.{refusal_line, bad_push_line, is_refused, pu
 use Rattle.rl_session.specs.PushBody.{entries_of}
 use Rattle.rl_session.specs.PushForms.{EntryForm, entry_form}
 use Rattle.rl_session.specs.declared.push.PushFault.{PushFault}
-use Rattle.rl_session.specs.declared.push.PushError.TheVariants as errors
 use Rattle.rl_session.specs.declared.session.Answer.{Answer}
 use Rattle.rl_session.specs.declared.session.Answer.TheVariants.{Taken, Refused, Ended}
 use Rattle.rl_session.specs.declared.session.RunError.{RunError}

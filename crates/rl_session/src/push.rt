@@ -1,19 +1,22 @@
 //! Push bodies: log entries from the JSON that a Loki client sends.
-ghost use Rattle.std.specs.Prelude.{◌≡◌, IsTrue, IfOk, map, option_map};
+ghost use Rattle.std.specs.Prelude.{◌≡◌, IsTrue, IfOk, codes, map, option_map, string_bytes};
 ghost use Rattle.std.specs.List.{list_all};
+ghost use Rattle.std.specs.Vec.Iter.{into_iter_items};
 ghost use Rattle.std.specs.Char.{is_ascii_digit};
 ghost use Rattle.serde_json.specs.View.{view, items_view, members_view};
+ghost use Rattle.serde_json.specs.Find.{get, as_str, as_object};
+ghost use Rattle.rl_plain.specs.Answers.{Gives, Answers, with_front};
+ghost use Rattle.rl_plain.specs.declared.refusal.OrMemory.TheVariants.{Fault};
 ghost use Rattle.rl_labels.specs.EntryParts.{is_stream};
-ghost use Rattle.serde_json.specs.Find.{as_str, as_object};
-ghost use Rattle.rl_session.specs.PushForms.{Gives, Answers, entry_form, parts_form, with_front};
-ghost use Rattle.rl_session.specs.PushBody.{entries_of, document_of, array_at, object_at, pairs_of, labels_at, metadata_in, parts_in, parts_of, required, is_time, moment_of, is_empty_object, has_no_metadata, entry_of, value_entry, entries_from, stream_entries, streams_entries};
-ghost use Rattle.rl_session.specs.declared.push.PushError.TheVariants.{Memory, Fault};
+ghost use Rattle.rl_session.specs.PushForms.{entry_form, parts_form};
+ghost use Rattle.rl_session.specs.PushBody.{entries_of, document_of, array_of, object_of, pair_of, pairs_of, labels_of, first_text, metadata_in, parts_in, parts_of, required, is_time, moment_of, is_empty_object, has_no_metadata, entry_of, value_entry, entries_from, stream_entries, streams_entries};
 
 use rl_labels::entry::MAX_LINE_LEN;
 use rl_labels::{Entry, Labels, LabelsError, Ns};
-use rl_plain::{PlainText, TryCopy};
+use rl_plain::{OrMemory, PlainText, TryCopy};
 use serde_json::{Map, Value};
-use std::alloc::{AllocError, AllocFailed, Global};
+use std::alloc::Global;
+use std::vec::IntoIter;
 use thiserror::Error;
 
 /// Why a push body is refused: the first fault that it has.
@@ -34,44 +37,22 @@ pub enum PushFault {
 }
 
 /// Why a push body gave no entries.
-#[derive(Clone, Copy, Debug, Drop, Error, PartialEq, Eq)]
-pub enum PushError {
-    #[error("{0}")]
-    Fault(PushFault),
-    #[error("out of memory")]
-    Memory,
-}
+pub type PushError = OrMemory<PushFault>;
 
 impl From<PushFault> for PushError {
     ghost from_gives = { λ fault e. e ≡ Fault fault };
 
     fn from(fault: PushFault) -> Self {
-        PushError::Fault(fault)
-    }
-}
-
-impl From<AllocError> for PushError {
-    ghost from_gives = { λ _ e. e ≡ Memory };
-
-    fn from(_error: AllocError) -> Self {
-        PushError::Memory
-    }
-}
-
-impl<T: Drop> From<AllocFailed<T>> for PushError {
-    ghost from_gives = { λ _ e. e ≡ Memory };
-
-    fn from(_error: AllocFailed<T>) -> Self {
-        PushError::Memory
+        OrMemory::Fault(fault)
     }
 }
 
 // What a value has, before it is looked at.
-#[derive(Clone, Copy)]
-struct Parts<'a> {
-    time: &'a str,
-    line: &'a str,
-    metadata: Option<&'a Value>,
+#[derive(Drop)]
+struct Parts {
+    time: PlainText,
+    line: PlainText,
+    metadata: Option<Value>,
 }
 
 /// The entries of a push body in its order, unless it has a fault.
@@ -80,8 +61,9 @@ pub fn read_push(alloc: Global, bytes: &[u8]) -> Result<Vec<Entry>, PushError>
     ensures { Gives (λ entries. map entry_form entries.items) result (entries_of bytes.now) }
 {
     let document = document_of(alloc, bytes)?;
+    let streams = array_of(member_at(document, "streams"))?;
     let mut entries = Vec::new(alloc);
-    push_streams(alloc, &mut entries, array_at(&document, "streams")?)?;
+    push_streams(alloc, &mut entries, streams)?;
     Ok(entries)
 }
 
@@ -91,34 +73,59 @@ fn document_of(alloc: Global, bytes: &[u8]) -> Result<Value, PushError>
 {
     match Value::from_slice(alloc, bytes) {
         Ok(document) => Ok(document),
-        Err(error) if error.is_memory() => Err(PushError::Memory),
-        Err(_) => Err(PushError::Fault(PushFault::NotJson)),
+        Err(error) if error.is_memory() => Err(OrMemory::Memory),
+        Err(_) => Err(OrMemory::Fault(PushFault::NotJson)),
     }
 }
 
-// The array at a key.
-fn array_at<'a>(value: &'a Value, key: &str) -> Result<&'a [Value], PushFault>
-    ensures { Answers (λ items. items_view items.now) result (array_at key.now (view value.now)) }
+// The value at a key, moved out of its object.
+fn member_at(object: Value, key: &str) -> Option<Value>
+    ensures { option_map view result ≡ get key.now (view object) }
 {
-    match value.get(key).and_then(Value::as_array) {
-        Some(items) => Ok(items.as_slice()),
-        None => Err(PushFault::Shape),
+    match object {
+        Value::Object(mut members) => members.remove(key),
+        _ => None,
     }
 }
 
-// The object at a key.
-fn object_at<'a>(value: &'a Value, key: &str) -> Result<&'a Map<String, Value>, PushFault>
-    ensures { Answers (λ members. members_view members.now.entries) result (object_at key.now (view value.now)) }
+// The labels and the values of a stream, moved out of it.
+fn stream_parts(stream: Value) -> (Option<Value>, Option<Value>)
+    ensures labels { option_map view result.0 ≡ get (codes "stream") (view stream) }
+    ensures values { option_map view result.1 ≡ get (codes "values") (view stream) }
 {
-    match value.get(key).and_then(Value::as_object) {
-        Some(members) => Ok(members),
-        None => Err(PushFault::Shape),
+    match stream {
+        Value::Object(mut members) => (members.remove("stream"), members.remove("values")),
+        _ => (None, None),
+    }
+}
+
+// The array that was found.
+fn array_of(found: Option<Value>) -> Result<Vec<Value>, PushFault>
+    ensures { Answers (λ items. items_view items.items) result (array_of (option_map view found)) }
+{
+    match found {
+        Some(Value::Array(items)) => Ok(items),
+        _ => Err(PushFault::Shape),
+    }
+}
+
+// The object that was found.
+fn object_of(found: Option<Value>) -> Result<Map<String, Value>, PushFault>
+    ensures { Answers (λ members. members_view members.entries) result (object_of (option_map view found)) }
+{
+    match found {
+        Some(Value::Object(members)) => Ok(members),
+        _ => Err(PushFault::Shape),
     }
 }
 
 // Adds the entries of each stream.
-fn push_streams(alloc: Global, entries: &mut Vec<Entry>, streams: &[Value]) -> Result<(), PushError>
-    ensures { Gives (λ _. map entry_form entries.new.items) result (with_front (map entry_form entries.old.items) (streams_entries (items_view streams.now))) }
+fn push_streams(
+    alloc: Global,
+    entries: &mut Vec<Entry>,
+    streams: Vec<Value>,
+) -> Result<(), PushError>
+    ensures { Gives (λ _. map entry_form entries.new.items) result (with_front (map entry_form entries.old.items) (streams_entries (items_view streams.items))) }
 {
     for stream in streams {
         push_stream(alloc, entries, stream)?;
@@ -127,96 +134,105 @@ fn push_streams(alloc: Global, entries: &mut Vec<Entry>, streams: &[Value]) -> R
 }
 
 // Adds the entries of a stream.
-fn push_stream(alloc: Global, entries: &mut Vec<Entry>, stream: &Value) -> Result<(), PushError>
-    ensures { Gives (λ _. map entry_form entries.new.items) result (with_front (map entry_form entries.old.items) (stream_entries (view stream.now))) }
+fn push_stream(alloc: Global, entries: &mut Vec<Entry>, stream: Value) -> Result<(), PushError>
+    ensures { Gives (λ _. map entry_form entries.new.items) result (with_front (map entry_form entries.old.items) (stream_entries (view stream))) }
 {
-    let labels = labels_at(alloc, stream)?;
-    let values = array_at(stream, "values")?;
-    push_values(alloc, entries, &labels, values)
+    let (labels, values) = stream_parts(stream);
+    let labels = labels_of(alloc, labels)?;
+    let values = array_of(values)?;
+    push_values(entries, &labels, values)
 }
 
 // Adds the entry of each value, with the labels.
 fn push_values(
-    alloc: Global,
     entries: &mut Vec<Entry>,
     labels: &Labels,
-    values: &[Value],
+    values: Vec<Value>,
 ) -> Result<(), PushError>
     requires { IsTrue (is_stream labels.now) }
-    ensures { Gives (λ _. map entry_form entries.new.items) result (with_front (map entry_form entries.old.items) (entries_from labels.now (items_view values.now))) }
+    ensures { Gives (λ _. map entry_form entries.new.items) result (with_front (map entry_form entries.old.items) (entries_from labels.now (items_view values.items))) }
 {
     for value in values {
-        let entry = value_entry(alloc, labels, value)?;
+        let entry = value_entry(labels, value)?;
         entries.push(entry)?;
     }
     Ok(())
 }
 
 // The entry of a value, with the labels.
-fn value_entry(alloc: Global, labels: &Labels, value: &Value) -> Result<Entry, PushError>
+fn value_entry(labels: &Labels, value: Value) -> Result<Entry, PushError>
     requires { IsTrue (is_stream labels.now) }
-    ensures { Gives entry_form result (value_entry labels.now (view value.now)) }
+    ensures { Gives entry_form result (value_entry labels.now (view value)) }
 {
     let parts = parts_of(value)?;
-    entry_of(alloc, labels, parts)
+    entry_of(labels, parts)
 }
 
-// The labels of a stream.
-fn labels_at(alloc: Global, stream: &Value) -> Result<Labels, PushError>
-    ensures labels { Gives (λ labels. labels) result (labels_at (view stream.now)) }
+// The labels that were found.
+fn labels_of(alloc: Global, found: Option<Value>) -> Result<Labels, PushError>
+    ensures labels { Gives (λ labels. labels) result (labels_of (option_map view found)) }
     ensures of_stream { IfOk result (λ labels. IsTrue (is_stream labels)) }
 {
-    let pairs = pairs_of(alloc, object_at(stream, "stream")?)?;
+    let pairs = pairs_of(alloc, object_of(found)?)?;
     match Labels::from_pairs(alloc, pairs) {
-        Ok(labels) if labels.pairs().is_empty() => Err(PushError::Fault(PushFault::Label)),
+        Ok(labels) if labels.pairs().is_empty() => Err(OrMemory::Fault(PushFault::Label)),
         Ok(labels) => Ok(labels),
-        Err(LabelsError::Memory) => Err(PushError::Memory),
-        Err(_) => Err(PushError::Fault(PushFault::Label)),
+        Err(LabelsError::Memory) => Err(OrMemory::Memory),
+        Err(_) => Err(OrMemory::Fault(PushFault::Label)),
     }
 }
 
 // The names with their values, which are texts.
 fn pairs_of(
     alloc: Global,
-    members: &Map<String, Value>,
+    members: Map<String, Value>,
 ) -> Result<Vec<(PlainText, PlainText)>, PushError>
-    ensures { Gives (λ pairs. pairs.items) result (pairs_of (members_view members.now.entries)) }
+    ensures { Gives (λ pairs. pairs.items) result (pairs_of (members_view members.entries)) }
 {
-    let mut pairs = Vec::new(alloc);
-    for (name, value) in members.iter() {
-        let text = text_of(value)?;
-        let name = PlainText::from_str(alloc, name.as_str())?;
-        let text = PlainText::from_str(alloc, text)?;
-        pairs.push((name, text))?;
+    let mut pairs = Vec::with_capacity(alloc, members.len())?;
+    for (name, value) in members {
+        let pair = pair_of(name, value)?;
+        pairs.push(pair)?;
     }
     Ok(pairs)
 }
 
-fn text_of(value: &Value) -> Result<&str, PushFault>
-    ensures { Answers (λ text. text.now) result (required PushFault.Shape (as_str (view value.now))) }
+// The name with its value, which is a text.
+fn pair_of(name: String, value: Value) -> Result<(PlainText, PlainText), PushFault>
+    ensures { Answers (λ pair. pair) result (pair_of (string_bytes name) (view value)) }
 {
-    value.as_str().ok_or(PushFault::Shape)
+    let text = text_of(value)?;
+    Ok((PlainText::from_string(name), text))
 }
 
-// The parts of a value.
-fn parts_of(value: &Value) -> Result<Parts<'_>, PushFault>
-    ensures { Answers parts_form result (parts_of (view value.now)) }
+// The text that a value is.
+fn text_of(value: Value) -> Result<PlainText, PushFault>
+    ensures { Answers (λ text. text) result (required PushFault.Shape (as_str (view value))) }
 {
-    match value.as_array() {
-        Some(items) => parts_in(items.as_slice()),
-        None => Err(PushFault::Shape),
+    match value {
+        Value::String(text) => Ok(PlainText::from_string(text)),
+        _ => Err(PushFault::Shape),
     }
 }
 
-fn parts_in(items: &[Value]) -> Result<Parts<'_>, PushFault>
-    ensures { Answers parts_form result (parts_in (items_view items.now)) }
+// The parts of a value.
+fn parts_of(value: Value) -> Result<Parts, PushFault>
+    ensures { Answers parts_form result (parts_of (view value)) }
 {
-    let [time, line, rest @ ..] = items else {
-        return Err(PushFault::Shape);
-    };
-    let time = text_of(time)?;
-    let line = text_of(line)?;
-    let metadata = metadata_in(rest)?;
+    match value {
+        Value::Array(items) => parts_in(items),
+        _ => Err(PushFault::Shape),
+    }
+}
+
+// A time and a line as texts, and metadata.
+fn parts_in(items: Vec<Value>) -> Result<Parts, PushFault>
+    ensures { Answers parts_form result (parts_in (items_view items.items)) }
+{
+    let mut items = items.into_iter();
+    let time = first_text(&mut items)?;
+    let line = first_text(&mut items)?;
+    let metadata = metadata_in(items)?;
     Ok(Parts {
         time,
         line,
@@ -224,33 +240,43 @@ fn parts_in(items: &[Value]) -> Result<Parts<'_>, PushFault>
     })
 }
 
-// What stands behind the line: metadata, or nothing.
-fn metadata_in(rest: &[Value]) -> Result<Option<&Value>, PushFault>
-    ensures { Answers (option_map (λ value. view value.now)) result (metadata_in (items_view rest.now)) }
+// The text that comes first, and leaves what stands behind it.
+fn first_text(items: &mut IntoIter<Value>) -> Result<PlainText, PushFault>
+    ensures { Answers (λ text. (text, items_view (into_iter_items items.new))) result (first_text (items_view (into_iter_items items.old))) }
 {
-    match rest {
-        [] => Ok(None),
-        [metadata] => Ok(Some(metadata)),
-        _ => Err(PushFault::Shape),
+    match items.next() {
+        Some(value) => text_of(value),
+        None => Err(PushFault::Shape),
+    }
+}
+
+// What stands behind the line: metadata, or nothing.
+fn metadata_in(mut items: IntoIter<Value>) -> Result<Option<Value>, PushFault>
+    ensures { Answers (option_map view) result (metadata_in (items_view (into_iter_items items))) }
+{
+    let metadata = items.next();
+    match items.next() {
+        Some(_) => Err(PushFault::Shape),
+        None => Ok(metadata),
     }
 }
 
 // The entry of a value's parts, with the labels.
-fn entry_of(alloc: Global, labels: &Labels, parts: Parts<'_>) -> Result<Entry, PushError>
+fn entry_of(labels: &Labels, parts: Parts) -> Result<Entry, PushError>
     requires { IsTrue (is_stream labels.now) }
-    ensures { Gives entry_form result (entry_of labels.now (parts_form parts.entry)) }
+    ensures { Gives entry_form result (entry_of labels.now (parts_form parts)) }
 {
-    let timestamp = moment_of(parts.time)?;
+    let timestamp = moment_of(parts.time.as_str())?;
     if parts.line.len() > MAX_LINE_LEN {
-        return Err(PushError::Fault(PushFault::Line));
+        return Err(OrMemory::Fault(PushFault::Line));
     }
-    if !has_no_metadata(parts.metadata) {
-        return Err(PushError::Fault(PushFault::Metadata));
+    if !has_no_metadata(parts.metadata.as_ref()) {
+        return Err(OrMemory::Fault(PushFault::Metadata));
     }
     Ok(Entry {
         labels: labels.try_copy()?,
         timestamp,
-        line: PlainText::from_str(alloc, parts.line)?,
+        line: parts.line,
     })
 }
 

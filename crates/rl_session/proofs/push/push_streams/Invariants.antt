@@ -1,10 +1,11 @@
 -- The entries so far, and those of the streams that are left.
-use Rattle.std.proofs.Common.{◌≡◌, map, drop}
+use Rattle.std.proofs.Common.{◌≡◌, map}
 use Rattle.serde_json.specs.View.{items_view}
-use Rattle.rl_session.specs.PushForms.{with_front, entry_form}
+use Rattle.rl_plain.specs.Answers.{with_front}
+use Rattle.rl_session.specs.PushForms.{entry_form}
 use Rattle.rl_session.specs.PushBody.{streams_entries}
 use Rattle.rl_session.proofs.push.push_streams.Given as goal
 
 abbrev pub invariant-loop-stream : goal.invariant-loop-stream
 invariant-loop-stream l =
-    with_front (map entry_form l.entries.items) (streams_entries (items_view (drop l.stream-index l.streams))) ≡ with_front (map entry_form l.initial.entries.items) (streams_entries (items_view l.streams))
+    with_front (map entry_form l.entries.items) (streams_entries (items_view l.stream-iterator.rest.items)) ≡ with_front (map entry_form l.initial.entries.items) (streams_entries (items_view l.fn.streams.items))
