@@ -5,14 +5,15 @@ use Rattle.std.specs.Str.{IsUtf8, is_utf8}
 use Rattle.std.proofs.lemmas.List.{append-nil}
 use Rattle.std.proofs.lemmas.Bool.{false_from_ne_true}
 use Rattle.std.proofs.lemmas.Str.{IsUtf8-from_is_utf8, is_utf8-from_IsUtf8}
+use Rattle.rl_plain.specs.Answers.{◌>>=◌, Gives}
+use Rattle.rl_plain.specs.declared.refusal.OrMemory.{OrMemory}
+use Rattle.rl_plain.specs.declared.refusal.OrMemory.TheVariants as errors
 use Rattle.rl_rules.specs.Forms.{GroupForm}
 use Rattle.rl_rules.specs.Document.{groups_of}
-use Rattle.rl_session.specs.Front.{FrontForm, Gives, front_of, front_from, front_in, with_rules_fault, with_commands}
-use Rattle.rl_session.specs.Reading.{Answers, Reads, ReadsFront, Tells, read_front}
+use Rattle.rl_session.specs.Front.{FrontForm, front_of, front_from, front_in, with_rules_fault, with_commands}
+use Rattle.rl_session.specs.Reading.{GivesOne, Reads, ReadsFront, Tells}
 use Rattle.rl_session.specs.declared.front.fault.FrontFault.{FrontFault}
 use Rattle.rl_session.specs.declared.front.fault.FrontFault.TheVariants as faults
-use Rattle.rl_session.specs.declared.front.fault.FrontError.{FrontError}
-use Rattle.rl_session.specs.declared.front.fault.FrontError.TheVariants as errors
 
 front_in-test : (bytes : List ℕ) (t : Bool) → is_utf8 bytes ≡ t → front_in bytes ≡ cond t (front_from (front_of bytes)) (Err faults.NotText)
 front_in-test bytes t is = ap (λ b. cond b (front_from (front_of bytes)) (Err faults.NotText)) is
@@ -32,17 +33,17 @@ front_in-groups bytes whole document commands rest groups utf8 same is read behi
     front_in-parts bytes whole document commands (Ok groups) utf8 same is read ∙ ap (λ c. Ok (record { groups = groups; commands = c })) (sym behind)
 
 -- the fault of the document
-pub front_in-fault : {X Z : Type 0} (view : X → List GroupForm) (form : Z → FrontForm) (bytes whole document commands : List ℕ) (error : FrontError) → IsUtf8 bytes → whole ≡ bytes → Some (document, commands) ≡ front_of whole → Gives view (Err error) (with_rules_fault (groups_of document)) → Gives form (Err error) (front_in bytes)
+pub front_in-fault : {X Z : Type 0} (view : X → List GroupForm) (form : Z → FrontForm) (bytes whole document commands : List ℕ) (error : OrMemory FrontFault) → IsUtf8 bytes → whole ≡ bytes → Some (document, commands) ≡ front_of whole → Gives view (Err error) (with_rules_fault (groups_of document)) → Gives form (Err error) (front_in bytes)
 front_in-fault view form bytes whole document commands (errors.Fault fault) utf8 same is read = front_in-parts bytes whole document commands (Err fault) utf8 same is read
 front_in-fault view form bytes whole document commands errors.Memory utf8 same is read = tt
 
 -- reading failed
-pub ReadsFront-failed : {X Z : Type 0} (view : X → List ℕ) (form : Z → FrontForm) (most : ℕ) (old new : Option (List ℕ)) (error : FrontError) → Answers view (Reads most old new) (Err error) → Answers form (ReadsFront most old new) (Err error)
+pub ReadsFront-failed : {X Z : Type 0} (view : X → List ℕ) (form : Z → FrontForm) (most : ℕ) (old new : Option (List ℕ)) (error : OrMemory FrontFault) → GivesOne view (Reads most old new) (Err error) → GivesOne form (ReadsFront most old new) (Err error)
 ReadsFront-failed view form most old new (errors.Fault fault) reads = (Err fault, reads, refl)
 ReadsFront-failed view form most old new errors.Memory reads = tt
 
 -- all was read
-pub ReadsFront-read : {Z : Type 0} (form : Z → FrontForm) (most : ℕ) (old new : Option (List ℕ)) (bytes : List ℕ) (result : Result Z FrontError) → Reads most old new (Ok bytes) → Gives form result (front_in bytes) → Answers form (ReadsFront most old new) result
+pub ReadsFront-read : {Z : Type 0} (form : Z → FrontForm) (most : ℕ) (old new : Option (List ℕ)) (bytes : List ℕ) (result : Result Z (OrMemory FrontFault)) → Reads most old new (Ok bytes) → Gives form result (front_in bytes) → GivesOne form (ReadsFront most old new) result
 ReadsFront-read form most old new bytes (Ok front) reads gives = (Ok bytes, reads, sym gives)
 ReadsFront-read form most old new bytes (Err (errors.Fault fault)) reads gives = (Ok bytes, reads, sym gives)
 ReadsFront-read form most old new bytes (Err errors.Memory) reads gives = tt
@@ -62,7 +63,7 @@ Tells-all most all (Err faults.NotText) told = told
 Tells-all most all (Err faults.NoMark) told = told
 Tells-all most all (Err (faults.Rules fault)) told = told
 
-Tells-read : (most : ℕ) (all : List ℕ) (new : Option (List ℕ)) (answer : Result FrontForm FrontFault) (read : Result (List ℕ) FrontFault) → Reads most (Some all) new read → answer ≡ read_front read → Tells most all answer
+Tells-read : (most : ℕ) (all : List ℕ) (new : Option (List ℕ)) (answer : Result FrontForm FrontFault) (read : Result (List ℕ) FrontFault) → Reads most (Some all) new read → answer ≡ (read >>= front_in) → Tells most all answer
 Tells-read most all new answer (Ok bytes) reads is =
     let whole = Reads-all most all new bytes reads in
     Tells-all most all answer (whole.0, is ∙ ap front_in whole.1)
@@ -73,7 +74,7 @@ Tells-read most all new answer (Err faults.NoMark) reads is = absurd reads.3
 Tells-read most all new answer (Err (faults.Rules fault)) reads is = absurd reads.3
 
 -- what is answered where the reader's bytes are known
-pub Tells-ReadsFront : {Z : Type 0} (form : Z → FrontForm) (most : ℕ) (old new : Option (List ℕ)) (result : Result Z FrontError) → Answers form (ReadsFront most old new) result → IfSome old (λ all. Answers form (Tells most all) result)
+pub Tells-ReadsFront : {Z : Type 0} (form : Z → FrontForm) (most : ℕ) (old new : Option (List ℕ)) (result : Result Z (OrMemory FrontFault)) → GivesOne form (ReadsFront most old new) result → IfSome old (λ all. GivesOne form (Tells most all) result)
 Tells-ReadsFront form most None new result reads = tt
 Tells-ReadsFront form most (Some all) new (Ok front) reads = Tells-read most all new (Ok (form front)) reads.0 reads.1 reads.2
 Tells-ReadsFront form most (Some all) new (Err (errors.Fault fault)) reads = Tells-read most all new (Err fault) reads.0 reads.1 reads.2

@@ -3,10 +3,11 @@ use Rattle.std.proofs.Common.{◌≡◌, ℕ, ◌+◌, ◌<◌, ◌≤◌, ◌�
 use Rattle.std.specs.List.{concat}
 use Rattle.std.specs.Io.KnownBytes.{Consumes, Keeps}
 use Rattle.std.proofs.lemmas.List.{append-nil}
-use Rattle.rl_session.specs.Reading.{Reads, Answers}
+use Rattle.rl_plain.specs.declared.refusal.OrMemory.{OrMemory}
+use Rattle.rl_plain.specs.declared.refusal.OrMemory.TheVariants as errors
+use Rattle.rl_session.specs.Reading.{Reads, GivesOne}
+use Rattle.rl_session.specs.declared.front.fault.FrontFault.{FrontFault}
 use Rattle.rl_session.specs.declared.front.fault.FrontFault.TheVariants as faults
-use Rattle.rl_session.specs.declared.front.fault.FrontError.{FrontError}
-use Rattle.rl_session.specs.declared.front.fault.FrontError.TheVariants as errors
 
 -- one piece after another
 Consumes-trans : (o m n : Option (List ℕ)) (f g : List ℕ) → Consumes o m f → Consumes m n g → Consumes o n (f ++ g)
@@ -51,7 +52,7 @@ Reads-failed most o m n turns bytes g room fits kept =
     (last.pieces, omega (arith, last.each), last.taken, omega (arith, fits, ap length last.whole))
 
 -- a turn without an answer
-pub Answers-failed : {X : Type 0} (view : X → List ℕ) (most : ℕ) (o m n : Option (List ℕ)) (turns : ℕ) (bytes : List ℕ) (error : FrontError) → Gathered o m turns bytes → turns < most → length bytes ≤ most
-    → (error ≡ errors.Memory) ⊎ ((error ≡ errors.Fault faults.ReadFault) × Keeps m n) → Answers view (Reads most o n) (Err error)
-Answers-failed view most o m n turns bytes error g room fits (inl memory) = subst (λ e. Answers view (Reads most o n) (Err e)) (sym memory) tt
-Answers-failed view most o m n turns bytes error g room fits (inr failed) = subst (λ e. Answers view (Reads most o n) (Err e)) (sym failed.0) (Reads-failed most o m n turns bytes g room fits failed.1)
+pub GivesOne-failed : {X : Type 0} (view : X → List ℕ) (most : ℕ) (o m n : Option (List ℕ)) (turns : ℕ) (bytes : List ℕ) (error : OrMemory FrontFault) → Gathered o m turns bytes → turns < most → length bytes ≤ most
+    → (error ≡ errors.Memory) ⊎ ((error ≡ errors.Fault faults.ReadFault) × Keeps m n) → GivesOne view (Reads most o n) (Err error)
+GivesOne-failed view most o m n turns bytes error g room fits (inl memory) = subst (λ e. GivesOne view (Reads most o n) (Err e)) (sym memory) tt
+GivesOne-failed view most o m n turns bytes error g room fits (inr failed) = subst (λ e. GivesOne view (Reads most o n) (Err e)) (sym failed.0) (Reads-failed most o m n turns bytes g room fits failed.1)

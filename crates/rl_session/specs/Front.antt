@@ -3,6 +3,7 @@ use Rattle.std.specs.Prelude.{◌≡◌, ◌⊎◌, ℕ, ◌==◌, Bool, List, [
 use Rattle.std.specs.List.{slice_split, join_with_byte}
 use Rattle.std.specs.Option.{option_map}
 use Rattle.std.specs.Str.{is_utf8}
+use Rattle.rl_plain.specs.Answers.{◌>>=◌}
 use Rattle.rl_labels.specs.Name.{is_text}
 use Rattle.rl_rules.specs.Forms.{GroupForm, group_form}
 use Rattle.rl_rules.specs.Document.{groups_of}
@@ -10,8 +11,6 @@ use Rattle.rl_rules.specs.declared.fault.RulesFault.{RulesFault}
 use Rattle.rl_session.specs.declared.front.Front.{Front}
 use Rattle.rl_session.specs.declared.front.fault.FrontFault.{FrontFault}
 use Rattle.rl_session.specs.declared.front.fault.FrontFault.TheVariants as faults
-use Rattle.rl_session.specs.declared.front.fault.FrontError.{FrontError}
-use Rattle.rl_session.specs.declared.front.fault.FrontError.TheVariants as errors
 
 -- the lines of a text, without their line feeds
 abbrev pub lines_of : List ℕ → List (List ℕ)
@@ -58,8 +57,7 @@ with_rules_fault (Err fault) = Err (faults.Rules fault)
 
 -- the commands beside the groups
 abbrev pub with_commands : List ℕ → Result (List GroupForm) FrontFault → Result FrontForm FrontFault
-with_commands commands (Ok groups) = Ok (record { groups = groups; commands = commands })
-with_commands commands (Err fault) = Err fault
+with_commands commands read = read >>= λ groups. Ok (record { groups = groups; commands = commands })
 
 -- what the two parts of a text say
 abbrev pub front_from : Option (List ℕ × List ℕ) → Result FrontForm FrontFault
@@ -69,9 +67,3 @@ front_from (Some parts) = with_commands parts.1 (with_rules_fault (groups_of par
 -- what bytes say, or the lowest fault that they have
 abbrev pub front_in : List ℕ → Result FrontForm FrontFault
 front_in bytes = if is_utf8 bytes then front_from (front_of bytes) else Err faults.NotText
-
--- what a function returned, seen by view, is what reading gives, unless memory ran out
-abbrev pub Gives : {X Y : Type 0} → (X → Y) → Result X FrontError → Result Y FrontFault → Type 0
-Gives view (Ok x) read = read ≡ Ok (view x)
-Gives view (Err (errors.Fault fault)) read = read ≡ Err fault
-Gives view (Err errors.Memory) read = Unit {0}

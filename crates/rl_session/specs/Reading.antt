@@ -2,11 +2,12 @@
 use Rattle.std.specs.Prelude.{◌≡◌, ℕ, ◌<◌, ◌≤◌, ◌⊎◌, List, length, Option, Result, Ok, Err}
 use Rattle.std.specs.List.{concat}
 use Rattle.std.specs.Io.KnownBytes.{Consumes, IsAtEnd}
+use Rattle.rl_plain.specs.Answers.{◌>>=◌}
+use Rattle.rl_plain.specs.declared.refusal.OrMemory.{OrMemory}
+use Rattle.rl_plain.specs.declared.refusal.OrMemory.TheVariants.{Fault, Memory}
 use Rattle.rl_session.specs.Front.{FrontForm, front_in}
 use Rattle.rl_session.specs.declared.front.fault.FrontFault.{FrontFault}
 use Rattle.rl_session.specs.declared.front.fault.FrontFault.TheVariants as faults
-use Rattle.rl_session.specs.declared.front.fault.FrontError.{FrontError}
-use Rattle.rl_session.specs.declared.front.fault.FrontError.TheVariants as errors
 
 -- how reading ended, where its turns gave these pieces
 abbrev pub Ends : ℕ → Option (List ℕ) → List (List ℕ) → Result (List ℕ) FrontFault → Type 0
@@ -19,14 +20,9 @@ Ends most new pieces (Err _) = ⊥
 abbrev pub Reads : ℕ → Option (List ℕ) → Option (List ℕ) → Result (List ℕ) FrontFault → Type 0
 Reads most old new answer = (pieces : List (List ℕ)) × (length pieces ≤ most) × Consumes old new (concat pieces) × Ends most new pieces answer
 
--- what the bytes that were read say, unless reading them failed
-abbrev pub read_front : Result (List ℕ) FrontFault → Result FrontForm FrontFault
-read_front (Ok bytes) = front_in bytes
-read_front (Err fault) = Err fault
-
--- reading ended, and what was read gives this
+-- reading ended, and the bytes that were read say this, unless reading them failed
 abbrev pub ReadsFront : ℕ → Option (List ℕ) → Option (List ℕ) → Result FrontForm FrontFault → Type 0
-ReadsFront most old new answer = (read : Result (List ℕ) FrontFault) × Reads most old new read × (answer ≡ read_front read)
+ReadsFront most old new answer = (read : Result (List ℕ) FrontFault) × Reads most old new read × (answer ≡ (read >>= front_in))
 
 -- what is answered where all bytes of the reader are known: what they say, unless reading them failed
 abbrev pub Tells : ℕ → List ℕ → Result FrontForm FrontFault → Type 0
@@ -35,7 +31,7 @@ Tells most all (Err faults.TooLong) = Unit {0}
 Tells most all answer = (length all ≤ most) × (answer ≡ front_in all)
 
 -- what a function returned, seen by view, is an answer of this kind, unless memory ran out
-abbrev pub Answers : {X Y : Type 0} → (X → Y) → (Result Y FrontFault → Type 0) → Result X FrontError → Type 0
-Answers view IsAnswer (Ok x) = IsAnswer (Ok (view x))
-Answers view IsAnswer (Err (errors.Fault fault)) = IsAnswer (Err fault)
-Answers view IsAnswer (Err errors.Memory) = Unit {0}
+abbrev pub GivesOne : {X Y : Type 0} → (X → Y) → (Result Y FrontFault → Type 0) → Result X (OrMemory FrontFault) → Type 0
+GivesOne view IsAnswer (Ok x) = IsAnswer (Ok (view x))
+GivesOne view IsAnswer (Err (Fault fault)) = IsAnswer (Err fault)
+GivesOne view IsAnswer (Err Memory) = Unit {0}

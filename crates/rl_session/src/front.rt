@@ -2,13 +2,13 @@
 ghost use Rattle.std.specs.Prelude.{◌≡◌, ◌⊎◌, ℕ, ◌<◌, ◌++◌, List, length, map, false, Ok, IfSome, OnOk, IfErr};
 ghost use Rattle.std.specs.Option.{option_copied, option_map};
 ghost use Rattle.std.specs.Io.KnownBytes.{Consumes, Keeps, IsAtEnd};
+ghost use Rattle.rl_plain.specs.Answers.{Gives};
+ghost use Rattle.rl_plain.specs.declared.refusal.OrMemory.TheVariants.{Fault, Memory};
 ghost use Rattle.rl_rules.specs.Forms.{group_form};
 ghost use Rattle.rl_rules.specs.Document.{groups_of};
-ghost use Rattle.rl_session.specs.Front.{Gives, IsFirstLine, front_of, IsCut, front_form, with_rules_fault, front_in};
-ghost use Rattle.rl_session.specs.Reading.{Answers, Reads, ReadsFront, Tells};
+ghost use Rattle.rl_session.specs.Front.{IsFirstLine, front_of, IsCut, front_form, with_rules_fault, front_in};
+ghost use Rattle.rl_session.specs.Reading.{GivesOne, Reads, ReadsFront, Tells};
 ghost use Rattle.rl_session.specs.declared.front.fault.FrontFault.TheVariants as faults;
-ghost use Rattle.rl_session.specs.declared.front.fault.FrontError.TheVariants as errors;
-ghost use Rattle.rl_session.specs.declared.front.fault.FrontError.TheVariants.{Memory};
 
 mod commands;
 mod fault;
@@ -37,8 +37,8 @@ pub struct Front {
 
 /// The groups and the commands of all that a reader gives, or the lowest fault that it has.
 pub fn read_front<R: Read>(alloc: Global, reader: &mut R) -> Result<Front, FrontError>
-    ensures answers { Answers front_form (ReadsFront 67_108_864 (R.remaining reader.old) (R.remaining reader.new)) result }
-    ensures known { IfSome (R.remaining reader.old) (λ all. Answers front_form (Tells 67_108_864 all) result) }
+    ensures answers { GivesOne front_form (ReadsFront 67_108_864 (R.remaining reader.old) (R.remaining reader.new)) result }
+    ensures known { IfSome (R.remaining reader.old) (λ all. GivesOne front_form (Tells 67_108_864 all) result) }
 {
     let bytes = read_all(alloc, reader, LONGEST)?;
     front_in(alloc, bytes)
@@ -46,7 +46,7 @@ pub fn read_front<R: Read>(alloc: Global, reader: &mut R) -> Result<Front, Front
 
 // All that a reader gives: at most so many bytes, in at most so many turns.
 fn read_all<R: Read>(alloc: Global, reader: &mut R, most: usize) -> Result<Vec<u8>, FrontError>
-    ensures { Answers (λ bytes. bytes.items) (Reads most (R.remaining reader.old) (R.remaining reader.new)) result }
+    ensures { GivesOne (λ bytes. bytes.items) (Reads most (R.remaining reader.old) (R.remaining reader.new)) result }
 {
     let mut buffer = vec![in alloc; 0; ROOM]?;
     gather(alloc, reader, &mut buffer, most)
@@ -60,7 +60,7 @@ fn gather<R: Read>(
     most: usize,
 ) -> Result<Vec<u8>, FrontError>
     requires { 0 < length buffer.old }
-    ensures { Answers (λ bytes. bytes.items) (Reads most (R.remaining reader.old) (R.remaining reader.new)) result }
+    ensures { GivesOne (λ bytes. bytes.items) (Reads most (R.remaining reader.old) (R.remaining reader.new)) result }
 {
     let mut bytes = Vec::new(alloc);
     for _ in 0..most {
@@ -83,7 +83,7 @@ fn take_turn<R: Read>(
     requires { 0 < length buffer.old }
     ensures ok { OnOk result ((piece : List ℕ) × Consumes (R.remaining reader.old) (R.remaining reader.new) piece × (bytes.new.items ≡ bytes.old.items ++ piece)) }
     ensures end { result ≡ Ok false → IsAtEnd (R.remaining reader.new) × (bytes.new.items ≡ bytes.old.items) }
-    ensures err { IfErr result (λ error. (error ≡ Memory) ⊎ ((error ≡ errors.Fault faults.ReadFault) × Keeps (R.remaining reader.old) (R.remaining reader.new))) }
+    ensures err { IfErr result (λ error. (error ≡ Memory) ⊎ ((error ≡ Fault faults.ReadFault) × Keeps (R.remaining reader.old) (R.remaining reader.new))) }
 {
     match reader.read(buffer) {
         Ok(count) => {

@@ -1,9 +1,6 @@
 //! Why an input is refused.
-ghost use Rattle.std.specs.Prelude.{◌≡◌};
-ghost use Rattle.rl_session.specs.declared.front.fault.FrontError.TheVariants.{Memory};
-
+use rl_plain::OrMemory;
 use rl_rules::RulesFault;
-use std::alloc::{AllocError, AllocFailed};
 use thiserror::Error;
 
 /// Why an input is refused, the lowest first.
@@ -22,26 +19,4 @@ pub enum FrontFault {
 }
 
 /// Why an input gave no groups and no commands.
-#[derive(Clone, Copy, Debug, Drop, Error, PartialEq, Eq)]
-pub enum FrontError {
-    #[error("{0}")]
-    Fault(FrontFault),
-    #[error("out of memory")]
-    Memory,
-}
-
-impl From<AllocError> for FrontError {
-    ghost from_gives = { λ _ e. e ≡ Memory };
-
-    fn from(_error: AllocError) -> Self {
-        FrontError::Memory
-    }
-}
-
-impl<T: Drop> From<AllocFailed<T>> for FrontError {
-    ghost from_gives = { λ _ e. e ≡ Memory };
-
-    fn from(_error: AllocFailed<T>) -> Self {
-        FrontError::Memory
-    }
-}
+pub type FrontError = OrMemory<FrontFault>;

@@ -1,7 +1,7 @@
 -- Each turn gives a piece more, fails, or gives too much.
 use Rattle.std.proofs.Common.{ℕ, ◌+◌, Vec, Global, arith}
 use Rattle.std.proofs.lemmas.Result.{err_from_is_err_and}
-use Rattle.rl_session.proofs.Gathering.{Gathered-turn, Reads-more, Answers-failed}
+use Rattle.rl_session.proofs.Gathering.{Gathered-turn, Reads-more, GivesOne-failed}
 use Rattle.rl_session.proofs.front.gather.Goals as goal
 
 pub loop-preserved : goal.loop-preserved
@@ -17,7 +17,7 @@ pub returns-in_err-take_turn : goal.returns-in_err-take_turn
 returns-in_err-take_turn g c =
     let remaining = g.R.Read.remaining in
     let error = err_from_is_err_and c.from_residual.result c.from_residual.ensures.1 in
-    rw (error.1, error.2) (Answers-failed (λ (bytes : Vec ℕ Global). bytes.items) c.args.most (remaining c.args.reader.now) (remaining c.loop.reader) (remaining c.take_turn.new.reader) c.loop.counter c.loop.bytes.items c.in_err-take_turn.field-0.0 c.loop.invariant.gathered c.loop-test.true c.loop.invariant.fits c.in_err-take_turn.ensures.err)
+    rw (error.1, error.2) (GivesOne-failed (λ (bytes : Vec ℕ Global). bytes.items) c.args.most (remaining c.args.reader.now) (remaining c.loop.reader) (remaining c.take_turn.new.reader) c.loop.counter c.loop.bytes.items c.in_err-take_turn.field-0.0 c.loop.invariant.gathered c.loop-test.true c.loop.invariant.fits c.in_err-take_turn.ensures.err)
 
 pub returns-then-len-most : goal.returns-then-len-most
 returns-then-len-most g c =
