@@ -2,14 +2,15 @@
 use Rattle.std.specs.Prelude.{ℕ, Result, Ok, Err}
 use Rattle.rule_shell.specs.declared.Stop.{Stop}
 use Rattle.rule_shell.specs.declared.Stop.TheVariants.{BadOptions, BadInput, Failed}
-use Rattle.rl_session.specs.declared.front.fault.FrontError.{FrontError}
-use Rattle.rl_session.specs.declared.front.fault.FrontError.TheVariants as errors
+use Rattle.rl_plain.specs.declared.refusal.OrMemory.{OrMemory}
+use Rattle.rl_plain.specs.declared.refusal.OrMemory.TheVariants as errors
+use Rattle.rl_session.specs.declared.front.fault.FrontFault.{FrontFault}
 use Rattle.rl_session.specs.declared.front.fault.FrontFault.TheVariants as faults
 use Rattle.rl_session.specs.declared.session.Status.{Status}
 use Rattle.rl_session.specs.declared.session.Status.TheVariants.{Taken, Refused, Unwritten}
 
 -- what an input that gave no commands stops the program with
-abbrev pub stop_at : FrontError → Stop
+abbrev pub stop_at : OrMemory FrontFault → Stop
 stop_at (errors.Fault faults.ReadFault) = Failed
 stop_at (errors.Fault fault) = BadInput fault
 stop_at errors.Memory = Failed
