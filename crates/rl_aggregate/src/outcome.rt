@@ -22,7 +22,7 @@ pub struct Sample {
 }
 
 /// What a query gives at a moment.
-#[derive(Debug, Drop, PartialEq, Eq)]
+#[derive(Debug, Drop)]
 pub enum Outcome {
     /// The elements, in the order of their label sets.
     Vector(PlainList<Sample>),
@@ -58,7 +58,7 @@ impl TryCopy for Fraction {
 
 impl Same for Fraction {
     fn is_same(&self, other: &Self) -> bool {
-        self.numerator == other.numerator && self.denominator == other.denominator
+        self == other
     }
 }
 
@@ -74,7 +74,7 @@ impl TryCopy for Sample {
 
 impl Same for Sample {
     fn is_same(&self, other: &Self) -> bool {
-        self.value.is_same(&other.value) && self.labels.is_same(&other.labels)
+        self == other
     }
 }
 
