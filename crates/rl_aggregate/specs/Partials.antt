@@ -41,9 +41,9 @@ both_totals a b = from_entries (map (λ labels. (labels, plus (total_at a labels
 abbrev pub merge : Partial → Partial → Partial
 merge a b = record { errors = a.errors + b.errors; totals = both_totals a.totals b.totals }
 
--- the most entries that all shards hold
+-- the most entries of which a number of 64 bits holds the bytes of all lines, each with at most 65,535
 abbrev pub most_entries : ℕ
-most_entries = 1073741824
+most_entries = 281479271743489
 
 -- a number of 64 bits holds each number of the total
 abbrev pub TotalFits : Total → Type 0
