@@ -1,23 +1,28 @@
--- One element more.
-use Rattle.std.proofs.Common.{◌≡◌, ℕ, ◌+◌, ◌<◌, ◌≤◌, ◌^◌, Bool, true, false, cond, not, List, [], ◌∷◌, ◌++◌, length, map, take, get_or, codes, Option, None, Some, Bor, refl, sym, ap, ◌∙◌, arith}
+-- One run of entries more.
+use Rattle.std.proofs.Common.{◌≡◌, ℕ, ◌+◌, ◌*◌, ◌<◌, ◌≤◌, ◌^◌, Bool, true, false, cond, not, ◌&&◌, ◌||◌, List, [], ◌∷◌, ◌++◌, length, map, get_or, codes, Option, None, Some, Bor, refl, sym, ap, ◌∙◌, append_assoc, append-nil, arith}
 use Rattle.std.specs.Option.{unwrap_or, is_some, option_copied}
 use Rattle.std.specs.Ordering.{eq_by_cmp}
-use Rattle.std.specs.List.{list_all}
+use Rattle.std.specs.List.{list_all, list_any, filter, count_by, sum_by}
 use Rattle.std.specs.FinMap.{get, insert, empty, from_entries, get-empty, get-insert}
 use Rattle.std.specs.FinMap.Entries.{find, is_sorted}
-use Rattle.std.proofs.lemmas.Bool.{and_parts, and_from}
-use Rattle.std.proofs.lemmas.List.{take_more, length-take}
+use Rattle.std.proofs.lemmas.Bool.{and_parts, and_from, not-true}
+use Rattle.std.proofs.lemmas.List.{length-append}
+use Rattle.std.proofs.lemmas.List.Sums.{sum_by-cons, sum_by-le}
+use Rattle.std.proofs.Math.Bool.{and-true, or-false, or_self}
+use Rattle.rl_labels.specs.EntryParts.{longest_line}
+use Rattle.rl_labels.specs.Selects.{selects}
 use Rattle.rl_labels.specs.Name.{name_cmp, is_name}
 use Rattle.rl_labels.specs.LabelSet.{LabelSet, Pair, is_empty, is_label, label, labels_of, labels_are_proper}
 use Rattle.rl_plain.specs.laws.Bools.{true_from}
-use Rattle.rl_labels.specs.LabelText.{label_set_cmp}
+use Rattle.rl_labels.specs.LabelText.{label_set_cmp, label_set_eq}
 use Rattle.rl_labels.specs.laws.TextLaws.{label_set_cmp_total, label_set_eq-true, label_set_eq_itself}
 use Rattle.rl_labels.specs.declared.entry.Entry.{Entry}
 use Rattle.rl_query.specs.declared.query.Term.{Term}
-use Rattle.rl_aggregate.specs.InRange.{Element, element, is_in_range, in_range}
-use Rattle.rl_aggregate.specs.laws.Totals.{label_set_eq-cmp, same_totals, get-both_totals, partial-append, errors-within, count-within, bytes-within}
+use Rattle.rl_aggregate.specs.InRange.{Element, element, in_window, is_in_range, in_range}
+use Rattle.rl_aggregate.specs.Runs.{is_like, all_have, run_total}
+use Rattle.rl_aggregate.specs.laws.Totals.{label_set_eq-cmp, same_totals, get-totals_of, get-both_totals, partial-append, errors-within, count-within, bytes-within}
 use Rattle.rl_aggregate.specs.TotalsMap.{TotalsMap, plus, total_at, added}
-use Rattle.rl_aggregate.specs.Partials.{has_error, total_of, partial_of, partial, both_totals, merge, counts_for, most_entries, TotalFits}
+use Rattle.rl_aggregate.specs.Partials.{has_error, total_of, totals_of, partial_of, partial, both_totals, merge, counts_for, most_entries, TotalFits}
 use Rattle.rl_aggregate.specs.declared.total.Total.{Total}
 use Rattle.rl_aggregate.specs.declared.partial.Partial.{Partial}
 use Rattle.rl_aggregate.proofs.Merging.{joined, joined-None, joined-Some}
@@ -57,57 +62,162 @@ both_totals-one totals k v = same_totals _ _ (λ q.
     ] refl
     ∙ sym (get-insert label_set_cmp_total totals k (plus (total_at totals k) v) q))
 
--- what one element makes, with an error or without
-abbrev partial_if : Element → Bool → Partial
-partial_if e wrong = record { errors = 0 + cond wrong 1 0; totals = from_entries (map (λ x. (x.labels, total_of (e ∷ []) x.labels)) (cond (not wrong) (e ∷ []) [])) }
-
-partial_of-one : (e : Element) (wrong : Bool) → has_error e.labels ≡ wrong → partial_of (e ∷ []) ≡ partial_if e wrong
-partial_of-one e wrong is = ap (partial_if e) is
-
--- an error counts as one
-pub merge-error : (found : Partial) (e : Element) → has_error e.labels ≡ true → record { errors = found.errors + 1; totals = found.totals } ≡ merge found (partial_of (e ∷ []))
-merge-error found e is = sym (ap (merge found) (partial_of-one e true is) ∙ (λ i. record { errors = found.errors + 1; totals = both_totals-empty found.totals i }))
-
-total_of-one : (e : Element) → has_error e.labels ≡ false → total_of (e ∷ []) e.labels ≡ record { count = 1; bytes = e.bytes }
-total_of-one e is =
-    let counts : counts_for e.labels e ≡ true = and_from _ _ (label_set_eq_itself e.labels) (ap not is) in
-    let bytes : 0 + e.bytes ≡ e.bytes = omega arith in
-    ap (λ b. record { count = 0 + cond b 1 0; bytes = 0 + cond b e.bytes 0 }) counts ∙ (λ i. record { count = 1; bytes = bytes i })
-
--- and another element at its label set
-pub merge-counted : (found : Partial) (e : Element) → has_error e.labels ≡ false → record { errors = found.errors; totals = added found.totals e.labels (record { count = 1; bytes = e.bytes }) } ≡ merge found (partial_of (e ∷ []))
-merge-counted found e is =
+-- what no element adds up to, merged
+pub merge-nothing : (found : Partial) → merge found (partial_of []) ≡ found
+merge-nothing found =
     let errors : found.errors + 0 ≡ found.errors = omega arith in
-    sym (
-    ap (merge found) (partial_of-one e false is)
-    ∙ (λ i. record { errors = errors i; totals = both_totals found.totals (insert empty e.labels (total_of-one e is i)) })
-    ∙ (λ i. record { errors = found.errors; totals = both_totals-one found.totals e.labels (record { count = 1; bytes = e.bytes }) i }))
+    λ i. record { errors = errors i; totals = both_totals-empty found.totals i }
 
--- one entry more, in the range or not
-pub partial-more : (entries : List Entry) (i : ℕ) (entry : Entry) (term : Term) (t : ℕ) → i < length entries → entry ≡ get_or entries i entry → partial (take (i + 1) entries) term t ≡ merge (partial (take i entries) term t) (partial (entry ∷ []) term t)
-partial-more entries i entry term t inside is =
-    ap (λ es. partial es term t) (take_more entries i entry inside ∙ ap (λ e. take i entries ++ e ∷ []) (sym is))
-    ∙ partial-append (take i entries) (entry ∷ []) term t
+-- as many ones, or no number but 0, and the bytes of lines
+ones : (run : List Entry) → sum_by (λ e. 1) run ≡ length run
+ones [] = refl
+ones (e ∷ es) = omega (arith, sum_by-cons (λ e. 1) e es, ones es)
 
-pub partial-counted : (entries : List Entry) (i : ℕ) (entry : Entry) (term : Term) (t : ℕ) → i < length entries → entry ≡ get_or entries i entry → is_in_range term t entry ≡ true → partial (take (i + 1) entries) term t ≡ merge (partial (take i entries) term t) (partial_of (element entry ∷ []))
-partial-counted entries i entry term t inside is in_range =
-    partial-more entries i entry term t inside is
-    ∙ ap (λ b. merge (partial (take i entries) term t) (partial_of (map element (cond b (entry ∷ []) [])))) in_range
+zeros : (run : List Entry) → sum_by (λ e. 0) run ≡ 0
+zeros [] = refl
+zeros (e ∷ es) = omega (arith, sum_by-cons (λ e. 0) e es, zeros es)
 
-pub partial-passed : (entries : List Entry) (i : ℕ) (entry : Entry) (term : Term) (t : ℕ) → i < length entries → entry ≡ get_or entries i entry → is_in_range term t entry ≡ false → partial (take (i + 1) entries) term t ≡ partial (take i entries) term t
-partial-passed entries i entry term t inside is out =
-    let before = partial (take i entries) term t in
-    let errors : before.errors + 0 ≡ before.errors = omega arith in
-    partial-more entries i entry term t inside is
-    ∙ ap (λ b. merge before (partial_of (map element (cond b (entry ∷ []) [])))) out
-    ∙ (λ i. record { errors = errors i; totals = both_totals-empty before.totals i })
+bytes_of-run : (run : List Entry) → sum_by (λ e. length e.line) run ≤ length run * longest_line
+bytes_of-run run = sum_by-le (λ e. length e.line) longest_line run (λ k d inside. (get_or run k d).fits)
 
--- there is room for one more
-pub errors-fit : (entries : List Entry) (i : ℕ) (term : Term) (t : ℕ) → length entries ≤ most_entries → (partial (take i entries) term t).errors + 1 < 2 ^ 64
-errors-fit entries i term t few = omega (arith, errors-within (take i entries) term t, length-take i entries)
+-- entries with one label set
+module _ (k : LabelSet) where
+  abbrev element_of : Entry → Element
+  element_of entry = record { labels = k; bytes = length entry.line }
 
-pub total-fits : (entries : List Entry) (i : ℕ) (entry : Entry) (term : Term) (t : ℕ) → length entries ≤ most_entries → TotalFits (plus (total_at (partial (take i entries) term t).totals entry.labels) (record { count = 1; bytes = length entry.line }))
-total-fits entries i entry term t few = (
-  omega (arith, count-within (take i entries) term t entry.labels, length-take i entries),
-  omega (arith, bytes-within (take i entries) term t entry.labels, length-take i entries, entry.fits),
-)
+  elements_of : (run : List Entry) → all_have k run ≡ true → map element run ≡ map element_of run
+  elements_of [] have = refl
+  elements_of (e ∷ es) have =
+      let parts = and_parts (label_set_eq k e.labels) (all_have k es) have in
+      λ i. record { labels = sym (label_set_eq-true k e.labels parts.0) i; bytes = length e.line } ∷ elements_of es parts.1 i
+
+  sum_by-elements_of : (f : Element → ℕ) (run : List Entry) → sum_by f (map element_of run) ≡ sum_by (λ e. f (element_of e)) run
+  sum_by-elements_of f [] = refl
+  sum_by-elements_of f (e ∷ es) = sum_by-cons f (element_of e) (map element_of es) ∙ ap (λ n. f (element_of e) + n) (sum_by-elements_of f es) ∙ sym (sum_by-cons (λ x. f (element_of x)) e es)
+
+  -- a run has an element at its label set, and at no other
+  counts_in_run : (q : LabelSet) (e : Entry) (es : List Entry) → list_any (counts_for q) (map element_of (e ∷ es)) ≡ (label_set_eq q k && not (has_error k))
+  counts_in_run q e [] = or-false (label_set_eq q k && not (has_error k))
+  counts_in_run q e (x ∷ xs) = ap (λ b. (label_set_eq q k && not (has_error k)) || b) (counts_in_run q x xs) ∙ or_self (label_set_eq q k && not (has_error k))
+
+  -- the total at its label set is that of the run
+  total_of-run : (run : List Entry) → has_error k ≡ false → total_of (map element_of run) k ≡ run_total run
+  total_of-run run good =
+      let counts : counts_for k (record { labels = k; bytes = 0 }) ≡ true = and_from _ _ (label_set_eq_itself k) (ap not good) in
+      λ i. record {
+        count = (sum_by-elements_of (λ e. cond (counts_for k e) 1 0) run ∙ ap (λ b. sum_by (λ e. cond b 1 0) run) counts ∙ ones run) i;
+        bytes = (sum_by-elements_of (λ e. cond (counts_for k e) e.bytes 0) run ∙ ap (λ b. sum_by (λ e. cond b (length e.line) 0) run) counts) i;
+      }
+
+  -- so it is all that the run adds up to
+  totals_of-run : (e : Entry) (es : List Entry) → has_error k ≡ false → totals_of (map element_of (e ∷ es)) ≡ insert empty k (run_total (e ∷ es))
+  totals_of-run e es good = same_totals _ _ (λ q.
+      let run = e ∷ es in
+      get-totals_of (map element_of run) q
+      ∙ ap (λ b. cond b (Some (total_of (map element_of run) q)) None) (counts_in_run q e es ∙ ap (λ b. label_set_eq q k && not b) good ∙ and-true (label_set_eq q k))
+      ∙ elim (label_set_eq q k) as (λ b. label_set_eq q k ≡ b → cond b (Some (total_of (map element_of run) q)) None ≡ cond b (Some (run_total run)) None) [
+        | true ↦ λ is. ap (λ s. Some (total_of (map element_of run) s)) (label_set_eq-true q k is) ∙ ap (λ t. Some t) (total_of-run run good)
+        | false ↦ λ _. refl
+      ] refl
+      ∙ ap (λ b. cond b (Some (run_total run)) None) (label_set_eq-cmp q k)
+      ∙ sym (get-insert label_set_cmp_total empty k (run_total run) q ∙ ap (cond (eq_by_cmp label_set_cmp q k) (Some (run_total run))) (get-empty label_set_cmp q)))
+
+  -- a run with errors has no total
+  without_errors : (run : List Entry) → has_error k ≡ true → filter (λ e. not (has_error e.labels)) (map element_of run) ≡ []
+  without_errors [] bad = refl
+  without_errors (e ∷ es) bad = ap (λ b. cond (not b) (element_of e ∷ filter (λ e. not (has_error e.labels)) (map element_of es)) (filter (λ e. not (has_error e.labels)) (map element_of es))) bad ∙ without_errors es bad
+
+  -- how many errors a run has
+  errors_of-run : (run : List Entry) (wrong : Bool) → has_error k ≡ wrong → count_by (λ e. has_error e.labels) (map element_of run) ≡ sum_by (λ e. cond wrong 1 0) run
+  errors_of-run run wrong is = sum_by-elements_of (λ e. cond (has_error e.labels) 1 0) run ∙ ap (λ b. sum_by (λ e. cond b 1 0) run) is
+
+  -- the errors of a run count as many
+  pub merge-errors : (found : Partial) (run : List Entry) → all_have k run ≡ true → has_error k ≡ true → record { errors = found.errors + length run; totals = found.totals } ≡ merge found (partial_of (map element run))
+  merge-errors found run have bad = sym (
+      ap (λ es. merge found (partial_of es)) (elements_of run have)
+      ∙ (λ i. record {
+        errors = found.errors + (errors_of-run run true bad ∙ ones run) i;
+        totals = both_totals found.totals (from_entries (map (λ e. (e.labels, total_of (map element_of run) e.labels)) (without_errors run bad i)));
+      })
+      ∙ (λ i. record { errors = found.errors + length run; totals = both_totals-empty found.totals i }))
+
+  -- and others at their label set
+  pub merge-counted : (found : Partial) (run : List Entry) → 0 < length run → all_have k run ≡ true → has_error k ≡ false → record { errors = found.errors; totals = added found.totals k (run_total run) } ≡ merge found (partial_of (map element run))
+  merge-counted found [] some have good = absurd (omega (arith, some))
+  merge-counted found (e ∷ es) some have good =
+      let run = e ∷ es in
+      let errors : found.errors + 0 ≡ found.errors = omega arith in
+      sym (
+      ap (λ es. merge found (partial_of es)) (elements_of run have)
+      ∙ (λ i. record { errors = found.errors + (errors_of-run run false good ∙ zeros run) i; totals = both_totals found.totals (totals_of-run e es good i) })
+      ∙ (λ i. record { errors = errors i; totals = both_totals-one found.totals k (run_total run) i }))
+
+module _ (term : Term) (t : ℕ) (first : Entry) where
+  pub like_itself : is_like term t first first ≡ true
+  like_itself = elim (in_window term.range.seconds t first.timestamp) as (λ b. cond b (b && label_set_eq first.labels first.labels) (not b) ≡ true) [ true ↦ label_set_eq_itself first.labels | false ↦ refl ]
+
+  -- what counts as the first does is in the range as it is
+  same_range : (e : Entry) → is_like term t first e ≡ true → is_in_range term t e ≡ is_in_range term t first
+  same_range e like =
+      let inside = in_window term.range.seconds t e.timestamp in
+      elim (in_window term.range.seconds t first.timestamp) as (λ b. cond b (inside && label_set_eq first.labels e.labels) (not inside) ≡ true → is_in_range term t e ≡ (b && selects term.range.selector.matchers first.labels)) [
+        | true ↦ λ both.
+            let parts = and_parts inside (label_set_eq first.labels e.labels) both in
+            λ i. parts.0 i && selects term.range.selector.matchers (sym (label_set_eq-true first.labels e.labels parts.1) i)
+        | false ↦ λ out. ap (λ b. b && selects term.range.selector.matchers e.labels) (not-true inside out)
+      ] like
+
+  -- so a run is in the range or not as it is
+  in_range-run : (es : List Entry) → list_all (is_like term t first) es ≡ true → in_range es term t ≡ cond (is_in_range term t first) (map element es) []
+  in_range-run [] like = elim (is_in_range term t first) as (λ b. ◌≡◌ {A = List Element} [] (cond b [] [])) [ true ↦ refl | false ↦ refl ]
+  in_range-run (e ∷ es) like =
+      let parts = and_parts (is_like term t first e) (list_all (is_like term t first) es) like in
+      ap (λ b. map element (cond b (e ∷ filter (is_in_range term t) es) (filter (is_in_range term t) es))) (same_range e parts.0)
+      ∙ elim (is_in_range term t first) as (λ b. in_range es term t ≡ cond b (map element es) [] → map element (cond b (e ∷ filter (is_in_range term t) es) (filter (is_in_range term t) es)) ≡ cond b (element e ∷ map element es) []) [
+        | true ↦ λ rest. ap (λ xs. element e ∷ xs) rest
+        | false ↦ λ rest. rest
+      ] (in_range-run es parts.1)
+
+  -- and has its labels, where it is in the range
+  pub have-run : (es : List Entry) → list_all (is_like term t first) es ≡ true → is_in_range term t first ≡ true → all_have first.labels es ≡ true
+  have-run [] like is = refl
+  have-run (e ∷ es) like is =
+      let parts = and_parts (is_like term t first e) (list_all (is_like term t first) es) like in
+      let inside = in_window term.range.seconds t e.timestamp in
+      let in_window = and_parts (in_window term.range.seconds t first.timestamp) (selects term.range.selector.matchers first.labels) is in
+      let both = and_parts inside (label_set_eq first.labels e.labels) (sym (ap (λ b. cond b (inside && label_set_eq first.labels e.labels) (not inside)) in_window.0) ∙ parts.0) in
+      and_from _ _ both.1 (have-run es parts.1 is)
+
+-- what the entries before the rest add up to
+pub record IsBefore (entries rest : List Entry) (term : Term) (t : ℕ) (found : Partial) : Type 0 where
+  pub done : List Entry
+  pub all : done ++ rest ≡ entries
+  pub found_is : found ≡ partial done term t
+
+pub all_before : {entries : List Entry} (rest : List Entry) {term : Term} {t : ℕ} {found : Partial} → IsBefore entries rest term t found → length rest < 1 → found ≡ partial entries term t
+all_before [] {term} {t} before end = before.found_is ∙ ap (λ es. partial es term t) (sym (append-nil before.done) ∙ before.all)
+all_before (e ∷ es) before end = absurd (omega (arith, end))
+
+-- a run more, and there is room for it
+module _ {entries rest : List Entry} (run others : List Entry) {term : Term} {t : ℕ} {found : Partial} (few : length entries ≤ most_entries) (before : IsBefore entries rest term t found) (cut : rest ≡ run ++ others) where
+  pub run_before : (first : Entry) {more : Partial} (wanted : Bool) → list_all (is_like term t first) run ≡ true → is_in_range term t first ≡ wanted → more ≡ merge found (partial_of (cond wanted (map element run) [])) → IsBefore entries others term t more
+  run_before first wanted like range is = record {
+    done = before.done ++ run;
+    all = append_assoc before.done run others ∙ ap (λ xs. before.done ++ xs) (sym cut) ∙ before.all;
+    found_is =
+        is ∙ (λ i. merge (before.found_is i) (partial_of (cond (sym range i) (map element run) [])))
+        ∙ ap (λ es. merge (partial before.done term t) (partial_of es)) (sym (in_range-run term t first run like)) ∙ sym (partial-append before.done run term t);
+  }
+
+  short : length before.done + length run ≤ length entries
+  short = omega (arith, ap (λ xs. length xs) before.all, ap (λ xs. length xs) cut, length-append before.done rest, length-append run others)
+
+  pub errors-fit : found.errors + length run < 2 ^ 64
+  errors-fit = omega (arith, few, short, ap (λ f. f.errors) before.found_is, errors-within before.done term t)
+
+  pub total-fits : (labels : LabelSet) → TotalFits (plus (total_at found.totals labels) (run_total run))
+  total-fits labels =
+      let was = ap (λ f. total_at f.totals labels) before.found_is in (
+        omega (arith, few, short, ap (λ total. total.count) was, count-within before.done term t labels),
+        omega (arith, few, short, ap (λ total. total.bytes) was, bytes-within before.done term t labels, bytes_of-run run),
+      )

@@ -1,7 +1,10 @@
--- What the entries so far add up to.
-use Rattle.std.proofs.Common.{◌≡◌, take}
-use Rattle.rl_aggregate.specs.Partials.{partial}
+-- What the entries before the rest add up to.
+use Rattle.std.proofs.Common.{length}
+use Rattle.rl_aggregate.proofs.Counting.{IsBefore}
 use Rattle.rl_aggregate.proofs.range.scratch.Given as goal
 
-abbrev pub invariant-loop-entry : goal.invariant-loop-entry
-invariant-loop-entry l = l.found ≡ partial (take l.entry-index l.entries) l.term l.t
+abbrev pub invariant-loop-rest : goal.invariant-loop-rest
+invariant-loop-rest l = IsBefore l.entries l.rest l.term l.t l.found
+
+abbrev pub decreases-loop-rest : goal.decreases-loop-rest
+decreases-loop-rest l = length l.rest
