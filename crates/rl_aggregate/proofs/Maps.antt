@@ -1,9 +1,10 @@
 -- Totals as a tree of entries: the total at a label set, and what a change of the tree leaves.
-use Rattle.std.proofs.Common.{◌≡◌, ◌+◌, cond, List, Option, Some, sym, ap, ◌∙◌, arith}
+use Rattle.std.proofs.Common.{◌≡◌, ◌+◌, cond, List, Option, None, Some, is_some, IsTrue, sym, ap, ◌∙◌, arith}
 use Rattle.std.specs.Option.{unwrap_or}
-use Rattle.std.specs.FinMap.{from_entries, insert}
+use Rattle.std.specs.FinMap.{from_entries, insert, contains_key}
 use Rattle.std.specs.BTreeMap.{is_at}
 use Rattle.std.specs.Map.{lookup}
+use Rattle.std.proofs.lemmas.Bool.{true≢false}
 use Rattle.rl_labels.specs.LabelSet.{LabelSet}
 use Rattle.rl_labels.specs.LabelText.{label_set_cmp}
 use Rattle.rl_labels.specs.laws.TextLaws.{label_set_cmp_total, label_set_cmp-IsAntisymmetric}
@@ -25,6 +26,10 @@ total_at-totals_in es q = ap (λ t. unwrap_or t no_total) (get-of_tree label_set
 -- where the tree has one
 pub total_at-found : (totals : TotalsMap) (es : Entries) (k : LabelSet) (found : Total) → totals_in es ≡ totals → Some found ≡ lookup (is_at (label_set_cmp k)) es → total_at totals k ≡ found
 total_at-found totals es k found view is = ap (λ m. total_at m k) (sym view) ∙ total_at-totals_in es k ∙ ap (λ t. unwrap_or t no_total) (sym is)
+
+-- where the tree has none, the totals have none
+pub not_found : (totals : TotalsMap) (es : Entries) (k : LabelSet) → totals_in es ≡ totals → None ≡ lookup (is_at (label_set_cmp k)) es → IsTrue (contains_key totals k) → ⊥
+not_found totals es k view is known = true≢false (sym known ∙ ap (λ m. contains_key m k) (sym view) ∙ ap is_some (get-of_tree label_set_cmp_total es k ∙ sym is))
 
 -- a total set to the sum of the one before and another is one added
 pub one_added : (totals : TotalsMap) (es fs : Entries) (k : LabelSet) (before : Option Total) (total : Total) → totals_in es ≡ totals → before ≡ lookup (is_at (label_set_cmp k)) es → ((q : LabelSet) → lookup (is_at (label_set_cmp q)) fs ≡ cond (is_at (label_set_cmp k) q) (Some (plus (unwrap_or before no_total) total)) (lookup (is_at (label_set_cmp q)) es)) → totals_in fs ≡ added totals k total

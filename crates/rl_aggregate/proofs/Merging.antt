@@ -1,8 +1,8 @@
 -- Totals while the entries of others go into them, one after another.
-use Rattle.std.proofs.Common.{◌≡◌, ◌+◌, true, false, cond, ◌||◌, [], ◌∷◌, Option, None, Some, T, refl, sym, ap, ◌∙◌, arith}
+use Rattle.std.proofs.Common.{◌≡◌, ◌+◌, true, false, cond, ◌||◌, [], ◌∷◌, Option, None, Some, T, IsTrue, refl, sym, ap, ◌∙◌, arith}
 use Rattle.std.specs.Option.{unwrap_or, is_some}
 use Rattle.std.specs.Ordering.{eq_by_cmp, is_eq, is_lt}
-use Rattle.std.specs.FinMap.{get, insert, get-insert, get-from_entries}
+use Rattle.std.specs.FinMap.{get, insert, contains_key, get-insert, get-from_entries}
 use Rattle.std.specs.FinMap.Entries.{find, is_sorted, below_all}
 use Rattle.std.specs.declared.cmp.Ordering.{Ordering}
 use Rattle.std.specs.declared.cmp.Ordering.TheVariants.{Less, Equal, Greater}
@@ -13,7 +13,7 @@ use Rattle.rl_plain.specs.laws.Bools.{true_from}
 use Rattle.std.proofs.lemmas.Float.{T_from_true}
 use Rattle.rl_labels.specs.laws.TextLaws.{label_set_cmp_total, label_set_eq-true, label_set_eq_itself}
 use Rattle.rl_aggregate.specs.laws.Totals.{label_set_eq-cmp}
-use Rattle.rl_aggregate.specs.TotalsMap.{TotalsMap, no_total, plus, total_at, added}
+use Rattle.rl_aggregate.specs.TotalsMap.{TotalsMap, no_total, plus, total_at, added, HasAll}
 use Rattle.rl_aggregate.specs.declared.total.Total.{Total}
 use Rattle.rl_aggregate.proofs.Maps.{Entries, totals_in}
 
@@ -104,3 +104,22 @@ either-inserted m k v rest q sorted =
 -- what the entries of totals find, the totals have
 pub find-entries : (totals : TotalsMap) (es : Entries) (q : LabelSet) → totals_in es ≡ totals → find label_set_cmp q es ≡ get totals q
 find-entries totals es q view = sym (get-from_entries label_set_cmp_total es q) ∙ ap (λ m. get m q) view
+
+-- the totals have the label set of each entry that is left
+abbrev pub AreKnown : TotalsMap → Entries → Type 0
+AreKnown totals es = (q : LabelSet) → IsTrue (is_some (find label_set_cmp q es)) → IsTrue (contains_key totals q)
+
+pub known-all : (totals others : TotalsMap) (es : Entries) → totals_in es ≡ others → HasAll totals others → AreKnown totals es
+known-all totals others es view all = λ q there. all q (ap is_some (sym (find-entries others es q view)) ∙ there)
+
+pub known-first : (totals : TotalsMap) (k : LabelSet) (v : Total) (rest : Entries) → AreKnown totals ((k, v) ∷ rest) → IsTrue (contains_key totals k)
+known-first totals k v rest known = known k (ap is_some (find_first k v rest))
+
+-- also when one has gone in
+pub known-rest : (totals : TotalsMap) (k : LabelSet) (v : Total) (rest : Entries) → AreKnown totals ((k, v) ∷ rest) → AreKnown (added totals k v) rest
+known-rest totals k v rest known = λ q there.
+    ap is_some (get-insert label_set_cmp_total totals k (plus (total_at totals k) v) q)
+    ∙ elim (eq_by_cmp label_set_cmp q k) as (λ b. (is_some (cond b (Some v) (find label_set_cmp q rest)) ≡ true → is_some (get totals q) ≡ true) → is_some (cond b (Some (plus (total_at totals k) v)) (get totals q)) ≡ true) [
+      | true ↦ λ _. refl
+      | false ↦ λ here. here there
+    ] (known q)

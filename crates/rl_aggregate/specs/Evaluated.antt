@@ -1,5 +1,5 @@
 -- What a query gives at a moment.
-use Rattle.std.specs.Prelude.{ℕ, nat_lt, List, [], ◌∷◌, map, if◌then◌else◌}
+use Rattle.std.specs.Prelude.{◌≡◌, ℕ, nat_lt, List, [], ◌∷◌, map, if◌then◌else◌}
 use Rattle.std.specs.FinMap.{entries}
 use Rattle.rl_labels.specs.LabelSet.{LabelSet}
 use Rattle.rl_labels.specs.declared.entry.Entry.{Entry}
@@ -37,3 +37,7 @@ finished query (partial ∷ partials) = range_value query.left partial
 -- a query on entries: on what its terms give of them at the moment
 abbrev pub evaluated : List Entry → Query → ℕ → Outcome
 evaluated entries query t = finished query (map (λ term. partial entries term t) (terms_of query))
+
+-- of whichever entries the partials are, the outcome is that of the query on them
+abbrev pub IsEvaluated : Query → List Partial → Outcome → Type 0
+IsEvaluated query partials outcome = (entries : List Entry) (t : ℕ) → partials ≡ map (λ term. partial entries term t) (terms_of query) → outcome ≡ evaluated entries query t

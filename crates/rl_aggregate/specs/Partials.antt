@@ -1,5 +1,5 @@
 -- What the elements of a range add up to, and how two such sums are merged.
-use Rattle.std.specs.Prelude.{ℕ, ◌+◌, ◌<◌, ◌^◌, Bool, not, ◌&&◌, List, map, ◌++◌, codes, if◌then◌else◌}
+use Rattle.std.specs.Prelude.{◌≡◌, ℕ, ◌+◌, ◌<◌, ◌^◌, Bool, not, ◌&&◌, List, map, ◌++◌, codes, if◌then◌else◌}
 use Rattle.std.specs.List.{filter, count_by, sum_by}
 use Rattle.std.specs.FinMap.{from_entries, keys}
 use Rattle.rl_labels.specs.LabelSet.{LabelSet, value_of, is_empty}
@@ -40,6 +40,10 @@ both_totals a b = from_entries (map (λ labels. (labels, plus (total_at a labels
 
 abbrev pub merge : Partial → Partial → Partial
 merge a b = record { errors = a.errors + b.errors; totals = both_totals a.totals b.totals }
+
+-- of whichever entries the first two are, the third is of the ones with the others behind them
+abbrev pub IsOfBoth : Partial → Partial → Partial → Type 0
+IsOfBoth a b both = (first second : List Entry) (term : Term) (t : ℕ) → a ≡ partial first term t → b ≡ partial second term t → both ≡ partial (first ++ second) term t
 
 -- the most entries of which a number of 64 bits holds the bytes of all lines, each with at most 65,535
 abbrev pub most_entries : ℕ

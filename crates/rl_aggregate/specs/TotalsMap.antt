@@ -1,13 +1,18 @@
 -- Totals by label set.
-use Rattle.std.specs.Prelude.{◌+◌}
+use Rattle.std.specs.Prelude.{ℕ, ◌+◌, IsTrue, refl}
+use Rattle.std.specs.Coded.{Coded, code_by, coded×, coded_ℕ}
 use Rattle.std.specs.Option.{unwrap_or}
-use Rattle.std.specs.FinMap.{FinMap, get, insert}
-use Rattle.rl_labels.specs.LabelSet.{LabelSet}
+use Rattle.std.specs.FinMap.{FinMap, get, insert, contains_key, code}
+use Rattle.rl_labels.specs.LabelSet.{LabelSet, label_set_code}
 use Rattle.rl_labels.specs.LabelText.{label_set_cmp}
 use Rattle.rl_aggregate.specs.declared.total.Total.{Total}
 
 abbrev pub TotalsMap : Type 0
 TotalsMap = FinMap label_set_cmp Total
+
+-- totals as numbers, for a store
+abbrev pub totals_code : Coded TotalsMap
+totals_code = code label_set_code (code_by (ℕ × ℕ) (coded× coded_ℕ coded_ℕ) (λ t. (t.count, t.bytes)) (λ p. record { count = p.0; bytes = p.1 }) (λ _. refl))
 
 abbrev pub no_total : Total
 no_total = record { count = 0; bytes = 0 }
@@ -22,3 +27,7 @@ total_at totals labels = unwrap_or (get totals labels) no_total
 -- the totals with one added at a label set
 abbrev pub added : TotalsMap → LabelSet → Total → TotalsMap
 added totals labels total = insert totals labels (plus (total_at totals labels) total)
+
+-- the first totals have each label set that the others have
+abbrev pub HasAll : TotalsMap → TotalsMap → Type 0
+HasAll totals others = (labels : LabelSet) → IsTrue (contains_key others labels) → IsTrue (contains_key totals labels)

@@ -1,9 +1,8 @@
 //! What the elements of a range add up to, on one shard or on several.
-ghost use Rattle.std.specs.Prelude.{◌≡◌, ℕ, List, ◌++◌, IfOk};
+ghost use Rattle.std.specs.Prelude.{◌≡◌, IfOk, IsOk};
 ghost use Rattle.std.specs.FinMap as map;
-ghost use Rattle.rl_aggregate.specs.Partials.{partial, merge, Fits};
-ghost use Rattle.rl_labels.specs.declared.entry.Entry.{Entry};
-ghost use Rattle.rl_query.specs.declared.query.Term.{Term};
+ghost use Rattle.rl_aggregate.specs.TotalsMap.{HasAll};
+ghost use Rattle.rl_aggregate.specs.Partials.{merge, Fits, IsOfBoth};
 
 use crate::totals::Totals;
 use rl_plain::TryCopy;
@@ -30,11 +29,13 @@ impl Partial {
     }
 }
 
-/// What two partials of one term add up to together. Where memory runs out, the first is gone.
+/// What two partials of one term add up to together. Takes memory for label sets that are new to the first alone; where it
+/// runs out, the first is gone.
 pub fn merge(a: Partial, b: &Partial) -> Result<Partial, AllocError>
     requires { Fits (merge a b.now) }
     ensures merged { IfOk result (λ both. both ≡ merge a b.now) }
-    ensures of_both { (first second : List Entry) (term : Term) (t : ℕ) → a ≡ partial first term t → b.now ≡ partial second term t → IfOk result (λ both. both ≡ partial (first ++ second) term t) }
+    ensures known { HasAll a.totals b.now.totals → IsOk result }
+    ensures of_both { IfOk result (IsOfBoth a b.now) }
 {
     let mut both = a;
     both.totals.add_all(&b.totals)?;

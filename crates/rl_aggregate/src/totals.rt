@@ -1,7 +1,7 @@
 //! Totals by label set.
-ghost use Rattle.std.specs.Prelude.{◌≡◌, ◌==◌, IfOk, OnOk, OnErr, map as map_list};
+ghost use Rattle.std.specs.Prelude.{◌≡◌, ◌==◌, IfOk, IsOk, OnOk, OnErr, IsTrue, map as map_list};
 ghost use Rattle.std.specs.FinMap as map;
-ghost use Rattle.rl_aggregate.specs.TotalsMap.{added, plus, total_at};
+ghost use Rattle.rl_aggregate.specs.TotalsMap.{added, plus, total_at, HasAll};
 ghost use Rattle.rl_aggregate.specs.Partials.{TotalFits, both_totals};
 ghost use Rattle.rl_aggregate.specs.Evaluated.{sample};
 ghost use Rattle.rl_labels.specs.LabelSet.{LabelSet};
@@ -23,15 +23,12 @@ pub struct Totals {
 }
 
 impl Model for Totals {
-    ghost use Rattle.std.specs.Coded.{coded_ℕ, coded×, code_by};
-    ghost use Rattle.std.specs.Prelude.{ℕ, refl};
+    ghost use Rattle.rl_aggregate.specs.TotalsMap.{TotalsMap, totals_code};
     ghost use Rattle.std.specs.FinMap as map;
-    ghost use Rattle.rl_labels.specs.LabelSet.{label_set_code};
-    ghost use Rattle.rl_aggregate.specs.TotalsMap.{TotalsMap};
 
     ghost Value = { TotalsMap };
 
-    ghost coded = { map.code label_set_code (code_by (ℕ × ℕ) (coded× coded_ℕ coded_ℕ) (λ t. (t.count, t.bytes)) (λ p. record { count = p.0; bytes = p.1 }) (λ _. refl)) };
+    ghost coded = { totals_code };
 
     ghost view = { λ a. map.from_entries a.by_labels.entries };
 }
@@ -72,6 +69,7 @@ impl Totals {
         requires { TotalFits (plus (total_at self.old labels.now) total) }
         ensures ok { OnOk result (self.new ≡ added self.old labels.now total) }
         ensures err { OnErr result (self.new ≡ self.old) }
+        ensures known { IsTrue (map.contains_key self.old labels.now) → IsOk result }
     {
         if let Some(sum) = self.by_labels.get_mut(labels) {
             sum.count += total.count;
@@ -85,7 +83,8 @@ impl Totals {
     // Adds each total of the others at its label set.
     pub(crate) fn add_all(&mut self, others: &Totals) -> Result<(), AllocError>
         requires { (labels : LabelSet) → TotalFits (plus (total_at self.old labels) (total_at others.now labels)) }
-        ensures { OnOk result (self.new ≡ both_totals self.old others.now) }
+        ensures ok { OnOk result (self.new ≡ both_totals self.old others.now) }
+        ensures known { HasAll self.old others.now → IsOk result }
     {
         for (labels, total) in others.by_labels.iter() {
             self.add(labels, *total)?;

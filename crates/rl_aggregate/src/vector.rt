@@ -1,8 +1,7 @@
 //! What a query gives, of what its terms add up to.
-ghost use Rattle.std.specs.Prelude.{◌≡◌, ℕ, List, length, map, IfOk};
-ghost use Rattle.rl_labels.specs.declared.entry.Entry.{Entry};
-ghost use Rattle.rl_aggregate.specs.Partials.{partial};
-ghost use Rattle.rl_aggregate.specs.Evaluated.{finished, evaluated, range_value, terms_of};
+ghost use Rattle.std.specs.Prelude.{◌≡◌, length, IfOk, IsOk};
+ghost use Rattle.rl_aggregate.specs.Evaluated.{finished, range_value, terms_of, IsEvaluated};
+ghost use Rattle.rl_aggregate.specs.declared.outcome.Outcome.TheVariants as outcomes;
 
 use crate::outcome::Outcome;
 use crate::partial::Partial;
@@ -10,11 +9,12 @@ use rl_plain::PlainList;
 use rl_query::{Query, Term};
 use std::alloc::{AllocError, Global};
 
-/// The outcome of a query, with one partial for each of its terms.
+/// The outcome of a query, with one partial for each of its terms. A query that fails takes no memory.
 pub fn finish(alloc: Global, query: &Query, partials: &[Partial]) -> Result<Outcome, AllocError>
     requires { length partials.now ≡ length (terms_of query.now) }
     ensures finished { IfOk result (λ outcome. outcome ≡ finished query.now partials.now) }
-    ensures evaluated { (entries : List Entry) (t : ℕ) → partials.now ≡ map (λ term. partial entries term t) (terms_of query.now) → IfOk result (λ outcome. outcome ≡ evaluated entries query.now t) }
+    ensures failed { finished query.now partials.now ≡ outcomes.Failed → IsOk result }
+    ensures evaluated { IfOk result (IsEvaluated query.now partials.now) }
 {
     match partials {
         [] => Ok(Outcome::Vector(PlainList::new(alloc))),
@@ -24,7 +24,8 @@ pub fn finish(alloc: Global, query: &Query, partials: &[Partial]) -> Result<Outc
 
 // What a range aggregation gives.
 fn range_value(alloc: Global, term: &Term, partial: &Partial) -> Result<Outcome, AllocError>
-    ensures { IfOk result (λ outcome. outcome ≡ range_value term.now partial.now) }
+    ensures value { IfOk result (λ outcome. outcome ≡ range_value term.now partial.now) }
+    ensures failed { range_value term.now partial.now ≡ outcomes.Failed → IsOk result }
 {
     if partial.errors > 0 {
         return Ok(Outcome::Failed);

@@ -9,6 +9,6 @@ add_all-requires c = λ labels. subst TotalFits (total_at-both_totals c.args.a.t
 
 pub returns-clause-of_both : goal.returns-clause-of_both
 returns-clause-of_both c = λ first second term t of_first of_second.
-    ap (λ totals. record { errors = c.args.a.errors + c.args.b.now.errors; totals = totals }) c.in_ok-add_all.ensures
+    ap (λ totals. record { errors = c.args.a.errors + c.args.b.now.errors; totals = totals }) c.in_ok-add_all.ensures.ok
     ∙ (λ i. merge (of_first i) (of_second i))
     ∙ sym (partial-append first second term t)

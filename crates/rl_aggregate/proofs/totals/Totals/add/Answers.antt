@@ -5,7 +5,7 @@ use Rattle.std.specs.Map.{lookup}
 use Rattle.rl_labels.specs.LabelText.{label_set_cmp}
 use Rattle.rl_aggregate.specs.TotalsMap.{plus}
 use Rattle.rl_aggregate.specs.declared.total.Total.{Total}
-use Rattle.rl_aggregate.proofs.Maps.{total_at-found, one_added, plus-no_total}
+use Rattle.rl_aggregate.proofs.Maps.{total_at-found, not_found, one_added, plus-no_total}
 use Rattle.rl_aggregate.proofs.totals.Totals.add.Goals as goal
 
 pub overflow_add-sum : goal.overflow_add-sum
@@ -33,3 +33,9 @@ returns-clause-ok c =
     let same : c.in_ok-try_copy.field-0 ≡ c.args.labels.now = c.in_ok-try_copy.ensures in
     one_added c.args.self.now es c.insert.new.self.entries c.args.labels.now None c.args.total c.self.view_is c.in_default.ensures.value
     (λ q. c.in_ok-insert.ensures.updates.0 q ∙ (λ i. cond (is_at (label_set_cmp (same i)) q) (Some (sym (plus-no_total c.args.total) i)) (lookup (is_at (label_set_cmp q)) (c.get_mut.follows.holds-at-none i).entries)))
+
+pub returns-in_err-try_copy-clause-known : goal.returns-in_err-try_copy-clause-known
+returns-in_err-try_copy-clause-known c = λ known. absurd (not_found c.args.self.now c.self.inside.by_labels.entries c.args.labels.now c.self.view_is c.in_default.ensures.value known)
+
+pub returns-in_err-insert-clause-known : goal.returns-in_err-insert-clause-known
+returns-in_err-insert-clause-known c = λ known. absurd (not_found c.args.self.now c.self.inside.by_labels.entries c.args.labels.now c.self.view_is c.in_default.ensures.value known)
