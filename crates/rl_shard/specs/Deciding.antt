@@ -1,15 +1,25 @@
 -- How a push is decided before anything is held.
-use Rattle.std.specs.Prelude.{◌≡◌, ℕ, ◌≤◌, true, false, List, length}
+use Rattle.std.specs.Prelude.{◌≡◌, ℕ, ◌≤◌, Bool, true, false, List, Option, length}
+use Rattle.std.specs.Option.{MatchOption}
 use Rattle.std.specs.List.{AllWithin}
 use Rattle.std.specs.declared.cmp.Ordering.TheVariants.{Less, Greater}
+use Rattle.rl_labels.specs.LabelSet.{LabelSet}
 use Rattle.rl_labels.specs.EntryOrder.{entry_cmp}
 use Rattle.rl_labels.specs.declared.entry.Entry.{Entry}
 use Rattle.rl_labels.specs.declared.limits.Limits.{Limits}
-use Rattle.rl_shard.specs.ShardState.{ShardState}
-use Rattle.rl_shard.specs.ShardStep.{push_reply, is_taken}
+use Rattle.rl_shard.specs.ShardState.{ShardState, newest_map}
+use Rattle.rl_shard.specs.ShardStep.{push_reply, is_taken, raised}
 use Rattle.rl_shard.specs.declared.decision.Decision.{Decision}
 use Rattle.rl_shard.specs.declared.decision.Decision.TheVariants as decisions
 use Rattle.rl_shard.specs.declared.step.ShardReply.TheVariants as replies
+
+-- what was found is the value, where the test holds
+abbrev pub IsFoundIf : Bool → ℕ → Option ℕ → Type 0
+IsFoundIf test value found = MatchOption found (test ≡ false) (λ it. (test ≡ true) × (it ≡ value))
+
+-- the timestamp is raised in the newest ones that were kept before
+abbrev pub IsRaised : List (LabelSet × ℕ) → LabelSet → ℕ → List (LabelSet × ℕ) → Type 0
+IsRaised before labels timestamp after = newest_map after ≡ raised (newest_map before) labels timestamp
 
 -- the entry belongs at the place: the entries before it are less, and those from it on greater
 pub record BelongsAt (entries : List Entry) (entry : Entry) (place : ℕ) : Type 0 where

@@ -1,12 +1,16 @@
 -- What a shard holds, and what it shows.
-use Rattle.std.specs.Prelude.{ℕ, List, map, Option}
+use Rattle.std.specs.Prelude.{ℕ, List, map, Option, refl}
+use base.Stored.{coded_unit}
+use Rattle.std.specs.Coded.{Coded, code_by, coded×, coded_ℕ}
 use Rattle.std.specs.Option.{unwrap_or}
-use Rattle.std.specs.FinMap.{FinMap, empty, keys, from_entries}
-use Rattle.rl_labels.specs.LabelSet.{LabelSet}
+use Rattle.std.specs.FinMap.{FinMap, get, empty, keys, from_entries, code}
+use Rattle.rl_labels.specs.LabelSet.{LabelSet, label_set_code}
 use Rattle.rl_labels.specs.LabelText.{label_set_cmp}
 use Rattle.rl_labels.specs.EntryOrder.{EntrySet}
 use Rattle.rl_labels.specs.declared.entry.Entry.{Entry}
 use Rattle.rl_labels.specs.declared.limits.Limits.{Limits}
+use Rattle.rl_labels.specs.contracts.entry.Entry as entry_type
+use Rattle.rl_labels.specs.contracts.limits.Limits as limits_type
 
 -- a set is a map with nothing at each of its members
 abbrev pub mark : {K : Type 0} → K → K × Unit {0}
@@ -24,9 +28,21 @@ pub record ShardState : Type 0 where
   -- an entry below it is expired, in nanoseconds
   pub horizon : ℕ
 
+-- the newest timestamp of each stream, as the entries of a tree have them
+abbrev pub newest_map : List (LabelSet × ℕ) → FinMap label_set_cmp ℕ
+newest_map entries = from_entries entries
+
+-- the newest timestamp of a stream, 0 for a new one
+abbrev pub newest_at : FinMap label_set_cmp ℕ → LabelSet → ℕ
+newest_at newest labels = unwrap_or (get newest labels) 0
+
+-- the same of the entries of a tree
+abbrev pub newest_in : List (LabelSet × ℕ) → LabelSet → ℕ
+newest_in entries labels = newest_at (newest_map entries) labels
+
 -- a shard as it is kept: its entries, the newest timestamp by stream, and the horizon, if there is one
 abbrev pub state_of : List Entry → List (LabelSet × ℕ) → Option ℕ → ShardState
-state_of entries newest horizon = record { held = set_of entries; newest = from_entries newest; horizon = unwrap_or horizon 0 }
+state_of entries newest horizon = record { held = set_of entries; newest = newest_map newest; horizon = unwrap_or horizon 0 }
 
 abbrev pub empty_shard : ShardState
 empty_shard = record { held = empty; newest = empty; horizon = 0 }
@@ -40,3 +56,11 @@ pub record Journalled : Type 0 where
   pub limits : Limits
   pub state : ShardState
   pub records : ℕ
+
+-- a shard as numbers, for a store
+abbrev pub journalled_code : Coded Journalled
+journalled_code = code_by (Limits × ((EntrySet × (FinMap label_set_cmp ℕ × ℕ)) × ℕ))
+    (coded× limits_type.the_row.coded (coded× (coded× (code entry_type.the_row.coded coded_unit) (coded× (code label_set_code coded_ℕ) coded_ℕ)) coded_ℕ))
+    (λ j. (j.limits, ((j.state.held, (j.state.newest, j.state.horizon)), j.records)))
+    (λ p. record { limits = p.0; state = record { held = p.1.0.0; newest = p.1.0.1.0; horizon = p.1.0.1.1 }; records = p.1.1 })
+    (λ _. refl)

@@ -1,12 +1,12 @@
 -- What a shard answers to a step, and what it holds afterwards.
 use Rattle.std.specs.Prelude.{ℕ, ◌+◌, ◌*◌, nat_lt, nat_le, max, Bool, false, not, ◌&&◌, map, if◌then◌else◌}
-use Rattle.std.specs.Option.{unwrap_or}
-use Rattle.std.specs.FinMap.{get, insert, contains_key, len}
+use Rattle.std.specs.FinMap.{FinMap, insert, contains_key, len}
 use Rattle.rl_labels.specs.LabelSet.{LabelSet}
+use Rattle.rl_labels.specs.LabelText.{label_set_cmp}
 use Rattle.rl_labels.specs.declared.entry.Entry.{Entry}
 use Rattle.rl_labels.specs.declared.limits.Limits.{Limits}
 use Rattle.rl_aggregate.specs.Partials.{partial}
-use Rattle.rl_shard.specs.ShardState.{ShardState, Journalled, visible}
+use Rattle.rl_shard.specs.ShardState.{ShardState, Journalled, visible, newest_at}
 use Rattle.rl_shard.specs.declared.step.ShardStep.{ShardStep}
 use Rattle.rl_shard.specs.declared.step.ShardStep.TheVariants as steps
 use Rattle.rl_shard.specs.declared.step.ShardReply.{ShardReply}
@@ -18,14 +18,18 @@ half_second = 500000000
 
 -- the newest timestamp of a stream, 0 for a new one
 abbrev pub newest_of : ShardState → LabelSet → ℕ
-newest_of shard labels = unwrap_or (get shard.newest labels) 0
+newest_of shard labels = newest_at shard.newest labels
 
 abbrev pub is_expired : ShardState → Entry → Bool
 is_expired shard entry = nat_lt entry.timestamp shard.horizon
 
--- older than the newest of its stream by more than half of the age of a chunk
+-- older than a timestamp by more than half of the age of a chunk
+abbrev pub is_far_behind : Limits → Entry → ℕ → Bool
+is_far_behind limits entry newest = nat_lt (entry.timestamp + limits.chunk_age * half_second) newest
+
+-- older than the newest of its stream by more than that
 abbrev pub is_too_far_behind : Limits → ShardState → Entry → Bool
-is_too_far_behind limits shard entry = nat_lt (entry.timestamp + limits.chunk_age * half_second) (newest_of shard entry.labels)
+is_too_far_behind limits shard entry = is_far_behind limits entry (newest_of shard entry.labels)
 
 abbrev pub is_full : Limits → ShardState → Bool
 is_full limits shard = nat_le limits.entries (len shard.held)
@@ -43,9 +47,13 @@ push_reply limits shard entry =
 abbrev pub is_taken : Limits → ShardState → Entry → Bool
 is_taken limits shard entry = not (is_expired shard entry) && (not (is_too_far_behind limits shard entry) && (not (contains_key shard.held entry) && not (is_full limits shard)))
 
--- with the entry; the newest of its stream is never lowered
+-- the newest timestamp of a stream is raised to another, and never lowered
+abbrev pub raised : FinMap label_set_cmp ℕ → LabelSet → ℕ → FinMap label_set_cmp ℕ
+raised newest labels timestamp = insert newest labels (max (newest_at newest labels) timestamp)
+
+-- with the entry, and the newest of its stream
 abbrev pub with_entry : ShardState → Entry → ShardState
-with_entry shard entry = record { held = insert shard.held entry tt; newest = insert shard.newest entry.labels (max (newest_of shard entry.labels) entry.timestamp); horizon = shard.horizon }
+with_entry shard entry = record { held = insert shard.held entry tt; newest = raised shard.newest entry.labels entry.timestamp; horizon = shard.horizon }
 
 abbrev pub pushed : Limits → ShardState → Entry → ShardState
 pushed limits shard entry = if is_taken limits shard entry then with_entry shard entry else shard
@@ -62,6 +70,10 @@ stepped limits shard (steps.Collect slot terms t) = shard
 -- the journal has as many records as it may have
 abbrev pub is_journal_full : Journalled → Bool
 is_journal_full shard = nat_le shard.limits.records shard.records
+
+-- what a push leaves, before its record
+abbrev pub after_push : Journalled → Entry → Journalled
+after_push shard entry = record { limits = shard.limits; state = pushed shard.limits shard.state entry; records = shard.records }
 
 -- a step that is decided makes a record
 abbrev pub recorded : Journalled → ShardStep → Journalled

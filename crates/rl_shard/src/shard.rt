@@ -26,34 +26,22 @@ pub struct Shard {
 
 impl Model for Shard {
     ghost use Rattle.std.specs.Prelude.{◌≤◌, length};
-    ghost use Rattle.std.specs.Option.{unwrap_or};
     ghost use Rattle.std.specs.List.Sorted.{IsStrictlySortedBy};
-    ghost use Rattle.std.specs.FinMap as map;
     ghost use Rattle.rl_labels.specs.EntryOrder.{entry_cmp};
-    ghost use Rattle.rl_shard.specs.ShardState.{Journalled, set_of};
+    ghost use Rattle.rl_shard.specs.ShardState.{Journalled, state_of, journalled_code};
 
     ghost Value = { Journalled };
 
-    ghost use Rattle.std.specs.Coded.{code_by, coded×, coded_ℕ};
-    ghost use base.Stored.{coded_unit};
-    ghost use Rattle.std.specs.Prelude.{ℕ, refl};
-    ghost use Rattle.rl_labels.specs.EntryOrder.{EntrySet};
-    ghost use Rattle.rl_labels.specs.LabelSet.{label_set_code};
-    ghost use Rattle.rl_labels.specs.LabelText.{label_set_cmp};
-    ghost use Rattle.rl_labels.specs.declared.limits.Limits.{Limits};
-    ghost use Rattle.rl_labels.specs.contracts.entry.Entry as entry_type;
-    ghost use Rattle.rl_labels.specs.contracts.limits.Limits as limits_type;
+    ghost coded = { journalled_code };
 
-    ghost coded = { code_by (Limits × ((EntrySet × ((map.FinMap label_set_cmp ℕ) × ℕ)) × ℕ)) (coded× limits_type.the_row.coded (coded× (coded× (map.code entry_type.the_row.coded coded_unit) (coded× (map.code label_set_code coded_ℕ) coded_ℕ)) coded_ℕ)) (λ j. (j.limits, ((j.state.held, (j.state.newest, j.state.horizon)), j.records))) (λ p. record { limits = p.0; state = record { held = p.1.0.0; newest = p.1.0.1.0; horizon = p.1.0.1.1 }; records = p.1.1 }) (λ _. refl) };
-
-    ghost view = { λ a. record { limits = a.limits; state = record { held = set_of a.held.items; newest = map.from_entries a.newest.entries; horizon = unwrap_or a.horizon 0 }; records = a.records } };
+    ghost view = { λ a. record { limits = a.limits; state = state_of a.held.items a.newest.entries a.horizon; records = a.records } };
 
     ghost invariant = { λ a. (IsStrictlySortedBy entry_cmp a.held.items) × ((length a.held.items ≤ a.limits.entries) × (a.records ≤ a.limits.records)) };
 }
 
 impl Shard {
     ghost use Rattle.rl_shard.specs.ShardState.{empty_shard};
-    ghost use Rattle.rl_shard.specs.ShardStep.{push_reply, pushed, is_taken, step_reply, recorded, is_journal_full, needs_no_memory};
+    ghost use Rattle.rl_shard.specs.ShardStep.{push_reply, after_push, is_taken, step_reply, recorded, is_journal_full, needs_no_memory};
     ghost use Rattle.rl_shard.specs.declared.step.ShardFault.TheVariants as faults;
     ghost use Rattle.rl_shard.specs.declared.step.ShardReply.TheVariants as replies;
     ghost use Rattle.rl_shard.specs.ShardState.{visible};
@@ -108,7 +96,7 @@ impl Shard {
     // Takes an entry, or says why not.
     fn push(&mut self, entry: Entry) -> Result<ShardReply, AllocError>
         ensures reply { IfOk result (λ reply. reply ≡ push_reply self.old.limits self.old.state entry) }
-        ensures state { OnOk result (self.new ≡ record { limits = self.old.limits; state = pushed self.old.limits self.old.state entry; records = self.old.records }) }
+        ensures state { OnOk result (self.new ≡ after_push self.old entry) }
         ensures err { OnErr result (self.new ≡ self.old) }
         ensures no_memory { IsTrue (not (is_taken self.old.limits self.old.state entry)) → IsOk result }
     {

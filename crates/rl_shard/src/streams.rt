@@ -1,16 +1,15 @@
 //! The entries of a shard in one sorted list, and the newest timestamp of each stream.
-ghost use Rattle.std.specs.Prelude.{◌≡◌, ◌≤◌, ◌+◌, ◌*◌, nat_lt, true, false, max, length, IfOk, OnOk, OnErr, map as map_list, IfErr};
-ghost use Rattle.std.specs.Option.{unwrap_or, MatchOption};
-ghost use Rattle.std.specs.List.Sorted.{IsStrictlySortedBy};
-ghost use Rattle.rl_labels.specs.EntryOrder.{entry_cmp};
-ghost use Rattle.rl_shard.specs.Deciding.{BelongsAt, Decides};
-ghost use Rattle.rl_shard.specs.ShardState.{set_of, state_of};
-ghost use Rattle.std.specs.FinMap.{contains_key};
-ghost use Rattle.rl_shard.specs.ShardStep.{half_second};
+ghost use Rattle.std.specs.Prelude.{◌≡◌, ◌≤◌, nat_lt, true, length, IfOk, OnOk, OnErr, map as map_list, IfErr};
+ghost use Rattle.std.specs.Option.{unwrap_or};
 ghost use Rattle.std.specs.List.{insert};
+ghost use Rattle.std.specs.List.Sorted.{IsStrictlySortedBy};
 ghost use Rattle.std.specs.FinMap as map;
-ghost use Rattle.rl_labels.specs.LabelText.{label_set_cmp};
+ghost use Rattle.std.specs.FinMap.{contains_key};
+ghost use Rattle.rl_labels.specs.EntryOrder.{entry_cmp};
 ghost use Rattle.rl_aggregate.specs.Partials.{partial, most_entries};
+ghost use Rattle.rl_shard.specs.Deciding.{BelongsAt, Decides, IsFoundIf, IsRaised};
+ghost use Rattle.rl_shard.specs.ShardState.{set_of, state_of, newest_map, newest_in};
+ghost use Rattle.rl_shard.specs.ShardStep.{is_far_behind};
 
 use crate::decision::Decision;
 use crate::step::ShardReply;
@@ -23,7 +22,7 @@ use std::collections::BTreeMap;
 
 // The newest timestamp of a stream, if it ever had an entry.
 pub(crate) fn newest_of(newest: &BTreeMap<Labels, Ns>, labels: &Labels) -> Option<Ns>
-    ensures { result ≡ map.get (map.from_entries {R = label_set_cmp} newest.now.entries) labels.now }
+    ensures { result ≡ map.get (newest_map newest.now.entries) labels.now }
 {
     newest.get(labels).copied()
 }
@@ -33,7 +32,7 @@ const HALF_SECOND: u64 = 500_000_000;
 
 // The horizon, if the entry is older.
 fn horizon_after(horizon: Option<Ns>, entry: &Entry) -> Option<Ns>
-    ensures { MatchOption result (nat_lt entry.now.timestamp (unwrap_or horizon 0) ≡ false) (λ past. (nat_lt entry.now.timestamp (unwrap_or horizon 0) ≡ true) × (past ≡ unwrap_or horizon 0)) }
+    ensures { IsFoundIf (nat_lt entry.now.timestamp (unwrap_or horizon 0)) (unwrap_or horizon 0) result }
 {
     match horizon {
         Some(horizon) if entry.timestamp < horizon => Some(horizon),
@@ -43,9 +42,7 @@ fn horizon_after(horizon: Option<Ns>, entry: &Entry) -> Option<Ns>
 
 // The newest timestamp of the entry's stream, if the entry is too far behind it.
 fn newest_far_after(limits: &Limits, newest: &BTreeMap<Labels, Ns>, entry: &Entry) -> Option<Ns>
-    ensures { MatchOption result (nat_lt (entry.now.timestamp + limits.now.chunk_age * half_second) (unwrap_or (map.get (map.from_entries {R = label_set_cmp} newest.now.entries) entry.now.labels) 0) ≡ false)
-        (λ latest. (nat_lt (entry.now.timestamp + limits.now.chunk_age * half_second) (unwrap_or (map.get (map.from_entries {R = label_set_cmp} newest.now.entries) entry.now.labels) 0) ≡ true)
-        × (latest ≡ unwrap_or (map.get (map.from_entries {R = label_set_cmp} newest.now.entries) entry.now.labels) 0)) }
+    ensures { IsFoundIf (is_far_behind limits.now entry.now (newest_in newest.now.entries entry.now.labels)) (newest_in newest.now.entries entry.now.labels) result }
 {
     let latest = newest_of(newest, &entry.labels)?;
     if entry.timestamp.get() + limits.chunk_age * HALF_SECOND < latest.get() {
@@ -112,7 +109,7 @@ pub(crate) fn hold(
 ) -> Result<(), AllocError>
     requires { place ≤ length held.old.items }
     ensures held { OnOk result (held.new.items ≡ insert held.old.items place entry) }
-    ensures newest { OnOk result (map.from_entries {R = label_set_cmp} newest.new.entries ≡ map.insert (map.from_entries newest.old.entries) entry.labels (max (unwrap_or (map.get (map.from_entries {R = label_set_cmp} newest.old.entries) entry.labels) 0) entry.timestamp)) }
+    ensures newest { OnOk result (IsRaised newest.old.entries entry.labels entry.timestamp newest.new.entries) }
     ensures err { OnErr result ((held.new.items ≡ held.old.items) × (newest.new.entries ≡ newest.old.entries)) }
 {
     held.reserve(1)?;
@@ -127,7 +124,7 @@ fn raise(
     labels: &Labels,
     timestamp: Ns,
 ) -> Result<(), AllocError>
-    ensures ok { OnOk result (map.from_entries {R = label_set_cmp} newest.new.entries ≡ map.insert (map.from_entries newest.old.entries) labels.now (max (unwrap_or (map.get (map.from_entries {R = label_set_cmp} newest.old.entries) labels.now) 0) timestamp)) }
+    ensures ok { OnOk result (IsRaised newest.old.entries labels.now timestamp newest.new.entries) }
     ensures err { OnErr result (newest.new.entries ≡ newest.old.entries) }
 {
     if let Some(latest) = newest.get_mut(labels) {

@@ -7,7 +7,7 @@ use Rattle.std.specs.List.Sorted.{IsStrictlySortedBy}
 use Rattle.std.proofs.lemmas.List.Edits.{length-insert}
 use Rattle.rl_labels.specs.EntryOrder.{entry_cmp, entry_cmp_total, entry_cmp-IsAntisymmetric}
 use Rattle.rl_shard.specs.ShardState.{state_of, set_of, Journalled}
-use Rattle.rl_shard.specs.ShardStep.{pushed, with_entry, is_taken}
+use Rattle.rl_shard.specs.ShardStep.{pushed, after_push, with_entry, is_taken}
 use Rattle.rl_shard.specs.Deciding.{BelongsAt}
 use Rattle.rl_shard.proofs.Answered.{room_left}
 use Rattle.rl_shard.proofs.InOrder.{insert_in_order, of_set-insert}
@@ -38,6 +38,6 @@ returns-in_ok-hold-in-Hold-clause-state c =
     let set_now : set_of c.hold.new.held.items ≡ insert_key (set_of held) entry tt = ap set_of c.in_ok-hold-in-Hold.ensures.held ∙ of_set-insert entry_cmp_total entry_cmp-IsAntisymmetric held c.in-Hold.place entry in
     let state_now : state_of c.hold.new.held.items c.hold.new.newest.entries horizon ≡ with_entry before entry = λ i. record { held = set_now i; newest = c.in_ok-hold-in-Hold.ensures.newest i; horizon = unwrap_or horizon 0 } in
     let step : state_of c.hold.new.held.items c.hold.new.newest.entries horizon ≡ pushed c.self.inside.limits before entry = state_now ∙ sym (ap (λ b. cond b (with_entry before entry) before) taken) in
-    subst (λ (shard : Journalled). ◌≡◌ {A = Journalled} (record { limits = c.self.inside.limits; state = state_of c.hold.new.held.items c.hold.new.newest.entries horizon; records = c.self.inside.records }) (record { limits = shard.limits; state = pushed shard.limits shard.state entry; records = shard.records }))
+    subst (λ (shard : Journalled). ◌≡◌ {A = Journalled} (record { limits = c.self.inside.limits; state = state_of c.hold.new.held.items c.hold.new.newest.entries horizon; records = c.self.inside.records }) (after_push shard entry))
     c.self.view_is
     (λ i. record { limits = c.self.inside.limits; state = step i; records = c.self.inside.records })
