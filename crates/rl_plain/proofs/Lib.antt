@@ -1,1 +1,2 @@
+pub mod Escaping
 mod Examples

@@ -4,17 +4,20 @@
 //! - `list`: `PlainList<T>`, made from a `Vec` and given back without memory; lawful comparisons and hash.
 //! - `text`: `PlainText`, the same over a `String`.
 //! - `copying`: `TryCopy`, whose copy is the value.
+//! - `escape`: texts as they are written between quotes, by a table of escapes.
 //! - `refusal`: `OrMemory`, a fault or want of memory.
 //! - `sameness`: `Same`, whose answer is true exactly when the two values are one.
 #![tactic(auto)]
 
 pub mod copying;
+pub mod escape;
 pub mod list;
 pub mod refusal;
 pub mod sameness;
 pub mod text;
 
 pub use copying::TryCopy;
+pub use escape::{count_escapes, push_escaped};
 pub use list::PlainList;
 pub use refusal::OrMemory;
 pub use sameness::Same;
