@@ -1,22 +1,24 @@
 -- The canonical text of a label set, `{a="x",b="y"}`, and the order of label sets by its bytes.
-use Rattle.std.specs.Prelude.{ℕ, ◌==◌, Bool, List, [], ◌∷◌, ◌++◌, map, if◌then◌else◌, codes}
-use Rattle.std.specs.List.{flat_map, join_with_byte}
+use Rattle.std.specs.Prelude.{ℕ, Bool, List, [], ◌∷◌, ◌++◌, map, codes}
+use Rattle.std.specs.List.{join_with_byte}
 use Rattle.std.specs.Ordering.{nat_cmp}
 use Rattle.std.specs.declared.cmp.Ordering.{Ordering}
 use Rattle.std.specs.Cmp.Lexicographic.{slice_cmp}
+use Rattle.rl_plain.specs.Escapes.{Escapes, escaped}
 use Rattle.rl_labels.specs.Name.{is_text}
 use Rattle.rl_labels.specs.LabelSet.{Pair, LabelSet, labels_of}
 
--- a byte of a value: a backslash, a quote and a newline are escaped, all else stands for itself
-abbrev pub escape : ℕ → List ℕ
-escape byte = if byte == 92 then 92 ∷ 92 ∷ [] else (if byte == 34 then 92 ∷ 34 ∷ [] else (if byte == 10 then 92 ∷ 110 ∷ [] else byte ∷ []))
+-- in a value a backslash, a quote and a newline are escaped, all else stands for itself
+abbrev pub label_escapes : Escapes
+label_escapes = (92, 92) ∷ (34, 34) ∷ (10, 110) ∷ []
 
-abbrev pub escaped : List ℕ → List ℕ
-escaped = flat_map escape
+-- a value between its quotes
+abbrev pub value_text : List ℕ → List ℕ
+value_text = escaped label_escapes
 
 -- name="value"
 abbrev pub label_text : Pair → List ℕ
-label_text pair = pair.0 ++ codes "=\"" ++ escaped pair.1 ++ codes "\""
+label_text pair = pair.0 ++ codes "=\"" ++ value_text pair.1 ++ codes "\""
 
 -- the labels between braces, with commas and no spaces
 abbrev pub labels_text : List Pair → List ℕ

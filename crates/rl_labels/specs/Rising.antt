@@ -1,5 +1,5 @@
--- Tests of lists of pairs and of bytes, as the code makes them.
-use Rattle.std.specs.Prelude.{ℕ, ◌==◌, Bool, true, not, ◌&&◌, ◌||◌, List, [], ◌∷◌}
+-- Tests of lists of pairs, as the code makes them.
+use Rattle.std.specs.Prelude.{Bool, true, not, ◌&&◌, List, [], ◌∷◌}
 use Rattle.std.specs.Ordering.{is_lt, nat_cmp, ordering_then}
 use Rattle.std.specs.Cmp.Lexicographic.{slice_cmp}
 use Rattle.std.specs.declared.cmp.Ordering.{Ordering}
@@ -18,7 +18,3 @@ rises (pair ∷ next ∷ pairs) = is_lt (name_cmp pair.0 next.0) && rises (next 
 
 abbrev pub has_value : Pair → Bool
 has_value pair = not (is_empty pair.1)
-
--- a byte that is not written as itself
-abbrev pub is_escaped : ℕ → Bool
-is_escaped byte = byte == 92 || (byte == 34 || byte == 10)

@@ -1,16 +1,16 @@
 //! Label sets: a finite map from names to values, with its canonical text kept beside it.
-ghost use Rattle.std.specs.Prelude.{◌≡◌, ◌==◌, ◌-◌, ◌≤◌, map, if◌then◌else◌, [], nat_lt, length, not, IsTrue, IfOk, OnOk, SomeIff, ◌++◌, Some, ◌∷◌, encode_utf8, List, ℕ, string_bytes};
+ghost use Rattle.std.specs.Prelude.{◌≡◌, ◌==◌, ◌-◌, ◌≤◌, map, if◌then◌else◌, [], nat_lt, length, not, IsTrue, IfOk, OnOk, SomeIff, ◌++◌, Some, ◌∷◌, List, ℕ, string_bytes};
 ghost use Rattle.std.specs.Option.{option_copied};
-ghost use Rattle.std.specs.List.{count_by, filter, list_all, list_any, flat_map, join_with_byte};
+ghost use Rattle.std.specs.List.{filter, list_all, flat_map, join_with_byte};
 ghost use Rattle.std.specs.List.Sorted.{IsPermutation, IsSorted};
 ghost use Rattle.std.specs.FinMap.Entries.{find, put, where_key};
 ghost use Rattle.rl_labels.specs.Name.{name_cmp, is_text, is_name, is_name_start, is_name_byte, is_stream_name};
 ghost use Rattle.rl_labels.specs.LabelSet.{are_labels, override};
-ghost use Rattle.rl_labels.specs.LabelText.{label_text, labels_text, escaped};
-ghost use Rattle.rl_labels.specs.Rising.{pair_cmp, rises, has_value, is_escaped};
+ghost use Rattle.rl_labels.specs.LabelText.{label_text, labels_text};
+ghost use Rattle.rl_labels.specs.Rising.{pair_cmp, rises, has_value};
 ghost use Rattle.rl_labels.specs.Pairs.{AnswersPairs, longest_text, names_are_good};
 
-use rl_plain::{PlainList, PlainText, Same, TryCopy};
+use rl_plain::{PlainList, PlainText, Same, TryCopy, count_escapes, push_escaped};
 use std::alloc::{AllocError, Global};
 use std::cmp::Ordering;
 use std::fmt;
@@ -24,6 +24,9 @@ pub const ERROR_LABEL: &str = "__error__";
 
 /// The longest canonical text of a stream's labels, in bytes.
 pub const MAX_TEXT_LEN: usize = 4096;
+
+// What is escaped in a value: a backslash, a quote and a newline.
+const ESCAPES: [(u8, u8); 3] = [(b'\\', b'\\'), (b'"', b'"'), (b'\n', b'n')];
 
 /// Why pairs make no label set, the lowest first.
 #[derive(Clone, Copy, Debug, Drop, Error, PartialEq, Eq)]
@@ -144,10 +147,11 @@ fn room_after(room: usize, label: &(PlainText, PlainText)) -> Option<usize>
     ensures { SomeIff result (length (44 ∷ label_text label.now) ≤ room) (room - length (44 ∷ label_text label.now)) }
 {
     let value = label.1.as_str();
+    let escapes = count_escapes(&ESCAPES, value);
     room.checked_sub(4)?
         .checked_sub(label.0.len())?
         .checked_sub(value.len())?
-        .checked_sub(count_escapes(value.as_bytes()))
+        .checked_sub(escapes)
 }
 
 // The value of the label with this name.
@@ -318,53 +322,8 @@ fn push_label(text: &mut String, name: &str, value: &str) -> Result<(), AllocErr
 {
     text.push_str(name)?;
     text.push_str("=\"")?;
-    push_escaped(text, value)?;
+    push_escaped(text, &ESCAPES, value)?;
     text.push_str("\"")
-}
-
-#[tactic(auto, using(crate::proofs::Steps::plain_text))]
-fn push_escaped(text: &mut String, value: &str) -> Result<(), AllocError>
-    ensures { OnOk result (string_bytes text.new ≡ string_bytes text.old ++ escaped value.now) }
-{
-    if !has_escapes(value.as_bytes()) {
-        return text.push_str(value);
-    }
-    for c in value.chars() {
-        push_char(text, c)?;
-    }
-    Ok(())
-}
-
-#[tactic(auto, using(crate::proofs::Steps::plain_char))]
-fn push_char(text: &mut String, c: char) -> Result<(), AllocError>
-    ensures { OnOk result (string_bytes text.new ≡ string_bytes text.old ++ escaped (encode_utf8 c)) }
-{
-    match c {
-        '\\' => text.push_str("\\\\"),
-        '"' => text.push_str("\\\""),
-        '\n' => text.push_str("\\n"),
-        c => text.push(c),
-    }
-}
-
-fn has_escapes(bytes: &[u8]) -> bool
-    ensures { result ≡ list_any is_escaped bytes.now }
-{
-    bytes.iter().any(|byte| is_escaped(*byte))
-}
-
-// How many of the bytes are escaped.
-fn count_escapes(bytes: &[u8]) -> usize
-    ensures { result ≡ count_by is_escaped bytes.now }
-{
-    bytes.iter().filter(|byte| is_escaped(**byte)).count()
-}
-
-// Whether the byte is written as two bytes.
-fn is_escaped(byte: u8) -> bool
-    ensures { result ≡ is_escaped byte }
-{
-    byte == b'\\' || byte == b'"' || byte == b'\n'
 }
 
 // The labels by rising name, and their canonical text.

@@ -13,12 +13,12 @@ use Rattle.rl_labels.specs.Name.{name_cmp, is_name, is_name_byte, is_name_start}
 use Rattle.rl_labels.specs.LabelSet.{Pair, is_empty, is_label, LabelSet, labels_of, labels_are_proper, same_labels}
 use Rattle.rl_labels.specs.laws.LabelLaws.{name_cmp-IsAntisymmetric, same_text, is_text_itself}
 use Rattle.rl_plain.specs.laws.Bools.{true_from}
-use Rattle.rl_labels.specs.LabelText.{escaped, label_text, labels_text, canonical_text, label_set_cmp, label_set_eq}
+use Rattle.rl_labels.specs.LabelText.{value_text, label_text, labels_text, canonical_text, label_set_cmp, label_set_eq}
 
 abbrev onto : ℕ → List ℕ × List ℕ → List ℕ × List ℕ
 onto byte pair = (byte ∷ pair.0, pair.1)
 
--- from the front of an escaped value: the value, and what follows its closing quote
+-- from the front of an value_text value: the value, and what follows its closing quote
 abbrev unescaped : List ℕ → List ℕ × List ℕ
 unescaped [] = ([], [])
 unescaped (byte ∷ []) = ([], [])
@@ -31,26 +31,26 @@ unescaped_plain byte (next ∷ rest) full a b =
     ap (λ c. cond c ([], next ∷ rest) (cond (byte == 92) (onto (cond (next == 110) 10 next) (unescaped rest)) (onto byte (unescaped (next ∷ rest))))) a
     ∙ ap (λ c. cond c (onto (cond (next == 110) 10 next) (unescaped rest)) (onto byte (unescaped (next ∷ rest)))) b
 
--- an escaped value reads back, whatever follows
-unescaped-escaped : (value rest : List ℕ) → unescaped (escaped value ++ 34 ∷ rest) ≡ (value, rest)
-unescaped-escaped [] [] = refl
-unescaped-escaped [] (x ∷ rest) = refl
-unescaped-escaped (byte ∷ bytes) rest =
-    elim (byte == 92) as (λ b. (byte == 92) ≡ b → unescaped (cond b (92 ∷ 92 ∷ []) (cond (byte == 34) (92 ∷ 34 ∷ []) (cond (byte == 10) (92 ∷ 110 ∷ []) (byte ∷ []))) ++ escaped bytes ++ 34 ∷ rest) ≡ (byte ∷ bytes, rest)) [
-      | true ↦ λ is. ap (onto 92) (unescaped-escaped bytes rest) ∙ ap (λ n. (n ∷ bytes, rest)) (sym (eqb-true byte 92 is))
-      | false ↦ λ not_backslash. elim (byte == 34) as (λ b. (byte == 34) ≡ b → unescaped (cond b (92 ∷ 34 ∷ []) (cond (byte == 10) (92 ∷ 110 ∷ []) (byte ∷ [])) ++ escaped bytes ++ 34 ∷ rest) ≡ (byte ∷ bytes, rest)) [
-        | true ↦ λ is. ap (onto 34) (unescaped-escaped bytes rest) ∙ ap (λ n. (n ∷ bytes, rest)) (sym (eqb-true byte 34 is))
-        | false ↦ λ not_quote. elim (byte == 10) as (λ b. (byte == 10) ≡ b → unescaped (cond b (92 ∷ 110 ∷ []) (byte ∷ []) ++ escaped bytes ++ 34 ∷ rest) ≡ (byte ∷ bytes, rest)) [
-          | true ↦ λ is. ap (onto 10) (unescaped-escaped bytes rest) ∙ ap (λ n. (n ∷ bytes, rest)) (sym (eqb-true byte 10 is))
-          | false ↦ λ _. unescaped_plain byte (escaped bytes ++ 34 ∷ rest) (omega (arith, length-append (escaped bytes) (34 ∷ rest))) not_quote not_backslash ∙ ap (onto byte) (unescaped-escaped bytes rest)
+-- an value_text value reads back, whatever follows
+unescaped-value_text : (value rest : List ℕ) → unescaped (value_text value ++ 34 ∷ rest) ≡ (value, rest)
+unescaped-value_text [] [] = refl
+unescaped-value_text [] (x ∷ rest) = refl
+unescaped-value_text (byte ∷ bytes) rest =
+    elim (byte == 92) as (λ b. (byte == 92) ≡ b → unescaped (cond b (92 ∷ 92 ∷ []) (cond (byte == 34) (92 ∷ 34 ∷ []) (cond (byte == 10) (92 ∷ 110 ∷ []) (byte ∷ []))) ++ value_text bytes ++ 34 ∷ rest) ≡ (byte ∷ bytes, rest)) [
+      | true ↦ λ is. ap (onto 92) (unescaped-value_text bytes rest) ∙ ap (λ n. (n ∷ bytes, rest)) (sym (eqb-true byte 92 is))
+      | false ↦ λ not_backslash. elim (byte == 34) as (λ b. (byte == 34) ≡ b → unescaped (cond b (92 ∷ 34 ∷ []) (cond (byte == 10) (92 ∷ 110 ∷ []) (byte ∷ [])) ++ value_text bytes ++ 34 ∷ rest) ≡ (byte ∷ bytes, rest)) [
+        | true ↦ λ is. ap (onto 34) (unescaped-value_text bytes rest) ∙ ap (λ n. (n ∷ bytes, rest)) (sym (eqb-true byte 34 is))
+        | false ↦ λ not_quote. elim (byte == 10) as (λ b. (byte == 10) ≡ b → unescaped (cond b (92 ∷ 110 ∷ []) (byte ∷ []) ++ value_text bytes ++ 34 ∷ rest) ≡ (byte ∷ bytes, rest)) [
+          | true ↦ λ is. ap (onto 10) (unescaped-value_text bytes rest) ∙ ap (λ n. (n ∷ bytes, rest)) (sym (eqb-true byte 10 is))
+          | false ↦ λ _. unescaped_plain byte (value_text bytes ++ 34 ∷ rest) (omega (arith, length-append (value_text bytes) (34 ∷ rest))) not_quote not_backslash ∙ ap (onto byte) (unescaped-value_text bytes rest)
         ] refl
       ] refl
     ] refl
 
--- two escaped values with what follows their quotes
-value_cancel : (v w r s : List ℕ) → escaped v ++ 34 ∷ r ≡ escaped w ++ 34 ∷ s → (v ≡ w) × (r ≡ s)
+-- two value_text values with what follows their quotes
+value_cancel : (v w r s : List ℕ) → value_text v ++ 34 ∷ r ≡ value_text w ++ 34 ∷ s → (v ≡ w) × (r ≡ s)
 value_cancel v w r s e =
-    let both : (v, r) ≡ (w, s) = sym (unescaped-escaped v r) ∙ ap unescaped e ∙ unescaped-escaped w s in
+    let both : (v, r) ≡ (w, s) = sym (unescaped-value_text v r) ∙ ap unescaped e ∙ unescaped-value_text w s in
     (ap (λ p. p.0) both, ap (λ p. p.1) both)
 
 abbrev head_of : List ℕ → ℕ
@@ -93,7 +93,7 @@ joined : (pair : Pair) (pairs : List Pair) → join_with_byte 44 (map label_text
 joined pair [] = refl
 joined pair (next ∷ pairs) = append_assoc (label_text pair) (44 ∷ join_with_byte 44 (map label_text (next ∷ pairs))) (125 ∷ []) ∙ ap (λ t. label_text pair ++ 44 ∷ t) (joined next pairs)
 
-opened : (pair : Pair) (rest : List ℕ) → label_text pair ++ rest ≡ pair.0 ++ 61 ∷ 34 ∷ (escaped pair.1 ++ 34 ∷ rest)
+opened : (pair : Pair) (rest : List ℕ) → label_text pair ++ rest ≡ pair.0 ++ 61 ∷ 34 ∷ (value_text pair.1 ++ 34 ∷ rest)
 opened pair rest = simp append_assoc
 
 -- two labels with what follows them
@@ -119,7 +119,7 @@ labels_cancel (x ∷ es) (f ∷ fs) a b e =
 full_text : (pair : Pair) (rest : List ℕ) → is_label pair ≡ true → 125 ∷ [] ≡ label_text pair ++ rest → ⊥
 full_text pair rest h e = by_name pair.0 (and_parts (is_name pair.0) (not (is_empty pair.1)) h).0 (e ∙ opened pair rest)
   where
-    by_name : (name : List ℕ) → is_name name ≡ true → 125 ∷ [] ≡ name ++ 61 ∷ 34 ∷ (escaped pair.1 ++ 34 ∷ rest) → ⊥
+    by_name : (name : List ℕ) → is_name name ≡ true → 125 ∷ [] ≡ name ++ 61 ∷ 34 ∷ (value_text pair.1 ++ 34 ∷ rest) → ⊥
     by_name [] named e = true≢false (sym named)
     by_name (x ∷ xs) named e =
         let same : 125 ≡ x = ap head_of e in
