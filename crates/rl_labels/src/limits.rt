@@ -5,7 +5,7 @@ use std::fmt;
 use thiserror::Error;
 
 /// A limit, by the name of its field.
-#[derive(Clone, Copy, Debug, Drop, PartialEq, Eq)]
+#[derive(Clone, Copy, Debug, Drop)]
 pub enum LimitField {
     Entries,
     ChunkEntries,
@@ -49,7 +49,7 @@ impl fmt::Display for LimitField {
 }
 
 /// Limits as they were asked for. Ages and periods are in seconds.
-#[derive(Clone, Copy, Debug, PartialEq, Eq)]
+#[derive(Clone, Copy, Debug)]
 pub struct RawLimits {
     /// The most entries that a shard holds, 1 to 67,108,864.
     pub entries: u64,
@@ -82,7 +82,7 @@ pub const DEFAULT_LIMITS: RawLimits = RawLimits {
 };
 
 /// Limits that are in their ranges.
-#[derive(Clone, Copy, Debug, PartialEq, Eq)]
+#[derive(Clone, Copy, Debug)]
 pub struct Limits {
     pub entries: u64,
     pub chunk_entries: u64,
@@ -102,7 +102,7 @@ pub struct Limits {
 }
 
 /// The first limit that is out of its range.
-#[derive(Clone, Copy, Debug, Drop, Error, PartialEq, Eq)]
+#[derive(Clone, Copy, Debug, Drop, Error)]
 #[error("a limit is out of its range: {field}")]
 pub struct BadLimit {
     pub field: LimitField,
