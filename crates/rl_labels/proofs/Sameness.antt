@@ -1,11 +1,10 @@
--- Texts tell label sets apart.
-use Rattle.std.proofs.Common.{◌≡◌, ℕ, Bool, true, List, ap, sym, ◌∙◌}
-use Rattle.rl_labels.specs.Name.{is_text}
-use Rattle.rl_labels.specs.LabelSet.{LabelSet}
-use Rattle.rl_labels.specs.LabelText.{canonical_text, label_set_eq}
-use Rattle.rl_labels.specs.laws.TextLaws.{label_set_eq-true, label_set_eq_itself}
+-- A test that passes where two values tie in an order tells them apart.
+use Rattle.std.proofs.Common.{◌≡◌, Bool, true, ap, sym, ◌∙◌}
+use Rattle.std.specs.Ordering.{eq_by_cmp, is_eq}
+use Rattle.std.specs.declared.cmp.Ordering.{Ordering}
+use Rattle.std.specs.Cmp.{IsTotalOrder, Equal-is}
+use Rattle.std.specs.FinMap.{IsAntisymmetric}
+use Rattle.std.proofs.lemmas.Cmp.{tied_itself}
 
-pub told_apart : (s t : LabelSet) (a b : List ℕ) (r : Bool) → a ≡ canonical_text s → b ≡ canonical_text t → r ≡ is_text a b → (r ≡ true → s ≡ t) × (s ≡ t → r ≡ true)
-told_apart s t a b r p q e =
-    let is : r ≡ label_set_eq s t = e ∙ ap (λ x. is_text x b) p ∙ ap (is_text (canonical_text s)) q in
-    (λ h. label_set_eq-true s t (sym is ∙ h), λ same. is ∙ ap (λ u. label_set_eq s u) (sym same) ∙ label_set_eq_itself s)
+pub told_by_order : {K : Type 0} {R : K → K → Ordering} → IsTotalOrder R → IsAntisymmetric R → (a b : K) (r : Bool) → r ≡ eq_by_cmp R a b → (r ≡ true → a ≡ b) × (a ≡ b → r ≡ true)
+told_by_order {R = R} o same a b r e = (λ h. same a b ((Equal-is (R a b)).0 (sym e ∙ h)), λ is. e ∙ ap (λ c. is_eq (R a c)) (sym is) ∙ ap is_eq (tied_itself o a))

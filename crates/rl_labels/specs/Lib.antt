@@ -4,6 +4,7 @@ pub mod EntryParts
 pub mod LabelSet
 pub mod LabelText
 pub mod LimitRanges
+pub mod MatcherOrder
 pub mod Name
 pub mod Pairs
 pub mod Parts

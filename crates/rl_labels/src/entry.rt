@@ -6,13 +6,14 @@ use crate::labels::Labels;
 use crate::ns::Ns;
 use rl_plain::{PlainText, Same, TryCopy};
 use std::alloc::AllocError;
+use std::cmp::Ordering;
 use thiserror::Error;
 
 /// The longest line, in bytes.
 pub const MAX_LINE_LEN: usize = 65_535;
 
 /// A log entry. Entries are ordered by label text, timestamp and line bytes.
-#[derive(Debug, Drop, PartialEq, Eq, PartialOrd, Ord, Hash)]
+#[derive(Debug, Drop, PartialEq, Eq, PartialOrd, Hash)]
 pub struct Entry {
     pub labels: Labels,
     pub timestamp: Ns,
@@ -91,8 +92,28 @@ impl TryCopy for Entry {
 
 impl Same for Entry {
     fn is_same(&self, other: &Self) -> bool {
-        self.timestamp == other.timestamp
-            && self.labels.is_same(&other.labels)
-            && self.line.is_same(&other.line)
+        self == other
+    }
+}
+
+impl Ord for Entry {
+    ghost use Rattle.std.proofs.Common.{rules};
+    ghost use Rattle.std.specs.Cmp.Rules.{comparing};
+    ghost use Rattle.rl_labels.specs.EntryOrder.{entry_cmp};
+    ghost use Rattle.rl_labels.specs.laws.OrderLaws.{entry_cmp_total};
+
+    ghost cmp = { entry_cmp };
+
+    ghost total = { entry_cmp_total };
+
+    ghost matches_partial_cmp = { Prim.search (comparing, rules) };
+
+    ghost matches_eq = { Prim.search (comparing, rules) };
+
+    fn cmp(&self, other: &Self) -> Ordering {
+        self.labels
+            .cmp(&other.labels)
+            .then_with(|| self.timestamp.cmp(&other.timestamp))
+            .then_with(|| self.line.cmp(&other.line))
     }
 }

@@ -439,7 +439,7 @@ impl TryCopy for Labels {
 
 impl Same for Labels {
     fn is_same(&self, other: &Self) -> bool {
-        self.as_text() == other.as_text()
+        self == other
     }
 }
 

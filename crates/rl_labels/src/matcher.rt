@@ -5,6 +5,7 @@ ghost use Rattle.rl_labels.specs.Name.{is_name};
 use crate::labels::{Labels, is_label_name};
 use rl_plain::{PlainText, Same, TryCopy};
 use std::alloc::AllocError;
+use std::cmp::Ordering;
 use std::marker::Model;
 use thiserror::Error;
 
@@ -16,7 +17,7 @@ pub enum MatchOp {
 }
 
 /// A label matcher, as in `app="a"`. A missing label reads as the empty text.
-#[derive(Debug, Drop, PartialEq, Eq, PartialOrd, Ord, Hash)]
+#[derive(Debug, Drop, PartialEq, Eq, PartialOrd, Hash)]
 pub struct Matcher {
     pub name: PlainText,
     pub op: MatchOp,
@@ -111,6 +112,28 @@ impl TryCopy for Matcher {
 
 impl Same for Matcher {
     fn is_same(&self, other: &Self) -> bool {
-        self.op == other.op && self.name.is_same(&other.name) && self.value.is_same(&other.value)
+        self == other
+    }
+}
+
+impl Ord for Matcher {
+    ghost use Rattle.std.proofs.Common.{rules};
+    ghost use Rattle.std.specs.Cmp.Rules.{comparing};
+    ghost use Rattle.rl_labels.specs.MatcherOrder.{matcher_cmp};
+    ghost use Rattle.rl_labels.specs.laws.OrderLaws.{matcher_cmp_total};
+
+    ghost cmp = { matcher_cmp };
+
+    ghost total = { matcher_cmp_total };
+
+    ghost matches_partial_cmp = { Prim.search (comparing, rules) };
+
+    ghost matches_eq = { Prim.search (comparing, rules) };
+
+    fn cmp(&self, other: &Self) -> Ordering {
+        self.name
+            .cmp(&other.name)
+            .then_with(|| self.op.cmp(&other.op))
+            .then_with(|| self.value.cmp(&other.value))
     }
 }
