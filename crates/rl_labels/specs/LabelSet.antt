@@ -53,10 +53,6 @@ same_labels s t e =
 abbrev pub label_set_code : Coded LabelSet
 label_set_code = coded_via (coded_list (coded× (coded_list coded_ℕ) (coded_list coded_ℕ))) labels_of same_labels
 
-pub labels_are_proper : (set : LabelSet) → T (are_labels (labels_of set))
-unfolding labels_of
-labels_are_proper set = set.proper
-
 -- the set without labels
 pub no_labels : LabelSet
 no_labels = record { list = []; proper = tt }
@@ -65,11 +61,6 @@ no_labels = record { list = []; proper = tt }
 checked : (pairs : List Pair) (b : Bool) → are_labels pairs ≡ b → LabelSet → LabelSet
 checked pairs true e old = record { list = pairs; proper = subst T (sym e) tt }
 checked pairs false e old = old
-
-labels_of-checked : (pairs : List Pair) (b : Bool) (e : are_labels pairs ≡ b) (old : LabelSet) → T b → labels_of (checked pairs b e old) ≡ pairs
-unfolding labels_of checked
-labels_of-checked pairs true e old h = refl
-labels_of-checked pairs false e old h = absurd h
 
 -- the pairs with a value in the place of its name, and without the name where the value is empty
 abbrev pub override : List ℕ → List ℕ → List Pair → List Pair
@@ -92,18 +83,28 @@ non_empty value = cond (is_empty value) None (Some value)
 abbrev pub given : List Pair → List ℕ → Option (List ℕ)
 given pairs name = option_and_then non_empty (find name_cmp name pairs)
 
-pub labels_of-with_label_checked : (set : LabelSet) (name value : List ℕ) → T (are_labels (override name value (labels_of set))) → labels_of (with_label set name value) ≡ override name value (labels_of set)
-unfolding with_label
-labels_of-with_label_checked set name value h = labels_of-checked (override name value (labels_of set)) _ refl set h
+-- the set of labels that are given in order
+pub proper_set : (pairs : List Pair) → T (are_labels pairs) → LabelSet
+proper_set pairs h = record { list = pairs; proper = h }
+
+-- What a set's labels are: no other file can open the record.
+pub labels_are_proper : (set : LabelSet) → T (are_labels (labels_of set))
+unfolding labels_of
+labels_are_proper set = set.proper
 
 pub labels_of-no_labels : labels_of no_labels ≡ []
 unfolding labels_of no_labels
 labels_of-no_labels = refl
 
--- the set of labels that are given in order
-pub proper_set : (pairs : List Pair) → T (are_labels pairs) → LabelSet
-proper_set pairs h = record { list = pairs; proper = h }
-
 pub labels_of-proper_set : (pairs : List Pair) (h : T (are_labels pairs)) → labels_of (proper_set pairs h) ≡ pairs
 unfolding labels_of proper_set
 labels_of-proper_set pairs h = refl
+
+labels_of-checked : (pairs : List Pair) (b : Bool) (e : are_labels pairs ≡ b) (old : LabelSet) → T b → labels_of (checked pairs b e old) ≡ pairs
+unfolding labels_of checked
+labels_of-checked pairs true e old h = refl
+labels_of-checked pairs false e old h = absurd h
+
+pub labels_of-with_label_checked : (set : LabelSet) (name value : List ℕ) → T (are_labels (override name value (labels_of set))) → labels_of (with_label set name value) ≡ override name value (labels_of set)
+unfolding with_label
+labels_of-with_label_checked set name value h = labels_of-checked (override name value (labels_of set)) _ refl set h

@@ -44,13 +44,16 @@ pub struct RefusedEntry {
 impl Entry {
     ghost use Rattle.std.specs.Prelude.{None, Some, MatchResult};
     ghost use Rattle.rl_labels.specs.EntryParts.{are_stream_labels};
-    ghost use Rattle.rl_labels.specs.EntryAnswers.{entry_fault};
+    ghost use Rattle.rl_labels.specs.EntryAnswers.{entry_fault, KeepsParts};
 
     /// The entry of its parts. A refusal hands them back.
+    ///
+    /// A stream's labels have at most 4,096 bytes of text, and none is the error label. `Labels::from_pairs` sees to both;
+    /// `Labels::with_label` has no such limits, so its sets have no way in.
     pub fn new(labels: Labels, timestamp: Ns, line: PlainText) -> Result<Entry, RefusedEntry>
         requires { IsTrue (are_stream_labels labels) }
         ensures fault { MatchResult result (λ _. entry_fault labels line ≡ None) (λ refused. entry_fault labels line ≡ Some refused.fault) }
-        ensures parts { MatchResult result (λ e. (e.labels ≡ labels) × (e.timestamp ≡ timestamp) × (e.line ≡ line)) (λ refused. (refused.labels ≡ labels) × (refused.timestamp ≡ timestamp) × (refused.line ≡ line)) }
+        ensures parts { KeepsParts result labels timestamp line }
     {
         if labels.pairs().is_empty() {
             let fault = EntryFault::NoLabels;

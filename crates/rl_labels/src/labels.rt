@@ -430,7 +430,8 @@ impl Labels {
 }
 
 impl TryCopy for Labels {
-    /// Shares the labels, and takes no memory.
+    /// Shares the labels, and takes no memory. It is refused only where more copies live than can be counted; no clause
+    /// says so, since the contract of `Arc` does not say when it refuses one more.
     fn try_copy(&self) -> Result<Self, AllocError> {
         let parts = Arc::try_clone(&self.parts)?;
         Ok(Labels { parts })
