@@ -2,7 +2,6 @@ pub mod Answered
 pub mod Cuts
 pub mod Durations
 pub mod Elements
-pub mod Escaping
 mod Examples
 pub mod Lexemes
 pub mod Printed

@@ -24,7 +24,8 @@ use Rattle.rl_query.specs.Grammar.{Stand, matcher_tokens, matchers_tokens, IsRan
 use Rattle.rl_query.specs.Lexing.{is_space, is_number_byte, gap_len, run_at, onto, quoted, or_bad, or_else, sign_at, token_at, lexemes_in}
 use Rattle.rl_query.specs.Limits.{longest_range}
 use Rattle.rl_query.specs.Printing.{matcher_text, function_text, query_text}
-use Rattle.rl_query.specs.Tables.{one_byte, two_bytes, escaped}
+use Rattle.rl_plain.specs.Escapes.{escaped}
+use Rattle.rl_query.specs.Tables.{one_byte, two_bytes, escapes}
 use Rattle.rl_query.proofs.Productions.{stand_then}
 
 -- the tokens that a text begins with, and what is left of it
@@ -115,20 +116,20 @@ number_lexes number rest b digits is digit all stop = subst (λ n. Lexes (tokens
     no_start b h = grind (arith, nat_tests)
 
 -- an escaped text is read up to its closing quote
-quoted_again : (value rest : List ℕ) → quoted 0 (escaped value ++ 34 ∷ rest) ≡ Some (value, rest)
+quoted_again : (value rest : List ℕ) → quoted 0 (escaped escapes value ++ 34 ∷ rest) ≡ Some (value, rest)
 unfolding encode
 quoted_again [] rest = refl
 quoted_again (byte ∷ value) rest =
-    let tail = escaped value ++ 34 ∷ rest in
-    elim (byte == 92) as (λ b. (byte == 92) ≡ b → quoted 0 (cond b (92 ∷ 92 ∷ []) (cond (byte == 34) (92 ∷ 34 ∷ []) (cond (byte == 10) (92 ∷ 110 ∷ []) (cond (byte == 13) (92 ∷ 114 ∷ []) (cond (byte == 9) (92 ∷ 116 ∷ []) (byte ∷ []))))) ++ escaped value ++ 34 ∷ rest) ≡ Some (byte ∷ value, rest)) [
+    let tail = escaped escapes value ++ 34 ∷ rest in
+    elim (byte == 92) as (λ b. (byte == 92) ≡ b → quoted 0 (cond b (92 ∷ 92 ∷ []) (cond (byte == 34) (92 ∷ 34 ∷ []) (cond (byte == 10) (92 ∷ 110 ∷ []) (cond (byte == 13) (92 ∷ 114 ∷ []) (cond (byte == 9) (92 ∷ 116 ∷ []) (byte ∷ []))))) ++ escaped escapes value ++ 34 ∷ rest) ≡ Some (byte ∷ value, rest)) [
       | true ↦ λ is. ap (onto (92 ∷ [])) (quoted_again value rest) ∙ ap (λ n. Some (n ∷ value, rest)) (sym (eqb-true byte 92 is))
-      | false ↦ λ a. elim (byte == 34) as (λ b. (byte == 34) ≡ b → quoted 0 (cond b (92 ∷ 34 ∷ []) (cond (byte == 10) (92 ∷ 110 ∷ []) (cond (byte == 13) (92 ∷ 114 ∷ []) (cond (byte == 9) (92 ∷ 116 ∷ []) (byte ∷ [])))) ++ escaped value ++ 34 ∷ rest) ≡ Some (byte ∷ value, rest)) [
+      | false ↦ λ a. elim (byte == 34) as (λ b. (byte == 34) ≡ b → quoted 0 (cond b (92 ∷ 34 ∷ []) (cond (byte == 10) (92 ∷ 110 ∷ []) (cond (byte == 13) (92 ∷ 114 ∷ []) (cond (byte == 9) (92 ∷ 116 ∷ []) (byte ∷ [])))) ++ escaped escapes value ++ 34 ∷ rest) ≡ Some (byte ∷ value, rest)) [
         | true ↦ λ is. ap (onto (34 ∷ [])) (quoted_again value rest) ∙ ap (λ n. Some (n ∷ value, rest)) (sym (eqb-true byte 34 is))
-        | false ↦ λ b. elim (byte == 10) as (λ b. (byte == 10) ≡ b → quoted 0 (cond b (92 ∷ 110 ∷ []) (cond (byte == 13) (92 ∷ 114 ∷ []) (cond (byte == 9) (92 ∷ 116 ∷ []) (byte ∷ []))) ++ escaped value ++ 34 ∷ rest) ≡ Some (byte ∷ value, rest)) [
+        | false ↦ λ b. elim (byte == 10) as (λ b. (byte == 10) ≡ b → quoted 0 (cond b (92 ∷ 110 ∷ []) (cond (byte == 13) (92 ∷ 114 ∷ []) (cond (byte == 9) (92 ∷ 116 ∷ []) (byte ∷ []))) ++ escaped escapes value ++ 34 ∷ rest) ≡ Some (byte ∷ value, rest)) [
           | true ↦ λ is. ap (onto (10 ∷ [])) (quoted_again value rest) ∙ ap (λ n. Some (n ∷ value, rest)) (sym (eqb-true byte 10 is))
-          | false ↦ λ _. elim (byte == 13) as (λ b. (byte == 13) ≡ b → quoted 0 (cond b (92 ∷ 114 ∷ []) (cond (byte == 9) (92 ∷ 116 ∷ []) (byte ∷ [])) ++ escaped value ++ 34 ∷ rest) ≡ Some (byte ∷ value, rest)) [
+          | false ↦ λ _. elim (byte == 13) as (λ b. (byte == 13) ≡ b → quoted 0 (cond b (92 ∷ 114 ∷ []) (cond (byte == 9) (92 ∷ 116 ∷ []) (byte ∷ [])) ++ escaped escapes value ++ 34 ∷ rest) ≡ Some (byte ∷ value, rest)) [
             | true ↦ λ is. ap (onto (13 ∷ [])) (quoted_again value rest) ∙ ap (λ n. Some (n ∷ value, rest)) (sym (eqb-true byte 13 is))
-            | false ↦ λ _. elim (byte == 9) as (λ b. (byte == 9) ≡ b → quoted 0 (cond b (92 ∷ 116 ∷ []) (byte ∷ []) ++ escaped value ++ 34 ∷ rest) ≡ Some (byte ∷ value, rest)) [
+            | false ↦ λ _. elim (byte == 9) as (λ b. (byte == 9) ≡ b → quoted 0 (cond b (92 ∷ 116 ∷ []) (byte ∷ []) ++ escaped escapes value ++ 34 ∷ rest) ≡ Some (byte ∷ value, rest)) [
               | true ↦ λ is. ap (onto (9 ∷ [])) (quoted_again value rest) ∙ ap (λ n. Some (n ∷ value, rest)) (sym (eqb-true byte 9 is))
               | false ↦ λ _. plain byte tail b a ∙ ap (onto (byte ∷ [])) (quoted_again value rest)
             ] refl
@@ -141,9 +142,9 @@ quoted_again (byte ∷ value) rest =
     plain byte tail q b = cond-false (byte == 34) _ _ q ∙ cond-false (byte == 92) _ _ b
 
 -- a text between quotes
-text_lexes : (value rest : List ℕ) → Lexes (tokens.Text value ∷ []) (34 ∷ (escaped value ++ 34 ∷ rest)) rest
+text_lexes : (value rest : List ℕ) → Lexes (tokens.Text value ∷ []) (34 ∷ (escaped escapes value ++ 34 ∷ rest)) rest
 unfolding token_at
-text_lexes value rest = token_lexes (tokens.Text value) 34 (escaped value ++ 34 ∷ rest) rest refl (ap (or_bad tokens.Text) (quoted_again value rest)) (omega (arith, length-append (escaped value) (34 ∷ rest)))
+text_lexes value rest = token_lexes (tokens.Text value) 34 (escaped escapes value ++ 34 ∷ rest) rest refl (ap (or_bad tokens.Text) (quoted_again value rest)) (omega (arith, length-append (escaped escapes value) (34 ∷ rest)))
 
 -- a sign of one byte that begins no longer sign
 sign_again : (first : ℕ) (rest : List ℕ) (sign : Sign) → one_byte first ≡ Some sign → ((second : ℕ) → two_bytes first second ≡ None) → sign_at (first ∷ rest) ≡ Some (sign, rest)
@@ -202,15 +203,15 @@ equal_sign rest = token_lexes (tokens.Sign signs.Equal) 61 (34 ∷ rest) (34 ∷
 matcher_lexes : (m : MatcherForm) (rest : List ℕ) → is_name m.name ≡ true → Lexes (matcher_tokens m) (matcher_text m ++ rest) rest
 matcher_lexes m rest named = by_op m.op
   where
-    regrouped : (name value : List ℕ) → (name ++ (61 ∷ []) ++ (34 ∷ []) ++ escaped value ++ (34 ∷ [])) ++ rest ≡ name ++ (61 ∷ 34 ∷ (escaped value ++ 34 ∷ rest))
+    regrouped : (name value : List ℕ) → (name ++ (61 ∷ []) ++ (34 ∷ []) ++ escaped escapes value ++ (34 ∷ [])) ++ rest ≡ name ++ (61 ∷ 34 ∷ (escaped escapes value ++ 34 ∷ rest))
     regrouped name value = simp append_assoc
 
     by_op : (op : MatchOp) → Lexes (matcher_tokens (record { name = m.name; op = op; value = m.value })) (matcher_text (record { name = m.name; op = op; value = m.value }) ++ rest) rest
     by_op operators.Equal =
-        let value = 34 ∷ (escaped m.value ++ 34 ∷ rest) in
+        let value = 34 ∷ (escaped escapes m.value ++ 34 ∷ rest) in
         subst (λ text. Lexes (matcher_tokens (record { name = m.name; op = operators.Equal; value = m.value })) text rest) (sym (regrouped m.name m.value))
         (lexes_then (tokens.Word m.name ∷ []) (tokens.Sign signs.Equal ∷ tokens.Text m.value ∷ []) (m.name ++ (61 ∷ value)) (61 ∷ value) rest (word_lexes m.name (61 ∷ value) named refl)
-        (lexes_then (tokens.Sign signs.Equal ∷ []) (tokens.Text m.value ∷ []) (61 ∷ value) value rest (equal_sign (escaped m.value ++ 34 ∷ rest)) (text_lexes m.value rest)))
+        (lexes_then (tokens.Sign signs.Equal ∷ []) (tokens.Text m.value ∷ []) (61 ∷ value) value rest (equal_sign (escaped escapes m.value ++ 34 ∷ rest)) (text_lexes m.value rest)))
 
 abbrev others_text : List MatcherForm → List ℕ
 others_text = flat_map (λ other. 44 ∷ 32 ∷ matcher_text other)

@@ -6,7 +6,8 @@ use Rattle.rl_labels.specs.declared.matcher.MatchOp.{MatchOp}
 use Rattle.rl_labels.specs.declared.matcher.MatchOp.TheVariants as operators
 use Rattle.rl_query.specs.declared.query.RangeFunction.{RangeFunction}
 use Rattle.rl_query.specs.declared.query.RangeFunction.TheVariants as functions
-use Rattle.rl_query.specs.Tables.{escaped}
+use Rattle.rl_plain.specs.Escapes.{escaped}
+use Rattle.rl_query.specs.Tables.{escapes}
 use Rattle.rl_query.specs.Form.{MatcherForm, RangeForm, TermForm, QueryForm}
 
 abbrev pub operator_text : MatchOp → List ℕ
@@ -14,7 +15,7 @@ operator_text operators.Equal = codes "="
 
 -- name="value"
 abbrev pub matcher_text : MatcherForm → List ℕ
-matcher_text matcher = matcher.name ++ operator_text matcher.op ++ codes "\"" ++ escaped matcher.value ++ codes "\""
+matcher_text matcher = matcher.name ++ operator_text matcher.op ++ codes "\"" ++ escaped escapes matcher.value ++ codes "\""
 
 -- the matchers in their order, joined by a comma and a space
 abbrev pub matchers_text : List MatcherForm → List ℕ

@@ -1,6 +1,6 @@
 -- The tables of query texts: signs, escapes and units.
-use Rattle.std.specs.Prelude.{ℕ, ◌==◌, Bool, ◌||◌, List, [], ◌∷◌, Option, Some, None, if◌then◌else◌, codes}
-use Rattle.std.specs.List.{flat_map}
+use Rattle.std.specs.Prelude.{ℕ, ◌==◌, List, [], ◌∷◌, Option, Some, None, if◌then◌else◌, codes}
+use Rattle.rl_plain.specs.Escapes.{Escapes}
 use Rattle.rl_query.specs.declared.token.Sign.{Sign}
 use Rattle.rl_query.specs.declared.token.Sign.TheVariants as signs
 
@@ -55,18 +55,9 @@ one_byte byte =
     else (if byte == 45 then Some signs.Minus else (if byte == 42 then Some signs.Times else (if byte == 37 then Some signs.Percent else (if byte == 94 then Some signs.Power
     else (if byte == 64 then Some signs.At else None))))))))))))))))))
 
--- a byte between quotes: a backslash, a quote, a newline, a carriage return and a tab are escaped, all else stands for itself
-abbrev pub escape : ℕ → List ℕ
-escape byte =
-    if byte == 92 then 92 ∷ 92 ∷ [] else (if byte == 34 then 92 ∷ 34 ∷ [] else (if byte == 10 then 92 ∷ 110 ∷ []
-    else (if byte == 13 then 92 ∷ 114 ∷ [] else (if byte == 9 then 92 ∷ 116 ∷ [] else byte ∷ []))))
-
-abbrev pub escaped : List ℕ → List ℕ
-escaped = flat_map escape
-
--- a byte that is not printed as itself
-abbrev pub is_escaped : ℕ → Bool
-is_escaped byte = byte == 92 || (byte == 34 || (byte == 10 || (byte == 13 || byte == 9)))
+-- what is escaped between quotes: a backslash, a quote, a newline, a carriage return and a tab
+abbrev pub escapes : Escapes
+escapes = (92, 92) ∷ (34, 34) ∷ (10, 110) ∷ (13, 114) ∷ (9, 116) ∷ []
 
 -- the seconds of a unit, and its rank, from the longest down
 abbrev pub unit_of : ℕ → Option (ℕ × ℕ)

@@ -1,16 +1,24 @@
 //! The printer: the canonical text of a query.
-ghost use Rattle.std.specs.Prelude.{◌≡◌, ◌++◌, [], ◌∷◌, map, IfOk, OnOk, string_bytes, encode_utf8, codes};
-ghost use Rattle.std.specs.List.{flat_map, list_any};
+ghost use Rattle.std.specs.Prelude.{◌≡◌, ◌++◌, [], ◌∷◌, map, IfOk, OnOk, string_bytes, codes};
+ghost use Rattle.std.specs.List.{flat_map};
 ghost use Rattle.rl_query.specs.Form.{matcher_form, range_form, term_form, query_form};
 ghost use Rattle.rl_query.specs.Printing.{operator_text, matcher_text, matchers_text, range_text, function_text, term_text, query_text};
-ghost use Rattle.rl_query.specs.Tables.{escape, escaped};
 ghost use Rattle.rl_query.specs.declared.query.Term.{Term};
-ghost use Rattle.rl_query.specs.Tables.{is_escaped};
 ghost use Rattle.std.specs.Fmt.{decimal};
 
 use crate::query::{LogRange, Query, RangeFunction, Term};
 use rl_labels::{MatchOp, Matcher};
+use rl_plain::push_escaped;
 use std::alloc::{AllocError, Global};
+
+// What is escaped between quotes.
+const ESCAPES: [(u8, u8); 5] = [
+    (b'\\', b'\\'),
+    (b'"', b'"'),
+    (b'\n', b'n'),
+    (b'\r', b'r'),
+    (b'\t', b't'),
+];
 
 /// The canonical text of a query, as `count_over_time({app="a"} [300s])`.
 pub fn print(alloc: Global, query: &Query) -> Result<String, AllocError>
@@ -92,7 +100,7 @@ fn push_matcher(text: &mut String, matcher: &Matcher) -> Result<(), AllocError>
     text.push_str(matcher.name.as_str())?;
     text.push_str(operator_sign(matcher.op))?;
     text.push('"')?;
-    push_escaped(text, matcher.value.as_str())?;
+    push_escaped(text, &ESCAPES, matcher.value.as_str())?;
     text.push('"')?;
     Ok(())
 }
@@ -103,43 +111,4 @@ fn operator_sign(op: MatchOp) -> &'static str
     match op {
         MatchOp::Equal => "=",
     }
-}
-
-#[tactic(auto, using(crate::proofs::Escaping::plain_text))]
-fn push_escaped(text: &mut String, value: &str) -> Result<(), AllocError>
-    ensures { OnOk result (string_bytes text.new ≡ string_bytes text.old ++ escaped value.now) }
-{
-    if !has_escapes(value.as_bytes()) {
-        return text.push_str(value);
-    }
-    for c in value.chars() {
-        push_char(text, c)?;
-    }
-    Ok(())
-}
-
-#[tactic(auto, using(crate::proofs::Escaping::plain_char))]
-fn push_char(text: &mut String, c: char) -> Result<(), AllocError>
-    ensures { OnOk result (string_bytes text.new ≡ string_bytes text.old ++ escaped (encode_utf8 c)) }
-{
-    match c {
-        '\\' => text.push_str("\\\\"),
-        '"' => text.push_str("\\\""),
-        '\n' => text.push_str("\\n"),
-        '\r' => text.push_str("\\r"),
-        '\t' => text.push_str("\\t"),
-        c => text.push(c),
-    }
-}
-
-fn has_escapes(bytes: &[u8]) -> bool
-    ensures { result ≡ list_any is_escaped bytes.now }
-{
-    bytes.iter().any(|byte| is_escaped(*byte))
-}
-
-fn is_escaped(byte: u8) -> bool
-    ensures { result ≡ is_escaped byte }
-{
-    byte == b'\\' || byte == b'"' || byte == b'\n' || byte == b'\r' || byte == b'\t'
 }
