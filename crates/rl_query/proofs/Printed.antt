@@ -1,11 +1,12 @@
 -- What is printed is derived, piece by piece.
-use Rattle.std.proofs.Common.{◌≡◌, ℕ, zero, suc, ◌+◌, ◌-◌, ◌*◌, ◌/◌, ◌%◌, ◌^◌, ◌<◌, ◌≤◌, ◌==◌, Bool, true, false, cond, not, ◌&&◌, ◌||◌, List, [], ◌∷◌, ◌++◌, Some, None, length, take, drop, refl, sym, ap, subst, ◌∙◌, arith, append_assoc, length-append}
+use Rattle.std.proofs.Common.{◌≡◌, ℕ, zero, suc, ◌+◌, ◌-◌, ◌*◌, ◌/◌, ◌%◌, ◌^◌, ◌<◌, ◌≤◌, ◌==◌, Bool, true, false, cond, ◌||◌, List, [], ◌∷◌, ◌++◌, Some, None, length, take, drop, refl, sym, ap, subst, ◌∙◌, arith, append_assoc, length-append}
 use Rattle.std.specs.List.{prefix_len, list_all, flat_map}
 use Rattle.std.specs.Option.{option_map}
 use Rattle.std.specs.Char.{is_ascii_digit}
 use Rattle.std.specs.Fmt.{decimal}
 use Rattle.std.proofs.lemmas.Fmt.{decimal_by_steps}
-use Rattle.std.proofs.lemmas.Bool.{and_parts, and_from, or_parts, not-true, ne_eqb, true≢false, eqb-true, cond-true, cond-false}
+use Rattle.std.proofs.lemmas.List.Folds.{list_all-append}
+use Rattle.std.proofs.lemmas.Bool.{and_parts, and_from, ne_eqb, true≢false, eqb-true, cond-true, cond-false}
 use Rattle.std.proofs.lemmas.Bool.Decides.{nat_tests}
 use Rattle.std.proofs.Math.Seq.{take-append_seam, drop-append_seam}
 use Rattle.std.proofs.Math.Utf8.{encode}
@@ -82,8 +83,17 @@ run_again p run rest all stop =
     let n = run_len p run rest all stop in
     λ i. ((ap (λ k. take k (run ++ rest)) n ∙ take-append_seam run rest) i, (ap (λ k. drop k (run ++ rest)) n ∙ drop-append_seam run rest) i)
 
-no_gap : (b : ℕ) (bytes : List ℕ) → is_space b ≡ false → (b == 35) ≡ false → gap_len false (b ∷ bytes) ≡ 0
-no_gap b bytes space hash = cond-false (is_space b) _ _ space ∙ cond-false (b == 35) _ _ hash
+no_gap : (b : ℕ) (bytes : List ℕ) → is_number_byte b ≡ true → gap_len false (b ∷ bytes) ≡ 0
+no_gap b bytes is = cond-false (is_space b) _ _ (no_space b is) ∙ cond-false (b == 35) _ _ (no_hash b is)
+  where
+    no_space : (b : ℕ) → is_number_byte b ≡ true → is_space b ≡ false
+    no_space b h = grind (arith, nat_tests)
+
+    no_hash : (b : ℕ) → is_number_byte b ≡ true → (b == 35) ≡ false
+    no_hash b h = grind (arith, nat_tests)
+
+digit_goes_on : (b : ℕ) → is_ascii_digit b ≡ true → is_number_byte b ≡ true
+digit_goes_on b h = grind (arith, nat_tests)
 
 -- a word, and what does not go on with it
 word_lexes : (word rest : List ℕ) → is_name word ≡ true → prefix_len is_name_byte rest ≡ 0 → Lexes (tokens.Word word ∷ []) (word ++ rest) rest
@@ -92,26 +102,17 @@ word_lexes [] rest h stop = absurd (true≢false (sym h))
 word_lexes (b ∷ word) rest h stop =
     let parts = and_parts (is_name_start b) (list_all is_name_byte word) h in
     let run : run_at is_name_byte (b ∷ word ++ rest) ≡ (b ∷ word, rest) = run_again is_name_byte (b ∷ word) rest (and_from _ _ (ap (λ t. t || is_ascii_digit b) parts.0) parts.1) stop in
-    token_lexes (tokens.Word (b ∷ word)) b (word ++ rest) rest (no_gap b (word ++ rest) (no_space b parts.0) (no_hash b parts.0)) (cond-true (is_name_start b) _ _ parts.0 ∙ ap (λ (x : List ℕ × List ℕ). (tokens.Word x.0, x.1)) run) (omega (arith, length-append word rest))
+    token_lexes (tokens.Word (b ∷ word)) b (word ++ rest) rest (no_gap b (word ++ rest) (start_goes_on b parts.0)) (cond-true (is_name_start b) _ _ parts.0 ∙ ap (λ (x : List ℕ × List ℕ). (tokens.Word x.0, x.1)) run) (omega (arith, length-append word rest))
   where
-    no_space : (b : ℕ) → is_name_start b ≡ true → is_space b ≡ false
-    no_space b h = grind (arith, nat_tests)
-
-    no_hash : (b : ℕ) → is_name_start b ≡ true → (b == 35) ≡ false
-    no_hash b h = grind (arith, nat_tests)
+    start_goes_on : (b : ℕ) → is_name_start b ≡ true → is_number_byte b ≡ true
+    start_goes_on b h = grind (arith, nat_tests)
 
 -- a number, and what does not go on with it
 number_lexes : (number rest : List ℕ) → (b : ℕ) (digits : List ℕ) → number ≡ b ∷ digits → is_ascii_digit b ≡ true → list_all is_number_byte number ≡ true → prefix_len is_number_byte rest ≡ 0 → Lexes (tokens.Number number ∷ []) (number ++ rest) rest
 unfolding token_at
-number_lexes number rest b digits is digit all stop = subst (λ n. Lexes (tokens.Number n ∷ []) (n ++ rest) rest) (sym is) (token_lexes (tokens.Number (b ∷ digits)) b (digits ++ rest) rest (no_gap b (digits ++ rest) (no_space b digit) (no_hash b digit))
+number_lexes number rest b digits is digit all stop = subst (λ n. Lexes (tokens.Number n ∷ []) (n ++ rest) rest) (sym is) (token_lexes (tokens.Number (b ∷ digits)) b (digits ++ rest) rest (no_gap b (digits ++ rest) (digit_goes_on b digit))
     (cond-false (is_name_start b) _ _ (no_start b digit) ∙ cond-true (is_ascii_digit b) _ _ digit ∙ ap (λ (x : List ℕ × List ℕ). (tokens.Number x.0, x.1)) (run_again is_number_byte (b ∷ digits) rest (subst (λ n. list_all is_number_byte n ≡ true) is all) stop)) (omega (arith, length-append digits rest)))
   where
-    no_space : (b : ℕ) → is_ascii_digit b ≡ true → is_space b ≡ false
-    no_space b h = grind (arith, nat_tests)
-
-    no_hash : (b : ℕ) → is_ascii_digit b ≡ true → (b == 35) ≡ false
-    no_hash b h = grind (arith, nat_tests)
-
     no_start : (b : ℕ) → is_ascii_digit b ≡ true → is_name_start b ≡ false
     no_start b h = grind (arith, nat_tests)
 
@@ -120,26 +121,16 @@ quoted_again : (value rest : List ℕ) → quoted 0 (escaped escapes value ++ 34
 unfolding encode
 quoted_again [] rest = refl
 quoted_again (byte ∷ value) rest =
-    let tail = escaped escapes value ++ 34 ∷ rest in
-    elim (byte == 92) as (λ b. (byte == 92) ≡ b → quoted 0 (cond b (92 ∷ 92 ∷ []) (cond (byte == 34) (92 ∷ 34 ∷ []) (cond (byte == 10) (92 ∷ 110 ∷ []) (cond (byte == 13) (92 ∷ 114 ∷ []) (cond (byte == 9) (92 ∷ 116 ∷ []) (byte ∷ []))))) ++ escaped escapes value ++ 34 ∷ rest) ≡ Some (byte ∷ value, rest)) [
-      | true ↦ λ is. ap (onto (92 ∷ [])) (quoted_again value rest) ∙ ap (λ n. Some (n ∷ value, rest)) (sym (eqb-true byte 92 is))
-      | false ↦ λ a. elim (byte == 34) as (λ b. (byte == 34) ≡ b → quoted 0 (cond b (92 ∷ 34 ∷ []) (cond (byte == 10) (92 ∷ 110 ∷ []) (cond (byte == 13) (92 ∷ 114 ∷ []) (cond (byte == 9) (92 ∷ 116 ∷ []) (byte ∷ [])))) ++ escaped escapes value ++ 34 ∷ rest) ≡ Some (byte ∷ value, rest)) [
-        | true ↦ λ is. ap (onto (34 ∷ [])) (quoted_again value rest) ∙ ap (λ n. Some (n ∷ value, rest)) (sym (eqb-true byte 34 is))
-        | false ↦ λ b. elim (byte == 10) as (λ b. (byte == 10) ≡ b → quoted 0 (cond b (92 ∷ 110 ∷ []) (cond (byte == 13) (92 ∷ 114 ∷ []) (cond (byte == 9) (92 ∷ 116 ∷ []) (byte ∷ []))) ++ escaped escapes value ++ 34 ∷ rest) ≡ Some (byte ∷ value, rest)) [
-          | true ↦ λ is. ap (onto (10 ∷ [])) (quoted_again value rest) ∙ ap (λ n. Some (n ∷ value, rest)) (sym (eqb-true byte 10 is))
-          | false ↦ λ _. elim (byte == 13) as (λ b. (byte == 13) ≡ b → quoted 0 (cond b (92 ∷ 114 ∷ []) (cond (byte == 9) (92 ∷ 116 ∷ []) (byte ∷ [])) ++ escaped escapes value ++ 34 ∷ rest) ≡ Some (byte ∷ value, rest)) [
-            | true ↦ λ is. ap (onto (13 ∷ [])) (quoted_again value rest) ∙ ap (λ n. Some (n ∷ value, rest)) (sym (eqb-true byte 13 is))
-            | false ↦ λ _. elim (byte == 9) as (λ b. (byte == 9) ≡ b → quoted 0 (cond b (92 ∷ 116 ∷ []) (byte ∷ []) ++ escaped escapes value ++ 34 ∷ rest) ≡ Some (byte ∷ value, rest)) [
-              | true ↦ λ is. ap (onto (9 ∷ [])) (quoted_again value rest) ∙ ap (λ n. Some (n ∷ value, rest)) (sym (eqb-true byte 9 is))
-              | false ↦ λ _. plain byte tail b a ∙ ap (onto (byte ∷ [])) (quoted_again value rest)
-            ] refl
-          ] refl
-        ] refl
-      ] refl
-    ] refl
+    let again : quoted 0 tail ≡ Some (value, rest) = quoted_again value rest in
+    escaped_by 92 92 (byte == 92) refl _ (ap (onto (92 ∷ [])) again) (λ a. escaped_by 34 34 (byte == 34) refl _ (ap (onto (34 ∷ [])) again) (λ b. escaped_by 10 110 (byte == 10) refl _ (ap (onto (10 ∷ [])) again)
+    (λ _. escaped_by 13 114 (byte == 13) refl _ (ap (onto (13 ∷ [])) again) (λ _. escaped_by 9 116 (byte == 9) refl _ (ap (onto (9 ∷ [])) again) (λ _. cond-false (byte == 34) _ _ b ∙ cond-false (byte == 92) _ _ a ∙ ap (onto (byte ∷ [])) again)))))
   where
-    plain : (byte : ℕ) (tail : List ℕ) → (byte == 34) ≡ false → (byte == 92) ≡ false → quoted 0 (byte ∷ tail) ≡ onto (byte ∷ []) (quoted 0 tail)
-    plain byte tail q b = cond-false (byte == 34) _ _ q ∙ cond-false (byte == 92) _ _ b
+    tail : List ℕ
+    tail = escaped escapes value ++ 34 ∷ rest
+
+    escaped_by : (n letter : ℕ) (t : Bool) → (byte == n) ≡ t → (others : List ℕ) → quoted 0 (92 ∷ letter ∷ tail) ≡ Some (n ∷ value, rest) → (t ≡ false → quoted 0 (others ++ escaped escapes value ++ 34 ∷ rest) ≡ Some (byte ∷ value, rest)) → quoted 0 (cond t (92 ∷ letter ∷ []) others ++ escaped escapes value ++ 34 ∷ rest) ≡ Some (byte ∷ value, rest)
+    escaped_by n letter true is others here else = here ∙ ap (λ m. Some (m ∷ value, rest)) (sym (eqb-true byte n is))
+    escaped_by n letter false is others here else = else refl
 
 -- a text between quotes
 text_lexes : (value rest : List ℕ) → Lexes (tokens.Text value ∷ []) (34 ∷ (escaped escapes value ++ 34 ∷ rest)) rest
@@ -147,53 +138,14 @@ unfolding token_at
 text_lexes value rest = token_lexes (tokens.Text value) 34 (escaped escapes value ++ 34 ∷ rest) rest refl (ap (or_bad tokens.Text) (quoted_again value rest)) (omega (arith, length-append (escaped escapes value) (34 ∷ rest)))
 
 -- a sign of one byte that begins no longer sign
-sign_again : (first : ℕ) (rest : List ℕ) (sign : Sign) → one_byte first ≡ Some sign → ((second : ℕ) → two_bytes first second ≡ None) → sign_at (first ∷ rest) ≡ Some (sign, rest)
-sign_again first [] sign one two = ap (option_map (λ sign. (sign, []))) one
-sign_again first (second ∷ rest) sign one two =
-    ap (λ o. or_else (option_map (λ sign. (sign, rest)) o) (option_map (λ sign. (sign, second ∷ rest)) (one_byte first))) (two second)
-    ∙ ap (option_map (λ sign. (sign, second ∷ rest))) one
-
-not_second : (first second : ℕ) → (first == 61) ≡ false → (first == 33) ≡ false → (first == 62) ≡ false → (first == 60) ≡ false → (first == 124) ≡ false → two_bytes first second ≡ None
-not_second first second a b c d e =
-    by_second (second == 61) (second == 126) (second == 62)
+lone_sign : (b : ℕ) (rest : List ℕ) (sign : Sign) → gap_len false (b ∷ rest) ≡ 0 → token_at (b ∷ rest) ≡ or_bad tokens.Sign (sign_at (b ∷ rest)) → one_byte b ≡ Some sign → ((second : ℕ) → two_bytes b second ≡ None) → Lexes (tokens.Sign sign ∷ []) (b ∷ rest) rest
+lone_sign b rest sign no_gap is one two = token_lexes (tokens.Sign sign) b rest rest no_gap (is ∙ ap (or_bad tokens.Sign) (by_rest rest)) (omega arith)
   where
-    equals : cond (first == 61) (Some signs.EqualTo) (cond (first == 33) (Some signs.NotEqual) (cond (first == 62) (Some signs.GreaterOrEqual) (cond (first == 60) (Some signs.LessOrEqual) (cond (first == 124) (Some signs.Contains) None)))) ≡ None
-    equals = cond-false (first == 61) _ _ a ∙ cond-false (first == 33) _ _ b ∙ cond-false (first == 62) _ _ c ∙ cond-false (first == 60) _ _ d ∙ cond-false (first == 124) _ _ e
-
-    tildes : cond (first == 61) (Some signs.Matches) (cond (first == 33) (Some signs.NotMatches) (cond (first == 124) (Some signs.ContainsMatch) None)) ≡ None
-    tildes = cond-false (first == 61) _ _ a ∙ cond-false (first == 33) _ _ b ∙ cond-false (first == 124) _ _ e
-
-    points : cond (first == 124) (Some signs.ContainsPattern) (cond (first == 33) (Some signs.LacksPattern) None) ≡ None
-    points = cond-false (first == 124) _ _ e ∙ cond-false (first == 33) _ _ b
-
-    by_second : (x y z : Bool) → cond x (cond (first == 61) (Some signs.EqualTo) (cond (first == 33) (Some signs.NotEqual) (cond (first == 62) (Some signs.GreaterOrEqual) (cond (first == 60) (Some signs.LessOrEqual) (cond (first == 124) (Some signs.Contains) None)))))
-        (cond y (cond (first == 61) (Some signs.Matches) (cond (first == 33) (Some signs.NotMatches) (cond (first == 124) (Some signs.ContainsMatch) None))) (cond z (cond (first == 124) (Some signs.ContainsPattern) (cond (first == 33) (Some signs.LacksPattern) None)) None)) ≡ None
-    by_second true y z = equals
-    by_second false true z = tildes
-    by_second false false true = points
-    by_second false false false = refl
-
--- a byte that is a sign by itself, whatever follows
-abbrev is_lone : ℕ → Bool
-is_lone b = not (is_space b || b == 35) && (not (is_name_start b || is_ascii_digit b) && (not (b == 34 || b == 96) && not (b == 61 || (b == 33 || (b == 62 || (b == 60 || b == 124))))))
-
-lone_sign : (b : ℕ) (rest : List ℕ) (sign : Sign) → one_byte b ≡ Some sign → is_lone b ≡ true → Lexes (tokens.Sign sign ∷ []) (b ∷ rest) rest
-unfolding token_at
-lone_sign b rest sign one lone =
-    let a = and_parts (not (is_space b || b == 35)) _ lone in
-    let c = and_parts (not (is_name_start b || is_ascii_digit b)) _ a.1 in
-    let d = and_parts (not (b == 34 || b == 96)) _ c.1 in
-    let gap = or_parts (is_space b) (b == 35) (not-true _ a.0) in
-    let run = or_parts (is_name_start b) (is_ascii_digit b) (not-true _ c.0) in
-    let quote = or_parts (b == 34) (b == 96) (not-true _ d.0) in
-    let first = or_parts (b == 61) _ (not-true _ d.1) in
-    let second = or_parts (b == 33) _ first.1 in
-    let third = or_parts (b == 62) _ second.1 in
-    let last = or_parts (b == 60) (b == 124) third.1 in
-    token_lexes (tokens.Sign sign) b rest rest (no_gap b rest gap.0 gap.1)
-    (cond-false (is_name_start b) _ _ run.0 ∙ cond-false (is_ascii_digit b) _ _ run.1 ∙ cond-false (b == 34) _ _ quote.0 ∙ cond-false (b == 96) _ _ quote.1
-    ∙ ap (or_bad tokens.Sign) (sign_again b rest sign one (λ next. not_second b next first.0 second.0 third.0 last.0 last.1)))
-    (omega arith)
+    by_rest : (rest : List ℕ) → sign_at (b ∷ rest) ≡ Some (sign, rest)
+    by_rest [] = ap (option_map (λ s. (s, []))) one
+    by_rest (second ∷ rest) =
+        ap (λ o. or_else (option_map (λ s. (s, rest)) o) (option_map (λ s. (s, second ∷ rest)) (one_byte b))) (two second)
+        ∙ ap (option_map (λ s. (s, second ∷ rest))) one
 
 -- an equality sign before a quote
 equal_sign : (rest : List ℕ) → Lexes (tokens.Sign signs.Equal ∷ []) (61 ∷ 34 ∷ rest) (34 ∷ rest)
@@ -220,22 +172,22 @@ abbrev pub are_named : List MatcherForm → Bool
 are_named = list_all (λ m. is_name m.name)
 
 matchers_lexes : (m : MatcherForm) (ms : List MatcherForm) (rest : List ℕ) → are_named (m ∷ ms) ≡ true → Lexes (matchers_tokens (m ∷ ms)) (matcher_text m ++ (others_text ms ++ 125 ∷ rest)) rest
-matchers_lexes m [] rest named = lexes_then (matcher_tokens m) (tokens.Sign signs.CloseBrace ∷ []) (matcher_text m ++ 125 ∷ rest) (125 ∷ rest) rest (matcher_lexes m (125 ∷ rest) (and_parts (is_name m.name) true named).0) (lone_sign 125 rest signs.CloseBrace refl refl)
+unfolding token_at
+matchers_lexes m [] rest named = lexes_then (matcher_tokens m) (tokens.Sign signs.CloseBrace ∷ []) (matcher_text m ++ 125 ∷ rest) (125 ∷ rest) rest (matcher_lexes m (125 ∷ rest) (and_parts (is_name m.name) true named).0) (lone_sign 125 rest signs.CloseBrace refl refl refl (λ _. refl))
 matchers_lexes m (o ∷ os) rest named =
     let parts = and_parts (is_name m.name) (are_named (o ∷ os)) named in
     let behind = matcher_text o ++ (others_text os ++ 125 ∷ rest) in
     let grouped : others_text (o ∷ os) ++ 125 ∷ rest ≡ 44 ∷ 32 ∷ behind = ap (λ t. 44 ∷ 32 ∷ t) (append_assoc (matcher_text o) (others_text os) (125 ∷ rest)) in
     subst (λ t. Lexes (matchers_tokens (m ∷ o ∷ os)) (matcher_text m ++ t) rest) (sym grouped)
     (lexes_then (matcher_tokens m) (tokens.Sign signs.Comma ∷ matchers_tokens (o ∷ os)) (matcher_text m ++ 44 ∷ 32 ∷ behind) (44 ∷ 32 ∷ behind) rest (matcher_lexes m (44 ∷ 32 ∷ behind) parts.0)
-    (lexes_then (tokens.Sign signs.Comma ∷ []) (matchers_tokens (o ∷ os)) (44 ∷ 32 ∷ behind) (32 ∷ behind) rest (lone_sign 44 (32 ∷ behind) signs.Comma refl refl) (spaced (matchers_tokens (o ∷ os)) behind rest (matchers_lexes o os rest parts.1))))
+    (lexes_then (tokens.Sign signs.Comma ∷ []) (matchers_tokens (o ∷ os)) (44 ∷ 32 ∷ behind) (32 ∷ behind) rest (lone_sign 44 (32 ∷ behind) signs.Comma refl refl refl (λ _. refl)) (spaced (matchers_tokens (o ∷ os)) behind rest (matchers_lexes o os rest parts.1))))
 
 -- the digits of a number
 digit_byte : (n : ℕ) → n < 10 → is_ascii_digit (48 + n) ≡ true
 digit_byte n small = grind (arith, nat_tests)
 
 all_append : (p : ℕ → Bool) (xs : List ℕ) (y : ℕ) → list_all p xs ≡ true → p y ≡ true → list_all p (xs ++ y ∷ []) ≡ true
-all_append p [] y all this = and_from (p y) true this refl
-all_append p (x ∷ xs) y all this = let parts = and_parts (p x) (list_all p xs) all in and_from (p x) _ parts.0 (all_append p xs y parts.1 this)
+all_append p xs y all this = list_all-append p xs (y ∷ []) ∙ and_from (list_all p xs) _ all (and_from (p y) true this refl)
 
 -- digits, one at least, that read as the number
 record Reads (n : ℕ) (ds : List ℕ) : Type 0 where
@@ -286,12 +238,9 @@ seconds_lexes n rest small =
     subst (λ t. Lexes (tokens.Number number ∷ []) t (93 ∷ rest)) (append_assoc (decimal n) (115 ∷ []) (93 ∷ rest))
     (number_lexes number (93 ∷ rest) reads.first (reads.others ++ 115 ∷ []) is digit (all_append is_number_byte (decimal n) 115 (weaker (decimal n) reads.digits) refl) refl)
   where
-    number_digit : (x : ℕ) → is_ascii_digit x ≡ true → is_number_byte x ≡ true
-    number_digit x h = grind (arith, nat_tests)
-
     weaker : (xs : List ℕ) → list_all is_ascii_digit xs ≡ true → list_all is_number_byte xs ≡ true
     weaker [] h = refl
-    weaker (x ∷ xs) h = let parts = and_parts (is_ascii_digit x) (list_all is_ascii_digit xs) h in and_from (is_number_byte x) _ (number_digit x parts.0) (weaker xs parts.1)
+    weaker (x ∷ xs) h = let parts = and_parts (is_ascii_digit x) (list_all is_ascii_digit xs) h in and_from (is_number_byte x) _ (digit_goes_on x parts.0) (weaker xs parts.1)
 
 seconds_read : (n : ℕ) → n < 2 ^ 64 → duration_of (decimal n ++ 115 ∷ []) ≡ Some n
 seconds_read n small = let same : n * 1 + 0 ≡ n = omega arith in (decimal_reads n small).value (115 ∷ []) ∙ ap (λ k. Some k) same
@@ -303,17 +252,19 @@ pub record Keeps (query : QueryForm) : Type 0 where
   pub in_range : (1 ≤ query.left.range.seconds) × (query.left.range.seconds ≤ longest_range)
 
 selector_lexes : (m : MatcherForm) (ms : List MatcherForm) (rest : List ℕ) → are_named (m ∷ ms) ≡ true → Lexes (tokens.Sign signs.OpenBrace ∷ matchers_tokens (m ∷ ms)) (123 ∷ (matcher_text m ++ (others_text ms ++ 125 ∷ rest))) rest
+unfolding token_at
 selector_lexes m ms rest named =
     let matchers = matcher_text m ++ (others_text ms ++ 125 ∷ rest) in
-    lexes_then (tokens.Sign signs.OpenBrace ∷ []) (matchers_tokens (m ∷ ms)) (123 ∷ matchers) matchers rest (lone_sign 123 matchers signs.OpenBrace refl refl) (matchers_lexes m ms rest named)
+    lexes_then (tokens.Sign signs.OpenBrace ∷ []) (matchers_tokens (m ∷ ms)) (123 ∷ matchers) matchers rest (lone_sign 123 matchers signs.OpenBrace refl refl refl (λ _. refl)) (matchers_lexes m ms rest named)
 
 duration_lexes : (n : ℕ) (rest : List ℕ) → n < 2 ^ 64 → Lexes (tokens.Sign signs.OpenBracket ∷ tokens.Number (decimal n ++ 115 ∷ []) ∷ tokens.Sign signs.CloseBracket ∷ []) (32 ∷ 91 ∷ (decimal n ++ 115 ∷ 93 ∷ rest)) rest
+unfolding token_at
 duration_lexes n rest small =
     let number = decimal n ++ 115 ∷ 93 ∷ rest in
     let token = tokens.Number (decimal n ++ 115 ∷ []) in
     spaced (tokens.Sign signs.OpenBracket ∷ token ∷ tokens.Sign signs.CloseBracket ∷ []) (91 ∷ number) rest
-    (lexes_then (tokens.Sign signs.OpenBracket ∷ []) (token ∷ tokens.Sign signs.CloseBracket ∷ []) (91 ∷ number) number rest (lone_sign 91 number signs.OpenBracket refl refl)
-    (lexes_then (token ∷ []) (tokens.Sign signs.CloseBracket ∷ []) number (93 ∷ rest) rest (seconds_lexes n rest small) (lone_sign 93 rest signs.CloseBracket refl refl)))
+    (lexes_then (tokens.Sign signs.OpenBracket ∷ []) (token ∷ tokens.Sign signs.CloseBracket ∷ []) (91 ∷ number) number rest (lone_sign 91 number signs.OpenBracket refl refl refl (λ _. refl))
+    (lexes_then (token ∷ []) (tokens.Sign signs.CloseBracket ∷ []) number (93 ∷ rest) rest (seconds_lexes n rest small) (lone_sign 93 rest signs.CloseBracket refl refl refl (λ _. refl))))
 
 function_named : (f : RangeFunction) → is_name (function_text f) ≡ true
 function_named functions.CountOverTime = refl
@@ -325,7 +276,7 @@ end_left (suc most) total = refl
 
 -- a printed query is derived
 pub query_printed : (query : QueryForm) → Keeps query → Derives (query_text query) query
-unfolding lexemes_in
+unfolding lexemes_in token_at
 query_printed query keeps = by_matchers query.left.range.matchers keeps.named keeps.real
   where
     n : ℕ
@@ -350,10 +301,10 @@ query_printed query keeps = by_matchers query.left.range.matchers keeps.named ke
         let text = function_text f ++ (40 ∷ selector) in
         let total = length text in
         let name = word_lexes (function_text f) (40 ∷ selector) (function_named f) refl in
-        let opened = lone_sign 40 selector signs.OpenParenthesis refl refl in
+        let opened = lone_sign 40 selector signs.OpenParenthesis refl refl refl (λ _. refl) in
         let matchers = selector_lexes m ms duration named in
         let bracketed = duration_lexes n closing small in
-        let closed = lone_sign 41 [] signs.CloseParenthesis refl refl in
+        let closed = lone_sign 41 [] signs.CloseParenthesis refl refl refl (λ _. refl) in
         let count = length (tokens.Sign signs.OpenBrace ∷ matchers_tokens (m ∷ ms)) in
         let left = total - (1 + (1 + (count + (3 + (1 + 0))))) in
         let fuel : 1 + (1 + (count + (3 + (1 + left)))) ≡ total = omega (arith, name.shorter, opened.shorter, matchers.shorter, bracketed.shorter, closed.shorter) in

@@ -222,26 +222,18 @@ pub escape_utf8 : (bytes : List ℕ) (c : ℕ) (rest : List ℕ) → IsUtf8 byte
 escape_utf8 bytes c rest utf8 is = by_escape (escape_at bytes) refl is
   where
     by_escape : (e : Option (ℕ × ℕ)) → escape_at bytes ≡ e → ◌≡◌ {A = Option (ℕ × List ℕ)} (Some (c, rest)) (option_map (λ (x : ℕ × ℕ). (x.0, drop x.1 bytes)) e) → IsUtf8 rest
-    by_escape None at is = absurd (some_none is)
-      where
-        some_none : ◌≡◌ {A = Option (ℕ × List ℕ)} (Some (c, rest)) None → ⊥
-        some_none e = cc
+    by_escape None at is = cc
     by_escape (Some x) at is =
-        let same : rest ≡ drop x.1 bytes = same_rest is in
+        let pairs : ◌≡◌ {A = ℕ × List ℕ} (c, rest) (x.0, drop x.1 bytes) = cc in
+        let same : rest ≡ drop x.1 bytes = ap (λ (p : ℕ × List ℕ). p.1) pairs in
         subst IsUtf8 (sym same) (IsUtf8-drop bytes x.1 utf8 (escape_boundary bytes x.0 x.1 utf8 (sym at)))
-      where
-        same_rest : ◌≡◌ {A = Option (ℕ × List ℕ)} (Some (c, rest)) (Some (x.0, drop x.1 bytes)) → rest ≡ drop x.1 bytes
-        same_rest e = let pairs : ◌≡◌ {A = ℕ × List ℕ} (c, rest) (x.0, drop x.1 bytes) = cc in ap (λ p. p.1) pairs
 
 -- an escape takes at least one byte
 pub escape_shorter : (bytes : List ℕ) (c : ℕ) (rest : List ℕ) → ◌≡◌ {A = Option (ℕ × List ℕ)} (Some (c, rest)) (escape_front bytes) → length rest ≤ length bytes
 escape_shorter bytes c rest is = by_escape (escape_at bytes) is
   where
     by_escape : (e : Option (ℕ × ℕ)) → ◌≡◌ {A = Option (ℕ × List ℕ)} (Some (c, rest)) (option_map (λ (x : ℕ × ℕ). (x.0, drop x.1 bytes)) e) → length rest ≤ length bytes
-    by_escape None is = absurd (some_none is)
-      where
-        some_none : ◌≡◌ {A = Option (ℕ × List ℕ)} (Some (c, rest)) None → ⊥
-        some_none e = cc
+    by_escape None is = cc
     by_escape (Some x) is =
         let pairs : ◌≡◌ {A = ℕ × List ℕ} (c, rest) (x.0, drop x.1 bytes) = cc in
         let same : rest ≡ drop x.1 bytes = ap (λ p. p.1) pairs in

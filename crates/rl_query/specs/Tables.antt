@@ -39,11 +39,12 @@ sign_text signs.At = codes "@"
 -- the sign that two bytes are
 abbrev pub two_bytes : ℕ → ℕ → Option Sign
 two_bytes first second =
-    if second == 61 then (if first == 61 then Some signs.EqualTo else (if first == 33 then Some signs.NotEqual else (if first == 62 then Some signs.GreaterOrEqual
-    else (if first == 60 then Some signs.LessOrEqual else (if first == 124 then Some signs.Contains else None)))))
-    else (if second == 126 then (if first == 61 then Some signs.Matches else (if first == 33 then Some signs.NotMatches else (if first == 124 then Some signs.ContainsMatch else None)))
-    else (if second == 62 then (if first == 124 then Some signs.ContainsPattern else (if first == 33 then Some signs.LacksPattern else None))
-    else None))
+    if first == 61 then (if second == 61 then Some signs.EqualTo else (if second == 126 then Some signs.Matches else None))
+    else (if first == 33 then (if second == 61 then Some signs.NotEqual else (if second == 126 then Some signs.NotMatches else (if second == 62 then Some signs.LacksPattern else None)))
+    else (if first == 62 then (if second == 61 then Some signs.GreaterOrEqual else None)
+    else (if first == 60 then (if second == 61 then Some signs.LessOrEqual else None)
+    else (if first == 124 then (if second == 61 then Some signs.Contains else (if second == 126 then Some signs.ContainsMatch else (if second == 62 then Some signs.ContainsPattern else None)))
+    else None))))
 
 -- the sign that a byte is
 abbrev pub one_byte : ℕ → Option Sign

@@ -41,14 +41,14 @@ pub(crate) enum Test {
 }
 
 // The keys of a document, of a group and of a rule.
-const DOCUMENT_KEYS: [Key; 1] = [Key("groups", Kind::Tables, Need::Required)];
+const DOCUMENT_KEYS: &[Key] = &[Key("groups", Kind::Tables, Need::Required)];
 
-const GROUP_KEYS: [Key; 2] = [
+const GROUP_KEYS: &[Key] = &[
     Key("name", Kind::Text, Need::Required),
     Key("rules", Kind::Tables, Need::Required),
 ];
 
-const RULE_KEYS: [Key; 2] = [
+const RULE_KEYS: &[Key] = &[
     Key("record", Kind::Text, Need::Required),
     Key("expr", Kind::Text, Need::Required),
 ];
@@ -167,7 +167,7 @@ fn rule_passes(test: Test, item: &Value) -> bool
     ensures { result ≡ option_map_or (passes test rule_keys) (as_table (view item.now)) true }
 {
     item.as_table()
-        .is_none_or(|rule| passes(test, rule, &RULE_KEYS))
+        .is_none_or(|rule| passes(test, rule, RULE_KEYS))
 }
 
 fn rules_pass(test: Test, items: &[Value]) -> bool
@@ -182,7 +182,7 @@ fn group_passes(test: Test, item: &Value) -> bool
 {
     match item.as_table() {
         Some(group) => {
-            passes(test, group, &GROUP_KEYS) && rules_pass(test, items_at(group, "rules"))
+            passes(test, group, GROUP_KEYS) && rules_pass(test, items_at(group, "rules"))
         }
         None => true,
     }
@@ -198,5 +198,5 @@ fn groups_pass(test: Test, items: &[Value]) -> bool
 pub(crate) fn document_passes(test: Test, document: &Table) -> bool
     ensures { result ≡ document_passes (passes test) (table_view document.now) }
 {
-    passes(test, document, &DOCUMENT_KEYS) && groups_pass(test, items_at(document, "groups"))
+    passes(test, document, DOCUMENT_KEYS) && groups_pass(test, items_at(document, "groups"))
 }

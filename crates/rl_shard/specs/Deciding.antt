@@ -13,9 +13,9 @@ use Rattle.rl_shard.specs.declared.decision.Decision.{Decision}
 use Rattle.rl_shard.specs.declared.decision.Decision.TheVariants as decisions
 use Rattle.rl_shard.specs.declared.step.ShardReply.TheVariants as replies
 
--- what was found is the value, where the test holds
-abbrev pub IsFoundIf : Bool → ℕ → Option ℕ → Type 0
-IsFoundIf test value found = MatchOption found (test ≡ false) (λ it. (test ≡ true) × (it ≡ value))
+-- what was found is the value, where it passes the test
+abbrev pub IsFoundIf : (ℕ → Bool) → ℕ → Option ℕ → Type 0
+IsFoundIf test value found = MatchOption found (test value ≡ false) (λ it. (test value ≡ true) × (it ≡ value))
 
 -- the timestamp is raised in the newest ones that were kept before
 abbrev pub IsRaised : List (LabelSet × ℕ) → LabelSet → ℕ → List (LabelSet × ℕ) → Type 0

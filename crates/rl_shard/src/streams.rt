@@ -32,7 +32,7 @@ const HALF_SECOND: u64 = 500_000_000;
 
 // The horizon, if the entry is older.
 fn horizon_after(horizon: Option<Ns>, entry: &Entry) -> Option<Ns>
-    ensures { IsFoundIf (nat_lt entry.now.timestamp (unwrap_or horizon 0)) (unwrap_or horizon 0) result }
+    ensures { IsFoundIf (nat_lt entry.now.timestamp) (unwrap_or horizon 0) result }
 {
     match horizon {
         Some(horizon) if entry.timestamp < horizon => Some(horizon),
@@ -42,7 +42,7 @@ fn horizon_after(horizon: Option<Ns>, entry: &Entry) -> Option<Ns>
 
 // The newest timestamp of the entry's stream, if the entry is too far behind it.
 fn newest_far_after(limits: &Limits, newest: &BTreeMap<Labels, Ns>, entry: &Entry) -> Option<Ns>
-    ensures { IsFoundIf (is_far_behind limits.now entry.now (newest_in newest.now.entries entry.now.labels)) (newest_in newest.now.entries entry.now.labels) result }
+    ensures { IsFoundIf (is_far_behind limits.now entry.now) (newest_in newest.now.entries entry.now.labels) result }
 {
     let latest = newest_of(newest, &entry.labels)?;
     if entry.timestamp.get() + limits.chunk_age * HALF_SECOND < latest.get() {

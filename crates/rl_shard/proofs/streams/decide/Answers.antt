@@ -2,7 +2,7 @@
 use Rattle.std.proofs.Common.{◌≡◌, nat_le, true, false, length, ap, ◌∙◌, arith}
 use Rattle.std.specs.FinMap.{contains_key, len}
 use Rattle.std.proofs.lemmas.Bool.Decides.{nat_tests}
-use Rattle.rl_labels.specs.EntryOrder.{entry_cmp_total, entry_cmp-IsAntisymmetric}
+use Rattle.rl_labels.specs.laws.OrderLaws.{entry_cmp_total, entry_cmp-IsAntisymmetric}
 use Rattle.rl_shard.specs.ShardState.{state_of, set_of}
 use Rattle.rl_shard.proofs.Answered.{answer_held, answer_full, hold_new}
 use Rattle.rl_shard.proofs.InOrder.{not_found, len-of_set, contains_key-of_set}

@@ -1,7 +1,8 @@
 -- Nothing is in order.
 use Rattle.std.proofs.Common.{sym, subst, arith}
 use Rattle.std.specs.List.Sorted.{IsStrictlySortedBy}
-use Rattle.rl_labels.specs.EntryOrder.{entry_cmp, entry_cmp_total}
+use Rattle.rl_labels.specs.EntryOrder.{entry_cmp}
+use Rattle.rl_labels.specs.laws.OrderLaws.{entry_cmp_total}
 use Rattle.rl_shard.proofs.InOrder.{nothing_in_order}
 use Rattle.rl_shard.proofs.shard.Shard.open.Goals as goal
 

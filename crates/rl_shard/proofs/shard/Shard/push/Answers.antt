@@ -5,7 +5,8 @@ use Rattle.std.specs.FinMap.{insert as insert_key}
 use Rattle.std.specs.List.{insert}
 use Rattle.std.specs.List.Sorted.{IsStrictlySortedBy}
 use Rattle.std.proofs.lemmas.List.Edits.{length-insert}
-use Rattle.rl_labels.specs.EntryOrder.{entry_cmp, entry_cmp_total, entry_cmp-IsAntisymmetric}
+use Rattle.rl_labels.specs.EntryOrder.{entry_cmp}
+use Rattle.rl_labels.specs.laws.OrderLaws.{entry_cmp_total, entry_cmp-IsAntisymmetric}
 use Rattle.rl_shard.specs.ShardState.{state_of, set_of, Journalled}
 use Rattle.rl_shard.specs.ShardStep.{pushed, after_push, with_entry, is_taken}
 use Rattle.rl_shard.specs.Deciding.{BelongsAt}

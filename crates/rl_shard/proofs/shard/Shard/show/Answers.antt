@@ -1,6 +1,6 @@
 -- The list that is held is the one that is seen.
 use Rattle.std.proofs.Common.{◌≡◌, IfOk, sym, ap, subst, ◌∙◌, map}
-use Rattle.rl_labels.specs.EntryOrder.{entry_cmp_total, entry_cmp-IsAntisymmetric}
+use Rattle.rl_labels.specs.laws.OrderLaws.{entry_cmp_total, entry_cmp-IsAntisymmetric}
 use Rattle.rl_aggregate.specs.Partials.{partial}
 use Rattle.rl_shard.specs.ShardState.{visible}
 use Rattle.rl_shard.proofs.InOrder.{keys-of_set}
