@@ -12,7 +12,7 @@ use Rattle.rl_query.specs.Parsing.{query_of}
 use Rattle.rl_query.specs.Printing.{term_text, query_text}
 use Rattle.rl_query.proofs.Printed.{query_printed}
 use Rattle.rl_query.proofs.SameQuery.{same_query, same_term, keeps_limits}
-use Rattle.rl_query.proofs.Productions.{query_derived, derived_is_read}
+use Rattle.rl_query.specs.laws.Productions.{query_derived, derived_is_read}
 
 -- a query that was read is derived
 pub derived : (r : Result Query (OrMemory QueryFault)) (text : List ℕ) → Gives query_form r (query_of text) → IfOk r (λ q. Derives text (query_form q))

@@ -5,6 +5,5 @@ pub mod Elements
 mod Examples
 pub mod Lexemes
 pub mod Printed
-pub mod Productions
 pub mod SameQuery
 pub mod Texts

@@ -27,7 +27,7 @@ use Rattle.rl_query.specs.Limits.{longest_range}
 use Rattle.rl_query.specs.Printing.{matcher_text, function_text, query_text}
 use Rattle.rl_plain.specs.Escapes.{escaped}
 use Rattle.rl_query.specs.Tables.{one_byte, two_bytes, escapes}
-use Rattle.rl_query.proofs.Productions.{stand_then}
+use Rattle.rl_query.specs.laws.Productions.{stand_then}
 
 -- the tokens that a text begins with, and what is left of it
 record Lexes (front : List Token) (text rest : List ℕ) : Type 0 where

@@ -6,3 +6,4 @@ pub mod Lexing
 pub mod Limits
 pub mod Parsing
 pub mod Printing
+pub mod laws

@@ -1,0 +1,2 @@
+-- Laws that the crates above may rest on.
+pub mod Productions
