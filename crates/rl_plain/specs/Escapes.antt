@@ -1,5 +1,5 @@
 -- How a text is written between quotes: some bytes as a backslash and a letter.
-use Rattle.std.specs.Prelude.{ℕ, ◌==◌, nat_lt, Bool, ◌&&◌, List, [], ◌∷◌, if◌then◌else◌}
+use Rattle.std.specs.Prelude.{◌≡◌, ℕ, ◌==◌, ◌<◌, length, ◌++◌, nat_lt, Bool, ◌&&◌, List, [], ◌∷◌, if◌then◌else◌}
 use Rattle.std.specs.List.{list_all, flat_map}
 
 -- bytes, each with the letter that stands behind the backslash
@@ -18,3 +18,7 @@ escaped table = flat_map (escape table)
 -- the bytes and letters of the table are ASCII
 abbrev pub are_ascii : Escapes → Bool
 are_ascii = list_all (λ entry. nat_lt entry.0 128 && nat_lt entry.1 128)
+
+-- a text is what stands before its first escape, the backslash with its letter, and what is written behind them
+abbrev pub IsCutAt : Escapes → List ℕ → List ℕ → ℕ → List ℕ → Type 0
+IsCutAt table value plain letter behind = (escaped table value ≡ plain ++ 92 ∷ letter ∷ escaped table behind) × (length behind < length value) × (letter < 128)

@@ -1,7 +1,7 @@
 //! Texts as they are written between quotes: some bytes as a backslash and a letter.
 ghost use Rattle.std.specs.Prelude.{◌≡◌, ◌<◌, ◌+◌, ◌++◌, ◌∷◌, [], length, IsTrue, OnOk, string_bytes};
 ghost use Rattle.std.specs.Option.{MatchOption};
-ghost use Rattle.rl_plain.specs.Escapes.{escape, escaped, are_ascii};
+ghost use Rattle.rl_plain.specs.Escapes.{escape, escaped, are_ascii, IsCutAt};
 
 use std::alloc::AllocError;
 
@@ -36,7 +36,7 @@ pub fn count_escapes(table: &[(u8, u8)], value: &str) -> usize
 // What stands before the first byte that the table has, its letter, and what stands behind it.
 fn cut<'a>(table: &[(u8, u8)], value: &'a str) -> Option<(&'a str, char, &'a str)>
     requires { IsTrue (are_ascii table.now) }
-    ensures { MatchOption result (escaped table.now value.now ≡ value.now) (λ parts. (escaped table.now value.now ≡ parts.0.now ++ 92 ∷ parts.1 ∷ escaped table.now parts.2.now) × (length parts.2.now < length value.now) × (parts.1 < 128)) }
+    ensures { MatchOption result (escaped table.now value.now ≡ value.now) (λ parts. IsCutAt table.now value.now parts.0.now parts.1 parts.2.now) }
 {
     for (index, byte) in value.as_bytes().iter().enumerate() {
         if let Some(letter) = letter_of(table, *byte) {

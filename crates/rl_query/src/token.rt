@@ -39,8 +39,8 @@ pub enum Sign {
 }
 
 impl Sign {
-    /// The sign as it is written.
-    pub fn as_str(self) -> &'static str
+    // The sign as it is written.
+    pub(crate) fn as_str(self) -> &'static str
         ensures { result.now ≡ sign_text self }
     {
         match self {
