@@ -1,15 +1,16 @@
 -- Merging the partials of shards: what each loop over the slots keeps, and that the numbers fit.
-use Rattle.std.proofs.Common.{◌≡◌, ℕ, zero, suc, ◌+◌, ◌-◌, ◌*◌, ◌<◌, ◌≤◌, List, [], ◌∷◌, ◌++◌, length, get_or, drop, flat_map, Option, None, Some, option_to_list, refl, sym, ap, subst, ◌∙◌, append_assoc, add-one, arith}
+use Rattle.std.proofs.Common.{◌≡◌, ℕ, zero, suc, ◌+◌, ◌-◌, ◌*◌, ◌<◌, ◌≤◌, List, [], ◌∷◌, ◌++◌, length, get_or, drop, flat_map, cond, ◌||◌, Option, None, Some, is_some, option_to_list, refl, sym, ap, subst, ◌∙◌, append_assoc, add-one, arith}
 use Rattle.std.specs.List.{AllByRecursion}
 use Rattle.std.specs.Option.{unwrap_or}
-use Rattle.std.specs.FinMap.{get-empty}
+use Rattle.std.specs.FinMap.{get, empty, get-empty}
 use Rattle.std.proofs.lemmas.List.{at_drop_more, get_or_default}
 use Rattle.std.proofs.lemmas.List.Elements.{All-from_recursion}
 use Rattle.rl_labels.specs.LabelSet.{LabelSet}
 use Rattle.rl_labels.specs.LabelText.{label_set_cmp}
-use Rattle.rl_aggregate.specs.laws.Totals.{total_at-both_totals}
-use Rattle.rl_aggregate.specs.Partials.{merge, most_entries, Fits}
-use Rattle.rl_aggregate.specs.TotalsMap.{no_total, total_at}
+use Rattle.rl_aggregate.specs.laws.Totals.{same_totals, get-both_totals, total_at-both_totals}
+use Rattle.rl_aggregate.specs.Partials.{both_totals, merge, most_entries, Fits}
+use Rattle.rl_aggregate.specs.TotalsMap.{no_total, plus, total_at}
+use Rattle.rl_aggregate.specs.declared.total.Total.{Total}
 use Rattle.rl_aggregate.specs.declared.partial.Partial.{Partial}
 use Rattle.rl_world.specs.Evaluating.{no_partial, merged_from, merged_terms}
 use Rattle.rl_world.specs.Slots.{IsWithin, HasTerm, most_in_shard, most_shards}
@@ -18,6 +19,23 @@ use Rattle.rl_world.specs.declared.opened.Gathered.{Gathered}
 -- nothing is at a label set of no partial
 total_at-none : (labels : LabelSet) → total_at no_partial.totals labels ≡ no_total
 total_at-none labels = ap (λ found. unwrap_or found no_total) (get-empty label_set_cmp labels)
+
+-- what is merged into no partial is itself
+pub merge-into_nothing : (partial : Partial) → merge no_partial partial ≡ partial
+merge-into_nothing partial =
+    let errors : 0 + partial.errors ≡ partial.errors = omega arith in
+    let totals : both_totals empty partial.totals ≡ partial.totals = same_totals _ _ (λ q.
+    get-both_totals empty partial.totals q
+    ∙ ap (λ t. cond (is_some t || is_some (get partial.totals q)) (Some (plus (unwrap_or t no_total) (total_at partial.totals q))) None) (get-empty label_set_cmp q)
+    ∙ alone (get partial.totals q)) in
+    λ i. record { errors = errors i; totals = totals i }
+  where
+    alone : (t : Option Total) → cond (is_some t) (Some (plus no_total (unwrap_or t no_total))) None ≡ t
+    alone None = refl
+    alone (Some total) =
+        let count : 0 + total.count ≡ total.count = omega arith in
+        let bytes : 0 + total.bytes ≡ total.bytes = omega arith in
+        λ i. Some (record { count = count i; bytes = bytes i })
 
 -- no entry gives the numbers of no partial
 pub within-none : IsWithin 0 no_partial

@@ -1,7 +1,9 @@
 //! The evaluation of a group, on the partials that its shards gave.
 ghost use Rattle.std.specs.Prelude.{◌≡◌, ◌≤◌, ◌<◌, map, length, option_to_list, flat_map, IfOk, IfSome};
 ghost use Rattle.std.specs.List.{AllByRecursion};
+ghost use Rattle.std.specs.Option.{unwrap_or};
 ghost use Rattle.rl_aggregate.specs.Evaluated.{terms_of, finished};
+ghost use Rattle.rl_aggregate.specs.Partials.{merge, Fits};
 ghost use Rattle.rl_world.specs.Evaluating.{group_terms, evaluation_from, merged_from, merged_terms, results_from, result_of, no_partial};
 ghost use Rattle.rl_world.specs.Slots.{IsKept, HasTerm, most_shards};
 
@@ -85,13 +87,28 @@ fn merged(alloc: Global, slots: &[Slot], term: usize) -> Result<Partial, AllocEr
     requires slots { AllByRecursion (HasTerm term) slots.now }
     ensures { IfOk result (λ sum. sum ≡ merged_from no_partial term (flat_map option_to_list slots.now)) }
 {
-    let mut sum = Partial::empty(alloc);
+    let mut sum = None;
     for slot in slots {
         if let Some(answer) = slot {
-            sum = merge(sum, &answer.shown.as_slice()[term])?;
+            let both = merge_first(sum, &answer.shown.as_slice()[term])?;
+            sum = Some(both);
         }
     }
-    Ok(sum)
+    match sum {
+        Some(all) => Ok(all),
+        None => Ok(Partial::empty(alloc)),
+    }
+}
+
+// The merge with what is there so far; the first is copied.
+fn merge_first(sum: Option<Partial>, own: &Partial) -> Result<Partial, AllocError>
+    requires { Fits (merge (unwrap_or sum no_partial) own.now) }
+    ensures { IfOk result (λ both. both ≡ merge (unwrap_or sum no_partial) own.now) }
+{
+    match sum {
+        None => own.try_copy(),
+        Some(before) => merge(before, own),
+    }
 }
 
 // Each rule on the partials of its own terms.

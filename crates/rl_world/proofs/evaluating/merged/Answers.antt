@@ -1,18 +1,20 @@
 -- The slot of a shard that was asked goes into the sum, which still fits; any other has nothing.
 use Rattle.std.proofs.Common.{◌≡◌, ◌+◌, get_or, sym, ap, subst, ◌∙◌}
+use Rattle.std.specs.Option.{unwrap_or}
+use Rattle.rl_world.specs.Evaluating.{no_partial}
 use Rattle.rl_world.proofs.Merging.{IsSumBefore, nothing_merged, asked, not_asked, sum_fits}
 use Rattle.rl_world.proofs.evaluating.merged.Goals as goal
-use Rattle.rl_world.proofs.evaluating.merged.Goals.{in-Some+in_ok-sum, in_default}
+use Rattle.rl_world.proofs.evaluating.merged.Goals.{in-Some+in_ok-both, in_default}
 
 pub loop-slot-init : goal.loop-slot-init
-loop-slot-init c = subst (IsSumBefore c.args.term c.args.slots.now 0) (sym c.empty-sum.ensures) (nothing_merged c.args.term c.args.slots.now)
+loop-slot-init c = nothing_merged c.args.term c.args.slots.now
 
-pub merge-requires : goal.merge-requires
-merge-requires c =
+pub merge_first-requires : goal.merge_first-requires
+merge_first-requires c =
     let answer = c.in-Some.answer in
     let own = c.index-as_slice-term.result in
     let own_is : own ≡ get_or answer.shown c.args.term own = c.index-as_slice-term.is ∙ ap (λ shown. get_or shown c.args.term own) c.as_slice.ensures in
-    sum_fits c.args.term c.args.slots.now c.loop-slot.slot-index c.slot-item.result c.loop-slot.sum c.loop-slot-test.true c.slot-item.is c.loop-slot.invariant answer own c.requires.slots c.in-Some.is own_is c.requires.shards
+    sum_fits c.args.term c.args.slots.now c.loop-slot.slot-index c.slot-item.result (unwrap_or c.loop-slot.sum no_partial) c.loop-slot-test.true c.slot-item.is c.loop-slot.invariant answer own c.requires.slots c.in-Some.is own_is c.requires.shards
 
 pub loop-slot-preserved : goal.loop-slot-preserved
 loop-slot-preserved c =
@@ -20,11 +22,11 @@ loop-slot-preserved c =
     let slots = c.args.slots.now in
     let i = c.loop-slot.slot-index in
     elim c.match-slot.branch [
-      | in-Some+in_ok-sum w ↦
+      | in-Some+in_ok-both w ↦
           let answer = w.in-Some.answer in
           let own = w.index-as_slice-term.result in
           let own_is : own ≡ get_or answer.shown term own = w.index-as_slice-term.is ∙ ap (λ shown. get_or shown term own) w.as_slice.ensures in
-          subst (IsSumBefore term slots (i + 1)) (sym (w.sum-is ∙ w.in_ok-sum.ensures.merged)) (asked term slots i c.slot-item.result c.loop-slot.sum c.loop-slot-test.true c.slot-item.is c.loop-slot.invariant answer own c.requires.slots w.in-Some.is own_is)
+          subst (IsSumBefore term slots (i + 1)) (sym (ap (λ sum. unwrap_or sum no_partial) w.sum-is ∙ w.in_ok-both.ensures)) (asked term slots i c.slot-item.result (unwrap_or c.loop-slot.sum no_partial) c.loop-slot-test.true c.slot-item.is c.loop-slot.invariant answer own c.requires.slots w.in-Some.is own_is)
       | in_default w ↦
-          subst (IsSumBefore term slots (i + 1)) (sym w.sum-is) (not_asked term slots i c.slot-item.result c.loop-slot.sum c.loop-slot-test.true c.slot-item.is c.loop-slot.invariant w.in_default.is)
+          subst (IsSumBefore term slots (i + 1)) (sym (ap (λ sum. unwrap_or sum no_partial) w.sum-is)) (not_asked term slots i c.slot-item.result (unwrap_or c.loop-slot.sum no_partial) c.loop-slot-test.true c.slot-item.is c.loop-slot.invariant w.in_default.is)
     ]
