@@ -1,5 +1,5 @@
 -- How a text is written between quotes: some bytes as a backslash and a letter.
-use Rattle.std.specs.Prelude.{◌≡◌, ℕ, ◌==◌, ◌<◌, length, ◌++◌, nat_lt, Bool, ◌&&◌, List, [], ◌∷◌, if◌then◌else◌}
+use Rattle.std.specs.Prelude.{◌≡◌, ℕ, ◌==◌, ◌<◌, length, ◌++◌, nat_lt, Bool, ◌&&◌, List, [], ◌∷◌, Option, None, Some, if◌then◌else◌}
 use Rattle.std.specs.List.{list_all, flat_map}
 
 -- bytes, each with the letter that stands behind the backslash
@@ -10,6 +10,11 @@ Escapes = List (ℕ × ℕ)
 abbrev pub escape : Escapes → ℕ → List ℕ
 escape [] byte = byte ∷ []
 escape (entry ∷ table) byte = if byte == entry.0 then 92 ∷ entry.1 ∷ [] else escape table byte
+
+-- the byte that a backslash and the letter stand for
+abbrev pub unescape : Escapes → ℕ → Option ℕ
+unescape [] letter = None
+unescape (entry ∷ table) letter = if letter == entry.1 then Some entry.0 else unescape table letter
 
 -- a text as it is written, byte by byte
 abbrev pub escaped : Escapes → List ℕ → List ℕ

@@ -1,7 +1,7 @@
 //! Texts as they are written between quotes: some bytes as a backslash and a letter.
 ghost use Rattle.std.specs.Prelude.{◌≡◌, ◌<◌, ◌+◌, ◌++◌, ◌∷◌, [], length, IsTrue, OnOk, string_bytes};
 ghost use Rattle.std.specs.Option.{MatchOption};
-ghost use Rattle.rl_plain.specs.Escapes.{escape, escaped, are_ascii, IsCutAt};
+ghost use Rattle.rl_plain.specs.Escapes.{escape, escaped, unescape, are_ascii, IsCutAt};
 
 use std::alloc::AllocError;
 
@@ -31,6 +31,18 @@ pub fn count_escapes(table: &[(u8, u8)], value: &str) -> usize
         }
     }
     count
+}
+
+/// The byte that a backslash and the letter stand for.
+pub fn unescape(table: &[(u8, u8)], letter: u8) -> Option<u8>
+    ensures { result ≡ unescape table.now letter }
+{
+    for entry in table {
+        if letter == entry.1 {
+            return Some(entry.0);
+        }
+    }
+    None
 }
 
 // What stands before the first byte that the table has, its letter, and what stands behind it.

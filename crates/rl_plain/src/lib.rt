@@ -17,7 +17,7 @@ pub mod sameness;
 pub mod text;
 
 pub use copying::TryCopy;
-pub use escape::{count_escapes, push_escaped};
+pub use escape::{count_escapes, push_escaped, unescape};
 pub use list::PlainList;
 pub use refusal::OrMemory;
 pub use sameness::Same;

@@ -1,12 +1,14 @@
 -- Texts between quotes, piece by piece.
-use Rattle.std.proofs.Common.{◌≡◌, inl, inr, ℕ, zero, suc, ◌+◌, ◌-◌, ◌*◌, ◌<◌, ◌≤◌, ◌==◌, Bool, true, false, cond, not, ◌||◌, List, [], ◌∷◌, ◌++◌, Option, Some, None, length, get_or, take, drop, refl, sym, ap, subst, ◌∙◌, arith, append_assoc, append-nil, length-drop}
+use Rattle.std.proofs.Common.{◌≡◌, inl, inr, ℕ, zero, suc, ◌+◌, ◌-◌, ◌*◌, ◌<◌, ◌≤◌, ◌==◌, Bool, true, false, cond, not, ◌&&◌, ◌||◌, nat_lt, List, [], ◌∷◌, ◌++◌, Option, Some, None, length, get_or, take, drop, refl, sym, ap, subst, ◌∙◌, arith, append_assoc, append-nil, length-drop}
 use Rattle.std.specs.List.{prefix_len}
 use Rattle.std.specs.Option.{option_map, option_and_then}
 use Rattle.std.specs.Str.{IsUtf8, IsCharBoundary}
 use Rattle.std.proofs.lemmas.Bool.Decides.{nat_tests}
-use Rattle.std.proofs.lemmas.Bool.{eqb-true, true≢false, cases_lt, le-ltb}
+use Rattle.std.proofs.lemmas.Bool.{and_parts, eqb-true, true≢false, cases_lt, le-ltb, ltb-true}
 use Rattle.std.proofs.lemmas.Str.{IsUtf8-drop}
 use Rattle.std.proofs.Math.Utf8.{encode}
+use Rattle.rl_plain.specs.Escapes.{Escapes, are_ascii, unescape}
+use Rattle.rl_query.specs.Tables.{escapes}
 use Rattle.rl_query.specs.Lexing.{is_plain, is_raw, is_number_byte, is_in_run, hex_digit, hex_number, character, unicode_at, escape_at, escape_front, onto, quoted, backquoted}
 use Rattle.rl_query.proofs.Cuts.{behind_ascii, run_boundary, name_byte_small, number_byte_small}
 use Rattle.rl_query.specs.declared.lexer.Run.{Run}
@@ -150,16 +152,23 @@ unicode_ascii b (d1 ∷ d2 ∷ d3 ∷ d4 ∷ rest) =
         not_both : None ≡ Some digit → ⊥
         not_both e = cc
 
-one_ascii : (b : ℕ) (bytes : List ℕ) (n c : ℕ) → n < 128 → (t : Bool) → (b == n) ≡ t → (other : Option (ℕ × ℕ)) → EndsAscii (b ∷ bytes) other → EndsAscii (b ∷ bytes) (cond t (Some (c, 1)) other)
-one_ascii b bytes n c small true is other rest = (omega arith, omega arith, let same : b ≡ n = eqb-true b n is in omega arith)
-one_ascii b bytes n c small false is other rest = rest
+-- a letter of the table
+letter_ascii : (b : ℕ) (bytes : List ℕ) (table : Escapes) → are_ascii table ≡ true → EndsAscii (b ∷ bytes) (option_map (λ c. (c, 1)) (unescape table b))
+letter_ascii b bytes [] h = tt
+letter_ascii b bytes (entry ∷ table) h =
+    let parts = and_parts (nat_lt entry.0 128 && nat_lt entry.1 128) (are_ascii table) h in
+    let small : entry.1 < 128 = ltb-true entry.1 128 (and_parts (nat_lt entry.0 128) (nat_lt entry.1 128) parts.0).1 in
+    elim (b == entry.1) as (λ t. (b == entry.1) ≡ t → EndsAscii (b ∷ bytes) (option_map (λ c. (c, 1)) (cond t (Some entry.0) (unescape table b)))) [
+      | true ↦ λ is. (omega arith, omega arith, let same : b ≡ entry.1 = eqb-true b entry.1 is in omega arith)
+      | false ↦ λ _. letter_ascii b bytes table parts.1
+    ] refl
 
 pub escape_ascii : (bytes : List ℕ) → EndsAscii bytes (escape_at bytes)
 escape_ascii [] = tt
 escape_ascii (b ∷ bytes) =
-    elim (b == 117) as (λ t. EndsAscii (b ∷ bytes) (cond t (option_map (λ c. (c, 5)) (unicode_at bytes)) (cond (b == 92) (Some (92, 1)) (cond (b == 34) (Some (34, 1)) (cond (b == 110) (Some (10, 1)) (cond (b == 114) (Some (13, 1)) (cond (b == 116) (Some (9, 1)) None))))))) [
+    elim (b == 117) as (λ t. EndsAscii (b ∷ bytes) (cond t (option_map (λ c. (c, 5)) (unicode_at bytes)) (option_map (λ c. (c, 1)) (unescape escapes b)))) [
       | true ↦ unicode_ascii b bytes
-      | false ↦ one_ascii b bytes 92 92 (omega arith) (b == 92) refl _ (one_ascii b bytes 34 34 (omega arith) (b == 34) refl _ (one_ascii b bytes 110 10 (omega arith) (b == 110) refl _ (one_ascii b bytes 114 13 (omega arith) (b == 114) refl _ (one_ascii b bytes 116 9 (omega arith) (b == 116) refl None tt))))
+      | false ↦ letter_ascii b bytes escapes refl
     ]
 
 -- an escape ends where the text may be cut

@@ -3,6 +3,7 @@ use Rattle.std.specs.Prelude.{ℕ, zero, suc, ◌+◌, ◌-◌, ◌*◌, ◌==�
 use Rattle.std.specs.Option.{option_and_then, option_map}
 use Rattle.std.specs.List.{prefix_len}
 use Rattle.std.specs.Char.{is_ascii_digit}
+use Rattle.rl_plain.specs.Escapes.{unescape}
 use Rattle.rl_labels.specs.Name.{is_name_start, is_name_byte}
 use Rattle.rl_query.specs.declared.token.Sign.{Sign}
 use Rattle.rl_query.specs.declared.lexer.Run.{Run}
@@ -10,7 +11,7 @@ use Rattle.rl_query.specs.declared.lexer.Run.TheVariants as runs
 use Rattle.rl_query.specs.declared.token.Token.{Token}
 use Rattle.rl_query.specs.declared.token.Token.TheVariants as tokens
 use Rattle.rl_query.specs.declared.token.Lexeme.{Lexeme}
-use Rattle.rl_query.specs.Tables.{one_byte, two_bytes}
+use Rattle.rl_query.specs.Tables.{one_byte, two_bytes, escapes}
 
 -- a space, a tab, a carriage return or a line feed
 abbrev pub is_space : ℕ → Bool
@@ -56,12 +57,7 @@ abbrev pub escape_at : List ℕ → Option (ℕ × ℕ)
 escape_at [] = None
 escape_at (byte ∷ bytes) =
     if byte == 117 then option_map (λ c. (c, 5)) (unicode_at bytes)
-    else (if byte == 92 then Some (92, 1)
-    else (if byte == 34 then Some (34, 1)
-    else (if byte == 110 then Some (10, 1)
-    else (if byte == 114 then Some (13, 1)
-    else (if byte == 116 then Some (9, 1)
-    else None)))))
+    else option_map (λ c. (c, 1)) (unescape escapes byte)
 
 -- the same with what follows it
 abbrev pub escape_front : List ℕ → Option (ℕ × List ℕ)

@@ -7,8 +7,8 @@ ghost use Rattle.rl_query.specs.Lexing.{is_space, gap_len, hex_digit, hex_number
 ghost use Rattle.rl_query.specs.Tables.{two_bytes, one_byte};
 ghost use Rattle.rl_query.specs.declared.token.Token.TheVariants as tokens;
 
-use crate::token::{Lexeme, Sign, Token};
-use rl_plain::PlainText;
+use crate::token::{ESCAPES, Lexeme, Sign, Token};
+use rl_plain::{PlainText, unescape};
 use std::alloc::{AllocError, Global};
 
 /// The tokens of a text with the bytes at which they begin. The last is the end.
@@ -308,12 +308,10 @@ fn escape_at(bytes: &[u8]) -> Option<(char, usize)>
             let c = unicode_at(digits)?;
             Some((c, 5))
         }
-        [b'\\', ..] => Some(('\\', 1)),
-        [b'"', ..] => Some(('"', 1)),
-        [b'n', ..] => Some(('\n', 1)),
-        [b'r', ..] => Some(('\r', 1)),
-        [b't', ..] => Some(('\t', 1)),
-        _ => None,
+        [letter, ..] => {
+            let byte = unescape(&ESCAPES, *letter)?;
+            Some((char::from(byte), 1))
+        }
     }
 }
 

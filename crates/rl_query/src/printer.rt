@@ -7,18 +7,10 @@ ghost use Rattle.rl_query.specs.declared.query.Term.{Term};
 ghost use Rattle.std.specs.Fmt.{decimal};
 
 use crate::query::{LogRange, Query, RangeFunction, Term};
+use crate::token::ESCAPES;
 use rl_labels::{MatchOp, Matcher};
 use rl_plain::push_escaped;
 use std::alloc::{AllocError, Global};
-
-// What is escaped between quotes.
-const ESCAPES: [(u8, u8); 5] = [
-    (b'\\', b'\\'),
-    (b'"', b'"'),
-    (b'\n', b'n'),
-    (b'\r', b'r'),
-    (b'\t', b't'),
-];
 
 /// The canonical text of a query, as `count_over_time({app="a"} [300s])`.
 pub fn print(alloc: Global, query: &Query) -> Result<String, AllocError>

@@ -4,6 +4,15 @@ ghost use Rattle.rl_query.specs.Tables.{sign_text};
 
 use rl_plain::PlainText;
 
+// What is escaped between quotes, beside characters by their number.
+pub(crate) const ESCAPES: [(u8, u8); 5] = [
+    (b'\\', b'\\'),
+    (b'"', b'"'),
+    (b'\n', b'n'),
+    (b'\r', b'r'),
+    (b'\t', b't'),
+];
+
 /// A sign of the grammar.
 #[derive(Clone, Copy, Debug, PartialEq, Eq)]
 pub enum Sign {
