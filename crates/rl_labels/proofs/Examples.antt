@@ -1,14 +1,11 @@
 -- What no running code shows: which lists are labels, which sets are streams, and where memory may be told to be short.
-use Rattle.std.specs.Prelude.{◌≡◌, nat_le, true, false, not, ◌&&◌, ◌==◌, List, [], ◌∷◌, codes, length, Err, Result, refl}
-use Rattle.std.proofs.Common.{⊎_elim, is_ok, ap, sym, ◌∙◌}
-use Rattle.std.proofs.lemmas.Bool.{true≢false}
+use Rattle.std.specs.Prelude.{◌≡◌, nat_le, true, false, not, ◌&&◌, ◌==◌, [], ◌∷◌, codes, length, refl}
+use Rattle.std.proofs.Common.{ap}
 use Rattle.rl_labels.specs.EntryParts.{is_stream}
 use Rattle.rl_labels.specs.laws.LabelLaws.{labels_of-label_set_of}
-use Rattle.rl_labels.specs.LabelSet.{Pair, LabelSet, are_labels, label_set_of}
+use Rattle.rl_labels.specs.LabelSet.{are_labels, label_set_of}
 use Rattle.rl_labels.specs.LabelText.{labels_text, canonical_text}
-use Rattle.rl_labels.specs.Pairs.{names_are_good, longest_text, labels_from, AnswersPairs}
-use Rattle.rl_labels.specs.declared.labels.LabelsError.{LabelsError}
-use Rattle.rl_labels.specs.declared.labels.LabelsError.TheVariants.{Memory}
+use Rattle.rl_labels.specs.Pairs.{names_are_good, longest_text}
 
 labels_by_rising_name : are_labels ((codes "a", codes "x") ∷ (codes "b", codes "y") ∷ []) ≡ true
 labels_by_rising_name = refl
@@ -25,10 +22,3 @@ no_labels_with_an_empty_value = refl
 no_stream_with_an_error : is_stream (label_set_of ((codes "__error__", codes "e") ∷ [])) ≡ false
 unfolding canonical_text
 no_stream_with_an_error = ap (λ es. (names_are_good es && nat_le (length (labels_text es)) longest_text) && not (length es == 0)) (labels_of-label_set_of ((codes "__error__", codes "e") ∷ []) refl)
-
--- want of memory hides no fault that the pairs have
-no_fault_hidden : (pairs : List Pair) (fault : LabelsError) → labels_from pairs ≡ Err fault → (Memory ≡ fault → ⊥) → AnswersPairs (Err Memory) pairs → ⊥
-no_fault_hidden pairs fault told other h = ⊎_elim (λ e. other (answered (e ∙ told))) (λ m. true≢false (sym m.1 ∙ ap is_ok told)) h
-  where
-    answered : ◌≡◌ {A = Result LabelSet LabelsError} (Err Memory) (Err fault) → Memory ≡ fault
-    answered e = cc

@@ -1,71 +1,71 @@
 -- What the pairs answer, case by case.
-use Rattle.std.proofs.Common.{◌≡◌, inl, inr, ⊎_elim, ℕ, nat_lt, Bool, true, false, cond, not, List, Ok, Err, Result, length, refl, sym, ap, ◌∙◌, is_ok, IfOk, IsTrue}
+use Rattle.std.proofs.Common.{◌≡◌, ℕ, nat_lt, Bool, true, false, cond, not, List, Ok, Err, Result, length, refl, sym, ap, ◌∙◌, IsTrue}
 use Rattle.std.proofs.lemmas.Bool.{and_from, le-leb, ltb-false}
 use Rattle.rl_labels.specs.LabelSet.{Pair, LabelSet, labels_of, label, label_set_of, given}
-use Rattle.rl_labels.specs.LabelText.{canonical_text}
-use Rattle.rl_labels.specs.Pairs.{names_are_good, has_same_name, longest_text, labels_from, AnswersPairs}
-use Rattle.rl_labels.specs.declared.labels.LabelsError.{LabelsError}
-use Rattle.rl_labels.specs.declared.labels.LabelsError.TheVariants.{BadName, SameName, TooLong, Memory}
-use Rattle.rl_labels.proofs.FromPairs.{given_by_set, named_from_good}
+use Rattle.std.specs.List.{filter}
+use Rattle.rl_labels.specs.LabelText.{canonical_text, labels_text}
+use Rattle.rl_labels.specs.Rising.{rises, has_value}
+use Rattle.rl_labels.specs.Pairs.{names_are_good, has_same_name, longest_text, labels_from}
+use Rattle.rl_labels.specs.declared.labels.LabelsFault.{LabelsFault}
+use Rattle.rl_labels.specs.declared.labels.LabelsFault.TheVariants.{BadName, SameName, TooLong}
+use Rattle.rl_labels.proofs.FromPairs.{Sorts, twice_sorts, once_sorts, no_same_name, set_sorts, text_sorts, given_by_set, named_from_good}
 use Rattle.rl_labels.specs.EntryParts.{are_stream_labels}
 use Rattle.rl_labels.specs.laws.LabelLaws.{names-label_set_of}
 use Rattle.rl_labels.specs.Name.{is_stream_name}
 
-abbrev answer : (good same long : Bool) → LabelSet → Result LabelSet LabelsError
+-- the text of the pairs' label set is longer than a stream's may be
+abbrev is_long : List Pair → Bool
+is_long pairs = nat_lt longest_text (length (canonical_text (label_set_of pairs)))
+
+abbrev answer : (good same long : Bool) → LabelSet → Result LabelSet LabelsFault
 answer good same long set = cond (not good) (Err BadName) (cond same (Err SameName) (cond long (Err TooLong) (Ok set)))
 
-answer_is : (pairs : List Pair) (good same long : Bool) → names_are_good pairs ≡ good → has_same_name pairs ≡ same → nat_lt longest_text (length (canonical_text (label_set_of pairs))) ≡ long → labels_from pairs ≡ answer good same long (label_set_of pairs)
+answer_is : (pairs : List Pair) (good same long : Bool) → names_are_good pairs ≡ good → has_same_name pairs ≡ same → is_long pairs ≡ long → labels_from pairs ≡ answer good same long (label_set_of pairs)
 unfolding labels_from
 answer_is pairs good same long a b c =
-    ap (λ g. answer g (has_same_name pairs) (nat_lt longest_text (length (canonical_text (label_set_of pairs)))) (label_set_of pairs)) a
-    ∙ ap (λ s. answer good s (nat_lt longest_text (length (canonical_text (label_set_of pairs)))) (label_set_of pairs)) b
+    ap (λ g. answer g (has_same_name pairs) (is_long pairs) (label_set_of pairs)) a
+    ∙ ap (λ s. answer good s (is_long pairs) (label_set_of pairs)) b
     ∙ ap (λ l. answer good same l (label_set_of pairs)) c
 
-pub bad_names : (pairs : List Pair) → names_are_good pairs ≡ false → AnswersPairs (Err BadName) pairs
-bad_names pairs bad = inl (sym (answer_is pairs false _ _ bad refl refl))
+-- sorted pairs, of which those with a value are kept, are the answer by their text
+pub kept_answer : (pairs sorted kept : List Pair) → Sorts pairs sorted → rises sorted ≡ true → kept ≡ filter has_value sorted → (long : Bool) → nat_lt longest_text (length (labels_text kept)) ≡ long → labels_from pairs ≡ cond long (Err TooLong) (Ok (label_set_of kept))
+kept_answer pairs sorted kept sorts up kept_is long h =
+    let text = text_sorts pairs sorted sorts up ∙ ap labels_text (sym kept_is) in
+    let set = ap label_set_of kept_is ∙ set_sorts pairs sorted sorts up in
+    answer_is pairs true false long sorts.good (no_same_name pairs (once_sorts pairs sorted sorts up)) (ap (λ t. nat_lt longest_text (length t)) text ∙ h)
+    ∙ ap (λ s. cond long (Err TooLong) (Ok s)) (sym set)
 
-pub same_names : (pairs : List Pair) → names_are_good pairs ≡ true → has_same_name pairs ≡ true → AnswersPairs (Err SameName) pairs
-same_names pairs good same = inl (sym (answer_is pairs true true _ good same refl))
+pub same_names : (pairs sorted : List Pair) → Sorts pairs sorted → rises sorted ≡ false → labels_from pairs ≡ Err SameName
+same_names pairs sorted sorts falls = answer_is pairs true true _ sorts.good (twice_sorts pairs sorted sorts falls) refl
 
-pub long_text : (pairs : List Pair) → names_are_good pairs ≡ true → has_same_name pairs ≡ false → nat_lt longest_text (length (canonical_text (label_set_of pairs))) ≡ true → AnswersPairs (Err TooLong) pairs
-long_text pairs good apart long = inl (sym (answer_is pairs true false true good apart long))
+pub bad_names : (pairs : List Pair) → names_are_good pairs ≡ false → labels_from pairs ≡ Err BadName
+bad_names pairs bad = answer_is pairs false _ _ bad refl refl
 
-pub labels_made : (pairs : List Pair) (set : LabelSet) → names_are_good pairs ≡ true → has_same_name pairs ≡ false → nat_lt longest_text (length (canonical_text (label_set_of pairs))) ≡ false → set ≡ label_set_of pairs → AnswersPairs (Ok set) pairs
-labels_made pairs set good apart short same = inl (ap Ok same ∙ sym (answer_is pairs true false false good apart short))
+-- what holds of pairs that make a label set
+record Made (pairs : List Pair) (set : LabelSet) : Type 0 where
+  good : names_are_good pairs ≡ true
+  short : is_long pairs ≡ false
+  set_is : set ≡ label_set_of pairs
 
-pub no_memory : (pairs : List Pair) → names_are_good pairs ≡ true → has_same_name pairs ≡ false → nat_lt longest_text (length (canonical_text (label_set_of pairs))) ≡ false → AnswersPairs (Err Memory) pairs
-no_memory pairs good apart short = inr (refl, ap is_ok (answer_is pairs true false false good apart short))
-
--- what an answer that is a set gives
-pub given_answer : (pairs : List Pair) (r : Result LabelSet LabelsError) → AnswersPairs r pairs → IfOk r (λ set. (name : List ℕ) → label set name ≡ given pairs name)
-given_answer pairs (Err e) h = tt
-given_answer pairs (Ok set) h = λ name. ⊎_elim (λ e. by_cases name (names_are_good pairs) (has_same_name pairs) (nat_lt longest_text (length (canonical_text (label_set_of pairs)))) refl refl refl e) (λ m. absurd (not_memory m.0)) h
+made : (pairs : List Pair) (set : LabelSet) → labels_from pairs ≡ Ok set → Made pairs set
+made pairs set e = by_cases (names_are_good pairs) (has_same_name pairs) (is_long pairs) refl refl refl
   where
-    not_memory : Ok set ≡ Err Memory → ⊥
-    not_memory e = cc
+    by_cases : (good same long : Bool) → names_are_good pairs ≡ good → has_same_name pairs ≡ same → is_long pairs ≡ long → Made pairs set
+    by_cases false same long a b c = let no : Ok set ≡ Err BadName = sym e ∙ answer_is pairs false same long a b c in cc
+    by_cases true true long a b c = let no : Ok set ≡ Err SameName = sym e ∙ answer_is pairs true true long a b c in cc
+    by_cases true false true a b c = let no : Ok set ≡ Err TooLong = sym e ∙ answer_is pairs true false true a b c in cc
+    by_cases true false false a b c =
+        let same : Ok set ≡ Ok (label_set_of pairs) = sym e ∙ answer_is pairs true false false a b c in
+        record { good = a; short = c; set_is = cc }
 
-    by_cases : (name : List ℕ) (good same long : Bool) → names_are_good pairs ≡ good → has_same_name pairs ≡ same → nat_lt longest_text (length (canonical_text (label_set_of pairs))) ≡ long → Ok set ≡ labels_from pairs → label set name ≡ given pairs name
-    by_cases name false same long a b c e = let no : Ok set ≡ Err BadName = e ∙ answer_is pairs false same long a b c in cc
-    by_cases name true true long a b c e = let no : Ok set ≡ Err SameName = e ∙ answer_is pairs true true long a b c in cc
-    by_cases name true false true a b c e = let no : Ok set ≡ Err TooLong = e ∙ answer_is pairs true false true a b c in cc
-    by_cases name true false false a b c e =
-        let same : Ok set ≡ Ok (label_set_of pairs) = e ∙ answer_is pairs true false false a b c in
-        let sets : set ≡ label_set_of pairs = cc in
-        ap (λ s. label s name) sets ∙ given_by_set pairs name a
+-- each name has the value that is given to it
+pub given_answer : (pairs : List Pair) (set : LabelSet) → labels_from pairs ≡ Ok set → (name : List ℕ) → label set name ≡ given pairs name
+given_answer pairs set e name =
+    let is = made pairs set e in
+    ap (λ s. label s name) is.set_is ∙ given_by_set pairs name is.good
 
--- and such an answer is the label set of a stream
-pub stream_answer : (pairs : List Pair) (r : Result LabelSet LabelsError) → AnswersPairs r pairs → IfOk r (λ set. IsTrue (are_stream_labels set))
-stream_answer pairs (Err e) h = tt
-stream_answer pairs (Ok set) h = ⊎_elim (λ e. by_cases (names_are_good pairs) (has_same_name pairs) (nat_lt longest_text (length (canonical_text (label_set_of pairs)))) refl refl refl e) (λ m. absurd (not_memory m.0)) h
-  where
-    not_memory : Ok set ≡ Err Memory → ⊥
-    not_memory e = cc
-
-    by_cases : (good same long : Bool) → names_are_good pairs ≡ good → has_same_name pairs ≡ same → nat_lt longest_text (length (canonical_text (label_set_of pairs))) ≡ long → Ok set ≡ labels_from pairs → are_stream_labels set ≡ true
-    by_cases false same long a b c e = let no : Ok set ≡ Err BadName = e ∙ answer_is pairs false same long a b c in cc
-    by_cases true true long a b c e = let no : Ok set ≡ Err SameName = e ∙ answer_is pairs true true long a b c in cc
-    by_cases true false true a b c e = let no : Ok set ≡ Err TooLong = e ∙ answer_is pairs true false true a b c in cc
-    by_cases true false false a b c e =
-        let same : Ok set ≡ Ok (label_set_of pairs) = e ∙ answer_is pairs true false false a b c in
-        let sets : set ≡ label_set_of pairs = cc in
-        ap are_stream_labels sets ∙ and_from (names_are_good (labels_of (label_set_of pairs))) _ (names-label_set_of is_stream_name pairs (named_from_good pairs a) a) (le-leb _ _ (ltb-false longest_text (length (canonical_text (label_set_of pairs))) c))
+-- and the set is that of a stream
+pub stream_answer : (pairs : List Pair) (set : LabelSet) → labels_from pairs ≡ Ok set → IsTrue (are_stream_labels set)
+stream_answer pairs set e =
+    let is = made pairs set e in
+    ap are_stream_labels is.set_is ∙ and_from (names_are_good (labels_of (label_set_of pairs))) _ (names-label_set_of is_stream_name pairs (named_from_good pairs is.good) is.good) (le-leb _ _ (ltb-false longest_text (length (canonical_text (label_set_of pairs))) is.short))

@@ -1,11 +1,11 @@
 -- What `Labels::from_pairs` answers.
-use Rattle.std.specs.Prelude.{◌≡◌, ◌⊎◌, IsOk, ℕ, Bool, not, nat_lt, List, length, Result, Ok, Err, if◌then◌else◌}
+use Rattle.std.specs.Prelude.{ℕ, Bool, not, nat_lt, List, length, Result, Ok, Err, if◌then◌else◌}
 use Rattle.std.specs.List.{list_all, list_any, count_by}
 use Rattle.rl_labels.specs.Name.{is_text, is_stream_name}
 use Rattle.rl_labels.specs.LabelSet.{Pair, LabelSet, label_set_of}
 use Rattle.rl_labels.specs.LabelText.{canonical_text}
-use Rattle.rl_labels.specs.declared.labels.LabelsError.{LabelsError}
-use Rattle.rl_labels.specs.declared.labels.LabelsError.TheVariants.{BadName, SameName, TooLong, Memory}
+use Rattle.rl_labels.specs.declared.labels.LabelsFault.{LabelsFault}
+use Rattle.rl_labels.specs.declared.labels.LabelsFault.TheVariants.{BadName, SameName, TooLong}
 
 -- each name is one that a stream may have
 abbrev pub names_are_good : List Pair → Bool
@@ -24,13 +24,9 @@ abbrev pub longest_text : ℕ
 longest_text = 4096
 
 -- the label set of the pairs, or the first fault that they have
-unfoldable pub labels_from : List Pair → Result LabelSet LabelsError
+unfoldable pub labels_from : List Pair → Result LabelSet LabelsFault
 labels_from pairs =
     if not (names_are_good pairs) then Err BadName
     else (if has_same_name pairs then Err SameName
     else (if nat_lt longest_text (length (canonical_text (label_set_of pairs))) then Err TooLong
     else Ok (label_set_of pairs)))
-
--- the answer is that of the pairs, or memory ran out where they make a label set
-abbrev pub AnswersPairs : Result LabelSet LabelsError → List Pair → Type 0
-AnswersPairs answer pairs = (answer ≡ labels_from pairs) ⊎ ((answer ≡ Err Memory) × IsOk (labels_from pairs))

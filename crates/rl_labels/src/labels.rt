@@ -1,16 +1,18 @@
 //! Label sets: a finite map from names to values, with its canonical text kept beside it.
-ghost use Rattle.std.specs.Prelude.{◌≡◌, ◌==◌, ◌-◌, ◌≤◌, map, if◌then◌else◌, [], nat_lt, length, not, IsTrue, IfOk, OnOk, SomeIff, ◌++◌, Some, ◌∷◌, List, ℕ, string_bytes};
+ghost use Rattle.std.specs.Prelude.{◌≡◌, ◌==◌, ◌-◌, ◌≤◌, map, if◌then◌else◌, [], nat_lt, length, not, IsTrue, IfOk, IsOk, IsErrOf, OnOk, SomeIff, ◌++◌, Some, ◌∷◌, List, ℕ, string_bytes};
 ghost use Rattle.std.specs.Option.{option_copied};
 ghost use Rattle.std.specs.List.{filter, list_all, flat_map, join_with_byte};
 ghost use Rattle.std.specs.List.Sorted.{IsPermutation, IsSorted};
 ghost use Rattle.std.specs.FinMap.Entries.{find, put, where_key};
 ghost use Rattle.rl_labels.specs.Name.{name_cmp, is_text, is_name, is_name_start, is_name_byte, is_stream_name};
-ghost use Rattle.rl_labels.specs.LabelSet.{are_labels, override};
+ghost use Rattle.rl_labels.specs.LabelSet.{are_labels, label_set_of, override};
 ghost use Rattle.rl_labels.specs.LabelText.{label_text, labels_text};
 ghost use Rattle.rl_labels.specs.Rising.{pair_cmp, rises, has_value};
-ghost use Rattle.rl_labels.specs.Pairs.{AnswersPairs, longest_text, names_are_good};
+ghost use Rattle.rl_labels.specs.Pairs.{labels_from, longest_text, names_are_good};
+ghost use Rattle.rl_plain.specs.Answers.{Answers, Gives};
+ghost use Rattle.rl_plain.specs.declared.refusal.OrMemory.TheVariants.{Fault, Memory};
 
-use rl_plain::{PlainList, PlainText, Same, TryCopy, count_escapes, push_escaped};
+use rl_plain::{OrMemory, PlainList, PlainText, Same, TryCopy, count_escapes, push_escaped};
 use std::alloc::{AllocError, Global};
 use std::cmp::Ordering;
 use std::fmt;
@@ -30,15 +32,24 @@ const ESCAPES: [(u8, u8); 3] = [(b'\\', b'\\'), (b'"', b'"'), (b'\n', b'n')];
 
 /// Why pairs make no label set, the lowest first.
 #[derive(Clone, Copy, Debug, Drop, Error, PartialEq, Eq)]
-pub enum LabelsError {
+pub enum LabelsFault {
     #[error("a label name is not [a-zA-Z_][a-zA-Z0-9_]*, or is __error__")]
     BadName,
     #[error("a label name stands twice")]
     SameName,
     #[error("the labels' text is longer than 4096 bytes")]
     TooLong,
-    #[error("out of memory")]
-    Memory,
+}
+
+/// Why no label set was made.
+pub type LabelsError = OrMemory<LabelsFault>;
+
+impl From<LabelsFault> for LabelsError {
+    ghost from_gives = { λ fault e. e ≡ Fault fault };
+
+    fn from(fault: LabelsFault) -> Self {
+        OrMemory::Fault(fault)
+    }
 }
 
 /// Whether the text is `[a-zA-Z_][a-zA-Z0-9_]*`, the name of a label.
@@ -71,24 +82,25 @@ fn is_stream_name(name: &str) -> bool
     is_label_name(name) && name != ERROR_LABEL
 }
 
-fn labels_from(alloc: Global, mut pairs: Vec<(PlainText, PlainText)>) -> Result<Labels, LabelsError>
-    ensures { AnswersPairs result pairs.items }
+// The labels of the pairs by rising name. The lowest fault is answered.
+fn labels_in(
+    mut pairs: Vec<(PlainText, PlainText)>,
+) -> Result<Vec<(PlainText, PlainText)>, LabelsFault>
+    ensures set { Answers (λ labels. label_set_of labels.items) result (labels_from pairs.items) }
+    ensures by_name { IfOk result (λ labels. IsTrue (are_labels labels.items)) }
 {
     if !names_are_good(&pairs) {
-        return Err(LabelsError::BadName);
+        return Err(LabelsFault::BadName);
     }
     sort_pairs(&mut pairs);
     if !names_rise(&pairs) {
-        return Err(LabelsError::SameName);
+        return Err(LabelsFault::SameName);
     }
     keep_values(&mut pairs);
     if is_long(&pairs) {
-        return Err(LabelsError::TooLong);
+        return Err(LabelsFault::TooLong);
     }
-    match Labels::from_labels(alloc, pairs) {
-        Ok(labels) => Ok(labels),
-        Err(AllocError) => Err(LabelsError::Memory),
-    }
+    Ok(pairs)
 }
 
 // Whether each name is one that a stream may have.
@@ -355,7 +367,7 @@ impl Model for Labels {
 }
 
 impl Labels {
-    ghost use Rattle.rl_labels.specs.LabelSet.{no_labels, with_label, label_set_of, label, labels_of, given};
+    ghost use Rattle.rl_labels.specs.LabelSet.{no_labels, with_label, label, labels_of, given};
     ghost use Rattle.rl_labels.specs.LabelText.{canonical_text};
     ghost use Rattle.rl_labels.specs.EntryParts.{are_stream_labels};
 
@@ -364,11 +376,13 @@ impl Labels {
         alloc: Global,
         pairs: Vec<(PlainText, PlainText)>,
     ) -> Result<Labels, LabelsError>
-        ensures exact { AnswersPairs result pairs.items }
+        ensures exact { Gives (λ labels. labels) result (labels_from pairs.items) }
+        ensures memory { IsErrOf result Memory → IsOk (labels_from pairs.items) }
         ensures of_stream { IfOk result (λ labels. IsTrue (are_stream_labels labels)) }
         ensures given { IfOk result (λ labels. (name : List ℕ) → label labels name ≡ given pairs.items name) }
     {
-        labels_from(alloc, pairs)
+        let labels = labels_in(pairs)?;
+        Ok(Labels::from_labels(alloc, labels)?)
     }
 
     /// The set without labels.

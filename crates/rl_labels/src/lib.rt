@@ -17,7 +17,7 @@ pub mod matcher;
 pub mod ns;
 
 pub use entry::{Entry, EntryFault, RefusedEntry};
-pub use labels::{Labels, LabelsError};
+pub use labels::{Labels, LabelsError, LabelsFault};
 pub use limits::{BadLimit, DEFAULT_LIMITS, LimitField, Limits, RawLimits};
 pub use matcher::{MatchOp, Matcher, MatcherCode, MatcherError};
 pub use ns::Ns;

@@ -6,8 +6,8 @@ ghost use Rattle.std.specs.Prelude.{IsTrue, IfOk};
 ghost use Rattle.rl_labels.specs.EntryParts.{are_stream_labels};
 
 use crate::trouble::Trouble;
-use rl_labels::{Entry, Labels, LabelsError, Ns};
-use rl_plain::PlainText;
+use rl_labels::{Entry, Labels, Ns};
+use rl_plain::{OrMemory, PlainText};
 use std::alloc::Global;
 
 pub(crate) fn number_in(text: &str) -> Result<u64, Trouble> {
@@ -57,7 +57,7 @@ pub(crate) fn labels_in(alloc: Global, text: &str) -> Result<Labels, Trouble>
     let pairs = pairs_in(alloc, text)?;
     match Labels::from_pairs(alloc, pairs) {
         Ok(labels) => Ok(labels),
-        Err(LabelsError::Memory) => Err(Trouble::Memory),
+        Err(OrMemory::Memory) => Err(Trouble::Memory),
         Err(_) => Err(Trouble::BadInput),
     }
 }

@@ -10,7 +10,7 @@ use rl_labels::{
     BadLimit, DEFAULT_LIMITS, Entry, Labels, LabelsError, LimitField, Limits, MatchOp, Matcher,
     MatcherError, Ns, RawLimits,
 };
-use rl_plain::PlainText;
+use rl_plain::{OrMemory, PlainText};
 use std::alloc::Global;
 
 pub(crate) fn answer(alloc: Global, directive: &str, input: &str) -> Result<String, Trouble> {
@@ -47,7 +47,8 @@ fn comparison(alloc: Global, directive: &str, input: &str) -> Result<String, Tro
 fn set(alloc: Global, input: &str) -> Result<String, Trouble> {
     Ok(match Labels::from_pairs(alloc, pairs_in(alloc, input)?) {
         Ok(labels) => format!(in alloc; "{labels} {}", labels.as_text().len())?,
-        Err(fault) => format!(in alloc; "{fault:?}: {fault}")?,
+        Err(OrMemory::Fault(fault)) => format!(in alloc; "{fault:?}: {fault}")?,
+        Err(OrMemory::Memory) => return Err(Trouble::Memory),
     })
 }
 
@@ -170,7 +171,7 @@ fn set_limit(raw: &mut RawLimits, name: &str, number: u64) -> Result<(), Trouble
 
 // The texts of the faults that no input has.
 fn others(alloc: Global) -> Result<String, Trouble> {
-    let memory = LabelsError::Memory;
+    let memory: LabelsError = OrMemory::Memory;
     let field = LimitField::FirstBlob;
     Ok(format!(in alloc; "{memory:?}: {memory}\n{field:?}: {}", BadLimit { field })?)
 }
