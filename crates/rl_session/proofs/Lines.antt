@@ -1,9 +1,10 @@
 -- The lines of a text, and what stands before the first mark.
-use Rattle.std.proofs.Common.{◌≡◌, ◌≢◌, ℕ, ◌-◌, ◌<◌, ◌==◌, true, false, cond, List, [], ◌∷◌, ◌++◌, length, take, get_or, Option, None, Some, refl, sym, ap, ◌∙◌, arith, append_assoc, length-append, unwrap_or, Bor}
+use Rattle.std.proofs.Common.{◌≡◌, ◌≢◌, ℕ, ◌+◌, ◌-◌, ◌<◌, ◌==◌, true, false, cond, List, [], ◌∷◌, ◌++◌, length, take, drop, get_or, Option, None, Some, refl, sym, ap, ◌∙◌, arith, append_assoc, length-append, unwrap_or, Bor}
 use Rattle.std.specs.List.{All, join_with_byte}
 use Rattle.std.specs.Option.{option_copied, option_map}
-use Rattle.std.proofs.lemmas.List.{append-nil, get_or_default}
-use Rattle.std.proofs.lemmas.Bool.{ne_eqb}
+use Rattle.memchr.specs.Find.{IsFirstByte, is_byte}
+use Rattle.std.proofs.lemmas.List.{append-nil, get_or_default, get_or-take, length-take, take-append-drop, take_more}
+use Rattle.std.proofs.lemmas.Bool.{eqb-true, ne_eqb}
 use Rattle.std.proofs.Math.Seq.{take-append_seam}
 use Rattle.std.proofs.lemmas.List.Splits.{slice_split_at, slice_split_none, join_with_byte-slice_split}
 use Rattle.rl_session.specs.Front.{lines_of, IsFirstLine, is_mark, behind_line, front_of_lines, front_of}
@@ -13,7 +14,7 @@ no_feeds : (text : List ℕ) → ((i : ℕ) → i < length text → get_or text 
 no_feeds text none k d inside = ne_eqb (get_or text k d) 10 (λ feed. none k inside (get_or_default text k 0 d inside ∙ feed))
 
 -- a text without line feeds is one line
-pub lines_of-one : (text : List ℕ) → ((i : ℕ) → i < length text → get_or text i 0 ≢ 10) → lines_of text ≡ text ∷ []
+lines_of-one : (text : List ℕ) → ((i : ℕ) → i < length text → get_or text i 0 ≢ 10) → lines_of text ≡ text ∷ []
 lines_of-one text none = slice_split_none (λ byte. byte == 10) text (no_feeds text none)
 
 -- a line, and the lines behind its line feed
@@ -21,8 +22,25 @@ pub lines_of-next : (line behind : List ℕ) → ((i : ℕ) → i < length line 
 lines_of-next line behind none = slice_split_at (λ byte. byte == 10) line 10 behind (no_feeds line none) refl
 
 -- the first line of a text with a line feed
-pub IsFirstLine-next : (text line behind : List ℕ) → (text ≡ line ++ 10 ∷ behind) × ((i : ℕ) → i < length line → get_or line i 0 ≢ 10) → IsFirstLine text line (Some behind)
+IsFirstLine-next : (text line behind : List ℕ) → (text ≡ line ++ 10 ∷ behind) × ((i : ℕ) → i < length line → get_or line i 0 ≢ 10) → IsFirstLine text line (Some behind)
 IsFirstLine-next text line behind parts = (ap lines_of parts.0 ∙ lines_of-next line behind parts.1, parts.0)
+
+-- a search for a line feed that finds none
+pub lines_of-none : (text : List ℕ) → IsFirstByte (is_byte 10) text None → lines_of text ≡ text ∷ []
+lines_of-none text none = lines_of-one text (λ i below feed. none i (omega arith) below (ap (λ byte. byte == 10) feed))
+
+-- what is found is ASCII
+pub found_ascii : (text : List ℕ) (at : ℕ) → IsFirstByte (is_byte 10) text (Some at) → get_or text at 0 < 128
+found_ascii text at found = let feed : get_or text at 0 ≡ 10 = eqb-true (get_or text at 0) 10 found.1 in omega (arith, feed)
+
+-- the first line ends at the first line feed that is found
+pub IsFirstLine-at : (text : List ℕ) (at : ℕ) → IsFirstByte (is_byte 10) text (Some at) → IsFirstLine text (take at text) (Some (drop (at + 1) text))
+IsFirstLine-at text at found =
+    let feed : get_or text at 0 ≡ 10 = eqb-true (get_or text at 0) 10 found.1 in
+    let split = sym (take-append-drop (at + 1) text) ∙ ap (λ front. front ++ drop (at + 1) text) (take_more text at 0 found.0.high ∙ ap (λ byte. take at text ++ byte ∷ []) feed) ∙ append_assoc (take at text) (10 ∷ []) (drop (at + 1) text) in
+    IsFirstLine-next text (take at text) (drop (at + 1) text) (split, λ i below same.
+      let before : i < at = omega (arith, length-take at text, below) in
+      found.0.before i (omega arith) before (ap (λ byte. byte == 10) (sym (get_or-take at text i 0 before) ∙ same)))
 
 -- lines of a document in front of what is found
 abbrev pub in_front : List ℕ → List ℕ × List ℕ → List ℕ × List ℕ

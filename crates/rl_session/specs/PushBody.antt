@@ -12,7 +12,7 @@ use Rattle.rl_labels.specs.LabelSet.{Pair, LabelSet}
 use Rattle.rl_labels.specs.Pairs.{labels_from}
 use Rattle.rl_labels.specs.EntryParts.{has_no_label, longest_line}
 use Rattle.rl_labels.specs.Quantity.{greatest_moment}
-use Rattle.rl_labels.specs.declared.labels.LabelsError.{LabelsError}
+use Rattle.rl_labels.specs.declared.labels.LabelsFault.{LabelsFault}
 use Rattle.rl_session.specs.PushForms.{EntryForm, ValueParts}
 use Rattle.rl_session.specs.declared.push.PushFault.{PushFault}
 use Rattle.rl_session.specs.declared.push.PushFault.TheVariants as faults
@@ -47,7 +47,7 @@ pairs_of (member name value members) = do
   Ok (first ∷ others)
 
 -- a label set that a stream may have
-abbrev pub stream_labels : Result LabelSet LabelsError → Result LabelSet PushFault
+abbrev pub stream_labels : Result LabelSet LabelsFault → Result LabelSet PushFault
 stream_labels (Ok labels) = if has_no_label labels then Err faults.Label else Ok labels
 stream_labels (Err _) = Err faults.Label
 
@@ -58,11 +58,6 @@ labels_of found = do
   pairs ← pairs_of members
   stream_labels (labels_from pairs)
 
--- the text that comes first, and what stands behind it
-abbrev pub first_text : Items → Result (List ℕ × Items) PushFault
-first_text no_items = Err faults.Shape
-first_text (item value rest) = required faults.Shape (as_str value) >>= λ text. Ok (text, rest)
-
 -- what stands behind the line: metadata, or nothing
 abbrev pub metadata_in : Items → Result (Option Data) PushFault
 metadata_in no_items = Ok None
@@ -71,11 +66,12 @@ metadata_in _ = Err faults.Shape
 
 -- a time and a line as texts, and metadata
 abbrev pub parts_in : Items → Result ValueParts PushFault
-parts_in items = do
-  time ← first_text items
-  line ← first_text time.1
-  metadata ← metadata_in line.1
-  Ok (record { time = time.0; line = line.0; metadata = metadata })
+parts_in (item time (item line rest)) = do
+  time ← required faults.Shape (as_str time)
+  line ← required faults.Shape (as_str line)
+  metadata ← metadata_in rest
+  Ok (record { time = time; line = line; metadata = metadata })
+parts_in _ = Err faults.Shape
 
 -- the parts of a value
 abbrev pub parts_of : Data → Result ValueParts PushFault

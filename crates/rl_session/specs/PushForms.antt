@@ -21,4 +21,4 @@ pub record ValueParts : Type 0 where
   pub metadata : Option Data
 
 abbrev pub parts_form : Parts → ValueParts
-parts_form parts = record { time = parts.time; line = parts.line; metadata = option_map view parts.metadata }
+parts_form parts = record { time = parts.time.now; line = parts.line.now; metadata = option_map (λ value. view value.now) parts.metadata }

@@ -15,6 +15,7 @@ mod fault;
 
 pub use commands::Commands;
 pub use fault::{FrontError, FrontFault};
+use memchr::memchr;
 use rl_rules::{Group, RulesError, read_rules};
 use std::alloc::Global;
 use std::io::{ErrorKind, Read};
@@ -142,8 +143,8 @@ pub(crate) fn split_front(text: &str) -> Option<(&str, &str)>
 pub(crate) fn first_line(text: &str) -> (&str, Option<&str>)
     ensures { IsFirstLine text.now result.0.now (option_copied result.1) }
 {
-    match text.split_once('\n') {
-        Some((line, behind)) => (line, Some(behind)),
+    match memchr(b'\n', text.as_bytes()) {
+        Some(at) => (&text[..at], Some(&text[at + 1..])),
         None => (text, None),
     }
 }

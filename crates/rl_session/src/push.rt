@@ -1,7 +1,6 @@
 //! Push bodies: log entries from the JSON that a Loki client sends.
 ghost use Rattle.std.specs.Prelude.{◌≡◌, IsTrue, IfOk, codes, map, option_map, string_bytes};
 ghost use Rattle.std.specs.List.{list_all};
-ghost use Rattle.std.specs.Vec.Iter.{into_iter_items};
 ghost use Rattle.std.specs.Char.{is_ascii_digit};
 ghost use Rattle.serde_json.specs.View.{view, items_view, members_view};
 ghost use Rattle.serde_json.specs.Find.{get, as_str, as_object};
@@ -9,14 +8,13 @@ ghost use Rattle.rl_plain.specs.Answers.{Gives, Answers, with_front};
 ghost use Rattle.rl_plain.specs.declared.refusal.OrMemory.TheVariants.{Fault};
 ghost use Rattle.rl_labels.specs.EntryParts.{is_stream};
 ghost use Rattle.rl_session.specs.PushForms.{entry_form, parts_form};
-ghost use Rattle.rl_session.specs.PushBody.{entries_of, document_of, array_of, object_of, pair_of, pairs_of, labels_of, first_text, metadata_in, parts_in, parts_of, required, is_time, moment_of, is_empty_object, has_no_metadata, entry_of, value_entry, entries_from, stream_entries, streams_entries};
+ghost use Rattle.rl_session.specs.PushBody.{entries_of, document_of, array_of, object_of, pair_of, pairs_of, labels_of, metadata_in, parts_in, parts_of, required, is_time, moment_of, is_empty_object, has_no_metadata, entry_of, value_entry, entries_from, stream_entries, streams_entries};
 
 use rl_labels::entry::MAX_LINE_LEN;
-use rl_labels::{Entry, Labels, LabelsError, Ns};
+use rl_labels::{Entry, Labels, Ns};
 use rl_plain::{OrMemory, PlainText, TryCopy};
 use serde_json::{Map, Value};
 use std::alloc::Global;
-use std::vec::IntoIter;
 use thiserror::Error;
 
 /// Why a push body is refused: the first fault that it has.
@@ -48,11 +46,11 @@ impl From<PushFault> for PushError {
 }
 
 // What a value has, before it is looked at.
-#[derive(Drop)]
-struct Parts {
-    time: PlainText,
-    line: PlainText,
-    metadata: Option<Value>,
+#[derive(Clone, Copy)]
+struct Parts<'a> {
+    time: &'a str,
+    line: &'a str,
+    metadata: Option<&'a Value>,
 }
 
 /// The entries of a push body in its order, unless it has a fault.
@@ -140,32 +138,34 @@ fn push_stream(alloc: Global, entries: &mut Vec<Entry>, stream: Value) -> Result
     let (labels, values) = stream_parts(stream);
     let labels = labels_of(alloc, labels)?;
     let values = array_of(values)?;
-    push_values(entries, &labels, values)
+    push_values(alloc, entries, &labels, &values)
 }
 
 // Adds the entry of each value, with the labels.
 fn push_values(
+    alloc: Global,
     entries: &mut Vec<Entry>,
     labels: &Labels,
-    values: Vec<Value>,
+    values: &[Value],
 ) -> Result<(), PushError>
     requires { IsTrue (is_stream labels.now) }
-    ensures { Gives (λ _. map entry_form entries.new.items) result (with_front (map entry_form entries.old.items) (entries_from labels.now (items_view values.items))) }
+    ensures { Gives (λ _. map entry_form entries.new.items) result (with_front (map entry_form entries.old.items) (entries_from labels.now (items_view values.now))) }
 {
+    entries.reserve(values.len())?;
     for value in values {
-        let entry = value_entry(labels, value)?;
+        let entry = value_entry(alloc, labels, value)?;
         entries.push(entry)?;
     }
     Ok(())
 }
 
 // The entry of a value, with the labels.
-fn value_entry(labels: &Labels, value: Value) -> Result<Entry, PushError>
+fn value_entry(alloc: Global, labels: &Labels, value: &Value) -> Result<Entry, PushError>
     requires { IsTrue (is_stream labels.now) }
-    ensures { Gives entry_form result (value_entry labels.now (view value)) }
+    ensures { Gives entry_form result (value_entry labels.now (view value.now)) }
 {
     let parts = parts_of(value)?;
-    entry_of(labels, parts)
+    entry_of(alloc, labels, parts)
 }
 
 // The labels that were found.
@@ -177,8 +177,8 @@ fn labels_of(alloc: Global, found: Option<Value>) -> Result<Labels, PushError>
     match Labels::from_pairs(alloc, pairs) {
         Ok(labels) if labels.pairs().is_empty() => Err(OrMemory::Fault(PushFault::Label)),
         Ok(labels) => Ok(labels),
-        Err(LabelsError::Memory) => Err(OrMemory::Memory),
-        Err(_) => Err(OrMemory::Fault(PushFault::Label)),
+        Err(OrMemory::Memory) => Err(OrMemory::Memory),
+        Err(OrMemory::Fault(_)) => Err(OrMemory::Fault(PushFault::Label)),
     }
 }
 
@@ -201,38 +201,32 @@ fn pairs_of(
 fn pair_of(name: String, value: Value) -> Result<(PlainText, PlainText), PushFault>
     ensures { Answers (λ pair. pair) result (pair_of (string_bytes name) (view value)) }
 {
-    let text = text_of(value)?;
-    Ok((PlainText::from_string(name), text))
-}
-
-// The text that a value is.
-fn text_of(value: Value) -> Result<PlainText, PushFault>
-    ensures { Answers (λ text. text) result (required PushFault.Shape (as_str (view value))) }
-{
     match value {
-        Value::String(text) => Ok(PlainText::from_string(text)),
+        Value::String(text) => Ok((PlainText::from_string(name), PlainText::from_string(text))),
         _ => Err(PushFault::Shape),
     }
 }
 
 // The parts of a value.
-fn parts_of(value: Value) -> Result<Parts, PushFault>
-    ensures { Answers parts_form result (parts_of (view value)) }
+fn parts_of(value: &Value) -> Result<Parts<'_>, PushFault>
+    ensures { Answers parts_form result (parts_of (view value.now)) }
 {
-    match value {
-        Value::Array(items) => parts_in(items),
-        _ => Err(PushFault::Shape),
+    match value.as_array() {
+        Some(items) => parts_in(items.as_slice()),
+        None => Err(PushFault::Shape),
     }
 }
 
 // A time and a line as texts, and metadata.
-fn parts_in(items: Vec<Value>) -> Result<Parts, PushFault>
-    ensures { Answers parts_form result (parts_in (items_view items.items)) }
+fn parts_in(items: &[Value]) -> Result<Parts<'_>, PushFault>
+    ensures { Answers parts_form result (parts_in (items_view items.now)) }
 {
-    let mut items = items.into_iter();
-    let time = first_text(&mut items)?;
-    let line = first_text(&mut items)?;
-    let metadata = metadata_in(items)?;
+    let [time, line, rest @ ..] = items else {
+        return Err(PushFault::Shape);
+    };
+    let time = text_of(time)?;
+    let line = text_of(line)?;
+    let metadata = metadata_in(rest)?;
     Ok(Parts {
         time,
         line,
@@ -240,43 +234,40 @@ fn parts_in(items: Vec<Value>) -> Result<Parts, PushFault>
     })
 }
 
-// The text that comes first, and leaves what stands behind it.
-fn first_text(items: &mut IntoIter<Value>) -> Result<PlainText, PushFault>
-    ensures { Answers (λ text. (text, items_view (into_iter_items items.new))) result (first_text (items_view (into_iter_items items.old))) }
+// The text that a value is.
+fn text_of(value: &Value) -> Result<&str, PushFault>
+    ensures { Answers (λ text. text.now) result (required PushFault.Shape (as_str (view value.now))) }
 {
-    match items.next() {
-        Some(value) => text_of(value),
-        None => Err(PushFault::Shape),
-    }
+    value.as_str().ok_or(PushFault::Shape)
 }
 
 // What stands behind the line: metadata, or nothing.
-fn metadata_in(mut items: IntoIter<Value>) -> Result<Option<Value>, PushFault>
-    ensures { Answers (option_map view) result (metadata_in (items_view (into_iter_items items))) }
+fn metadata_in(rest: &[Value]) -> Result<Option<&Value>, PushFault>
+    ensures { Answers (option_map (λ value. view value.now)) result (metadata_in (items_view rest.now)) }
 {
-    let metadata = items.next();
-    match items.next() {
-        Some(_) => Err(PushFault::Shape),
-        None => Ok(metadata),
+    match rest {
+        [] => Ok(None),
+        [metadata] => Ok(Some(metadata)),
+        _ => Err(PushFault::Shape),
     }
 }
 
-// The entry of a value's parts, with the labels.
-fn entry_of(labels: &Labels, parts: Parts) -> Result<Entry, PushError>
+// The entry of a value's parts, with the labels. The line is copied, so that the document goes back as a whole.
+fn entry_of(alloc: Global, labels: &Labels, parts: Parts<'_>) -> Result<Entry, PushError>
     requires { IsTrue (is_stream labels.now) }
-    ensures { Gives entry_form result (entry_of labels.now (parts_form parts)) }
+    ensures { Gives entry_form result (entry_of labels.now (parts_form parts.entry)) }
 {
-    let timestamp = moment_of(parts.time.as_str())?;
+    let timestamp = moment_of(parts.time)?;
     if parts.line.len() > MAX_LINE_LEN {
         return Err(OrMemory::Fault(PushFault::Line));
     }
-    if !has_no_metadata(parts.metadata.as_ref()) {
+    if !has_no_metadata(parts.metadata) {
         return Err(OrMemory::Fault(PushFault::Metadata));
     }
     Ok(Entry {
         labels: labels.try_copy()?,
         timestamp,
-        line: parts.line,
+        line: PlainText::from_str(alloc, parts.line)?,
     })
 }
 

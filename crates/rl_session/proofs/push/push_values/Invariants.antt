@@ -1,5 +1,5 @@
 -- The entries so far, and those of the values that are left.
-use Rattle.std.proofs.Common.{◌≡◌, map}
+use Rattle.std.proofs.Common.{◌≡◌, map, drop}
 use Rattle.serde_json.specs.View.{items_view}
 use Rattle.rl_plain.specs.Answers.{with_front}
 use Rattle.rl_session.specs.PushForms.{entry_form}
@@ -8,4 +8,4 @@ use Rattle.rl_session.proofs.push.push_values.Given as goal
 
 abbrev pub invariant-loop-value : goal.invariant-loop-value
 invariant-loop-value l =
-    with_front (map entry_form l.entries.items) (entries_from l.labels (items_view l.value-iterator.rest.items)) ≡ with_front (map entry_form l.initial.entries.items) (entries_from l.labels (items_view l.fn.values.items))
+    with_front (map entry_form l.entries.items) (entries_from l.labels (items_view (drop l.value-index l.values))) ≡ with_front (map entry_form l.initial.entries.items) (entries_from l.labels (items_view l.values))
