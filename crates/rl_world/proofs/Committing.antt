@@ -14,7 +14,8 @@ use Rattle.rl_world.specs.WorldState.{BookState, IsBookOf, kept_open, world_of}
 use Rattle.rl_labels.specs.declared.entry.Entry.{Entry}
 use Rattle.rl_world.specs.laws.ShownLaws.{kept_evaluation}
 use Rattle.rl_world.specs.WorldStep.{WorldStep, partials}
-use Rattle.rl_world.specs.declared.fault.BookError.{BookError}
+use Rattle.rl_plain.specs.declared.refusal.OrMemory.{OrMemory}
+use Rattle.rl_world.specs.declared.fault.BookFault.{BookFault}
 use Rattle.rl_world.specs.declared.fault.Refusal.{Refusal}
 use Rattle.rl_world.specs.declared.fault.Refusal.TheVariants as refusals
 use Rattle.rl_world.specs.WorldStep.{told_of_book}
@@ -91,7 +92,7 @@ from_scratch history evaluation opened shown made is kept = made ∙ ap (evaluat
     some_is a b h = cc
 
 -- a book that committed, or refused, is still one of its world
-pub fits_commit : (n : ℕ) (result : Result Committed BookError) (book after : BookState) → IsBookOf n book → OnOk result ((after.shards ≡ book.shards) × (after.slot ≡ book.slot)) → OnOk result (AllOffered after.history.evaluations book.sinks after.sinks) → OnErr result (after ≡ book) → IsBookOf n after
+pub fits_commit : (n : ℕ) (result : Result Committed (OrMemory BookFault)) (book after : BookState) → IsBookOf n book → OnOk result ((after.shards ≡ book.shards) × (after.slot ≡ book.slot)) → OnOk result (AllOffered after.history.evaluations book.sinks after.sinks) → OnErr result (after ≡ book) → IsBookOf n after
 fits_commit n (Ok answer) book after fits rest offered err = (rest.0 ∙ fits.0, each_took_offered after.history.evaluations book.sinks after.sinks offered)
 fits_commit n (Err error) book after fits rest offered err = subst (IsBookOf n) (sym err) fits
 
@@ -114,6 +115,6 @@ module _ (shards : List Journalled) (books : List BookState) (group : ℕ) (book
         },
       )
 
-  pub commit_refused : (error : BookError) (refusal : Refusal) → Answers {A = Committed} (commit_fault book.history) (Err error) → refusal ≡ told_of_book error → after ≡ book
+  pub commit_refused : (error : OrMemory BookFault) (refusal : Refusal) → Answers {A = Committed} (commit_fault book.history) (Err error) → refusal ≡ told_of_book error → after ≡ book
       → WorldStep partials (world_of shards books) (steps.Commit group) (replies.Refused refusal) (world_of shards (slice_set books group after))
   commit_refused error refusal answer refusal_is after_is = book_refused shards books Committed group (steps.Commit group) (commit_fault book.history) error refusal book after there (commit_refusal shards books group book there) refl answer refusal_is after_is

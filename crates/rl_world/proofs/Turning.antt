@@ -16,8 +16,8 @@ use Rattle.rl_world.specs.WorldRun.{told}
 use Rattle.rl_world.specs.WorldState.{BookState, world_of}
 use Rattle.rl_world.specs.WorldStep.{WorldStep, MayRefuse, partials, known, journal_refusal, refusal_of, takes_memory, may_want, told_of_shard, told_of_book}
 use Rattle.rl_world.specs.declared.fault.BookFault.{BookFault}
-use Rattle.rl_world.specs.declared.fault.BookError.{BookError}
-use Rattle.rl_world.specs.declared.fault.BookError.TheVariants as errors
+use Rattle.rl_plain.specs.declared.refusal.OrMemory.{OrMemory}
+use Rattle.rl_plain.specs.declared.refusal.OrMemory.TheVariants as errors
 use Rattle.rl_world.specs.declared.fault.Refusal.{Refusal}
 use Rattle.rl_world.specs.declared.fault.Refusal.TheVariants as refusals
 use Rattle.rl_world.specs.declared.step.Step.{Step}
@@ -58,7 +58,7 @@ pub err_is : {A E : Type 0} (e f : E) → ◌≡◌ {A = Result A E} (Err e) (Er
 err_is e f h = cc
 
 -- what a call of a book that took memory was refused for
-answered_err : (A : Type 0) (fault : Option BookFault) (error : BookError) → Answers {A = A} fault (Err error) → (option_map refusals.Book fault ≡ Some (told_of_book error)) ⊎ ((told_of_book error ≡ refusals.Memory) × (fault ≡ None))
+answered_err : (A : Type 0) (fault : Option BookFault) (error : OrMemory BookFault) → Answers {A = A} fault (Err error) → (option_map refusals.Book fault ≡ Some (told_of_book error)) ⊎ ((told_of_book error ≡ refusals.Memory) × (fault ≡ None))
 answered_err A (Some f) error h = inl (ap (λ e. Some (told_of_book e)) (sym (err_is error (errors.Fault f) h)))
 answered_err A None error h = inr (ap told_of_book h, refl)
 
@@ -121,7 +121,7 @@ module _ (shards : List Journalled) (books : List BookState) where
   book_kept group book after there after_is = ap (world_of shards) (ap (slice_set books group) after_is ∙ set_same books group book there)
 
   -- a call of a book that takes memory was refused
-  pub book_refused : (A : Type 0) (group : ℕ) (step : Step) (fault : Option BookFault) (error : BookError) (refusal : Refusal) (book after : BookState) → slice_get books group ≡ Some book
+  pub book_refused : (A : Type 0) (group : ℕ) (step : Step) (fault : Option BookFault) (error : OrMemory BookFault) (refusal : Refusal) (book after : BookState) → slice_get books group ≡ Some book
       → refusal_of (world_of shards books) step ≡ option_map refusals.Book fault → takes_memory step ≡ true → Answers {A = A} fault (Err error) → refusal ≡ told_of_book error → after ≡ book
       → WorldStep partials (world_of shards books) step (replies.Refused refusal) (world_of shards (slice_set books group after))
   book_refused A group step fault error refusal book after there first takes answer refusal_is after_is = (
@@ -157,7 +157,7 @@ module _ (shards : List Journalled) (books : List BookState) where
       now : after.history ≡ begun (length shards) book.history t
       now = ap (λ (b : BookState). b.history) after_is ∙ ap (λ n. begun n book.history t) many
 
-  pub begin_refused : (group t : ℕ) (book after : BookState) (error : BookError) (refusal : Refusal) → slice_get books group ≡ Some book
+  pub begin_refused : (group t : ℕ) (book after : BookState) (error : OrMemory BookFault) (refusal : Refusal) → slice_get books group ≡ Some book
       → Answers {A = Unit {0}} (begin_fault book.history t) (Err error) → refusal ≡ told_of_book error → after ≡ book
       → WorldStep partials (world_of shards books) (steps.Begin group t) (replies.Refused refusal) (world_of shards (slice_set books group after))
   begin_refused group t book after error refusal there answer refusal_is after_is = book_refused (Unit {0}) group (steps.Begin group t) (begin_fault book.history t) error refusal book after there (begin_refusal group t book there) refl answer refusal_is after_is

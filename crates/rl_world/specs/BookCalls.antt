@@ -6,8 +6,8 @@ use Rattle.rl_sinks.specs.SinkState.{SinkState}
 use Rattle.rl_world.specs.History.{History}
 use Rattle.rl_world.specs.WorldState.{BookState}
 use Rattle.rl_world.specs.declared.fault.BookFault.{BookFault}
-use Rattle.rl_world.specs.declared.fault.BookError.{BookError}
-use Rattle.rl_world.specs.declared.fault.BookError.TheVariants as errors
+use Rattle.rl_plain.specs.declared.refusal.OrMemory.{OrMemory}
+use Rattle.rl_plain.specs.declared.refusal.OrMemory.TheVariants as errors
 
 -- a sink that has taken nothing
 abbrev pub IsFresh : SinkState → Type 0
@@ -38,7 +38,7 @@ Refuses None (Ok answer) = Unit {0}
 Refuses None (Err fault) = ⊥
 
 -- a call that takes memory is refused exactly for the fault, where there is one, and else may want for memory
-abbrev pub Answers : {A : Type 0} → Option BookFault → Result A BookError → Type 0
+abbrev pub Answers : {A : Type 0} → Option BookFault → Result A (OrMemory BookFault) → Type 0
 Answers (Some fault) result = result ≡ Err (errors.Fault fault)
 Answers None (Ok answer) = Unit {0}
 Answers None (Err error) = error ≡ errors.Memory

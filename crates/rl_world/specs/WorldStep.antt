@@ -16,8 +16,9 @@ use Rattle.rl_world.specs.Evaluating.{group_terms, evaluation_of, evaluation_fro
 use Rattle.rl_world.specs.History.{History, begin_fault, gather_fault, commit_fault, abandon_fault, begun, gathered, committed, abandoned}
 use Rattle.rl_world.specs.WorldState.{WorldState}
 use Rattle.rl_world.specs.declared.opened.OpenEvaluation.{OpenEvaluation}
-use Rattle.rl_world.specs.declared.fault.BookError.{BookError}
-use Rattle.rl_world.specs.declared.fault.BookError.TheVariants as errors
+use Rattle.rl_plain.specs.declared.refusal.OrMemory.{OrMemory}
+use Rattle.rl_world.specs.declared.fault.BookFault.{BookFault}
+use Rattle.rl_plain.specs.declared.refusal.OrMemory.TheVariants as errors
 use Rattle.rl_world.specs.declared.fault.Refusal.{Refusal}
 use Rattle.rl_world.specs.declared.fault.Refusal.TheVariants as refusals
 use Rattle.rl_world.specs.declared.step.Committed.{Committed}
@@ -56,7 +57,7 @@ abbrev pub told_of_shard : ShardFault → Refusal
 told_of_shard shard_faults.JournalFull = refusals.JournalFull
 told_of_shard shard_faults.Memory = refusals.Memory
 
-abbrev pub told_of_book : BookError → Refusal
+abbrev pub told_of_book : OrMemory BookFault → Refusal
 told_of_book (errors.Fault fault) = refusals.Book fault
 told_of_book errors.Memory = refusals.Memory
 

@@ -1,9 +1,9 @@
 //! Why a book or a world refuses.
 ghost use Rattle.std.specs.Prelude.{◌≡◌};
-ghost use Rattle.rl_world.specs.declared.fault.BookError.TheVariants.{Memory};
+ghost use Rattle.rl_plain.specs.declared.refusal.OrMemory.TheVariants.{Fault};
 
 use rl_labels::Ns;
-use std::alloc::{AllocError, AllocFailed};
+use rl_plain::OrMemory;
 use thiserror::Error;
 
 /// Why a book refused a call, which left it as it was.
@@ -25,27 +25,13 @@ pub enum BookFault {
 }
 
 /// A fault of a book, or want of memory. Either left it as it was.
-#[derive(Clone, Copy, Debug, Drop, Error, PartialEq, Eq)]
-pub enum BookError {
-    #[error("{0}")]
-    Fault(BookFault),
-    #[error("out of memory")]
-    Memory,
-}
+pub type BookError = OrMemory<BookFault>;
 
-impl From<AllocError> for BookError {
-    ghost from_gives = { λ _ e. e ≡ Memory };
+impl From<BookFault> for BookError {
+    ghost from_gives = { λ fault e. e ≡ Fault fault };
 
-    fn from(_error: AllocError) -> Self {
-        BookError::Memory
-    }
-}
-
-impl<T: Drop> From<AllocFailed<T>> for BookError {
-    ghost from_gives = { λ _ e. e ≡ Memory };
-
-    fn from(_error: AllocFailed<T>) -> Self {
-        BookError::Memory
+    fn from(fault: BookFault) -> Self {
+        OrMemory::Fault(fault)
     }
 }
 
