@@ -5,7 +5,7 @@ ghost use Rattle.rl_world.specs.BookCalls.{IsFresh};
 
 use rl_labels::{DEFAULT_LIMITS, Limits, Ns};
 use rl_rules::read_rules;
-use rl_session::{RunError, Status, read_push, run_commands};
+use rl_session::{RunError, Session, Status, read_push};
 use rl_shard::ShardStep;
 use rl_sinks::{Recorder, Sink};
 use rl_world::{Committed, Reply, Step, World};
@@ -111,7 +111,8 @@ pub(crate) fn session(
     let groups = vec![in alloc; read_rules(alloc, RULES).ok()?.pop()?].ok()?;
     let sinks = one(alloc, one(alloc, Recorder::new(alloc, sink, 8))?)?;
     let limits = Limits::check(DEFAULT_LIMITS).ok()?;
-    Some(run_commands(alloc, limits, groups, text, sinks, out))
+    let mut session = Session::open(alloc, limits, groups, sinks).ok()?;
+    Some(session.run_commands(text, out))
 }
 
 /// A full disk.

@@ -1,17 +1,19 @@
 -- Definitions, computed where no running session shows them.
 use Rattle.std.specs.Prelude.{codes}
 use Rattle.std.specs.Fmt.{digits}
-use Rattle.std.proofs.Common.{◌≡◌, List, [], ◌∷◌, Some, Ok, Err, inl, inr, refl, arith}
-use Rattle.rl_world.specs.BookCalls.{new_book}
-use Rattle.rl_world.specs.WorldState.{BookState, WorldBooks}
+use Rattle.std.proofs.Common.{◌≡◌, ℕ, false, List, [], ◌∷◌, Some, Ok, Err, inl, refl, sym, subst, arith}
 use Rattle.rl_world.specs.declared.fault.BookFault.TheVariants as books
 use Rattle.rl_world.specs.declared.fault.Refusal.TheVariants as refusals
+use Rattle.rl_world.specs.declared.step.Reply.TheVariants as replies
+use Rattle.rl_session.specs.Command.{pushes, evaluates}
 use Rattle.rl_session.specs.Front.{IsCut}
 use Rattle.rl_session.specs.Names.{refusal_name}
+use Rattle.rl_session.specs.PushBody.{entries_of}
 use Rattle.rl_session.specs.PushForms.{EntryForm}
 use Rattle.rl_session.specs.Reading.{Reads, Tells}
-use Rattle.rl_session.specs.Session.{group_number, TellsPush, TellsEval}
-use Rattle.rl_session.specs.declared.session.Answer.TheVariants.{Refused}
+use Rattle.rl_session.specs.Session.{IsForPush, IsTold, AreLinesTold, committed_of}
+use Rattle.rl_session.specs.declared.session.Answer.TheVariants.{Refused, Ended}
+use Rattle.rl_session.specs.declared.session.Got.TheVariants as gots
 use Rattle.rl_session.specs.declared.front.fault.FrontFault.TheVariants as fronts
 
 cut_round_a_mark : IsCut (codes "d\n%%\nc") (codes "d\n", codes "c")
@@ -32,15 +34,15 @@ not_told_past_the_longest told = absurd (omega (arith, told.0))
 name_of_a_busy_book : refusal_name (refusals.Book books.Busy) ≡ codes "Busy"
 name_of_a_busy_book = refl
 
-abbrev two_books : List BookState
-two_books = new_book 0 8 1 (record { name = codes "g"; rules = [] }) [] ∷ new_book 1 8 1 (record { name = codes "h"; rules = [] }) [] ∷ []
+first_refusal : committed_of (replies.Begun ∷ replies.Refused refusals.NoSuch ∷ replies.Refused refusals.Memory ∷ []) ≡ Some (Err refusals.NoSuch)
+first_refusal = refl
 
-number_of_the_second_group : group_number (codes "h") two_books ≡ Some 1
-number_of_the_second_group = refl
-
-push_without_memory : (start : WorldBooks) (form : EntryForm) → TellsPush start (Ok (form ∷ [])) (codes "accepted 0 refused 1\n  0 Memory\n") Refused start
+push_without_memory : (json : List ℕ) (form : EntryForm) → entries_of json ≡ Ok (form ∷ []) → IsTold (Some (pushes json)) (codes "accepted 0 refused 1\n  0 Memory\n") Refused
 unfolding digits
-push_without_memory start form = inr (inr (refl, refl), refl)
+push_without_memory json form read = (gots.Unpushed 1, subst (λ read. IsForPush read (gots.Unpushed 1)) (sym read) refl, (refl, refl))
 
-evaluation_without_memory : (start : WorldBooks) → TellsEval start 5 (Some 0) (codes "refused Memory\n") Refused start
-evaluation_without_memory start = (Err refusals.Memory, inr (refl, refl), (refl, refl))
+evaluation_without_memory : (group : List ℕ) → IsTold (Some (evaluates 5 group)) (codes "refused Memory\n") Refused
+evaluation_without_memory group = (gots.Evaluated (Err refusals.Memory), tt, (refl, refl))
+
+nothing_told_behind_an_end : AreLinesTold (codes "end" ∷ codes "nonsense" ∷ []) [] false
+nothing_told_behind_an_end = ([], Ended, (refl, refl), (refl, refl))

@@ -38,9 +38,12 @@ pub IsFirstLine-at : (text : List ℕ) (at : ℕ) → IsFirstByte (is_byte 10) t
 IsFirstLine-at text at found =
     let feed : get_or text at 0 ≡ 10 = eqb-true (get_or text at 0) 10 found.1 in
     let split = sym (take-append-drop (at + 1) text) ∙ ap (λ front. front ++ drop (at + 1) text) (take_more text at 0 found.0.high ∙ ap (λ byte. take at text ++ byte ∷ []) feed) ∙ append_assoc (take at text) (10 ∷ []) (drop (at + 1) text) in
-    IsFirstLine-next text (take at text) (drop (at + 1) text) (split, λ i below same.
-      let before : i < at = omega (arith, length-take at text, below) in
-      found.0.before i (omega arith) before (ap (λ byte. byte == 10) (sym (get_or-take at text i 0 before) ∙ same)))
+    IsFirstLine-next text (take at text) (drop (at + 1) text) (
+      split,
+      λ i below same.
+          let before : i < at = omega (arith, length-take at text, below) in
+          found.0.before i (omega arith) before (ap (λ byte. byte == 10) (sym (get_or-take at text i 0 before) ∙ same)),
+    )
 
 -- lines of a document in front of what is found
 abbrev pub in_front : List ℕ → List ℕ × List ℕ → List ℕ × List ℕ

@@ -1,6 +1,6 @@
 -- What a session prints, where the bytes that its writer holds are known.
-use Rattle.std.specs.Prelude.{ℕ, suc, ◌-◌, ◌==◌, Bool, List, [], ◌∷◌, ◌++◌, length, take, replicate, count_by, flat_map, Option, None, Some, is_some, codes, if◌then◌else◌}
-use Rattle.std.specs.List.{concat}
+use Rattle.std.specs.Prelude.{ℕ, suc, ◌-◌, ◌==◌, nat_lt, is_err, Bool, List, [], ◌∷◌, ◌++◌, length, take, replicate, count_by, flat_map, Option, None, Some, is_some, Ok, Err, codes, if◌then◌else◌}
+use Rattle.std.specs.List.{concat, list_any}
 use Rattle.std.specs.Fmt.{decimal}
 use Rattle.rl_sinks.specs.SinkState.{SinkState}
 use Rattle.rl_sinks.specs.Texts.{tail_text}
@@ -8,7 +8,11 @@ use Rattle.rl_world.specs.declared.fault.Refusal.TheVariants as refusals
 use Rattle.rl_world.specs.declared.step.Committed.{Committed}
 use Rattle.rl_world.specs.declared.step.Reply.{Reply}
 use Rattle.rl_world.specs.declared.step.Reply.TheVariants as replies
-use Rattle.rl_session.specs.Names.{push_refusal}
+use Rattle.rl_session.specs.Names.{push_error_name, push_refusal, refusal_name}
+use Rattle.rl_session.specs.declared.session.Answer.{Answer}
+use Rattle.rl_session.specs.declared.session.Answer.TheVariants.{Taken, Refused}
+use Rattle.rl_session.specs.declared.session.Got.{Got}
+use Rattle.rl_session.specs.declared.session.Got.TheVariants as gots
 
 -- the line of a refusal
 abbrev pub refusal_line : List ℕ → List ℕ
@@ -62,3 +66,27 @@ committed_text committed = tail_text committed.evaluation ++ behind_line committ
 abbrev pub shown_text : Option SinkState → List ℕ
 shown_text None = refusal_line (codes "BadCommand")
 shown_text (Some sink) = codes "count " ++ decimal sink.count ++ codes "\n" ++ concat (take sink.count sink.kept)
+
+abbrev pub shown_answer : Option SinkState → Answer
+shown_answer None = Refused
+shown_answer (Some sink) = Taken
+
+-- what is printed of what a command got
+abbrev pub printed : Got → List ℕ
+printed gots.Refused = refusal_line (codes "BadCommand")
+printed (gots.Unread error) = bad_push_line (push_error_name error)
+printed (gots.Pushed replies) = pushed_text replies.items
+printed (gots.Unpushed count) = pushed_text (none_pushed count)
+printed (gots.Evaluated (Ok committed)) = committed_text committed
+printed (gots.Evaluated (Err refusal)) = refusal_line (refusal_name refusal)
+
+-- taken, unless some of it was refused
+abbrev pub answer_of : Bool → Answer
+answer_of refused = if refused then Refused else Taken
+
+-- what becomes of the command
+abbrev pub answer_to : Got → Answer
+answer_to (gots.Pushed replies) = answer_of (list_any is_refused replies.items)
+answer_to (gots.Unpushed count) = answer_of (nat_lt 0 count)
+answer_to (gots.Evaluated result) = answer_of (is_err result)
+answer_to _ = Refused

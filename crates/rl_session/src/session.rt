@@ -1,19 +1,19 @@
 //! A session: commands in their order over a world of one shard, and what they print.
-ghost use Rattle.std.specs.Prelude.{◌≡◌, ◌≢◌, ◌<◌, length, map, take, flat_map, codes, None, Some, Ok, IfSome, OnOk, OnErr, IfOk, slice_get};
-ghost use Rattle.std.specs.List.{AllByRecursion, concat};
-ghost use Rattle.std.specs.Option.{option_copied};
+ghost use Rattle.std.specs.Prelude.{◌≡◌, ◌+◌, ◌≤◌, ◌<◌, length, map, take, flat_map, codes, None, Some, Ok, IfSome, OnOk, OnErr, IfOk, slice_get};
+ghost use Rattle.std.specs.List.{AllByRecursion, concat, list_any};
 ghost use Rattle.std.specs.Io.KnownBytes.{Appends};
 ghost use Rattle.rl_world.specs.BookCalls.{IsFresh};
-ghost use Rattle.rl_session.specs.Command.{asked, pushes, evaluates, shows, ends, command_of};
-ghost use Rattle.rl_session.specs.Printed.{refusal_line, bad_push_line, counts_line, entry_line, entry_lines, is_refused, pushed_text, none_pushed, number_text, behind_line, committed_text, shown_text};
-ghost use Rattle.rl_session.specs.Session.{opened, push_steps, EvaluationRun, Evaluates, Tells, TellsLine, TellsText, TellsSession, is_left_open, ended_by, group_number, book_of, answer_of, pushed_answer, shown_answer, committed_of};
-ghost use Rattle.rl_world.specs.WorldRun.{Ran};
+ghost use Rattle.rl_world.specs.Closed.{sinks_of};
+ghost use Rattle.rl_session.specs.Command.{asked, shows, ends, command_of};
+ghost use Rattle.rl_session.specs.Printed.{refusal_line, bad_push_line, counts_line, entry_line, entry_lines, is_refused, pushed_text, none_pushed, number_text, behind_line, committed_text, shown_text, shown_answer, printed, answer_of, answer_to};
+ghost use Rattle.rl_session.specs.PushBody.{entries_of};
+ghost use Rattle.rl_session.specs.Session.{IsForPush, IsForEvaluation, KeepsSinks, Tells, TellsLine, TellsText, TellsSession, is_end, is_refusal, ended_by, committed_of};
 ghost use Rattle.rl_session.specs.declared.session.RunError.TheVariants.{WriteFault, Memory};
 
 use crate::command::{Command, is_blank, read_command};
 use crate::front::first_line;
 use crate::names::{push_error_name, push_refusal, refusal_name};
-use crate::push::read_push;
+use crate::push::{PushError, read_push};
 use rl_labels::{Entry, Limits, Ns};
 use rl_rules::Group;
 use rl_shard::ShardStep;
@@ -77,38 +77,60 @@ enum Answer {
     Ended,
 }
 
-// A world of one shard.
+// What a command got, but for a sink that is shown.
 #[derive(Drop)]
-struct Session<S: Sink> {
+enum Got {
+    // No command, or no such group or sink.
+    Refused,
+    // A push body that gave no entries.
+    Unread(PushError),
+    // A reply to each entry of a push.
+    Pushed(Vec<Reply>),
+    // No memory for the replies to so many entries, of which none was taken.
+    Unpushed(usize),
+    // The evaluation that was committed, or the first refusal.
+    Evaluated(Result<Committed, Refusal>),
+}
+
+/// A world of one shard, with a book for each group.
+#[derive(Drop)]
+pub struct Session<S: Sink> {
     alloc: Global,
     world: World<S>,
 }
 
-/// Carries out the commands of a text over empty shards and sinks that have taken nothing, and writes what they print.
-/// At `end`, or at the end of the text, it closes the sinks.
-pub fn run_commands<S: Sink, W: Write>(
-    alloc: Global,
-    limits: Limits,
-    groups: Vec<Group>,
-    commands: &str,
-    sinks: Vec<Vec<S>>,
-    out: &mut W,
-) -> Result<Status, RunError>
-    requires lists { length sinks.items ≡ length groups.items }
-    requires fresh { AllByRecursion (λ own. AllByRecursion IsFresh (map S.state own.items)) sinks.items }
-    ensures { TellsSession S.state S.close_answers (opened limits groups.items (map (λ own. map S.state own.items) sinks.items)) commands.now (W.contents out.old) result (W.contents out.new) }
-{
-    let mut session = Session {
-        alloc,
-        world: World::open(alloc, limits, 1, groups, sinks)?,
-    };
-    let refused = answer_lines(&mut session, commands, out);
-    // Also a session that stopped early writes what its sinks have taken.
-    let failed = session.world.close_sinks();
-    let refused = refused?;
-    out.write_all(b"closed\n")?;
-    out.flush()?;
-    Ok(status_of(refused, failed))
+impl<S: Sink> Session<S> {
+    /// Empty shards, and sinks that have taken nothing: for each group its own.
+    pub fn open(
+        alloc: Global,
+        limits: Limits,
+        groups: Vec<Group>,
+        sinks: Vec<Vec<S>>,
+    ) -> Result<Self, AllocError>
+        requires lists { length sinks.items ≡ length groups.items }
+        requires fresh { AllByRecursion (λ own. AllByRecursion IsFresh (map S.state own.items)) sinks.items }
+        ensures { IfOk result (λ session. length (sinks_of session.world.books) ≡ length (flat_map (λ own. own.items) sinks.items)) }
+    {
+        let world = World::open(alloc, limits, 1, groups, sinks)?;
+        Ok(Session { alloc, world })
+    }
+
+    /// Carries out the commands of a text, and writes what they print. At `end`, or at the end of the text, it closes the
+    /// sinks. A session that stopped early closes them too, so that they write what they have taken.
+    pub fn run_commands<W: Write>(
+        &mut self,
+        commands: &str,
+        out: &mut W,
+    ) -> Result<Status, RunError>
+        ensures { TellsSession S.state S.close_answers (length (sinks_of self.old.world.books)) commands.now (W.contents out.old) result (W.contents out.new) }
+    {
+        let refused = answer_lines(self, commands, out);
+        let failed = self.world.close_sinks();
+        let refused = refused?;
+        out.write_all(b"closed\n")?;
+        out.flush()?;
+        Ok(status_of(refused, failed))
+    }
 }
 
 fn status_of(refused: bool, failed: u64) -> Status
@@ -129,22 +151,35 @@ fn answer_lines<S: Sink, W: Write>(
     commands: &str,
     out: &mut W,
 ) -> Result<bool, RunError>
-    ensures { TellsText session.old.world commands.now (W.contents out.old) result session.new.world (W.contents out.new) }
+    ensures told { TellsText commands.now (W.contents out.old) result (W.contents out.new) }
+    ensures sinks { KeepsSinks session.old.world session.new.world }
 {
     let mut refused = false;
     let mut rest = commands;
     loop {
         let (line, behind) = first_line(rest);
-        match answer_line(session, line, out)? {
-            Answer::Taken => {}
-            Answer::Refused => refused = true,
-            Answer::Ended => return Ok(refused),
-        }
-        let Some(behind) = behind else {
+        let answer = answer_line(session, line, out)?;
+        if is_end(answer) {
             return Ok(refused);
+        }
+        refused |= is_refusal(answer);
+        rest = match behind {
+            Some(behind) => behind,
+            None => return Ok(refused),
         };
-        rest = behind;
     }
+}
+
+fn is_end(answer: Answer) -> bool
+    ensures { result ≡ is_end answer }
+{
+    matches!(answer, Answer::Ended)
+}
+
+fn is_refusal(answer: Answer) -> bool
+    ensures { result ≡ is_refusal answer }
+{
+    matches!(answer, Answer::Refused)
 }
 
 // Answers a line, and passes over a blank one.
@@ -153,7 +188,8 @@ fn answer_line<S: Sink, W: Write>(
     line: &str,
     out: &mut W,
 ) -> Result<Answer, RunError>
-    ensures { TellsLine session.old.world line.now (W.contents out.old) result session.new.world (W.contents out.new) }
+    ensures told { TellsLine line.now (W.contents out.old) result (W.contents out.new) }
+    ensures sinks { KeepsSinks session.old.world session.new.world }
 {
     if is_blank(line) {
         return Ok(Answer::Taken);
@@ -164,48 +200,51 @@ fn answer_line<S: Sink, W: Write>(
 }
 
 impl<S: Sink> Session<S> {
-    // Carries out the command of a line.
+    // Carries out the command of a line, and tells what it got.
     fn answer<W: Write>(&mut self, line: &str, out: &mut W) -> Result<Answer, RunError>
-        ensures told { Tells self.old.world (command_of line.now) (W.contents out.old) result self.new.world (W.contents out.new) }
+        ensures told { Tells (command_of line.now) (W.contents out.old) result (W.contents out.new) }
         ensures end { command_of line.now ≡ Some ends → result ≡ Ok Answer.Ended }
+        ensures sinks { KeepsSinks self.old.world self.new.world }
     {
         match read_command(line) {
             Some(command) => self.obey(command, out),
-            None => refuse(out, "BadCommand"),
+            None => tell(self.alloc, &Got::Refused, out),
         }
     }
 
     fn obey<W: Write>(&mut self, command: Command<'_>, out: &mut W) -> Result<Answer, RunError>
-        ensures told { Tells self.old.world (Some (asked command.entry)) (W.contents out.old) result self.new.world (W.contents out.new) }
+        ensures told { Tells (Some (asked command.entry)) (W.contents out.old) result (W.contents out.new) }
         ensures end { asked command.entry ≡ ends → result ≡ Ok Answer.Ended }
+        ensures sinks { KeepsSinks self.old.world self.new.world }
     {
         match command {
-            Command::Push(json) => self.push(json, out),
-            Command::Eval { t, group } => self.eval(t, group, out),
+            Command::Push(json) => tell(self.alloc, &self.push(json), out),
+            Command::Eval { t, group } => tell(self.alloc, &self.eval(t, group), out),
             Command::Show { sink, group } => self.show(sink, group, out),
             Command::End => Ok(Answer::Ended),
         }
     }
 
     // Hands the entries of a push body to the shard, in their order.
-    fn push<W: Write>(&mut self, json: &str, out: &mut W) -> Result<Answer, RunError>
-        ensures { Tells self.old.world (Some (pushes json.now)) (W.contents out.old) result self.new.world (W.contents out.new) }
+    fn push(&mut self, json: &str) -> Got
+        ensures got { IsForPush (entries_of json.now) result }
+        ensures sinks { KeepsSinks self.old.world self.new.world }
     {
         let entries = match read_push(self.alloc, json.as_bytes()) {
             Ok(entries) => entries,
-            Err(error) => return refuse_push(out, push_error_name(error)),
+            Err(error) => return Got::Unread(error),
         };
         let count = entries.len();
         match self.push_all(entries) {
-            Ok(replies) => tell_pushed(&replies, out),
-            Err(AllocError) => tell_none_pushed(count, out),
+            Ok(replies) => Got::Pushed(replies),
+            Err(AllocError) => Got::Unpushed(count),
         }
     }
 
     // What the world replied to each entry. With no room for all replies it takes none.
     fn push_all(&mut self, entries: Vec<Entry>) -> Result<Vec<Reply>, AllocError>
-        ensures ran { IfOk result (λ replies. Ran self.old.world (push_steps entries.items) replies.items self.new.world) }
-        ensures memory { OnErr result (self.new.world ≡ self.old.world) }
+        ensures each { IfOk result (λ replies. length replies.items ≡ length entries.items) }
+        ensures sinks { KeepsSinks self.old.world self.new.world }
     {
         let mut steps = Vec::with_capacity(self.alloc, entries.len())?;
         for entry in entries {
@@ -213,64 +252,68 @@ impl<S: Sink> Session<S> {
             steps.push(Step::Shard { number: 0, step })?;
         }
         let mut replies = Vec::new(self.alloc);
-        self.world.run(steps, &mut replies)?;
+        self.run(steps, &mut replies)?;
         Ok(replies)
     }
 
-    // Evaluates a group at a moment.
-    fn eval<W: Write>(&mut self, t: Ns, group: &str, out: &mut W) -> Result<Answer, RunError>
-        ensures { Tells self.old.world (Some (evaluates t group.now)) (W.contents out.old) result self.new.world (W.contents out.new) }
+    // Adds what the world replies to each step. With no room for all replies it takes none.
+    fn run(&mut self, steps: Vec<Step>, replies: &mut Vec<Reply>) -> Result<(), AllocError>
+        ensures each { OnOk result (length replies.new.items ≡ length replies.old.items + length steps.items) }
+        ensures sinks { KeepsSinks self.old.world self.new.world }
     {
-        let Some(number) = self.group_number(group) else {
-            return refuse(out, "BadCommand");
-        };
-        match self.evaluate(number, t) {
-            Ok(committed) => tell_committed(self.alloc, &committed, out),
-            Err(refusal) => refuse(out, refusal_name(refusal)),
+        self.world.run(steps, replies)
+    }
+
+    // Evaluates a group at a moment.
+    fn eval(&mut self, t: Ns, group: &str) -> Got
+        ensures got { IsForEvaluation result }
+        ensures sinks { KeepsSinks self.old.world self.new.world }
+    {
+        match self.evaluate(t, group) {
+            Some(result) => Got::Evaluated(result),
+            None => Got::Refused,
         }
     }
 
-    // An evaluation of a group, or the first refusal, which leaves no evaluation open.
-    fn evaluate(&mut self, group: usize, t: Ns) -> Result<Committed, Refusal>
-        ensures { Evaluates self.old.world group t result self.new.world }
+    // An evaluation of a group, or the first refusal, which leaves no evaluation open. None where there is no such group.
+    fn evaluate(&mut self, t: Ns, group: &str) -> Option<Result<Committed, Refusal>>
+        ensures { KeepsSinks self.old.world self.new.world }
     {
-        match self.run_evaluation(group, t) {
+        let number = self.group_number(group)?;
+        match self.run_evaluation(number, t) {
             Ok(replies) => committed_of(replies),
-            Err(AllocError) => Err(Refusal::Memory),
+            Err(AllocError) => Some(Err(Refusal::Memory)),
         }
     }
 
     // Begin, Gather and Commit, and Abandon where one of the last two is refused. Room for all comes first.
     fn run_evaluation(&mut self, group: usize, t: Ns) -> Result<Vec<Reply>, AllocError>
-        ensures ran { IfOk result (λ replies. EvaluationRun self.old.world group t replies.items self.new.world) }
-        ensures memory { OnErr result (self.new.world ≡ self.old.world) }
+        ensures { KeepsSinks self.old.world self.new.world }
     {
         let gather = Step::Gather { group, number: 0 };
         let commit = Step::Commit { group };
         let steps = vec![in self.alloc; Step::Begin { group, t }, gather, commit]?;
         let abandon = vec![in self.alloc; Step::Abandon { group }]?;
         let mut replies = Vec::with_capacity(self.alloc, 4)?;
-        self.world.run(steps, &mut replies)?;
+        self.run(steps, &mut replies)?;
         if is_left_open(&replies) {
-            self.world.run(abandon, &mut replies)?;
+            self.run(abandon, &mut replies)?;
         }
         Ok(replies)
     }
 
     // Shows what a sink of a group keeps.
     fn show<W: Write>(&self, sink: usize, group: &str, out: &mut W) -> Result<Answer, RunError>
-        ensures { Tells self.now.world (Some (shows sink group.now)) (W.contents out.old) result self.now.world (W.contents out.new) }
+        ensures { Tells (Some (shows sink group.now)) (W.contents out.old) result (W.contents out.new) }
     {
         match self.book_of(group) {
             Some(book) => tell_kept(book, sink, out),
-            None => refuse(out, "BadCommand"),
+            None => tell(self.alloc, &Got::Refused, out),
         }
     }
 
     // The number of the group with the name, if there is one.
-    fn group_number(&self, name: &str) -> Option<usize>
-        ensures { result ≡ group_number name.now self.now.world.books }
-    {
+    fn group_number(&self, name: &str) -> Option<usize> {
         for number in 0..self.world.groups() {
             if self.world.book(number)?.group().name.as_str() == name {
                 return Some(number);
@@ -279,60 +322,104 @@ impl<S: Sink> Session<S> {
         None
     }
 
-    fn book_of(&self, name: &str) -> Option<&Book<S>>
-        ensures { option_copied result ≡ book_of name.now self.now.world.books }
-    {
+    fn book_of(&self, name: &str) -> Option<&Book<S>> {
         self.world.book(self.group_number(name)?)
     }
 }
 
 // Whether an evaluation was begun and not committed.
-fn is_left_open(replies: &[Reply]) -> bool
-    ensures { result ≡ is_left_open replies.now }
-{
+fn is_left_open(replies: &[Reply]) -> bool {
     matches!(replies.first(), Some(Reply::Begun))
         && !matches!(replies.last(), Some(Reply::Committed(_)))
 }
 
-// The evaluation that was committed, or the first refusal.
-fn committed_of(replies: Vec<Reply>) -> Result<Committed, Refusal>
+// The first evaluation that was committed, or the first refusal, whichever a reply has first.
+fn committed_of(replies: Vec<Reply>) -> Option<Result<Committed, Refusal>>
     ensures { result ≡ committed_of replies.items }
 {
     for reply in replies {
         match reply {
-            Reply::Committed(committed) => return Ok(committed),
-            Reply::Refused(refusal) => return Err(refusal),
+            Reply::Committed(committed) => return Some(Ok(committed)),
+            Reply::Refused(refusal) => return Some(Err(refusal)),
             _ => {}
         }
     }
-    Err(Refusal::NoSuch)
+    None
 }
 
-fn refuse<W: Write>(out: &mut W, name: &str) -> Result<Answer, RunError>
-    ensures line { OnOk result (Appends (W.contents out.old) (W.contents out.new) (refusal_line name.now)) }
-    ensures answer { IfOk result (λ answer. answer ≡ Answer.Refused) }
+// What becomes of a command by what it got.
+fn answer_to(got: &Got) -> Answer
+    ensures { result ≡ answer_to got.now }
+{
+    match got {
+        Got::Pushed(replies) => answer_of(has_refused(replies)),
+        Got::Unpushed(count) => answer_of(*count > 0),
+        Got::Evaluated(result) => answer_of(result.is_err()),
+        Got::Refused | Got::Unread(_) => Answer::Refused,
+    }
+}
+
+fn has_refused(replies: &[Reply]) -> bool
+    ensures { result ≡ list_any is_refused replies.now }
+{
+    replies.iter().any(|reply| is_refused(reply))
+}
+
+fn answer_of(refused: bool) -> Answer
+    ensures { result ≡ answer_of refused }
+{
+    if refused {
+        Answer::Refused
+    } else {
+        Answer::Taken
+    }
+}
+
+// Prints what a command got. What becomes of the command.
+fn tell<W: Write>(alloc: Global, got: &Got, out: &mut W) -> Result<Answer, RunError>
+    ensures text { OnOk result (Appends (W.contents out.old) (W.contents out.new) (printed got.now)) }
+    ensures answer { IfOk result (λ answer. answer ≡ answer_to got.now) }
+{
+    print(alloc, got, out)?;
+    Ok(answer_to(got))
+}
+
+// Prints what a command got.
+fn print<W: Write>(alloc: Global, got: &Got, out: &mut W) -> Result<(), RunError>
+    ensures { OnOk result (Appends (W.contents out.old) (W.contents out.new) (printed got.now)) }
+{
+    match got {
+        Got::Refused => refuse(out, "BadCommand"),
+        Got::Unread(error) => refuse_push(out, push_error_name(*error)),
+        Got::Pushed(replies) => tell_pushed(replies, out),
+        Got::Unpushed(count) => tell_none_pushed(*count, out),
+        Got::Evaluated(Ok(committed)) => tell_committed(alloc, committed, out),
+        Got::Evaluated(Err(refusal)) => refuse(out, refusal_name(*refusal)),
+    }
+}
+
+fn refuse<W: Write>(out: &mut W, name: &str) -> Result<(), RunError>
+    ensures { OnOk result (Appends (W.contents out.old) (W.contents out.new) (refusal_line name.now)) }
 {
     writeln!(out, "refused {name}")?;
-    Ok(Answer::Refused)
+    Ok(())
 }
 
-fn refuse_push<W: Write>(out: &mut W, name: &str) -> Result<Answer, RunError>
-    ensures line { OnOk result (Appends (W.contents out.old) (W.contents out.new) (bad_push_line name.now)) }
-    ensures answer { IfOk result (λ answer. answer ≡ Answer.Refused) }
+fn refuse_push<W: Write>(out: &mut W, name: &str) -> Result<(), RunError>
+    ensures { OnOk result (Appends (W.contents out.old) (W.contents out.new) (bad_push_line name.now)) }
 {
     writeln!(out, "refused BadPush {name}")?;
-    Ok(Answer::Refused)
+    Ok(())
 }
 
 // Tells how many entries were accepted, and of the others each with its number and its refusal.
-fn tell_pushed<W: Write>(replies: &[Reply], out: &mut W) -> Result<Answer, RunError>
-    ensures text { OnOk result (Appends (W.contents out.old) (W.contents out.new) (pushed_text replies.now)) }
-    ensures answer { IfOk result (λ answer. answer ≡ pushed_answer replies.now) }
+fn tell_pushed<W: Write>(replies: &[Reply], out: &mut W) -> Result<(), RunError>
+    ensures { OnOk result (Appends (W.contents out.old) (W.contents out.new) (pushed_text replies.now)) }
 {
     let refused = replies.iter().filter(|reply| is_refused(reply)).count();
-    let answer = tell_counts(replies.len() - refused, refused, out)?;
+    tell_counts(replies.len() - refused, refused, out)?;
     tell_refusals(replies, out)?;
-    Ok(answer)
+    Ok(())
 }
 
 fn is_refused(reply: &Reply) -> bool
@@ -342,16 +429,14 @@ fn is_refused(reply: &Reply) -> bool
 }
 
 // Tells how many entries were accepted, and how many refused if some were.
-fn tell_counts<W: Write>(accepted: usize, refused: usize, out: &mut W) -> Result<Answer, RunError>
-    ensures text { OnOk result (Appends (W.contents out.old) (W.contents out.new) (counts_line accepted refused)) }
-    ensures answer { IfOk result (λ answer. answer ≡ answer_of refused) }
+fn tell_counts<W: Write>(accepted: usize, refused: usize, out: &mut W) -> io::Result<()>
+    ensures { OnOk result (Appends (W.contents out.old) (W.contents out.new) (counts_line accepted refused)) }
 {
     if refused == 0 {
-        writeln!(out, "accepted {accepted}")?;
-        return Ok(Answer::Taken);
+        writeln!(out, "accepted {accepted}")
+    } else {
+        writeln!(out, "accepted {accepted} refused {refused}")
     }
-    writeln!(out, "accepted {accepted} refused {refused}")?;
-    Ok(Answer::Refused)
 }
 
 // Tells of each entry that was refused its number and its refusal.
@@ -373,13 +458,12 @@ fn tell_refusal<W: Write>(number: usize, name: &str, out: &mut W) -> io::Result<
 }
 
 // Tells that there was no memory for any of so many entries.
-fn tell_none_pushed<W: Write>(count: usize, out: &mut W) -> Result<Answer, RunError>
-    ensures text { OnOk result (Appends (W.contents out.old) (W.contents out.new) (pushed_text (none_pushed count))) }
-    ensures answer { IfOk result (λ answer. answer ≡ answer_of count) }
+fn tell_none_pushed<W: Write>(count: usize, out: &mut W) -> Result<(), RunError>
+    ensures { OnOk result (Appends (W.contents out.old) (W.contents out.new) (pushed_text (none_pushed count))) }
 {
-    let answer = tell_counts(0, count, out)?;
+    tell_counts(0, count, out)?;
     tell_each_refused(count, out)?;
-    Ok(answer)
+    Ok(())
 }
 
 // Tells of each of so many entries that there was no memory for it.
@@ -397,14 +481,13 @@ fn tell_committed<W: Write>(
     alloc: Global,
     committed: &Committed,
     out: &mut W,
-) -> Result<Answer, RunError>
-    ensures text { OnOk result (Appends (W.contents out.old) (W.contents out.new) (committed_text committed.now)) }
-    ensures answer { IfOk result (λ answer. answer ≡ Answer.Taken) }
+) -> Result<(), RunError>
+    ensures { OnOk result (Appends (W.contents out.old) (W.contents out.new) (committed_text committed.now)) }
 {
     let text = evaluation_text(alloc, SinkKind::Tail, &committed.evaluation)?;
     out.write_all(text.as_bytes())?;
     tell_behind(committed.behind.as_slice(), out)?;
-    Ok(Answer::Taken)
+    Ok(())
 }
 
 // Tells the numbers of the sinks that are behind, if some are.
@@ -438,7 +521,8 @@ fn tell_kept<S: Sink, W: Write>(
     ensures answer { IfOk result (λ answer. answer ≡ shown_answer (slice_get book.now.sinks sink)) }
 {
     let Some(count) = book.sink_count(sink) else {
-        return refuse(out, "BadCommand");
+        refuse(out, "BadCommand")?;
+        return Ok(Answer::Refused);
     };
     writeln!(out, "count {count}")?;
     tell_texts(book, sink, count, out)?;

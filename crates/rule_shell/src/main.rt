@@ -4,8 +4,10 @@
 //! `output` is standard output for a sink in a box.
 #![tactic(auto)]
 
-ghost use Rattle.std.specs.Prelude.{◌≡◌, ◌≢◌};
+ghost use Rattle.std.specs.Prelude.{◌≡◌, ◌≢◌, length, map};
+ghost use Rattle.std.specs.List.{AllByRecursion};
 ghost use Rattle.std.specs.Process.{exit_status};
+ghost use Rattle.rl_world.specs.BookCalls.{IsFresh};
 ghost use Rattle.rule_shell.specs.Statuses.{status_number, stop_at};
 ghost use Rattle.rule_shell.specs.declared.Stop.TheVariants.{Failed};
 
@@ -15,13 +17,14 @@ use clap::Command;
 use clap::error::ErrorKind as OptionsFault;
 use output::Output;
 use rl_labels::{DEFAULT_LIMITS, Limits};
+use rl_rules::Group;
 use rl_session::names::front_fault_name;
-use rl_session::{Front, FrontError, FrontFault, RunError, Status, read_front, run_commands};
+use rl_session::{Front, FrontError, FrontFault, RunError, Session, Status, read_front};
 use rl_sinks::{Recorder, Sink};
 use std::alloc::{AllocError, AllocFailed, Global};
-use std::env;
-use std::io::{BufWriter, ErrorKind};
+use std::io::{BufWriter, ErrorKind, Write};
 use std::process::ExitCode;
+use std::{env, mem};
 
 // How many texts of a recorder may wait to be written.
 const RECORDER_CAP: usize = 1_024;
@@ -151,8 +154,26 @@ fn run_front(rt: &HostRuntime, front: Front) -> Result<Status, Stop> {
         sinks.push(vec![in alloc; boxed]?)?;
     }
     let mut out = BufWriter::new(alloc, Output::new(*rt)).map_err(|_| Stop::Failed)?;
-    match run_commands(alloc, limits, groups, commands.as_str(), sinks, &mut out) {
+    match run_session(alloc, limits, groups, commands.as_str(), sinks, &mut out) {
         Ok(status) => Ok(status),
         Err(RunError::WriteFault) | Err(RunError::Memory) => Err(Stop::Failed),
     }
+}
+
+// Runs the commands over new shards. Behind it the process ends, and gives all memory back at once.
+fn run_session<S: Sink, W: Write>(
+    alloc: Global,
+    limits: Limits,
+    groups: Vec<Group>,
+    commands: &str,
+    sinks: Vec<Vec<S>>,
+    out: &mut W,
+) -> Result<Status, RunError>
+    requires lists { length sinks.items ≡ length groups.items }
+    requires fresh { AllByRecursion (λ own. AllByRecursion IsFresh (map S.state own.items)) sinks.items }
+{
+    let mut session = Session::open(alloc, limits, groups, sinks)?;
+    let ended = session.run_commands(commands, out);
+    mem::forget(session);
+    ended
 }

@@ -10,7 +10,7 @@ use crate::given::number_in;
 use crate::trouble::Trouble;
 use rl_labels::{DEFAULT_LIMITS, Limits, RawLimits};
 use rl_session::names::{front_fault_name, push_error_name};
-use rl_session::{Front, FrontError, FrontFault, PushError, RunError, read_front, run_commands};
+use rl_session::{Front, FrontError, FrontFault, PushError, RunError, Session, read_front};
 use rl_sinks::{Recorder, Sink};
 use std::alloc::{AllocError, Global};
 
@@ -65,7 +65,10 @@ fn play(alloc: Global, limits: Limits, cap: usize, front: Front) -> Result<Strin
     let mut second = Vec::new(alloc);
     let recorder = Recorder::new(alloc, &mut first, cap.max(1));
     let sinks = of_one_group(alloc, recorder, Recorder::new(alloc, &mut second, 2))?;
-    let ended = run_commands(alloc, limits, groups, commands.as_str(), sinks, &mut text);
+    let ended = {
+        let mut session = Session::open(alloc, limits, groups, sinks)?;
+        session.run_commands(commands.as_str(), &mut text)
+    };
     for written in [first, second] {
         text.extend_from_slice(b"recorded\n")?;
         text.extend_from_slice(&written)?;
