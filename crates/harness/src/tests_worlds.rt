@@ -78,12 +78,13 @@ impl Sink for Reluctant {
     }
 
     fn take(&mut self, _evaluation: &Evaluation) -> Result<(), SinkFault> {
-        if self.closed || self.refusals < self.refuses {
-            self.refusals = self.refusals.wrapping_add(1);
-            return Err(SinkFault::Refused(1));
+        let open = !self.closed;
+        if open && self.refusals >= self.refuses {
+            self.count += 1;
+            return Ok(());
         }
-        self.count += 1;
-        Ok(())
+        self.refusals = self.refusals.wrapping_add(1);
+        Err(SinkFault::Refused(if open { 2 } else { 1 }))
     }
 
     fn close(&mut self) -> Result<(), SinkFault> {

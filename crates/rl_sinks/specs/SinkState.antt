@@ -1,5 +1,7 @@
 -- How a sink is seen, and what a call makes of that.
-use Rattle.std.specs.Prelude.{ℕ, ◌+◌, ◌-◌, ◌%◌, ◌^◌, Bool, true, List, [], ◌∷◌, ◌++◌, length, drop, Option, None, Some}
+use Rattle.std.specs.Prelude.{ℕ, ◌+◌, ◌-◌, ◌%◌, ◌^◌, ◌==◌, Bool, true, false, not, List, [], ◌∷◌, ◌++◌, length, drop, Option, None, Some}
+use Rattle.rl_sinks.specs.declared.sink.SinkFault.{SinkFault}
+use Rattle.rl_sinks.specs.declared.sink.SinkFault.TheVariants as faults
 use Rattle.rl_sinks.specs.declared.sink.SinkKind.{SinkKind}
 
 pub record SinkState : Type 0 where
@@ -29,3 +31,11 @@ refused sink = record { kind = sink.kind; limit = sink.limit; count = sink.count
 
 abbrev pub closed : SinkState → SinkState
 closed sink = record { kind = sink.kind; limit = sink.limit; count = sink.count; kept = sink.kept; closed = true; refusals = sink.refusals }
+
+-- what a sink that is open may refuse a text for: room, a reason of its own or memory; reason 1 is that of a closed sink, and
+-- only a close fails to write
+abbrev pub is_open_refusal : SinkFault → Bool
+is_open_refusal faults.Full = true
+is_open_refusal (faults.Refused reason) = not (reason == 1)
+is_open_refusal faults.Memory = true
+is_open_refusal faults.WriteFault = false

@@ -22,7 +22,6 @@ pub struct Recorder<W> {
     pub(crate) part: usize,
     pub(crate) closed: bool,
     pub(crate) refusals: u64,
-    ghost room: { 1 ≤ cap },
     ghost open_in_texts: { IsTrue (not closed) → (next ≤ length texts.items) × (part ≤ length (slice_index_or texts.items next [])) },
     ghost place: { IsPlace (pieces texts.items) next part },
 }
@@ -31,9 +30,8 @@ impl<W: Write + Drop> Recorder<W> {
     ghost use Rattle.rl_sinks.specs.RecorderState.{recorder_state};
     ghost use Rattle.rl_sinks.specs.declared.sink.SinkKind.TheVariants as kinds;
 
-    /// A recorder that has taken nothing. At most `cap` texts wait to be written, at least 1.
+    /// A recorder that has taken nothing. At most `cap` texts wait to be written; where that is 0, each is refused as Full.
     pub fn new(alloc: Global, writer: W, cap: usize) -> Self
-        requires { 1 ≤ cap }
         ensures state { recorder_state result ≡ record { kind = kinds.Recorder; limit = None; count = 0; kept = []; closed = false; refusals = 0 } }
         ensures room { result.cap ≡ cap }
         ensures writer { result.writer ≡ writer }

@@ -1,7 +1,7 @@
 //! What a sink is, and why it refuses.
-ghost use Rattle.std.specs.Prelude.{◌≡◌, ℕ, ◌+◌, ◌<◌, ◌^◌, ⊤, IsTrue, Result, Err, OnOk, OnErr, IfErr, slice_get};
+ghost use Rattle.std.specs.Prelude.{◌≡◌, ℕ, ◌+◌, ◌<◌, ◌^◌, ⊤, not, IsTrue, Result, Err, OnOk, OnErr, IfErr, slice_get};
 ghost use Rattle.std.specs.Option.{option_copied};
-ghost use Rattle.rl_sinks.specs.SinkState.{SinkState, taken, refused, closed};
+ghost use Rattle.rl_sinks.specs.SinkState.{SinkState, taken, refused, closed, is_open_refusal};
 ghost use Rattle.rl_sinks.specs.Texts.{evaluation_text};
 ghost use Rattle.rl_sinks.specs.declared.sink.SinkFault.{SinkFault};
 ghost use Rattle.rl_sinks.specs.declared.sink.SinkFault.TheVariants as faults;
@@ -27,7 +27,7 @@ pub enum SinkKind {
 pub enum SinkFault {
     #[error("as many texts wait to be written as the sink has room for")]
     Full,
-    /// The sink's own reason; 1 says that it is closed.
+    /// The sink's own reason; 1 is that of a closed sink alone.
     #[error("refused, reason {0}")]
     Refused(u64),
     #[error("out of memory")]
@@ -81,6 +81,7 @@ pub trait Sink: Send + Drop {
         ensures ok { OnOk result (state self.new ≡ taken (state self.old) (evaluation_text (state self.old).kind evaluation.now)) }
         ensures err { OnErr result (state self.new ≡ refused (state self.old)) }
         ensures closed { IsTrue (state self.old).closed → result ≡ Err (faults.Refused 1) }
+        ensures open { IsTrue (not (state self.old).closed) → IfErr result (λ fault. IsTrue (is_open_refusal fault)) }
         ensures answer { take_answers self.old result };
 
     /// Writes what is not yet written, and closes the sink with either answer. A sink that is closed can be closed again, to go on.

@@ -63,7 +63,7 @@ fn play(alloc: Global, limits: Limits, cap: usize, front: Front) -> Result<Strin
     let mut text = Vec::new(alloc);
     let mut first = Vec::new(alloc);
     let mut second = Vec::new(alloc);
-    let recorder = Recorder::new(alloc, &mut first, cap.max(1));
+    let recorder = Recorder::new(alloc, &mut first, cap);
     let sinks = of_one_group(alloc, recorder, Recorder::new(alloc, &mut second, 2))?;
     let ended = {
         let mut session = Session::open(alloc, limits, groups, sinks)?;

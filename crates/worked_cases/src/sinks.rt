@@ -64,7 +64,7 @@ fn recorder(alloc: Global, input: &str) -> Result<String, Trouble> {
     let (cap, lines) = input.split_once('\n').unwrap_or((input, ""));
     let cap = cap.parse::<usize>().or(Err(Trouble::BadInput))?;
     let mut written = Vec::new(alloc);
-    let recorder = Recorder::new(alloc, &mut written, cap.max(1));
+    let recorder = Recorder::new(alloc, &mut written, cap);
     let mut text = answers_of(alloc, recorder, lines)?;
     let written = str::from_utf8(&written).or(Err(Trouble::BadInput))?;
     write!(text, "written:\n{written}")?;

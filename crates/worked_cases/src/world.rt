@@ -183,8 +183,5 @@ fn recorder(alloc: Global, cap: &str) -> Result<Sunk, Trouble>
     ensures { IfOk result (λ sink. IsFresh (recorder_state sink)) }
 {
     let cap = number_in(cap)? as usize;
-    if cap == 0 {
-        return Err(Trouble::BadInput);
-    }
     Ok(Recorder::new(alloc, Vec::new(alloc), cap))
 }
