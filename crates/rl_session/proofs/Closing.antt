@@ -1,6 +1,6 @@
 -- How many sinks a session closes, and the line behind them.
-use Rattle.std.proofs.Common.{◌≡◌, ℕ, suc, ◌≤◌, Bool, List, [], ◌∷◌, ◌++◌, Option, None, Some, Result, Ok, Err, OnOk, OnErr, Vec, Global, map, flat_map, length, codes, refl, ap, subst, ◌∙◌, arith, length-append}
-use Rattle.std.specs.Prelude.{⊤, slice_get, option_and_then}
+use Rattle.std.proofs.Common.{◌≡◌, ℕ, suc, ◌+◌, Bool, List, [], ◌∷◌, ◌++◌, Option, None, Some, Result, Ok, Err, OnOk, OnErr, Vec, Global, map, flat_map, length, codes, refl, ap, subst, ◌∙◌, arith, length-append}
+use Rattle.std.specs.Prelude.{⊤}
 use Rattle.std.specs.declared.alloc.AllocError.{AllocError}
 use Rattle.std.specs.Io.KnownBytes.{Appends, Keeps}
 use Rattle.std.proofs.KnownBytes.{Appends-trans}
@@ -10,37 +10,33 @@ use Rattle.rl_sinks.specs.SinkState.{SinkState}
 use Rattle.rl_sinks.specs.declared.sink.SinkFault.{SinkFault}
 use Rattle.rl_world.specs.BookCalls.{books_from}
 use Rattle.rl_world.specs.Closed.{BooksClosed, sinks_of}
-use Rattle.rl_world.specs.WorldRun.{SinksFollow}
-use Rattle.rl_world.specs.WorldState.{BookState, WorldBooks, sink_at, with_sinks_closed}
+use Rattle.rl_world.specs.WorldRun.{Ran, gained}
+use Rattle.rl_world.specs.laws.RunLaws.{sink_counts, ran_counts, ran_length}
+use Rattle.rl_world.specs.WorldState.{BookState, WorldBooks, with_sinks_closed}
 use Rattle.rl_world.specs.declared.step.Step.{Step}
 use Rattle.rl_world.specs.declared.step.Reply.{Reply}
 use Rattle.rl_session.specs.Session.{KeepsSinks, TellsText, TellsSession, ended_by}
 use Rattle.rl_session.specs.declared.session.Status.{Status}
 
--- a list has an item wherever another has one
-fewer : {X : Type 0} (old new : List X) → ((i : ℕ) (x : X) → slice_get old i ≡ Some x → (y : X) × (slice_get new i ≡ Some y)) → length old ≤ length new
-fewer [] new there = omega arith
-fewer (x ∷ old) [] there = let never : ⊥ = (let found = (there 0 x refl).1 in cc) in absurd never
-fewer (x ∷ old) (y ∷ new) there = let rest = fewer old new (λ i. there (suc i)) in omega (arith, rest)
+-- as many sinks in each book are as many in all
+same_sinks : (old new : List BookState) → sink_counts new ≡ sink_counts old → length (sinks_of new) ≡ length (sinks_of old)
+same_sinks [] [] same = refl
+same_sinks [] (next ∷ new) same = let never : ⊥ = cc in absurd never
+same_sinks (book ∷ old) [] same = let never : ⊥ = cc in absurd never
+same_sinks (book ∷ old) (next ∷ new) same =
+    let first : length next.sinks ≡ length book.sinks = cc in
+    let others : sink_counts new ≡ sink_counts old = cc in
+    omega (arith, first, same_sinks old new others, length-append book.sinks (sinks_of old), length-append next.sinks (sinks_of new))
 
--- so have books a sink
-fewer_sinks : (old new : List BookState) → ((group sink : ℕ) (before : SinkState) → sink_at old group sink ≡ Some before → (after : SinkState) × (sink_at new group sink ≡ Some after)) → length (sinks_of old) ≤ length (sinks_of new)
-fewer_sinks [] new there = omega arith
-fewer_sinks (book ∷ old) [] there =
-    let first = fewer book.sinks [] (there 0) in
-    let rest = fewer_sinks old [] (λ group. there (suc group)) in
-    omega (arith, first, rest, length-append book.sinks (sinks_of old))
-fewer_sinks (book ∷ old) (next ∷ new) there =
-    let first = fewer book.sinks next.sinks (there 0) in
-    let rest = fewer_sinks old new (λ group. there (suc group)) in
-    omega (arith, first, rest, length-append book.sinks (sinks_of old), length-append next.sinks (sinks_of new))
+-- a run takes no sink away, and brings none
+pub sinks_stay : (X : Type 0) (result : Result ⊤ AllocError) (old new : WorldBooks) (steps : List Step) (replies : List Reply) → OnErr result ((new ≡ old) × X) → OnOk result (Ran old steps replies new) → KeepsSinks old new
+sinks_stay X (Ok _) old new steps replies same run = same_sinks old.books new.books (ran_counts old steps replies new run)
+sinks_stay X (Err _) old new steps replies same run = ap (λ (world : WorldBooks). length (sinks_of world.books)) same.0
 
--- a run takes no sink away
-pub sinks_stay : (X : Type 0) (result : Result ⊤ AllocError) (old new : WorldBooks) (steps : List Step) (replies : List Reply) → OnErr result ((new ≡ old) × X) → OnOk result (SinksFollow old.books steps replies new.books) → KeepsSinks old new
-sinks_stay X (Ok _) old new steps replies same follow = fewer_sinks old.books new.books (λ group sink before is.
-    let stays = follow group sink before is in
-    (stays.new, ap (option_and_then (λ book. slice_get book.sinks sink)) stays.there ∙ stays.here))
-sinks_stay X (Err _) old new steps replies same follow = omega (arith, ap (λ (world : WorldBooks). length (sinks_of world.books)) same.0)
+-- a run adds a reply for each step
+pub one_each : (result : Result ⊤ AllocError) (old new : WorldBooks) (steps : List Step) (before after : List Reply) → OnOk result (after ≡ before ++ gained before after) → OnOk result (Ran old steps (gained before after) new) → OnOk result (length after ≡ length before + length steps)
+one_each (Ok _) old new steps before after is run = ap length is ∙ length-append before (gained before after) ∙ ap (λ n. length before + n) (ran_length old steps (gained before after) new run)
+one_each (Err _) old new steps before after is run = tt
 
 -- the books have the sinks that were handed in
 pub sinks_opened : {S : Type 0} (state : S → SinkState) (slot records : ℕ) (groups : List Group) (sinks : List (Vec S Global)) → length sinks ≡ length groups → length (sinks_of (books_from slot records 1 groups (map (λ own. map state own.items) sinks))) ≡ length (flat_map (λ own. own.items) sinks)
@@ -59,7 +55,7 @@ appended_kept (Some xs) (Some ys) None text appends keeps = absurd keeps
 appended_kept (Some xs) (Some ys) (Some zs) text appends keeps = keeps ∙ appends
 
 -- the lines, the closed sinks, and the last line behind them
-pub told_session : {S : Type 0} (state : S → SinkState) (Says : S → Result ⊤ SinkFault → Type 0) (least : ℕ) (books closed : List BookState) (commands : List ℕ) (old mid last new : Option (List ℕ)) (refused : Bool) (failures : ℕ) (status : Status) → least ≤ length (sinks_of books) → closed ≡ map with_sinks_closed books → BooksClosed state Says closed failures
-    → TellsText commands old (Ok refused) mid → status ≡ ended_by failures refused → Appends mid last (codes "closed\n") → Keeps last new → TellsSession state Says least commands old (Ok status) new
-told_session state Says least books closed commands old mid last new refused failures status enough are counted told is closes keeps =
+pub told_session : {S : Type 0} (state : S → SinkState) (Says : S → Result ⊤ SinkFault → Type 0) (sinks : ℕ) (books closed : List BookState) (commands : List ℕ) (old mid last new : Option (List ℕ)) (refused : Bool) (failures : ℕ) (status : Status) → length (sinks_of books) ≡ sinks → closed ≡ map with_sinks_closed books → BooksClosed state Says closed failures
+    → TellsText commands old (Ok refused) mid → status ≡ ended_by failures refused → Appends mid last (codes "closed\n") → Keeps last new → TellsSession state Says sinks commands old (Ok status) new
+told_session state Says sinks books closed commands old mid last new refused failures status enough are counted told is closes keeps =
     (told.0, refused, failures, told.1, (books, enough, subst (λ books. BooksClosed state Says books failures) are counted), is, appended_kept old last new (told.0 ++ codes "closed\n") (Appends-trans old mid last told.0 (codes "closed\n") told.2 closes) keeps)

@@ -1,5 +1,5 @@
 -- What a session prints of its commands, by what each of them got, and how it ends.
-use Rattle.std.specs.Prelude.{◌≡◌, ℕ, ◌≤◌, nat_lt, ⊤, Bool, true, false, ◌||◌, List, [], ◌∷◌, ◌++◌, map, length, Option, None, Some, Result, Ok, Err, codes, if◌then◌else◌}
+use Rattle.std.specs.Prelude.{◌≡◌, ℕ, nat_lt, ⊤, Bool, true, false, ◌||◌, List, [], ◌∷◌, ◌++◌, map, length, Option, None, Some, Result, Ok, Err, codes, if◌then◌else◌}
 use Rattle.std.specs.List.{list_all}
 use Rattle.std.specs.Io.KnownBytes.{Appends}
 use Rattle.rl_plain.specs.declared.refusal.OrMemory.TheVariants as errors
@@ -97,13 +97,13 @@ TellsText commands old (Err error) new = Unit {0}
 abbrev pub ended_by : ℕ → Bool → Status
 ended_by failures refused = if nat_lt 0 failures then statuses.Unwritten else (if refused then statuses.Refused else statuses.Taken)
 
--- no sink is gone
+-- no sink came or went
 abbrev pub KeepsSinks : WorldBooks → WorldBooks → Type 0
-KeepsSinks old new = length (sinks_of old.books) ≤ length (sinks_of new.books)
+KeepsSinks old new = length (sinks_of new.books) ≡ length (sinks_of old.books)
 
--- at least so many sinks were closed, and so many of them could not write all
+-- so many sinks were closed, and so many of them could not write all
 abbrev pub AreClosed : {S : Type 0} → (S → SinkState) → (S → Result ⊤ SinkFault → Type 0) → ℕ → ℕ → Type 0
-AreClosed state Says least failures = (books : List BookState) × (least ≤ length (sinks_of books)) × BooksClosed state Says (map with_sinks_closed books) failures
+AreClosed state Says sinks failures = (books : List BookState) × (length (sinks_of books) ≡ sinks) × BooksClosed state Says (map with_sinks_closed books) failures
 
 -- a session with so many sinks: its lines are told, its sinks are closed, and that is told
 abbrev pub TellsSession : {S : Type 0} → (S → SinkState) → (S → Result ⊤ SinkFault → Type 0) → ℕ → List ℕ → Option (List ℕ) → Result Status RunError → Option (List ℕ) → Type 0

@@ -68,6 +68,13 @@ impl Shard {
         self.records
     }
 
+    /// Whether the journal has as many records as it may have.
+    pub fn is_journal_full(&self) -> bool
+        ensures { result ≡ is_journal_full self.now }
+    {
+        self.records >= self.limits.records
+    }
+
     /// Decides a step, and answers its place in the journal, counted from 0, with the reply. JournalFull comes before
     /// all else; else only memory can be refused. A step that is refused changes nothing.
     pub fn apply(&mut self, step: ShardStep) -> Result<(u64, ShardReply), ShardFault>
@@ -79,7 +86,7 @@ impl Shard {
         ensures few { length (visible self.old.state) ≤ self.old.limits.entries }
         ensures no_memory { IsTrue (not (is_journal_full self.old) && needs_no_memory self.old.limits self.old.state step) → IsOk result }
     {
-        if self.records >= self.limits.records {
+        if self.is_journal_full() {
             return Err(ShardFault::JournalFull);
         }
         let reply = match step {

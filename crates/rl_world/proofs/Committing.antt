@@ -7,7 +7,8 @@ use Rattle.rl_sinks.specs.SinkState.{SinkState, within}
 use Rattle.rl_aggregate.specs.declared.partial.Partial.{Partial}
 use Rattle.rl_shard.specs.ShardState.{Journalled}
 use Rattle.rl_world.specs.BookCalls.{Answers}
-use Rattle.rl_world.specs.Evaluating.{group_terms, evaluation_from, evaluation_of}
+use Rattle.rl_world.specs.Evaluating.{group_terms, evaluation_of}
+use Rattle.rl_world.specs.Kept.{evaluation_from}
 use Rattle.rl_world.specs.History.{History, closing_fault, commit_fault, committed, is_session_full}
 use Rattle.rl_world.specs.Offering.{TookPrefix, Offered, AllOffered, texts_of}
 use Rattle.rl_world.specs.WorldState.{BookState, IsBookOf, kept_open, world_of}

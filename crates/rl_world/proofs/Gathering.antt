@@ -1,5 +1,5 @@
 -- What a gather makes of a world.
-use Rattle.std.proofs.Common.{◌≡◌, inl, inr, ℕ, Bool, true, false, cond, List, map, length, Option, None, Some, Result, Ok, Err, OnOk, OnErr, option_map, slice_get, slice_set, refl, sym, ap, subst, ◌∙◌}
+use Rattle.std.proofs.Common.{◌≡◌, inl, inr, ℕ, true, false, cond, List, map, length, Option, None, Some, Result, Ok, Err, OnOk, OnErr, option_map, slice_get, slice_set, refl, sym, ap, subst, ◌∙◌}
 use Rattle.std.specs.List.{AllByRecursion}
 use Rattle.std.proofs.lemmas.List.{map-set, length-set}
 use Rattle.rl_aggregate.specs.declared.partial.Partial.{Partial}
@@ -10,10 +10,11 @@ use Rattle.rl_shard.specs.declared.step.ShardStep.TheVariants as shard_steps
 use Rattle.rl_shard.specs.declared.step.ShardFault.{ShardFault}
 use Rattle.rl_shard.specs.declared.step.ShardFault.TheVariants as shard_faults
 use Rattle.rl_world.specs.BookCalls.{with_history}
-use Rattle.rl_world.specs.Evaluating.{group_terms, partials_of}
+use Rattle.rl_world.specs.Evaluating.{group_terms}
+use Rattle.rl_world.specs.Kept.{partials_of}
 use Rattle.rl_world.specs.History.{gather_fault, gathered}
 use Rattle.rl_world.specs.WorldState.{BookState, IsBookOf, world_of}
-use Rattle.rl_world.specs.WorldStep.{WorldStep, MayRefuse, partials, known, or_else, journal_refusal, refusal_of, told_of_shard, may_want}
+use Rattle.rl_world.specs.WorldStep.{WorldStep, MayRefuse, partials, known, or_else, journal_refusal, refusal_of, told_of_shard}
 use Rattle.rl_world.specs.declared.fault.BookFault.{BookFault}
 use Rattle.rl_world.specs.declared.fault.Refusal.{Refusal}
 use Rattle.rl_world.specs.declared.fault.Refusal.TheVariants as refusals
@@ -66,25 +67,24 @@ module _ (shards : List Journalled) (books : List BookState) (group number : ℕ
   asked_free : gather_fault book.history number ≡ None → refusal_of (world_of shards books) (steps.Gather group number) ≡ journal_refusal shard
   asked_free free = gather_refusal ∙ ap (λ f. or_else (option_map refusals.Book f) (journal_refusal shard)) free
 
-  -- memory may be wanted before the shard is asked, also where its journal is full
-  asked_may_want : gather_fault book.history number ≡ None → may_want (steps.Gather group number) (refusal_of (world_of shards books) (steps.Gather group number)) ≡ true
-  asked_may_want free = ap (may_want (steps.Gather group number)) (asked_free free) ∙ either (is_journal_full shard)
-    where
-      either : (full : Bool) → may_want (steps.Gather group number) (cond full (Some refusals.JournalFull) None) ≡ true
-      either true = refl
-      either false = refl
+  -- its journal is full, or not
+  pub gather_full : gather_fault book.history number ≡ None → is_journal_full shard ≡ true → refusal_of (world_of shards books) (steps.Gather group number) ≡ Some refusals.JournalFull
+  gather_full free full = asked_free free ∙ ap (λ b. cond b (Some refusals.JournalFull) None) full
+
+  pub gather_free : gather_fault book.history number ≡ None → is_journal_full shard ≡ false → refusal_of (world_of shards books) (steps.Gather group number) ≡ None
+  gather_free free room = asked_free free ∙ ap (λ b. cond b (Some refusals.JournalFull) None) room
 
   -- the shard refused
-  pub gather_refused : (after : Journalled) (fault : ShardFault) (refusal : Refusal) → gather_fault book.history number ≡ None → (fault ≡ shard_faults.JournalFull → is_journal_full shard ≡ true) → after ≡ shard → refusal ≡ told_of_shard fault
+  pub gather_refused : (after : Journalled) (fault : ShardFault) (refusal : Refusal) → gather_fault book.history number ≡ None → is_journal_full shard ≡ false → (fault ≡ shard_faults.JournalFull → is_journal_full shard ≡ true) → after ≡ shard → refusal ≡ told_of_shard fault
       → WorldStep partials (world_of shards books) (steps.Gather group number) (replies.Refused refusal) (world_of (slice_set shards number after) books)
-  gather_refused after fault refusal free full after_is refusal_is = (
+  gather_refused after fault refusal free room full after_is refusal_is = (
     subst (λ r. MayRefuse (world_of shards books) (steps.Gather group number) r) (sym refusal_is) (may fault full),
     λ i. record { shards = (ap (slice_set shards number) after_is ∙ set_same shards number shard shard_there) i; histories = map (λ (b : BookState). b.history) books },
   )
     where
       may : (fault : ShardFault) → (fault ≡ shard_faults.JournalFull → is_journal_full shard ≡ true) → MayRefuse (world_of shards books) (steps.Gather group number) (told_of_shard fault)
-      may shard_faults.JournalFull full = inl (asked_free free ∙ ap (λ b. cond b (Some refusals.JournalFull) None) (full refl))
-      may shard_faults.Memory full = inr (refl, asked_may_want free)
+      may shard_faults.JournalFull full = inl (gather_full free (full refl))
+      may shard_faults.Memory full = inr (refl, gather_free free room, refl)
 
   -- the shard showed what it has, and the book keeps the partials
   pub gather_turn : (after_shard : Journalled) (after : BookState) (slot t place : ℕ) (terms : List Term) (shown : List Partial) → gather_fault book.history number ≡ None → option_map (λ (o : OpenEvaluation (List Partial)). o.t) book.history.opened ≡ Some t → terms ≡ group_terms book.history.group

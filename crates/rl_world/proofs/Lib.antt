@@ -1,12 +1,12 @@
 pub mod Closing
 pub mod Committing
 pub mod Counting
-pub mod Following
 pub mod Gathering
 pub mod Lifting
 pub mod Merging
 pub mod Offers
 pub mod Opening
+pub mod Running
 pub mod Shown
 pub mod Turning
 mod Examples

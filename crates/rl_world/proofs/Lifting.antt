@@ -1,5 +1,5 @@
 -- A step on kept partials is a step on every world of shown lists that they stand for.
-use Rattle.std.proofs.Common.{◌≡◌, inl, inr, ℕ, zero, suc, cond, ◌&&◌, List, [], ◌∷◌, map, length, replicate, Option, None, Some, is_some, unwrap_or, option_map, slice_get, refl, sym, ap, subst, ◌∙◌}
+use Rattle.std.proofs.Common.{◌≡◌, inl, inr, ℕ, zero, suc, cond, ◌&&◌, List, [], ◌∷◌, map, length, replicate, Option, None, Some, is_some, unwrap_or, option_map, slice_get, refl, sym, ap, ◌∙◌}
 use Rattle.std.specs.List.{list_all}
 use Rattle.std.proofs.lemmas.List.{map-set}
 use Rattle.std.proofs.lemmas.Option.{slice_get-map}
@@ -11,11 +11,12 @@ use Rattle.rl_shard.specs.ShardStep.{recorded}
 use Rattle.rl_shard.specs.declared.step.ShardStep.{ShardStep}
 use Rattle.rl_shard.specs.declared.step.ShardStep.TheVariants as shard_steps
 use Rattle.rl_shard.specs.declared.step.ShardReply.{ShardReply}
-use Rattle.rl_world.specs.Evaluating.{group_terms, partials_of}
+use Rattle.rl_world.specs.Evaluating.{group_terms}
+use Rattle.rl_world.specs.Kept.{partials_of}
 use Rattle.rl_world.specs.History.{History, begin_fault, gather_fault, commit_fault, abandon_fault, asked_fault, closing_fault, is_session_full, last_moment, not_later, is_gathered, is_complete, begun, gathered, with_shown, committed, abandoned}
 use Rattle.rl_world.specs.laws.ShownLaws.{kept_evaluation}
 use Rattle.rl_world.specs.WorldState.{WorldState, Stands, kept_answer, kept_open, kept_history, kept_world}
-use Rattle.rl_world.specs.WorldStep.{WorldStep, Turn, MayRefuse, ShardTurn, BeginTurn, GatherTurn, CommitTurn, AbandonTurn, Replay, lists, partials, known, or_else, journal_refusal, refusal_of, with_shard, with_history, may_want}
+use Rattle.rl_world.specs.WorldStep.{WorldStep, Turn, MayRefuse, ShardTurn, BeginTurn, GatherTurn, CommitTurn, AbandonTurn, lists, partials, known, or_else, journal_refusal, refusal_of, with_shard, with_history}
 use Rattle.rl_world.specs.declared.fault.BookFault.TheVariants as faults
 use Rattle.rl_world.specs.declared.fault.Refusal.{Refusal}
 use Rattle.rl_world.specs.declared.fault.Refusal.TheVariants as refusals
@@ -216,39 +217,15 @@ lift_abandon world group new turn =
 
 lift_turn : (world : Lists) (step : Step) (reply : Reply) (new : Parts) → Turn partials (kept_world world) step reply new → LiftedTurn world step reply new
 lift_turn world (steps.Shard number step) (replies.Decided place reply) new turn = lift_shard world number step place reply new turn
-lift_turn world (steps.Shard number step) replies.Begun new turn = absurd turn
-lift_turn world (steps.Shard number step) (replies.Gathered place) new turn = absurd turn
-lift_turn world (steps.Shard number step) (replies.Committed answer) new turn = absurd turn
-lift_turn world (steps.Shard number step) replies.Abandoned new turn = absurd turn
-lift_turn world (steps.Shard number step) (replies.Refused refusal) new turn = absurd turn
-lift_turn world (steps.Begin group t) (replies.Decided place reply) new turn = absurd turn
 lift_turn world (steps.Begin group t) replies.Begun new turn = lift_begin world group t new turn
-lift_turn world (steps.Begin group t) (replies.Gathered place) new turn = absurd turn
-lift_turn world (steps.Begin group t) (replies.Committed answer) new turn = absurd turn
-lift_turn world (steps.Begin group t) replies.Abandoned new turn = absurd turn
-lift_turn world (steps.Begin group t) (replies.Refused refusal) new turn = absurd turn
-lift_turn world (steps.Gather group number) (replies.Decided place reply) new turn = absurd turn
-lift_turn world (steps.Gather group number) replies.Begun new turn = absurd turn
 lift_turn world (steps.Gather group number) (replies.Gathered place) new turn = lift_gather world group number place new turn
-lift_turn world (steps.Gather group number) (replies.Committed answer) new turn = absurd turn
-lift_turn world (steps.Gather group number) replies.Abandoned new turn = absurd turn
-lift_turn world (steps.Gather group number) (replies.Refused refusal) new turn = absurd turn
-lift_turn world (steps.Commit group) (replies.Decided place reply) new turn = absurd turn
-lift_turn world (steps.Commit group) replies.Begun new turn = absurd turn
-lift_turn world (steps.Commit group) (replies.Gathered place) new turn = absurd turn
 lift_turn world (steps.Commit group) (replies.Committed answer) new turn = lift_commit world group answer new turn
-lift_turn world (steps.Commit group) replies.Abandoned new turn = absurd turn
-lift_turn world (steps.Commit group) (replies.Refused refusal) new turn = absurd turn
-lift_turn world (steps.Abandon group) (replies.Decided place reply) new turn = absurd turn
-lift_turn world (steps.Abandon group) replies.Begun new turn = absurd turn
-lift_turn world (steps.Abandon group) (replies.Gathered place) new turn = absurd turn
-lift_turn world (steps.Abandon group) (replies.Committed answer) new turn = absurd turn
 lift_turn world (steps.Abandon group) replies.Abandoned new turn = lift_abandon world group new turn
-lift_turn world (steps.Abandon group) (replies.Refused refusal) new turn = absurd turn
+lift_turn world step reply new turn = absurd turn
 
 refused_kept : (world : Lists) (step : Step) (refusal : Refusal) → MayRefuse (kept_world world) step refusal → MayRefuse world step refusal
 refused_kept world step refusal (inl first) = inl (sym (refusal-kept world step) ∙ first)
-refused_kept world step refusal (inr memory) = inr (memory.0, ap (may_want step) (sym (refusal-kept world step)) ∙ memory.1)
+refused_kept world step refusal (inr memory) = inr (memory.0, sym (refusal-kept world step) ∙ memory.1, memory.2)
 
 lift_free : (world : Lists) (step : Step) (reply : Reply) (new : Parts) → (refusal_of (kept_world world) step ≡ None) × Turn partials (kept_world world) step reply new → (after : Lists) × Stands new after × ((refusal_of world step ≡ None) × Turn lists world step reply after)
 lift_free world step reply new free =
@@ -258,18 +235,4 @@ lift_free world step reply new free =
 -- every step on what is kept is one on the lists
 pub lift_step : (world : Lists) (step : Step) (reply : Reply) (new : Parts) → WorldStep partials (kept_world world) step reply new → (after : Lists) × Stands new after × WorldStep lists world step reply after
 lift_step world step (replies.Refused refusal) new turn = (world, turn.1, (refused_kept world step refusal turn.0, refl))
-lift_step world step (replies.Decided place reply) new turn = lift_free world step (replies.Decided place reply) new turn
-lift_step world step replies.Begun new turn = lift_free world step replies.Begun new turn
-lift_step world step (replies.Gathered place) new turn = lift_free world step (replies.Gathered place) new turn
-lift_step world step (replies.Committed answer) new turn = lift_free world step (replies.Committed answer) new turn
-lift_step world step replies.Abandoned new turn = lift_free world step replies.Abandoned new turn
-
--- every replay on what is kept is one on the lists
-pub lift_replay : (old : Parts) (world : Lists) (steps : List Step) (replies : List Reply) (new : Parts) → Stands old world → Replay partials old steps replies new → (after : Lists) × Stands new after × Replay lists world steps replies after
-lift_replay old world [] [] new stands turns = (world, turns ∙ stands, refl)
-lift_replay old world (step ∷ steps) (reply ∷ replies) new stands turns =
-    let first = lift_step world step reply turns.0 (subst (λ o. WorldStep partials o step reply turns.0) stands turns.1) in
-    let rest = lift_replay turns.0 first.0 steps replies new first.1 turns.2 in
-    (rest.0, rest.1, (first.0, first.2, rest.2))
-lift_replay old world [] (reply ∷ replies) new stands turns = absurd turns
-lift_replay old world (step ∷ steps) [] new stands turns = absurd turns
+lift_step world step reply new turn = lift_free world step reply new turn

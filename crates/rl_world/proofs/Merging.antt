@@ -12,7 +12,7 @@ use Rattle.rl_aggregate.specs.Partials.{both_totals, merge, most_entries, Fits}
 use Rattle.rl_aggregate.specs.TotalsMap.{no_total, plus, total_at}
 use Rattle.rl_aggregate.specs.declared.total.Total.{Total}
 use Rattle.rl_aggregate.specs.declared.partial.Partial.{Partial}
-use Rattle.rl_world.specs.Evaluating.{no_partial, merged_from, merged_terms}
+use Rattle.rl_world.specs.Kept.{no_partial, merged_from, merged_terms}
 use Rattle.rl_world.specs.Slots.{IsWithin, HasTerm, most_in_shard, most_shards}
 use Rattle.rl_world.specs.declared.opened.Gathered.{Gathered}
 

@@ -1,5 +1,5 @@
 -- A book for each group with its sinks, one after the other, and what holds of them.
-use Rattle.std.proofs.Common.{◌≡◌, ◌⊎◌, inl, inr, ℕ, suc, ◌-◌, List, [], ◌∷◌, ◌++◌, map, length, take, Option, None, Some, refl, sym, ap, ◌∙◌, arith, append_assoc, length-append}
+use Rattle.std.proofs.Common.{◌≡◌, ◌⊎◌, inl, inr, ℕ, suc, ◌-◌, List, [], ◌∷◌, ◌++◌, map, length, take, Option, None, Some, refl, sym, ap, subst, ◌∙◌, arith, append_assoc, length-append}
 use Rattle.std.proofs.Math.Seq.{drop-nil, take-nil}
 use Rattle.std.proofs.lemmas.List.{append-nil, nil_from_length}
 use Rattle.std.specs.List.{AllByRecursion}
@@ -10,7 +10,10 @@ use Rattle.rl_rules.specs.declared.rule.Group.{Group}
 use Rattle.rl_sinks.specs.SinkState.{SinkState, within}
 use Rattle.rl_world.specs.BookCalls.{IsFresh, new_book, books_from}
 use Rattle.rl_world.specs.Offering.{TookPrefix, texts_of}
-use Rattle.rl_world.specs.WorldState.{BookState, IsBookOf}
+use Rattle.rl_labels.specs.declared.entry.Entry.{Entry}
+use Rattle.rl_shard.specs.ShardState.{Journalled}
+use Rattle.rl_world.specs.History.{History}
+use Rattle.rl_world.specs.WorldState.{BookState, IsBookOf, StandsForSome, kept_history, world_of}
 
 -- with no group, or no sinks, there is no book
 no_books : (slot records shards : ℕ) (groups : List Group) (sinks : List (List SinkState)) → (groups ≡ []) ⊎ (sinks ≡ []) → books_from slot records shards groups sinks ≡ []
@@ -63,3 +66,27 @@ pub books_from-fit : {X : Type 0} (states : X → List SinkState) (slot records 
 books_from-fit states slot records shards [] sinks all = tt
 books_from-fit states slot records shards (group ∷ groups) [] all = tt
 books_from-fit states slot records shards (group ∷ groups) (own ∷ sinks) all = ((refl, fresh_took (states own) all.0), books_from-fit states (suc slot) records shards groups sinks all.1)
+
+-- books of new histories have no evaluation open
+abbrev IsUnopened : BookState → Type 0
+IsUnopened book = book.history.opened ≡ None
+
+books_unopened : (slot records shards : ℕ) (groups : List Group) (sinks : List (List SinkState)) → AllByRecursion IsUnopened (books_from slot records shards groups sinks)
+books_unopened slot records shards [] sinks = tt
+books_unopened slot records shards (group ∷ groups) [] = tt
+books_unopened slot records shards (group ∷ groups) (own ∷ sinks) = (refl, books_unopened (suc slot) records shards groups sinks)
+
+-- so nothing is kept of any list
+histories_shown : (books : List BookState) → AllByRecursion IsUnopened books → (histories : List (History (List Entry))) × (map (λ (book : BookState). book.history) books ≡ map kept_history histories)
+histories_shown [] all = ([], refl)
+histories_shown (book ∷ books) all =
+    let rest = histories_shown books all.1 in (
+      record { group = book.history.group; records = book.history.records; evaluations = book.history.evaluations; opened = None } ∷ rest.0,
+      λ i. record { group = book.history.group; records = book.history.records; evaluations = book.history.evaluations; opened = all.0 i } ∷ rest.1 i,
+    )
+
+-- and a new world stands for worlds in which nothing was shown
+pub opened_shown : (opened : List Journalled) (books : List BookState) (slot records shards : ℕ) (groups : List Group) (sinks : List (List SinkState)) → books ≡ books_from slot records shards groups sinks → StandsForSome (world_of opened books)
+opened_shown opened books slot records shards groups sinks are =
+    let shown = histories_shown books (subst (AllByRecursion IsUnopened) (sym are) (books_unopened slot records shards groups sinks)) in
+    (record { shards = opened; histories = shown.0 }, λ i. record { shards = opened; histories = shown.1 i })

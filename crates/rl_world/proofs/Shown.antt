@@ -9,7 +9,7 @@ use Rattle.rl_aggregate.specs.Partials.{partial}
 use Rattle.rl_aggregate.specs.declared.partial.Partial.{Partial}
 use Rattle.rl_shard.specs.declared.step.ShardReply.{ShardReply}
 use Rattle.rl_shard.specs.declared.step.ShardReply.TheVariants as replies
-use Rattle.rl_world.specs.Evaluating.{partials_of}
+use Rattle.rl_world.specs.Kept.{partials_of}
 use Rattle.rl_world.specs.Slots.{IsWithin, AreOfOneShard, most_in_shard}
 
 each_within : (entries : List Entry) (terms : List Term) (t : ℕ) → length entries ≤ most_in_shard → AllByRecursion (IsWithin most_in_shard) (partials_of entries terms t)

@@ -2,6 +2,8 @@ pub mod BookCalls
 pub mod Closed
 pub mod Evaluating
 pub mod History
+pub mod Kept
+pub mod Listings
 pub mod Offering
 pub mod Slots
 pub mod WorldRun

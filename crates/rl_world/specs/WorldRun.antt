@@ -1,12 +1,11 @@
--- What a run of steps makes of the sinks.
-use Rattle.std.specs.Prelude.{◌≡◌, ◌==◌, ℕ, ◌+◌, ◌%◌, ◌^◌, Bool, false, List, [], ◌∷◌, map, length, drop, Option, None, Some, MatchOption, slice_get, slice_set, count_by, zip, if◌then◌else◌}
-use Rattle.std.specs.List.{AllByRecursion, list_any}
+-- A run of steps, and what it makes of the sinks.
+use Rattle.std.specs.Prelude.{◌≡◌, ℕ, List, [], ◌∷◌, map, length, drop, Some, slice_get, slice_set}
 use Rattle.rl_labels.specs.declared.entry.Entry.{Entry}
 use Rattle.rl_rules.specs.declared.evaluation.Evaluation.{Evaluation}
 use Rattle.rl_sinks.specs.SinkState.{SinkState}
-use Rattle.rl_world.specs.Offering.{AllOffered, TookPrefix, behind_of, is_behind}
-use Rattle.rl_world.specs.WorldState.{BookState, WorldBooks, WorldState, Stands, sink_at, world_of}
-use Rattle.rl_world.specs.WorldStep.{Replay, lists}
+use Rattle.rl_world.specs.Offering.{AllOffered, behind_of}
+use Rattle.rl_world.specs.WorldState.{BookState, WorldBooks, WorldState, Stands, world_of}
+use Rattle.rl_world.specs.WorldStep.{WorldStep, lists}
 use Rattle.rl_world.specs.declared.step.Committed.{Committed}
 use Rattle.rl_world.specs.declared.step.Step.{Step}
 use Rattle.rl_world.specs.declared.step.Step.TheVariants as steps
@@ -31,53 +30,18 @@ abbrev pub SinkStep : List BookState → Step → Reply → List BookState → T
 SinkStep old (steps.Commit group) (replies.Committed answer) new = CommitSinks old group answer new
 SinkStep old step reply new = map told new ≡ map told old
 
--- whether the commit of a group that was not refused lists the sink; none where the turn is no such commit
-abbrev pub listing : ℕ → ℕ → Step × Reply → Option Bool
-listing group sink (steps.Commit number, replies.Committed answer) = if number == group then Some (list_any (λ behind. behind == sink) answer.behind) else None
-listing group sink (step, reply) = None
+-- a turn: a step of the world by LogQL from scratch, on any lists that may have been shown, and what it makes of the sinks
+pub record Turned (old : WorldBooks) (step : Step) (reply : Reply) (new : WorldBooks) : Type 0 where
+  pub from_scratch : (shown : WorldState (List Entry)) → Stands (world_of old.shards old.books) shown → (after : WorldState (List Entry)) × Stands (world_of new.shards new.books) after × WorldStep lists shown step reply after
+  pub sinks : SinkStep old.books step reply new.books
 
-abbrev pub is_listed : Option Bool → Bool
-is_listed None = false
-is_listed (Some listed) = listed
-
--- how many replies list the sink
-abbrev pub listings : ℕ → ℕ → List (Step × Reply) → ℕ
-listings group sink turns = count_by (λ turn. is_listed (listing group sink turn)) turns
-
-abbrev pub latest : Option Bool → Option Bool → Option Bool
-latest first None = first
-latest first (Some listed) = Some listed
-
--- what the last commit of the group that was not refused says of the sink, if there is one
-abbrev pub last_listing : ℕ → ℕ → List (Step × Reply) → Option Bool
-last_listing group sink [] = None
-last_listing group sink (turn ∷ turns) = latest (listing group sink turn) (last_listing group sink turns)
-
--- what a run made of one sink: each reply that lists it counts as a refusal, and it is behind where the last commit of its
--- group says so; with none it took nothing
-pub record Follows (turns : List (Step × Reply)) (group sink : ℕ) (evaluations : List Evaluation) (old new : SinkState) : Type 0 where
-  pub refusals : new.refusals % 2 ^ 64 ≡ (old.refusals + listings group sink turns) % 2 ^ 64
-  pub behind : MatchOption (last_listing group sink turns) (new.count ≡ old.count) (λ listed. is_behind evaluations new ≡ listed)
-
--- the sink is still there, and follows
-pub record FollowsIn (turns : List (Step × Reply)) (group sink : ℕ) (old : SinkState) (books : List BookState) : Type 0 where
-  pub book : BookState
-  pub there : slice_get books group ≡ Some book
-  pub new : SinkState
-  pub here : slice_get book.sinks sink ≡ Some new
-  pub follows : Follows turns group sink book.history.evaluations old new
-
--- each sink of each group
-abbrev pub SinksFollow : List BookState → List Step → List Reply → List BookState → Type 0
-SinksFollow old steps replies new = (group sink : ℕ) (before : SinkState) → sink_at old group sink ≡ Some before → FollowsIn (zip steps replies) group sink before new
+-- a run: turn after turn, with one reply for each step
+abbrev pub Ran : WorldBooks → List Step → List Reply → WorldBooks → Type 0
+Ran old [] [] new = new ≡ old
+Ran old (step ∷ steps) (reply ∷ replies) new = (mid : WorldBooks) × Turned old step reply mid × Ran mid steps replies new
+Ran old [] (reply ∷ replies) new = ⊥
+Ran old (step ∷ steps) [] new = ⊥
 
 -- what a list gained at its end
 abbrev pub gained : List Reply → List Reply → List Reply
 gained old new = drop (length old) new
-
--- a world answered steps in their order: by LogQL from scratch on the lists that its shards showed, with sinks that took
--- prefixes of what was committed
-pub record Ran (old : WorldBooks) (steps : List Step) (replies : List Reply) (new : WorldBooks) : Type 0 where
-  pub replay : (before : WorldState (List Entry)) → Stands (world_of old.shards old.books) before → (after : WorldState (List Entry)) × Stands (world_of new.shards new.books) after × Replay lists before steps replies after
-  pub prefixes : AllByRecursion (λ book. AllByRecursion (TookPrefix book.history.evaluations) book.sinks) new.books
-  pub sinks : SinksFollow old.books steps replies new.books

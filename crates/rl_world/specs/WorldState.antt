@@ -6,7 +6,8 @@ use Rattle.rl_query.specs.declared.query.Term.{Term}
 use Rattle.rl_aggregate.specs.declared.partial.Partial.{Partial}
 use Rattle.rl_shard.specs.ShardState.{Journalled}
 use Rattle.rl_sinks.specs.SinkState.{SinkState, closed}
-use Rattle.rl_world.specs.Evaluating.{group_terms, partials_of}
+use Rattle.rl_world.specs.Evaluating.{group_terms}
+use Rattle.rl_world.specs.Kept.{partials_of}
 use Rattle.rl_world.specs.History.{History}
 use Rattle.rl_world.specs.Offering.{TookPrefix}
 use Rattle.rl_world.specs.Slots.{IsKept, most_shards}
@@ -56,6 +57,10 @@ kept_world world = record { shards = world.shards; histories = map kept_history 
 -- what is kept stands for every world of shown lists whose partials it has
 abbrev pub Stands : WorldState (List Partial) → WorldState (List Entry) → Type 0
 Stands kept world = kept ≡ kept_world world
+
+-- so it stands for some lists that may have been shown
+abbrev pub StandsForSome : WorldState (List Partial) → Type 0
+StandsForSome kept = (shown : WorldState (List Entry)) × Stands kept shown
 
 -- what holds of every book: its terms are the group's, an open evaluation has a slot for each shard, and its sinks took prefixes
 pub record IsBook (terms : List Term) (book : BookState) : Type 0 where

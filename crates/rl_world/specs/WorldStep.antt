@@ -1,10 +1,10 @@
 -- What a world answers to a step, and what it is afterwards.
-use Rattle.std.specs.Prelude.{◌≡◌, ◌⊎◌, ℕ, Bool, true, false, IsTrue, List, [], ◌∷◌, length, Option, None, Some, option_map, slice_get, slice_set, if◌then◌else◌}
+use Rattle.std.specs.Prelude.{◌≡◌, ◌⊎◌, ℕ, Bool, true, false, not, IsTrue, List, [], ◌∷◌, length, Option, None, Some, option_map, slice_get, slice_set, if◌then◌else◌}
 use Rattle.rl_labels.specs.declared.entry.Entry.{Entry}
 use Rattle.rl_query.specs.declared.query.Term.{Term}
 use Rattle.rl_aggregate.specs.declared.partial.Partial.{Partial}
 use Rattle.rl_shard.specs.ShardState.{Journalled, visible}
-use Rattle.rl_shard.specs.ShardStep.{step_reply, recorded, is_journal_full}
+use Rattle.rl_shard.specs.ShardStep.{step_reply, recorded, is_journal_full, needs_no_memory}
 use Rattle.rl_shard.specs.declared.step.ShardStep.{ShardStep}
 use Rattle.rl_shard.specs.declared.step.ShardStep.TheVariants as shard_steps
 use Rattle.rl_shard.specs.declared.step.ShardReply.{ShardReply}
@@ -12,7 +12,8 @@ use Rattle.rl_shard.specs.declared.step.ShardFault.{ShardFault}
 use Rattle.rl_shard.specs.declared.step.ShardFault.TheVariants as shard_faults
 use Rattle.rl_rules.specs.declared.rule.Group.{Group}
 use Rattle.rl_rules.specs.declared.evaluation.Evaluation.{Evaluation}
-use Rattle.rl_world.specs.Evaluating.{group_terms, evaluation_of, evaluation_from, partials_of}
+use Rattle.rl_world.specs.Evaluating.{group_terms, evaluation_of}
+use Rattle.rl_world.specs.Kept.{evaluation_from, partials_of}
 use Rattle.rl_world.specs.History.{History, begin_fault, gather_fault, commit_fault, abandon_fault, begun, gathered, committed, abandoned}
 use Rattle.rl_world.specs.WorldState.{WorldState}
 use Rattle.rl_world.specs.declared.opened.OpenEvaluation.{OpenEvaluation}
@@ -61,23 +62,18 @@ abbrev pub told_of_book : OrMemory BookFault → Refusal
 told_of_book (errors.Fault fault) = refusals.Book fault
 told_of_book errors.Memory = refusals.Memory
 
--- Abandon takes no memory
-abbrev pub takes_memory : Step → Bool
-takes_memory (steps.Abandon group) = false
-takes_memory (steps.Shard number step) = true
-takes_memory (steps.Begin group t) = true
-takes_memory (steps.Gather group number) = true
-takes_memory (steps.Commit group) = true
+-- a shard, if it is there, may want memory for a step
+abbrev pub shard_may_want : Option Journalled → ShardStep → Bool
+shard_may_want None step = false
+shard_may_want (Some shard) step = not (needs_no_memory shard.limits shard.state step)
 
--- a gather copies the terms before the shard tells that its journal is full
-abbrev pub copies_before : Step → Refusal → Bool
-copies_before (steps.Gather group number) refusals.JournalFull = true
-copies_before step refusal = false
-
--- whether a step that has this refusal, if any, may want memory in its place
-abbrev pub may_want : Step → Option Refusal → Bool
-may_want step None = takes_memory step
-may_want step (Some refusal) = copies_before step refusal
+-- whether a step may want memory: one of a shard where the shard may, and Abandon never
+abbrev pub may_want : List Journalled → Step → Bool
+may_want shards (steps.Shard number step) = shard_may_want (slice_get shards number) step
+may_want shards (steps.Abandon group) = false
+may_want shards (steps.Begin group t) = true
+may_want shards (steps.Gather group number) = true
+may_want shards (steps.Commit group) = true
 
 module _ {X : Type 0} where
   -- the refusal of a step that comes before its work, if one does: the first that applies
@@ -88,9 +84,9 @@ module _ {X : Type 0} where
   refusal_of world (steps.Commit group) = known (slice_get world.histories group) (λ history. option_map refusals.Book (commit_fault history))
   refusal_of world (steps.Abandon group) = known (slice_get world.histories group) (λ history. option_map refusals.Book (abandon_fault history))
 
-  -- it is the first refusal that applies, or want of memory
+  -- it is the first refusal that applies; where none does, it may be want of memory
   abbrev pub MayRefuse : WorldState X → Step → Refusal → Type 0
-  MayRefuse world step refusal = (refusal_of world step ≡ Some refusal) ⊎ ((refusal ≡ refusals.Memory) × IsTrue (may_want step (refusal_of world step)))
+  MayRefuse world step refusal = (refusal_of world step ≡ Some refusal) ⊎ ((refusal ≡ refusals.Memory) × (refusal_of world step ≡ None) × IsTrue (may_want world.shards step))
 
   abbrev pub with_shard : WorldState X → ℕ → Journalled → WorldState X
   with_shard world number shard = record { shards = slice_set world.shards number shard; histories = world.histories }

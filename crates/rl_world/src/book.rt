@@ -58,7 +58,8 @@ impl<S: Sink> Book<S> {
     ghost use Rattle.rl_labels.specs.declared.entry.Entry.{Entry};
     ghost use Rattle.rl_world.specs.declared.opened.OpenEvaluation.{OpenEvaluation};
     ghost use Rattle.rl_world.specs.WorldState.{kept_open};
-    ghost use Rattle.rl_world.specs.Evaluating.{group_terms, evaluation_of, evaluation_from};
+    ghost use Rattle.rl_world.specs.Evaluating.{group_terms, evaluation_of};
+    ghost use Rattle.rl_world.specs.Kept.{evaluation_from};
     ghost use Rattle.rl_world.specs.History.{begin_fault, gather_fault, commit_fault, abandon_fault, begun, gathered, committed, abandoned};
     ghost use Rattle.rl_world.specs.Offering.{AllOffered, behind_of};
     ghost use Rattle.rl_world.specs.Slots.{AreOfOneShard, most_shards};

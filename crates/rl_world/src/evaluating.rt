@@ -4,7 +4,8 @@ ghost use Rattle.std.specs.List.{AllByRecursion};
 ghost use Rattle.std.specs.Option.{unwrap_or};
 ghost use Rattle.rl_aggregate.specs.Evaluated.{terms_of, finished};
 ghost use Rattle.rl_aggregate.specs.Partials.{merge, Fits};
-ghost use Rattle.rl_world.specs.Evaluating.{group_terms, evaluation_from, merged_from, merged_terms, results_from, result_of, no_partial};
+ghost use Rattle.rl_world.specs.Evaluating.{group_terms, result_of};
+ghost use Rattle.rl_world.specs.Kept.{evaluation_from, merged_from, merged_terms, results_from, no_partial};
 ghost use Rattle.rl_world.specs.Slots.{IsKept, HasTerm, most_shards};
 
 use crate::opened::{Gathered, OpenEvaluation};

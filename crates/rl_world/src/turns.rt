@@ -4,7 +4,7 @@ ghost use Rattle.rl_shard.specs.ShardState.{visible};
 ghost use Rattle.rl_shard.specs.ShardStep.{recorded, is_journal_full};
 ghost use Rattle.rl_shard.specs.declared.step.ShardStep.TheVariants as shard_steps;
 ghost use Rattle.rl_shard.specs.declared.step.ShardFault.TheVariants as faults;
-ghost use Rattle.rl_world.specs.Evaluating.{partials_of};
+ghost use Rattle.rl_world.specs.Kept.{partials_of};
 ghost use Rattle.rl_world.specs.Slots.{AreOfOneShard};
 ghost use Rattle.rl_world.specs.WorldRun.{SinkStep};
 ghost use Rattle.rl_world.specs.WorldState.{world_of};
@@ -65,6 +65,9 @@ impl<S: Sink> WorldParts<S> {
             Ok(t) => t,
             Err(fault) => return Reply::Refused(Refusal::Book(fault)),
         };
+        if self.shards[number].is_journal_full() {
+            return Reply::Refused(Refusal::JournalFull);
+        }
         let Ok(terms) = book.terms().try_copy() else {
             return Reply::Refused(Refusal::Memory);
         };

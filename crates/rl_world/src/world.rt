@@ -40,11 +40,9 @@ impl<S: Sink> Model for World<S> {
 }
 
 impl<S: Sink> World<S> {
-    ghost use Rattle.rl_labels.specs.declared.entry.Entry.{Entry};
     ghost use Rattle.rl_world.specs.Offering.{TookPrefix};
-    ghost use Rattle.rl_world.specs.WorldRun.{SinksFollow, gained};
-    ghost use Rattle.rl_world.specs.WorldState.{WorldState, world_of, Stands};
-    ghost use Rattle.rl_world.specs.WorldStep.{Replay, lists};
+    ghost use Rattle.rl_world.specs.WorldRun.{Ran, gained};
+    ghost use Rattle.rl_world.specs.WorldState.{world_of, StandsForSome};
 
     /// A world with so many empty shards, and a book for each group with its sinks. The sinks have taken nothing.
     pub fn open(
@@ -59,6 +57,7 @@ impl<S: Sink> World<S> {
         requires fresh { AllByRecursion (λ own. AllByRecursion IsFresh (map S.state own.items)) sinks.items }
         ensures shards { IfOk result (λ world. world.shards ≡ replicate shards (record { limits = limits; state = empty_shard; records = 0 })) }
         ensures books { IfOk result (λ world. world.books ≡ books_from 0 limits.records shards groups.items (map (λ own. map S.state own.items) sinks.items)) }
+        ensures shown { IfOk result (λ world. StandsForSome (world_of world.shards world.books)) }
     {
         let books = open_books(alloc, limits.records, shards, groups, sinks)?;
         let shards = open_shards(alloc, limits, shards)?;
@@ -73,10 +72,8 @@ impl<S: Sink> World<S> {
         ensures room { length out.old.items + length steps.items ≤ vec_capacity out.old → IsOk result }
         ensures capacity { vec_capacity out.old ≤ vec_capacity out.new }
         ensures replies { OnOk result (out.new.items ≡ out.old.items ++ gained out.old.items out.new.items) }
-        ensures one_each { OnOk result (length (gained out.old.items out.new.items) ≡ length steps.items) }
-        ensures replay { OnOk result ((before : WorldState (List Entry)) → Stands (world_of self.old.shards self.old.books) before → (after : WorldState (List Entry)) × Stands (world_of self.new.shards self.new.books) after × Replay lists before steps.items (gained out.old.items out.new.items) after) }
+        ensures ran { OnOk result (Ran self.old steps.items (gained out.old.items out.new.items) self.new) }
         ensures prefixes { AllByRecursion (λ book. AllByRecursion (TookPrefix book.history.evaluations) book.sinks) self.new.books }
-        ensures sinks { OnOk result (SinksFollow self.old.books steps.items (gained out.old.items out.new.items) self.new.books) }
     {
         let parts = &mut self.parts;
         out.reserve(steps.len())?;

@@ -2,7 +2,7 @@
 use Rattle.std.proofs.Common.{◌≡◌, IfOk, sym, ap, subst, ◌∙◌}
 use Rattle.std.specs.Option.{unwrap_or}
 use Rattle.rl_aggregate.specs.Partials.{merge}
-use Rattle.rl_world.specs.Evaluating.{no_partial}
+use Rattle.rl_world.specs.Kept.{no_partial}
 use Rattle.rl_world.proofs.Merging.{merge-into_nothing}
 use Rattle.rl_world.proofs.evaluating.merge_first.Goals as goal
 

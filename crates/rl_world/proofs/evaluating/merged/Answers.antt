@@ -1,7 +1,7 @@
 -- The slot of a shard that was asked goes into the sum, which still fits; any other has nothing.
 use Rattle.std.proofs.Common.{◌≡◌, ◌+◌, get_or, sym, ap, subst, ◌∙◌}
 use Rattle.std.specs.Option.{unwrap_or}
-use Rattle.rl_world.specs.Evaluating.{no_partial}
+use Rattle.rl_world.specs.Kept.{no_partial}
 use Rattle.rl_world.proofs.Merging.{IsSumBefore, nothing_merged, asked, not_asked, sum_fits}
 use Rattle.rl_world.proofs.evaluating.merged.Goals as goal
 use Rattle.rl_world.proofs.evaluating.merged.Goals.{in-Some+in_ok-both, in_default}

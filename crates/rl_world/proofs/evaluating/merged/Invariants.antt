@@ -1,6 +1,6 @@
 -- What is left is merged into the sum so far.
 use Rattle.std.specs.Option.{unwrap_or}
-use Rattle.rl_world.specs.Evaluating.{no_partial}
+use Rattle.rl_world.specs.Kept.{no_partial}
 use Rattle.rl_world.proofs.Merging.{IsSumBefore}
 use Rattle.rl_world.proofs.evaluating.merged.Given as goal
 

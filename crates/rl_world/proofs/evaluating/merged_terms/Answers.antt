@@ -1,6 +1,6 @@
 -- One term more is merged.
 use Rattle.std.proofs.Common.{◌≡◌, ◌++◌, ◌∷◌, [], ◌+◌, ◌-◌, flat_map, option_to_list, ap, ◌∙◌}
-use Rattle.rl_world.specs.Evaluating.{merged_from, merged_terms, no_partial}
+use Rattle.rl_world.specs.Kept.{merged_from, merged_terms, no_partial}
 use Rattle.rl_world.proofs.Merging.{merged_terms-more}
 use Rattle.rl_world.proofs.evaluating.merged_terms.Goals as goal
 

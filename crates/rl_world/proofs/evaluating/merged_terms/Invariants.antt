@@ -1,6 +1,6 @@
 -- The merges of the terms so far, and those of the terms that are left.
 use Rattle.std.proofs.Common.{◌≡◌, ◌++◌, ◌-◌, flat_map, option_to_list}
-use Rattle.rl_world.specs.Evaluating.{merged_terms}
+use Rattle.rl_world.specs.Kept.{merged_terms}
 use Rattle.rl_world.proofs.evaluating.merged_terms.Given as goal
 
 abbrev pub invariant-loop-term : goal.invariant-loop-term

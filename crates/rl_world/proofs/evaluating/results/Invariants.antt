@@ -1,7 +1,7 @@
 -- The results of the rules so far and those of the rules that are left, for whose terms there is a partial each.
 use Rattle.std.proofs.Common.{◌≡◌, ◌++◌, length, drop, flat_map}
 use Rattle.rl_aggregate.specs.Evaluated.{terms_of}
-use Rattle.rl_world.specs.Evaluating.{results_from}
+use Rattle.rl_world.specs.Kept.{results_from}
 use Rattle.rl_world.proofs.evaluating.results.Given as goal
 
 abbrev pub invariant-loop-rule : goal.invariant-loop-rule

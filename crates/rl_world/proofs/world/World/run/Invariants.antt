@@ -1,6 +1,6 @@
 -- The replies so far are those of a run of the steps so far, and there is room for the others.
 use Rattle.std.proofs.Common.{◌≡◌, ◌+◌, ◌≤◌, ◌++◌, length, vec_len, vec_capacity}
-use Rattle.rl_world.proofs.Following.{RunSoFar}
+use Rattle.rl_world.proofs.Running.{RunSoFar}
 use Rattle.rl_world.proofs.world.World.run.Given as goal
 
 abbrev pub invariant-loop-step : goal.invariant-loop-step
@@ -8,5 +8,5 @@ invariant-loop-step g l = record {
   split : l.yielded ++ l.step-iterator.rest.items ≡ l.fn.steps.items;
   capacity : vec_capacity l.fn.out ≤ vec_capacity l.out;
   room : vec_len l.out + length l.step-iterator.rest.items ≤ vec_capacity l.out;
-  so_far : RunSoFar l.fn.self.shards l.fn.self.books l.fn.out.items l.yielded l.parts.shards.items l.parts.books.items l.out.items;
+  so_far : RunSoFar (record { shards = l.fn.self.shards; books = l.fn.self.books }) l.fn.out.items l.yielded (record { shards = l.parts.shards.items; books = l.parts.books.items }) l.out.items;
 }

@@ -1,77 +1,39 @@
--- A run of a world, turn by turn, and what it makes of each sink.
-use Rattle.std.proofs.Common.{◌≡◌, ℕ, zero, suc, ◌+◌, ◌<◌, ◌%◌, ◌^◌, Bool, true, false, cond, ◌||◌, List, [], ◌∷◌, ◌++◌, map, length, drop, Option, None, Some, MatchOption, option_map, option_and_then, slice_get, slice_set, nat_lt, nat_eq, refl, sym, ap, subst, ◌∙◌, arith}
-use Rattle.std.specs.List.{AllByRecursion, list_any, zip}
-use Rattle.std.proofs.lemmas.List.{append-nil, append_assoc}
-use Rattle.std.proofs.Math.Seq.{drop-append_seam}
+-- What follows of a run: a reply for each step, a replay by LogQL from scratch, and what it makes of each sink.
+use Rattle.std.proofs.Common.{◌≡◌, ℕ, zero, suc, ◌+◌, ◌<◌, ◌%◌, ◌^◌, Bool, true, false, cond, ◌||◌, List, [], ◌∷◌, map, length, Option, None, Some, MatchOption, option_map, option_and_then, slice_get, slice_set, nat_lt, nat_eq, refl, sym, ap, subst, ◌∙◌, arith}
+use Rattle.std.specs.List.{list_any, zip}
 use Rattle.std.proofs.lemmas.List.Sums.{sum_by-cons}
 use Rattle.std.proofs.lemmas.Option.{slice_get-map}
 use Rattle.std.proofs.lemmas.Bool.{eqb-true, eqb-false, eq-eqb, ne_eqb}
 use Rattle.rl_rules.specs.declared.evaluation.Evaluation.{Evaluation}
-use Rattle.rl_shard.specs.ShardState.{Journalled}
 use Rattle.rl_sinks.specs.SinkState.{SinkState}
-use Rattle.rl_world.specs.Offering.{TookPrefix, Offered, AllOffered, is_behind, behind_from, behind_of}
-use Rattle.rl_world.specs.WorldRun.{gained, CommitSinks, SinkStep, SinksFollow, told, listing, listings, is_listed, latest, last_listing}
-use Rattle.rl_world.specs.WorldState.{BookState, IsBookOf, world_of}
-use Rattle.rl_world.specs.WorldStep.{WorldStep, Replay, partials}
+use Rattle.rl_world.specs.Offering.{Offered, AllOffered, is_behind, behind_from, behind_of}
+use Rattle.rl_world.specs.Listings.{SinksFollow, listing, listings, is_listed, latest, last_listing}
+use Rattle.rl_world.specs.WorldRun.{CommitSinks, SinkStep, Ran, told}
+use Rattle.rl_labels.specs.declared.entry.Entry.{Entry}
+use Rattle.rl_world.specs.WorldState.{BookState, WorldBooks, WorldState, Stands, world_of}
+use Rattle.rl_world.specs.WorldStep.{Replay, lists}
 use Rattle.rl_world.specs.declared.step.Committed.{Committed}
 use Rattle.rl_world.specs.declared.step.Step.{Step}
 use Rattle.rl_world.specs.declared.step.Step.TheVariants as steps
 use Rattle.rl_world.specs.declared.step.Reply.{Reply}
 use Rattle.rl_world.specs.declared.step.Reply.TheVariants as replies
 
--- turn after turn, with what each makes of the sinks
-abbrev pub RunFrom : List Journalled → List BookState → List Step → List Reply → List Journalled → List BookState → Type 0
-RunFrom shards books [] [] shards' books' = (shards' ≡ shards) × (books' ≡ books)
-RunFrom shards books (step ∷ steps) (reply ∷ replies) shards' books' = (mid : List Journalled) × (between : List BookState) × WorldStep partials (world_of shards books) step reply (world_of mid between) × SinkStep books step reply between × RunFrom mid between steps replies shards' books'
-RunFrom shards books [] (reply ∷ replies) shards' books' = ⊥
-RunFrom shards books (step ∷ steps) [] shards' books' = ⊥
-
--- a run goes on by one turn
-pub run_more : (shards : List Journalled) (books : List BookState) (steps : List Step) (replies : List Reply) (shards1 : List Journalled) (books1 : List BookState) (step : Step) (reply : Reply) (shards2 : List Journalled) (books2 : List BookState)
-    → RunFrom shards books steps replies shards1 books1 → WorldStep partials (world_of shards1 books1) step reply (world_of shards2 books2) → SinkStep books1 step reply books2
-    → RunFrom shards books (steps ++ step ∷ []) (replies ++ reply ∷ []) shards2 books2
-run_more shards books [] [] shards1 books1 step reply shards2 books2 run turn sinks = (
-  shards2,
-  books2,
-  subst (λ s. WorldStep partials (world_of s books) step reply (world_of shards2 books2)) run.0 (subst (λ b. WorldStep partials (world_of shards1 b) step reply (world_of shards2 books2)) run.1 turn),
-  subst (λ b. SinkStep b step reply books2) run.1 sinks,
-  (refl, refl),
-)
-run_more shards books (first ∷ steps) (answer ∷ replies) shards1 books1 step reply shards2 books2 run turn sinks =
-    (run.0, run.1, run.2, run.3, run_more run.0 run.1 steps replies shards1 books1 step reply shards2 books2 run.4 turn sinks)
-run_more shards books [] (answer ∷ replies) shards1 books1 step reply shards2 books2 run turn sinks = absurd run
-run_more shards books (first ∷ steps) [] shards1 books1 step reply shards2 books2 run turn sinks = absurd run
-
--- it is a replay on what is kept
-pub run_replays : (shards : List Journalled) (books : List BookState) (steps : List Step) (replies : List Reply) (shards' : List Journalled) (books' : List BookState) → RunFrom shards books steps replies shards' books' → Replay partials (world_of shards books) steps replies (world_of shards' books')
-run_replays shards books [] [] shards' books' run = λ i. world_of (run.0 i) (run.1 i)
-run_replays shards books (step ∷ steps) (reply ∷ replies) shards' books' run = (world_of run.0 run.1, run.2, run_replays run.0 run.1 steps replies shards' books' run.4)
-run_replays shards books [] (reply ∷ replies) shards' books' run = absurd run
-run_replays shards books (step ∷ steps) [] shards' books' run = absurd run
-
 -- one reply for each step
-pub run_length : (shards : List Journalled) (books : List BookState) (steps : List Step) (replies : List Reply) (shards' : List Journalled) (books' : List BookState) → RunFrom shards books steps replies shards' books' → length replies ≡ length steps
-run_length shards books [] [] shards' books' run = refl
-run_length shards books (step ∷ steps) (reply ∷ replies) shards' books' run = ap suc (run_length run.0 run.1 steps replies shards' books' run.4)
-run_length shards books [] (reply ∷ replies) shards' books' run = absurd run
-run_length shards books (step ∷ steps) [] shards' books' run = absurd run
+pub ran_length : (old : WorldBooks) (steps : List Step) (replies : List Reply) (new : WorldBooks) → Ran old steps replies new → length replies ≡ length steps
+ran_length old [] [] new run = refl
+ran_length old (step ∷ steps) (reply ∷ replies) new run = ap suc (ran_length run.0 steps replies new run.2)
+ran_length old [] (reply ∷ replies) new run = absurd run
+ran_length old (step ∷ steps) [] new run = absurd run
 
--- a run so far, whose replies were added to a list
-pub record RunSoFar (shards : List Journalled) (books : List BookState) (before : List Reply) (steps : List Step) (shards' : List Journalled) (books' : List BookState) (out : List Reply) : Type 0 where
-  pub replies : List Reply
-  pub told_so : out ≡ before ++ replies
-  pub run : RunFrom shards books steps replies shards' books'
-
-pub run_none : (shards : List Journalled) (books : List BookState) (before : List Reply) (out : List Reply) → out ≡ before → RunSoFar shards books before [] shards books out
-run_none shards books before out same = record { replies = []; told_so = same ∙ sym (append-nil before); run = (refl, refl) }
-
-pub run_next : (shards : List Journalled) (books : List BookState) (before : List Reply) (steps : List Step) (shards1 : List Journalled) (books1 : List BookState) (out : List Reply) (step : Step) (reply : Reply) (shards2 : List Journalled) (books2 : List BookState) (now : List Reply)
-    → RunSoFar shards books before steps shards1 books1 out → WorldStep partials (world_of shards1 books1) step reply (world_of shards2 books2) → SinkStep books1 step reply books2 → now ≡ out ++ reply ∷ [] → RunSoFar shards books before (steps ++ step ∷ []) shards2 books2 now
-run_next shards books before steps shards1 books1 out step reply shards2 books2 now so_far turn sinks more = record {
-  replies = so_far.replies ++ reply ∷ [];
-  told_so = more ∙ ap (λ l. l ++ reply ∷ []) so_far.told_so ∙ append_assoc before so_far.replies (reply ∷ []);
-  run = run_more shards books steps so_far.replies shards1 books1 step reply shards2 books2 so_far.run turn sinks;
-}
+-- a run is a replay by LogQL from scratch, of any lists that may have been shown
+pub ran_replays : (old : WorldBooks) (steps : List Step) (replies : List Reply) (new : WorldBooks) → Ran old steps replies new → (shown : WorldState (List Entry)) → Stands (world_of old.shards old.books) shown → (after : WorldState (List Entry)) × Stands (world_of new.shards new.books) after × Replay lists shown steps replies after
+ran_replays old [] [] new run shown stands = (shown, ap (λ (world : WorldBooks). world_of world.shards world.books) run ∙ stands, refl)
+ran_replays old (step ∷ steps) (reply ∷ replies) new run shown stands =
+    let first = run.1.from_scratch shown stands in
+    let rest = ran_replays run.0 steps replies new run.2 first.0 first.1 in
+    (rest.0, rest.1, (first.0, first.2, rest.2))
+ran_replays old [] (reply ∷ replies) new run shown stands = absurd run
+ran_replays old (step ∷ steps) [] new run shown stands = absurd run
 
 some_is : {X : Type 0} (a b : X) → Some a ≡ Some b → a ≡ b
 some_is a b h = cc
@@ -217,36 +179,8 @@ commit_follows old new at group number book sink answer commit there here =
 -- what one turn makes of a sink
 turn_follows : (old new : List BookState) (step : Step) (reply : Reply) (group number : ℕ) (book : BookState) (sink : SinkState) → SinkStep old step reply new → slice_get old group ≡ Some book → slice_get book.sinks number ≡ Some sink
     → FollowsOn (cond (is_listed (listing group number (step, reply))) 1 0) (listing group number (step, reply)) group number book sink new
-turn_follows old new (steps.Shard at step) (replies.Decided place reply) group number book sink sinks there here = untouched old new group number book sink sinks there here
-turn_follows old new (steps.Shard at step) replies.Begun group number book sink sinks there here = untouched old new group number book sink sinks there here
-turn_follows old new (steps.Shard at step) (replies.Gathered place) group number book sink sinks there here = untouched old new group number book sink sinks there here
-turn_follows old new (steps.Shard at step) (replies.Committed answer) group number book sink sinks there here = untouched old new group number book sink sinks there here
-turn_follows old new (steps.Shard at step) replies.Abandoned group number book sink sinks there here = untouched old new group number book sink sinks there here
-turn_follows old new (steps.Shard at step) (replies.Refused refusal) group number book sink sinks there here = untouched old new group number book sink sinks there here
-turn_follows old new (steps.Begin at t) (replies.Decided place reply) group number book sink sinks there here = untouched old new group number book sink sinks there here
-turn_follows old new (steps.Begin at t) replies.Begun group number book sink sinks there here = untouched old new group number book sink sinks there here
-turn_follows old new (steps.Begin at t) (replies.Gathered place) group number book sink sinks there here = untouched old new group number book sink sinks there here
-turn_follows old new (steps.Begin at t) (replies.Committed answer) group number book sink sinks there here = untouched old new group number book sink sinks there here
-turn_follows old new (steps.Begin at t) replies.Abandoned group number book sink sinks there here = untouched old new group number book sink sinks there here
-turn_follows old new (steps.Begin at t) (replies.Refused refusal) group number book sink sinks there here = untouched old new group number book sink sinks there here
-turn_follows old new (steps.Gather at asked) (replies.Decided place reply) group number book sink sinks there here = untouched old new group number book sink sinks there here
-turn_follows old new (steps.Gather at asked) replies.Begun group number book sink sinks there here = untouched old new group number book sink sinks there here
-turn_follows old new (steps.Gather at asked) (replies.Gathered place) group number book sink sinks there here = untouched old new group number book sink sinks there here
-turn_follows old new (steps.Gather at asked) (replies.Committed answer) group number book sink sinks there here = untouched old new group number book sink sinks there here
-turn_follows old new (steps.Gather at asked) replies.Abandoned group number book sink sinks there here = untouched old new group number book sink sinks there here
-turn_follows old new (steps.Gather at asked) (replies.Refused refusal) group number book sink sinks there here = untouched old new group number book sink sinks there here
-turn_follows old new (steps.Commit at) (replies.Decided place reply) group number book sink sinks there here = untouched old new group number book sink sinks there here
-turn_follows old new (steps.Commit at) replies.Begun group number book sink sinks there here = untouched old new group number book sink sinks there here
-turn_follows old new (steps.Commit at) (replies.Gathered place) group number book sink sinks there here = untouched old new group number book sink sinks there here
 turn_follows old new (steps.Commit at) (replies.Committed answer) group number book sink sinks there here = commit_follows old new at group number book sink answer sinks there here
-turn_follows old new (steps.Commit at) replies.Abandoned group number book sink sinks there here = untouched old new group number book sink sinks there here
-turn_follows old new (steps.Commit at) (replies.Refused refusal) group number book sink sinks there here = untouched old new group number book sink sinks there here
-turn_follows old new (steps.Abandon at) (replies.Decided place reply) group number book sink sinks there here = untouched old new group number book sink sinks there here
-turn_follows old new (steps.Abandon at) replies.Begun group number book sink sinks there here = untouched old new group number book sink sinks there here
-turn_follows old new (steps.Abandon at) (replies.Gathered place) group number book sink sinks there here = untouched old new group number book sink sinks there here
-turn_follows old new (steps.Abandon at) (replies.Committed answer) group number book sink sinks there here = untouched old new group number book sink sinks there here
-turn_follows old new (steps.Abandon at) replies.Abandoned group number book sink sinks there here = untouched old new group number book sink sinks there here
-turn_follows old new (steps.Abandon at) (replies.Refused refusal) group number book sink sinks there here = untouched old new group number book sink sinks there here
+turn_follows old new step reply group number book sink sinks there here = untouched old new group number book sink sinks there here
 
 -- and a turn before others
 follows_more : (count : ℕ) (last : Option Bool) (more : ℕ) (rest : Option Bool) (group number : ℕ) (book : BookState) (sink : SinkState) (mid new : List BookState) → (first : FollowsOn count last group number book sink mid) → FollowsOn more rest group number first.after first.new new
@@ -269,23 +203,23 @@ follows_more count last more rest group number book sink mid new first then = re
     joined None (Some listed) a b = b
     joined (Some early) (Some listed) a b = b
 
-run_follows : (shards : List Journalled) (books : List BookState) (steps : List Step) (replies : List Reply) (shards' : List Journalled) (books' : List BookState) (group number : ℕ) (book : BookState) (sink : SinkState) → RunFrom shards books steps replies shards' books' → slice_get books group ≡ Some book → slice_get book.sinks number ≡ Some sink
-    → FollowsOn (listings group number (zip steps replies)) (last_listing group number (zip steps replies)) group number book sink books'
-run_follows shards books [] [] shards' books' group number book sink run there here = record {
+run_follows : (old : WorldBooks) (steps : List Step) (replies : List Reply) (new : WorldBooks) (group number : ℕ) (book : BookState) (sink : SinkState) → Ran old steps replies new → slice_get old.books group ≡ Some book → slice_get book.sinks number ≡ Some sink
+    → FollowsOn (listings group number (zip steps replies)) (last_listing group number (zip steps replies)) group number book sink new.books
+run_follows old [] [] new group number book sink run there here = record {
   after = book;
-  there = ap (λ l. slice_get l group) run.1 ∙ there;
+  there = ap (λ (world : WorldBooks). slice_get world.books group) run ∙ there;
   new = sink;
   here = here;
   refusals = ap (λ n. n % 2 ^ 64) (omega arith);
   behind = (refl, refl);
 }
-run_follows shards books (step ∷ steps) (reply ∷ replies) shards' books' group number book sink run there here =
-    let first = turn_follows books run.1 step reply group number book sink run.3 there here in
-    let rest = run_follows run.0 run.1 steps replies shards' books' group number first.after first.new run.4 first.there first.here in
-    let both = follows_more _ _ _ _ group number book sink run.1 books' first rest in
-    subst (λ n. FollowsOn n (last_listing group number (zip (step ∷ steps) (reply ∷ replies))) group number book sink books') (sym (sum_by-cons (λ turn. cond (is_listed (listing group number turn)) 1 0) (step, reply) (zip steps replies))) both
-run_follows shards books [] (reply ∷ replies) shards' books' group number book sink run there here = absurd run
-run_follows shards books (step ∷ steps) [] shards' books' group number book sink run there here = absurd run
+run_follows old (step ∷ steps) (reply ∷ replies) new group number book sink run there here =
+    let first = turn_follows old.books run.0.books step reply group number book sink run.1.sinks there here in
+    let rest = run_follows run.0 steps replies new group number first.after first.new run.2 first.there first.here in
+    let both = follows_more _ _ _ _ group number book sink run.0.books new.books first rest in
+    subst (λ n. FollowsOn n (last_listing group number (zip (step ∷ steps) (reply ∷ replies))) group number book sink new.books) (sym (sum_by-cons (λ turn. cond (is_listed (listing group number turn)) 1 0) (step, reply) (zip steps replies))) both
+run_follows old [] (reply ∷ replies) new group number book sink run there here = absurd run
+run_follows old (step ∷ steps) [] new group number book sink run there here = absurd run
 
 -- a sink by its numbers is in a book
 record SinkIn (books : List BookState) (group number : ℕ) (sink : SinkState) : Type 0 where
@@ -302,10 +236,10 @@ weaker None A B P h = h.0
 weaker (Some listed) A B P h = h
 
 -- every sink follows
-pub sinks_follow : (shards : List Journalled) (books : List BookState) (steps : List Step) (replies : List Reply) (shards' : List Journalled) (books' : List BookState) → RunFrom shards books steps replies shards' books' → SinksFollow books steps replies books'
-sinks_follow shards books steps replies shards' books' run group number sink at =
-    let found = sink_in (slice_get books group) number sink at in
-    let on = run_follows shards books steps replies shards' books' group number found.0 sink run found.1 found.2 in
+pub ran_follow : (old : WorldBooks) (steps : List Step) (replies : List Reply) (new : WorldBooks) → Ran old steps replies new → SinksFollow old.books steps replies new.books
+ran_follow old steps replies new run group number sink at =
+    let found = sink_in (slice_get old.books group) number sink at in
+    let on = run_follows old steps replies new group number found.0 sink run found.1 found.2 in
     let last = last_listing group number (zip steps replies) in
     record {
       book = on.after;
@@ -315,14 +249,33 @@ sinks_follow shards books steps replies shards' books' run group number sink at 
       follows = record { refusals = on.refusals; behind = weaker last (on.new.count ≡ sink.count) (on.after.history.evaluations ≡ found.0.history.evaluations) (λ listed. is_behind on.after.history.evaluations on.new ≡ listed) on.behind };
     }
 
--- what a list gained is what was added to it
-gained_is : (before replies out : List Reply) → out ≡ before ++ replies → gained before out ≡ replies
-gained_is before replies out told_so = ap (drop (length before)) told_so ∙ drop-append_seam before replies
+-- how many sinks each book has
+abbrev pub sink_counts : List BookState → List ℕ
+sink_counts books = map (λ book. length book.sinks) books
 
-pub run_done : (shards : List Journalled) (books : List BookState) (before : List Reply) (steps : List Step) (shards' : List Journalled) (books' : List BookState) (out : List Reply) → RunSoFar shards books before steps shards' books' out → RunFrom shards books steps (gained before out) shards' books'
-run_done shards books before steps shards' books' out so_far = subst (λ replies. RunFrom shards books steps replies shards' books') (sym (gained_is before so_far.replies out so_far.told_so)) so_far.run
+counts_told : (books : List BookState) → map (λ (t : List Evaluation × List SinkState). length t.1) (map told books) ≡ sink_counts books
+counts_told [] = refl
+counts_told (book ∷ books) = ap (λ rest. length book.sinks ∷ rest) (counts_told books)
 
--- the sinks of each book of a world took prefixes
-pub each_prefix : (n : ℕ) (books : List BookState) → AllByRecursion (IsBookOf n) books → AllByRecursion (λ (book : BookState). AllByRecursion (TookPrefix book.history.evaluations) book.sinks) books
-each_prefix n [] fits = tt
-each_prefix n (book ∷ books) fits = (fits.0.1, each_prefix n books fits.1)
+counts_set : (books : List BookState) (group : ℕ) (before after : BookState) → slice_get books group ≡ Some before → length after.sinks ≡ length before.sinks → sink_counts (slice_set books group after) ≡ sink_counts books
+counts_set [] group before after there same = refl
+counts_set (book ∷ books) zero before after there same = ap (λ count. count ∷ sink_counts books) (same ∙ ap (λ (b : BookState). length b.sinks) (sym (some_is book before there)))
+counts_set (book ∷ books) (suc group) before after there same = ap (λ rest. length book.sinks ∷ rest) (counts_set books group before after there same)
+
+offered_count : (evaluations : List Evaluation) (olds news : List SinkState) → AllOffered evaluations olds news → length news ≡ length olds
+offered_count evaluations [] [] all = refl
+offered_count evaluations (old ∷ olds) (new ∷ news) all = ap suc (offered_count evaluations olds news all.1)
+offered_count evaluations [] (new ∷ news) all = absurd all
+offered_count evaluations (old ∷ olds) [] all = absurd all
+
+turn_counts : (old new : List BookState) (step : Step) (reply : Reply) → SinkStep old step reply new → sink_counts new ≡ sink_counts old
+turn_counts old new (steps.Commit group) (replies.Committed answer) commit =
+    ap sink_counts commit.now ∙ counts_set old group commit.before commit.after commit.there (offered_count commit.after.history.evaluations commit.before.sinks commit.after.sinks commit.offered)
+turn_counts old new step reply same = sym (counts_told new) ∙ ap (map (λ (t : List Evaluation × List SinkState). length t.1)) same ∙ counts_told old
+
+-- no sink comes or goes
+pub ran_counts : (old : WorldBooks) (steps : List Step) (replies : List Reply) (new : WorldBooks) → Ran old steps replies new → sink_counts new.books ≡ sink_counts old.books
+ran_counts old [] [] new run = ap (λ (world : WorldBooks). sink_counts world.books) run
+ran_counts old (step ∷ steps) (reply ∷ replies) new run = ran_counts run.0 steps replies new run.2 ∙ turn_counts old.books run.0.books step reply run.1.sinks
+ran_counts old [] (reply ∷ replies) new run = absurd run
+ran_counts old (step ∷ steps) [] new run = absurd run

@@ -1,0 +1,51 @@
+-- A run of a world, turn by turn.
+use Rattle.std.proofs.Common.{◌≡◌, ℕ, List, [], ◌∷◌, ◌++◌, length, drop, refl, sym, ap, subst, ◌∙◌}
+use Rattle.std.specs.List.{AllByRecursion}
+use Rattle.std.proofs.lemmas.List.{append-nil, append_assoc}
+use Rattle.std.proofs.Math.Seq.{drop-append_seam}
+use Rattle.rl_world.specs.Offering.{TookPrefix}
+use Rattle.rl_world.specs.WorldRun.{gained, SinkStep, Turned, Ran}
+use Rattle.rl_world.specs.WorldState.{BookState, WorldBooks, IsBookOf, world_of}
+use Rattle.rl_world.specs.WorldStep.{WorldStep, partials}
+use Rattle.rl_world.specs.declared.step.Step.{Step}
+use Rattle.rl_world.specs.declared.step.Reply.{Reply}
+use Rattle.rl_world.proofs.Lifting.{lift_step}
+
+-- what shards and books answer to a step is a turn of their world
+pub turned : (old : WorldBooks) (step : Step) (reply : Reply) (new : WorldBooks) → WorldStep partials (world_of old.shards old.books) step reply (world_of new.shards new.books) → SinkStep old.books step reply new.books → Turned old step reply new
+turned old step reply new turn sinks = record {
+  from_scratch = λ shown stands. lift_step shown step reply (world_of new.shards new.books) (subst (λ world. WorldStep partials world step reply (world_of new.shards new.books)) stands turn);
+  sinks = sinks;
+}
+
+-- a run goes on by one turn
+run_more : (old : WorldBooks) (steps : List Step) (replies : List Reply) (mid : WorldBooks) (step : Step) (reply : Reply) (new : WorldBooks) → Ran old steps replies mid → Turned mid step reply new → Ran old (steps ++ step ∷ []) (replies ++ reply ∷ []) new
+run_more old [] [] mid step reply new run turn = (new, subst (λ world. Turned world step reply new) run turn, refl)
+run_more old (first ∷ steps) (answer ∷ replies) mid step reply new run turn = (run.0, run.1, run_more run.0 steps replies mid step reply new run.2 turn)
+run_more old [] (answer ∷ replies) mid step reply new run turn = absurd run
+run_more old (first ∷ steps) [] mid step reply new run turn = absurd run
+
+-- a run so far, whose replies were added to a list
+pub record RunSoFar (old : WorldBooks) (before : List Reply) (steps : List Step) (now : WorldBooks) (out : List Reply) : Type 0 where
+  pub replies : List Reply
+  pub told_so : out ≡ before ++ replies
+  pub run : Ran old steps replies now
+
+pub run_none : (old : WorldBooks) (before out : List Reply) → out ≡ before → RunSoFar old before [] old out
+run_none old before out same = record { replies = []; told_so = same ∙ sym (append-nil before); run = refl }
+
+pub run_next : (old : WorldBooks) (before : List Reply) (steps : List Step) (mid : WorldBooks) (out : List Reply) (step : Step) (reply : Reply) (new : WorldBooks) (now : List Reply) → RunSoFar old before steps mid out → Turned mid step reply new → now ≡ out ++ reply ∷ [] → RunSoFar old before (steps ++ step ∷ []) new now
+run_next old before steps mid out step reply new now so_far turn more = record {
+  replies = so_far.replies ++ reply ∷ [];
+  told_so = more ∙ ap (λ l. l ++ reply ∷ []) so_far.told_so ∙ append_assoc before so_far.replies (reply ∷ []);
+  run = run_more old steps so_far.replies mid step reply new so_far.run turn;
+}
+
+-- what a list gained is what was added to it
+pub run_done : (old : WorldBooks) (before : List Reply) (steps : List Step) (now : WorldBooks) (out : List Reply) → RunSoFar old before steps now out → Ran old steps (gained before out) now
+run_done old before steps now out so_far = subst (λ replies. Ran old steps replies now) (sym (ap (drop (length before)) so_far.told_so ∙ drop-append_seam before so_far.replies)) so_far.run
+
+-- the sinks of each book of a world took prefixes
+pub each_prefix : (n : ℕ) (books : List BookState) → AllByRecursion (IsBookOf n) books → AllByRecursion (λ (book : BookState). AllByRecursion (TookPrefix book.history.evaluations) book.sinks) books
+each_prefix n [] fits = tt
+each_prefix n (book ∷ books) fits = (fits.0.1, each_prefix n books fits.1)
