@@ -12,13 +12,14 @@ ghost use Rattle.rl_labels.specs.Pairs.{labels_from, longest_text, names_are_goo
 ghost use Rattle.rl_plain.specs.Answers.{Answers, Gives};
 ghost use Rattle.rl_plain.specs.declared.refusal.OrMemory.TheVariants.{Fault, Memory};
 
-use rl_plain::{OrMemory, PlainList, PlainText, Same, TryCopy, count_escapes, push_escaped};
+use rl_plain::{
+    OrMemory, PlainList, PlainText, Same, Shared, TryCopy, count_escapes, push_escaped,
+};
 use std::alloc::{AllocError, Global};
 use std::cmp::Ordering;
 use std::fmt;
 use std::hash::{Hash, Hasher};
 use std::marker::Model;
-use std::sync::Arc;
 use thiserror::Error;
 
 /// The label that a pipeline sets on a line that it cannot read.
@@ -349,7 +350,7 @@ struct Parts {
 /// `{app="a",job="b"}`.
 #[derive(Debug, Drop)]
 pub struct Labels {
-    parts: Arc<Parts>,
+    parts: Shared<Parts>,
 }
 
 impl Model for Labels {
@@ -399,7 +400,7 @@ impl Labels {
     {
         let text = PlainText::from_string(text_of(alloc, &labels)?);
         let labels = PlainList::from_vec(labels);
-        let parts = Arc::new(alloc, Parts { labels, text })?;
+        let parts = Shared::new(alloc, Parts { labels, text })?;
         Ok(Labels { parts })
     }
 
@@ -408,7 +409,7 @@ impl Labels {
         requires { IsTrue (is_name name.now) }
         ensures { IfOk result (λ labels. labels ≡ with_label self.now name.now value.now) }
     {
-        let alloc = self.parts.text.allocator();
+        let alloc = self.parts.get().text.allocator();
         let labels = overridden(alloc, self.pairs(), name, value)?;
         let made = Labels::from_labels(alloc, labels)?;
         Ok(made)
@@ -425,29 +426,28 @@ impl Labels {
     pub fn pairs(&self) -> &[(PlainText, PlainText)]
         ensures { result.now ≡ labels_of self.now }
     {
-        self.parts.labels.as_slice()
+        self.parts.get().labels.as_slice()
     }
 
     /// The canonical text, borrowed.
     pub fn as_text(&self) -> &str
         ensures { result.now ≡ canonical_text self.now }
     {
-        self.parts.text.as_str()
+        self.parts.get().text.as_str()
     }
 
     /// A copy of the canonical text.
     pub fn text(&self) -> Result<String, AllocError>
         ensures { IfOk result (λ text. string_bytes text ≡ canonical_text self.now) }
     {
-        String::from_str(self.parts.text.allocator(), self.as_text())
+        String::from_str(self.parts.get().text.allocator(), self.as_text())
     }
 }
 
 impl TryCopy for Labels {
-    /// Shares the labels, and takes no memory. It is refused only where more copies live than can be counted; no clause
-    /// says so, since the contract of `Arc` does not say when it refuses one more.
+    /// Shares the labels, without memory, as `Shared` does.
     fn try_copy(&self) -> Result<Self, AllocError> {
-        let parts = Arc::try_clone(&self.parts)?;
+        let parts = self.parts.try_copy()?;
         Ok(Labels { parts })
     }
 }

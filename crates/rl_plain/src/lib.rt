@@ -7,6 +7,7 @@
 //! - `escape`: texts as they are written between quotes, by a table of escapes.
 //! - `refusal`: `OrMemory`, a fault or want of memory.
 //! - `sameness`: `Same`, whose answer is true exactly when the two values are one.
+//! - `shared`: `Shared<T>`, whose copies are one block.
 #![tactic(auto)]
 
 pub mod copying;
@@ -14,6 +15,7 @@ pub mod escape;
 pub mod list;
 pub mod refusal;
 pub mod sameness;
+pub mod shared;
 pub mod text;
 
 pub use copying::TryCopy;
@@ -21,4 +23,5 @@ pub use escape::{count_escapes, push_escaped, unescape};
 pub use list::PlainList;
 pub use refusal::OrMemory;
 pub use sameness::Same;
+pub use shared::Shared;
 pub use text::PlainText;
