@@ -1,5 +1,6 @@
 //! What a recorder writes when writes fail, are short or are interrupted.
 use crate::tests_given::{FULL, Planned, commit, front, is, recorded};
+use rl_plain::Shared;
 use rl_rules::Evaluation;
 use rl_sinks::SinkFault::{Full, Refused, WriteFault};
 use rl_sinks::{Recorder, Sink, SinkFault, SinkKind};
@@ -13,7 +14,7 @@ const THREE: &str =
     "{__name__=\"c\",app=\"a\"} 1 10000000000\n{__name__=\"c\",app=\"a\"} 1 10000000000\n# end 3\n";
 
 // An evaluation, of which there is something to tell at ten seconds and nothing at a hundred.
-fn evaluation(alloc: Global, t: u64) -> Result<Evaluation, Fail> {
+fn evaluation(alloc: Global, t: u64) -> Result<Shared<Evaluation>, Fail> {
     let mut world = recorded(alloc).ok_or("a world")?;
     let answer = commit(&mut world, alloc, (0, t)).ok_or("an answer")?;
     Ok(answer.evaluation)
@@ -31,7 +32,7 @@ fn closes(rt: &impl Abort, alloc: Global, to: Planned, want: (u64, u64, u64)) ->
     let mut writer = to;
     let mut recorder = Recorder::new(alloc, &mut writer, 3);
     for evaluation in [&one, &quiet, &one] {
-        take(rt, &mut recorder, evaluation)?;
+        take(rt, &mut recorder, evaluation.get())?;
     }
     let mut failed = 0u64;
     for _ in 0..3 {
@@ -74,13 +75,13 @@ fn a_box_is_the_sink_in_it(rt: HostRuntime) -> Result<(), Fail> {
     let writer = Planned::new(rt.alloc(), 99, (1, 1), FULL);
     let mut sink: Box<dyn Sink> = Box::new(rt.alloc(), Recorder::new(rt.alloc(), writer, 1))?;
     is(&rt, sink.kind(), SinkKind::Recorder, 0);
-    is(&rt, take(&rt, &mut sink, &one), Ok(()), 1);
-    is(&rt, take(&rt, &mut sink, &one), Err(Full), 2);
+    is(&rt, take(&rt, &mut sink, one.get()), Ok(()), 1);
+    is(&rt, take(&rt, &mut sink, one.get()), Err(Full), 2);
     is(&rt, sink.kept(0), Some(front(THREE, 37)), 3);
     is(&rt, sink.kept(1), None, 4);
     for want in [Err(WriteFault), Ok(()), Ok(())] {
         is(&rt, sink.close(), want, 5);
-        is(&rt, take(&rt, &mut sink, &one), Err(Refused(1)), 6);
+        is(&rt, take(&rt, &mut sink, one.get()), Err(Refused(1)), 6);
     }
     Ok(())
 }

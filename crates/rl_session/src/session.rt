@@ -484,7 +484,7 @@ fn tell_committed<W: Write>(
 ) -> Result<(), RunError>
     ensures { OnOk result (Appends (W.contents out.old) (W.contents out.new) (committed_text committed.now)) }
 {
-    let text = evaluation_text(alloc, SinkKind::Tail, &committed.evaluation)?;
+    let text = evaluation_text(alloc, SinkKind::Tail, committed.evaluation.get())?;
     out.write_all(text.as_bytes())?;
     tell_behind(committed.behind.as_slice(), out)?;
     Ok(())

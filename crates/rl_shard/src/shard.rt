@@ -6,7 +6,7 @@ use crate::step::{ShardFault, ShardReply, ShardStep};
 use crate::streams::{collect, decide, hold};
 use rl_aggregate::Partial;
 use rl_labels::{Entry, Labels, Limits, Ns};
-use rl_plain::PlainList;
+use rl_plain::{PlainList, Shared};
 use rl_query::Term;
 use std::alloc::{AllocError, Global};
 use std::collections::BTreeMap;
@@ -117,9 +117,14 @@ impl Shard {
     }
 
     // What the shard shows of each term's range.
-    fn show(&self, terms: &PlainList<Term>, t: Ns) -> Result<PlainList<Partial>, AllocError>
+    fn show(&self, terms: &Shared<PlainList<Term>>, t: Ns) -> Result<PlainList<Partial>, AllocError>
         ensures { IfOk result (λ partials. partials ≡ map_list (λ term. partial (visible self.now.state) term t) terms.now) }
     {
-        collect(*self.held.allocator(), &self.held, terms.as_slice(), t)
+        collect(
+            *self.held.allocator(),
+            &self.held,
+            terms.get().as_slice(),
+            t,
+        )
     }
 }

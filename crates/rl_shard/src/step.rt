@@ -4,7 +4,7 @@ ghost use Rattle.rl_shard.specs.declared.step.ShardFault.TheVariants.{Memory};
 
 use rl_aggregate::Partial;
 use rl_labels::{Entry, Ns};
-use rl_plain::PlainList;
+use rl_plain::{PlainList, Shared};
 use rl_query::Term;
 use std::alloc::{AllocError, AllocFailed};
 use thiserror::Error;
@@ -18,7 +18,8 @@ pub enum ShardStep {
     Collect {
         /// The number of the group that asks.
         slot: u64,
-        terms: PlainList<Term>,
+        /// Of the group's rules, in their order, with repeats.
+        terms: Shared<PlainList<Term>>,
         t: Ns,
     },
 }

@@ -14,7 +14,7 @@ use crate::opened::{Gathered, OpenEvaluation};
 use crate::step::Committed;
 use rl_aggregate::Partial;
 use rl_labels::Ns;
-use rl_plain::{PlainList, TryCopy};
+use rl_plain::{PlainList, Shared, TryCopy};
 use rl_query::Term;
 use rl_rules::{Evaluation, Group};
 use rl_sinks::Sink;
@@ -27,11 +27,11 @@ pub struct Book<S: Sink> {
     alloc: Global,
     group: Group,
     // Of the group's rules, in their order.
-    terms: PlainList<Term>,
+    terms: Shared<PlainList<Term>>,
     slot: u64,
     shards: usize,
     records: u64,
-    evaluations: Vec<Evaluation>,
+    evaluations: Vec<Shared<Evaluation>>,
     opened: Option<OpenEvaluation<PlainList<Partial>>>,
     sinks: Vec<S>,
 }
@@ -103,8 +103,9 @@ impl<S: Sink> Book<S> {
             return Err(BookError::Fault(BookFault::Busy));
         }
         if let Some(last) = self.evaluations.last() {
-            if t <= last.t {
-                return Err(BookError::Fault(BookFault::MomentNotLater { last: last.t }));
+            let last = last.get().t;
+            if t <= last {
+                return Err(BookError::Fault(BookFault::MomentNotLater { last }));
             }
         }
         let gathered = empty_slots(self.alloc, self.shards)?;
@@ -169,7 +170,7 @@ impl<S: Sink> Book<S> {
     }
 
     // The evaluation that a commit adds, and its copy for the caller.
-    fn evaluated(&self) -> Result<(Evaluation, Evaluation), BookError>
+    fn evaluated(&self) -> Result<(Shared<Evaluation>, Shared<Evaluation>), BookError>
         ensures answer { Answers (commit_fault self.now.history) result }
         ensures room { OnOk result (length self.now.history.evaluations < self.now.history.records) }
         ensures evaluation { IfOk result (λ both. IfSome self.now.history.opened (λ opened. both.0 ≡ evaluation_from self.now.history.group opened)) }
@@ -181,7 +182,7 @@ impl<S: Sink> Book<S> {
             Ok(opened) => opened,
             Err(fault) => return Err(BookError::Fault(fault)),
         };
-        let evaluation = evaluate(self.alloc, &self.group, self.terms.len(), opened)?;
+        let evaluation = evaluate(self.alloc, &self.group, self.terms.get().len(), opened)?;
         let told = evaluation.try_copy()?;
         Ok((evaluation, told))
     }
@@ -214,7 +215,7 @@ impl<S: Sink> Book<S> {
     }
 
     /// The terms of the group's rules, in their order, with repeats.
-    pub fn terms(&self) -> &PlainList<Term>
+    pub fn terms(&self) -> &Shared<PlainList<Term>>
         ensures { result.now ≡ group_terms self.now.history.group }
     {
         &self.terms
@@ -224,7 +225,8 @@ impl<S: Sink> Book<S> {
     pub fn evaluation(&self, number: u64) -> Option<&Evaluation>
         ensures { option_copied result ≡ slice_get self.now.history.evaluations number }
     {
-        self.evaluations.get(number as usize)
+        let evaluation = self.evaluations.get(number as usize)?;
+        Some(evaluation.get())
     }
 
     /// How many texts a sink has taken, if there is such a sink.

@@ -11,7 +11,7 @@ ghost use Rattle.rl_world.specs.Slots.{IsKept, HasTerm, most_shards};
 use crate::opened::{Gathered, OpenEvaluation};
 use rl_aggregate::{Partial, finish, merge};
 use rl_labels::Labels;
-use rl_plain::{PlainList, TryCopy};
+use rl_plain::{PlainList, Shared, TryCopy};
 use rl_query::{Query, Term};
 use rl_rules::{Evaluation, Group, Rule, RuleResult, step_rule};
 use std::alloc::{AllocError, Global};
@@ -20,14 +20,18 @@ use std::alloc::{AllocError, Global};
 pub(crate) type Slot = Option<Gathered<PlainList<Partial>>>;
 
 /// The terms of the group's rules, in their order.
-pub(crate) fn terms_of_group(alloc: Global, group: &Group) -> Result<PlainList<Term>, AllocError>
+pub(crate) fn terms_of_group(
+    alloc: Global,
+    group: &Group,
+) -> Result<Shared<PlainList<Term>>, AllocError>
     ensures { IfOk result (λ terms. terms ≡ group_terms group.now) }
 {
     let mut terms = Vec::new(alloc);
     for rule in group.rules.as_slice() {
         terms.push(rule.query.left.try_copy()?)?;
     }
-    Ok(PlainList::from_vec(terms))
+    let terms = Shared::new(alloc, PlainList::from_vec(terms))?;
+    Ok(terms)
 }
 
 /// The evaluation of the group, which has so many terms.
@@ -36,7 +40,7 @@ pub(crate) fn evaluate(
     group: &Group,
     terms: usize,
     opened: &OpenEvaluation<PlainList<Partial>>,
-) -> Result<Evaluation, AllocError>
+) -> Result<Shared<Evaluation>, AllocError>
     requires terms { terms ≡ length (group_terms group.now) }
     requires shards { length opened.now.gathered ≤ most_shards }
     requires slots { AllByRecursion (IsKept terms) opened.now.gathered }
@@ -47,12 +51,14 @@ pub(crate) fn evaluate(
     let outcomes = results(alloc, group.rules.as_slice(), &partials)?;
     let places = places(alloc, slots)?;
     let name = group.name.try_copy()?;
-    Ok(Evaluation {
+    let evaluation = Evaluation {
         group: name,
         t: opened.t,
         places: PlainList::from_vec(places),
         outcomes: PlainList::from_vec(outcomes),
-    })
+    };
+    let shared = Shared::new(alloc, evaluation)?;
+    Ok(shared)
 }
 
 // Where the journals of the shards that were asked have the question.

@@ -3,11 +3,16 @@ ghost use Rattle.std.specs.Prelude.{◌≡◌, ◌+◌, ◌≤◌, ◌<◌, ◌^
 ghost use Rattle.std.specs.List.{AllByRecursion};
 ghost use Rattle.rl_world.specs.Offering.{TookPrefix, Offered, AllOffered, is_behind, behind_of};
 
+use rl_plain::Shared;
 use rl_rules::Evaluation;
 use rl_sinks::Sink;
 
 /// Offers each sink all that it has not taken, and adds the numbers of those that refused.
-pub(crate) fn offer_all<S: Sink>(sinks: &mut [S], evaluations: &[Evaluation], behind: &mut Vec<u64>)
+pub(crate) fn offer_all<S: Sink>(
+    sinks: &mut [S],
+    evaluations: &[Shared<Evaluation>],
+    behind: &mut Vec<u64>,
+)
     requires few { length evaluations.now < 2 ^ 63 }
     requires prefixes { AllByRecursion (TookPrefix evaluations.now) (map S.state sinks.old) }
     requires room { vec_len behind.old + length sinks.old ≤ vec_capacity behind.old }
@@ -22,7 +27,7 @@ pub(crate) fn offer_all<S: Sink>(sinks: &mut [S], evaluations: &[Evaluation], be
 }
 
 // Offers what the sink has not taken, until it refuses. Whether it did.
-fn offer<S: Sink>(sink: &mut S, evaluations: &[Evaluation]) -> bool
+fn offer<S: Sink>(sink: &mut S, evaluations: &[Shared<Evaluation>]) -> bool
     requires few { length evaluations.now < 2 ^ 63 }
     requires prefix { TookPrefix evaluations.now (S.state sink.old) }
     ensures offered { Offered evaluations.now (S.state sink.old) (S.state sink.new) }
@@ -30,7 +35,7 @@ fn offer<S: Sink>(sink: &mut S, evaluations: &[Evaluation]) -> bool
 {
     let mut next = sink.count() as usize;
     while next < evaluations.len() {
-        if sink.take(&evaluations[next]).is_err() {
+        if sink.take(evaluations[next].get()).is_err() {
             return true;
         }
         next += 1;

@@ -1,7 +1,7 @@
 //! What a world can be asked, and what it answers. Shards, groups and sinks go by their number, counted from 0.
 use crate::fault::Refusal;
 use rl_labels::Ns;
-use rl_plain::PlainList;
+use rl_plain::{PlainList, Shared};
 use rl_rules::Evaluation;
 use rl_shard::{ShardReply, ShardStep};
 
@@ -39,7 +39,8 @@ pub enum Reply {
 pub struct Committed {
     /// Its number in the group's history, counted from 0.
     pub number: u64,
-    pub evaluation: Evaluation,
+    /// One block with the book's own.
+    pub evaluation: Shared<Evaluation>,
     /// The sinks that refused, by their numbers.
     pub behind: PlainList<u64>,
 }

@@ -16,7 +16,7 @@ use crate::parts::WorldParts;
 use crate::step::Reply;
 use rl_aggregate::Partial;
 use rl_labels::Ns;
-use rl_plain::{PlainList, TryCopy};
+use rl_plain::{PlainList, Shared, TryCopy};
 use rl_query::Term;
 use rl_shard::{Shard, ShardFault, ShardReply, ShardStep};
 use rl_sinks::Sink;
@@ -117,7 +117,7 @@ impl<S: Sink> WorldParts<S> {
 fn ask(
     shard: &mut Shard,
     slot: u64,
-    terms: PlainList<Term>,
+    terms: Shared<PlainList<Term>>,
     t: Ns,
 ) -> Result<(u64, PlainList<Partial>), ShardFault>
     ensures room { IsErrOf result faults.JournalFull → IsTrue (is_journal_full shard.old) }

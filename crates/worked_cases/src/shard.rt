@@ -3,7 +3,7 @@ use crate::aggregate::push_partial;
 use crate::given::{entry_in, moment_in, number_in};
 use crate::trouble::Trouble;
 use rl_labels::{DEFAULT_LIMITS, Limits};
-use rl_plain::{PlainList, TryCopy};
+use rl_plain::{PlainList, Shared, TryCopy};
 use rl_query::{Query, parse};
 use rl_shard::{Shard, ShardFault, ShardReply, ShardStep};
 use std::alloc::{AllocError, Global};
@@ -88,7 +88,7 @@ fn collect_step(alloc: Global, moment: &str, queries: &[Query]) -> Result<ShardS
     for query in queries {
         terms.push(query.left.try_copy()?)?;
     }
-    let terms = PlainList::from_vec(terms);
+    let terms = Shared::new(alloc, PlainList::from_vec(terms))?;
     Ok(ShardStep::Collect { slot: 0, terms, t })
 }
 

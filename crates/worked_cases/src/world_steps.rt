@@ -99,9 +99,10 @@ fn told_of_reply(alloc: Global, reply: &Reply) -> Result<String, Trouble> {
 // What was committed, with what a tail says of it.
 fn told_of_commit(alloc: Global, answer: &Committed) -> Result<String, Trouble> {
     let number = answer.number;
-    let places = numbers(alloc, answer.evaluation.places.as_slice())?;
+    let evaluation = answer.evaluation.get();
+    let places = numbers(alloc, evaluation.places.as_slice())?;
     let behind = numbers(alloc, answer.behind.as_slice())?;
-    let text = evaluation_text(alloc, SinkKind::Tail, &answer.evaluation)?;
+    let text = evaluation_text(alloc, SinkKind::Tail, evaluation)?;
     Ok(format!(in alloc; "{number} committed, places{places}, behind{behind}\n{text}")?)
 }
 
@@ -156,7 +157,7 @@ fn look(alloc: Global, book: &Book<Sunk>, word: &str, rest: &str) -> Result<Stri
 fn told_of_group(alloc: Global, book: &Book<Sunk>) -> Result<String, Trouble> {
     let (name, slot) = (book.group().name.as_str(), book.slot());
     let mut told = format!(in alloc; "{name}, slot {slot}\n")?;
-    for term in book.terms().as_slice() {
+    for term in book.terms().get().as_slice() {
         let term = print_term(alloc, term)?;
         writeln!(told, "{term}")?;
     }
@@ -201,7 +202,7 @@ impl Asking {
     fn put_nothing(&mut self, alloc: Global, words: &str) -> Result<String, Trouble> {
         let (shard, place) = words_of(words);
         let (shard, place) = (index_in(shard)?, number_in(place)?);
-        if shard >= self.shards || self.book.terms().len() > 0 {
+        if shard >= self.shards || self.book.terms().get().len() > 0 {
             return Err(Trouble::BadInput);
         }
         let nothing = PlainList::new(alloc);

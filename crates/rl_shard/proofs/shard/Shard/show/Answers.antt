@@ -11,5 +11,5 @@ returns c =
     let held = c.self.inside.held.items in
     let seen : held ≡ visible c.args.self.now.state = sym (keys-of_set entry_cmp_total entry_cmp-IsAntisymmetric held c.self.invariant.0) ∙ ap (λ shard. visible shard.state) c.self.view_is in
     let shown : c.deref.result.now ≡ visible c.args.self.now.state = c.deref.ensures.value ∙ seen in
-    subst (λ terms. IfOk c.collect.result (λ partials. partials ≡ map (λ term. partial (visible c.args.self.now.state) term c.args.t) terms)) c.as_slice.ensures
+    subst (λ terms. IfOk c.collect.result (λ partials. partials ≡ map (λ term. partial (visible c.args.self.now.state) term c.args.t) terms)) (c.as_slice.ensures ∙ c.get.ensures)
     (subst (λ entries. IfOk c.collect.result (λ partials. partials ≡ map (λ term. partial entries term c.args.t) c.as_slice.result.now)) shown c.collect.ensures)
