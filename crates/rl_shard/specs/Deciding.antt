@@ -1,5 +1,5 @@
 -- How a push is decided before anything is held.
-use Rattle.std.specs.Prelude.{◌≡◌, ℕ, ◌≤◌, Bool, true, false, List, Option, length}
+use Rattle.std.specs.Prelude.{◌≡◌, ℕ, ◌≤◌, Bool, true, false, List, Option, None, Some, length}
 use Rattle.std.specs.Option.{MatchOption}
 use Rattle.std.specs.List.{AllWithin}
 use Rattle.std.specs.declared.cmp.Ordering.TheVariants.{Less, Greater}
@@ -8,10 +8,9 @@ use Rattle.rl_labels.specs.EntryOrder.{entry_cmp}
 use Rattle.rl_labels.specs.declared.entry.Entry.{Entry}
 use Rattle.rl_labels.specs.declared.limits.Limits.{Limits}
 use Rattle.rl_shard.specs.ShardState.{ShardState, newest_map}
-use Rattle.rl_shard.specs.ShardStep.{push_reply, is_taken, raised}
+use Rattle.rl_shard.specs.ShardStep.{push_answer, raised}
 use Rattle.rl_shard.specs.declared.decision.Decision.{Decision}
 use Rattle.rl_shard.specs.declared.decision.Decision.TheVariants as decisions
-use Rattle.rl_shard.specs.declared.step.ShardReply.TheVariants as replies
 
 -- what was found is the value, where it passes the test
 abbrev pub IsFoundIf : (ℕ → Bool) → ℕ → Option ℕ → Type 0
@@ -27,7 +26,7 @@ pub record BelongsAt (entries : List Entry) (entry : Entry) (place : ℕ) : Type
   pub before : AllWithin (λ other. entry_cmp other entry ≡ Less) entries 0 place
   pub after : AllWithin (λ other. entry_cmp other entry ≡ Greater) entries place (length entries)
 
--- an answer is the reply of a push that holds nothing new; else the push is accepted, and has its place
+-- an answer is that to an entry that is not to be taken; else nothing speaks against the entry, and it belongs at the place
 abbrev pub Decides : Decision → Limits → ShardState → List Entry → Entry → Type 0
-Decides (decisions.Answer reply) limits shard entries entry = (is_taken limits shard entry ≡ false) × (reply ≡ push_reply limits shard entry)
-Decides (decisions.Hold place) limits shard entries entry = (is_taken limits shard entry ≡ true) × ((push_reply limits shard entry ≡ replies.Accepted) × BelongsAt entries entry place)
+Decides (decisions.Answer reply) limits shard entries entry = push_answer limits shard entry ≡ Some reply
+Decides (decisions.Hold place) limits shard entries entry = (push_answer limits shard entry ≡ None) × BelongsAt entries entry place

@@ -1,5 +1,6 @@
 -- What a shard answers to a step, and what it holds afterwards.
-use Rattle.std.specs.Prelude.{ℕ, ◌+◌, ◌*◌, nat_lt, nat_le, max, Bool, false, not, ◌&&◌, map, if◌then◌else◌}
+use Rattle.std.specs.Prelude.{ℕ, ◌+◌, ◌*◌, nat_lt, nat_le, max, Bool, false, not, map, if◌then◌else◌, Option, None, Some}
+use Rattle.std.specs.Option.{is_none, unwrap_or}
 use Rattle.std.specs.FinMap.{FinMap, insert, contains_key, len}
 use Rattle.rl_labels.specs.LabelSet.{LabelSet}
 use Rattle.rl_labels.specs.LabelText.{label_set_cmp}
@@ -34,18 +35,22 @@ is_too_far_behind limits shard entry = is_far_behind limits entry (newest_of sha
 abbrev pub is_full : Limits → ShardState → Bool
 is_full limits shard = nat_le limits.entries (len shard.held)
 
--- the first that holds
-abbrev pub push_reply : Limits → ShardState → Entry → ShardReply
-push_reply limits shard entry =
-    if is_expired shard entry then replies.Expired shard.horizon
-    else (if is_too_far_behind limits shard entry then replies.TooFarBehind (newest_of shard entry.labels)
-    else (if contains_key shard.held entry then replies.Accepted
-    else (if is_full limits shard then replies.Full
-    else replies.Accepted)))
+-- the answer to an entry that is not to be taken, by the first that holds; None where nothing speaks against the entry
+abbrev pub push_answer : Limits → ShardState → Entry → Option ShardReply
+push_answer limits shard entry =
+    if is_expired shard entry then Some (replies.Expired shard.horizon)
+    else (if is_too_far_behind limits shard entry then Some (replies.TooFarBehind (newest_of shard entry.labels))
+    else (if contains_key shard.held entry then Some replies.Accepted
+    else (if is_full limits shard then Some replies.Full
+    else None)))
 
--- the entry is new, and nothing speaks against it
+-- an entry that is taken is accepted
+abbrev pub push_reply : Limits → ShardState → Entry → ShardReply
+push_reply limits shard entry = unwrap_or (push_answer limits shard entry) replies.Accepted
+
+-- nothing speaks against the entry, and it is new
 abbrev pub is_taken : Limits → ShardState → Entry → Bool
-is_taken limits shard entry = not (is_expired shard entry) && (not (is_too_far_behind limits shard entry) && (not (contains_key shard.held entry) && not (is_full limits shard)))
+is_taken limits shard entry = is_none (push_answer limits shard entry)
 
 -- the newest timestamp of a stream is raised to another, and never lowered
 abbrev pub raised : FinMap label_set_cmp ℕ → LabelSet → ℕ → FinMap label_set_cmp ℕ
