@@ -1,11 +1,11 @@
 -- Texts that are written piece by piece.
-use Rattle.std.proofs.Common.{◌≡◌, ℕ, suc, zero, ◌+◌, ◌<◌, List, [], ◌∷◌, ◌++◌, length, take, get_or, replicate, Option, None, Some, sym, ap, subst, ◌∙◌, arith, append_assoc, append-nil, length-take-le, take_all}
-use Rattle.std.specs.Prelude.{◌≤◌, slice_get, IfSome, option_and_then}
+use Rattle.std.proofs.Common.{◌≡◌, ℕ, suc, ◌+◌, ◌<◌, List, [], ◌∷◌, ◌++◌, length, take, get_or, replicate, Option, None, Some, sym, ap, subst, ◌∙◌, arith, append_assoc, append-nil, length-take-le}
+use Rattle.std.specs.Prelude.{slice_get, IfSome, option_and_then}
 use Rattle.std.specs.List.{concat}
 use Rattle.std.specs.Io.KnownBytes.{Appends}
 use Rattle.std.proofs.lemmas.List.{take_more, replicate_more, length-replicate}
 use Rattle.std.proofs.lemmas.List.Folds.{concat-append}
-use Rattle.std.proofs.lemmas.Option.{none-some, slice_get_within, get_or_from_slice_get}
+use Rattle.std.proofs.lemmas.Option.{slice_get_within, get_or_from_slice_get}
 use Rattle.std.proofs.KnownBytes.{Appends-trans}
 use Rattle.rl_sinks.specs.SinkState.{SinkState}
 use Rattle.rl_world.specs.declared.step.Reply.{Reply}
@@ -46,23 +46,7 @@ texts_more texts i text is =
     ∙ concat-append (take i texts) (text ∷ [])
     ∙ ap (λ t. concat (take i texts) ++ t) (append-nil text))
 
-none_left : {X : Type 0} (xs : List X) (i : ℕ) → slice_get xs i ≡ None → length xs ≤ i
-none_left [] i none = omega arith
-none_left (x ∷ xs) zero none = absurd (none-some x (sym none))
-none_left (x ∷ xs) (suc i) none = let rest = none_left xs i none in omega (arith, rest)
-
--- no text is left
-pub texts_all : (texts : List (List ℕ)) (i count : ℕ) → slice_get texts i ≡ None → i ≤ count → concat (take i texts) ≡ concat (take count texts)
-texts_all texts i count none few =
-    let within = none_left texts i none in
-    ap concat (take_all i texts within ∙ sym (take_all count texts (omega (arith, within, few))))
-
 -- a text more of a sink, if there is one
 pub texts_told : (sink : Option SinkState) (old mid new : Option (List ℕ)) (i : ℕ) (text : List ℕ) → Some text ≡ option_and_then (λ sink. slice_get sink.kept i) sink → IfSome sink (λ sink. Appends old mid (concat (take i sink.kept))) → Appends mid new text → IfSome sink (λ sink. Appends old new (concat (take (i + 1) sink.kept)))
 texts_told None old mid new i text is before more = tt
 texts_told (Some sink) old mid new i text is before more = appends_more old mid new _ _ _ before more (texts_more sink.kept i text (sym is))
-
--- all texts of a sink are told, if there is one
-pub texts_told_all : (sink : Option SinkState) (old mid : Option (List ℕ)) (i count : ℕ) → None ≡ option_and_then (λ sink. slice_get sink.kept i) sink → i ≤ count → IfSome sink (λ sink. Appends old mid (concat (take i sink.kept))) → IfSome sink (λ sink. Appends old mid (concat (take count sink.kept)))
-texts_told_all None old mid i count is few before = tt
-texts_told_all (Some sink) old mid i count is few before = subst (Appends old mid) (texts_all sink.kept i count (sym is) few) before

@@ -1,5 +1,5 @@
 -- What a session prints, where the bytes that its writer holds are known.
-use Rattle.std.specs.Prelude.{ℕ, suc, ◌-◌, ◌==◌, nat_lt, is_err, Bool, List, [], ◌∷◌, ◌++◌, length, take, replicate, count_by, flat_map, Option, None, Some, is_some, Ok, Err, codes, if◌then◌else◌}
+use Rattle.std.specs.Prelude.{ℕ, suc, ◌-◌, ◌==◌, nat_lt, is_err, Bool, List, [], ◌∷◌, ◌++◌, length, replicate, count_by, flat_map, Option, None, Some, is_some, Ok, Err, codes, if◌then◌else◌}
 use Rattle.std.specs.List.{concat, list_any}
 use Rattle.std.specs.Fmt.{decimal}
 use Rattle.rl_sinks.specs.SinkState.{SinkState}
@@ -65,7 +65,7 @@ committed_text committed = tail_text committed.evaluation ++ behind_line committ
 -- what a sink that is shown prints: how many texts it has taken, and those that it keeps
 abbrev pub shown_text : Option SinkState → List ℕ
 shown_text None = refusal_line (codes "BadCommand")
-shown_text (Some sink) = codes "count " ++ decimal sink.count ++ codes "\n" ++ concat (take sink.count sink.kept)
+shown_text (Some sink) = codes "count " ++ decimal sink.count ++ codes "\n" ++ concat sink.kept
 
 abbrev pub shown_answer : Option SinkState → Answer
 shown_answer None = Refused

@@ -1,5 +1,5 @@
 //! A session: commands in their order over a world of one shard, and what they print.
-ghost use Rattle.std.specs.Prelude.{◌≡◌, ◌+◌, ◌≤◌, ◌<◌, length, map, take, flat_map, codes, None, Some, Ok, IfSome, OnOk, OnErr, IfOk, slice_get};
+ghost use Rattle.std.specs.Prelude.{◌≡◌, ◌+◌, ◌≤◌, ◌<◌, length, map, flat_map, codes, None, Some, Ok, IfSome, OnOk, OnErr, IfOk, slice_get};
 ghost use Rattle.std.specs.List.{AllByRecursion, concat, list_any};
 ghost use Rattle.std.specs.Io.KnownBytes.{Appends};
 ghost use Rattle.rl_world.specs.BookCalls.{IsFresh};
@@ -529,14 +529,15 @@ fn tell_kept<S: Sink, W: Write>(
     Ok(Answer::Taken)
 }
 
-// Tells at most so many of the texts that a sink keeps.
+// Tells the texts that a sink keeps, which are at most so many.
 fn tell_texts<S: Sink, W: Write>(
     book: &Book<S>,
     sink: usize,
     count: u64,
     out: &mut W,
 ) -> io::Result<()>
-    ensures { IfSome (slice_get book.now.sinks sink) (λ sink. OnOk result (Appends (W.contents out.old) (W.contents out.new) (concat (take count sink.kept)))) }
+    requires { IfSome (slice_get book.now.sinks sink) (λ sink. length sink.kept ≤ count) }
+    ensures { IfSome (slice_get book.now.sinks sink) (λ sink. OnOk result (Appends (W.contents out.old) (W.contents out.new) (concat sink.kept))) }
 {
     for index in 0..count {
         let Some(text) = book.sink_text(sink, index) else {

@@ -231,7 +231,8 @@ impl<S: Sink> Book<S> {
 
     /// How many texts a sink has taken, if there is such a sink.
     pub fn sink_count(&self, sink: usize) -> Option<u64>
-        ensures { result ≡ option_map (λ sink. sink.count) (slice_get self.now.sinks sink) }
+        ensures count { result ≡ option_map (λ sink. sink.count) (slice_get self.now.sinks sink) }
+        ensures kept { IfSome (slice_get self.now.sinks sink) (λ sink. length sink.kept ≤ sink.count) }
     {
         let sink = self.sinks.get(sink)?;
         Some(sink.count())
