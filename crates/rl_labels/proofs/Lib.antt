@@ -1,6 +1,8 @@
+pub mod Durations
 pub mod FromPairs
 pub mod Overrides
 pub mod PairAnswers
+pub mod Rows
 pub mod Sameness
 pub mod Steps
 pub mod TextLengths

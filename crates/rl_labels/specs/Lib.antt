@@ -1,3 +1,4 @@
+pub mod Decimals
 pub mod EntryAnswers
 pub mod EntryOrder
 pub mod EntryParts
@@ -8,6 +9,7 @@ pub mod MatcherOrder
 pub mod Name
 pub mod Pairs
 pub mod Parts
+pub mod Quantities
 pub mod Quantity
 pub mod Rising
 pub mod Selects

@@ -6,18 +6,23 @@
 //! - `labels`: `Labels`, made from pairs with named refusals.
 //! - `entry`: `Entry`, labels with a moment and a line.
 //! - `matcher`: `Matcher`, and its built code that accepts label sets.
+//! - `decimal`: rows of digits, and `Decimal`. `quantity`: `Duration`, `Size`, and `Signed`, which labels' values are.
 //! - `ns`: `Ns`, moments in nanoseconds.
 //! - `limits`: `Limits`, made from numbers that are in their ranges.
 #![tactic(auto)]
 
+pub mod decimal;
 pub mod entry;
 pub mod labels;
 pub mod limits;
 pub mod matcher;
 pub mod ns;
+pub mod quantity;
 
+pub use decimal::{Decimal, NotOne, number_of};
 pub use entry::{Entry, EntryFault, RefusedEntry};
 pub use labels::{Labels, LabelsError, LabelsFault};
 pub use limits::{BadLimit, DEFAULT_LIMITS, LimitField, Limits, RawLimits};
 pub use matcher::{MatchOp, Matcher, MatcherCode, MatcherError};
 pub use ns::Ns;
+pub use quantity::{Duration, DurationPart, DurationUnit, Signed, Size, SizeUnit};

@@ -1,0 +1,418 @@
+//! Durations and sizes as texts have them, and the quantities that labels' values are.
+ghost use Rattle.std.specs.Prelude.{◌≡◌, ◌<◌, ◌≤◌, ◌^◌, List, length, map, take, drop, IfOk, IfErr, IfSome, None, Some, [], pos, if◌then◌else◌};
+ghost use Rattle.std.specs.Option.{option_map};
+ghost use Rattle.std.specs.Result.{result_ok};
+ghost use Rattle.std.specs.Ordering.{int_cmp};
+ghost use Rattle.std.specs.List.{prefix_len};
+ghost use Rattle.std.specs.Char.{to_ascii_lowercase};
+ghost use Rattle.rl_labels.specs.Decimals.{billionths, decimal_of};
+ghost use Rattle.rl_labels.specs.Quantities.{nanoseconds_in, bytes_in, duration_unit, size_unit, is_decimal_byte, is_unit_byte, part_at, part_value, duration_of, duration_value, without_space, size_of, size_value, signed, sign_at, signed_value, no_time, duration_in_label};
+
+use crate::decimal::{Decimal, NotOne};
+use arrayvec::ArrayVec;
+use std::cmp::Ordering;
+use std::marker::Model;
+
+/// A unit of durations. `us` is also written with either micro sign.
+#[derive(Clone, Copy, Debug, Default, PartialEq, Eq)]
+pub enum DurationUnit {
+    Nanosecond,
+    Microsecond,
+    Millisecond,
+    #[default]
+    Second,
+    Minute,
+    Hour,
+}
+
+impl DurationUnit {
+    /// How many nanoseconds it has.
+    pub fn nanoseconds(self) -> u64
+        ensures value { result ≡ nanoseconds_in self }
+        ensures small { result < 10 ^ 13 }
+    {
+        match self {
+            DurationUnit::Nanosecond => 1,
+            DurationUnit::Microsecond => 1_000,
+            DurationUnit::Millisecond => 1_000_000,
+            DurationUnit::Second => 1_000_000_000,
+            DurationUnit::Minute => 60_000_000_000,
+            DurationUnit::Hour => 3_600_000_000_000,
+        }
+    }
+}
+
+// The unit that a text is.
+fn duration_unit(text: &[u8]) -> Option<DurationUnit>
+    ensures { result ≡ duration_unit text.now }
+{
+    if text == b"ns".as_slice() {
+        Some(DurationUnit::Nanosecond)
+    } else if text == b"us".as_slice() {
+        Some(DurationUnit::Microsecond)
+    } else if text == b"\xc2\xb5s".as_slice() {
+        Some(DurationUnit::Microsecond)
+    } else if text == b"\xce\xbcs".as_slice() {
+        Some(DurationUnit::Microsecond)
+    } else if text == b"ms".as_slice() {
+        Some(DurationUnit::Millisecond)
+    } else if text == b"s".as_slice() {
+        Some(DurationUnit::Second)
+    } else if text == b"m".as_slice() {
+        Some(DurationUnit::Minute)
+    } else if text == b"h".as_slice() {
+        Some(DurationUnit::Hour)
+    } else {
+        None
+    }
+}
+
+/// A unit of sizes, in bytes.
+#[derive(Clone, Copy, Debug, PartialEq, Eq)]
+pub enum SizeUnit {
+    Byte,
+    Kilobyte,
+    Kibibyte,
+    Megabyte,
+    Mebibyte,
+    Gigabyte,
+    Gibibyte,
+}
+
+impl SizeUnit {
+    /// How many bytes it has.
+    pub fn bytes(self) -> u64
+        ensures value { result ≡ bytes_in self }
+        ensures small { result < 10 ^ 10 }
+    {
+        match self {
+            SizeUnit::Byte => 1,
+            SizeUnit::Kilobyte => 1_000,
+            SizeUnit::Kibibyte => 1 << 10,
+            SizeUnit::Megabyte => 1_000_000,
+            SizeUnit::Mebibyte => 1 << 20,
+            SizeUnit::Gigabyte => 1_000_000_000,
+            SizeUnit::Gibibyte => 1 << 30,
+        }
+    }
+}
+
+// The unit that a text is, in either case.
+fn size_unit(text: &[u8]) -> Option<SizeUnit>
+    ensures { result ≡ size_unit text.now }
+{
+    if text.eq_ignore_ascii_case(b"b") {
+        Some(SizeUnit::Byte)
+    } else if text.eq_ignore_ascii_case(b"kb") {
+        Some(SizeUnit::Kilobyte)
+    } else if text.eq_ignore_ascii_case(b"kib") {
+        Some(SizeUnit::Kibibyte)
+    } else if text.eq_ignore_ascii_case(b"mb") {
+        Some(SizeUnit::Megabyte)
+    } else if text.eq_ignore_ascii_case(b"mib") {
+        Some(SizeUnit::Mebibyte)
+    } else if text.eq_ignore_ascii_case(b"gb") {
+        Some(SizeUnit::Gigabyte)
+    } else if text.eq_ignore_ascii_case(b"gib") {
+        Some(SizeUnit::Gibibyte)
+    } else {
+        None
+    }
+}
+
+/// A part of a duration.
+#[derive(Clone, Copy, Debug, Default)]
+pub struct DurationPart {
+    pub number: Decimal,
+    pub unit: DurationUnit,
+}
+
+/// A size as it is written.
+#[derive(Clone, Copy, Debug)]
+pub struct Size {
+    pub number: Decimal,
+    pub unit: SizeUnit,
+}
+
+// What stands in front of the first byte that is neither a digit nor a point, and the rest.
+fn number_at(text: &[u8]) -> (&[u8], &[u8])
+    ensures number { result.0.now ≡ take (prefix_len is_decimal_byte text.now) text.now }
+    ensures behind { result.1.now ≡ drop (prefix_len is_decimal_byte text.now) text.now }
+{
+    text.split_at(number_len(text))
+}
+
+fn number_len(text: &[u8]) -> usize
+    ensures length { result ≡ prefix_len is_decimal_byte text.now }
+    ensures within { result ≤ length text.now }
+{
+    for (index, byte) in text.iter().enumerate() {
+        if !is_decimal_byte(*byte) {
+            return index;
+        }
+    }
+    text.len()
+}
+
+// What stands in front of the first digit or point, and the rest.
+fn unit_at(text: &[u8]) -> (&[u8], &[u8])
+    ensures unit { result.0.now ≡ take (prefix_len is_unit_byte text.now) text.now }
+    ensures behind { result.1.now ≡ drop (prefix_len is_unit_byte text.now) text.now }
+{
+    text.split_at(unit_len(text))
+}
+
+fn unit_len(text: &[u8]) -> usize
+    ensures length { result ≡ prefix_len is_unit_byte text.now }
+    ensures within { result ≤ length text.now }
+{
+    for (index, byte) in text.iter().enumerate() {
+        if is_decimal_byte(*byte) {
+            return index;
+        }
+    }
+    text.len()
+}
+
+fn is_decimal_byte(byte: u8) -> bool
+    ensures { result ≡ is_decimal_byte byte }
+{
+    byte.is_ascii_digit() || byte == b'.'
+}
+
+// A part of a duration at the front, and what stands behind it.
+fn part_at(text: &[u8]) -> Option<(DurationPart, &[u8])>
+    ensures { option_map (λ part. (part.0, part.1.now)) result ≡ part_at text.now }
+{
+    let (number, rest) = number_at(text);
+    let (unit, behind) = unit_at(rest);
+    let number = Decimal::of_digits(number, 15)?;
+    let unit = duration_unit(unit)?;
+    Some((DurationPart { number, unit }, behind))
+}
+
+impl DurationPart {
+    /// Its value in billionths of a nanosecond.
+    pub fn value(self) -> u128
+        ensures value { result ≡ part_value self }
+        ensures small { result < 10 ^ 37 }
+    {
+        self.number.billionths() * u128::from(self.unit.nanoseconds())
+    }
+}
+
+impl Size {
+    /// The size that a text is: a decimal, at most one space, and a unit.
+    pub fn read(text: &str) -> Result<Size, NotOne>
+        ensures { result_ok result ≡ size_of text.now }
+    {
+        size_in(text.as_bytes()).ok_or(NotOne)
+    }
+
+    /// Its value in billionths of a byte.
+    pub fn value(self) -> u128
+        ensures value { result ≡ size_value self }
+        ensures small { result < 10 ^ 34 }
+    {
+        self.number.billionths() * u128::from(self.unit.bytes())
+    }
+}
+
+fn size_in(text: &[u8]) -> Option<Size>
+    ensures { result ≡ size_of text.now }
+{
+    let (number, unit) = number_at(text);
+    let number = Decimal::of_digits(number, 15)?;
+    let unit = size_unit(without_space(unit))?;
+    Some(Size { number, unit })
+}
+
+// The text without a space at its front.
+fn without_space(text: &[u8]) -> &[u8]
+    ensures { result.now ≡ without_space text.now }
+{
+    match text {
+        [b' ', rest @ ..] => rest,
+        _ => text,
+    }
+}
+
+// The most parts of a duration.
+const MOST_PARTS: usize = 8;
+
+/// A duration as it is written: 1 to 8 parts, which are added. Contracts see them.
+#[derive(Debug, Drop)]
+pub struct Duration {
+    parts: ArrayVec<DurationPart, 8>,
+}
+
+impl Model for Duration {
+    ghost use Rattle.std.specs.Prelude.{List};
+    ghost use Rattle.rl_labels.specs.declared.quantity.DurationPart.{DurationPart};
+
+    ghost Value = { List DurationPart };
+
+    ghost view = { λ a. a.parts.items };
+}
+
+impl Duration {
+    /// The duration that a text is.
+    pub fn read(text: &str) -> Result<Duration, NotOne>
+        ensures { result_ok result ≡ duration_of text.now }
+    {
+        duration_in(text.as_bytes()).ok_or(NotOne)
+    }
+
+    /// The parts as they were written.
+    pub fn parts(&self) -> &[DurationPart]
+        ensures parts { result.now ≡ self.now }
+        ensures few { length result.now ≤ 8 }
+    {
+        self.parts.as_slice()
+    }
+
+    /// Its value in billionths of a nanosecond.
+    pub fn value(&self) -> u128
+        ensures value { result ≡ duration_value self.now }
+        ensures small { result < 10 ^ 38 }
+    {
+        let mut value = 0;
+        for part in self.parts() {
+            value += part.value();
+        }
+        value
+    }
+}
+
+fn duration_in(text: &[u8]) -> Option<Duration>
+    ensures { result ≡ duration_of text.now }
+{
+    let mut parts = ArrayVec::new();
+    if read_parts(text, &mut parts) {
+        Some(Duration { parts })
+    } else {
+        None
+    }
+}
+
+// Reads 1 to 8 parts. Whether the text is nothing else.
+fn read_parts(text: &[u8], parts: &mut ArrayVec<DurationPart, 8>) -> bool
+    requires { parts.old.items ≡ [] }
+    ensures { duration_of text.now ≡ if result then Some parts.new.items else None }
+{
+    let mut rest = text;
+    for _turn in 0..MOST_PARTS {
+        let Some((part, behind)) = part_at(rest) else {
+            return false;
+        };
+        parts.push(part);
+        if behind.is_empty() {
+            return true;
+        }
+        rest = behind;
+    }
+    false
+}
+
+/// A quantity that a label's value is: one that may have a sign, as none in a query has.
+#[derive(Debug, Drop)]
+pub struct Signed<Q> {
+    pub is_negative: bool,
+    pub quantity: Q,
+}
+
+impl Signed<Decimal> {
+    /// The number that a label's value is: perhaps a minus, and a decimal.
+    pub fn read(text: &str) -> Result<Self, NotOne>
+        ensures { result_ok result ≡ signed (decimal_of 15) text.now }
+    {
+        let (is_negative, rest) = sign_at(text.as_bytes());
+        match Decimal::of_digits(rest, 15) {
+            Some(quantity) => Ok(Signed {
+                is_negative,
+                quantity,
+            }),
+            None => Err(NotOne),
+        }
+    }
+
+    /// Its value in billionths.
+    pub fn value(&self) -> i128
+        ensures { result ≡ signed_value self.now.is_negative (billionths self.now.quantity) }
+    {
+        with_sign(self.is_negative, self.quantity.billionths())
+    }
+
+    /// How it compares with a number of a query: by their values, however they are written.
+    pub fn compare(&self, other: Decimal) -> Ordering
+        ensures { result ≡ int_cmp (signed_value self.now.is_negative (billionths self.now.quantity)) (pos (billionths other)) }
+    {
+        self.value().cmp(&with_sign(false, other.billionths()))
+    }
+}
+
+impl Signed<Duration> {
+    /// The duration that a label's value is: `0`, or perhaps a minus, and 1 to 8 parts.
+    pub fn read(text: &str) -> Result<Self, NotOne>
+        ensures { result_ok result ≡ duration_in_label text.now }
+    {
+        if text == "0" {
+            return Ok(Signed {
+                is_negative: false,
+                quantity: no_time(),
+            });
+        }
+        let (is_negative, rest) = sign_at(text.as_bytes());
+        match duration_in(rest) {
+            Some(quantity) => Ok(Signed {
+                is_negative,
+                quantity,
+            }),
+            None => Err(NotOne),
+        }
+    }
+
+    /// Its value in billionths of a nanosecond.
+    pub fn value(&self) -> i128
+        ensures { result ≡ signed_value self.now.is_negative (duration_value self.now.quantity) }
+    {
+        with_sign(self.is_negative, self.quantity.value())
+    }
+
+    /// How it compares with a duration of a query: by their values, however they are written.
+    pub fn compare(&self, other: &Duration) -> Ordering
+        ensures { result ≡ int_cmp (signed_value self.now.is_negative (duration_value self.now.quantity)) (pos (duration_value other.now)) }
+    {
+        self.value().cmp(&with_sign(false, other.value()))
+    }
+}
+
+// No second.
+fn no_time() -> Duration
+    ensures { result ≡ no_time }
+{
+    let mut parts = ArrayVec::new();
+    parts.push(DurationPart::default());
+    Duration { parts }
+}
+
+// Whether a minus stands at the front, and what stands behind it.
+fn sign_at(text: &[u8]) -> (bool, &[u8])
+    ensures { (result.0, result.1.now) ≡ sign_at text.now }
+{
+    match text {
+        [b'-', rest @ ..] => (true, rest),
+        _ => (false, text),
+    }
+}
+
+fn with_sign(is_negative: bool, value: u128) -> i128
+    requires { value < 10 ^ 38 }
+    ensures { result ≡ signed_value is_negative value }
+{
+    if is_negative {
+        -(value as i128)
+    } else {
+        value as i128
+    }
+}
