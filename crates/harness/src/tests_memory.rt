@@ -1,7 +1,7 @@
 //! Calls that want memory. One allocation of a test may fail: the call tells it, and made again it answers as ever.
 //! Where what a test is given wants memory, it ends well.
 use crate::tests_given::{End, FULL, Planned, commit, is, recorded, session};
-use rl_session::{FrontError, RunError, Status, read_front};
+use rl_session::{FrontError, Status, read_front};
 use std::alloc::Global;
 use std::process::Abort;
 
@@ -34,13 +34,10 @@ const ENDS: [&str; 7] = [
     "accepted 1\neval 10000000000 g\n{__name__=\"c\",app=\"a\"} 1\neval 20000000000 g\n{__name__=\"c\",app=\"a\"} 1\nbehind 0\ncount 1\n{__name__=\"c\",app=\"a\"} 1 10000000000\nclosed\n",
 ];
 
-// Whether a session may end so. One that stops has printed a front of what it prints with all memory.
+// Whether a session may end so. It stops for no want of memory.
 fn may_end(end: End, printed: &str) -> bool {
     let status = [Status::Taken, Status::Refused][printed.contains("refused") as usize];
-    match end {
-        Ok(end) => end == status && ENDS.contains(&printed),
-        Err(error) => error == RunError::Memory && ENDS[0].starts_with(printed),
-    }
+    end == Ok(status) && ENDS.contains(&printed)
 }
 
 // Runs the session, with room for what is written. Whether it had all the memory.

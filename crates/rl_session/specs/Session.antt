@@ -2,6 +2,7 @@
 use Rattle.std.specs.Prelude.{◌≡◌, ℕ, nat_lt, ⊤, Bool, true, false, ◌||◌, List, [], ◌∷◌, ◌++◌, map, length, Option, None, Some, Result, Ok, Err, codes, if◌then◌else◌}
 use Rattle.std.specs.List.{list_all}
 use Rattle.std.specs.Io.KnownBytes.{Appends}
+use Rattle.std.specs.declared.io.Error.{Error}
 use Rattle.rl_plain.specs.declared.refusal.OrMemory.TheVariants as errors
 use Rattle.rl_sinks.specs.SinkState.{SinkState}
 use Rattle.rl_sinks.specs.declared.sink.SinkFault.{SinkFault}
@@ -22,6 +23,7 @@ use Rattle.rl_session.specs.declared.session.Answer.TheVariants.{Taken, Refused,
 use Rattle.rl_session.specs.declared.session.Got.{Got}
 use Rattle.rl_session.specs.declared.session.Got.TheVariants as gots
 use Rattle.rl_session.specs.declared.session.RunError.{RunError}
+use Rattle.rl_session.specs.declared.session.RunError.TheVariants.{WriteFault}
 use Rattle.rl_session.specs.declared.session.Status.{Status}
 use Rattle.rl_session.specs.declared.session.Status.TheVariants as statuses
 
@@ -58,7 +60,7 @@ IsTold (Some (shows number group)) text answer = (sink : Option SinkState) × (t
 IsTold (Some ends) text answer = (text ≡ []) × (answer ≡ Ended)
 
 -- where no error came, the text of the command stands behind what stood there
-abbrev pub Tells : Option Asked → Option (List ℕ) → Result Answer RunError → Option (List ℕ) → Type 0
+abbrev pub Tells : Option Asked → Option (List ℕ) → Result Answer Error → Option (List ℕ) → Type 0
 Tells asked old (Ok answer) new = (text : List ℕ) × IsTold asked text answer × Appends old new text
 Tells asked old (Err error) new = Unit {0}
 
@@ -85,11 +87,11 @@ abbrev pub AreLinesTold : List (List ℕ) → List ℕ → Bool → Type 0
 AreLinesTold [] text refused = (text ≡ []) × (refused ≡ false)
 AreLinesTold (line ∷ lines) text refused = (first : List ℕ) × (here : Answer) × IsLineTold (list_all is_blank_byte line) line first here × IsRestTold here first (AreLinesTold lines) text refused
 
-abbrev pub TellsLine : List ℕ → Option (List ℕ) → Result Answer RunError → Option (List ℕ) → Type 0
+abbrev pub TellsLine : List ℕ → Option (List ℕ) → Result Answer Error → Option (List ℕ) → Type 0
 TellsLine line old (Ok answer) new = (text : List ℕ) × IsLineTold (list_all is_blank_byte line) line text answer × Appends old new text
 TellsLine line old (Err error) new = Unit {0}
 
-abbrev pub TellsText : List ℕ → Option (List ℕ) → Result Bool RunError → Option (List ℕ) → Type 0
+abbrev pub TellsText : List ℕ → Option (List ℕ) → Result Bool Error → Option (List ℕ) → Type 0
 TellsText commands old (Ok refused) new = (text : List ℕ) × AreLinesTold (lines_of commands) text refused × Appends old new text
 TellsText commands old (Err error) new = Unit {0}
 
@@ -105,7 +107,7 @@ KeepsSinks old new = length (sinks_of new.books) ≡ length (sinks_of old.books)
 abbrev pub AreClosed : {S : Type 0} → (S → SinkState) → (S → Result ⊤ SinkFault → Type 0) → ℕ → ℕ → Type 0
 AreClosed state Says sinks failures = (books : List BookState) × (length (sinks_of books) ≡ sinks) × BooksClosed state Says (map with_sinks_closed books) failures
 
--- a session with so many sinks: its lines are told, its sinks are closed, and that is told
+-- a session with so many sinks: its lines are told, its sinks are closed, and that is told; or a write failed
 abbrev pub TellsSession : {S : Type 0} → (S → SinkState) → (S → Result ⊤ SinkFault → Type 0) → ℕ → List ℕ → Option (List ℕ) → Result Status RunError → Option (List ℕ) → Type 0
 TellsSession state Says sinks commands old (Ok status) new = (text : List ℕ) × (refused : Bool) × (failures : ℕ) × AreLinesTold (lines_of commands) text refused × AreClosed state Says sinks failures × (status ≡ ended_by failures refused) × Appends old new (text ++ codes "closed\n")
-TellsSession state Says sinks commands old (Err error) new = Unit {0}
+TellsSession state Says sinks commands old (Err error) new = error ≡ WriteFault

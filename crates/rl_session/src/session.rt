@@ -17,7 +17,7 @@ use crate::push::{PushError, read_push};
 use rl_labels::{Entry, Limits, Ns};
 use rl_rules::Group;
 use rl_shard::ShardStep;
-use rl_sinks::{Sink, SinkKind, evaluation_text};
+use rl_sinks::{Sink, write_tail};
 use rl_world::{Book, Committed, Refusal, Reply, Step, World};
 use std::alloc::{AllocError, AllocFailed, Global};
 use std::io;
@@ -40,6 +40,7 @@ pub enum Status {
 pub enum RunError {
     #[error("a write failed")]
     WriteFault,
+    /// Of a session that could not be opened: one that runs prints without memory.
     #[error("out of memory")]
     Memory,
 }
@@ -150,7 +151,7 @@ fn answer_lines<S: Sink, W: Write>(
     session: &mut Session<S>,
     commands: &str,
     out: &mut W,
-) -> Result<bool, RunError>
+) -> io::Result<bool>
     ensures told { TellsText commands.now (W.contents out.old) result (W.contents out.new) }
     ensures sinks { KeepsSinks session.old.world session.new.world }
 {
@@ -187,7 +188,7 @@ fn answer_line<S: Sink, W: Write>(
     session: &mut Session<S>,
     line: &str,
     out: &mut W,
-) -> Result<Answer, RunError>
+) -> io::Result<Answer>
     ensures told { TellsLine line.now (W.contents out.old) result (W.contents out.new) }
     ensures sinks { KeepsSinks session.old.world session.new.world }
 {
@@ -201,25 +202,25 @@ fn answer_line<S: Sink, W: Write>(
 
 impl<S: Sink> Session<S> {
     // Carries out the command of a line, and tells what it got.
-    fn answer<W: Write>(&mut self, line: &str, out: &mut W) -> Result<Answer, RunError>
+    fn answer<W: Write>(&mut self, line: &str, out: &mut W) -> io::Result<Answer>
         ensures told { Tells (command_of line.now) (W.contents out.old) result (W.contents out.new) }
         ensures end { command_of line.now ≡ Some ends → result ≡ Ok Answer.Ended }
         ensures sinks { KeepsSinks self.old.world self.new.world }
     {
         match read_command(line) {
             Some(command) => self.obey(command, out),
-            None => tell(self.alloc, &Got::Refused, out),
+            None => tell(&Got::Refused, out),
         }
     }
 
-    fn obey<W: Write>(&mut self, command: Command<'_>, out: &mut W) -> Result<Answer, RunError>
+    fn obey<W: Write>(&mut self, command: Command<'_>, out: &mut W) -> io::Result<Answer>
         ensures told { Tells (Some (asked command.entry)) (W.contents out.old) result (W.contents out.new) }
         ensures end { asked command.entry ≡ ends → result ≡ Ok Answer.Ended }
         ensures sinks { KeepsSinks self.old.world self.new.world }
     {
         match command {
-            Command::Push(json) => tell(self.alloc, &self.push(json), out),
-            Command::Eval { t, group } => tell(self.alloc, &self.eval(t, group), out),
+            Command::Push(json) => tell(&self.push(json), out),
+            Command::Eval { t, group } => tell(&self.eval(t, group), out),
             Command::Show { sink, group } => self.show(sink, group, out),
             Command::End => Ok(Answer::Ended),
         }
@@ -303,12 +304,12 @@ impl<S: Sink> Session<S> {
     }
 
     // Shows what a sink of a group keeps.
-    fn show<W: Write>(&self, sink: usize, group: &str, out: &mut W) -> Result<Answer, RunError>
+    fn show<W: Write>(&self, sink: usize, group: &str, out: &mut W) -> io::Result<Answer>
         ensures { Tells (Some (shows sink group.now)) (W.contents out.old) result (W.contents out.new) }
     {
         match self.book_of(group) {
             Some(book) => tell_kept(book, sink, out),
-            None => tell(self.alloc, &Got::Refused, out),
+            None => tell(&Got::Refused, out),
         }
     }
 
@@ -376,16 +377,16 @@ fn answer_of(refused: bool) -> Answer
 }
 
 // Prints what a command got. What becomes of the command.
-fn tell<W: Write>(alloc: Global, got: &Got, out: &mut W) -> Result<Answer, RunError>
+fn tell<W: Write>(got: &Got, out: &mut W) -> io::Result<Answer>
     ensures text { OnOk result (Appends (W.contents out.old) (W.contents out.new) (printed got.now)) }
     ensures answer { IfOk result (λ answer. answer ≡ answer_to got.now) }
 {
-    print(alloc, got, out)?;
+    print(got, out)?;
     Ok(answer_to(got))
 }
 
 // Prints what a command got.
-fn print<W: Write>(alloc: Global, got: &Got, out: &mut W) -> Result<(), RunError>
+fn print<W: Write>(got: &Got, out: &mut W) -> io::Result<()>
     ensures { OnOk result (Appends (W.contents out.old) (W.contents out.new) (printed got.now)) }
 {
     match got {
@@ -393,33 +394,30 @@ fn print<W: Write>(alloc: Global, got: &Got, out: &mut W) -> Result<(), RunError
         Got::Unread(error) => refuse_push(out, push_error_name(*error)),
         Got::Pushed(replies) => tell_pushed(replies, out),
         Got::Unpushed(count) => tell_none_pushed(*count, out),
-        Got::Evaluated(Ok(committed)) => tell_committed(alloc, committed, out),
+        Got::Evaluated(Ok(committed)) => tell_committed(committed, out),
         Got::Evaluated(Err(refusal)) => refuse(out, refusal_name(*refusal)),
     }
 }
 
-fn refuse<W: Write>(out: &mut W, name: &str) -> Result<(), RunError>
+fn refuse<W: Write>(out: &mut W, name: &str) -> io::Result<()>
     ensures { OnOk result (Appends (W.contents out.old) (W.contents out.new) (refusal_line name.now)) }
 {
-    writeln!(out, "refused {name}")?;
-    Ok(())
+    writeln!(out, "refused {name}")
 }
 
-fn refuse_push<W: Write>(out: &mut W, name: &str) -> Result<(), RunError>
+fn refuse_push<W: Write>(out: &mut W, name: &str) -> io::Result<()>
     ensures { OnOk result (Appends (W.contents out.old) (W.contents out.new) (bad_push_line name.now)) }
 {
-    writeln!(out, "refused BadPush {name}")?;
-    Ok(())
+    writeln!(out, "refused BadPush {name}")
 }
 
 // Tells how many entries were accepted, and of the others each with its number and its refusal.
-fn tell_pushed<W: Write>(replies: &[Reply], out: &mut W) -> Result<(), RunError>
+fn tell_pushed<W: Write>(replies: &[Reply], out: &mut W) -> io::Result<()>
     ensures { OnOk result (Appends (W.contents out.old) (W.contents out.new) (pushed_text replies.now)) }
 {
     let refused = replies.iter().filter(|reply| is_refused(reply)).count();
     tell_counts(replies.len() - refused, refused, out)?;
-    tell_refusals(replies, out)?;
-    Ok(())
+    tell_refusals(replies, out)
 }
 
 fn is_refused(reply: &Reply) -> bool
@@ -458,12 +456,11 @@ fn tell_refusal<W: Write>(number: usize, name: &str, out: &mut W) -> io::Result<
 }
 
 // Tells that there was no memory for any of so many entries.
-fn tell_none_pushed<W: Write>(count: usize, out: &mut W) -> Result<(), RunError>
+fn tell_none_pushed<W: Write>(count: usize, out: &mut W) -> io::Result<()>
     ensures { OnOk result (Appends (W.contents out.old) (W.contents out.new) (pushed_text (none_pushed count))) }
 {
     tell_counts(0, count, out)?;
-    tell_each_refused(count, out)?;
-    Ok(())
+    tell_each_refused(count, out)
 }
 
 // Tells of each of so many entries that there was no memory for it.
@@ -477,17 +474,11 @@ fn tell_each_refused<W: Write>(count: usize, out: &mut W) -> io::Result<()>
 }
 
 // Tells what an evaluation found, and which sinks are behind.
-fn tell_committed<W: Write>(
-    alloc: Global,
-    committed: &Committed,
-    out: &mut W,
-) -> Result<(), RunError>
+fn tell_committed<W: Write>(committed: &Committed, out: &mut W) -> io::Result<()>
     ensures { OnOk result (Appends (W.contents out.old) (W.contents out.new) (committed_text committed.now)) }
 {
-    let text = evaluation_text(alloc, SinkKind::Tail, committed.evaluation.get())?;
-    out.write_all(text.as_bytes())?;
-    tell_behind(committed.behind.as_slice(), out)?;
-    Ok(())
+    write_tail(out, committed.evaluation.get())?;
+    tell_behind(committed.behind.as_slice(), out)
 }
 
 // Tells the numbers of the sinks that are behind, if some are.
@@ -512,11 +503,7 @@ fn tell_numbers<W: Write>(numbers: &[u64], out: &mut W) -> io::Result<()>
 }
 
 // Tells how many texts a sink has taken, and those that it keeps.
-fn tell_kept<S: Sink, W: Write>(
-    book: &Book<S>,
-    sink: usize,
-    out: &mut W,
-) -> Result<Answer, RunError>
+fn tell_kept<S: Sink, W: Write>(book: &Book<S>, sink: usize, out: &mut W) -> io::Result<Answer>
     ensures text { OnOk result (Appends (W.contents out.old) (W.contents out.new) (shown_text (slice_get book.now.sinks sink))) }
     ensures answer { IfOk result (λ answer. answer ≡ shown_answer (slice_get book.now.sinks sink)) }
 {

@@ -3,15 +3,16 @@
 //! A sink is seen as its kind, the texts that it keeps, how many it has taken, whether it is closed, and how often it
 //! refused. `take` that is answered Ok adds one text; a refusal counts as one and changes nothing else.
 //!
-//! - `sink`: `Sink`, `SinkKind`, `SinkFault`, and boxes of sinks. `text`: `evaluation_text`.
+//! - `sink`: `Sink`, `SinkKind`, `SinkFault`, and boxes of sinks. `text`: `evaluation_text`, `write_tail`.
 //! - `recorder`: `Recorder`, which writes the samples of recording rules.
 #![tactic(auto)]
 
 pub mod recorder;
 pub mod sink;
+mod target;
 pub mod text;
 mod writing;
 
 pub use recorder::Recorder;
 pub use sink::{Sink, SinkFault, SinkKind};
-pub use text::evaluation_text;
+pub use text::{evaluation_text, write_tail};

@@ -1,14 +1,18 @@
 //! The text of an evaluation for each kind of sink.
-ghost use Rattle.std.specs.Prelude.{◌≡◌, ℕ, List, ◌++◌, IfOk, OnOk, string_bytes};
+ghost use Rattle.std.specs.Prelude.{◌≡◌, IfOk, OnOk, string_bytes};
 ghost use Rattle.std.specs.List.{flat_map};
+ghost use Rattle.std.specs.Io.KnownBytes.{Appends};
 ghost use Rattle.rl_sinks.specs.Texts.{evaluation_text, recorder_text, tail_text, recorded_lines, tail_lines, recorded_line, tail_line, failed_line, sample_text, value_text, cause_text};
 
 use crate::sink::SinkKind;
+use crate::target::{InMemory, TextTarget};
 use rl_aggregate::{Fraction, Sample};
 use rl_labels::Ns;
 use rl_plain::PlainText;
 use rl_rules::{Cause, Evaluation, RuleKind, RuleOutcome, RuleResult};
 use std::alloc::{AllocError, Global};
+use std::io;
+use std::io::Write;
 
 /// What a sink of the kind is told of the evaluation. Each line ends with a newline; moments are nanoseconds.
 pub fn evaluation_text(
@@ -18,64 +22,81 @@ pub fn evaluation_text(
 ) -> Result<String, AllocError>
     ensures { IfOk result (λ text. string_bytes text ≡ evaluation_text kind evaluation.now) }
 {
-    let mut text = String::new(alloc);
+    let mut target = InMemory {
+        text: String::new(alloc),
+    };
     match kind {
-        SinkKind::Recorder => push_recorded(&mut text, evaluation)?,
+        SinkKind::Recorder => put_recorded(&mut target, evaluation)?,
         SinkKind::Notifier => {}
-        SinkKind::Tail => push_tail(&mut text, evaluation)?,
+        SinkKind::Tail => put_tail(&mut target, evaluation)?,
     }
-    Ok(text)
+    Ok(target.text)
 }
 
-fn push_recorded(text: &mut String, evaluation: &Evaluation) -> Result<(), AllocError>
-    ensures { OnOk result (string_bytes text.new ≡ string_bytes text.old ++ recorder_text evaluation.now) }
+/// Writes what a tail is told of the evaluation. It takes no memory.
+pub fn write_tail<W: Write>(out: &mut W, evaluation: &Evaluation) -> io::Result<()>
+    ensures { OnOk result (Appends (W.contents out.old) (W.contents out.new) (tail_text evaluation.now)) }
+{
+    put_tail(out, evaluation)
+}
+
+fn put_recorded<T: TextTarget>(target: &mut T, evaluation: &Evaluation) -> Result<(), T::Error>
+    ensures { OnOk result (Appends (T.contents target.old) (T.contents target.new) (recorder_text evaluation.now)) }
 {
     for rule in evaluation.outcomes.as_slice() {
-        push_recorded_lines(text, evaluation.t, rule)?;
+        put_recorded_lines(target, evaluation.t, rule)?;
     }
     Ok(())
 }
 
-fn push_recorded_lines(text: &mut String, t: Ns, rule: &RuleResult) -> Result<(), AllocError>
-    ensures { OnOk result (string_bytes text.new ≡ string_bytes text.old ++ recorded_lines t rule.now.kind rule.now.name rule.now.outcome) }
+fn put_recorded_lines<T: TextTarget>(
+    target: &mut T,
+    t: Ns,
+    rule: &RuleResult,
+) -> Result<(), T::Error>
+    ensures { OnOk result (Appends (T.contents target.old) (T.contents target.new) (recorded_lines t rule.now.kind rule.now.name rule.now.outcome)) }
 {
     match &rule.outcome {
-        RuleOutcome::Samples(samples) => push_recorded_samples(text, t, samples.as_slice()),
-        RuleOutcome::Failed(cause) => push_failed(text, rule.kind, t, *cause, rule.name.as_str()),
+        RuleOutcome::Samples(samples) => put_recorded_samples(target, t, samples.as_slice()),
+        RuleOutcome::Failed(cause) => put_failed(target, rule.kind, t, *cause, rule.name.as_str()),
     }
 }
 
-fn push_recorded_samples(text: &mut String, t: Ns, samples: &[Sample]) -> Result<(), AllocError>
-    ensures { OnOk result (string_bytes text.new ≡ string_bytes text.old ++ flat_map (λ sample. recorded_line t sample) samples.now) }
+fn put_recorded_samples<T: TextTarget>(
+    target: &mut T,
+    t: Ns,
+    samples: &[Sample],
+) -> Result<(), T::Error>
+    ensures { OnOk result (Appends (T.contents target.old) (T.contents target.new) (flat_map (λ sample. recorded_line t sample) samples.now)) }
 {
     for sample in samples {
-        push_recorded_line(text, t, sample)?;
+        put_recorded_line(target, t, sample)?;
     }
     Ok(())
 }
 
-fn push_recorded_line(text: &mut String, t: Ns, sample: &Sample) -> Result<(), AllocError>
-    ensures { OnOk result (string_bytes text.new ≡ string_bytes text.old ++ recorded_line t sample.now) }
+fn put_recorded_line<T: TextTarget>(target: &mut T, t: Ns, sample: &Sample) -> Result<(), T::Error>
+    ensures { OnOk result (Appends (T.contents target.old) (T.contents target.new) (recorded_line t sample.now)) }
 {
-    push_sample(text, sample)?;
+    put_sample(target, sample)?;
     let t = t.get();
-    write!(text, " {t}\n")
+    write!(target, " {t}\n")
 }
 
-fn push_failed(
-    text: &mut String,
+fn put_failed<T: TextTarget>(
+    target: &mut T,
     kind: RuleKind,
     t: Ns,
     cause: Cause,
     name: &str,
-) -> Result<(), AllocError>
-    ensures { OnOk result (string_bytes text.new ≡ string_bytes text.old ++ failed_line kind t cause name.now) }
+) -> Result<(), T::Error>
+    ensures { OnOk result (Appends (T.contents target.old) (T.contents target.new) (failed_line kind t cause name.now)) }
 {
     match kind {
         RuleKind::Recording => {
             let t = t.get();
             let cause = cause_text(cause);
-            write!(text, "# failed {t} {cause} {name}\n")
+            write!(target, "# failed {t} {cause} {name}\n")
         }
     }
 }
@@ -89,65 +110,65 @@ fn cause_text(cause: Cause) -> &'static str
     }
 }
 
-fn push_tail(text: &mut String, evaluation: &Evaluation) -> Result<(), AllocError>
-    ensures { OnOk result (string_bytes text.new ≡ string_bytes text.old ++ tail_text evaluation.now) }
+fn put_tail<T: TextTarget>(target: &mut T, evaluation: &Evaluation) -> Result<(), T::Error>
+    ensures { OnOk result (Appends (T.contents target.old) (T.contents target.new) (tail_text evaluation.now)) }
 {
     let t = evaluation.t.get();
     let group = evaluation.group.as_str();
-    write!(text, "eval {t} {group}\n")?;
+    write!(target, "eval {t} {group}\n")?;
     for rule in evaluation.outcomes.as_slice() {
-        push_tail_lines(text, rule)?;
+        put_tail_lines(target, rule)?;
     }
     Ok(())
 }
 
-fn push_tail_lines(text: &mut String, rule: &RuleResult) -> Result<(), AllocError>
-    ensures { OnOk result (string_bytes text.new ≡ string_bytes text.old ++ tail_lines rule.now.name rule.now.outcome) }
+fn put_tail_lines<T: TextTarget>(target: &mut T, rule: &RuleResult) -> Result<(), T::Error>
+    ensures { OnOk result (Appends (T.contents target.old) (T.contents target.new) (tail_lines rule.now.name rule.now.outcome)) }
 {
     match &rule.outcome {
-        RuleOutcome::Samples(samples) => push_tail_samples(text, samples.as_slice()),
+        RuleOutcome::Samples(samples) => put_tail_samples(target, samples.as_slice()),
         RuleOutcome::Failed(cause) => {
             let cause = cause_text(*cause);
             let name = rule.name.as_str();
-            write!(text, "failed {cause} {name}\n")
+            write!(target, "failed {cause} {name}\n")
         }
     }
 }
 
-fn push_tail_samples(text: &mut String, samples: &[Sample]) -> Result<(), AllocError>
-    ensures { OnOk result (string_bytes text.new ≡ string_bytes text.old ++ flat_map (λ sample. tail_line sample) samples.now) }
+fn put_tail_samples<T: TextTarget>(target: &mut T, samples: &[Sample]) -> Result<(), T::Error>
+    ensures { OnOk result (Appends (T.contents target.old) (T.contents target.new) (flat_map (λ sample. tail_line sample) samples.now)) }
 {
     for sample in samples {
-        push_tail_line(text, sample)?;
+        put_tail_line(target, sample)?;
     }
     Ok(())
 }
 
-fn push_tail_line(text: &mut String, sample: &Sample) -> Result<(), AllocError>
-    ensures { OnOk result (string_bytes text.new ≡ string_bytes text.old ++ tail_line sample.now) }
+fn put_tail_line<T: TextTarget>(target: &mut T, sample: &Sample) -> Result<(), T::Error>
+    ensures { OnOk result (Appends (T.contents target.old) (T.contents target.new) (tail_line sample.now)) }
 {
-    push_sample(text, sample)?;
-    text.push('\n')
+    put_sample(target, sample)?;
+    write!(target, "\n")
 }
 
-fn push_sample(text: &mut String, sample: &Sample) -> Result<(), AllocError>
-    ensures { OnOk result (string_bytes text.new ≡ string_bytes text.old ++ sample_text sample.now) }
+fn put_sample<T: TextTarget>(target: &mut T, sample: &Sample) -> Result<(), T::Error>
+    ensures { OnOk result (Appends (T.contents target.old) (T.contents target.new) (sample_text sample.now)) }
 {
-    text.push_str(sample.labels.as_text())?;
-    text.push(' ')?;
-    push_value(text, sample.value)
+    let labels = sample.labels.as_text();
+    write!(target, "{labels} ")?;
+    put_value(target, sample.value)
 }
 
-fn push_value(text: &mut String, value: Fraction) -> Result<(), AllocError>
-    ensures { OnOk result (string_bytes text.new ≡ string_bytes text.old ++ value_text value) }
+fn put_value<T: TextTarget>(target: &mut T, value: Fraction) -> Result<(), T::Error>
+    ensures { OnOk result (Appends (T.contents target.old) (T.contents target.new) (value_text value)) }
 {
     let Fraction {
         numerator,
         denominator,
     } = value;
     if denominator == 1 {
-        write!(text, "{numerator}")
+        write!(target, "{numerator}")
     } else {
-        write!(text, "{numerator}/{denominator}")
+        write!(target, "{numerator}/{denominator}")
     }
 }
