@@ -1,11 +1,9 @@
 mod Documents
-mod Moments
 pub mod Answering
 pub mod Closing
 pub mod Cut
 pub mod Gathering
 pub mod Lines
-mod Numbers
 mod Printing
 pub mod Telling
 mod Examples

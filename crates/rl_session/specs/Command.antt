@@ -1,10 +1,9 @@
 -- Command lines: words one space apart, of which the last may be the rest of the line.
-use Rattle.std.specs.Prelude.{ℕ, ◌+◌, ◌*◌, ◌-◌, ◌^◌, ◌==◌, nat_lt, nat_le, Bool, ◌&&◌, ◌||◌, List, length, Option, None, Some, option_and_then, option_map, codes, if◌then◌else◌}
-use Rattle.std.specs.List.{list_all, position_or_len, before_first, after_first}
-use Rattle.std.specs.Char.{is_ascii_digit}
-use Rattle.std.specs.Str.Parse.{digits_value}
+use Rattle.std.specs.Prelude.{ℕ, ◌==◌, nat_lt, Bool, ◌||◌, List, length, Option, None, Some, option_and_then, option_map, codes, if◌then◌else◌}
+use Rattle.std.specs.List.{position_or_len, before_first, after_first}
+use Rattle.rl_labels.specs.Decimals.{number_of, billionths, decimal_of}
 use Rattle.rl_labels.specs.Name.{is_text}
-use Rattle.rl_labels.specs.Quantity.{greatest_moment}
+use Rattle.rl_labels.specs.Quantity.{moment_at}
 use Rattle.rl_session.specs.declared.command.Command.{Command}
 use Rattle.rl_session.specs.declared.command.Command.TheVariants as commands
 
@@ -25,34 +24,9 @@ asked commands.End = ends
 abbrev pub cut_at : ℕ → List ℕ → Option (List ℕ × List ℕ)
 cut_at byte text = if nat_lt (position_or_len (λ b. b == byte) text) (length text) then Some (before_first (λ b. b == byte) text, after_first (λ b. b == byte) text) else None
 
--- at least one digit, and at most so many
-abbrev pub is_row : ℕ → List ℕ → Bool
-is_row most text = nat_lt 0 (length text) && (nat_le (length text) most && list_all is_ascii_digit text)
-
--- the number that a row of digits writes
-abbrev pub number_of : ℕ → List ℕ → Option ℕ
-number_of most text = if is_row most text then Some (digits_value 10 text) else None
-
--- the nanoseconds that 1 to 9 digits behind a point of seconds write
-abbrev pub fraction_of : List ℕ → Option ℕ
-fraction_of text = option_map (λ n. n * 10 ^ (9 - length text)) (number_of 9 text)
-
--- a moment, unless it is past the greatest
-abbrev pub moment_at : ℕ → Option ℕ
-moment_at n = if nat_le n greatest_moment then Some n else None
-
--- seconds and nanoseconds as a moment
-abbrev pub moment_of_parts : ℕ → ℕ → Option ℕ
-moment_of_parts seconds fraction = moment_at (seconds * 1000000000 + fraction)
-
--- the moment of a whole part, and of a point and a fraction if there are
-abbrev pub time_of_parts : List ℕ → Option (List ℕ × List ℕ) → Option ℕ
-time_of_parts word None = option_and_then (λ seconds. moment_of_parts seconds 0) (number_of 10 word)
-time_of_parts _ (Some parts) = option_and_then (λ seconds. option_and_then (moment_of_parts seconds) (fraction_of parts.1)) (number_of 10 parts.0)
-
 -- the moment of a time word: 1 to 10 digits of seconds, and perhaps a point and 1 to 9 digits
 abbrev pub time_of : List ℕ → Option ℕ
-time_of word = time_of_parts word (cut_at 46 word)
+time_of word = option_and_then (λ seconds. moment_at (billionths seconds)) (decimal_of 10 word)
 
 -- the command of a time word and a group's name
 abbrev pub eval_of : List ℕ × List ℕ → Option Asked

@@ -1,9 +1,6 @@
 -- Push bodies: the entries that a JSON document has, in its order, or its first fault.
-use Rattle.std.specs.Prelude.{ℕ, nat_lt, nat_le, Bool, true, false, ◌&&◌, List, [], ◌∷◌, ◌++◌, length, Option, None, Some, option_and_then, Result, Ok, Err, codes, if◌then◌else◌}
+use Rattle.std.specs.Prelude.{ℕ, nat_lt, Bool, true, false, List, [], ◌∷◌, ◌++◌, length, Option, None, Some, option_and_then, Result, Ok, Err, codes, if◌then◌else◌}
 use Rattle.std.specs.Str.{is_utf8}
-use Rattle.std.specs.List.{list_all}
-use Rattle.std.specs.Char.{is_ascii_digit}
-use Rattle.std.specs.Str.Parse.{digits_value}
 use Rattle.serde_json.specs.Data.{Data, Items, no_items, item, Members, no_members, member}
 use Rattle.serde_json.specs.Find.{get, as_str, as_array, as_object}
 use Rattle.serde_json.specs.Read.{read}
@@ -11,7 +8,8 @@ use Rattle.rl_plain.specs.Answers.{◌>>=◌}
 use Rattle.rl_labels.specs.LabelSet.{Pair, LabelSet}
 use Rattle.rl_labels.specs.Pairs.{labels_from}
 use Rattle.rl_labels.specs.EntryParts.{has_no_label, longest_line}
-use Rattle.rl_labels.specs.Quantity.{greatest_moment}
+use Rattle.rl_labels.specs.Decimals.{number_of}
+use Rattle.rl_labels.specs.Quantity.{moment_at}
 use Rattle.rl_labels.specs.declared.labels.LabelsFault.{LabelsFault}
 use Rattle.rl_session.specs.PushForms.{EntryForm, ValueParts}
 use Rattle.rl_session.specs.declared.push.PushFault.{PushFault}
@@ -77,13 +75,9 @@ parts_in _ = Err faults.Shape
 abbrev pub parts_of : Data → Result ValueParts PushFault
 parts_of value = required faults.Shape (as_array value) >>= parts_in
 
--- 1 to 19 decimal digits
-abbrev pub is_time : List ℕ → Bool
-is_time text = nat_lt 0 (length text) && (nat_le (length text) 19 && list_all is_ascii_digit text)
-
--- the moment that a text is, in nanoseconds
+-- the moment that 1 to 19 digits write, in nanoseconds
 abbrev pub moment_of : List ℕ → Result ℕ PushFault
-moment_of text = if is_time text && nat_le (digits_value 10 text) greatest_moment then Ok (digits_value 10 text) else Err faults.Time
+moment_of text = required faults.Time (option_and_then moment_at (number_of 19 text))
 
 -- a line, unless it is too long
 abbrev pub line_of : List ℕ → Result (List ℕ) PushFault

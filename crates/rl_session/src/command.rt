@@ -1,11 +1,10 @@
 //! Command lines: words one space apart, of which the last may be the rest of the line.
-ghost use Rattle.std.specs.Prelude.{◌≡◌, ◌+◌, ◌*◌, ◌-◌, ◌^◌, ◌<◌, ◌≤◌, length, IfSome};
-ghost use Rattle.std.specs.Char.{is_ascii_digit};
+ghost use Rattle.std.specs.Prelude.{◌≡◌, ◌<◌};
 ghost use Rattle.std.specs.List.{list_all};
 ghost use Rattle.std.specs.Option.{option_map, option_and_then};
-ghost use Rattle.rl_session.specs.Command.{Asked, asked, cut_at, is_row, number_of, fraction_of, moment_of_parts, time_of, eval_of, show_of, command_of_words, command_of, is_blank_byte};
+ghost use Rattle.rl_session.specs.Command.{Asked, asked, cut_at, time_of, eval_of, show_of, command_of_words, command_of, is_blank_byte};
 
-use rl_labels::Ns;
+use rl_labels::{Decimal, Ns, number_of};
 
 /// What a command line asks for.
 #[derive(Clone, Copy, Debug, PartialEq, Eq)]
@@ -71,7 +70,7 @@ fn read_show(words: &str) -> Option<Command<'_>>
     ensures { option_map asked result ≡ option_and_then show_of (cut_at 32 words.now) }
 {
     let (number, group) = cut_at(words, ' ')?;
-    let sink = number_of(number, 19)? as usize;
+    let sink = number_of(number.as_bytes(), 19)? as usize;
     Some(Command::Show { sink, group })
 }
 
@@ -79,54 +78,8 @@ fn read_show(words: &str) -> Option<Command<'_>>
 fn time_of(word: &str) -> Option<Ns>
     ensures { result ≡ time_of word.now }
 {
-    match cut_at(word, '.') {
-        Some((whole, fraction)) => {
-            moment_of_parts(number_of(whole, 10)?, fraction_of(fraction)?)
-        }
-        None => moment_of_parts(number_of(word, 10)?, 0),
-    }
-}
-
-fn moment_of_parts(seconds: u64, fraction: u64) -> Option<Ns>
-    requires seconds { seconds < 10 ^ 10 }
-    requires fraction { fraction < 10 ^ 9 }
-    ensures { result ≡ moment_of_parts seconds fraction }
-{
-    Ns::new(seconds * 1_000_000_000 + fraction)
-}
-
-// The nanoseconds that 1 to 9 digits behind a point of seconds write.
-fn fraction_of(text: &str) -> Option<u64>
-    ensures value { result ≡ fraction_of text.now }
-    ensures few { IfSome result (λ n. n < 10 ^ 9) }
-{
-    let number = number_of(text, 9)?;
-    let zeros = 9 - text.len() as u32;
-    Some(number * 10u64.pow(zeros))
-}
-
-// The number that a row of digits writes, at least one and at most so many.
-fn number_of(text: &str, most: usize) -> Option<u64>
-    requires { most ≤ 19 }
-    ensures value { result ≡ number_of most text.now }
-    ensures few { IfSome result (λ n. n < 10 ^ length text.now) }
-{
-    if !is_row(text, most) {
-        return None;
-    }
-    text.parse::<u64>().ok()
-}
-
-fn is_row(text: &str, most: usize) -> bool
-    ensures { result ≡ is_row most text.now }
-{
-    !text.is_empty() && text.len() <= most && are_digits(text.as_bytes())
-}
-
-fn are_digits(bytes: &[u8]) -> bool
-    ensures { result ≡ list_all is_ascii_digit bytes.now }
-{
-    bytes.iter().all(|byte| byte.is_ascii_digit())
+    let seconds = Decimal::of_digits(word.as_bytes(), 10)?;
+    Ns::new(u64::try_from(seconds.billionths()).ok()?)
 }
 
 // The parts before and behind the first such character.

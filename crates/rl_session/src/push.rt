@@ -1,17 +1,15 @@
 //! Push bodies: log entries from the JSON that a Loki client sends.
 ghost use Rattle.std.specs.Prelude.{◌≡◌, IsTrue, IfOk, codes, map, option_map, string_bytes};
-ghost use Rattle.std.specs.List.{list_all};
-ghost use Rattle.std.specs.Char.{is_ascii_digit};
 ghost use Rattle.serde_json.specs.View.{view, items_view, members_view};
 ghost use Rattle.serde_json.specs.Find.{get, as_str, as_object};
 ghost use Rattle.rl_plain.specs.Answers.{Gives, Answers, with_front};
 ghost use Rattle.rl_plain.specs.declared.refusal.OrMemory.TheVariants.{Fault};
 ghost use Rattle.rl_labels.specs.EntryParts.{is_stream};
 ghost use Rattle.rl_session.specs.PushForms.{entry_form, parts_form};
-ghost use Rattle.rl_session.specs.PushBody.{entries_of, document_of, array_of, object_of, pair_of, pairs_of, labels_of, metadata_in, parts_in, parts_of, required, is_time, moment_of, is_empty_object, has_no_metadata, entry_of, value_entry, entries_from, stream_entries, streams_entries};
+ghost use Rattle.rl_session.specs.PushBody.{entries_of, document_of, array_of, object_of, pair_of, pairs_of, labels_of, metadata_in, parts_in, parts_of, required, moment_of, is_empty_object, has_no_metadata, entry_of, value_entry, entries_from, stream_entries, streams_entries};
 
 use rl_labels::entry::MAX_LINE_LEN;
-use rl_labels::{Entry, Labels, Ns};
+use rl_labels::{Entry, Labels, Ns, number_of};
 use rl_plain::{OrMemory, PlainText, TryCopy};
 use serde_json::{Map, Value};
 use std::alloc::Global;
@@ -271,30 +269,14 @@ fn entry_of(alloc: Global, labels: &Labels, parts: Parts<'_>) -> Result<Entry, P
     })
 }
 
-// The moment that a text is, in nanoseconds.
+// The moment that a text of 1 to 19 digits is, in nanoseconds.
 fn moment_of(text: &str) -> Result<Ns, PushFault>
     ensures { result ≡ moment_of text.now }
 {
-    if !is_time(text) {
-        return Err(PushFault::Time);
+    match number_of(text.as_bytes(), 19) {
+        Some(number) => Ns::new(number).ok_or(PushFault::Time),
+        None => Err(PushFault::Time),
     }
-    match text.parse::<u64>() {
-        Ok(number) => Ns::new(number).ok_or(PushFault::Time),
-        Err(_) => Err(PushFault::Time),
-    }
-}
-
-// Whether the text is 1 to 19 digits.
-fn is_time(text: &str) -> bool
-    ensures { result ≡ is_time text.now }
-{
-    !text.is_empty() && text.len() <= 19 && are_digits(text.as_bytes())
-}
-
-fn are_digits(bytes: &[u8]) -> bool
-    ensures { result ≡ list_all is_ascii_digit bytes.now }
-{
-    bytes.iter().all(|byte| byte.is_ascii_digit())
 }
 
 // Whether there is none, or an empty object.

@@ -14,6 +14,7 @@ mod given;
 mod labels;
 mod plain;
 mod push;
+mod quantity;
 mod query;
 mod rules;
 mod session;
@@ -110,6 +111,7 @@ fn answer_once(
         "labels" => labels::answer(alloc, directive, input),
         "plain" => plain::answer(alloc, directive, input),
         "push" => push::answer(alloc, directive, input),
+        "quantity" => quantity::answer(alloc, directive, input),
         "query" => query::answer(alloc, directive, input),
         "rules" => rules::answer(alloc, directive, input),
         "session" => session::answer(alloc, directive, input),

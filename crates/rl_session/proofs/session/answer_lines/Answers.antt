@@ -1,5 +1,5 @@
 -- A line more.
-use Rattle.std.proofs.Common.{sym, subst, ◌∙◌, arith}
+use Rattle.std.proofs.Common.{◌∷◌, length, length-append, sym, ap, subst, ◌∙◌, arith}
 use Rattle.std.specs.Option.{option_copied}
 use Rattle.rl_session.specs.Front.{IsFirstLine}
 use Rattle.rl_session.proofs.Cut.{IsUtf8-behind}
@@ -29,3 +29,8 @@ loop-answer-preserved g c =
           (sym c.is_end.ensures ∙ c.if-is_end.false) first c.in_ok-answer.ensures.told c.loop-answer.invariant.so_far);
       sinks = omega arith;
     }
+
+pub loop-answer-smaller : goal.loop-answer-smaller
+loop-answer-smaller g c =
+    let first = subst (λ behind. IsFirstLine c.loop-answer.rest.now c.first_line.result.0.now (option_copied behind)) c.in-Some.is c.first_line.ensures in
+    omega (arith, ap length first.1, length-append c.first_line.result.0.now (10 ∷ c.in-Some.behind.now))
