@@ -16,7 +16,7 @@ use Rattle.rl_world.specs.Kept.{partials_of}
 use Rattle.rl_world.specs.History.{History, begin_fault, gather_fault, commit_fault, abandon_fault, asked_fault, closing_fault, is_session_full, last_moment, not_later, is_gathered, is_complete, begun, gathered, with_shown, committed, abandoned}
 use Rattle.rl_world.specs.laws.ShownLaws.{kept_evaluation}
 use Rattle.rl_world.specs.WorldState.{WorldState, Stands, kept_answer, kept_open, kept_history, kept_world}
-use Rattle.rl_world.specs.WorldStep.{WorldStep, Turn, MayRefuse, ShardTurn, BeginTurn, GatherTurn, CommitTurn, AbandonTurn, lists, partials, known, or_else, journal_refusal, refusal_of, with_shard, with_history}
+use Rattle.rl_world.specs.WorldStep.{WorldStep, Turn, MayRefuse, ShardTurn, HistoryTurn, GatherTurn, CommitTurn, lists, partials, known, or_else, journal_refusal, refusal_of, with_shard, with_history}
 use Rattle.rl_world.specs.declared.fault.BookFault.TheVariants as faults
 use Rattle.rl_world.specs.declared.fault.Refusal.{Refusal}
 use Rattle.rl_world.specs.declared.fault.Refusal.TheVariants as refusals
@@ -161,13 +161,16 @@ lift_shard world number step place reply new turn = record {
   turn = record { shard = turn.shard; there = turn.there; place_is = turn.place_is; reply_is = turn.reply_is; after = refl };
 }
 
-lift_begin : (world : Lists) (group t : ℕ) (new : Parts) → BeginTurn (kept_world world) group t new → LiftedTurn world (steps.Begin group t) replies.Begun new
-lift_begin world group t new turn =
+-- a change of a history that may be made before or behind the keeping
+lift_history : (world : Lists) (group : ℕ) (step : Step) (reply : Reply) (kept_change : History (List Partial) → History (List Partial)) (change : History (List Entry) → History (List Entry)) (new : Parts)
+    → ((history : History (List Entry)) → kept_change (kept_history history) ≡ kept_history (change history)) → ((after : Lists) → HistoryTurn change world group after → Turn lists world step reply after)
+    → HistoryTurn kept_change (kept_world world) group new → LiftedTurn world step reply new
+lift_history world group step reply kept_change change new commutes is_turn turn =
     let found = history_in world.histories group turn.history turn.there in
     record {
-      after = with_history world group (begun (length world.shards) found.item t);
-      stands = turn.after ∙ ap (λ h. with_history (kept_world world) group (begun (length world.shards) h t)) (sym found.value) ∙ ap (with_history (kept_world world) group) (begun-kept (length world.shards) found.item t) ∙ set-kept world group (begun (length world.shards) found.item t);
-      turn = record { history = found.item; there = found.is; after = refl };
+      after = with_history world group (change found.item);
+      stands = turn.after ∙ ap (λ h. with_history (kept_world world) group (kept_change h)) (sym found.value) ∙ ap (with_history (kept_world world) group) (commutes found.item) ∙ set-kept world group (change found.item);
+      turn = is_turn (with_history world group (change found.item)) (record { history = found.item; there = found.is; after = refl });
     }
 
 lift_gather : (world : Lists) (group number place : ℕ) (new : Parts) → GatherTurn partials (kept_world world) group number place new → LiftedTurn world (steps.Gather group number) (replies.Gathered place) new
@@ -206,21 +209,13 @@ lift_commit world group answer new turn =
       };
     }
 
-lift_abandon : (world : Lists) (group : ℕ) (new : Parts) → AbandonTurn (kept_world world) group new → LiftedTurn world (steps.Abandon group) replies.Abandoned new
-lift_abandon world group new turn =
-    let found = history_in world.histories group turn.history turn.there in
-    record {
-      after = with_history world group (abandoned found.item);
-      stands = turn.after ∙ ap (λ h. with_history (kept_world world) group (abandoned h)) (sym found.value) ∙ set-kept world group (abandoned found.item);
-      turn = record { history = found.item; there = found.is; after = refl };
-    }
-
 lift_turn : (world : Lists) (step : Step) (reply : Reply) (new : Parts) → Turn partials (kept_world world) step reply new → LiftedTurn world step reply new
 lift_turn world (steps.Shard number step) (replies.Decided place reply) new turn = lift_shard world number step place reply new turn
-lift_turn world (steps.Begin group t) replies.Begun new turn = lift_begin world group t new turn
+lift_turn world (steps.Begin group t) replies.Begun new turn =
+    lift_history world group (steps.Begin group t) replies.Begun (λ history. begun (length world.shards) history t) (λ history. begun (length world.shards) history t) new (λ history. begun-kept (length world.shards) history t) (λ after turn. turn) turn
 lift_turn world (steps.Gather group number) (replies.Gathered place) new turn = lift_gather world group number place new turn
 lift_turn world (steps.Commit group) (replies.Committed answer) new turn = lift_commit world group answer new turn
-lift_turn world (steps.Abandon group) replies.Abandoned new turn = lift_abandon world group new turn
+lift_turn world (steps.Abandon group) replies.Abandoned new turn = lift_history world group (steps.Abandon group) replies.Abandoned abandoned abandoned new (λ history. refl) (λ after turn. turn) turn
 lift_turn world step reply new turn = absurd turn
 
 refused_kept : (world : Lists) (step : Step) (refusal : Refusal) → MayRefuse (kept_world world) step refusal → MayRefuse world step refusal

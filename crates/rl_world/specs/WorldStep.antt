@@ -102,11 +102,11 @@ module _ {X : Type 0} where
     pub reply_is : reply ≡ step_reply shard.limits shard.state step
     pub after : new ≡ with_shard old number (recorded shard step)
 
-  -- a group opens an evaluation
-  pub record BeginTurn (old : WorldState X) (group t : ℕ) (new : WorldState X) : Type 0 where
+  -- a group's history changes, and nothing else
+  pub record HistoryTurn (change : History X → History X) (old : WorldState X) (group : ℕ) (new : WorldState X) : Type 0 where
     pub history : History X
     pub there : slice_get old.histories group ≡ Some history
-    pub after : new ≡ with_history old group (begun (length old.shards) history t)
+    pub after : new ≡ with_history old group (change history)
 
   -- a shard is asked for an open evaluation: its journal has the question, and the evaluation keeps what the shard shows now
   pub record GatherTurn (keeping : Keeping X) (old : WorldState X) (group number place : ℕ) (new : WorldState X) : Type 0 where
@@ -129,19 +129,13 @@ module _ {X : Type 0} where
     pub evaluation_is : answer.evaluation ≡ keeping.evaluate history.group opened
     pub after : new ≡ with_history old group (committed history answer.evaluation)
 
-  -- a group closes its evaluation, and nothing of it is left
-  pub record AbandonTurn (old : WorldState X) (group : ℕ) (new : WorldState X) : Type 0 where
-    pub history : History X
-    pub there : slice_get old.histories group ≡ Some history
-    pub after : new ≡ with_history old group (abandoned history)
-
   -- a step that is not refused; no other reply comes
   abbrev pub Turn : Keeping X → WorldState X → Step → Reply → WorldState X → Type 0
   Turn keeping old (steps.Shard number step) (replies.Decided place reply) new = ShardTurn old number step place reply new
-  Turn keeping old (steps.Begin group t) replies.Begun new = BeginTurn old group t new
+  Turn keeping old (steps.Begin group t) replies.Begun new = HistoryTurn (λ history. begun (length old.shards) history t) old group new
   Turn keeping old (steps.Gather group number) (replies.Gathered place) new = GatherTurn keeping old group number place new
   Turn keeping old (steps.Commit group) (replies.Committed answer) new = CommitTurn keeping old group answer new
-  Turn keeping old (steps.Abandon group) replies.Abandoned new = AbandonTurn old group new
+  Turn keeping old (steps.Abandon group) replies.Abandoned new = HistoryTurn abandoned old group new
   Turn keeping old step reply new = ⊥
 
   -- a refusal leaves the world as it was; any other reply comes only where no refusal does
