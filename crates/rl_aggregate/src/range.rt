@@ -2,7 +2,6 @@
 ghost use Rattle.std.specs.Prelude.{◌≡◌, ◌≤◌, ◌+◌, ◌<◌, ◌^◌, ℕ, List, length, map, get_or, ◌++◌, IfOk, OnOk, IsTrue};
 ghost use Rattle.std.specs.List.{list_all};
 ghost use Rattle.std.specs.List.Sorted.{IsPermutation};
-ghost use Rattle.rl_labels.specs.Selects.{selects};
 ghost use Rattle.rl_labels.specs.declared.entry.Entry.{Entry};
 ghost use Rattle.rl_query.specs.Limits.{longest_range};
 ghost use Rattle.rl_aggregate.specs.InRange.{in_window, is_in_range, element};
@@ -13,7 +12,7 @@ ghost use Rattle.rl_aggregate.specs.Partials.{has_error, partial, partial_of, me
 use crate::partial::Partial;
 use crate::total::Total;
 use rl_labels::labels::ERROR_LABEL;
-use rl_labels::{Entry, Labels, Matcher, MatcherCode, Ns};
+use rl_labels::{Entry, Labels, Ns, SelectorCode};
 use rl_query::Term;
 use std::alloc::{AllocError, Global};
 
@@ -27,7 +26,7 @@ pub fn scratch(alloc: Global, entries: &[Entry], term: &Term, t: Ns) -> Result<P
     ensures partial { IfOk result (λ found. found ≡ partial entries.now term.now t) }
     ensures any_order { (others : List Entry) → IsPermutation entries.now others → IfOk result (λ found. found ≡ partial others term.now t) }
 {
-    let selector = codes_of(alloc, term.range.selector.matchers.as_slice())?;
+    let selector = SelectorCode::build(alloc, term.range.selector.matchers.as_slice())?;
     let mut found = Partial::empty(alloc);
     let mut rest = entries;
     while let [first, ..] = rest {
@@ -75,7 +74,7 @@ fn is_like(term: &Term, t: Ns, first: &Entry, entry: &Entry) -> bool
 
 // Whether the term's range has the entry at the moment. The selector is the term's, built.
 fn is_in_range(
-    selector: &[MatcherCode],
+    selector: &SelectorCode,
     term: &Term,
     t: Ns,
     entry: &Entry,
@@ -86,7 +85,7 @@ fn is_in_range(
     if !in_window(term.range.seconds, t, entry.timestamp) {
         return Ok(false);
     }
-    selects(selector, &entry.labels)
+    selector.accepts(&entry.labels)
 }
 
 // Whether the window of a range in seconds has the timestamp.
@@ -95,29 +94,6 @@ fn in_window(seconds: u64, t: Ns, timestamp: Ns) -> bool
     ensures { result ≡ in_window seconds t timestamp }
 {
     timestamp <= t && t.get() < timestamp.get() + seconds * SECOND
-}
-
-// The matchers, built.
-fn codes_of(alloc: Global, matchers: &[Matcher]) -> Result<Vec<MatcherCode>, AllocError>
-    ensures { IfOk result (λ codes. codes.items ≡ matchers.now) }
-{
-    let mut codes = Vec::with_capacity(alloc, matchers.len())?;
-    for matcher in matchers {
-        codes.push(matcher.build()?)?;
-    }
-    Ok(codes)
-}
-
-// Whether each matcher accepts the label set.
-fn selects(selector: &[MatcherCode], labels: &Labels) -> Result<bool, AllocError>
-    ensures { IfOk result (λ answer. answer ≡ selects selector.now labels.now) }
-{
-    for code in selector {
-        if !code.accepts(labels)? {
-            return Ok(false);
-        }
-    }
-    Ok(true)
 }
 
 // Counts a run of entries with these labels.

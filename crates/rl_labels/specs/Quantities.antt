@@ -59,20 +59,14 @@ size_unit_in_lower_case text =
 abbrev pub size_unit : List ℕ → Option SizeUnit
 size_unit text = size_unit_in_lower_case (map to_ascii_lowercase text)
 
--- a digit or a point
-abbrev pub is_decimal_byte : ℕ → Bool
-is_decimal_byte byte = is_ascii_digit byte || byte == 46
+-- a byte of a number, which is a digit or a point, or else one of a unit
+abbrev pub is_byte_of : Bool → ℕ → Bool
+is_byte_of true byte = is_ascii_digit byte || byte == 46
+is_byte_of false byte = not (is_ascii_digit byte || byte == 46)
 
-abbrev pub is_unit_byte : ℕ → Bool
-is_unit_byte byte = not (is_decimal_byte byte)
-
--- the longest front of bytes that pass, and what stands behind it
-abbrev pub front_of : (ℕ → Bool) → List ℕ → List ℕ × List ℕ
-front_of passes text = (take (prefix_len passes text) text, drop (prefix_len passes text) text)
-
--- the parts of a quantity at the front: digits and points, then a unit, then the rest
-abbrev pub number_at : List ℕ → List ℕ × List ℕ
-number_at text = front_of is_decimal_byte text
+-- the longest front of such bytes, and what stands behind it
+abbrev pub front_of : Bool → List ℕ → List ℕ × List ℕ
+front_of of_number text = (take (prefix_len (is_byte_of of_number) text) text, drop (prefix_len (is_byte_of of_number) text) text)
 
 abbrev pub part_of : Option DecimalForm → Option DurationUnit → Option DurationPart
 part_of (Some number) (Some unit) = Some (record { number = number; unit = unit })
@@ -81,8 +75,8 @@ part_of number unit = None
 -- a part of a duration at the front, and what stands behind it
 abbrev pub part_at : List ℕ → Option (DurationPart × List ℕ)
 part_at text =
-    let number = number_at text in
-    let unit = front_of is_unit_byte number.1 in
+    let number = front_of true text in
+    let unit = front_of false number.1 in
     option_map (λ part. (part, unit.1)) (part_of (decimal_of 15 number.0) (duration_unit unit.0))
 
 -- a part, and those that are read behind it, if something stands there
@@ -118,7 +112,7 @@ size_of_parts number unit = None
 
 -- a size: a decimal, at most one space, and a unit
 abbrev pub size_of : List ℕ → Option Size
-size_of text = let number = number_at text in size_of_parts (decimal_of 15 number.0) (size_unit (without_space number.1))
+size_of text = let number = front_of true text in size_of_parts (decimal_of 15 number.0) (size_unit (without_space number.1))
 
 -- in billionths of a byte
 abbrev pub size_value : Size → ℕ

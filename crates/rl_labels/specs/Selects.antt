@@ -22,3 +22,7 @@ selects matchers labels = list_all (λ matcher. accepts matcher labels) matchers
 -- texts are compared in place
 abbrev pub needs_no_memory : MatchOp → Bool
 needs_no_memory Equal = true
+
+-- no matcher needs any
+abbrev pub all_need_no_memory : List Matcher → Bool
+all_need_no_memory matchers = list_all (λ matcher. needs_no_memory matcher.op) matchers

@@ -5,7 +5,7 @@
 //!
 //! - `labels`: `Labels`, made from pairs with named refusals.
 //! - `entry`: `Entry`, labels with a moment and a line.
-//! - `matcher`: `Matcher`, and its built code that accepts label sets.
+//! - `matcher`: `Matcher`, and its built code that accepts label sets. `selector`: the same of many that must all accept.
 //! - `decimal`: rows of digits, and `Decimal`. `quantity`: `Duration`, `Size`, and `Signed`, which labels' values are.
 //! - `ns`: `Ns`, moments in nanoseconds.
 //! - `limits`: `Limits`, made from numbers that are in their ranges.
@@ -18,6 +18,7 @@ pub mod limits;
 pub mod matcher;
 pub mod ns;
 pub mod quantity;
+pub mod selector;
 
 pub use decimal::{Decimal, NotOne, number_of};
 pub use entry::{Entry, EntryFault, RefusedEntry};
@@ -26,3 +27,4 @@ pub use limits::{BadLimit, DEFAULT_LIMITS, LimitField, Limits, RawLimits};
 pub use matcher::{MatchOp, Matcher, MatcherCode, MatcherError};
 pub use ns::Ns;
 pub use quantity::{Duration, DurationPart, DurationUnit, Signed, Size, SizeUnit};
+pub use selector::SelectorCode;

@@ -6,7 +6,7 @@ ghost use Rattle.std.specs.Ordering.{int_cmp};
 ghost use Rattle.std.specs.List.{prefix_len};
 ghost use Rattle.std.specs.Char.{to_ascii_lowercase};
 ghost use Rattle.rl_labels.specs.Decimals.{billionths, decimal_of};
-ghost use Rattle.rl_labels.specs.Quantities.{nanoseconds_in, bytes_in, duration_unit, size_unit, is_decimal_byte, is_unit_byte, part_at, part_value, duration_of, duration_value, without_space, size_of, size_value, signed, sign_at, signed_value, no_time, duration_in_label};
+ghost use Rattle.rl_labels.specs.Quantities.{nanoseconds_in, bytes_in, duration_unit, size_unit, is_byte_of, part_at, part_value, duration_of, duration_value, without_space, size_of, size_value, signed, sign_at, signed_value, no_time, duration_in_label};
 
 use crate::decimal::{Decimal, NotOne};
 use arrayvec::ArrayVec;
@@ -134,58 +134,39 @@ pub struct Size {
     pub unit: SizeUnit,
 }
 
-// What stands in front of the first byte that is neither a digit nor a point, and the rest.
-fn number_at(text: &[u8]) -> (&[u8], &[u8])
-    ensures number { result.0.now ≡ take (prefix_len is_decimal_byte text.now) text.now }
-    ensures behind { result.1.now ≡ drop (prefix_len is_decimal_byte text.now) text.now }
+// The longest front of bytes of a number or else of a unit, and the rest.
+fn front_of(text: &[u8], of_number: bool) -> (&[u8], &[u8])
+    ensures front { result.0.now ≡ take (prefix_len (is_byte_of of_number) text.now) text.now }
+    ensures behind { result.1.now ≡ drop (prefix_len (is_byte_of of_number) text.now) text.now }
 {
-    text.split_at(number_len(text))
+    text.split_at(front_len(text, of_number))
 }
 
-fn number_len(text: &[u8]) -> usize
-    ensures length { result ≡ prefix_len is_decimal_byte text.now }
+fn front_len(text: &[u8], of_number: bool) -> usize
+    ensures length { result ≡ prefix_len (is_byte_of of_number) text.now }
     ensures within { result ≤ length text.now }
 {
     for (index, byte) in text.iter().enumerate() {
-        if !is_decimal_byte(*byte) {
+        if !is_byte_of(of_number, *byte) {
             return index;
         }
     }
     text.len()
 }
 
-// What stands in front of the first digit or point, and the rest.
-fn unit_at(text: &[u8]) -> (&[u8], &[u8])
-    ensures unit { result.0.now ≡ take (prefix_len is_unit_byte text.now) text.now }
-    ensures behind { result.1.now ≡ drop (prefix_len is_unit_byte text.now) text.now }
+// Whether a byte is one of a number, a digit or a point, or else of a unit.
+fn is_byte_of(of_number: bool, byte: u8) -> bool
+    ensures { result ≡ is_byte_of of_number byte }
 {
-    text.split_at(unit_len(text))
-}
-
-fn unit_len(text: &[u8]) -> usize
-    ensures length { result ≡ prefix_len is_unit_byte text.now }
-    ensures within { result ≤ length text.now }
-{
-    for (index, byte) in text.iter().enumerate() {
-        if is_decimal_byte(*byte) {
-            return index;
-        }
-    }
-    text.len()
-}
-
-fn is_decimal_byte(byte: u8) -> bool
-    ensures { result ≡ is_decimal_byte byte }
-{
-    byte.is_ascii_digit() || byte == b'.'
+    (byte.is_ascii_digit() || byte == b'.') == of_number
 }
 
 // A part of a duration at the front, and what stands behind it.
 fn part_at(text: &[u8]) -> Option<(DurationPart, &[u8])>
     ensures { option_map (λ part. (part.0, part.1.now)) result ≡ part_at text.now }
 {
-    let (number, rest) = number_at(text);
-    let (unit, behind) = unit_at(rest);
+    let (number, rest) = front_of(text, true);
+    let (unit, behind) = front_of(rest, false);
     let number = Decimal::of_digits(number, 15)?;
     let unit = duration_unit(unit)?;
     Some((DurationPart { number, unit }, behind))
@@ -221,7 +202,7 @@ impl Size {
 fn size_in(text: &[u8]) -> Option<Size>
     ensures { result ≡ size_of text.now }
 {
-    let (number, unit) = number_at(text);
+    let (number, unit) = front_of(text, true);
     let number = Decimal::of_digits(number, 15)?;
     let unit = size_unit(without_space(unit))?;
     Some(Size { number, unit })

@@ -1,8 +1,0 @@
--- What is left of the front is that of what is left.
-use Rattle.std.proofs.Common.{◌≡◌, ◌+◌, drop}
-use Rattle.std.specs.List.{prefix_len}
-use Rattle.rl_labels.specs.Quantities.{is_unit_byte}
-use Rattle.rl_labels.proofs.quantity.unit_len.Given as goal
-
-abbrev pub invariant-loop-index : goal.invariant-loop-index
-invariant-loop-index l = l.index + prefix_len is_unit_byte (drop l.index l.text) ≡ prefix_len is_unit_byte l.text
