@@ -12,6 +12,7 @@ mod compared;
 mod front;
 mod given;
 mod labels;
+mod patterns;
 mod plain;
 mod push;
 mod quantity;
@@ -109,6 +110,7 @@ fn answer_once(
         "command" => command::answer(alloc, directive, input),
         "front" => front::answer(alloc, directive, input),
         "labels" => labels::answer(alloc, directive, input),
+        "patterns" => patterns::answer(alloc, directive, input),
         "plain" => plain::answer(alloc, directive, input),
         "push" => push::answer(alloc, directive, input),
         "quantity" => quantity::answer(alloc, directive, input),

@@ -1,0 +1,3 @@
+-- Laws that the crates above rest on.
+pub mod Utf8
+pub mod Wholes

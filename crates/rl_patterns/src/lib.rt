@@ -1,0 +1,16 @@
+//! Regular expressions, built once and searched often: the one place that meets the crate `regex`.
+//!
+//! Contracts see a built pattern as its text. What the text means is said in `specs/Matching.antt`: `has_match` of a
+//! pattern and a text, and `matches_whole` of a pattern and a value, as `^(?:pattern)$`.
+//!
+//! - `pattern`: `PatternCode`, which tells whether a text has a match, and `WholePatternCode`, whether a value is one.
+//! - `searching`: `Searching`, which serves many texts with one set of caches.
+//! - `sending`: built code may be sent to another thread.
+#![tactic(auto)]
+
+pub mod pattern;
+pub mod searching;
+pub mod sending;
+
+pub use pattern::{PatternCode, PatternError, PatternFault, WholePatternCode, is_pattern};
+pub use searching::Searching;
