@@ -15,7 +15,7 @@ use thiserror::Error;
 #[error("not a quantity of this kind")]
 pub struct NotOne;
 
-/// The number that a row of digits writes, of at least one digit and at most so many.
+/// The number that a row of digits writes, of at least one digit and at most so many. Any other text is `None`.
 pub fn number_of(text: &[u8], most: usize) -> Option<u64>
     requires { most ≤ 19 }
     ensures value { result ≡ number_of most text.now }
@@ -93,7 +93,7 @@ impl Default for Decimal {
 impl Decimal {
     ghost use Rattle.rl_labels.specs.Decimals.{billionths};
 
-    /// The decimal that a text is.
+    /// The decimal that a text is. Any other text is `NotOne`.
     pub fn read(text: &str) -> Result<Decimal, NotOne>
         ensures { result_ok result ≡ decimal_of 15 text.now }
     {

@@ -1,4 +1,4 @@
-//! Label sets, entries, matchers and limits: the values that a log ruler speaks of.
+//! Label sets, entries, matchers, quantities and limits: the values that a log ruler speaks of.
 //!
 //! A label set is seen as a finite map from names to texts that are not empty, `LabelSet`, and two label sets are equal,
 //! ordered and hashed by their canonical texts. Upper crates speak of it by `label`, `value_of` and `canonical_text`.

@@ -1,4 +1,4 @@
-//! Durations and sizes as texts have them, and the quantities that labels' values are.
+//! Durations and sizes as LogQL's label filters write them, and the quantities that labels' values are.
 ghost use Rattle.std.specs.Prelude.{◌≡◌, ◌<◌, ◌≤◌, ◌^◌, List, length, map, take, drop, IfOk, IfErr, IfSome, None, Some, [], pos, if◌then◌else◌};
 ghost use Rattle.std.specs.Option.{option_map};
 ghost use Rattle.std.specs.Result.{result_ok};
@@ -183,7 +183,7 @@ impl DurationPart {
 }
 
 impl Size {
-    /// The size that a text is: a decimal, at most one space, and a unit.
+    /// The size that a text is: a decimal, at most one space, and a unit. Any other text is `NotOne`.
     pub fn read(text: &str) -> Result<Size, NotOne>
         ensures { result_ok result ≡ size_of text.now }
     {
@@ -237,7 +237,7 @@ impl Model for Duration {
 }
 
 impl Duration {
-    /// The duration that a text is.
+    /// The duration that a text is. Any other text is `NotOne`.
     pub fn read(text: &str) -> Result<Duration, NotOne>
         ensures { result_ok result ≡ duration_of text.now }
     {
@@ -303,7 +303,7 @@ pub struct Signed<Q> {
 }
 
 impl Signed<Decimal> {
-    /// The number that a label's value is: perhaps a minus, and a decimal.
+    /// The number that a label's value is: perhaps a minus, and a decimal. Any other text is `NotOne`.
     pub fn read(text: &str) -> Result<Self, NotOne>
         ensures { result_ok result ≡ signed (decimal_of 15) text.now }
     {
@@ -333,7 +333,7 @@ impl Signed<Decimal> {
 }
 
 impl Signed<Duration> {
-    /// The duration that a label's value is: `0`, or perhaps a minus, and 1 to 8 parts.
+    /// The duration that a label's value is: `0`, or perhaps a minus, and 1 to 8 parts. Any other text is `NotOne`.
     pub fn read(text: &str) -> Result<Self, NotOne>
         ensures { result_ok result ≡ duration_in_label text.now }
     {
@@ -368,7 +368,7 @@ impl Signed<Duration> {
     }
 }
 
-// No second.
+// Zero seconds.
 fn no_time() -> Duration
     ensures { result ≡ no_time }
 {

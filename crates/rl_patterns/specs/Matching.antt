@@ -31,7 +31,7 @@ wrapped pattern = codes "^(?:" ++ pattern ++ codes ")$"
 unfoldable pub matches_whole : List ℕ → List ℕ → Bool
 matches_whole pattern value = has_match (wrapped pattern) value
 
--- the text is a pattern alone and wrapped: `)(` is one wrapped alone, and `(?x)a # b` is none wrapped
+-- the text is a pattern alone and wrapped: `)(` is one only where it is wrapped, and `(?x)a # b` only alone
 unfoldable pub is_whole_pattern : List ℕ → Bool
 is_whole_pattern pattern = is_pattern pattern && is_pattern (wrapped pattern)
 

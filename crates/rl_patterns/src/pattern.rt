@@ -52,7 +52,7 @@ impl Model for PatternCode {
 }
 
 impl PatternCode {
-    /// The code of the pattern.
+    /// The code of the pattern. BadRegex where the text is none, TooBig where its program is.
     pub fn build(alloc: Global, pattern: &str) -> Result<Self, PatternError>
         ensures code { IfOk result (λ code. code ≡ pattern.now) }
         ensures read { IfOk result (λ _. IsTrue (is_pattern pattern.now)) }
@@ -99,7 +99,7 @@ impl Model for WholePatternCode {
 }
 
 impl WholePatternCode {
-    /// The code of the pattern, which is one alone and wrapped.
+    /// The code of the pattern. BadRegex where the text is none alone or wrapped, TooBig where its program is.
     #[tactic(auto, unfolding(crate::specs::Matching::is_whole_pattern))]
     pub fn build(alloc: Global, pattern: &str) -> Result<Self, PatternError>
         ensures code { IfOk result (λ code. code ≡ pattern.now) }
