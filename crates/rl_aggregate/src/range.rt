@@ -26,7 +26,7 @@ pub fn scratch(alloc: Global, entries: &[Entry], term: &Term, t: Ns) -> Result<P
     ensures partial { IfOk result (λ found. found ≡ partial entries.now term.now t) }
     ensures any_order { (others : List Entry) → IsPermutation entries.now others → IfOk result (λ found. found ≡ partial others term.now t) }
 {
-    let selector = SelectorCode::build(alloc, term.range.selector.matchers.as_slice())?;
+    let selector = selector_of(alloc, term)?;
     let mut found = Partial::empty(alloc);
     let mut rest = entries;
     while let [first, ..] = rest {
@@ -37,6 +37,13 @@ pub fn scratch(alloc: Global, entries: &[Entry], term: &Term, t: Ns) -> Result<P
         rest = others;
     }
     Ok(found)
+}
+
+// The built selector of a term. Its patterns were built when it was read, so a refusal is one for memory.
+fn selector_of(alloc: Global, term: &Term) -> Result<SelectorCode, AllocError>
+    ensures { IfOk result (λ selector. selector ≡ term.now.range.selector.matchers) }
+{
+    SelectorCode::build(alloc, term.range.selector.matchers.as_slice()).or(Err(AllocError))
 }
 
 // The entries that count as the first of them does, before one that does not; and those from that one on.

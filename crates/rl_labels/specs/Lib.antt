@@ -7,6 +7,7 @@ pub mod LabelText
 pub mod LimitRanges
 pub mod MatcherOrder
 pub mod Name
+pub mod Operators
 pub mod Pairs
 pub mod Parts
 pub mod Quantities

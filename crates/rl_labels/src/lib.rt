@@ -7,6 +7,7 @@
 //! - `entry`: `Entry`, labels with a moment and a line.
 //! - `matcher`: `Matcher`, and its built code that accepts label sets. `selector`: the same of many that must all accept.
 //! - `decimal`: rows of digits, and `Decimal`. `quantity`: `Duration`, `Size`, and `Signed`, which labels' values are.
+//! - `sending`: built matchers may be sent to another thread.
 //! - `ns`: `Ns`, moments in nanoseconds.
 //! - `limits`: `Limits`, made from numbers that are in their ranges.
 #![tactic(auto)]
@@ -19,12 +20,13 @@ pub mod matcher;
 pub mod ns;
 pub mod quantity;
 pub mod selector;
+pub mod sending;
 
 pub use decimal::{Decimal, NotOne, number_of};
 pub use entry::{Entry, EntryFault, RefusedEntry};
 pub use labels::{Labels, LabelsError, LabelsFault};
 pub use limits::{BadLimit, DEFAULT_LIMITS, LimitField, Limits, RawLimits};
-pub use matcher::{MatchOp, Matcher, MatcherCode, MatcherError};
+pub use matcher::{MatchOp, Matcher, MatcherCode, MatcherError, MatcherFault};
 pub use ns::Ns;
 pub use quantity::{Duration, DurationPart, DurationUnit, Signed, Size, SizeUnit};
 pub use selector::SelectorCode;

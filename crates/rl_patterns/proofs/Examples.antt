@@ -2,8 +2,7 @@
 use Rattle.std.specs.Prelude.{◌≡◌, true, false, option_map, codes}
 use Rattle.std.proofs.Common.{refl}
 use Rattle.regex.proofs.OnLiterals.{regex_on_literals}
-use Rattle.rl_patterns.specs.Matching.{read_as, is_pattern, is_whole_pattern, wrapped}
-use Rattle.rl_patterns.specs.laws.Wholes.{anchored}
+use Rattle.rl_patterns.specs.Matching.{read_as, is_pattern, is_whole_pattern, wrapped, anchored}
 
 -- a wrapped pattern is read as what it wraps
 choice_wraps : read_as (wrapped (codes "a|b")) ≡ option_map anchored (read_as (codes "a|b"))

@@ -1,3 +1,4 @@
+pub mod Answered
 pub mod Crossing
 pub mod Readings
 mod Examples

@@ -1,6 +1,6 @@
 -- What the text of a pattern means: where it is a pattern, whether it matches in a text, and whether it matches a whole value.
-use Rattle.std.specs.Prelude.{◌≡◌, ℕ, nat_le, Bool, true, false, ◌&&◌, List, ◌++◌, Option, Some, None, is_some, option_and_then, if◌then◌else◌, codes, chars}
-use Rattle.regex.specs.Patterns.{Re, find_str, default_config}
+use Rattle.std.specs.Prelude.{◌≡◌, ℕ, nat_le, Bool, true, false, ◌&&◌, List, [], ◌++◌, Option, Some, None, is_some, option_and_then, if◌then◌else◌, codes, chars}
+use Rattle.regex.specs.Patterns.{Re, Start, End, empty, byte_in, look, cat, alt, find_str, default_config}
 use Rattle.regex_syntax.specs.Brackets.{Nested}
 use Rattle.regex_syntax.specs.Grammar.{Names, read}
 use Rattle.rl_plain.specs.declared.refusal.OrMemory.{OrMemory}
@@ -30,6 +30,14 @@ wrapped pattern = codes "^(?:" ++ pattern ++ codes ")$"
 -- the pattern matches the value from its start to its end
 unfoldable pub matches_whole : List ℕ → List ℕ → Bool
 matches_whole pattern value = has_match (wrapped pattern) value
+
+-- what `^(?:pattern)$` is read as, where the pattern is read as re
+abbrev pub anchored : Re → Re
+anchored re = alt (cat (look Start) (cat re (cat (look End) empty))) (byte_in [])
+
+-- the wrapped pattern is read as what it wraps, between the ends of the text
+abbrev pub WrapsAs : List ℕ → Re → Type 0
+WrapsAs pattern re = read_as (wrapped pattern) ≡ Some (anchored re)
 
 -- the text is a pattern alone and wrapped: `)(` is one only where it is wrapped, and `(?x)a # b` only alone
 unfoldable pub is_whole_pattern : List ℕ → Bool

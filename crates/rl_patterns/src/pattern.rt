@@ -1,8 +1,9 @@
 //! Built patterns.
-ghost use Rattle.std.specs.Prelude.{◌≡◌, IfOk, IfErr, IsTrue, string_bytes};
+ghost use Rattle.std.specs.Prelude.{◌≡◌, ◌↔◌, IfOk, IfErr, IsTrue, length, string_bytes, true};
 ghost use Rattle.rl_plain.specs.declared.refusal.OrMemory.TheVariants.{Fault, Memory};
 ghost use Rattle.rl_patterns.specs.Building.{refusal_of};
-ghost use Rattle.rl_patterns.specs.Matching.{has_match, is_pattern, is_whole_pattern, matches_whole, wrapped, IsRefusalOf};
+ghost use Rattle.regex.specs.Patterns.{Matches, Re};
+ghost use Rattle.rl_patterns.specs.Matching.{has_match, is_pattern, is_whole_pattern, matches_whole, wrapped, IsRefusalOf, WrapsAs};
 
 use crate::searching::Searching;
 use regex::Regex;
@@ -118,7 +119,8 @@ impl WholePatternCode {
     /// Whether the pattern matches the whole value. A `Searching` is faster where there are many.
     #[tactic(auto, unfolding(crate::specs::Matching::matches_whole))]
     pub fn matches(&self, value: &str) -> Result<bool, AllocError>
-        ensures { IfOk result (λ answer. answer ≡ matches_whole self.now value.now) }
+        ensures answer { IfOk result (λ answer. answer ≡ matches_whole self.now value.now) }
+        ensures whole { IfOk result (λ answer. (re : Re) → WrapsAs self.now re → ((answer ≡ true) ↔ Matches value.now re 0 (length value.now))) }
     {
         self.code.has_match(value)
     }

@@ -1,13 +1,20 @@
 -- Reading matchers one after the other, as a loop does.
-use Rattle.std.proofs.Common.{◌≡◌, ℕ, suc, ◌-◌, ◌+◌, ◌≤◌, ◌<◌, true, false, not, ◌||◌, map, List, [], ◌∷◌, ◌++◌, Result, Ok, Err, refl, sym, ap, ◌∙◌, append_assoc, arith}
+use Rattle.std.proofs.Common.{◌≡◌, ℕ, suc, ◌-◌, ◌+◌, ◌≤◌, ◌<◌, true, false, not, ◌||◌, ◌&&◌, map, List, [], ◌∷◌, ◌++◌, Result, Ok, Err, refl, sym, ap, ◌∙◌, append_assoc, arith}
 use Rattle.rl_query.specs.declared.token.Lexeme.{Lexeme}
 use Rattle.rl_query.specs.declared.fault.QueryFault.{QueryFault}
 use Rattle.rl_query.specs.declared.fault.QueryFault.TheVariants as faults
 use Rattle.rl_plain.specs.declared.refusal.OrMemory.{OrMemory}
 use Rattle.rl_plain.specs.declared.refusal.OrMemory.TheVariants as errors
-use Rattle.rl_labels.specs.Selects.{passes}
+use Rattle.std.specs.List.{list_all, list_any}
+use Rattle.std.proofs.lemmas.Bool.{true≢false}
+use Rattle.rl_labels.specs.LabelSet.{is_empty}
+use Rattle.rl_labels.specs.Name.{is_name}
+use Rattle.rl_labels.specs.Operators.{IsRefusedMatcher}
+use Rattle.rl_labels.specs.declared.matcher.MatchOp.TheVariants as operators
+use Rattle.rl_labels.specs.declared.matcher.MatcherFault.{MatcherFault}
+use Rattle.rl_labels.specs.declared.matcher.MatcherFault.TheVariants as matchers
 use Rattle.rl_labels.specs.declared.matcher.Matcher.{Matcher}
-use Rattle.rl_query.specs.Limits.{has_real_matcher}
+use Rattle.rl_query.specs.Limits.{is_equal, has_real_matcher}
 use Rattle.rl_query.specs.Form.{MatcherForm, matcher_form, has_real_form}
 use Rattle.rl_plain.specs.Answers.{◌>>=◌, Fails}
 use Rattle.rl_query.specs.Parsing.{element_at, matchers_at}
@@ -52,7 +59,19 @@ none_ends front count i lexemes whole le so_far =
     let one : with_front front (matchers_at (count - i) lexemes) ≡ Err (faults.Syntax 0) = rw k refl in
     sym so_far ∙ one
 
+equal_forms : (matchers : List Matcher) → list_all (λ m. is_equal m.op) (map matcher_form matchers) ≡ list_all (λ m. is_equal m.op) matchers
+equal_forms [] = refl
+equal_forms (m ∷ matchers) = ap (λ b. is_equal m.op && b) (equal_forms matchers)
+
+full_forms : (matchers : List Matcher) → list_any (λ m. not (is_empty m.value)) (map matcher_form matchers) ≡ list_any (λ m. not (is_empty m.value)) matchers
+full_forms [] = refl
+full_forms (m ∷ matchers) = ap (λ b. not (is_empty m.value) || b) (full_forms matchers)
+
 -- matchers and their forms refuse the empty text alike
 pub real_forms : (matchers : List Matcher) → has_real_form (map matcher_form matchers) ≡ has_real_matcher matchers
-real_forms [] = refl
-real_forms (m ∷ matchers) = ap (λ b. not (passes m.op m.value []) || b) (real_forms matchers)
+real_forms matchers = ap (λ b. b && list_any (λ m. not (is_empty m.value)) (map matcher_form matchers)) (equal_forms matchers) ∙ ap (λ b. list_all (λ m. is_equal m.op) matchers && b) (full_forms matchers)
+
+-- a matcher that compares by `=` is refused for its name alone
+pub unnamed : (name : List ℕ) (fault : MatcherFault) → IsRefusedMatcher name operators.Equal (errors.Fault fault) → is_name name ≡ false
+unnamed name matchers.BadName h = h
+unnamed name matchers.BadRegex h = absurd (true≢false (sym h.1))

@@ -21,10 +21,10 @@ use Rattle.rl_query.specs.declared.token.Token.{Token}
 use Rattle.rl_query.specs.declared.token.Token.TheVariants as tokens
 use Rattle.rl_query.specs.Durations.{duration_from, duration_of}
 use Rattle.rl_query.specs.Form.{MatcherForm, QueryForm, has_real_form}
-use Rattle.rl_query.specs.Grammar.{Stand, matcher_tokens, matchers_tokens, IsRange, Derives}
+use Rattle.rl_query.specs.Grammar.{Stand, operator_sign, matcher_tokens, matchers_tokens, IsRange, Derives}
 use Rattle.rl_query.specs.Lexing.{is_space, is_number_byte, gap_len, run_at, onto, quoted, or_bad, or_else, sign_at, token_at, lexemes_in}
 use Rattle.rl_query.specs.Limits.{longest_range}
-use Rattle.rl_query.specs.Printing.{matcher_text, function_text, query_text}
+use Rattle.rl_query.specs.Printing.{operator_text, matcher_text, function_text, query_text}
 use Rattle.rl_plain.specs.Escapes.{escaped}
 use Rattle.rl_query.specs.Tables.{one_byte, two_bytes, escapes}
 use Rattle.rl_query.specs.laws.Productions.{stand_then}
@@ -147,23 +147,29 @@ lone_sign b rest sign no_gap is one two = token_lexes (tokens.Sign sign) b rest 
         ap (λ o. or_else (option_map (λ s. (s, rest)) o) (option_map (λ s. (s, second ∷ rest)) (one_byte b))) (two second)
         ∙ ap (option_map (λ s. (s, second ∷ rest))) one
 
--- an equality sign before a quote
-equal_sign : (rest : List ℕ) → Lexes (tokens.Sign signs.Equal ∷ []) (61 ∷ 34 ∷ rest) (34 ∷ rest)
+-- an operator before a quote
+operator_lexes : (op : MatchOp) (rest : List ℕ) → Lexes (tokens.Sign (operator_sign op) ∷ []) (operator_text op ++ 34 ∷ rest) (34 ∷ rest)
 unfolding token_at
-equal_sign rest = token_lexes (tokens.Sign signs.Equal) 61 (34 ∷ rest) (34 ∷ rest) refl refl (omega arith)
+operator_lexes operators.Equal rest = token_lexes (tokens.Sign signs.Equal) 61 (34 ∷ rest) (34 ∷ rest) refl refl (omega arith)
+operator_lexes operators.NotEqual rest = token_lexes (tokens.Sign signs.NotEqual) 33 (61 ∷ 34 ∷ rest) (34 ∷ rest) refl refl (omega arith)
+operator_lexes operators.Matches rest = token_lexes (tokens.Sign signs.Matches) 61 (126 ∷ 34 ∷ rest) (34 ∷ rest) refl refl (omega arith)
+operator_lexes operators.NotMatches rest = token_lexes (tokens.Sign signs.NotMatches) 33 (126 ∷ 34 ∷ rest) (34 ∷ rest) refl refl (omega arith)
+
+-- a name ends before an operator
+operator_ends : (op : MatchOp) (rest : List ℕ) → prefix_len is_name_byte (operator_text op ++ rest) ≡ 0
+operator_ends operators.Equal rest = refl
+operator_ends _ rest = refl
 
 matcher_lexes : (m : MatcherForm) (rest : List ℕ) → is_name m.name ≡ true → Lexes (matcher_tokens m) (matcher_text m ++ rest) rest
-matcher_lexes m rest named = by_op m.op
+matcher_lexes m rest named =
+    let sign = operator_text m.op in
+    let value = 34 ∷ (escaped escapes m.value ++ 34 ∷ rest) in
+    subst (λ text. Lexes (matcher_tokens m) text rest) (sym (regrouped m.name sign m.value))
+    (lexes_then (tokens.Word m.name ∷ []) (tokens.Sign (operator_sign m.op) ∷ tokens.Text m.value ∷ []) (m.name ++ (sign ++ value)) (sign ++ value) rest (word_lexes m.name (sign ++ value) named (operator_ends m.op value))
+    (lexes_then (tokens.Sign (operator_sign m.op) ∷ []) (tokens.Text m.value ∷ []) (sign ++ value) value rest (operator_lexes m.op (escaped escapes m.value ++ 34 ∷ rest)) (text_lexes m.value rest)))
   where
-    regrouped : (name value : List ℕ) → (name ++ (61 ∷ []) ++ (34 ∷ []) ++ escaped escapes value ++ (34 ∷ [])) ++ rest ≡ name ++ (61 ∷ 34 ∷ (escaped escapes value ++ 34 ∷ rest))
-    regrouped name value = simp append_assoc
-
-    by_op : (op : MatchOp) → Lexes (matcher_tokens (record { name = m.name; op = op; value = m.value })) (matcher_text (record { name = m.name; op = op; value = m.value }) ++ rest) rest
-    by_op operators.Equal =
-        let value = 34 ∷ (escaped escapes m.value ++ 34 ∷ rest) in
-        subst (λ text. Lexes (matcher_tokens (record { name = m.name; op = operators.Equal; value = m.value })) text rest) (sym (regrouped m.name m.value))
-        (lexes_then (tokens.Word m.name ∷ []) (tokens.Sign signs.Equal ∷ tokens.Text m.value ∷ []) (m.name ++ (61 ∷ value)) (61 ∷ value) rest (word_lexes m.name (61 ∷ value) named refl)
-        (lexes_then (tokens.Sign signs.Equal ∷ []) (tokens.Text m.value ∷ []) (61 ∷ value) value rest (equal_sign (escaped escapes m.value ++ 34 ∷ rest)) (text_lexes m.value rest)))
+    regrouped : (name sign value : List ℕ) → (name ++ sign ++ (34 ∷ []) ++ escaped escapes value ++ (34 ∷ [])) ++ rest ≡ name ++ (sign ++ (34 ∷ (escaped escapes value ++ 34 ∷ rest)))
+    regrouped name sign value = simp append_assoc
 
 abbrev others_text : List MatcherForm → List ℕ
 others_text = flat_map (λ other. 44 ∷ 32 ∷ matcher_text other)

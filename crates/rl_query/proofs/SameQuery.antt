@@ -4,20 +4,16 @@ use Rattle.std.proofs.lemmas.Bool.{and_from}
 use Rattle.std.proofs.Props.{props}
 use mathlib.Core.HLevel.{Σ_prop_path}
 use Rattle.rl_labels.specs.Name.{is_name}
+use Rattle.rl_labels.specs.laws.OrderLaws.{same_matcher}
 use Rattle.rl_labels.specs.declared.matcher.Matcher.{Matcher}
 use Rattle.rl_query.specs.declared.query.Query.{Query}
 use Rattle.rl_query.specs.declared.query.Term.{Term}
 use Rattle.rl_query.specs.declared.query.LogRange.{LogRange}
 use Rattle.rl_query.specs.declared.query.Selector.{Selector}
-use Rattle.rl_query.specs.Form.{MatcherForm, matcher_form, range_form, term_form, query_form}
+use Rattle.rl_query.specs.Form.{matcher_form, range_form, term_form, query_form}
 use Rattle.rl_query.specs.Limits.{has_real_matcher, longest_range}
 use Rattle.rl_query.proofs.Elements.{real_forms}
 use Rattle.rl_query.proofs.Printed.{Keeps, are_named}
-
-same_matcher : (a b : Matcher) → matcher_form a ≡ matcher_form b → a ≡ b
-same_matcher a b e =
-    let whole : ◌≡◌ {A = (f : MatcherForm) × IsTrue (is_name f.name)} (matcher_form a, a.named) (matcher_form b, b.named) = Σ_prop_path (λ f. hlevel props) e in
-    λ i. record { name = (whole i).0.name; op = (whole i).0.op; value = (whole i).0.value; named = (whole i).1 }
 
 same_matchers : (xs ys : List Matcher) → map matcher_form xs ≡ map matcher_form ys → xs ≡ ys
 same_matchers [] [] e = refl
@@ -26,7 +22,7 @@ same_matchers (x ∷ xs) [] e = cc
 same_matchers (x ∷ xs) (y ∷ ys) e =
     let heads : matcher_form x ≡ matcher_form y = cc in
     let tails : map matcher_form xs ≡ map matcher_form ys = cc in
-    let first = same_matcher x y heads in
+    let first = same_matcher x y (ap (λ f. f.name) heads) (ap (λ f. f.op) heads) (ap (λ f. f.value) heads) in
     let rest = same_matchers xs ys tails in
     λ i. first i ∷ rest i
 

@@ -23,6 +23,9 @@ Stand (token ∷ tokens) (lexeme ∷ lexemes) rest = (lexeme.token ≡ token) ×
 
 abbrev pub operator_sign : MatchOp → Sign
 operator_sign operators.Equal = signs.Equal
+operator_sign operators.NotEqual = signs.NotEqual
+operator_sign operators.Matches = signs.Matches
+operator_sign operators.NotMatches = signs.NotMatches
 
 -- name="value"
 abbrev pub matcher_tokens : MatcherForm → List Token

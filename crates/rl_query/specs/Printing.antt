@@ -12,6 +12,9 @@ use Rattle.rl_query.specs.Form.{MatcherForm, RangeForm, TermForm, QueryForm}
 
 abbrev pub operator_text : MatchOp → List ℕ
 operator_text operators.Equal = codes "="
+operator_text operators.NotEqual = codes "!="
+operator_text operators.Matches = codes "=~"
+operator_text operators.NotMatches = codes "!~"
 
 -- name="value"
 abbrev pub matcher_text : MatcherForm → List ℕ

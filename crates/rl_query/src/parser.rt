@@ -10,8 +10,8 @@ ghost use Rattle.rl_plain.specs.Answers.{Gives, Answers};
 ghost use Rattle.rl_query.specs.declared.query.Query.{Query};
 ghost use Rattle.rl_query.specs.Parsing.{is_unsupported, is_unsupported_word, is_unsupported_sign, is_stage, is_operator, is_in_any_case, is_later_word, refusal, next, expected, is_sign, name_of, content_of, matcher_at, goes_on, element_at, matchers_at, some_matcher, real_matchers, selector_at, is_unit_letter, is_duration_byte, looks_like_duration, range_of, seconds_of, checked_range, function_of, named_function, seconds_at, range_at, term_at, query_in, query_of, ends};
 ghost use Rattle.rl_query.specs.Durations.{duration_of};
-ghost use Rattle.rl_query.specs.Limits.{has_real_matcher, longest_range};
-ghost use Rattle.rl_labels.specs.Selects.{passes};
+ghost use Rattle.rl_query.specs.Limits.{is_equal, has_real_matcher, longest_range};
+ghost use Rattle.rl_labels.specs.LabelSet.{is_empty};
 ghost use Rattle.std.specs.Char.{is_ascii_digit};
 
 use crate::duration::{LONGEST_RANGE, duration_of};
@@ -231,7 +231,7 @@ fn content_of(lexeme: &Lexeme) -> Result<&PlainText, QueryFault>
 }
 
 // One matcher: a name, `=` and a text.
-#[tactic(auto, unfolding(crate::specs::Parsing::matcher_at))]
+#[tactic(auto, using(crate::proofs::Elements::unnamed), unfolding(crate::specs::Parsing::matcher_at))]
 fn matcher_at(lexemes: &[Lexeme]) -> Result<(Matcher, &[Lexeme]), QueryError>
     ensures { Gives (λ x. (matcher_form x.0, x.1.now)) result (matcher_at lexemes.now) }
 {
@@ -242,7 +242,8 @@ fn matcher_at(lexemes: &[Lexeme]) -> Result<(Matcher, &[Lexeme]), QueryError>
     let value = content_of(text)?;
     match Matcher::new(name.try_copy()?, MatchOp::Equal, value.try_copy()?) {
         Ok(matcher) => Ok((matcher, rest)),
-        Err(_) => Err(QueryError::Fault(QueryFault::Syntax(first.place))),
+        Err(OrMemory::Fault(_)) => Err(QueryError::Fault(QueryFault::Syntax(first.place))),
+        Err(OrMemory::Memory) => Err(QueryError::Memory),
     }
 }
 
@@ -324,15 +325,31 @@ fn real_selector(matchers: Vec<Matcher>) -> Result<Selector, QueryFault>
 fn has_real_matcher(matchers: &[Matcher]) -> bool
     ensures { result ≡ has_real_matcher matchers.now }
 {
+    are_equal(matchers) && one_refuses_empty(matchers)
+}
+
+fn one_refuses_empty(matchers: &[Matcher]) -> bool
+    ensures { result ≡ list_any (λ matcher. not (is_empty matcher.value)) matchers.now }
+{
     matchers.iter().any(refuses_empty)
 }
 
 fn refuses_empty(matcher: &Matcher) -> bool
-    ensures { result ≡ not (passes matcher.now.op matcher.now.value []) }
+    ensures { result ≡ not (is_empty matcher.now.value) }
 {
-    match matcher.op {
-        MatchOp::Equal => !matcher.value.is_empty(),
-    }
+    !matcher.value.is_empty()
+}
+
+fn are_equal(matchers: &[Matcher]) -> bool
+    ensures { result ≡ list_all (λ matcher. is_equal matcher.op) matchers.now }
+{
+    matchers.iter().all(is_equal)
+}
+
+fn is_equal(matcher: &Matcher) -> bool
+    ensures { result ≡ is_equal matcher.now.op }
+{
+    matches!(matcher.op, MatchOp::Equal)
 }
 
 fn is_unit_letter(byte: u8) -> bool

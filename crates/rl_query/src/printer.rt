@@ -102,5 +102,8 @@ fn operator_sign(op: MatchOp) -> &'static str
 {
     match op {
         MatchOp::Equal => "=",
+        MatchOp::NotEqual => "!=",
+        MatchOp::Matches => "=~",
+        MatchOp::NotMatches => "!~",
     }
 }

@@ -1,6 +1,7 @@
 //! Cases of names, label sets, moments, entries, matchers and limits.
 //!
-//! A matcher is written as `a=x`, and limits by those that are not the default ones, as `keep=1,cache=2`.
+//! A matcher is written as `a=x` or with `!=`, `=~`, `!~`, more of them as `a=x & b!=y`, and limits by those that are not the
+//! default ones, as `keep=1,cache=2`.
 use crate::compared::{compared, halves};
 use crate::given::{entry_in, labels_in, moment_in, number_in, pairs_in};
 use crate::trouble::Trouble;
@@ -8,7 +9,7 @@ use rl_labels::entry::MAX_LINE_LEN;
 use rl_labels::labels::{ERROR_LABEL, MAX_TEXT_LEN, is_label_name};
 use rl_labels::{
     BadLimit, DEFAULT_LIMITS, Entry, Labels, LabelsError, LimitField, Limits, MatchOp, Matcher,
-    MatcherError, Ns, RawLimits,
+    MatcherError, Ns, RawLimits, SelectorCode,
 };
 use rl_plain::{OrMemory, PlainText};
 use std::alloc::Global;
@@ -25,6 +26,7 @@ pub(crate) fn answer(alloc: Global, directive: &str, input: &str) -> Result<Stri
         "entry" => entry(alloc, input),
         "matcher" => matcher(alloc, input),
         "accepts" => accepts(alloc, input),
+        "selects" => selects(alloc, input),
         "limits" => limits(alloc, input),
         "others" => others(alloc),
         _ => comparison(alloc, directive, input),
@@ -38,7 +40,7 @@ fn comparison(alloc: Global, directive: &str, input: &str) -> Result<String, Tro
         "moments" => compared(alloc, input, moment_in),
         "entries" => compared(alloc, input, |text| entry_in(alloc, text)),
         "matchers" => compared(alloc, input, |text| matcher_in(alloc, text)),
-        "operators" => compared(alloc, input, |_text| Ok(MatchOp::Equal)),
+        "operators" => compared(alloc, input, |text| Ok(parts_of(text)?.1)),
         _ => Err(Trouble::NoSuchDirective),
     }
 }
@@ -112,11 +114,26 @@ fn entry(alloc: Global, input: &str) -> Result<String, Trouble> {
     })
 }
 
-fn matcher_of(alloc: Global, text: &str) -> Result<Result<Matcher, MatcherError>, Trouble> {
+// The name, the operator and the value.
+fn parts_of(text: &str) -> Result<(&str, MatchOp, &str), Trouble> {
+    if let Some((name, value)) = text.split_once("=~") {
+        return Ok((name, MatchOp::Matches, value));
+    }
+    if let Some((name, value)) = text.split_once("!~") {
+        return Ok((name, MatchOp::NotMatches, value));
+    }
+    if let Some((name, value)) = text.split_once("!=") {
+        return Ok((name, MatchOp::NotEqual, value));
+    }
     let (name, value) = text.split_once('=').ok_or(Trouble::BadInput)?;
+    Ok((name, MatchOp::Equal, value))
+}
+
+fn matcher_of(alloc: Global, text: &str) -> Result<Result<Matcher, MatcherError>, Trouble> {
+    let (name, op, value) = parts_of(text)?;
     let name = PlainText::from_str(alloc, name)?;
     let value = PlainText::from_str(alloc, value)?;
-    Ok(Matcher::new(name, MatchOp::Equal, value))
+    Ok(Matcher::new(name, op, value))
 }
 
 fn matcher_in(alloc: Global, text: &str) -> Result<Matcher, Trouble> {
@@ -126,16 +143,35 @@ fn matcher_in(alloc: Global, text: &str) -> Result<Matcher, Trouble> {
 fn matcher(alloc: Global, input: &str) -> Result<String, Trouble> {
     Ok(match matcher_of(alloc, input)? {
         Ok(made) => format!(in alloc; "{} {:?} {}", made.name, made.op, made.value)?,
-        Err(fault) => format!(in alloc; "{fault:?}: {fault}")?,
+        Err(OrMemory::Fault(fault)) => format!(in alloc; "{fault:?}: {fault}")?,
+        Err(OrMemory::Memory) => return Err(Trouble::Memory),
     })
 }
 
 // Whether the matcher accepts the label set.
 fn accepts(alloc: Global, input: &str) -> Result<String, Trouble> {
     let (matcher, labels) = halves(input)?;
-    let code = matcher_in(alloc, matcher)?.build()?;
+    let code = matcher_in(alloc, matcher)?
+        .build()
+        .or(Err(Trouble::BadInput))?;
     let accepts = code.accepts(&labels_in(alloc, labels)?)?;
     Ok(accepts.to_string(alloc)?)
+}
+
+// Whether all matchers accept the label set.
+fn selects(alloc: Global, input: &str) -> Result<String, Trouble> {
+    let (matchers, labels) = halves(input)?;
+    let code = selector_in(alloc, matchers)?;
+    let accepts = code.accepts(&labels_in(alloc, labels)?)?;
+    Ok(accepts.to_string(alloc)?)
+}
+
+fn selector_in(alloc: Global, text: &str) -> Result<SelectorCode, Trouble> {
+    let mut matchers = Vec::new(alloc);
+    for matcher in text.split_terminator(" & ") {
+        matchers.push(matcher_in(alloc, matcher)?)?;
+    }
+    SelectorCode::build(alloc, &matchers).or(Err(Trouble::BadInput))
 }
 
 fn limits(alloc: Global, input: &str) -> Result<String, Trouble> {

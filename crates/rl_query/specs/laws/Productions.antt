@@ -21,7 +21,7 @@ use Rattle.rl_query.specs.Durations.{duration_of}
 use Rattle.rl_query.specs.Form.{MatcherForm, RangeForm, TermForm, QueryForm, has_real_form}
 use Rattle.rl_query.specs.Grammar.{Stand, operator_sign, matcher_tokens, matchers_tokens, IsSelector, IsDuration, IsRange, IsTerm, Derives}
 use Rattle.rl_query.specs.Lexing.{sign_at, lexemes_of}
-use Rattle.rl_query.specs.Limits.{longest_range}
+use Rattle.rl_query.specs.Limits.{is_equal, longest_range}
 use Rattle.rl_query.specs.Parsing.{is_sign, next, refusal, expected, name_of, content_of, matcher_at, goes_on, element_at, matchers_at, some_matcher, real_matchers, selector_at, looks_like_duration, seconds_of, range_of, named_function, function_of, seconds_at, range_at, term_at, ends, query_in}
 use Rattle.rl_query.specs.Printing.{function_text}
 use Rattle.rl_query.specs.Tables.{sign_text}
@@ -127,16 +127,21 @@ matcher_read lexemes m rest h =
     } in
     subst (λ (p : MatcherForm × List Lexeme). IsMatcher p.0 lexemes p.1) made.1 whole
 
-matcher_is : (others : List Token) (m : MatcherForm) (lexemes rest : List Lexeme) → Stand (matcher_tokens m ++ others) lexemes rest → is_name m.name ≡ true → (behind : List Lexeme) × (matcher_at lexemes ≡ Ok (m, behind)) × Stand others behind rest
+-- a query has `=` alone
+abbrev is_read : MatcherForm → Bool
+is_read m = is_name m.name && is_equal m.op
+
+matcher_is : (others : List Token) (m : MatcherForm) (lexemes rest : List Lexeme) → Stand (matcher_tokens m ++ others) lexemes rest → is_read m ≡ true → (behind : List Lexeme) × (matcher_at lexemes ≡ Ok (m, behind)) × Stand others behind rest
 unfolding matcher_at
-matcher_is others m lexemes rest stand is = by_op m.op stand
+matcher_is others m lexemes rest stand is = let parts = and_parts (is_name m.name) (is_equal m.op) is in by_op parts.0 m.op parts.1 stand
   where
-    by_op : (op : MatchOp) → Stand (matcher_tokens (record { name = m.name; op = op; value = m.value }) ++ others) lexemes rest → (behind : List Lexeme) × (matcher_at lexemes ≡ Ok (record { name = m.name; op = op; value = m.value }, behind)) × Stand others behind rest
-    by_op operators.Equal stand =
+    by_op : is_name m.name ≡ true → (op : MatchOp) → is_equal op ≡ true → Stand (matcher_tokens (record { name = m.name; op = op; value = m.value }) ++ others) lexemes rest → (behind : List Lexeme) × (matcher_at lexemes ≡ Ok (record { name = m.name; op = op; value = m.value }, behind)) × Stand others behind rest
+    by_op named operators.Equal equal stand =
         let a = next_is (tokens.Word m.name) (tokens.Sign signs.Equal ∷ tokens.Text m.value ∷ others) lexemes rest stand in
         let b = expected_is signs.Equal (tokens.Text m.value ∷ others) positions.Operator a.behind rest a.more in
         let c = next_is (tokens.Text m.value) others b.0 rest b.2 in
-        (c.behind, rw (a.is, b.1, c.is) (cond-true (is_name m.name) _ _ is), c.more)
+        (c.behind, rw (a.is, b.1, c.is) (cond-true (is_name m.name) _ _ named), c.more)
+    by_op named _ other stand = absurd (true≢false (sym other))
 
 goes_on_read : (place : ℕ) (t : Token) (more : Bool) → goes_on place t ≡ Ok more → t ≡ tokens.Sign (cond more signs.Comma signs.CloseBrace)
 goes_on_read place t more h =
@@ -161,7 +166,7 @@ element_read lexemes m more rest h =
     let whole : IsElement a.0.0 c.0 lexemes b.0.1 = record { stand = stand_then (matcher_tokens a.0.0) (tokens.Sign (cond c.0 signs.Comma signs.CloseBrace) ∷ []) lexemes a.0.1 b.0.1 matcher.stand (one_read (tokens.Sign (cond c.0 signs.Comma signs.CloseBrace)) a.0.1 b.0.1 b.0.0 b.1 (goes_on_read b.0.0.place b.0.0.token c.0 c.1)); named = matcher.named } in
     subst (λ (p : MatcherForm × Bool × List Lexeme). IsElement p.0 p.1 lexemes p.2) made whole
 
-element_is : (others : List Token) (m : MatcherForm) (more : Bool) (lexemes rest : List Lexeme) → Stand (matcher_tokens m ++ tokens.Sign (cond more signs.Comma signs.CloseBrace) ∷ others) lexemes rest → is_name m.name ≡ true → (behind : List Lexeme) × (element_at lexemes ≡ Ok (m, more, behind)) × Stand others behind rest
+element_is : (others : List Token) (m : MatcherForm) (more : Bool) (lexemes rest : List Lexeme) → Stand (matcher_tokens m ++ tokens.Sign (cond more signs.Comma signs.CloseBrace) ∷ others) lexemes rest → is_read m ≡ true → (behind : List Lexeme) × (element_at lexemes ≡ Ok (m, more, behind)) × Stand others behind rest
 unfolding element_at
 element_is others m true lexemes rest stand is = let a = matcher_is (tokens.Sign signs.Comma ∷ others) m lexemes rest stand is in let b = next_is (tokens.Sign signs.Comma) others a.0 rest a.2 in (b.behind, rw (a.1, b.is) refl, b.more)
 element_is others m false lexemes rest stand is = let a = matcher_is (tokens.Sign signs.CloseBrace ∷ others) m lexemes rest stand is in let b = next_is (tokens.Sign signs.CloseBrace) others a.0 rest a.2 in (b.behind, rw (a.1, b.is) refl, b.more)
@@ -206,14 +211,27 @@ few_matchers (m ∷ o ∷ os) (a ∷ b ∷ []) rest stand = absurd stand.1.1
 few_matchers (m ∷ o ∷ os) (a ∷ []) rest stand = absurd stand.1
 few_matchers (m ∷ o ∷ os) [] rest stand = absurd stand
 
-matchers_are : (most : ℕ) (m : MatcherForm) (ms : List MatcherForm) (lexemes rest : List Lexeme) → Stand (matchers_tokens (m ∷ ms)) lexemes rest → are_named (m ∷ ms) ≡ true → length (m ∷ ms) ≤ most → matchers_at most lexemes ≡ Ok (m ∷ ms, rest)
+abbrev are_read : List MatcherForm → Bool
+are_read = list_all is_read
+
+abbrev are_equal : List MatcherForm → Bool
+are_equal = list_all (λ m. is_equal m.op)
+
+all_read : (ms : List MatcherForm) → are_named ms ≡ true → are_equal ms ≡ true → are_read ms ≡ true
+all_read [] names equals = refl
+all_read (m ∷ ms) names equals =
+    let named = and_parts (is_name m.name) (are_named ms) names in
+    let equal = and_parts (is_equal m.op) (are_equal ms) equals in
+    and_from (is_read m) _ (and_from (is_name m.name) _ named.0 equal.0) (all_read ms named.1 equal.1)
+
+matchers_are : (most : ℕ) (m : MatcherForm) (ms : List MatcherForm) (lexemes rest : List Lexeme) → Stand (matchers_tokens (m ∷ ms)) lexemes rest → are_read (m ∷ ms) ≡ true → length (m ∷ ms) ≤ most → matchers_at most lexemes ≡ Ok (m ∷ ms, rest)
 unfolding matchers_at
 matchers_are zero m ms lexemes rest stand names few = absurd (omega (arith, few))
 matchers_are (suc most) m [] lexemes rest stand names few =
-    let a = element_is [] m false lexemes rest stand (and_parts (is_name m.name) true names).0 in
+    let a = element_is [] m false lexemes rest stand (and_parts (is_read m) true names).0 in
     rw a.1 (ap (λ r. Ok (m ∷ [], r)) a.2)
 matchers_are (suc most) m (o ∷ os) lexemes rest stand names few =
-    let parts = and_parts (is_name m.name) (are_named (o ∷ os)) names in
+    let parts = and_parts (is_read m) (are_read (o ∷ os)) names in
     let a = element_is (matchers_tokens (o ∷ os)) m true lexemes rest stand parts.0 in
     rw (a.1, matchers_are most o os a.0 rest a.2 parts.1 (omega (arith, few))) refl
 
@@ -241,7 +259,7 @@ selector_is (m ∷ ms) lexemes rest is =
     let first = first_name m ms a.0 a.2 in (
       a.0,
       a.1,
-      rw (first.2, matchers_are (length a.0) m ms a.0 rest a.2 is.named (few_matchers (m ∷ ms) a.0 rest a.2))
+      rw (first.2, matchers_are (length a.0) m ms a.0 rest a.2 (all_read (m ∷ ms) is.named (and_parts (are_equal (m ∷ ms)) _ is.real).0) (few_matchers (m ∷ ms) a.0 rest a.2))
           (ap (λ r. r >>= λ (matchers : List MatcherForm). Ok (matchers, rest)) (cond-true (has_real_form (m ∷ ms)) _ _ is.real)),
     )
   where
