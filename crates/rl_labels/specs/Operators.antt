@@ -39,6 +39,12 @@ IsRefusedMatcher name op (Fault BadName) = is_name name ≡ false
 IsRefusedMatcher name op (Fault BadRegex) = (is_name name ≡ true) × (is_by_pattern op ≡ true)
 IsRefusedMatcher name op Memory = (is_name name ≡ true) × (is_by_pattern op ≡ true)
 
+-- Why a matcher is refused that is read and not built: for its name first, then where its pattern is none.
+abbrev pub IsUnread : (name : List ℕ) → MatchOp → (value : List ℕ) → OrMemory MatcherFault → Type 0
+IsUnread name op value (Fault BadName) = is_name name ≡ false
+IsUnread name op value (Fault BadRegex) = (is_name name ≡ true) × (is_comparable op value ≡ false)
+IsUnread name op value Memory = (is_name name ≡ true) × (is_by_pattern op ≡ true)
+
 -- why the code of a matcher is not built: for memory, and where a pattern is in it for that
 abbrev pub IsUnbuilt : (by_pattern : Bool) → OrMemory MatcherFault → Type 0
 IsUnbuilt by_pattern (Fault BadName) = ⊥

@@ -3,10 +3,10 @@ ghost use Rattle.std.specs.Prelude.{◌≡◌, IfOk, IfErr, IsOk, IsTrue, not, t
 ghost use Rattle.rl_plain.specs.declared.refusal.OrMemory.TheVariants.{Fault};
 ghost use Rattle.rl_patterns.specs.Matching.{is_whole_pattern};
 ghost use Rattle.rl_labels.specs.Name.{is_name};
-ghost use Rattle.rl_labels.specs.Operators.{is_by_pattern, is_comparable, refusal_of, IsRefusedMatcher, IsUnbuilt};
+ghost use Rattle.rl_labels.specs.Operators.{is_by_pattern, is_comparable, refusal_of, IsRefusedMatcher, IsUnbuilt, IsUnread};
 
 use crate::labels::{Labels, is_label_name};
-use rl_patterns::{PatternError, WholePatternCode};
+use rl_patterns::{PatternError, WholePatternCode, is_whole_pattern};
 use rl_plain::{OrMemory, PlainText, Same, TryCopy};
 use std::alloc::AllocError;
 use std::cmp::Ordering;
@@ -75,11 +75,23 @@ impl Matcher {
         ensures parts { IfOk result (λ matcher. (matcher.name ≡ name) × (matcher.op ≡ op) × (matcher.value ≡ value)) }
         ensures refused { IfErr result (IsRefusedMatcher name op) }
     {
+        let matcher = Matcher::read(name, op, value)?;
+        if op.is_by_pattern() {
+            pattern_of(&matcher.value)?;
+        }
+        Ok(matcher)
+    }
+
+    /// The same of a pattern that is read and not built: `BadRegex` exactly where it is none.
+    pub fn read(name: PlainText, op: MatchOp, value: PlainText) -> Result<Matcher, MatcherError>
+        ensures parts { IfOk result (λ matcher. (matcher.name ≡ name) × (matcher.op ≡ op) × (matcher.value ≡ value)) }
+        ensures refused { IfErr result (IsUnread name op value) }
+    {
         if !is_label_name(name.as_str()) {
             return Err(OrMemory::Fault(MatcherFault::BadName));
         }
-        if op.is_by_pattern() {
-            pattern_of(&value)?;
+        if op.is_by_pattern() && !is_whole_pattern(value.allocator(), value.as_str())? {
+            return Err(OrMemory::Fault(MatcherFault::BadRegex));
         }
         Ok(Matcher { name, op, value })
     }

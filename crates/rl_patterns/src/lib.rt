@@ -12,5 +12,7 @@ pub mod pattern;
 pub mod searching;
 pub mod sending;
 
-pub use pattern::{PatternCode, PatternError, PatternFault, WholePatternCode, is_pattern};
+pub use pattern::{
+    PatternCode, PatternError, PatternFault, WholePatternCode, is_pattern, is_whole_pattern,
+};
 pub use searching::Searching;

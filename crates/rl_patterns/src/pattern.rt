@@ -146,6 +146,18 @@ pub fn is_pattern(alloc: Global, text: &str) -> Result<bool, AllocError>
     }
 }
 
+/// Whether the text is a pattern of whole values, alone and as `^(?:pattern)$`. It is read and not built.
+#[tactic(auto, unfolding(crate::specs::Matching::is_whole_pattern))]
+pub fn is_whole_pattern(alloc: Global, pattern: &str) -> Result<bool, AllocError>
+    ensures { IfOk result (λ answer. answer ≡ is_whole_pattern pattern.now) }
+{
+    if !is_pattern(alloc, pattern)? {
+        return Ok(false);
+    }
+    let text = wrapped(alloc, pattern)?;
+    is_pattern(alloc, text.as_str())
+}
+
 // The pattern that matches whole values alone.
 fn wrapped(alloc: Global, pattern: &str) -> Result<String, AllocError>
     ensures { IfOk result (λ text. string_bytes text ≡ wrapped pattern.now) }

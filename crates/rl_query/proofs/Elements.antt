@@ -1,23 +1,24 @@
 -- Reading matchers one after the other, as a loop does.
-use Rattle.std.proofs.Common.{◌≡◌, ℕ, suc, ◌-◌, ◌+◌, ◌≤◌, ◌<◌, true, false, not, ◌||◌, ◌&&◌, map, List, [], ◌∷◌, ◌++◌, Result, Ok, Err, refl, sym, ap, ◌∙◌, append_assoc, arith}
+use Rattle.std.proofs.Common.{◌≡◌, ℕ, suc, ◌-◌, ◌+◌, ◌≤◌, ◌<◌, Bool, true, false, not, ◌||◌, ◌&&◌, map, List, [], ◌∷◌, ◌++◌, Result, Ok, Err, refl, sym, ap, ◌∙◌, append_assoc, arith}
 use Rattle.rl_query.specs.declared.token.Lexeme.{Lexeme}
 use Rattle.rl_query.specs.declared.fault.QueryFault.{QueryFault}
 use Rattle.rl_query.specs.declared.fault.QueryFault.TheVariants as faults
 use Rattle.rl_plain.specs.declared.refusal.OrMemory.{OrMemory}
 use Rattle.rl_plain.specs.declared.refusal.OrMemory.TheVariants as errors
-use Rattle.std.specs.List.{list_all, list_any}
-use Rattle.std.proofs.lemmas.Bool.{true≢false}
-use Rattle.rl_labels.specs.LabelSet.{is_empty}
-use Rattle.rl_labels.specs.Name.{is_name}
-use Rattle.rl_labels.specs.Operators.{IsRefusedMatcher}
-use Rattle.rl_labels.specs.declared.matcher.MatchOp.TheVariants as operators
+use Rattle.std.specs.Option.{unwrap_or}
+use Rattle.std.specs.FinMap.Entries.{find}
+use Rattle.std.proofs.lemmas.Bool.{cond-true, cond-false}
+use Rattle.rl_labels.specs.LabelSet.{value_of, no_labels, labels_of-no_labels}
+use Rattle.rl_labels.specs.Name.{name_cmp, is_name}
+use Rattle.rl_labels.specs.Operators.{passes, is_by_pattern, is_comparable, IsUnread}
+use Rattle.rl_labels.specs.Selects.{are_by_text, selects}
 use Rattle.rl_labels.specs.declared.matcher.MatcherFault.{MatcherFault}
 use Rattle.rl_labels.specs.declared.matcher.MatcherFault.TheVariants as matchers
 use Rattle.rl_labels.specs.declared.matcher.Matcher.{Matcher}
-use Rattle.rl_query.specs.Limits.{is_equal, has_real_matcher}
-use Rattle.rl_query.specs.Form.{MatcherForm, matcher_form, has_real_form}
+use Rattle.rl_query.specs.Limits.{has_real_matcher}
+use Rattle.rl_query.specs.Form.{MatcherForm, matcher_form, has_real_form, has_pattern}
 use Rattle.rl_plain.specs.Answers.{◌>>=◌, Fails}
-use Rattle.rl_query.specs.Parsing.{element_at, matchers_at}
+use Rattle.rl_query.specs.Parsing.{checked_matcher, element_at, matchers_at}
 
 -- what was read before, and what is still read
 abbrev pub with_front : List MatcherForm → Result (List MatcherForm × List Lexeme) QueryFault → Result (List MatcherForm × List Lexeme) QueryFault
@@ -59,19 +60,40 @@ none_ends front count i lexemes whole le so_far =
     let one : with_front front (matchers_at (count - i) lexemes) ≡ Err (faults.Syntax 0) = rw k refl in
     sym so_far ∙ one
 
-equal_forms : (matchers : List Matcher) → list_all (λ m. is_equal m.op) (map matcher_form matchers) ≡ list_all (λ m. is_equal m.op) matchers
-equal_forms [] = refl
-equal_forms (m ∷ matchers) = ap (λ b. is_equal m.op && b) (equal_forms matchers)
-
-full_forms : (matchers : List Matcher) → list_any (λ m. not (is_empty m.value)) (map matcher_form matchers) ≡ list_any (λ m. not (is_empty m.value)) matchers
-full_forms [] = refl
-full_forms (m ∷ matchers) = ap (λ b. not (is_empty m.value) || b) (full_forms matchers)
-
 -- matchers and their forms refuse the empty text alike
 pub real_forms : (matchers : List Matcher) → has_real_form (map matcher_form matchers) ≡ has_real_matcher matchers
-real_forms matchers = ap (λ b. b && list_any (λ m. not (is_empty m.value)) (map matcher_form matchers)) (equal_forms matchers) ∙ ap (λ b. list_all (λ m. is_equal m.op) matchers && b) (full_forms matchers)
+real_forms [] = refl
+real_forms (m ∷ matchers) = ap (λ b. not (passes m.op m.value []) || b) (real_forms matchers)
 
--- a matcher that compares by `=` is refused for its name alone
-pub unnamed : (name : List ℕ) (fault : MatcherFault) → IsRefusedMatcher name operators.Equal (errors.Fault fault) → is_name name ≡ false
-unnamed name matchers.BadName h = h
-unnamed name matchers.BadRegex h = absurd (true≢false (sym h.1))
+-- and have patterns alike
+pub pattern_forms : (matchers : List Matcher) → has_pattern (map matcher_form matchers) ≡ not (are_by_text matchers)
+pattern_forms [] = refl
+pattern_forms (m ∷ matchers) = ap (λ b. is_by_pattern m.op || b) (pattern_forms matchers) ∙ turned (is_by_pattern m.op) (are_by_text matchers)
+  where
+    turned : (a b : Bool) → (a || not b) ≡ not (not a && b)
+    turned true b = refl
+    turned false b = refl
+
+-- a selector has a real matcher exactly where it does not select the set without labels
+pub refuses_empty : (matchers : List Matcher) → not (selects matchers no_labels) ≡ has_real_matcher matchers
+refuses_empty [] = refl
+refuses_empty (m ∷ matchers) =
+    ap (λ value. not (passes m.op m.value value && selects matchers no_labels)) (no_value m.name)
+    ∙ turned (passes m.op m.value []) (selects matchers no_labels)
+    ∙ ap (λ b. not (passes m.op m.value []) || b) (refuses_empty matchers)
+  where
+    no_value : (name : List ℕ) → value_of no_labels name ≡ []
+    no_value name = ap (λ labels. unwrap_or (find name_cmp name labels) []) labels_of-no_labels
+
+    turned : (a b : Bool) → not (a && b) ≡ (not a || not b)
+    turned true b = refl
+    turned false b = refl
+
+-- why a matcher is not read, as a query tells it
+abbrev told : ℕ → MatcherFault → QueryFault
+told place matchers.BadName = faults.Syntax place
+told place matchers.BadRegex = faults.BadRegex
+
+pub unread : (place : ℕ) (m : MatcherForm) (fault : MatcherFault) → IsUnread m.name m.op m.value (errors.Fault fault) → checked_matcher place m ≡ Err (told place fault)
+unread place m matchers.BadName h = cond-true (not (is_name m.name)) _ _ (ap not h)
+unread place m matchers.BadRegex h = cond-false (not (is_name m.name)) _ _ (ap not h.0) ∙ cond-false (is_comparable m.op m.value) _ _ h.1

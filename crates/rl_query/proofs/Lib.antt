@@ -1,4 +1,5 @@
 pub mod Answered
+pub mod Cramped
 pub mod Cuts
 pub mod Durations
 pub mod Elements

@@ -21,7 +21,7 @@ use Rattle.rl_query.specs.declared.token.Token.{Token}
 use Rattle.rl_query.specs.declared.token.Token.TheVariants as tokens
 use Rattle.rl_query.specs.Durations.{duration_from, duration_of}
 use Rattle.rl_query.specs.Form.{MatcherForm, QueryForm, has_real_form}
-use Rattle.rl_query.specs.Grammar.{Stand, operator_sign, matcher_tokens, matchers_tokens, IsRange, Derives}
+use Rattle.rl_query.specs.Grammar.{Stand, operator_sign, is_matcher, matcher_tokens, matchers_tokens, IsRange, Derives}
 use Rattle.rl_query.specs.Lexing.{is_space, is_number_byte, gap_len, run_at, onto, quoted, or_bad, or_else, sign_at, token_at, lexemes_in}
 use Rattle.rl_query.specs.Limits.{longest_range}
 use Rattle.rl_query.specs.Printing.{operator_text, matcher_text, function_text, query_text}
@@ -160,8 +160,9 @@ operator_ends : (op : MatchOp) (rest : List ℕ) → prefix_len is_name_byte (op
 operator_ends operators.Equal rest = refl
 operator_ends _ rest = refl
 
-matcher_lexes : (m : MatcherForm) (rest : List ℕ) → is_name m.name ≡ true → Lexes (matcher_tokens m) (matcher_text m ++ rest) rest
-matcher_lexes m rest named =
+matcher_lexes : (m : MatcherForm) (rest : List ℕ) → is_matcher m ≡ true → Lexes (matcher_tokens m) (matcher_text m ++ rest) rest
+matcher_lexes m rest proper =
+    let named = (and_parts (is_name m.name) _ proper).0 in
     let sign = operator_text m.op in
     let value = 34 ∷ (escaped escapes m.value ++ 34 ∷ rest) in
     subst (λ text. Lexes (matcher_tokens m) text rest) (sym (regrouped m.name sign m.value))
@@ -174,14 +175,14 @@ matcher_lexes m rest named =
 abbrev others_text : List MatcherForm → List ℕ
 others_text = flat_map (λ other. 44 ∷ 32 ∷ matcher_text other)
 
-abbrev pub are_named : List MatcherForm → Bool
-are_named = list_all (λ m. is_name m.name)
+abbrev are_proper : List MatcherForm → Bool
+are_proper = list_all is_matcher
 
-matchers_lexes : (m : MatcherForm) (ms : List MatcherForm) (rest : List ℕ) → are_named (m ∷ ms) ≡ true → Lexes (matchers_tokens (m ∷ ms)) (matcher_text m ++ (others_text ms ++ 125 ∷ rest)) rest
+matchers_lexes : (m : MatcherForm) (ms : List MatcherForm) (rest : List ℕ) → are_proper (m ∷ ms) ≡ true → Lexes (matchers_tokens (m ∷ ms)) (matcher_text m ++ (others_text ms ++ 125 ∷ rest)) rest
 unfolding token_at
-matchers_lexes m [] rest named = lexes_then (matcher_tokens m) (tokens.Sign signs.CloseBrace ∷ []) (matcher_text m ++ 125 ∷ rest) (125 ∷ rest) rest (matcher_lexes m (125 ∷ rest) (and_parts (is_name m.name) true named).0) (lone_sign 125 rest signs.CloseBrace refl refl refl (λ _. refl))
-matchers_lexes m (o ∷ os) rest named =
-    let parts = and_parts (is_name m.name) (are_named (o ∷ os)) named in
+matchers_lexes m [] rest proper = lexes_then (matcher_tokens m) (tokens.Sign signs.CloseBrace ∷ []) (matcher_text m ++ 125 ∷ rest) (125 ∷ rest) rest (matcher_lexes m (125 ∷ rest) (and_parts (is_matcher m) true proper).0) (lone_sign 125 rest signs.CloseBrace refl refl refl (λ _. refl))
+matchers_lexes m (o ∷ os) rest proper =
+    let parts = and_parts (is_matcher m) (are_proper (o ∷ os)) proper in
     let behind = matcher_text o ++ (others_text os ++ 125 ∷ rest) in
     let grouped : others_text (o ∷ os) ++ 125 ∷ rest ≡ 44 ∷ 32 ∷ behind = ap (λ t. 44 ∷ 32 ∷ t) (append_assoc (matcher_text o) (others_text os) (125 ∷ rest)) in
     subst (λ t. Lexes (matchers_tokens (m ∷ o ∷ os)) (matcher_text m ++ t) rest) (sym grouped)
@@ -253,15 +254,15 @@ seconds_read n small = let same : n * 1 + 0 ≡ n = omega arith in (decimal_read
 
 -- what a form keeps of a query's limits
 pub record Keeps (query : QueryForm) : Type 0 where
-  pub named : are_named query.left.range.matchers ≡ true
+  pub proper : are_proper query.left.range.matchers ≡ true
   pub real : has_real_form query.left.range.matchers ≡ true
   pub in_range : (1 ≤ query.left.range.seconds) × (query.left.range.seconds ≤ longest_range)
 
-selector_lexes : (m : MatcherForm) (ms : List MatcherForm) (rest : List ℕ) → are_named (m ∷ ms) ≡ true → Lexes (tokens.Sign signs.OpenBrace ∷ matchers_tokens (m ∷ ms)) (123 ∷ (matcher_text m ++ (others_text ms ++ 125 ∷ rest))) rest
+selector_lexes : (m : MatcherForm) (ms : List MatcherForm) (rest : List ℕ) → are_proper (m ∷ ms) ≡ true → Lexes (tokens.Sign signs.OpenBrace ∷ matchers_tokens (m ∷ ms)) (123 ∷ (matcher_text m ++ (others_text ms ++ 125 ∷ rest))) rest
 unfolding token_at
-selector_lexes m ms rest named =
+selector_lexes m ms rest proper =
     let matchers = matcher_text m ++ (others_text ms ++ 125 ∷ rest) in
-    lexes_then (tokens.Sign signs.OpenBrace ∷ []) (matchers_tokens (m ∷ ms)) (123 ∷ matchers) matchers rest (lone_sign 123 matchers signs.OpenBrace refl refl refl (λ _. refl)) (matchers_lexes m ms rest named)
+    lexes_then (tokens.Sign signs.OpenBrace ∷ []) (matchers_tokens (m ∷ ms)) (123 ∷ matchers) matchers rest (lone_sign 123 matchers signs.OpenBrace refl refl refl (λ _. refl)) (matchers_lexes m ms rest proper)
 
 duration_lexes : (n : ℕ) (rest : List ℕ) → n < 2 ^ 64 → Lexes (tokens.Sign signs.OpenBracket ∷ tokens.Number (decimal n ++ 115 ∷ []) ∷ tokens.Sign signs.CloseBracket ∷ []) (32 ∷ 91 ∷ (decimal n ++ 115 ∷ 93 ∷ rest)) rest
 unfolding token_at
@@ -283,7 +284,7 @@ end_left (suc most) total = refl
 -- a printed query is derived
 pub query_printed : (query : QueryForm) → Keeps query → Derives (query_text query) query
 unfolding lexemes_in token_at
-query_printed query keeps = by_matchers query.left.range.matchers keeps.named keeps.real
+query_printed query keeps = by_matchers query.left.range.matchers keeps.proper keeps.real
   where
     n : ℕ
     n = query.left.range.seconds
@@ -297,9 +298,9 @@ query_printed query keeps = by_matchers query.left.range.matchers keeps.named ke
     form : List MatcherForm → QueryForm
     form ms = record { left = record { function = f; range = record { matchers = ms; seconds = n } } }
 
-    by_matchers : (ms : List MatcherForm) → are_named ms ≡ true → has_real_form ms ≡ true → Derives (query_text (form ms)) (form ms)
-    by_matchers [] named real = absurd (true≢false (sym real))
-    by_matchers (m ∷ ms) named real =
+    by_matchers : (ms : List MatcherForm) → are_proper ms ≡ true → has_real_form ms ≡ true → Derives (query_text (form ms)) (form ms)
+    by_matchers [] proper real = absurd (true≢false (sym real))
+    by_matchers (m ∷ ms) proper real =
         let small : n < 2 ^ 64 = omega (arith, keeps.in_range.1) in
         let closing = 41 ∷ [] in
         let duration = 32 ∷ 91 ∷ (decimal n ++ 115 ∷ 93 ∷ closing) in
@@ -308,7 +309,7 @@ query_printed query keeps = by_matchers query.left.range.matchers keeps.named ke
         let total = length text in
         let name = word_lexes (function_text f) (40 ∷ selector) (function_named f) refl in
         let opened = lone_sign 40 selector signs.OpenParenthesis refl refl refl (λ _. refl) in
-        let matchers = selector_lexes m ms duration named in
+        let matchers = selector_lexes m ms duration proper in
         let bracketed = duration_lexes n closing small in
         let closed = lone_sign 41 [] signs.CloseParenthesis refl refl refl (λ _. refl) in
         let count = length (tokens.Sign signs.OpenBrace ∷ matchers_tokens (m ∷ ms)) in
@@ -319,7 +320,7 @@ query_printed query keeps = by_matchers query.left.range.matchers keeps.named ke
           behind_selector = lexemes_in (3 + (1 + left)) total duration;
           behind_duration = lexemes_in (1 + left) total closing;
           opened = opened.stand total (count + (3 + (1 + left)));
-          selector = record { stand = matchers.stand total (3 + (1 + left)); named = named; real = real };
+          selector = record { stand = matchers.stand total (3 + (1 + left)); proper = proper; real = real };
           duration = record { duration = decimal n ++ 115 ∷ []; stand = bracketed.stand total (1 + left); read = seconds_read n small; in_range = keeps.in_range };
           closed = closed.stand total left;
         } in

@@ -2,6 +2,7 @@
 use Rattle.std.proofs.Common.{◌≡◌, ℕ, ◌≤◌, true, List, [], ◌∷◌, map, refl, ap, ◌∙◌, IsTrue}
 use Rattle.std.proofs.lemmas.Bool.{and_from}
 use Rattle.std.proofs.Props.{props}
+use Rattle.std.specs.List.{list_all}
 use mathlib.Core.HLevel.{Σ_prop_path}
 use Rattle.rl_labels.specs.Name.{is_name}
 use Rattle.rl_labels.specs.laws.OrderLaws.{same_matcher}
@@ -11,9 +12,10 @@ use Rattle.rl_query.specs.declared.query.Term.{Term}
 use Rattle.rl_query.specs.declared.query.LogRange.{LogRange}
 use Rattle.rl_query.specs.declared.query.Selector.{Selector}
 use Rattle.rl_query.specs.Form.{matcher_form, range_form, term_form, query_form}
+use Rattle.rl_query.specs.Grammar.{is_matcher}
 use Rattle.rl_query.specs.Limits.{has_real_matcher, longest_range}
 use Rattle.rl_query.proofs.Elements.{real_forms}
-use Rattle.rl_query.proofs.Printed.{Keeps, are_named}
+use Rattle.rl_query.proofs.Printed.{Keeps}
 
 same_matchers : (xs ys : List Matcher) → map matcher_form xs ≡ map matcher_form ys → xs ≡ ys
 same_matchers [] [] e = refl
@@ -48,14 +50,14 @@ same_query a b e =
     let terms = same_term a.left b.left (ap (λ f. f.left) e) in
     λ i. record { left = terms i }
 
-all_named : (ms : List Matcher) → are_named (map matcher_form ms) ≡ true
-all_named [] = refl
-all_named (m ∷ ms) = and_from (is_name m.name) _ m.named (all_named ms)
+all_proper : (ms : List Matcher) → list_all is_matcher (map matcher_form ms) ≡ true
+all_proper [] = refl
+all_proper (m ∷ ms) = and_from (is_matcher (matcher_form m)) _ (and_from (is_name m.name) _ m.named m.comparable) (all_proper ms)
 
 -- a query keeps its limits
 pub keeps_limits : (q : Query) → Keeps (query_form q)
 keeps_limits q = record {
-  named = all_named q.left.range.selector.matchers;
+  proper = all_proper q.left.range.selector.matchers;
   real = real_forms q.left.range.selector.matchers ∙ q.left.range.selector.real;
   in_range = q.left.range.in_range;
 }

@@ -1,14 +1,13 @@
 -- Queries without the facts that their types keep.
-use Rattle.std.specs.Prelude.{ℕ, Bool, not, ◌&&◌, List, map}
-use Rattle.std.specs.List.{list_all, list_any}
-use Rattle.rl_labels.specs.LabelSet.{is_empty}
+use Rattle.std.specs.Prelude.{ℕ, Bool, not, List, [], map}
+use Rattle.std.specs.List.{list_any}
+use Rattle.rl_labels.specs.Operators.{passes, is_by_pattern}
 use Rattle.rl_labels.specs.declared.matcher.Matcher.{Matcher}
 use Rattle.rl_labels.specs.declared.matcher.MatchOp.{MatchOp}
 use Rattle.rl_query.specs.declared.query.Query.{Query}
 use Rattle.rl_query.specs.declared.query.Term.{Term}
 use Rattle.rl_query.specs.declared.query.LogRange.{LogRange}
 use Rattle.rl_query.specs.declared.query.RangeFunction.{RangeFunction}
-use Rattle.rl_query.specs.Limits.{is_equal}
 
 pub record MatcherForm : Type 0 where
   pub name : List ℕ
@@ -38,6 +37,13 @@ term_form term = record { function = term.function; range = range_form term.rang
 abbrev pub query_form : Query → QueryForm
 query_form query = record { left = term_form query.left }
 
--- the matchers compare by `=`, and some matcher refuses the empty text
+-- some matcher refuses the empty text
 abbrev pub has_real_form : List MatcherForm → Bool
-has_real_form matchers = list_all (λ matcher. is_equal matcher.op) matchers && list_any (λ matcher. not (is_empty matcher.value)) matchers
+has_real_form matchers = list_any (λ matcher. not (passes matcher.op matcher.value [])) matchers
+
+-- some matcher has a pattern
+abbrev pub has_pattern : List MatcherForm → Bool
+has_pattern matchers = list_any (λ matcher. is_by_pattern matcher.op) matchers
+
+abbrev pub query_has_pattern : QueryForm → Bool
+query_has_pattern query = has_pattern query.left.range.matchers

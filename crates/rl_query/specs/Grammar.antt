@@ -1,7 +1,8 @@
 -- The grammar of query texts, over their tokens and apart from how they are read. Each rule relates tokens and those that follow.
-use Rattle.std.specs.Prelude.{◌≡◌, ℕ, ◌≤◌, true, List, [], ◌∷◌, ◌++◌, Some}
+use Rattle.std.specs.Prelude.{◌≡◌, ℕ, ◌≤◌, Bool, true, ◌&&◌, List, [], ◌∷◌, ◌++◌, Some}
 use Rattle.std.specs.List.{list_all}
 use Rattle.rl_labels.specs.Name.{is_name}
+use Rattle.rl_labels.specs.Operators.{is_comparable}
 use Rattle.rl_labels.specs.declared.matcher.MatchOp.{MatchOp}
 use Rattle.rl_labels.specs.declared.matcher.MatchOp.TheVariants as operators
 use Rattle.rl_query.specs.declared.token.Lexeme.{Lexeme}
@@ -27,9 +28,13 @@ operator_sign operators.NotEqual = signs.NotEqual
 operator_sign operators.Matches = signs.Matches
 operator_sign operators.NotMatches = signs.NotMatches
 
--- name="value"
+-- name="value", or another operator
 abbrev pub matcher_tokens : MatcherForm → List Token
 matcher_tokens matcher = tokens.Word matcher.name ∷ tokens.Sign (operator_sign matcher.op) ∷ tokens.Text matcher.value ∷ []
+
+-- its name is one, and where it has a pattern its value is one
+abbrev pub is_matcher : MatcherForm → Bool
+is_matcher matcher = is_name matcher.name && is_comparable matcher.op matcher.value
 
 -- matchers joined by commas, up to the closing brace
 abbrev pub matchers_tokens : List MatcherForm → List Token
@@ -40,7 +45,7 @@ matchers_tokens (matcher ∷ other ∷ others) = matcher_tokens matcher ++ token
 -- {matchers}, of which one at least refuses the empty text
 pub record IsSelector (matchers : List MatcherForm) (lexemes rest : List Lexeme) : Type 0 where
   pub stand : Stand (tokens.Sign signs.OpenBrace ∷ matchers_tokens matchers) lexemes rest
-  pub named : list_all (λ matcher. is_name matcher.name) matchers ≡ true
+  pub proper : list_all is_matcher matchers ≡ true
   pub real : has_real_form matchers ≡ true
 
 -- [duration]

@@ -1,3 +1,4 @@
+pub mod Answering
 pub mod Tables
 pub mod Durations
 pub mod Form

@@ -1,9 +1,12 @@
 -- Reading a query from its tokens: what is read and the tokens that follow it, or the first fault from the left.
-use Rattle.std.specs.Prelude.{ℕ, zero, suc, ◌-◌, ◌==◌, nat_le, Bool, true, false, ◌&&◌, ◌||◌, List, [], ◌∷◌, length, slice_index, Option, Some, None, Result, Ok, Err, if◌then◌else◌, codes}
+use Rattle.std.specs.Prelude.{ℕ, zero, suc, ◌-◌, ◌==◌, nat_le, Bool, true, false, not, ◌&&◌, ◌||◌, List, [], ◌∷◌, length, slice_index, Option, Some, None, Result, Ok, Err, if◌then◌else◌, codes}
 use Rattle.std.specs.List.{list_any, list_all}
+use Rattle.std.specs.Option.{option_map_or}
 use Rattle.std.specs.Char.{is_ascii_digit}
 use Rattle.std.specs.Str.{str_eq_ignore_ascii_case}
 use Rattle.rl_labels.specs.Name.{is_text, is_name}
+use Rattle.rl_labels.specs.Operators.{is_comparable}
+use Rattle.rl_labels.specs.declared.matcher.MatchOp.{MatchOp}
 use Rattle.rl_labels.specs.declared.matcher.MatchOp.TheVariants as operators
 use Rattle.rl_query.specs.declared.fault.QueryFault.{QueryFault}
 use Rattle.rl_query.specs.declared.fault.QueryFault.TheVariants as faults
@@ -16,7 +19,7 @@ use Rattle.rl_query.specs.declared.token.Sign.TheVariants as signs
 use Rattle.rl_query.specs.declared.token.Lexeme.{Lexeme}
 use Rattle.rl_query.specs.declared.token.Token.{Token}
 use Rattle.rl_query.specs.declared.token.Token.TheVariants as tokens
-use Rattle.rl_query.specs.Form.{MatcherForm, RangeForm, TermForm, QueryForm, has_real_form}
+use Rattle.rl_query.specs.Form.{MatcherForm, RangeForm, TermForm, QueryForm, has_real_form, has_pattern}
 use Rattle.rl_query.specs.Durations.{duration_of}
 use Rattle.rl_query.specs.Lexing.{lexemes_of}
 use Rattle.rl_query.specs.Limits.{longest_range}
@@ -60,13 +63,6 @@ is_later_start signs.Minus = true
 is_later_start signs.Plus = true
 is_later_start _ = false
 
--- a matcher's operator
-abbrev pub is_later_match : Sign → Bool
-is_later_match signs.NotEqual = true
-is_later_match signs.Matches = true
-is_later_match signs.NotMatches = true
-is_later_match _ = false
-
 abbrev pub is_colon : Sign → Bool
 is_colon signs.Colon = true
 is_colon _ = false
@@ -101,7 +97,6 @@ is_unsupported_word _ word = false
 -- and the same of a sign
 abbrev pub is_unsupported_sign : Position → Sign → Bool
 is_unsupported_sign positions.Start sign = is_later_start sign
-is_unsupported_sign positions.Operator sign = is_later_match sign
 is_unsupported_sign positions.BehindSelector sign = is_stage sign
 is_unsupported_sign positions.InRange sign = is_colon sign
 is_unsupported_sign positions.BehindRange sign = is_stage sign || is_at sign
@@ -143,15 +138,36 @@ abbrev pub content_of : ℕ → Token → Result (List ℕ) QueryFault
 content_of place (tokens.Text content) = Ok content
 content_of place token = Err (refusal positions.Elsewhere place token)
 
--- a name, `=` and a text
+-- the operator of a matcher that a sign is
+abbrev pub match_of : Sign → Option MatchOp
+match_of signs.Equal = Some operators.Equal
+match_of signs.NotEqual = Some operators.NotEqual
+match_of signs.Matches = Some operators.Matches
+match_of signs.NotMatches = Some operators.NotMatches
+match_of _ = None
+
+-- the operator that a token is
+abbrev pub operator_of : ℕ → Token → Result MatchOp QueryFault
+operator_of place (tokens.Sign sign) = option_map_or Ok (match_of sign) (Err (refusal positions.Elsewhere place (tokens.Sign sign)))
+operator_of place token = Err (refusal positions.Elsewhere place token)
+
+-- the matcher of its parts, where its name is one, and its pattern
+abbrev pub checked_matcher : (place : ℕ) → MatcherForm → Result MatcherForm QueryFault
+checked_matcher place matcher =
+    if not (is_name matcher.name) then Err (faults.Syntax place)
+    else (if is_comparable matcher.op matcher.value then Ok matcher else Err faults.BadRegex)
+
+-- a name, an operator and a text
 unfoldable pub matcher_at : List Lexeme → Result (MatcherForm × List Lexeme) QueryFault
 matcher_at lexemes = do
   first ← next lexemes
   name ← name_of first.0.place first.0.token
-  behind ← expected signs.Equal positions.Operator first.1
-  text ← next behind
+  sign ← next first.1
+  op ← operator_of sign.0.place sign.0.token
+  text ← next sign.1
   value ← content_of text.0.place text.0.token
-  if is_name name then Ok (record { name = name; op = operators.Equal; value = value }, text.1) else Err (faults.Syntax first.0.place)
+  matcher ← checked_matcher first.0.place (record { name = name; op = op; value = value })
+  Ok (matcher, text.1)
 
 -- behind a matcher: whether another follows
 abbrev pub goes_on : ℕ → Token → Result Bool QueryFault
@@ -176,17 +192,19 @@ matchers_at (suc most) lexemes = do
 abbrev pub some_matcher : Token → Result (Unit {0}) QueryFault
 some_matcher token = if is_sign signs.CloseBrace token then Err faults.NoRealMatcher else Ok tt
 
--- matchers of which one at least refuses the empty text
-abbrev pub real_matchers : List MatcherForm → Result (List MatcherForm) QueryFault
-real_matchers matchers = if has_real_form matchers then Ok matchers else Err faults.NoRealMatcher
+-- Matchers of which one at least refuses the empty text. Where it is cramped no pattern has room, and each is refused.
+abbrev pub real_matchers : (cramped : Bool) → List MatcherForm → Result (List MatcherForm) QueryFault
+real_matchers cramped matchers =
+    if cramped && has_pattern matchers then Err faults.BadRegex
+    else (if has_real_form matchers then Ok matchers else Err faults.NoRealMatcher)
 
 -- behind the opening brace: the matchers of a selector
-unfoldable pub selector_at : List Lexeme → Result (List MatcherForm × List Lexeme) QueryFault
-selector_at lexemes = do
+unfoldable pub selector_at : (cramped : Bool) → List Lexeme → Result (List MatcherForm × List Lexeme) QueryFault
+selector_at cramped lexemes = do
   lexeme ← next lexemes
   some ← some_matcher lexeme.0.token
   found ← matchers_at (length lexemes) lexemes
-  matchers ← real_matchers found.0
+  matchers ← real_matchers cramped found.0
   Ok (matchers, found.1)
 
 -- digits, points and letters of units, with a letter at the end
@@ -229,22 +247,28 @@ seconds_at lexemes = do
   closed ← expected signs.CloseBracket positions.InRange number.1
   Ok (seconds, closed)
 
+-- a range in brackets, and the parenthesis behind it
+unfoldable pub closing_at : List Lexeme → Result (ℕ × List Lexeme) QueryFault
+closing_at lexemes = do
+  seconds ← seconds_at lexemes
+  closed ← expected signs.CloseParenthesis positions.BehindRange seconds.1
+  Ok (seconds.0, closed)
+
 -- a selector and a range in parentheses
-unfoldable pub range_at : List Lexeme → Result (RangeForm × List Lexeme) QueryFault
-range_at lexemes = do
+unfoldable pub range_at : (cramped : Bool) → List Lexeme → Result (RangeForm × List Lexeme) QueryFault
+range_at cramped lexemes = do
   opened ← expected signs.OpenParenthesis positions.Elsewhere lexemes
   braced ← expected signs.OpenBrace positions.Elsewhere opened
-  matchers ← selector_at braced
-  seconds ← seconds_at matchers.1
-  closed ← expected signs.CloseParenthesis positions.BehindRange seconds.1
-  Ok (record { matchers = matchers.0; seconds = seconds.0 }, closed)
+  matchers ← selector_at cramped braced
+  closing ← closing_at matchers.1
+  Ok (record { matchers = matchers.0; seconds = closing.0 }, closing.1)
 
 -- a range aggregation
-unfoldable pub term_at : List Lexeme → Result (TermForm × List Lexeme) QueryFault
-term_at lexemes = do
+unfoldable pub term_at : (cramped : Bool) → List Lexeme → Result (TermForm × List Lexeme) QueryFault
+term_at cramped lexemes = do
   word ← next lexemes
   function ← function_of word.0.place word.0.token
-  range ← range_at word.1
+  range ← range_at cramped word.1
   Ok (record { function = function; range = range.0 }, range.1)
 
 -- nothing follows a query
@@ -253,13 +277,13 @@ ends place tokens.End = Ok tt
 ends place token = Err (refusal positions.BehindTerm place token)
 
 -- a query is all of its tokens
-unfoldable pub query_in : List Lexeme → Result QueryForm QueryFault
-query_in lexemes = do
-  term ← term_at lexemes
+unfoldable pub query_in : (cramped : Bool) → List Lexeme → Result QueryForm QueryFault
+query_in cramped lexemes = do
+  term ← term_at cramped lexemes
   lexeme ← next term.1
   nothing ← ends lexeme.0.place lexeme.0.token
   Ok (record { left = term.0 })
 
--- the query that a text is
-abbrev pub query_of : List ℕ → Result QueryForm QueryFault
-query_of text = query_in (lexemes_of text)
+-- the query that a text is, or its first fault from the left
+abbrev pub query_of : (cramped : Bool) → List ℕ → Result QueryForm QueryFault
+query_of cramped text = query_in cramped (lexemes_of text)

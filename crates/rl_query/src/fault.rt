@@ -16,6 +16,8 @@ pub enum QueryFault {
     NoRealMatcher,
     #[error("a range is whole seconds, from 1 to 2592000")]
     BadRange,
+    #[error("this is no regular expression, or it takes too much room")]
+    BadRegex,
 }
 
 /// Why a text gave no query.

@@ -1,17 +1,19 @@
 //! The parser: queries from texts, by the first fault from the left.
-ghost use Rattle.std.specs.Prelude.{◌≡◌, ◌+◌, ◌-◌, slice_index, ◌<◌, ◌≤◌, ℕ, List, [], Option, None, Ok, Err, Some, IfSome, IfOk, MatchResult, IsTrue, length, map, min, not};
+ghost use Rattle.std.specs.Prelude.{◌≡◌, ◌+◌, ◌-◌, slice_index, ◌<◌, ◌≤◌, ℕ, List, [], Option, None, Ok, Err, Some, IfSome, IfOk, IfErr, MatchResult, IsTrue, length, map, min, not};
 ghost use Rattle.std.specs.List.{list_all, list_any};
 ghost use Rattle.std.specs.Result.{result_map_both};
 ghost use Rattle.rl_labels.specs.Name.{is_text};
-ghost use Rattle.rl_query.specs.Form.{QueryForm, matcher_form, range_form, term_form, query_form};
+ghost use Rattle.rl_query.specs.Answering.{Reads, IsForRoom};
+ghost use Rattle.rl_query.specs.Form.{QueryForm, query_has_pattern, matcher_form, range_form, term_form, query_form};
 ghost use Rattle.rl_query.specs.Grammar.{Derives};
 ghost use Rattle.rl_query.specs.Printing.{query_text};
 ghost use Rattle.rl_plain.specs.Answers.{Gives, Answers};
 ghost use Rattle.rl_query.specs.declared.query.Query.{Query};
-ghost use Rattle.rl_query.specs.Parsing.{is_unsupported, is_unsupported_word, is_unsupported_sign, is_stage, is_operator, is_in_any_case, is_later_word, refusal, next, expected, is_sign, name_of, content_of, matcher_at, goes_on, element_at, matchers_at, some_matcher, real_matchers, selector_at, is_unit_letter, is_duration_byte, looks_like_duration, range_of, seconds_of, checked_range, function_of, named_function, seconds_at, range_at, term_at, query_in, query_of, ends};
+ghost use Rattle.rl_query.specs.Parsing.{is_unsupported, is_unsupported_word, is_unsupported_sign, is_stage, is_operator, is_in_any_case, is_later_word, refusal, next, expected, is_sign, name_of, content_of, match_of, operator_of, checked_matcher, matcher_at, goes_on, element_at, matchers_at, some_matcher, real_matchers, selector_at, is_unit_letter, is_duration_byte, looks_like_duration, range_of, seconds_of, checked_range, function_of, named_function, seconds_at, closing_at, range_at, term_at, query_in, query_of, ends};
 ghost use Rattle.rl_query.specs.Durations.{duration_of};
-ghost use Rattle.rl_query.specs.Limits.{is_equal, has_real_matcher, longest_range};
-ghost use Rattle.rl_labels.specs.LabelSet.{is_empty};
+ghost use Rattle.rl_query.specs.Limits.{has_real_matcher, longest_range};
+ghost use Rattle.rl_labels.specs.Operators.{is_by_pattern};
+ghost use Rattle.rl_labels.specs.Selects.{are_by_text};
 ghost use Rattle.std.specs.Char.{is_ascii_digit};
 
 use crate::duration::{LONGEST_RANGE, duration_of};
@@ -19,7 +21,7 @@ use crate::fault::{QueryError, QueryFault};
 use crate::lexer::lexemes_of;
 use crate::query::{LogRange, Query, RangeFunction, Selector, Term};
 use crate::token::{Lexeme, Sign, Token};
-use rl_labels::{MatchOp, Matcher};
+use rl_labels::{Labels, MatchOp, Matcher, MatcherFault, SelectorCode};
 use rl_plain::{OrMemory, PlainList, PlainText, TryCopy};
 use std::alloc::Global;
 
@@ -61,8 +63,6 @@ pub const LATER_WORDS: [&str; 29] = [
 pub enum Position {
     /// At the start of a query.
     Start,
-    /// Behind the name of a matcher.
-    Operator,
     /// Behind a selector, and in place of the duration.
     BehindSelector,
     /// Behind the duration.
@@ -131,7 +131,6 @@ fn is_unsupported_sign(position: Position, sign: Sign) -> bool
             sign,
             Sign::OpenBrace | Sign::OpenParenthesis | Sign::Minus | Sign::Plus
         ),
-        Position::Operator => matches!(sign, Sign::NotEqual | Sign::Matches | Sign::NotMatches),
         Position::BehindSelector => is_stage(sign),
         Position::InRange => matches!(sign, Sign::Colon),
         Position::BehindRange => is_stage(sign) || matches!(sign, Sign::At),
@@ -230,21 +229,54 @@ fn content_of(lexeme: &Lexeme) -> Result<&PlainText, QueryFault>
     }
 }
 
-// One matcher: a name, `=` and a text.
-#[tactic(auto, using(crate::proofs::Elements::unnamed), unfolding(crate::specs::Parsing::matcher_at))]
+// The operator of a matcher that a token is.
+fn operator_of(lexeme: &Lexeme) -> Result<MatchOp, QueryFault>
+    ensures { result ≡ operator_of lexeme.now.place lexeme.now.token }
+{
+    match &lexeme.token {
+        Token::Sign(Sign::Equal) => Ok(MatchOp::Equal),
+        Token::Sign(Sign::NotEqual) => Ok(MatchOp::NotEqual),
+        Token::Sign(Sign::Matches) => Ok(MatchOp::Matches),
+        Token::Sign(Sign::NotMatches) => Ok(MatchOp::NotMatches),
+        token => Err(refusal(Position::Elsewhere, lexeme.place, token)),
+    }
+}
+
+// The matcher of its parts, where its name is one, and its pattern.
+#[tactic(auto, using(crate::proofs::Elements::unread))]
+fn checked_matcher(
+    place: usize,
+    name: &PlainText,
+    op: MatchOp,
+    value: &PlainText,
+) -> Result<Matcher, QueryError>
+    ensures { Gives matcher_form result (checked_matcher place (record { name = name.now; op = op; value = value.now })) }
+{
+    match Matcher::read(name.try_copy()?, op, value.try_copy()?) {
+        Ok(matcher) => Ok(matcher),
+        Err(OrMemory::Fault(MatcherFault::BadName)) => Err(QueryError::Fault(QueryFault::Syntax(
+            place,
+        ))),
+        Err(OrMemory::Fault(MatcherFault::BadRegex)) => Err(QueryError::Fault(
+            QueryFault::BadRegex,
+        )),
+        Err(OrMemory::Memory) => Err(QueryError::Memory),
+    }
+}
+
+// One matcher: a name, an operator and a text.
+#[tactic(auto, unfolding(crate::specs::Parsing::matcher_at))]
 fn matcher_at(lexemes: &[Lexeme]) -> Result<(Matcher, &[Lexeme]), QueryError>
     ensures { Gives (λ x. (matcher_form x.0, x.1.now)) result (matcher_at lexemes.now) }
 {
     let (first, rest) = next(lexemes)?;
     let name = name_of(first)?;
-    let rest = expected(Sign::Equal, Position::Operator, rest)?;
+    let (sign, rest) = next(rest)?;
+    let op = operator_of(sign)?;
     let (text, rest) = next(rest)?;
     let value = content_of(text)?;
-    match Matcher::new(name.try_copy()?, MatchOp::Equal, value.try_copy()?) {
-        Ok(matcher) => Ok((matcher, rest)),
-        Err(OrMemory::Fault(_)) => Err(QueryError::Fault(QueryFault::Syntax(first.place))),
-        Err(OrMemory::Memory) => Err(QueryError::Memory),
-    }
+    let matcher = checked_matcher(first.place, name, op, value)?;
+    Ok((matcher, rest))
 }
 
 // Whether another matcher follows.
@@ -291,12 +323,12 @@ fn matchers_at(alloc: Global, lexemes: &[Lexeme]) -> Result<(Vec<Matcher>, &[Lex
 // The selector behind its opening brace.
 #[tactic(auto, unfolding(crate::specs::Parsing::selector_at))]
 fn selector_at(alloc: Global, lexemes: &[Lexeme]) -> Result<(Selector, &[Lexeme]), QueryError>
-    ensures { Gives (λ x. (map matcher_form x.0.matchers, x.1.now)) result (selector_at lexemes.now) }
+    ensures { Reads (λ x. (map matcher_form x.0.matchers, x.1.now)) result (λ cramped. selector_at cramped lexemes.now) }
 {
     let (lexeme, _) = next(lexemes)?;
     some_matcher(lexeme)?;
     let (matchers, rest) = matchers_at(alloc, lexemes)?;
-    let selector = real_selector(matchers)?;
+    let selector = real_selector(alloc, matchers)?;
     Ok((selector, rest))
 }
 
@@ -311,45 +343,28 @@ fn some_matcher(lexeme: &Lexeme) -> Result<(), QueryFault>
 }
 
 // The selector of matchers of which one at least refuses a stream without its label.
-#[tactic(auto, using(crate::proofs::Elements::real_forms))]
-fn real_selector(matchers: Vec<Matcher>) -> Result<Selector, QueryFault>
-    ensures { result_map_both (λ selector. map matcher_form selector.matchers) (λ fault. fault) result ≡ real_matchers (map matcher_form matchers.items) }
+#[tactic(auto, using(crate::proofs::Elements::real_forms, crate::proofs::Elements::pattern_forms))]
+fn real_selector(alloc: Global, matchers: Vec<Matcher>) -> Result<Selector, QueryError>
+    ensures { Reads (λ selector. map matcher_form selector.matchers) result (λ cramped. real_matchers cramped (map matcher_form matchers.items)) }
 {
-    if !has_real_matcher(&matchers) {
-        return Err(QueryFault::NoRealMatcher);
+    if !has_real_matcher(alloc, &matchers)? {
+        return Err(QueryError::Fault(QueryFault::NoRealMatcher));
     }
     let matchers = PlainList::from_vec(matchers);
     Ok(Selector { matchers })
 }
 
-fn has_real_matcher(matchers: &[Matcher]) -> bool
-    ensures { result ≡ has_real_matcher matchers.now }
+// Whether some matcher refuses the empty text, as which the labels of a stream without labels read.
+#[tactic(auto, using(crate::proofs::Elements::refuses_empty))]
+fn has_real_matcher(alloc: Global, matchers: &[Matcher]) -> Result<bool, QueryError>
+    ensures answer { IfOk result (λ answer. answer ≡ has_real_matcher matchers.now) }
+    ensures refused { IfErr result (IsForRoom (not (are_by_text matchers.now))) }
 {
-    are_equal(matchers) && one_refuses_empty(matchers)
-}
-
-fn one_refuses_empty(matchers: &[Matcher]) -> bool
-    ensures { result ≡ list_any (λ matcher. not (is_empty matcher.value)) matchers.now }
-{
-    matchers.iter().any(refuses_empty)
-}
-
-fn refuses_empty(matcher: &Matcher) -> bool
-    ensures { result ≡ not (is_empty matcher.now.value) }
-{
-    !matcher.value.is_empty()
-}
-
-fn are_equal(matchers: &[Matcher]) -> bool
-    ensures { result ≡ list_all (λ matcher. is_equal matcher.op) matchers.now }
-{
-    matchers.iter().all(is_equal)
-}
-
-fn is_equal(matcher: &Matcher) -> bool
-    ensures { result ≡ is_equal matcher.now.op }
-{
-    matches!(matcher.op, MatchOp::Equal)
+    match SelectorCode::build(alloc, matchers) {
+        Ok(code) => Ok(!code.accepts(&Labels::empty(alloc)?)?),
+        Err(OrMemory::Fault(_)) => Err(QueryError::Fault(QueryFault::BadRegex)),
+        Err(OrMemory::Memory) => Err(QueryError::Memory),
+    }
 }
 
 fn is_unit_letter(byte: u8) -> bool
@@ -456,23 +471,33 @@ fn seconds_at(lexemes: &[Lexeme]) -> Result<(u64, &[Lexeme]), QueryFault>
     Ok((seconds, rest))
 }
 
+// The seconds of a range between its brackets, and the parenthesis behind them.
+#[tactic(auto, unfolding(crate::specs::Parsing::closing_at))]
+fn closing_at(lexemes: &[Lexeme]) -> Result<(u64, &[Lexeme]), QueryFault>
+    ensures read { Answers (λ x. (x.0, x.1.now)) result (closing_at lexemes.now) }
+    ensures fits { IfOk result (λ x. (1 ≤ x.0) × (x.0 ≤ longest_range)) }
+{
+    let (seconds, rest) = seconds_at(lexemes)?;
+    let rest = expected(Sign::CloseParenthesis, Position::BehindRange, rest)?;
+    Ok((seconds, rest))
+}
+
 // The selector and its range in parentheses, behind the name of the aggregation.
-#[tactic(auto, unfolding(crate::specs::Parsing::range_at))]
+#[tactic(auto, using(crate::proofs::Cramped::range_late), unfolding(crate::specs::Parsing::range_at))]
 fn range_at(alloc: Global, lexemes: &[Lexeme]) -> Result<(LogRange, &[Lexeme]), QueryError>
-    ensures { Gives (λ x. (range_form x.0, x.1.now)) result (range_at lexemes.now) }
+    ensures { Reads (λ x. (range_form x.0, x.1.now)) result (λ cramped. range_at cramped lexemes.now) }
 {
     let rest = expected(Sign::OpenParenthesis, Position::Elsewhere, lexemes)?;
     let rest = expected(Sign::OpenBrace, Position::Elsewhere, rest)?;
     let (selector, rest) = selector_at(alloc, rest)?;
-    let (seconds, rest) = seconds_at(rest)?;
-    let rest = expected(Sign::CloseParenthesis, Position::BehindRange, rest)?;
+    let (seconds, rest) = closing_at(rest)?;
     Ok((LogRange { selector, seconds }, rest))
 }
 
 // A range aggregation.
 #[tactic(auto, unfolding(crate::specs::Parsing::term_at))]
 fn term_at(alloc: Global, lexemes: &[Lexeme]) -> Result<(Term, &[Lexeme]), QueryError>
-    ensures { Gives (λ x. (term_form x.0, x.1.now)) result (term_at lexemes.now) }
+    ensures { Reads (λ x. (term_form x.0, x.1.now)) result (λ cramped. term_at cramped lexemes.now) }
 {
     let (lexeme, rest) = next(lexemes)?;
     let function = function_of(lexeme)?;
@@ -482,25 +507,25 @@ fn term_at(alloc: Global, lexemes: &[Lexeme]) -> Result<(Term, &[Lexeme]), Query
 
 /// The query that a whole text is, or the first fault from the left (LogQL).
 pub fn parse(alloc: Global, text: &str) -> Result<Query, QueryError>
-    ensures read { Gives query_form result (query_of text.now) }
+    ensures read { Reads query_form result (λ cramped. query_of cramped text.now) }
     ensures derives { IfOk result (λ query. Derives text.now (query_form query)) }
-    ensures complete { (query : QueryForm) → Derives text.now query → MatchResult result (λ same. query_form same ≡ query) (λ e. e ≡ OrMemory.Memory) }
-    ensures again { (query : Query) → text.now ≡ query_text (query_form query) → MatchResult result (λ same. same ≡ query) (λ e. e ≡ OrMemory.Memory) }
+    ensures complete { (query : QueryForm) → Derives text.now query → MatchResult result (λ same. query_form same ≡ query) (IsForRoom (query_has_pattern query)) }
+    ensures again { (query : Query) → text.now ≡ query_text (query_form query) → MatchResult result (λ same. same ≡ query) (IsForRoom (query_has_pattern (query_form query))) }
 {
     read(alloc, text)
 }
 
 fn read(alloc: Global, text: &str) -> Result<Query, QueryError>
-    ensures { Gives query_form result (query_of text.now) }
+    ensures { Reads query_form result (λ cramped. query_of cramped text.now) }
 {
     let lexemes = lexemes_of(alloc, text)?;
     query_in(alloc, &lexemes)
 }
 
 // The query that all tokens are.
-#[tactic(auto, unfolding(crate::specs::Parsing::query_in))]
+#[tactic(auto, using(crate::proofs::Cramped::query_late), unfolding(crate::specs::Parsing::query_in))]
 fn query_in(alloc: Global, lexemes: &[Lexeme]) -> Result<Query, QueryError>
-    ensures { Gives query_form result (query_in lexemes.now) }
+    ensures { Reads query_form result (λ cramped. query_in cramped lexemes.now) }
 {
     let (left, rest) = term_at(alloc, lexemes)?;
     let (lexeme, _) = next(rest)?;

@@ -1,4 +1,5 @@
 mod Named
+mod Places
 mod Recorded
 mod Shapes
 mod Walks

@@ -9,6 +9,7 @@ use Rattle.rl_labels.specs.Name.{is_text}
 use Rattle.rl_query.specs.Form.{QueryForm}
 use Rattle.rl_query.specs.Parsing.{query_of}
 use Rattle.rl_query.specs.declared.fault.QueryFault.{QueryFault}
+use Rattle.rl_rules.specs.Answering.{Cramped}
 use Rattle.rl_rules.specs.Forms.{KeyForm, RuleForm, GroupForm}
 use Rattle.rl_rules.specs.RuleNames.{is_metric_name, is_group_name}
 use Rattle.rl_rules.specs.declared.rule.RuleKind.TheVariants as rules
@@ -116,9 +117,9 @@ abbrev pub query_at : ℕ → ℕ → Result QueryForm QueryFault → Result Que
 query_at group rule (Ok query) = Ok query
 query_at group rule (Err fault) = Err (faults.BadQuery group rule fault)
 
-abbrev pub rule_at : ℕ → ℕ → Members → Result RuleForm RulesFault
-rule_at group rule members = do
-  query ← query_at group rule (query_of (text_at (codes "expr") members))
+abbrev pub rule_at : Cramped → ℕ → ℕ → Members → Result RuleForm RulesFault
+rule_at cramped group rule members = do
+  query ← query_at group rule (query_of (cramped group rule) (text_at (codes "expr") members))
   Ok (record { kind = rules.Recording; name = text_at (codes "record") members; query = query })
 
 -- what is read of tables one after the other, each with its place
@@ -129,9 +130,9 @@ each_from read place (table ∷ tables) = do
   others ← each_from read (place + 1) tables
   Ok (first ∷ others)
 
-abbrev pub group_at : ℕ → Members → Result GroupForm RulesFault
-group_at group members = do
-  rules ← each_from (rule_at group) 0 (tables_at (codes "rules") members)
+abbrev pub group_at : Cramped → ℕ → Members → Result GroupForm RulesFault
+group_at cramped group members = do
+  rules ← each_from (rule_at cramped group) 0 (tables_at (codes "rules") members)
   Ok (record { name = text_at (codes "name") members; rules = rules })
 
 -- each name is one that a group or a recorded metric may have
@@ -162,16 +163,16 @@ check_keys document =
     else (if not (document_passes is_whole document) then Err faults.MissingKey else Ok tt))
 
 -- the groups of a document
-abbrev pub document_groups : Members → Result (List GroupForm) RulesFault
-document_groups document = do
+abbrev pub document_groups : Cramped → Members → Result (List GroupForm) RulesFault
+document_groups cramped document = do
   _ ← check_keys document
-  groups ← each_from group_at 0 (tables_at (codes "groups") document)
+  groups ← each_from (group_at cramped) 0 (tables_at (codes "groups") document)
   checked groups
 
-abbrev pub groups_in : Option Members → Result (List GroupForm) RulesFault
-groups_in None = Err faults.BadToml
-groups_in (Some document) = document_groups document
+abbrev pub groups_in : Cramped → Option Members → Result (List GroupForm) RulesFault
+groups_in cramped None = Err faults.BadToml
+groups_in cramped (Some document) = document_groups cramped document
 
 -- the groups of a text, as TOML reads it
-unfoldable pub groups_of : List ℕ → Result (List GroupForm) RulesFault
-groups_of text = groups_in (parse_document text)
+unfoldable pub groups_of : Cramped → List ℕ → Result (List GroupForm) RulesFault
+groups_of cramped text = groups_in cramped (parse_document text)

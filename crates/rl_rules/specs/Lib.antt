@@ -1,3 +1,4 @@
+pub mod Answering
 pub mod Document
 pub mod Forms
 pub mod Outcomes

@@ -5,36 +5,37 @@ use Rattle.std.specs.Str.{IsUtf8, is_utf8}
 use Rattle.std.proofs.lemmas.List.{append-nil}
 use Rattle.std.proofs.lemmas.Bool.{false_from_ne_true}
 use Rattle.std.proofs.lemmas.Str.{IsUtf8-from_is_utf8, is_utf8-from_IsUtf8}
-use Rattle.rl_plain.specs.Answers.{◌>>=◌, Gives}
+use Rattle.rl_plain.specs.Answers.{◌>>=◌}
 use Rattle.rl_plain.specs.declared.refusal.OrMemory.{OrMemory}
 use Rattle.rl_plain.specs.declared.refusal.OrMemory.TheVariants as errors
 use Rattle.rl_rules.specs.Forms.{GroupForm}
+use Rattle.rl_rules.specs.Answering.{Cramped, nowhere}
 use Rattle.rl_rules.specs.Document.{groups_of}
-use Rattle.rl_session.specs.Front.{FrontForm, front_of, front_from, front_in, with_rules_fault, with_commands}
+use Rattle.rl_session.specs.Front.{FrontForm, front_of, front_from, front_in, cramped_at, cramped_in, with_rules_fault, with_commands, HasGroups, Says}
 use Rattle.rl_session.specs.Reading.{GivesOne, Reads, ReadsFront, Tells}
 use Rattle.rl_session.specs.declared.front.fault.FrontFault.{FrontFault}
 use Rattle.rl_session.specs.declared.front.fault.FrontFault.TheVariants as faults
 
-front_in-test : (bytes : List ℕ) (t : Bool) → is_utf8 bytes ≡ t → front_in bytes ≡ cond t (front_from (front_of bytes)) (Err faults.NotText)
-front_in-test bytes t is = ap (λ b. cond b (front_from (front_of bytes)) (Err faults.NotText)) is
+front_in-test : (cramped : Cramped) (bytes : List ℕ) (t : Bool) → is_utf8 bytes ≡ t → front_in cramped bytes ≡ cond t (front_from cramped (front_of bytes)) (Err faults.NotText)
+front_in-test cramped bytes t is = ap (λ b. cond b (front_from cramped (front_of bytes)) (Err faults.NotText)) is
 
-pub front_in-no_text : (bytes : List ℕ) → (IsUtf8 bytes → ⊥) → front_in bytes ≡ Err faults.NotText
-front_in-no_text bytes not = front_in-test bytes false (false_from_ne_true (is_utf8 bytes) (λ is. not (IsUtf8-from_is_utf8 bytes is)))
+pub front_in-no_text : (bytes : List ℕ) → (IsUtf8 bytes → ⊥) → Says bytes (Err faults.NotText)
+front_in-no_text bytes not = sym (front_in-test nowhere bytes false (false_from_ne_true (is_utf8 bytes) (λ is. not (IsUtf8-from_is_utf8 bytes is))))
 
-pub front_in-no_mark : (bytes whole : List ℕ) → IsUtf8 bytes → whole ≡ bytes → None ≡ front_of whole → front_in bytes ≡ Err faults.NoMark
-front_in-no_mark bytes whole utf8 same is = front_in-test bytes true (is_utf8-from_IsUtf8 bytes utf8) ∙ ap front_from (ap front_of (sym same) ∙ sym is)
+pub front_in-no_mark : (bytes whole : List ℕ) → IsUtf8 bytes → whole ≡ bytes → None ≡ front_of whole → Says bytes (Err faults.NoMark)
+front_in-no_mark bytes whole utf8 same is = sym (front_in-test nowhere bytes true (is_utf8-from_IsUtf8 bytes utf8) ∙ ap (front_from nowhere) (ap front_of (sym same) ∙ sym is))
 
-front_in-parts : (bytes whole document commands : List ℕ) (groups : Result (List GroupForm) FrontFault) → IsUtf8 bytes → whole ≡ bytes → Some (document, commands) ≡ front_of whole → with_rules_fault (groups_of document) ≡ groups → front_in bytes ≡ with_commands commands groups
-front_in-parts bytes whole document commands groups utf8 same is read =
-    front_in-test bytes true (is_utf8-from_IsUtf8 bytes utf8) ∙ ap front_from (ap front_of (sym same) ∙ sym is) ∙ ap (with_commands commands) read
+front_in-parts : (cramped : Cramped) (bytes whole document commands : List ℕ) (groups : Result (List GroupForm) FrontFault) → IsUtf8 bytes → whole ≡ bytes → Some (document, commands) ≡ front_of whole → groups ≡ with_rules_fault (groups_of cramped document) → with_commands commands groups ≡ front_in cramped bytes
+front_in-parts cramped bytes whole document commands groups utf8 same is read =
+    sym (front_in-test cramped bytes true (is_utf8-from_IsUtf8 bytes utf8) ∙ ap (front_from cramped) (ap front_of (sym same) ∙ sym is) ∙ ap (with_commands commands) (sym read))
 
-pub front_in-groups : (bytes whole document commands rest : List ℕ) (groups : List GroupForm) → IsUtf8 bytes → whole ≡ bytes → Some (document, commands) ≡ front_of whole → with_rules_fault (groups_of document) ≡ Ok groups → rest ≡ commands → front_in bytes ≡ Ok (record { groups = groups; commands = rest })
+pub front_in-groups : (bytes whole document commands rest : List ℕ) (groups : List GroupForm) → IsUtf8 bytes → whole ≡ bytes → Some (document, commands) ≡ front_of whole → HasGroups document (Ok groups) → rest ≡ commands → Says bytes (Ok (record { groups = groups; commands = rest }))
 front_in-groups bytes whole document commands rest groups utf8 same is read behind =
-    front_in-parts bytes whole document commands (Ok groups) utf8 same is read ∙ ap (λ c. Ok (record { groups = groups; commands = c })) (sym behind)
+    ap (λ c. Ok (record { groups = groups; commands = c })) behind ∙ front_in-parts nowhere bytes whole document commands (Ok groups) utf8 same is read
 
 -- the fault of the document
-pub front_in-fault : {X Z : Type 0} (view : X → List GroupForm) (form : Z → FrontForm) (bytes whole document commands : List ℕ) (error : OrMemory FrontFault) → IsUtf8 bytes → whole ≡ bytes → Some (document, commands) ≡ front_of whole → Gives view (Err error) (with_rules_fault (groups_of document)) → Gives form (Err error) (front_in bytes)
-front_in-fault view form bytes whole document commands (errors.Fault fault) utf8 same is read = front_in-parts bytes whole document commands (Err fault) utf8 same is read
+pub front_in-fault : {X Z : Type 0} (view : X → List GroupForm) (form : Z → FrontForm) (bytes whole document commands : List ℕ) (error : OrMemory FrontFault) → IsUtf8 bytes → whole ≡ bytes → Some (document, commands) ≡ front_of whole → GivesOne view (HasGroups document) (Err error) → GivesOne form (Says bytes) (Err error)
+front_in-fault view form bytes whole document commands (errors.Fault fault) utf8 same is read = front_in-parts (cramped_at fault) bytes whole document commands (Err fault) utf8 same is read
 front_in-fault view form bytes whole document commands errors.Memory utf8 same is read = tt
 
 -- reading failed
@@ -43,10 +44,10 @@ ReadsFront-failed view form most old new (errors.Fault fault) reads = (Err fault
 ReadsFront-failed view form most old new errors.Memory reads = tt
 
 -- all was read
-pub ReadsFront-read : {Z : Type 0} (form : Z → FrontForm) (most : ℕ) (old new : Option (List ℕ)) (bytes : List ℕ) (result : Result Z (OrMemory FrontFault)) → Reads most old new (Ok bytes) → Gives form result (front_in bytes) → GivesOne form (ReadsFront most old new) result
-ReadsFront-read form most old new bytes (Ok front) reads gives = (Ok bytes, reads, sym gives)
-ReadsFront-read form most old new bytes (Err (errors.Fault fault)) reads gives = (Ok bytes, reads, sym gives)
-ReadsFront-read form most old new bytes (Err errors.Memory) reads gives = tt
+pub ReadsFront-read : {Z : Type 0} (form : Z → FrontForm) (most : ℕ) (old new : Option (List ℕ)) (bytes : List ℕ) (result : Result Z (OrMemory FrontFault)) → Reads most old new (Ok bytes) → GivesOne form (Says bytes) result → GivesOne form (ReadsFront most old new) result
+ReadsFront-read form most old new bytes (Ok front) reads says = (Ok bytes, reads, says)
+ReadsFront-read form most old new bytes (Err (errors.Fault fault)) reads says = (Ok bytes, reads, says)
+ReadsFront-read form most old new bytes (Err errors.Memory) reads says = tt
 
 -- all that a reader gave, where its bytes are known
 Reads-all : (most : ℕ) (all : List ℕ) (new : Option (List ℕ)) (bytes : List ℕ) → Reads most (Some all) new (Ok bytes) → (length all ≤ most) × (bytes ≡ all)
@@ -55,7 +56,7 @@ Reads-all most all (Some rest) bytes reads =
     let same : bytes ≡ all = reads.3.0 ∙ sym (reads.2 ∙ ap (λ l. concat reads.0 ++ l) reads.3.2 ∙ append-nil (concat reads.0)) in
     (omega (arith, reads.3.1, ap length same), same)
 
-Tells-all : (most : ℕ) (all : List ℕ) (answer : Result FrontForm FrontFault) → (length all ≤ most) × (answer ≡ front_in all) → Tells most all answer
+Tells-all : (most : ℕ) (all : List ℕ) (answer : Result FrontForm FrontFault) → (length all ≤ most) × Says all answer → Tells most all answer
 Tells-all most all (Ok front) told = told
 Tells-all most all (Err faults.ReadFault) told = tt
 Tells-all most all (Err faults.TooLong) told = tt
@@ -63,10 +64,10 @@ Tells-all most all (Err faults.NotText) told = told
 Tells-all most all (Err faults.NoMark) told = told
 Tells-all most all (Err (faults.Rules fault)) told = told
 
-Tells-read : (most : ℕ) (all : List ℕ) (new : Option (List ℕ)) (answer : Result FrontForm FrontFault) (read : Result (List ℕ) FrontFault) → Reads most (Some all) new read → answer ≡ (read >>= front_in) → Tells most all answer
+Tells-read : (most : ℕ) (all : List ℕ) (new : Option (List ℕ)) (answer : Result FrontForm FrontFault) (read : Result (List ℕ) FrontFault) → Reads most (Some all) new read → answer ≡ (read >>= front_in (cramped_in answer)) → Tells most all answer
 Tells-read most all new answer (Ok bytes) reads is =
     let whole = Reads-all most all new bytes reads in
-    Tells-all most all answer (whole.0, is ∙ ap front_in whole.1)
+    Tells-all most all answer (whole.0, is ∙ ap (front_in (cramped_in answer)) whole.1)
 Tells-read most all new answer (Err faults.ReadFault) reads is = subst (Tells most all) (sym is) tt
 Tells-read most all new answer (Err faults.TooLong) reads is = subst (Tells most all) (sym is) tt
 Tells-read most all new answer (Err faults.NotText) reads is = absurd reads.3

@@ -5,7 +5,7 @@ use Rattle.std.specs.Io.KnownBytes.{Consumes, IsAtEnd}
 use Rattle.rl_plain.specs.Answers.{◌>>=◌}
 use Rattle.rl_plain.specs.declared.refusal.OrMemory.{OrMemory}
 use Rattle.rl_plain.specs.declared.refusal.OrMemory.TheVariants.{Fault, Memory}
-use Rattle.rl_session.specs.Front.{FrontForm, front_in}
+use Rattle.rl_session.specs.Front.{FrontForm, front_in, cramped_in, Says}
 use Rattle.rl_session.specs.declared.front.fault.FrontFault.{FrontFault}
 use Rattle.rl_session.specs.declared.front.fault.FrontFault.TheVariants as faults
 
@@ -22,13 +22,13 @@ Reads most old new answer = (pieces : List (List ℕ)) × (length pieces ≤ mos
 
 -- reading ended, and the bytes that were read say this, unless reading them failed
 abbrev pub ReadsFront : ℕ → Option (List ℕ) → Option (List ℕ) → Result FrontForm FrontFault → Type 0
-ReadsFront most old new answer = (read : Result (List ℕ) FrontFault) × Reads most old new read × (answer ≡ (read >>= front_in))
+ReadsFront most old new answer = (read : Result (List ℕ) FrontFault) × Reads most old new read × (answer ≡ (read >>= front_in (cramped_in answer)))
 
 -- what is answered where all bytes of the reader are known: what they say, unless reading them failed
 abbrev pub Tells : ℕ → List ℕ → Result FrontForm FrontFault → Type 0
 Tells most all (Err faults.ReadFault) = Unit {0}
 Tells most all (Err faults.TooLong) = Unit {0}
-Tells most all answer = (length all ≤ most) × (answer ≡ front_in all)
+Tells most all answer = (length all ≤ most) × Says all answer
 
 -- what a function returned, seen by view, is an answer of this kind, unless memory ran out
 abbrev pub GivesOne : {X Y : Type 0} → (X → Y) → (Result Y FrontFault → Type 0) → Result X (OrMemory FrontFault) → Type 0

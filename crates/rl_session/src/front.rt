@@ -2,11 +2,9 @@
 ghost use Rattle.std.specs.Prelude.{◌≡◌, ◌⊎◌, ℕ, ◌<◌, ◌++◌, List, length, map, false, Ok, IfSome, OnOk, IfErr};
 ghost use Rattle.std.specs.Option.{option_copied, option_map};
 ghost use Rattle.std.specs.Io.KnownBytes.{Consumes, Keeps, IsAtEnd};
-ghost use Rattle.rl_plain.specs.Answers.{Gives};
 ghost use Rattle.rl_plain.specs.declared.refusal.OrMemory.TheVariants.{Fault, Memory};
 ghost use Rattle.rl_rules.specs.Forms.{group_form};
-ghost use Rattle.rl_rules.specs.Document.{groups_of};
-ghost use Rattle.rl_session.specs.Front.{IsFirstLine, front_of, IsCut, front_form, with_rules_fault, front_in};
+ghost use Rattle.rl_session.specs.Front.{IsFirstLine, front_of, IsCut, front_form, HasGroups, Says};
 ghost use Rattle.rl_session.specs.Reading.{GivesOne, Reads, ReadsFront, Tells};
 ghost use Rattle.rl_session.specs.declared.front.fault.FrontFault.TheVariants as faults;
 
@@ -98,7 +96,7 @@ fn take_turn<R: Read>(
 
 // What bytes say, or the lowest fault that they have.
 fn front_in(alloc: Global, bytes: Vec<u8>) -> Result<Front, FrontError>
-    ensures { Gives front_form result (front_in bytes.items) }
+    ensures { GivesOne front_form (Says bytes.items) result }
 {
     let Ok(text) = String::from_utf8(bytes) else {
         return Err(FrontError::Fault(FrontFault::NotText));
@@ -114,7 +112,7 @@ fn front_in(alloc: Global, bytes: Vec<u8>) -> Result<Front, FrontError>
 
 // The groups of a document.
 fn groups_in(alloc: Global, document: &str) -> Result<Vec<Group>, FrontError>
-    ensures { Gives (λ groups. map group_form groups.items) result (with_rules_fault (groups_of document.now)) }
+    ensures { GivesOne (λ groups. map group_form groups.items) (HasGroups document.now) result }
 {
     match read_rules(alloc, document) {
         Ok(groups) => Ok(groups),

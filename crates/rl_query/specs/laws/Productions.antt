@@ -1,8 +1,9 @@
 -- Each production of the grammar: what is read is derived, and what is derived is read.
-use Rattle.std.proofs.Common.{◌≡◌, inl, inr, ◌⊎◌, ⊎_elim, ℕ, zero, suc, ◌≤◌, nat_le, Bool, true, false, cond, ◌&&◌, List, [], ◌∷◌, ◌++◌, Option, Some, None, Result, Ok, Err, length, refl, sym, ap, subst, ◌∙◌, arith, codes}
+use Rattle.std.proofs.Common.{◌≡◌, inl, inr, ◌⊎◌, ⊎_elim, ℕ, zero, suc, ◌≤◌, nat_le, Bool, true, false, cond, not, ◌&&◌, List, [], ◌∷◌, ◌++◌, Option, Some, None, Result, Ok, Err, length, refl, sym, ap, subst, ◌∙◌, arith, codes}
 use Rattle.std.specs.List.{list_all}
-use Rattle.std.proofs.lemmas.Bool.{true≢false, and_parts, and_from, leb-true, le-leb, cond-true}
+use Rattle.std.proofs.lemmas.Bool.{true≢false, and_parts, and_from, leb-true, le-leb, cond-true, cond-false}
 use Rattle.rl_labels.specs.Name.{is_name, is_text}
+use Rattle.rl_labels.specs.Operators.{is_comparable}
 use Rattle.rl_labels.specs.laws.LabelLaws.{same_text, is_text_itself}
 use Rattle.rl_labels.specs.declared.matcher.MatchOp.{MatchOp}
 use Rattle.rl_labels.specs.declared.matcher.MatchOp.TheVariants as operators
@@ -19,15 +20,15 @@ use Rattle.rl_query.specs.declared.token.Token.{Token}
 use Rattle.rl_query.specs.declared.token.Token.TheVariants as tokens
 use Rattle.rl_query.specs.Durations.{duration_of}
 use Rattle.rl_query.specs.Form.{MatcherForm, RangeForm, TermForm, QueryForm, has_real_form}
-use Rattle.rl_query.specs.Grammar.{Stand, operator_sign, matcher_tokens, matchers_tokens, IsSelector, IsDuration, IsRange, IsTerm, Derives}
+use Rattle.rl_query.specs.Grammar.{Stand, operator_sign, is_matcher, matcher_tokens, matchers_tokens, IsSelector, IsDuration, IsRange, IsTerm, Derives}
 use Rattle.rl_query.specs.Lexing.{sign_at, lexemes_of}
-use Rattle.rl_query.specs.Limits.{is_equal, longest_range}
-use Rattle.rl_query.specs.Parsing.{is_sign, next, refusal, expected, name_of, content_of, matcher_at, goes_on, element_at, matchers_at, some_matcher, real_matchers, selector_at, looks_like_duration, seconds_of, range_of, named_function, function_of, seconds_at, range_at, term_at, ends, query_in}
+use Rattle.rl_query.specs.Limits.{longest_range}
+use Rattle.rl_query.specs.Parsing.{is_sign, next, refusal, expected, name_of, content_of, operator_of, checked_matcher, matcher_at, goes_on, element_at, matchers_at, some_matcher, real_matchers, selector_at, looks_like_duration, seconds_of, range_of, named_function, function_of, seconds_at, closing_at, range_at, term_at, ends, query_in}
 use Rattle.rl_query.specs.Printing.{function_text}
 use Rattle.rl_query.specs.Tables.{sign_text}
 use Rattle.rl_plain.specs.Answers.{◌>>=◌}
 
-bind_ok : {A B : Type 0} (r : Result A QueryFault) (f : A → Result B QueryFault) (y : B) → (r >>= f) ≡ Ok y → (x : A) × (r ≡ Ok x) × (f x ≡ Ok y)
+pub bind_ok : {A B : Type 0} (r : Result A QueryFault) (f : A → Result B QueryFault) (y : B) → (r >>= f) ≡ Ok y → (x : A) × (r ≡ Ok x) × (f x ≡ Ok y)
 bind_ok (Ok x) f y h = (x, refl, h)
 bind_ok (Err e) f y h = cc
 
@@ -38,11 +39,11 @@ chosen false x y z h = inr (refl, h)
 no_err : {B : Type 0} (e : QueryFault) (y : B) → Err e ≡ Ok y → ⊥
 no_err e y h = cc
 
-same_ok : {A : Type 0} (x y : A) → ◌≡◌ {A = Result A QueryFault} (Ok x) (Ok y) → x ≡ y
+pub same_ok : {A : Type 0} (x y : A) → ◌≡◌ {A = Result A QueryFault} (Ok x) (Ok y) → x ≡ y
 same_ok x y e = cc
 
 -- an answer that is chosen by a test
-if_ok : {A : Type 0} (b : Bool) (x y : A) (e : QueryFault) → cond b (Ok x) (Err e) ≡ Ok y → (b ≡ true) × (x ≡ y)
+pub if_ok : {A : Type 0} (b : Bool) (x y : A) (e : QueryFault) → cond b (Ok x) (Err e) ≡ Ok y → (b ≡ true) × (x ≡ y)
 if_ok true x y e h = (refl, same_ok x y h)
 if_ok false x y e h = absurd (no_err e y h)
 
@@ -105,43 +106,66 @@ content : (place : ℕ) (t : Token) (value : List ℕ) → content_of place t �
 content place (tokens.Text w) value h = ap tokens.Text (same_ok _ _ h)
 content place _ value h = absurd (no_err _ value h)
 
--- name="value"
+operator_read : (place : ℕ) (t : Token) (op : MatchOp) → operator_of place t ≡ Ok op → t ≡ tokens.Sign (operator_sign op)
+operator_read place (tokens.Sign signs.Equal) op h = ap (λ o. tokens.Sign (operator_sign o)) (same_ok _ _ h)
+operator_read place (tokens.Sign signs.NotEqual) op h = ap (λ o. tokens.Sign (operator_sign o)) (same_ok _ _ h)
+operator_read place (tokens.Sign signs.Matches) op h = ap (λ o. tokens.Sign (operator_sign o)) (same_ok _ _ h)
+operator_read place (tokens.Sign signs.NotMatches) op h = ap (λ o. tokens.Sign (operator_sign o)) (same_ok _ _ h)
+operator_read place (tokens.Sign _) op h = absurd (no_err _ op h)
+operator_read place _ op h = absurd (no_err _ op h)
+
+operator_is : (place : ℕ) (op : MatchOp) → operator_of place (tokens.Sign (operator_sign op)) ≡ Ok op
+operator_is place operators.Equal = refl
+operator_is place operators.NotEqual = refl
+operator_is place operators.Matches = refl
+operator_is place operators.NotMatches = refl
+
+checked_read : (place : ℕ) (m made : MatcherForm) → checked_matcher place m ≡ Ok made → (is_matcher m ≡ true) × (m ≡ made)
+checked_read place m made h = by_tests (is_name m.name) (is_comparable m.op m.value) h
+  where
+    by_tests : (named comparable : Bool) → cond (not named) (Err (faults.Syntax place)) (cond comparable (Ok m) (Err faults.BadRegex)) ≡ Ok made → (named && comparable ≡ true) × (m ≡ made)
+    by_tests true true h = (refl, same_ok m made h)
+    by_tests true false h = absurd (no_err _ made h)
+    by_tests false comparable h = absurd (no_err _ made h)
+
+checked_is : (place : ℕ) (m : MatcherForm) → is_matcher m ≡ true → checked_matcher place m ≡ Ok m
+checked_is place m proper =
+    let parts = and_parts (is_name m.name) (is_comparable m.op m.value) proper in
+    cond-false (not (is_name m.name)) _ _ (ap not parts.0) ∙ cond-true (is_comparable m.op m.value) _ _ parts.1
+
+-- name="value", or another operator
 record IsMatcher (m : MatcherForm) (lexemes rest : List Lexeme) : Type 0 where
   pub stand : Stand (matcher_tokens m) lexemes rest
-  pub named : is_name m.name ≡ true
+  pub proper : is_matcher m ≡ true
 
 matcher_read : (lexemes : List Lexeme) (m : MatcherForm) (rest : List Lexeme) → matcher_at lexemes ≡ Ok (m, rest) → IsMatcher m lexemes rest
 unfolding matcher_at
 matcher_read lexemes m rest h =
     let a = bind_ok (next lexemes) _ (m, rest) h in
     let b = bind_ok (name_of a.0.0.place a.0.0.token) _ (m, rest) a.2 in
-    let c = bind_ok (expected signs.Equal positions.Operator a.0.1) _ (m, rest) b.2 in
-    let d = bind_ok (next c.0) _ (m, rest) c.2 in
-    let e = bind_ok (content_of d.0.0.place d.0.0.token) _ (m, rest) d.2 in
-    let made = if_ok (is_name b.0) _ (m, rest) _ e.2 in
-    let read : MatcherForm = record { name = b.0; op = operators.Equal; value = e.0 } in
-    let whole : IsMatcher read lexemes d.0.1 = record {
-      stand = stand_then (tokens.Word b.0 ∷ []) (tokens.Sign signs.Equal ∷ tokens.Text e.0 ∷ []) lexemes a.0.1 d.0.1 (one_read (tokens.Word b.0) lexemes a.0.1 a.0.0 a.1 (named a.0.0.place a.0.0.token b.0 b.1))
-          (stand_then (tokens.Sign signs.Equal ∷ []) (tokens.Text e.0 ∷ []) a.0.1 c.0 d.0.1 (expected_read signs.Equal positions.Operator a.0.1 c.0 c.1) (one_read (tokens.Text e.0) c.0 d.0.1 d.0.0 d.1 (content d.0.0.place d.0.0.token e.0 e.1)));
-      named = made.0;
+    let c = bind_ok (next a.0.1) _ (m, rest) b.2 in
+    let d = bind_ok (operator_of c.0.0.place c.0.0.token) _ (m, rest) c.2 in
+    let e = bind_ok (next c.0.1) _ (m, rest) d.2 in
+    let f = bind_ok (content_of e.0.0.place e.0.0.token) _ (m, rest) e.2 in
+    let read : MatcherForm = record { name = b.0; op = d.0; value = f.0 } in
+    let g = bind_ok (checked_matcher a.0.0.place read) _ (m, rest) f.2 in
+    let checked = checked_read a.0.0.place read g.0 g.1 in
+    let made : ◌≡◌ {A = MatcherForm × List Lexeme} (g.0, e.0.1) (m, rest) = same_ok _ _ g.2 in
+    let whole : IsMatcher read lexemes e.0.1 = record {
+      stand = stand_then (tokens.Word b.0 ∷ []) (tokens.Sign (operator_sign d.0) ∷ tokens.Text f.0 ∷ []) lexemes a.0.1 e.0.1 (one_read (tokens.Word b.0) lexemes a.0.1 a.0.0 a.1 (named a.0.0.place a.0.0.token b.0 b.1))
+          (stand_then (tokens.Sign (operator_sign d.0) ∷ []) (tokens.Text f.0 ∷ []) a.0.1 c.0.1 e.0.1 (one_read (tokens.Sign (operator_sign d.0)) a.0.1 c.0.1 c.0.0 c.1 (operator_read c.0.0.place c.0.0.token d.0 d.1))
+          (one_read (tokens.Text f.0) c.0.1 e.0.1 e.0.0 e.1 (content e.0.0.place e.0.0.token f.0 f.1)));
+      proper = checked.0;
     } in
-    subst (λ (p : MatcherForm × List Lexeme). IsMatcher p.0 lexemes p.1) made.1 whole
+    subst (λ (p : MatcherForm × List Lexeme). IsMatcher p.0 lexemes p.1) made (subst (λ x. IsMatcher x lexemes e.0.1) checked.1 whole)
 
--- a query has `=` alone
-abbrev is_read : MatcherForm → Bool
-is_read m = is_name m.name && is_equal m.op
-
-matcher_is : (others : List Token) (m : MatcherForm) (lexemes rest : List Lexeme) → Stand (matcher_tokens m ++ others) lexemes rest → is_read m ≡ true → (behind : List Lexeme) × (matcher_at lexemes ≡ Ok (m, behind)) × Stand others behind rest
+matcher_is : (others : List Token) (m : MatcherForm) (lexemes rest : List Lexeme) → Stand (matcher_tokens m ++ others) lexemes rest → is_matcher m ≡ true → (behind : List Lexeme) × (matcher_at lexemes ≡ Ok (m, behind)) × Stand others behind rest
 unfolding matcher_at
-matcher_is others m lexemes rest stand is = let parts = and_parts (is_name m.name) (is_equal m.op) is in by_op parts.0 m.op parts.1 stand
-  where
-    by_op : is_name m.name ≡ true → (op : MatchOp) → is_equal op ≡ true → Stand (matcher_tokens (record { name = m.name; op = op; value = m.value }) ++ others) lexemes rest → (behind : List Lexeme) × (matcher_at lexemes ≡ Ok (record { name = m.name; op = op; value = m.value }, behind)) × Stand others behind rest
-    by_op named operators.Equal equal stand =
-        let a = next_is (tokens.Word m.name) (tokens.Sign signs.Equal ∷ tokens.Text m.value ∷ others) lexemes rest stand in
-        let b = expected_is signs.Equal (tokens.Text m.value ∷ others) positions.Operator a.behind rest a.more in
-        let c = next_is (tokens.Text m.value) others b.0 rest b.2 in
-        (c.behind, rw (a.is, b.1, c.is) (cond-true (is_name m.name) _ _ named), c.more)
-    by_op named _ other stand = absurd (true≢false (sym other))
+matcher_is others m lexemes rest stand is =
+    let a = next_is (tokens.Word m.name) (tokens.Sign (operator_sign m.op) ∷ tokens.Text m.value ∷ others) lexemes rest stand in
+    let b = next_is (tokens.Sign (operator_sign m.op)) (tokens.Text m.value ∷ others) a.behind rest a.more in
+    let c = next_is (tokens.Text m.value) others b.behind rest b.more in
+    (c.behind, rw (a.is, b.is, operator_is b.place m.op, c.is, checked_is a.place m is) refl, c.more)
 
 goes_on_read : (place : ℕ) (t : Token) (more : Bool) → goes_on place t ≡ Ok more → t ≡ tokens.Sign (cond more signs.Comma signs.CloseBrace)
 goes_on_read place t more h =
@@ -153,7 +177,7 @@ goes_on_read place t more h =
 -- a matcher and the sign behind it
 record IsElement (m : MatcherForm) (more : Bool) (lexemes rest : List Lexeme) : Type 0 where
   pub stand : Stand (matcher_tokens m ++ tokens.Sign (cond more signs.Comma signs.CloseBrace) ∷ []) lexemes rest
-  pub named : is_name m.name ≡ true
+  pub proper : is_matcher m ≡ true
 
 element_read : (lexemes : List Lexeme) (m : MatcherForm) (more : Bool) (rest : List Lexeme) → element_at lexemes ≡ Ok (m, more, rest) → IsElement m more lexemes rest
 unfolding element_at
@@ -163,26 +187,26 @@ element_read lexemes m more rest h =
     let c = bind_ok (goes_on b.0.0.place b.0.0.token) _ (m, more, rest) b.2 in
     let made : ◌≡◌ {A = MatcherForm × Bool × List Lexeme} (a.0.0, c.0, b.0.1) (m, more, rest) = same_ok _ _ c.2 in
     let matcher = matcher_read lexemes a.0.0 a.0.1 a.1 in
-    let whole : IsElement a.0.0 c.0 lexemes b.0.1 = record { stand = stand_then (matcher_tokens a.0.0) (tokens.Sign (cond c.0 signs.Comma signs.CloseBrace) ∷ []) lexemes a.0.1 b.0.1 matcher.stand (one_read (tokens.Sign (cond c.0 signs.Comma signs.CloseBrace)) a.0.1 b.0.1 b.0.0 b.1 (goes_on_read b.0.0.place b.0.0.token c.0 c.1)); named = matcher.named } in
+    let whole : IsElement a.0.0 c.0 lexemes b.0.1 = record { stand = stand_then (matcher_tokens a.0.0) (tokens.Sign (cond c.0 signs.Comma signs.CloseBrace) ∷ []) lexemes a.0.1 b.0.1 matcher.stand (one_read (tokens.Sign (cond c.0 signs.Comma signs.CloseBrace)) a.0.1 b.0.1 b.0.0 b.1 (goes_on_read b.0.0.place b.0.0.token c.0 c.1)); proper = matcher.proper } in
     subst (λ (p : MatcherForm × Bool × List Lexeme). IsElement p.0 p.1 lexemes p.2) made whole
 
-element_is : (others : List Token) (m : MatcherForm) (more : Bool) (lexemes rest : List Lexeme) → Stand (matcher_tokens m ++ tokens.Sign (cond more signs.Comma signs.CloseBrace) ∷ others) lexemes rest → is_read m ≡ true → (behind : List Lexeme) × (element_at lexemes ≡ Ok (m, more, behind)) × Stand others behind rest
+element_is : (others : List Token) (m : MatcherForm) (more : Bool) (lexemes rest : List Lexeme) → Stand (matcher_tokens m ++ tokens.Sign (cond more signs.Comma signs.CloseBrace) ∷ others) lexemes rest → is_matcher m ≡ true → (behind : List Lexeme) × (element_at lexemes ≡ Ok (m, more, behind)) × Stand others behind rest
 unfolding element_at
 element_is others m true lexemes rest stand is = let a = matcher_is (tokens.Sign signs.Comma ∷ others) m lexemes rest stand is in let b = next_is (tokens.Sign signs.Comma) others a.0 rest a.2 in (b.behind, rw (a.1, b.is) refl, b.more)
 element_is others m false lexemes rest stand is = let a = matcher_is (tokens.Sign signs.CloseBrace ∷ others) m lexemes rest stand is in let b = next_is (tokens.Sign signs.CloseBrace) others a.0 rest a.2 in (b.behind, rw (a.1, b.is) refl, b.more)
 
-abbrev are_named : List MatcherForm → Bool
-are_named = list_all (λ m. is_name m.name)
+abbrev are_proper : List MatcherForm → Bool
+are_proper = list_all is_matcher
 
 -- matchers, one at least, up to the closing brace
 abbrev AreMatchers : List MatcherForm → List Lexeme → List Lexeme → Type 0
 AreMatchers [] lexemes rest = ⊥
-AreMatchers (m ∷ ms) lexemes rest = Stand (matchers_tokens (m ∷ ms)) lexemes rest × (are_named (m ∷ ms) ≡ true)
+AreMatchers (m ∷ ms) lexemes rest = Stand (matchers_tokens (m ∷ ms)) lexemes rest × (are_proper (m ∷ ms) ≡ true)
 
 join : (m : MatcherForm) (others : List MatcherForm) (lexemes behind rest : List Lexeme) → IsElement m true lexemes behind → AreMatchers others behind rest → AreMatchers (m ∷ others) lexemes rest
 join m [] lexemes behind rest element others = absurd others
 join m (o ∷ os) lexemes behind rest element others =
-    (stand_then (matcher_tokens m ++ tokens.Sign signs.Comma ∷ []) (matchers_tokens (o ∷ os)) lexemes behind rest element.stand others.0, and_from (is_name m.name) _ element.named others.1)
+    (stand_then (matcher_tokens m ++ tokens.Sign signs.Comma ∷ []) (matchers_tokens (o ∷ os)) lexemes behind rest element.stand others.0, and_from (is_matcher m) _ element.proper others.1)
 
 abbrev with_first : MatcherForm → List MatcherForm × List Lexeme → Result (List MatcherForm × List Lexeme) QueryFault
 with_first m others = Ok (m ∷ others.0, others.1)
@@ -199,7 +223,7 @@ matchers_read (suc most) lexemes ms rest h =
     by_more m true behind element h inner =
         let b = bind_ok (matchers_at most behind) (with_first m) (ms, rest) h in
         subst (λ (p : List MatcherForm × List Lexeme). AreMatchers p.0 lexemes p.1) (same_ok _ _ b.2) (join m b.0.0 lexemes behind b.0.1 element (inner b.0.0 b.0.1 b.1))
-    by_more m false behind element h inner = subst (λ (p : List MatcherForm × List Lexeme). AreMatchers p.0 lexemes p.1) (same_ok _ _ h) (element.stand, and_from (is_name m.name) true element.named refl)
+    by_more m false behind element h inner = subst (λ (p : List MatcherForm × List Lexeme). AreMatchers p.0 lexemes p.1) (same_ok _ _ h) (element.stand, and_from (is_matcher m) true element.proper refl)
 
 few_matchers : (ms : List MatcherForm) (lexemes rest : List Lexeme) → Stand (matchers_tokens ms) lexemes rest → length ms ≤ length lexemes
 few_matchers [] lexemes rest stand = omega arith
@@ -211,37 +235,24 @@ few_matchers (m ∷ o ∷ os) (a ∷ b ∷ []) rest stand = absurd stand.1.1
 few_matchers (m ∷ o ∷ os) (a ∷ []) rest stand = absurd stand.1
 few_matchers (m ∷ o ∷ os) [] rest stand = absurd stand
 
-abbrev are_read : List MatcherForm → Bool
-are_read = list_all is_read
-
-abbrev are_equal : List MatcherForm → Bool
-are_equal = list_all (λ m. is_equal m.op)
-
-all_read : (ms : List MatcherForm) → are_named ms ≡ true → are_equal ms ≡ true → are_read ms ≡ true
-all_read [] names equals = refl
-all_read (m ∷ ms) names equals =
-    let named = and_parts (is_name m.name) (are_named ms) names in
-    let equal = and_parts (is_equal m.op) (are_equal ms) equals in
-    and_from (is_read m) _ (and_from (is_name m.name) _ named.0 equal.0) (all_read ms named.1 equal.1)
-
-matchers_are : (most : ℕ) (m : MatcherForm) (ms : List MatcherForm) (lexemes rest : List Lexeme) → Stand (matchers_tokens (m ∷ ms)) lexemes rest → are_read (m ∷ ms) ≡ true → length (m ∷ ms) ≤ most → matchers_at most lexemes ≡ Ok (m ∷ ms, rest)
+matchers_are : (most : ℕ) (m : MatcherForm) (ms : List MatcherForm) (lexemes rest : List Lexeme) → Stand (matchers_tokens (m ∷ ms)) lexemes rest → are_proper (m ∷ ms) ≡ true → length (m ∷ ms) ≤ most → matchers_at most lexemes ≡ Ok (m ∷ ms, rest)
 unfolding matchers_at
 matchers_are zero m ms lexemes rest stand names few = absurd (omega (arith, few))
 matchers_are (suc most) m [] lexemes rest stand names few =
-    let a = element_is [] m false lexemes rest stand (and_parts (is_read m) true names).0 in
+    let a = element_is [] m false lexemes rest stand (and_parts (is_matcher m) true names).0 in
     rw a.1 (ap (λ r. Ok (m ∷ [], r)) a.2)
 matchers_are (suc most) m (o ∷ os) lexemes rest stand names few =
-    let parts = and_parts (is_read m) (are_read (o ∷ os)) names in
+    let parts = and_parts (is_matcher m) (are_proper (o ∷ os)) names in
     let a = element_is (matchers_tokens (o ∷ os)) m true lexemes rest stand parts.0 in
     rw (a.1, matchers_are most o os a.0 rest a.2 parts.1 (omega (arith, few))) refl
 
-selector_read : (lexemes braced : List Lexeme) (ms : List MatcherForm) (rest : List Lexeme) → Stand (tokens.Sign signs.OpenBrace ∷ []) lexemes braced → selector_at braced ≡ Ok (ms, rest) → IsSelector ms lexemes rest
+selector_read : (lexemes braced : List Lexeme) (ms : List MatcherForm) (rest : List Lexeme) → Stand (tokens.Sign signs.OpenBrace ∷ []) lexemes braced → selector_at false braced ≡ Ok (ms, rest) → IsSelector ms lexemes rest
 unfolding selector_at
 selector_read lexemes braced ms rest opened h =
     let a = bind_ok (next braced) _ (ms, rest) h in
     let b = bind_ok (some_matcher a.0.0.token) _ (ms, rest) a.2 in
     let c = bind_ok (matchers_at (length braced) braced) _ (ms, rest) b.2 in
-    let d = bind_ok (real_matchers c.0.0) _ (ms, rest) c.2 in
+    let d = bind_ok (real_matchers false c.0.0) _ (ms, rest) c.2 in
     let made : ◌≡◌ {A = List MatcherForm × List Lexeme} (d.0, c.0.1) (ms, rest) = same_ok _ _ d.2 in
     let real = if_ok (has_real_form c.0.0) c.0.0 d.0 faults.NoRealMatcher d.1 in
     let whole = by_matchers c.0.0 c.0.1 (matchers_read (length braced) braced c.0.0 c.0.1 c.1) real.0 in
@@ -249,9 +260,9 @@ selector_read lexemes braced ms rest opened h =
   where
     by_matchers : (found : List MatcherForm) (behind : List Lexeme) → AreMatchers found braced behind → has_real_form found ≡ true → IsSelector found lexemes behind
     by_matchers [] behind are real = absurd are
-    by_matchers (x ∷ xs) behind are real = record { stand = stand_then (tokens.Sign signs.OpenBrace ∷ []) (matchers_tokens (x ∷ xs)) lexemes braced behind opened are.0; named = are.1; real = real }
+    by_matchers (x ∷ xs) behind are real = record { stand = stand_then (tokens.Sign signs.OpenBrace ∷ []) (matchers_tokens (x ∷ xs)) lexemes braced behind opened are.0; proper = are.1; real = real }
 
-selector_is : (ms : List MatcherForm) (lexemes rest : List Lexeme) → IsSelector ms lexemes rest → (braced : List Lexeme) × (expected signs.OpenBrace positions.Elsewhere lexemes ≡ Ok braced) × (selector_at braced ≡ Ok (ms, rest))
+selector_is : (ms : List MatcherForm) (lexemes rest : List Lexeme) → IsSelector ms lexemes rest → (braced : List Lexeme) × (expected signs.OpenBrace positions.Elsewhere lexemes ≡ Ok braced) × (selector_at false braced ≡ Ok (ms, rest))
 unfolding selector_at
 selector_is [] lexemes rest is = absurd (true≢false (sym is.real))
 selector_is (m ∷ ms) lexemes rest is =
@@ -259,7 +270,7 @@ selector_is (m ∷ ms) lexemes rest is =
     let first = first_name m ms a.0 a.2 in (
       a.0,
       a.1,
-      rw (first.2, matchers_are (length a.0) m ms a.0 rest a.2 (all_read (m ∷ ms) is.named (and_parts (are_equal (m ∷ ms)) _ is.real).0) (few_matchers (m ∷ ms) a.0 rest a.2))
+      rw (first.2, matchers_are (length a.0) m ms a.0 rest a.2 is.proper (few_matchers (m ∷ ms) a.0 rest a.2))
           (ap (λ r. r >>= λ (matchers : List MatcherForm). Ok (matchers, rest)) (cond-true (has_real_form (m ∷ ms)) _ _ is.real)),
     )
   where
@@ -315,34 +326,55 @@ seconds_are seconds lexemes rest is =
     let checked : nat_le 1 seconds && nat_le seconds longest_range ≡ true = and_from _ _ (le-leb 1 seconds is.in_range.0) (le-leb seconds longest_range is.in_range.1) in
     rw (a.1, b.is, is.read, checked, c.1) (ap (λ r. Ok (seconds, r)) c.2)
 
-range_derived : (lexemes : List Lexeme) (range : RangeForm) (rest : List Lexeme) → range_at lexemes ≡ Ok (range, rest) → IsRange range lexemes rest
+-- a range in brackets, and the parenthesis behind it
+record IsClosing (seconds : ℕ) (lexemes rest : List Lexeme) : Type 0 where
+  pub behind_duration : List Lexeme
+  pub duration : IsDuration seconds lexemes behind_duration
+  pub closed : Stand (tokens.Sign signs.CloseParenthesis ∷ []) behind_duration rest
+
+closing_read : (lexemes : List Lexeme) (seconds : ℕ) (rest : List Lexeme) → closing_at lexemes ≡ Ok (seconds, rest) → IsClosing seconds lexemes rest
+unfolding closing_at
+closing_read lexemes seconds rest h =
+    let a = bind_ok (seconds_at lexemes) _ (seconds, rest) h in
+    let b = bind_ok (expected signs.CloseParenthesis positions.BehindRange a.0.1) _ (seconds, rest) a.2 in
+    let made : ◌≡◌ {A = ℕ × List Lexeme} (a.0.0, b.0) (seconds, rest) = same_ok _ _ b.2 in
+    let whole : IsClosing a.0.0 lexemes b.0 = record { behind_duration = a.0.1; duration = seconds_read lexemes a.0.0 a.0.1 a.1; closed = expected_read signs.CloseParenthesis positions.BehindRange a.0.1 b.0 b.1 } in
+    subst (λ (p : ℕ × List Lexeme). IsClosing p.0 lexemes p.1) made whole
+
+closing_is : (seconds : ℕ) (lexemes rest : List Lexeme) → IsClosing seconds lexemes rest → closing_at lexemes ≡ Ok (seconds, rest)
+unfolding closing_at
+closing_is seconds lexemes rest is =
+    let a = expected_is signs.CloseParenthesis [] positions.BehindRange is.behind_duration rest is.closed in
+    rw (seconds_are seconds lexemes is.behind_duration is.duration, a.1) (ap (λ r. Ok (seconds, r)) a.2)
+
+range_derived : (lexemes : List Lexeme) (range : RangeForm) (rest : List Lexeme) → range_at false lexemes ≡ Ok (range, rest) → IsRange range lexemes rest
 unfolding range_at
 range_derived lexemes range rest h =
     let a = bind_ok (expected signs.OpenParenthesis positions.Elsewhere lexemes) _ (range, rest) h in
     let b = bind_ok (expected signs.OpenBrace positions.Elsewhere a.0) _ (range, rest) a.2 in
-    let c = bind_ok (selector_at b.0) _ (range, rest) b.2 in
-    let d = bind_ok (seconds_at c.0.1) _ (range, rest) c.2 in
-    let e = bind_ok (expected signs.CloseParenthesis positions.BehindRange d.0.1) _ (range, rest) d.2 in
-    let made : ◌≡◌ {A = RangeForm × List Lexeme} (record { matchers = c.0.0; seconds = d.0.0 }, e.0) (range, rest) = same_ok _ _ e.2 in
-    let whole : IsRange (record { matchers = c.0.0; seconds = d.0.0 }) lexemes e.0 = record {
+    let c = bind_ok (selector_at false b.0) _ (range, rest) b.2 in
+    let d = bind_ok (closing_at c.0.1) _ (range, rest) c.2 in
+    let closing = closing_read c.0.1 d.0.0 d.0.1 d.1 in
+    let made : ◌≡◌ {A = RangeForm × List Lexeme} (record { matchers = c.0.0; seconds = d.0.0 }, d.0.1) (range, rest) = same_ok _ _ d.2 in
+    let whole : IsRange (record { matchers = c.0.0; seconds = d.0.0 }) lexemes d.0.1 = record {
       behind_parenthesis = a.0;
       behind_selector = c.0.1;
-      behind_duration = d.0.1;
+      behind_duration = closing.behind_duration;
       opened = expected_read signs.OpenParenthesis positions.Elsewhere lexemes a.0 a.1;
       selector = selector_read a.0 b.0 c.0.0 c.0.1 (expected_read signs.OpenBrace positions.Elsewhere a.0 b.0 b.1) c.1;
-      duration = seconds_read c.0.1 d.0.0 d.0.1 d.1;
-      closed = expected_read signs.CloseParenthesis positions.BehindRange d.0.1 e.0 e.1;
+      duration = closing.duration;
+      closed = closing.closed;
     } in
     subst (λ (p : RangeForm × List Lexeme). IsRange p.0 lexemes p.1) made whole
 
-range_is : (range : RangeForm) (lexemes rest : List Lexeme) → IsRange range lexemes rest → range_at lexemes ≡ Ok (range, rest)
+range_is : (range : RangeForm) (lexemes rest : List Lexeme) → IsRange range lexemes rest → range_at false lexemes ≡ Ok (range, rest)
 unfolding range_at
 range_is range lexemes rest is =
     let a = expected_is signs.OpenParenthesis [] positions.Elsewhere lexemes is.behind_parenthesis is.opened in
     let selector = subst (λ ls. IsSelector range.matchers ls is.behind_selector) (sym a.2) is.selector in
     let b = selector_is range.matchers a.0 is.behind_selector selector in
-    let c = expected_is signs.CloseParenthesis [] positions.BehindRange is.behind_duration rest is.closed in
-    rw (a.1, b.1, b.2, seconds_are range.seconds is.behind_selector is.behind_duration is.duration, c.1) (ap (λ r. Ok (range, r)) c.2)
+    let closing : IsClosing range.seconds is.behind_selector rest = record { behind_duration = is.behind_duration; duration = is.duration; closed = is.closed } in
+    rw (a.1, b.1, b.2, closing_is range.seconds is.behind_selector rest closing) refl
 
 function_read : (place : ℕ) (token : Token) (function : RangeFunction) → function_of place token ≡ Ok function → token ≡ tokens.Word (function_text function)
 function_read place (tokens.Word word) function h = ap tokens.Word (by_name function h)
@@ -354,17 +386,17 @@ function_read place _ function h = absurd (no_err _ function h)
 function_is : (place : ℕ) (function : RangeFunction) → named_function place (function_text function) ≡ Ok function
 function_is place functions.CountOverTime = refl
 
-term_read : (lexemes : List Lexeme) (term : TermForm) (rest : List Lexeme) → term_at lexemes ≡ Ok (term, rest) → IsTerm term lexemes rest
+term_read : (lexemes : List Lexeme) (term : TermForm) (rest : List Lexeme) → term_at false lexemes ≡ Ok (term, rest) → IsTerm term lexemes rest
 unfolding term_at
 term_read lexemes term rest h =
     let a = bind_ok (next lexemes) _ (term, rest) h in
     let b = bind_ok (function_of a.0.0.place a.0.0.token) _ (term, rest) a.2 in
-    let c = bind_ok (range_at a.0.1) _ (term, rest) b.2 in
+    let c = bind_ok (range_at false a.0.1) _ (term, rest) b.2 in
     let made : ◌≡◌ {A = TermForm × List Lexeme} (record { function = b.0; range = c.0.0 }, c.0.1) (term, rest) = same_ok _ _ c.2 in
     let whole : IsTerm (record { function = b.0; range = c.0.0 }) lexemes c.0.1 = (a.0.1, one_read (tokens.Word (function_text b.0)) lexemes a.0.1 a.0.0 a.1 (function_read a.0.0.place a.0.0.token b.0 b.1), range_derived a.0.1 c.0.0 c.0.1 c.1) in
     subst (λ (p : TermForm × List Lexeme). IsTerm p.0 lexemes p.1) made whole
 
-term_is : (term : TermForm) (lexemes rest : List Lexeme) → IsTerm term lexemes rest → term_at lexemes ≡ Ok (term, rest)
+term_is : (term : TermForm) (lexemes rest : List Lexeme) → IsTerm term lexemes rest → term_at false lexemes ≡ Ok (term, rest)
 unfolding term_at
 term_is term lexemes rest is =
     let a = next_is (tokens.Word (function_text term.function)) [] lexemes is.0 is.1 in
@@ -375,10 +407,10 @@ end_read place tokens.End h = refl
 end_read place _ h = absurd (no_err _ tt h)
 
 -- what is read is derived
-pub query_derived : (text : List ℕ) (query : QueryForm) → query_in (lexemes_of text) ≡ Ok query → Derives text query
+pub query_derived : (text : List ℕ) (query : QueryForm) → query_in false (lexemes_of text) ≡ Ok query → Derives text query
 unfolding query_in
 query_derived text query h =
-    let a = bind_ok (term_at (lexemes_of text)) _ query h in
+    let a = bind_ok (term_at false (lexemes_of text)) _ query h in
     let b = bind_ok (next a.0.1) _ query a.2 in
     let c = bind_ok (ends b.0.0.place b.0.0.token) _ query b.2 in
     let made : ◌≡◌ {A = QueryForm} (record { left = a.0.0 }) query = same_ok _ _ c.2 in
@@ -386,7 +418,7 @@ query_derived text query h =
     subst (Derives text) made whole
 
 -- what is derived is read
-pub derived_is_read : (text : List ℕ) (query : QueryForm) → Derives text query → query_in (lexemes_of text) ≡ Ok query
+pub derived_is_read : (text : List ℕ) (query : QueryForm) → Derives text query → query_in false (lexemes_of text) ≡ Ok query
 unfolding query_in
 derived_is_read text query derived =
     let a = next_is tokens.End [] derived.0 derived.1 derived.3 in
