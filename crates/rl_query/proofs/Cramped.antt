@@ -1,6 +1,5 @@
 -- A reading where no pattern has room, beside the one where each has: the same, but that a pattern which is read is refused.
 use Rattle.std.proofs.Common.{◌≡◌, Bool, true, false, cond, List, length, Result, Ok, Err, refl, ap, ◌∙◌}
-use Rattle.std.proofs.lemmas.Bool.{cond-true}
 use Rattle.rl_query.specs.declared.fault.QueryFault.{QueryFault}
 use Rattle.rl_query.specs.declared.fault.QueryFault.TheVariants as faults
 use Rattle.rl_query.specs.declared.parser.Position.TheVariants as positions
@@ -17,17 +16,17 @@ abbrev pub Cramps : {A : Type 0} → (Bool → Result A QueryFault) → A → Bo
 Cramps read x patterned = (read false ≡ Ok x) × (read true ≡ cond patterned (Err faults.BadRegex) (Ok x))
 
 -- a fault behind what was read is the fault of the whole
-late : {A B : Type 0} (read : Bool → Result A QueryFault) (behind : A → Result B QueryFault) (x : A) (patterned : Bool) (fault : QueryFault) → Cramps read x patterned → behind x ≡ Err fault → (read (is_bad_regex fault) >>= behind) ≡ Err fault
+pub late : {A B : Type 0} (read : Bool → Result A QueryFault) (behind : A → Result B QueryFault) (x : A) (patterned : Bool) (fault : QueryFault) → Cramps read x patterned → behind x ≡ Err fault → (read (is_bad_regex fault) >>= behind) ≡ Err fault
 late read behind x true faults.BadRegex cramps fails = ap (λ r. r >>= behind) cramps.1
 late read behind x false faults.BadRegex cramps fails = ap (λ r. r >>= behind) cramps.1 ∙ fails
 late read behind x patterned _ cramps fails = ap (λ r. r >>= behind) cramps.0 ∙ fails
 
 -- an answer behind what was read
-behind_ok : {A B : Type 0} (first : Result A QueryFault) (behind : A → Result B QueryFault) (x : A) (whole : Result B QueryFault) → first ≡ Ok x → behind x ≡ whole → (first >>= behind) ≡ whole
+pub behind_ok : {A B : Type 0} (first : Result A QueryFault) (behind : A → Result B QueryFault) (x : A) (whole : Result B QueryFault) → first ≡ Ok x → behind x ≡ whole → (first >>= behind) ≡ whole
 behind_ok first behind x whole is then = ap (λ r. r >>= behind) is ∙ then
 
 -- what follows what was read
-then_read : {A B : Type 0} (read : Bool → Result A QueryFault) (behind : A → Result B QueryFault) (x : A) (y : B) (patterned : Bool) → Cramps read x patterned → behind x ≡ Ok y → (read true >>= behind) ≡ cond patterned (Err faults.BadRegex) (Ok y)
+pub then_read : {A B : Type 0} (read : Bool → Result A QueryFault) (behind : A → Result B QueryFault) (x : A) (y : B) (patterned : Bool) → Cramps read x patterned → behind x ≡ Ok y → (read true >>= behind) ≡ cond patterned (Err faults.BadRegex) (Ok y)
 then_read read behind x y true cramps is = ap (λ r. r >>= behind) cramps.1
 then_read read behind x y false cramps is = ap (λ r. r >>= behind) cramps.1 ∙ is
 

@@ -21,11 +21,11 @@ use Rattle.rl_plain.specs.Answers.{◌>>=◌, Fails}
 use Rattle.rl_query.specs.Parsing.{checked_matcher, element_at, matchers_at}
 
 -- what was read before, and what is still read
-abbrev pub with_front : List MatcherForm → Result (List MatcherForm × List Lexeme) QueryFault → Result (List MatcherForm × List Lexeme) QueryFault
+abbrev pub with_front : {A : Type 0} → List A → Result (List A × List Lexeme) QueryFault → Result (List A × List Lexeme) QueryFault
 with_front front read = read >>= λ x. Ok (front ++ x.0, x.1)
 
-regroup : (front : List MatcherForm) (m : MatcherForm) (read : Result (List MatcherForm × List Lexeme) QueryFault) → with_front front (read >>= λ x. Ok (m ∷ x.0, x.1)) ≡ with_front (front ++ m ∷ []) read
-regroup front m (Ok x) = ap (λ (ms : List MatcherForm). Ok (ms, x.1)) (simp append_assoc)
+pub regroup : {A : Type 0} (front : List A) (m : A) (read : Result (List A × List Lexeme) QueryFault) → with_front front (read >>= λ x. Ok (m ∷ x.0, x.1)) ≡ with_front (front ++ m ∷ []) read
+regroup {A} front m (Ok x) = ap (λ (ms : List A). Ok (ms, x.1)) (simp append_assoc)
 regroup front m (Err f) = refl
 
 pub one_more : (front : List MatcherForm) (count i : ℕ) (lexemes : List Lexeme) (m : MatcherForm) (after : List Lexeme) (whole : Result (List MatcherForm × List Lexeme) QueryFault) → i < count → element_at lexemes ≡ Ok (m, true, after)

@@ -1,10 +1,14 @@
 pub mod Answered
+pub mod AnsweredSieve
 pub mod Cramped
 pub mod Cuts
 pub mod Durations
 pub mod Elements
 mod Examples
+pub mod Filters
 pub mod Lexemes
 pub mod Printed
+pub mod PrintedSieve
 pub mod SameQuery
+pub mod Sieves
 pub mod Texts

@@ -30,11 +30,11 @@ use Rattle.rl_query.specs.Tables.{one_byte, two_bytes, escapes}
 use Rattle.rl_query.specs.laws.Productions.{stand_then}
 
 -- the tokens that a text begins with, and what is left of it
-record Lexes (front : List Token) (text rest : List ℕ) : Type 0 where
+pub record Lexes (front : List Token) (text rest : List ℕ) : Type 0 where
   pub stand : (total most : ℕ) → Stand front (lexemes_in (length front + most) total text) (lexemes_in most total rest)
   pub shorter : length front + length rest ≤ length text
 
-lexes_then : (front others : List Token) (text behind rest : List ℕ) → Lexes front text behind → Lexes others behind rest → Lexes (front ++ others) text rest
+pub lexes_then : (front others : List Token) (text behind rest : List ℕ) → Lexes front text behind → Lexes others behind rest → Lexes (front ++ others) text rest
 lexes_then front others text behind rest first second = record {
   stand = λ total most.
       let count : length front + (length others + most) ≡ length (front ++ others) + most = omega (arith, length-append front others) in
@@ -43,7 +43,7 @@ lexes_then front others text behind rest first second = record {
 }
 
 -- a space before tokens
-spaced : (front : List Token) (text rest : List ℕ) → Lexes front text rest → Lexes front (32 ∷ text) rest
+pub spaced : (front : List Token) (text rest : List ℕ) → Lexes front text rest → Lexes front (32 ∷ text) rest
 unfolding lexemes_in
 spaced front text rest lexes = record {
   stand = λ total most. subst (λ ls. Stand front ls (lexemes_in most total rest)) (passed (length front + most) total) (lexes.stand total most);
@@ -57,7 +57,7 @@ spaced front text rest lexes = record {
         ap (λ n. let start = drop n (32 ∷ text) in cond (length start == 0) (record { token = tokens.End; place = total } ∷ []) (record { token = (token_at start).0; place = total - length start } ∷ lexemes_in most total (token_at start).1)) next
 
 -- a token at the front, with no gap before it
-token_lexes : (token : Token) (b : ℕ) (bytes rest : List ℕ) → gap_len false (b ∷ bytes) ≡ 0 → token_at (b ∷ bytes) ≡ (token, rest) → length rest ≤ length bytes → Lexes (token ∷ []) (b ∷ bytes) rest
+pub token_lexes : (token : Token) (b : ℕ) (bytes rest : List ℕ) → gap_len false (b ∷ bytes) ≡ 0 → token_at (b ∷ bytes) ≡ (token, rest) → length rest ≤ length bytes → Lexes (token ∷ []) (b ∷ bytes) rest
 unfolding lexemes_in
 token_lexes token b bytes rest no_gap is shorter = record {
   stand = λ total most.
@@ -133,7 +133,7 @@ quoted_again (byte ∷ value) rest =
     escaped_by n letter false is others here else = else refl
 
 -- a text between quotes
-text_lexes : (value rest : List ℕ) → Lexes (tokens.Text value ∷ []) (34 ∷ (escaped escapes value ++ 34 ∷ rest)) rest
+pub text_lexes : (value rest : List ℕ) → Lexes (tokens.Text value ∷ []) (34 ∷ (escaped escapes value ++ 34 ∷ rest)) rest
 unfolding token_at
 text_lexes value rest = token_lexes (tokens.Text value) 34 (escaped escapes value ++ 34 ∷ rest) rest refl (ap (or_bad tokens.Text) (quoted_again value rest)) (omega (arith, length-append (escaped escapes value) (34 ∷ rest)))
 
@@ -172,7 +172,7 @@ matcher_lexes m rest proper =
     regrouped : (name sign value : List ℕ) → (name ++ sign ++ (34 ∷ []) ++ escaped escapes value ++ (34 ∷ [])) ++ rest ≡ name ++ (sign ++ (34 ∷ (escaped escapes value ++ 34 ∷ rest)))
     regrouped name sign value = simp append_assoc
 
-abbrev others_text : List MatcherForm → List ℕ
+abbrev pub others_text : List MatcherForm → List ℕ
 others_text = flat_map (λ other. 44 ∷ 32 ∷ matcher_text other)
 
 abbrev are_proper : List MatcherForm → Bool
@@ -258,7 +258,7 @@ pub record Keeps (query : QueryForm) : Type 0 where
   pub real : has_real_form query.left.range.matchers ≡ true
   pub in_range : (1 ≤ query.left.range.seconds) × (query.left.range.seconds ≤ longest_range)
 
-selector_lexes : (m : MatcherForm) (ms : List MatcherForm) (rest : List ℕ) → are_proper (m ∷ ms) ≡ true → Lexes (tokens.Sign signs.OpenBrace ∷ matchers_tokens (m ∷ ms)) (123 ∷ (matcher_text m ++ (others_text ms ++ 125 ∷ rest))) rest
+pub selector_lexes : (m : MatcherForm) (ms : List MatcherForm) (rest : List ℕ) → are_proper (m ∷ ms) ≡ true → Lexes (tokens.Sign signs.OpenBrace ∷ matchers_tokens (m ∷ ms)) (123 ∷ (matcher_text m ++ (others_text ms ++ 125 ∷ rest))) rest
 unfolding token_at
 selector_lexes m ms rest proper =
     let matchers = matcher_text m ++ (others_text ms ++ 125 ∷ rest) in
@@ -276,7 +276,7 @@ duration_lexes n rest small =
 function_named : (f : RangeFunction) → is_name (function_text f) ≡ true
 function_named functions.CountOverTime = refl
 
-end_left : (most total : ℕ) → lexemes_in most total [] ≡ record { token = tokens.End; place = total } ∷ []
+pub end_left : (most total : ℕ) → lexemes_in most total [] ≡ record { token = tokens.End; place = total } ∷ []
 unfolding lexemes_in
 end_left zero total = refl
 end_left (suc most) total = refl

@@ -17,7 +17,7 @@ use Rattle.rl_query.specs.Limits.{has_real_matcher, longest_range}
 use Rattle.rl_query.proofs.Elements.{real_forms}
 use Rattle.rl_query.proofs.Printed.{Keeps}
 
-same_matchers : (xs ys : List Matcher) → map matcher_form xs ≡ map matcher_form ys → xs ≡ ys
+pub same_matchers : (xs ys : List Matcher) → map matcher_form xs ≡ map matcher_form ys → xs ≡ ys
 same_matchers [] [] e = refl
 same_matchers [] (y ∷ ys) e = cc
 same_matchers (x ∷ xs) [] e = cc
@@ -28,7 +28,7 @@ same_matchers (x ∷ xs) (y ∷ ys) e =
     let rest = same_matchers xs ys tails in
     λ i. first i ∷ rest i
 
-same_selector : (a b : Selector) → a.matchers ≡ b.matchers → a ≡ b
+pub same_selector : (a b : Selector) → a.matchers ≡ b.matchers → a ≡ b
 same_selector a b e =
     let whole : ◌≡◌ {A = (ms : List Matcher) × IsTrue (has_real_matcher ms)} (a.matchers, a.real) (b.matchers, b.real) = Σ_prop_path (λ ms. hlevel props) e in
     λ i. record { matchers = (whole i).0; real = (whole i).1 }
@@ -50,7 +50,7 @@ same_query a b e =
     let terms = same_term a.left b.left (ap (λ f. f.left) e) in
     λ i. record { left = terms i }
 
-all_proper : (ms : List Matcher) → list_all is_matcher (map matcher_form ms) ≡ true
+pub all_proper : (ms : List Matcher) → list_all is_matcher (map matcher_form ms) ≡ true
 all_proper [] = refl
 all_proper (m ∷ ms) = and_from (is_matcher (matcher_form m)) _ (and_from (is_name m.name) _ m.named m.comparable) (all_proper ms)
 

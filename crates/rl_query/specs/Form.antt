@@ -1,13 +1,17 @@
 -- Queries without the facts that their types keep.
-use Rattle.std.specs.Prelude.{ℕ, Bool, not, List, [], map}
+use Rattle.std.specs.Prelude.{ℕ, Bool, not, ◌||◌, List, [], map}
 use Rattle.std.specs.List.{list_any}
 use Rattle.rl_labels.specs.Operators.{passes, is_by_pattern}
 use Rattle.rl_labels.specs.declared.matcher.Matcher.{Matcher}
 use Rattle.rl_labels.specs.declared.matcher.MatchOp.{MatchOp}
+use Rattle.rl_query.specs.declared.filter.LineFilter.{LineFilter}
+use Rattle.rl_query.specs.declared.filter.LineOp.{LineOp}
+use Rattle.rl_query.specs.declared.filter.Sieve.{Sieve}
 use Rattle.rl_query.specs.declared.query.Query.{Query}
 use Rattle.rl_query.specs.declared.query.Term.{Term}
 use Rattle.rl_query.specs.declared.query.LogRange.{LogRange}
 use Rattle.rl_query.specs.declared.query.RangeFunction.{RangeFunction}
+use Rattle.rl_query.specs.Limits.{is_line_pattern}
 
 pub record MatcherForm : Type 0 where
   pub name : List ℕ
@@ -47,3 +51,24 @@ has_pattern matchers = list_any (λ matcher. is_by_pattern matcher.op) matchers
 
 abbrev pub query_has_pattern : QueryForm → Bool
 query_has_pattern query = has_pattern query.left.range.matchers
+
+pub record FilterForm : Type 0 where
+  pub op : LineOp
+  pub text : List ℕ
+
+pub record SieveForm : Type 0 where
+  pub matchers : List MatcherForm
+  pub filters : List FilterForm
+
+abbrev pub filter_form : LineFilter → FilterForm
+filter_form filter = record { op = filter.op; text = filter.text }
+
+abbrev pub sieve_form : Sieve → SieveForm
+sieve_form sieve = record { matchers = map matcher_form sieve.selector.matchers; filters = map filter_form sieve.filters }
+
+-- some line filter has a pattern
+abbrev pub filters_have_pattern : List FilterForm → Bool
+filters_have_pattern filters = list_any (λ filter. is_line_pattern filter.op) filters
+
+abbrev pub sieve_has_pattern : SieveForm → Bool
+sieve_has_pattern sieve = has_pattern sieve.matchers || filters_have_pattern sieve.filters

@@ -1,19 +1,21 @@
 -- The grammar of query texts, over their tokens and apart from how they are read. Each rule relates tokens and those that follow.
-use Rattle.std.specs.Prelude.{◌≡◌, ℕ, ◌≤◌, Bool, true, ◌&&◌, List, [], ◌∷◌, ◌++◌, Some}
+use Rattle.std.specs.Prelude.{◌≡◌, ℕ, ◌≤◌, Bool, true, ◌&&◌, List, [], ◌∷◌, ◌++◌, length, Some}
 use Rattle.std.specs.List.{list_all}
 use Rattle.rl_labels.specs.Name.{is_name}
 use Rattle.rl_labels.specs.Operators.{is_comparable}
 use Rattle.rl_labels.specs.declared.matcher.MatchOp.{MatchOp}
 use Rattle.rl_labels.specs.declared.matcher.MatchOp.TheVariants as operators
+use Rattle.rl_query.specs.declared.filter.LineOp.{LineOp}
+use Rattle.rl_query.specs.declared.filter.LineOp.TheVariants as lines
 use Rattle.rl_query.specs.declared.token.Lexeme.{Lexeme}
 use Rattle.rl_query.specs.declared.token.Sign.{Sign}
 use Rattle.rl_query.specs.declared.token.Sign.TheVariants as signs
 use Rattle.rl_query.specs.declared.token.Token.{Token}
 use Rattle.rl_query.specs.declared.token.Token.TheVariants as tokens
 use Rattle.rl_query.specs.Durations.{duration_of}
-use Rattle.rl_query.specs.Form.{MatcherForm, RangeForm, TermForm, QueryForm, has_real_form}
+use Rattle.rl_query.specs.Form.{MatcherForm, RangeForm, TermForm, QueryForm, FilterForm, SieveForm, has_real_form}
 use Rattle.rl_query.specs.Lexing.{lexemes_of}
-use Rattle.rl_query.specs.Limits.{longest_range}
+use Rattle.rl_query.specs.Limits.{longest_range, is_filter, most_stages}
 use Rattle.rl_query.specs.Printing.{function_text}
 
 -- these tokens stand at the front, one behind the other
@@ -72,3 +74,27 @@ IsTerm term lexemes rest = (behind : List Lexeme) × Stand (tokens.Word (functio
 -- a term, and nothing behind it
 abbrev pub Derives : List ℕ → QueryForm → Type 0
 Derives text query = (behind rest : List Lexeme) × IsTerm query.left (lexemes_of text) behind × Stand (tokens.End ∷ []) behind rest
+
+abbrev pub filter_sign : LineOp → Sign
+filter_sign lines.Contains = signs.Contains
+filter_sign lines.Lacks = signs.NotEqual
+filter_sign lines.Matches = signs.ContainsMatch
+filter_sign lines.NotMatches = signs.NotMatches
+
+-- |= "text", or another sign
+abbrev pub filter_tokens : FilterForm → List Token
+filter_tokens filter = tokens.Sign (filter_sign filter.op) ∷ tokens.Text filter.text ∷ []
+
+-- line filters one behind the other
+abbrev pub filters_tokens : List FilterForm → List Token
+filters_tokens [] = []
+filters_tokens (filter ∷ filters) = filter_tokens filter ++ filters_tokens filters
+
+-- {matchers} line filters, and nothing behind them
+pub record DerivesSieve (text : List ℕ) (sieve : SieveForm) : Type 0 where
+  pub behind_selector : List Lexeme
+  pub rest : List Lexeme
+  pub selector : IsSelector sieve.matchers (lexemes_of text) behind_selector
+  pub filters : Stand (filters_tokens sieve.filters ++ tokens.End ∷ []) behind_selector rest
+  pub proper : list_all (λ filter. is_filter filter.op filter.text) sieve.filters ≡ true
+  pub few : length sieve.filters ≤ most_stages

@@ -7,4 +7,5 @@ pub mod Lexing
 pub mod Limits
 pub mod Parsing
 pub mod Printing
+pub mod Sieving
 pub mod laws

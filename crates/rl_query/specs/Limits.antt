@@ -1,8 +1,11 @@
 -- The limits that a query keeps.
-use Rattle.std.specs.Prelude.{ℕ, ◌+◌, min, Bool, not, List, []}
+use Rattle.std.specs.Prelude.{ℕ, ◌+◌, min, Bool, true, false, not, ◌||◌, List, []}
 use Rattle.std.specs.List.{list_any}
 use Rattle.rl_labels.specs.Operators.{passes}
 use Rattle.rl_labels.specs.declared.matcher.Matcher.{Matcher}
+use Rattle.rl_patterns.specs.Matching.{is_pattern}
+use Rattle.rl_query.specs.declared.filter.LineOp.{LineOp}
+use Rattle.rl_query.specs.declared.filter.LineOp.TheVariants as lines
 
 -- some matcher refuses the empty text
 abbrev pub has_real_matcher : List Matcher → Bool
@@ -15,3 +18,18 @@ longest_range = 2592000
 -- a longer range counts as one second above the longest
 abbrev pub capped : ℕ → ℕ
 capped n = min n (longest_range + 1)
+
+-- the most stages of a text
+abbrev pub most_stages : ℕ
+most_stages = 256
+
+-- a line filter by pattern
+abbrev pub is_line_pattern : LineOp → Bool
+is_line_pattern lines.Contains = false
+is_line_pattern lines.Lacks = false
+is_line_pattern lines.Matches = true
+is_line_pattern lines.NotMatches = true
+
+-- any text can be looked for, but a pattern has to be one
+abbrev pub is_filter : LineOp → List ℕ → Bool
+is_filter op text = not (is_line_pattern op) || is_pattern text

@@ -63,6 +63,13 @@ is_later_start signs.Minus = true
 is_later_start signs.Plus = true
 is_later_start _ = false
 
+-- a sign that begins a stage which a sieve has not
+abbrev pub is_later_stage : Sign → Bool
+is_later_stage signs.Pipe = true
+is_later_stage signs.ContainsPattern = true
+is_later_stage signs.LacksPattern = true
+is_later_stage _ = false
+
 abbrev pub is_colon : Sign → Bool
 is_colon signs.Colon = true
 is_colon _ = false
@@ -92,6 +99,8 @@ abbrev pub is_unsupported_word : Position → List ℕ → Bool
 is_unsupported_word positions.Start word = is_later_word word
 is_unsupported_word positions.BehindRange word = is_in_any_case word (codes "offset")
 is_unsupported_word positions.BehindTerm word = is_in_any_case word (codes "and") || (is_in_any_case word (codes "or") || is_in_any_case word (codes "unless"))
+is_unsupported_word positions.InFilter word = true
+is_unsupported_word positions.BehindFilter word = is_in_any_case word (codes "or")
 is_unsupported_word _ word = false
 
 -- and the same of a sign
@@ -101,6 +110,9 @@ is_unsupported_sign positions.BehindSelector sign = is_stage sign
 is_unsupported_sign positions.InRange sign = is_colon sign
 is_unsupported_sign positions.BehindRange sign = is_stage sign || is_at sign
 is_unsupported_sign positions.BehindTerm sign = is_operator sign
+is_unsupported_sign positions.BehindSieve sign = is_later_stage sign
+is_unsupported_sign positions.BehindFilter sign = is_later_stage sign
+is_unsupported_sign positions.InFilter sign = false
 is_unsupported_sign positions.Elsewhere sign = false
 
 abbrev pub is_unsupported : Position → Token → Bool

@@ -4,11 +4,13 @@ use Rattle.std.specs.List.{flat_map}
 use Rattle.std.specs.Fmt.{decimal}
 use Rattle.rl_labels.specs.declared.matcher.MatchOp.{MatchOp}
 use Rattle.rl_labels.specs.declared.matcher.MatchOp.TheVariants as operators
+use Rattle.rl_query.specs.declared.filter.LineOp.{LineOp}
+use Rattle.rl_query.specs.declared.filter.LineOp.TheVariants as lines
 use Rattle.rl_query.specs.declared.query.RangeFunction.{RangeFunction}
 use Rattle.rl_query.specs.declared.query.RangeFunction.TheVariants as functions
 use Rattle.rl_plain.specs.Escapes.{escaped}
 use Rattle.rl_query.specs.Tables.{escapes}
-use Rattle.rl_query.specs.Form.{MatcherForm, RangeForm, TermForm, QueryForm}
+use Rattle.rl_query.specs.Form.{MatcherForm, RangeForm, TermForm, QueryForm, FilterForm, SieveForm}
 
 abbrev pub operator_text : MatchOp → List ℕ
 operator_text operators.Equal = codes "="
@@ -37,3 +39,17 @@ term_text term = function_text term.function ++ codes "(" ++ range_text term.ran
 
 abbrev pub query_text : QueryForm → List ℕ
 query_text query = term_text query.left
+
+abbrev pub filter_op_text : LineOp → List ℕ
+filter_op_text lines.Contains = codes "|="
+filter_op_text lines.Lacks = codes "!="
+filter_op_text lines.Matches = codes "|~"
+filter_op_text lines.NotMatches = codes "!~"
+
+-- |= "text"
+abbrev pub filter_print : FilterForm → List ℕ
+filter_print filter = filter_op_text filter.op ++ codes " \"" ++ escaped escapes filter.text ++ codes "\""
+
+-- {a="x", b="y"} |= "text", each line filter behind a space
+abbrev pub sieve_text : SieveForm → List ℕ
+sieve_text sieve = codes "{" ++ matchers_text sieve.matchers ++ codes "}" ++ flat_map (λ filter. codes " " ++ filter_print filter) sieve.filters

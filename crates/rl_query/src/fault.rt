@@ -18,6 +18,8 @@ pub enum QueryFault {
     BadRange,
     #[error("this is no regular expression, or it takes too much room")]
     BadRegex,
+    #[error("nested too deep, or too many stages")]
+    TooDeep,
 }
 
 /// Why a text gave no query.

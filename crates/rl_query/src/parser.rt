@@ -9,7 +9,7 @@ ghost use Rattle.rl_query.specs.Grammar.{Derives};
 ghost use Rattle.rl_query.specs.Printing.{query_text};
 ghost use Rattle.rl_plain.specs.Answers.{Gives, Answers};
 ghost use Rattle.rl_query.specs.declared.query.Query.{Query};
-ghost use Rattle.rl_query.specs.Parsing.{is_unsupported, is_unsupported_word, is_unsupported_sign, is_stage, is_operator, is_in_any_case, is_later_word, refusal, next, expected, is_sign, name_of, content_of, match_of, operator_of, checked_matcher, matcher_at, goes_on, element_at, matchers_at, some_matcher, real_matchers, selector_at, is_unit_letter, is_duration_byte, looks_like_duration, range_of, seconds_of, checked_range, function_of, named_function, seconds_at, closing_at, range_at, term_at, query_in, query_of, ends};
+ghost use Rattle.rl_query.specs.Parsing.{is_unsupported, is_unsupported_word, is_unsupported_sign, is_stage, is_later_stage, is_operator, is_in_any_case, is_later_word, refusal, next, expected, is_sign, name_of, content_of, match_of, operator_of, checked_matcher, matcher_at, goes_on, element_at, matchers_at, some_matcher, real_matchers, selector_at, is_unit_letter, is_duration_byte, looks_like_duration, range_of, seconds_of, checked_range, function_of, named_function, seconds_at, closing_at, range_at, term_at, query_in, query_of, ends};
 ghost use Rattle.rl_query.specs.Durations.{duration_of};
 ghost use Rattle.rl_query.specs.Limits.{has_real_matcher, longest_range};
 ghost use Rattle.rl_labels.specs.Operators.{is_by_pattern};
@@ -71,11 +71,17 @@ pub enum Position {
     BehindRange,
     /// Behind a range aggregation.
     BehindTerm,
+    /// Behind the sign of a line filter.
+    InFilter,
+    /// Behind the selector of a sieve.
+    BehindSieve,
+    /// Behind a line filter of a sieve.
+    BehindFilter,
     Elsewhere,
 }
 
 // The fault of a token that does not fit its position.
-fn refusal(position: Position, place: usize, token: &Token) -> QueryFault
+pub(crate) fn refusal(position: Position, place: usize, token: &Token) -> QueryFault
     ensures { result ≡ refusal position place token.now }
 {
     if is_unsupported(position, token) {
@@ -107,6 +113,8 @@ fn is_unsupported_word(position: Position, word: &str) -> bool
                 || word.eq_ignore_ascii_case("or")
                 || word.eq_ignore_ascii_case("unless")
         }
+        Position::InFilter => true,
+        Position::BehindFilter => word.eq_ignore_ascii_case("or"),
         _ => false,
     }
 }
@@ -135,8 +143,19 @@ fn is_unsupported_sign(position: Position, sign: Sign) -> bool
         Position::InRange => matches!(sign, Sign::Colon),
         Position::BehindRange => is_stage(sign) || matches!(sign, Sign::At),
         Position::BehindTerm => is_operator(sign),
-        Position::Elsewhere => false,
+        Position::BehindSieve | Position::BehindFilter => is_later_stage(sign),
+        Position::InFilter | Position::Elsewhere => false,
     }
+}
+
+// A sign that begins a stage which a sieve has not.
+fn is_later_stage(sign: Sign) -> bool
+    ensures { result ≡ is_later_stage sign }
+{
+    matches!(
+        sign,
+        Sign::Pipe | Sign::ContainsPattern | Sign::LacksPattern
+    )
 }
 
 // A sign that begins a stage.
@@ -179,7 +198,7 @@ fn is_operator(sign: Sign) -> bool
 }
 
 // The first token, and those behind it.
-fn next(lexemes: &[Lexeme]) -> Result<(&Lexeme, &[Lexeme]), QueryFault>
+pub(crate) fn next(lexemes: &[Lexeme]) -> Result<(&Lexeme, &[Lexeme]), QueryFault>
     ensures { Answers (λ x. (x.0.now, x.1.now)) result (next lexemes.now) }
 {
     match lexemes {
@@ -190,7 +209,11 @@ fn next(lexemes: &[Lexeme]) -> Result<(&Lexeme, &[Lexeme]), QueryFault>
 
 // What follows the sign, which has to stand at the front.
 #[tactic(auto, unfolding(crate::specs::Parsing::expected))]
-fn expected(sign: Sign, position: Position, lexemes: &[Lexeme]) -> Result<&[Lexeme], QueryFault>
+pub(crate) fn expected(
+    sign: Sign,
+    position: Position,
+    lexemes: &[Lexeme],
+) -> Result<&[Lexeme], QueryFault>
     ensures { Answers (λ rest. rest.now) result (expected sign position lexemes.now) }
 {
     let (lexeme, rest) = next(lexemes)?;
@@ -322,7 +345,10 @@ fn matchers_at(alloc: Global, lexemes: &[Lexeme]) -> Result<(Vec<Matcher>, &[Lex
 
 // The selector behind its opening brace.
 #[tactic(auto, unfolding(crate::specs::Parsing::selector_at))]
-fn selector_at(alloc: Global, lexemes: &[Lexeme]) -> Result<(Selector, &[Lexeme]), QueryError>
+pub(crate) fn selector_at(
+    alloc: Global,
+    lexemes: &[Lexeme],
+) -> Result<(Selector, &[Lexeme]), QueryError>
     ensures { Reads (λ x. (map matcher_form x.0.matchers, x.1.now)) result (λ cramped. selector_at cramped lexemes.now) }
 {
     let (lexeme, _) = next(lexemes)?;

@@ -63,7 +63,7 @@ fn push_number(text: &mut String, number: u64) -> Result<(), AllocError>
     write!(text, "{number}")
 }
 
-fn push_matchers(text: &mut String, matchers: &[Matcher]) -> Result<(), AllocError>
+pub(crate) fn push_matchers(text: &mut String, matchers: &[Matcher]) -> Result<(), AllocError>
     ensures { OnOk result (string_bytes text.new ≡ string_bytes text.old ++ matchers_text (map matcher_form matchers.now)) }
 {
     match matchers {

@@ -1,7 +1,7 @@
 //! Query texts: what they are read as, the faults of those that are refused, and queries beside each other.
 use crate::trouble::Trouble;
 use rl_plain::{Same, TryCopy};
-use rl_query::{Query, QueryError, parse, print, print_term};
+use rl_query::{Query, QueryError, parse, parse_delete, print, print_sieve, print_term};
 use std::alloc::{AllocError, AllocFailed, Global};
 
 /// `text` takes its whole input as one text, every other directive each line.
@@ -25,6 +25,8 @@ fn line_answer(alloc: Global, directive: &str, line: &str) -> Result<String, Tro
         "same" => same(alloc, line),
         "fault" => fault(alloc, line),
         "memory" => memory(alloc),
+        "delete" => delete(alloc, line),
+        "sieves" => sieves(alloc, line),
         _ => Err(Trouble::NoSuchDirective),
     }
 }
@@ -96,4 +98,22 @@ fn memory(alloc: Global) -> Result<String, Trouble> {
     let one = QueryError::from(AllocError);
     let other = QueryError::from(AllocFailed { value: 0u8 });
     Ok(format!(in alloc; "{one}; {other}")?)
+}
+
+// The canonical text of the sieve that a text is, or its fault.
+fn delete(alloc: Global, input: &str) -> Result<String, Trouble> {
+    match parse_delete(alloc, input) {
+        Ok(sieve) => Ok(print_sieve(alloc, &sieve)?),
+        Err(QueryError::Fault(fault)) => Ok(format!(in alloc; "{fault:?}")?),
+        Err(QueryError::Memory) => Err(Trouble::Memory),
+    }
+}
+
+// Two texts with ` ~ ` between them: how their sieves compare.
+fn sieves(alloc: Global, line: &str) -> Result<String, Trouble> {
+    let (one, other) = line.split_once(" ~ ").ok_or(Trouble::BadInput)?;
+    match (parse_delete(alloc, one), parse_delete(alloc, other)) {
+        (Ok(one), Ok(other)) => Ok(copy_beside(&one, &other)?.to_string(alloc)?),
+        _ => Err(Trouble::BadInput),
+    }
 }

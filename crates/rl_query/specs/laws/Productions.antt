@@ -36,7 +36,7 @@ chosen : {A : Type 0} (b : Bool) (x y z : A) → cond b x y ≡ z → ((b ≡ tr
 chosen true x y z h = inl (refl, h)
 chosen false x y z h = inr (refl, h)
 
-no_err : {B : Type 0} (e : QueryFault) (y : B) → Err e ≡ Ok y → ⊥
+pub no_err : {B : Type 0} (e : QueryFault) (y : B) → Err e ≡ Ok y → ⊥
 no_err e y h = cc
 
 pub same_ok : {A : Type 0} (x y : A) → ◌≡◌ {A = Result A QueryFault} (Ok x) (Ok y) → x ≡ y
@@ -53,20 +53,20 @@ stand_then [] others lexemes behind rest first second = subst (λ ls. Stand othe
 stand_then (t ∷ front) others [] behind rest first second = absurd first
 stand_then (t ∷ front) others (l ∷ lexemes) behind rest first second = (first.0, stand_then front others lexemes behind rest first.1 second)
 
-one_read : (token : Token) (lexemes rest : List Lexeme) (l : Lexeme) → next lexemes ≡ Ok (l, rest) → l.token ≡ token → Stand (token ∷ []) lexemes rest
+pub one_read : (token : Token) (lexemes rest : List Lexeme) (l : Lexeme) → next lexemes ≡ Ok (l, rest) → l.token ≡ token → Stand (token ∷ []) lexemes rest
 one_read token [] rest l h is = absurd (no_err _ _ h)
 one_read token (x ∷ lexemes) rest l h is =
     let same : ◌≡◌ {A = Lexeme × List Lexeme} (x, lexemes) (l, rest) = same_ok _ _ h in
     (ap (λ (p : Lexeme × List Lexeme). p.0.token) same ∙ is, ap (λ (p : Lexeme × List Lexeme). p.1) same)
 
 -- the token at the front, and those behind it
-record Next (token : Token) (others : List Token) (lexemes rest : List Lexeme) : Type 0 where
+pub record Next (token : Token) (others : List Token) (lexemes rest : List Lexeme) : Type 0 where
   pub place : ℕ
   pub behind : List Lexeme
   pub is : next lexemes ≡ Ok (record { token = token; place = place }, behind)
   pub more : Stand others behind rest
 
-next_is : (token : Token) (others : List Token) (lexemes rest : List Lexeme) → Stand (token ∷ others) lexemes rest → Next token others lexemes rest
+pub next_is : (token : Token) (others : List Token) (lexemes rest : List Lexeme) → Stand (token ∷ others) lexemes rest → Next token others lexemes rest
 next_is token others [] rest stand = absurd stand
 next_is token others (l ∷ lexemes) rest stand = record { place = l.place; behind = lexemes; is = ap (λ t. Ok (record { token = t; place = l.place }, lexemes)) stand.0; more = stand.1 }
 
@@ -85,14 +85,14 @@ only_sign : (s : Sign) (t : Token) → is_sign s t ≡ true → t ≡ tokens.Sig
 only_sign s (tokens.Sign x) h = ap tokens.Sign (one_sign x s h)
 only_sign s _ h = absurd (true≢false (sym h))
 
-expected_read : (sign : Sign) (position : Position) (lexemes rest : List Lexeme) → expected sign position lexemes ≡ Ok rest → Stand (tokens.Sign sign ∷ []) lexemes rest
+pub expected_read : (sign : Sign) (position : Position) (lexemes rest : List Lexeme) → expected sign position lexemes ≡ Ok rest → Stand (tokens.Sign sign ∷ []) lexemes rest
 unfolding expected
 expected_read sign position lexemes rest h =
     let a = bind_ok (next lexemes) _ rest h in
     let b = if_ok (is_sign sign a.0.0.token) a.0.1 rest (refusal position a.0.0.place a.0.0.token) a.2 in
     one_read (tokens.Sign sign) lexemes rest a.0.0 (a.1 ∙ ap (λ r. Ok (a.0.0, r)) b.1) (only_sign sign a.0.0.token b.0)
 
-expected_is : (sign : Sign) (others : List Token) (position : Position) (lexemes rest : List Lexeme) → Stand (tokens.Sign sign ∷ others) lexemes rest → (behind : List Lexeme) × (expected sign position lexemes ≡ Ok behind) × Stand others behind rest
+pub expected_is : (sign : Sign) (others : List Token) (position : Position) (lexemes rest : List Lexeme) → Stand (tokens.Sign sign ∷ others) lexemes rest → (behind : List Lexeme) × (expected sign position lexemes ≡ Ok behind) × Stand others behind rest
 unfolding expected
 expected_is sign others position lexemes rest stand =
     let a = next_is (tokens.Sign sign) others lexemes rest stand in
@@ -246,7 +246,7 @@ matchers_are (suc most) m (o ∷ os) lexemes rest stand names few =
     let a = element_is (matchers_tokens (o ∷ os)) m true lexemes rest stand parts.0 in
     rw (a.1, matchers_are most o os a.0 rest a.2 parts.1 (omega (arith, few))) refl
 
-selector_read : (lexemes braced : List Lexeme) (ms : List MatcherForm) (rest : List Lexeme) → Stand (tokens.Sign signs.OpenBrace ∷ []) lexemes braced → selector_at false braced ≡ Ok (ms, rest) → IsSelector ms lexemes rest
+pub selector_read : (lexemes braced : List Lexeme) (ms : List MatcherForm) (rest : List Lexeme) → Stand (tokens.Sign signs.OpenBrace ∷ []) lexemes braced → selector_at false braced ≡ Ok (ms, rest) → IsSelector ms lexemes rest
 unfolding selector_at
 selector_read lexemes braced ms rest opened h =
     let a = bind_ok (next braced) _ (ms, rest) h in
@@ -262,7 +262,7 @@ selector_read lexemes braced ms rest opened h =
     by_matchers [] behind are real = absurd are
     by_matchers (x ∷ xs) behind are real = record { stand = stand_then (tokens.Sign signs.OpenBrace ∷ []) (matchers_tokens (x ∷ xs)) lexemes braced behind opened are.0; proper = are.1; real = real }
 
-selector_is : (ms : List MatcherForm) (lexemes rest : List Lexeme) → IsSelector ms lexemes rest → (braced : List Lexeme) × (expected signs.OpenBrace positions.Elsewhere lexemes ≡ Ok braced) × (selector_at false braced ≡ Ok (ms, rest))
+pub selector_is : (ms : List MatcherForm) (lexemes rest : List Lexeme) → IsSelector ms lexemes rest → (braced : List Lexeme) × (expected signs.OpenBrace positions.Elsewhere lexemes ≡ Ok braced) × (selector_at false braced ≡ Ok (ms, rest))
 unfolding selector_at
 selector_is [] lexemes rest is = absurd (true≢false (sym is.real))
 selector_is (m ∷ ms) lexemes rest is =

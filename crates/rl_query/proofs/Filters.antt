@@ -1,0 +1,95 @@
+-- Reading line filters one after the other, as a loop does.
+use Rattle.std.proofs.Common.{◌≡◌, ℕ, zero, suc, ◌-◌, ◌+◌, ◌≤◌, ◌<◌, List, [], ◌∷◌, ◌++◌, Some, None, Result, Ok, Err, refl, sym, ap, ◌∙◌, arith, append-nil, Bool, true, false, ◌||◌, map, length, get_or}
+use Rattle.rl_plain.specs.Answers.{◌>>=◌, Fails}
+use Rattle.rl_plain.specs.declared.refusal.OrMemory.{OrMemory}
+use Rattle.rl_plain.specs.declared.refusal.OrMemory.TheVariants as errors
+use Rattle.rl_query.specs.declared.fault.QueryFault.{QueryFault}
+use Rattle.rl_query.specs.declared.filter.LineOp.{LineOp}
+use Rattle.rl_query.specs.declared.token.Lexeme.{Lexeme}
+use Rattle.rl_query.specs.declared.filter.LineFilter.{LineFilter}
+use Rattle.rl_query.specs.declared.parser.Position.TheVariants as positions
+use Rattle.rl_query.specs.declared.token.Sign.TheVariants as signs
+use Rattle.rl_query.specs.Answering.{is_bad_regex}
+use Rattle.rl_query.specs.Form.{MatcherForm, FilterForm, SieveForm, filter_form, has_pattern, filters_have_pattern}
+use Rattle.rl_query.specs.Limits.{is_line_pattern, most_stages}
+use Rattle.rl_query.specs.Parsing.{next, expected, selector_at}
+use Rattle.rl_query.specs.Sieving.{filter_op, filter_at, filters_at, roomy_filters, behind_filters, sieve_ends, rest_at, sieve_in}
+use Rattle.rl_query.proofs.Cramped.{late, selector_cramps}
+use Rattle.rl_query.proofs.Elements.{with_front, regroup}
+
+-- what is read so far, and is read of the tokens that are left, is the whole
+abbrev pub AreRead : List FilterForm → ℕ → List Lexeme → Result (List FilterForm × List Lexeme) QueryFault → Type 0
+AreRead front left lexemes whole = with_front front (filters_at left lexemes) ≡ whole
+
+pub one_more : (front : List FilterForm) (count i : ℕ) (lexemes behind after : List Lexeme) (first : Lexeme) (op : LineOp) (f : FilterForm) (whole : Result (List FilterForm × List Lexeme) QueryFault) → i < count
+    → next lexemes ≡ Ok (first, behind) → filter_op first.token ≡ Some op → filter_at op behind ≡ Ok (f, after) → AreRead front (count - i) lexemes whole → AreRead (front ++ f ∷ []) (count - (i + 1)) after whole
+unfolding filters_at
+one_more front count i lexemes behind after first op f whole lt n o h so_far =
+    let k : count - i ≡ suc (count - (i + 1)) = omega arith in
+    let one : with_front front (filters_at (count - i) lexemes) ≡ with_front (front ++ f ∷ []) (filters_at (count - (i + 1)) after) = rw (k, n, o, h) (regroup front f (filters_at (count - (i + 1)) after)) in
+    sym one ∙ so_far
+
+pub stops : (front : List FilterForm) (count i : ℕ) (lexemes behind : List Lexeme) (first : Lexeme) (whole : Result (List FilterForm × List Lexeme) QueryFault) → i < count
+    → next lexemes ≡ Ok (first, behind) → filter_op first.token ≡ None → AreRead front (count - i) lexemes whole → whole ≡ Ok (front, lexemes)
+unfolding filters_at
+stops front count i lexemes behind first whole lt n o so_far =
+    let k : count - i ≡ suc (count - (i + 1)) = omega arith in
+    let one : with_front front (filters_at (count - i) lexemes) ≡ Ok (front, lexemes) = rw (k, n, o) (ap (λ (fs : List FilterForm). Ok (fs, lexemes)) (append-nil front)) in
+    sym so_far ∙ one
+
+pub fails : (e : OrMemory QueryFault) (front : List FilterForm) (count i : ℕ) (lexemes behind : List Lexeme) (first : Lexeme) (op : LineOp) (whole : Result (List FilterForm × List Lexeme) QueryFault) → i < count
+    → next lexemes ≡ Ok (first, behind) → filter_op first.token ≡ Some op → Fails e (filter_at op behind) → AreRead front (count - i) lexemes whole → Fails e whole
+unfolding filters_at
+fails errors.Memory front count i lexemes behind first op whole lt n o h so_far = tt
+fails (errors.Fault f) front count i lexemes behind first op whole lt n o h so_far =
+    let k : count - i ≡ suc (count - (i + 1)) = omega arith in
+    let one : with_front front (filters_at (count - i) lexemes) ≡ Err f = rw (k, n, o, h) refl in
+    sym so_far ∙ one
+
+pub no_token : (f : QueryFault) (front : List FilterForm) (left : ℕ) (lexemes : List Lexeme) (whole : Result (List FilterForm × List Lexeme) QueryFault) → next lexemes ≡ Err f → AreRead front left lexemes whole → whole ≡ Err f
+unfolding filters_at
+no_token f front zero lexemes whole n so_far = sym so_far ∙ rw n refl
+no_token f front (suc left) lexemes whole n so_far = sym so_far ∙ rw n refl
+
+-- no more may be read
+pub at_end : (front : List FilterForm) (count i : ℕ) (lexemes : List Lexeme) (whole : Result (List FilterForm × List Lexeme) QueryFault) → count ≤ i → filters_at 0 lexemes ≡ Ok ([], lexemes) → AreRead front (count - i) lexemes whole → whole ≡ Ok (front, lexemes)
+at_end front count i lexemes whole le h so_far =
+    let k : count - i ≡ 0 = omega arith in
+    sym so_far ∙ ap (λ n. with_front front (filters_at n lexemes)) k ∙ ap (with_front front) h ∙ ap (λ (fs : List FilterForm). Ok (fs, lexemes)) (append-nil front)
+
+pub too_many : (f : QueryFault) (front : List FilterForm) (count i : ℕ) (lexemes : List Lexeme) (whole : Result (List FilterForm × List Lexeme) QueryFault) → count ≤ i → filters_at 0 lexemes ≡ Err f → AreRead front (count - i) lexemes whole → whole ≡ Err f
+too_many f front count i lexemes whole le h so_far =
+    let k : count - i ≡ 0 = omega arith in
+    sym so_far ∙ ap (λ n. with_front front (filters_at n lexemes)) k ∙ ap (with_front front) h
+
+-- a filter by pattern is one of all
+pub some_pattern : (filters : List LineFilter) (i : ℕ) (f : LineFilter) → i < length filters → f ≡ get_or filters i f → is_line_pattern f.op ≡ true → filters_have_pattern (map filter_form filters) ≡ true
+some_pattern [] i f within is pattern = absurd (omega arith)
+some_pattern (x ∷ filters) zero f within is pattern = ap (λ (g : LineFilter). is_line_pattern g.op || filters_have_pattern (map filter_form filters)) (sym is) ∙ ap (λ b. b || filters_have_pattern (map filter_form filters)) pattern
+some_pattern (x ∷ filters) (suc i) f within is pattern = ap (λ b. is_line_pattern x.op || b) (some_pattern filters i f (omega arith) is pattern) ∙ or_true (is_line_pattern x.op)
+  where
+    or_true : (b : Bool) → (b || true) ≡ true
+    or_true true = refl
+    or_true false = refl
+
+-- a fault behind the line filters
+pub rest_late : (lexemes rest : List Lexeme) (filters : List FilterForm) (fault : QueryFault) → filters_at most_stages lexemes ≡ Ok (filters, rest)
+    → (next rest >>= λ last. sieve_ends (behind_filters filters) last.0.place last.0.token) ≡ Err fault → rest_at (is_bad_regex fault) lexemes ≡ Err fault
+unfolding rest_at
+rest_late lexemes rest filters fault read refused = rw read (late (λ cramped. roomy_filters cramped filters) _ filters (filters_have_pattern filters) fault (refl, refl) (ending (next rest) refused))
+  where
+    made : Unit {0} → Result (List FilterForm) QueryFault
+    made nothing = Ok filters
+
+    ending : (first : Result (Lexeme × List Lexeme) QueryFault) → (first >>= λ last. sieve_ends (behind_filters filters) last.0.place last.0.token) ≡ Err fault → (first >>= λ last. sieve_ends (behind_filters filters) last.0.place last.0.token >>= made) ≡ Err fault
+    ending (Ok lexeme) h = ap (λ r. r >>= made) h
+    ending (Err f) h = cc
+
+-- a fault behind the selector
+pub sieve_late : (lexemes braced rest : List Lexeme) (ms : List MatcherForm) (fault : QueryFault) → expected signs.OpenBrace positions.Elsewhere lexemes ≡ Ok braced → selector_at false braced ≡ Ok (ms, rest) → rest_at (is_bad_regex fault) rest ≡ Err fault → sieve_in (is_bad_regex fault) lexemes ≡ Err fault
+unfolding sieve_in
+sieve_late lexemes braced rest ms fault brace selector refused =
+    rw brace (late (λ cramped. selector_at cramped braced) (λ matchers. rest_at (is_bad_regex fault) matchers.1 >>= made matchers.0) (ms, rest) (has_pattern ms) fault (selector_cramps braced ms rest selector) (rw refused refl))
+  where
+    made : List MatcherForm → List FilterForm → Result SieveForm QueryFault
+    made matchers filters = Ok (record { matchers = matchers; filters = filters })
