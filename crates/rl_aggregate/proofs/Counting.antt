@@ -1,13 +1,14 @@
 -- One run of entries more.
-use Rattle.std.proofs.Common.{◌≡◌, ℕ, ◌+◌, ◌*◌, ◌<◌, ◌≤◌, ◌^◌, Bool, true, false, cond, not, ◌&&◌, ◌||◌, List, [], ◌∷◌, ◌++◌, length, map, get_or, codes, Option, None, Some, Bor, refl, sym, ap, ◌∙◌, append_assoc, append-nil, arith}
+use Rattle.std.proofs.Common.{take, ◌≡◌, ℕ, ◌+◌, ◌*◌, ◌<◌, ◌≤◌, ◌^◌, Bool, true, false, cond, not, ◌&&◌, ◌||◌, List, [], ◌∷◌, ◌++◌, length, map, get_or, codes, Option, None, Some, Bor, refl, sym, ap, ◌∙◌, append_assoc, append-nil, arith}
 use Rattle.std.specs.Option.{unwrap_or, is_some, option_copied}
 use Rattle.std.specs.Ordering.{eq_by_cmp}
 use Rattle.std.specs.List.{list_all, list_any, filter, count_by, sum_by}
 use Rattle.std.specs.FinMap.{get, insert, empty, from_entries, get-empty, get-insert}
 use Rattle.std.specs.FinMap.Entries.{find, is_sorted}
 use Rattle.std.proofs.lemmas.Bool.{and_parts, and_from, not-true}
-use Rattle.std.proofs.lemmas.List.{length-append}
-use Rattle.std.proofs.lemmas.List.Sums.{sum_by-cons, sum_by-le}
+use Rattle.std.proofs.lemmas.List.{length-append, length-take, take_more}
+use Rattle.std.proofs.lemmas.List.Elements.{filter-append}
+use Rattle.std.proofs.lemmas.List.Sums.{sum_by-cons, sum_by-append, sum_by-le}
 use Rattle.std.proofs.Math.Bool.{and-true, or-false, or_self}
 use Rattle.rl_labels.specs.EntryParts.{longest_line}
 use Rattle.rl_labels.specs.Selects.{selects}
@@ -17,9 +18,11 @@ use Rattle.rl_plain.specs.laws.Bools.{true_from}
 use Rattle.rl_labels.specs.LabelText.{label_set_cmp, label_set_eq}
 use Rattle.rl_labels.specs.laws.TextLaws.{label_set_cmp_total, label_set_eq-true, label_set_eq_itself}
 use Rattle.rl_labels.specs.declared.entry.Entry.{Entry}
+use Rattle.rl_pipeline.specs.Filtering.{keeps}
+use Rattle.rl_query.specs.declared.filter.LineFilter.{LineFilter}
 use Rattle.rl_query.specs.declared.query.Term.{Term}
-use Rattle.rl_aggregate.specs.InRange.{Element, element, in_window, is_in_range, in_range}
-use Rattle.rl_aggregate.specs.Runs.{is_like, all_have, run_total}
+use Rattle.rl_aggregate.specs.InRange.{Element, element, in_window, is_selected, is_in_range, in_range}
+use Rattle.rl_aggregate.specs.Runs.{is_like, all_have, kept, run_total}
 use Rattle.rl_aggregate.specs.laws.Totals.{label_set_eq-cmp, same_totals, get-totals_of, get-both_totals, partial-append, errors-within, count-within, bytes-within}
 use Rattle.rl_aggregate.specs.TotalsMap.{TotalsMap, plus, total_at, added}
 use Rattle.rl_aggregate.specs.Partials.{has_error, total_of, totals_of, partial_of, partial, both_totals, merge, counts_for, most_entries, TotalFits}
@@ -68,6 +71,11 @@ merge-nothing found =
     let errors : found.errors + 0 ≡ found.errors = omega arith in
     λ i. record { errors = errors i; totals = both_totals-empty found.totals i }
 
+-- no entry adds nothing
+pub merge-none : (found : Partial) (run : List Entry) → length run ≡ 0 → found ≡ merge found (partial_of (map element run))
+merge-none found [] none = sym (merge-nothing found)
+merge-none found (e ∷ es) none = absurd (omega (arith, none))
+
 -- as many ones, or no number but 0, and the bytes of lines
 ones : (run : List Entry) → sum_by (λ e. 1) run ≡ length run
 ones [] = refl
@@ -77,8 +85,47 @@ zeros : (run : List Entry) → sum_by (λ e. 0) run ≡ 0
 zeros [] = refl
 zeros (e ∷ es) = omega (arith, sum_by-cons (λ e. 0) e es, zeros es)
 
-bytes_of-run : (run : List Entry) → sum_by (λ e. length e.line) run ≤ length run * longest_line
+pub bytes_of-run : (run : List Entry) → sum_by (λ e. length e.line) run ≤ length run * longest_line
 bytes_of-run run = sum_by-le (λ e. length e.line) longest_line run (λ k d inside. (get_or run k d).fits)
+
+-- line filters keep no more than there are, and no other labels
+pub kept-fewer : (filters : List LineFilter) (run : List Entry) → length (kept filters run) ≤ length run
+kept-fewer filters [] = omega arith
+kept-fewer filters (e ∷ es) = elim (keeps filters e.line) as (λ b. length (cond b (e ∷ kept filters es) (kept filters es)) ≤ length (e ∷ es)) [
+  | true ↦ omega (arith, kept-fewer filters es)
+  | false ↦ omega (arith, kept-fewer filters es)
+]
+
+pub kept-have : (filters : List LineFilter) (k : LabelSet) (run : List Entry) → all_have k run ≡ true → all_have k (kept filters run) ≡ true
+kept-have filters k [] have = refl
+kept-have filters k (e ∷ es) have =
+    let parts = and_parts (label_set_eq k e.labels) (all_have k es) have in
+    elim (keeps filters e.line) as (λ b. all_have k (cond b (e ∷ kept filters es) (kept filters es)) ≡ true) [
+      | true ↦ and_from (label_set_eq k e.labels) _ parts.0 (kept-have filters k es parts.1)
+      | false ↦ kept-have filters k es parts.1
+    ]
+
+-- what one entry more adds, if its line is kept
+pub kept-more : (filters : List LineFilter) (run : List Entry) (i : ℕ) (e : Entry) (keep : Bool) → i < length run → e ≡ get_or run i e → keeps filters e.line ≡ keep
+    → run_total (kept filters (take (i + 1) run)) ≡ cond keep (plus (run_total (kept filters (take i run))) (record { count = 1; bytes = length e.line })) (run_total (kept filters (take i run)))
+kept-more filters run i e keep within is kept_is =
+    let so_far = kept filters (take i run) in
+    let split : kept filters (take (i + 1) run) ≡ so_far ++ cond keep (e ∷ []) [] =
+    ap (kept filters) (take_more run i e within ∙ ap (λ x. take i run ++ x ∷ []) (sym is)) ∙ filter-append (λ x. keeps filters x.line) (take i run) (e ∷ []) ∙ ap (λ b. so_far ++ cond b (e ∷ []) []) kept_is in
+    ap run_total split ∙ by_test keep so_far
+  where
+    by_test : (b : Bool) (so_far : List Entry) → run_total (so_far ++ cond b (e ∷ []) []) ≡ cond b (plus (run_total so_far) (record { count = 1; bytes = length e.line })) (run_total so_far)
+    by_test true so_far =
+        let one : sum_by (λ x. length x.line) (so_far ++ e ∷ []) ≡ sum_by (λ x. length x.line) so_far + length e.line = omega (arith, sum_by-append (λ x. length x.line) so_far (e ∷ []), sum_by-cons (λ x. length x.line) e []) in
+        λ i. record { count = length-append so_far (e ∷ []) i; bytes = one i }
+    by_test false so_far = ap run_total (append-nil so_far)
+
+-- what is kept of a run so far has room
+pub kept-fits : (filters : List LineFilter) (run : List Entry) (i : ℕ) → length run ≤ most_entries → i < length run → ((run_total (kept filters (take i run))).count + 1 < 2 ^ 64) × ((run_total (kept filters (take i run))).bytes + longest_line < 2 ^ 64)
+kept-fits filters run i few within =
+    let front : length (take i run) ≤ i = omega (arith, length-take i run) in
+    let less = kept-fewer filters (take i run) in
+    (omega (arith, few, within, front, less), omega (arith, few, within, front, less, bytes_of-run (kept filters (take i run))))
 
 -- entries with one label set
 module _ (k : LabelSet) where
@@ -157,29 +204,34 @@ module _ (term : Term) (t : ℕ) (first : Entry) where
   like_itself = elim (in_window term.range.seconds t first.timestamp) as (λ b. cond b (b && label_set_eq first.labels first.labels) (not b) ≡ true) [ true ↦ label_set_eq_itself first.labels | false ↦ refl ]
 
   -- what counts as the first does is in the range as it is
-  same_range : (e : Entry) → is_like term t first e ≡ true → is_in_range term t e ≡ is_in_range term t first
+  same_range : (e : Entry) → is_like term t first e ≡ true → is_selected term t e ≡ is_selected term t first
   same_range e like =
       let inside = in_window term.range.seconds t e.timestamp in
-      elim (in_window term.range.seconds t first.timestamp) as (λ b. cond b (inside && label_set_eq first.labels e.labels) (not inside) ≡ true → is_in_range term t e ≡ (b && selects term.range.selector.matchers first.labels)) [
+      elim (in_window term.range.seconds t first.timestamp) as (λ b. cond b (inside && label_set_eq first.labels e.labels) (not inside) ≡ true → is_selected term t e ≡ (b && selects term.range.selector.matchers first.labels)) [
         | true ↦ λ both.
             let parts = and_parts inside (label_set_eq first.labels e.labels) both in
             λ i. parts.0 i && selects term.range.selector.matchers (sym (label_set_eq-true first.labels e.labels parts.1) i)
         | false ↦ λ out. ap (λ b. b && selects term.range.selector.matchers e.labels) (not-true inside out)
       ] like
 
-  -- so a run is in the range or not as it is
-  in_range-run : (es : List Entry) → list_all (is_like term t first) es ≡ true → in_range es term t ≡ cond (is_in_range term t first) (map element es) []
-  in_range-run [] like = elim (is_in_range term t first) as (λ b. ◌≡◌ {A = List Element} [] (cond b [] [])) [ true ↦ refl | false ↦ refl ]
+  -- so of a run the lines that are kept are in the range, or none is
+  in_range-run : (es : List Entry) → list_all (is_like term t first) es ≡ true → in_range es term t ≡ cond (is_selected term t first) (map element (kept term.range.filters es)) []
+  in_range-run [] like = elim (is_selected term t first) as (λ b. ◌≡◌ {A = List Element} [] (cond b [] [])) [ true ↦ refl | false ↦ refl ]
   in_range-run (e ∷ es) like =
       let parts = and_parts (is_like term t first e) (list_all (is_like term t first) es) like in
-      ap (λ b. map element (cond b (e ∷ filter (is_in_range term t) es) (filter (is_in_range term t) es))) (same_range e parts.0)
-      ∙ elim (is_in_range term t first) as (λ b. in_range es term t ≡ cond b (map element es) [] → map element (cond b (e ∷ filter (is_in_range term t) es) (filter (is_in_range term t) es)) ≡ cond b (element e ∷ map element es) []) [
-        | true ↦ λ rest. ap (λ xs. element e ∷ xs) rest
-        | false ↦ λ rest. rest
+      let keep = keeps term.range.filters e.line in
+      let rest = filter (is_in_range term t) es in
+      ap (λ b. map element (cond (b && keep) (e ∷ rest) rest)) (same_range e parts.0)
+      ∙ elim (is_selected term t first) as (λ b. in_range es term t ≡ cond b (map element (kept term.range.filters es)) [] → map element (cond (b && keep) (e ∷ rest) rest) ≡ cond b (map element (cond keep (e ∷ kept term.range.filters es) (kept term.range.filters es))) []) [
+        | true ↦ λ is. elim keep as (λ k. map element (cond k (e ∷ rest) rest) ≡ map element (cond k (e ∷ kept term.range.filters es) (kept term.range.filters es))) [
+          | true ↦ ap (λ xs. element e ∷ xs) is
+          | false ↦ is
+        ]
+        | false ↦ λ is. is
       ] (in_range-run es parts.1)
 
   -- and has its labels, where it is in the range
-  pub have-run : (es : List Entry) → list_all (is_like term t first) es ≡ true → is_in_range term t first ≡ true → all_have first.labels es ≡ true
+  pub have-run : (es : List Entry) → list_all (is_like term t first) es ≡ true → is_selected term t first ≡ true → all_have first.labels es ≡ true
   have-run [] like is = refl
   have-run (e ∷ es) like is =
       let parts = and_parts (is_like term t first e) (list_all (is_like term t first) es) like in
@@ -200,24 +252,28 @@ all_before (e ∷ es) before end = absurd (omega (arith, end))
 
 -- a run more, and there is room for it
 module _ {entries rest : List Entry} (run others : List Entry) {term : Term} {t : ℕ} {found : Partial} (few : length entries ≤ most_entries) (before : IsBefore entries rest term t found) (cut : rest ≡ run ++ others) where
-  pub run_before : (first : Entry) {more : Partial} (wanted : Bool) → list_all (is_like term t first) run ≡ true → is_in_range term t first ≡ wanted → more ≡ merge found (partial_of (cond wanted (map element run) [])) → IsBefore entries others term t more
+  pub run_before : (first : Entry) {more : Partial} (wanted : Bool) → list_all (is_like term t first) run ≡ true → is_selected term t first ≡ wanted → more ≡ merge found (partial_of (cond wanted (map element (kept term.range.filters run)) [])) → IsBefore entries others term t more
   run_before first wanted like range is = record {
     done = before.done ++ run;
     all = append_assoc before.done run others ∙ ap (λ xs. before.done ++ xs) (sym cut) ∙ before.all;
     found_is =
-        is ∙ (λ i. merge (before.found_is i) (partial_of (cond (sym range i) (map element run) [])))
+        is ∙ (λ i. merge (before.found_is i) (partial_of (cond (sym range i) (map element (kept term.range.filters run)) [])))
         ∙ ap (λ es. merge (partial before.done term t) (partial_of es)) (sym (in_range-run term t first run like)) ∙ sym (partial-append before.done run term t);
   }
 
   short : length before.done + length run ≤ length entries
   short = omega (arith, ap (λ xs. length xs) before.all, ap (λ xs. length xs) cut, length-append before.done rest, length-append run others)
 
+  pub run-few : length run ≤ most_entries
+  run-few = omega (arith, few, short)
+
   pub errors-fit : found.errors + length run < 2 ^ 64
   errors-fit = omega (arith, few, short, ap (λ f. f.errors) before.found_is, errors-within before.done term t)
 
-  pub total-fits : (labels : LabelSet) → TotalFits (plus (total_at found.totals labels) (run_total run))
-  total-fits labels =
-      let was = ap (λ f. total_at f.totals labels) before.found_is in (
-        omega (arith, few, short, ap (λ total. total.count) was, count-within before.done term t labels),
-        omega (arith, few, short, ap (λ total. total.bytes) was, bytes-within before.done term t labels, bytes_of-run run),
+  pub total-fits : (filters : List LineFilter) (labels : LabelSet) → TotalFits (plus (total_at found.totals labels) (run_total (kept filters run)))
+  total-fits filters labels =
+      let was = ap (λ f. total_at f.totals labels) before.found_is in
+      let less = kept-fewer filters run in (
+        omega (arith, few, short, less, ap (λ total. total.count) was, count-within before.done term t labels),
+        omega (arith, few, short, less, ap (λ total. total.bytes) was, bytes-within before.done term t labels, bytes_of-run (kept filters run)),
       )

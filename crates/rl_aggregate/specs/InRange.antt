@@ -4,6 +4,7 @@ use Rattle.std.specs.List.{filter}
 use Rattle.rl_labels.specs.LabelSet.{LabelSet}
 use Rattle.rl_labels.specs.Selects.{selects}
 use Rattle.rl_labels.specs.declared.entry.Entry.{Entry}
+use Rattle.rl_pipeline.specs.Filtering.{keeps}
 use Rattle.rl_query.specs.declared.query.Term.{Term}
 
 -- a second, in nanoseconds
@@ -22,9 +23,13 @@ pub record Element : Type 0 where
 abbrev pub element : Entry → Element
 element entry = record { labels = entry.labels; bytes = length entry.line }
 
--- the window has the entry, and the selector selects it
+-- the window has the entry, and the selector selects its stream
+abbrev pub is_selected : Term → ℕ → Entry → Bool
+is_selected term t entry = in_window term.range.seconds t entry.timestamp && selects term.range.selector.matchers entry.labels
+
+-- and each line filter lets its line pass
 abbrev pub is_in_range : Term → ℕ → Entry → Bool
-is_in_range term t entry = in_window term.range.seconds t entry.timestamp && selects term.range.selector.matchers entry.labels
+is_in_range term t entry = is_selected term t entry && keeps term.range.filters entry.line
 
 abbrev pub in_range : List Entry → Term → ℕ → List Element
 in_range entries term t = map element (filter (is_in_range term t) entries)

@@ -1,9 +1,11 @@
 -- Runs of entries that count alike: what they add up to at once.
 use Rattle.std.specs.Prelude.{ℕ, Bool, not, ◌&&◌, List, length, if◌then◌else◌}
-use Rattle.std.specs.List.{list_all, sum_by}
+use Rattle.std.specs.List.{filter, list_all, sum_by}
 use Rattle.rl_labels.specs.LabelSet.{LabelSet}
 use Rattle.rl_labels.specs.LabelText.{label_set_eq}
 use Rattle.rl_labels.specs.declared.entry.Entry.{Entry}
+use Rattle.rl_pipeline.specs.Filtering.{keeps}
+use Rattle.rl_query.specs.declared.filter.LineFilter.{LineFilter}
 use Rattle.rl_query.specs.declared.query.Term.{Term}
 use Rattle.rl_aggregate.specs.InRange.{in_window}
 use Rattle.rl_aggregate.specs.declared.total.Total.{Total}
@@ -17,6 +19,10 @@ is_like term t first entry =
 -- each entry has these labels
 abbrev pub all_have : LabelSet → List Entry → Bool
 all_have labels entries = list_all (λ entry. label_set_eq labels entry.labels) entries
+
+-- the entries whose lines each line filter lets pass
+abbrev pub kept : List LineFilter → List Entry → List Entry
+kept filters entries = filter (λ entry. keeps filters entry.line) entries
 
 -- how many entries there are, and the bytes of their lines
 abbrev pub run_total : List Entry → Total

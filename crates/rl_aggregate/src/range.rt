@@ -4,8 +4,8 @@ ghost use Rattle.std.specs.List.{list_all};
 ghost use Rattle.std.specs.List.Sorted.{IsPermutation};
 ghost use Rattle.rl_labels.specs.declared.entry.Entry.{Entry};
 ghost use Rattle.rl_query.specs.Limits.{longest_range};
-ghost use Rattle.rl_aggregate.specs.InRange.{in_window, is_in_range, element};
-ghost use Rattle.rl_aggregate.specs.Runs.{is_like, all_have, run_total};
+ghost use Rattle.rl_aggregate.specs.InRange.{in_window, is_selected, element};
+ghost use Rattle.rl_aggregate.specs.Runs.{is_like, all_have, kept, run_total};
 ghost use Rattle.rl_aggregate.specs.TotalsMap.{plus, total_at};
 ghost use Rattle.rl_aggregate.specs.Partials.{has_error, partial, partial_of, merge, most_entries, TotalFits};
 
@@ -13,6 +13,7 @@ use crate::partial::Partial;
 use crate::total::Total;
 use rl_labels::labels::ERROR_LABEL;
 use rl_labels::{Entry, Labels, Ns, SelectorCode};
+use rl_pipeline::{Pipeline, Running};
 use rl_query::Term;
 use std::alloc::{AllocError, Global};
 
@@ -20,19 +21,21 @@ use std::alloc::{AllocError, Global};
 const SECOND: u64 = 1_000_000_000;
 
 /// What the entries in the term's range at the moment add up to. The selector is asked once for a run of entries with one
-/// label set in the window.
+/// label set in the window, and the line filters for each line of a run that it selects.
 pub fn scratch(alloc: Global, entries: &[Entry], term: &Term, t: Ns) -> Result<Partial, AllocError>
     requires { length entries.now ≤ most_entries }
     ensures partial { IfOk result (λ found. found ≡ partial entries.now term.now t) }
     ensures any_order { (others : List Entry) → IsPermutation entries.now others → IfOk result (λ found. found ≡ partial others term.now t) }
 {
     let selector = selector_of(alloc, term)?;
+    let pipeline = pipeline_of(alloc, term)?;
+    let mut running = pipeline.running()?;
     let mut found = Partial::empty(alloc);
     let mut rest = entries;
     while let [first, ..] = rest {
         let (run, others) = cut_run(term, t, first, rest);
-        if is_in_range(&selector, term, t, first)? {
-            count(&mut found, &first.labels, run)?;
+        if is_selected(&selector, term, t, first)? {
+            count(&mut found, &first.labels, run, &mut running)?;
         }
         rest = others;
     }
@@ -44,6 +47,13 @@ fn selector_of(alloc: Global, term: &Term) -> Result<SelectorCode, AllocError>
     ensures { IfOk result (λ selector. selector ≡ term.now.range.selector.matchers) }
 {
     SelectorCode::build(alloc, term.range.selector.matchers.as_slice()).or(Err(AllocError))
+}
+
+// The built line filters of a term. Their patterns were built when it was read, so a refusal is one for memory.
+fn pipeline_of(alloc: Global, term: &Term) -> Result<Pipeline, AllocError>
+    ensures { IfOk result (λ pipeline. pipeline ≡ term.now.range.filters) }
+{
+    Pipeline::build(alloc, term.range.filters.as_slice()).or(Err(AllocError))
 }
 
 // The entries that count as the first of them does, before one that does not; and those from that one on.
@@ -79,15 +89,15 @@ fn is_like(term: &Term, t: Ns, first: &Entry, entry: &Entry) -> bool
     }
 }
 
-// Whether the term's range has the entry at the moment. The selector is the term's, built.
-fn is_in_range(
+// Whether the window has the entry and the selector, which is the term's, built, selects it.
+fn is_selected(
     selector: &SelectorCode,
     term: &Term,
     t: Ns,
     entry: &Entry,
 ) -> Result<bool, AllocError>
     requires { selector.now ≡ term.now.range.selector.matchers }
-    ensures { IfOk result (λ answer. answer ≡ is_in_range term.now t entry.now) }
+    ensures { IfOk result (λ answer. answer ≡ is_selected term.now t entry.now) }
 {
     if !in_window(term.range.seconds, t, entry.timestamp) {
         return Ok(false);
@@ -103,34 +113,45 @@ fn in_window(seconds: u64, t: Ns, timestamp: Ns) -> bool
     timestamp <= t && t.get() < timestamp.get() + seconds * SECOND
 }
 
-// Counts a run of entries with these labels.
-fn count(found: &mut Partial, labels: &Labels, run: &[Entry]) -> Result<(), AllocError>
+// Counts those of a run of entries with these labels whose lines the filters let pass.
+fn count(
+    found: &mut Partial,
+    labels: &Labels,
+    run: &[Entry],
+    running: &mut Running<'_>,
+) -> Result<(), AllocError>
+    requires few { length run.now ≤ most_entries }
     requires errors { found.old.errors + length run.now < 2 ^ 64 }
-    requires fits { TotalFits (plus (total_at found.old.totals labels.now) (run_total run.now)) }
+    requires fits { TotalFits (plus (total_at found.old.totals labels.now) (run_total (kept running.old run.now))) }
     requires labels { IsTrue (all_have labels.now run.now) }
-    requires some { 0 < length run.now }
-    ensures { OnOk result (found.new ≡ merge found.old (partial_of (map element run.now))) }
+    ensures counted { OnOk result (found.new ≡ merge found.old (partial_of (map element (kept running.old run.now)))) }
+    ensures same { running.new ≡ running.old }
 {
-    if has_error(labels) {
-        found.errors += run.len() as u64;
+    let total = total_of(running, run);
+    if total.count == 0 {
         return Ok(());
     }
-    found.totals.add(labels, total_of(run))
+    if has_error(labels) {
+        found.errors += total.count;
+        return Ok(());
+    }
+    found.totals.add(labels, total)
 }
 
-// How many entries there are, and the bytes of their lines.
-fn total_of(run: &[Entry]) -> Total
-    requires { (run_total run.now).bytes < 2 ^ 64 }
-    ensures { result ≡ run_total run.now }
+// How many entries have lines that the filters let pass, and the bytes of these lines.
+fn total_of(running: &mut Running<'_>, run: &[Entry]) -> Total
+    requires { length run.now ≤ most_entries }
+    ensures total { result ≡ run_total (kept running.old run.now) }
+    ensures same { running.new ≡ running.old }
 {
-    let mut bytes = 0;
+    let mut total = Total { count: 0, bytes: 0 };
     for entry in run {
-        bytes += entry.line.len() as u64;
+        if running.keeps(entry.line.as_str()) {
+            total.count += 1;
+            total.bytes += entry.line.len() as u64;
+        }
     }
-    Total {
-        count: run.len() as u64,
-        bytes,
-    }
+    total
 }
 
 // Whether a pipeline could not make sense of the line.

@@ -13,9 +13,9 @@ use Rattle.rl_query.specs.Lexing.{lexemes_of}
 use Rattle.rl_query.specs.Parsing.{query_of}
 use Rattle.rl_query.specs.Printing.{term_text, query_text}
 use Rattle.rl_query.proofs.Cramped.{query_cramps}
-use Rattle.rl_query.proofs.Printed.{query_printed}
+use Rattle.rl_query.proofs.PrintedQuery.{query_printed}
 use Rattle.rl_query.proofs.SameQuery.{same_query, same_term, keeps_limits}
-use Rattle.rl_query.specs.laws.Productions.{query_derived, derived_is_read}
+use Rattle.rl_query.proofs.RangeProductions.{query_derived, derived_is_read}
 
 -- a query that was read is derived
 pub derived : (r : Result Query (OrMemory QueryFault)) (text : List ℕ) → Reads query_form r (λ cramped. query_of cramped text) → IfOk r (λ q. Derives text (query_form q))

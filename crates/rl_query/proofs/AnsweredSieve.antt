@@ -1,8 +1,6 @@
 -- What `parse_delete` and `print_sieve` answer of derived and of printed texts.
-use Rattle.std.proofs.Common.{◌≡◌, ℕ, suc, ◌≤◌, arith, Bool, true, false, cond, List, [], ◌∷◌, map, length, Result, Ok, Err, refl, sym, ap, ◌∙◌, MatchResult, IfOk, IsTrue}
-use Rattle.std.specs.List.{list_all}
+use Rattle.std.proofs.Common.{◌≡◌, ℕ, ◌≤◌, arith, Bool, true, false, cond, List, length, Result, Ok, Err, refl, sym, ap, ◌∙◌, MatchResult, IfOk}
 use Rattle.std.proofs.Props.{props}
-use Rattle.std.proofs.lemmas.Bool.{and_from}
 use Rattle.std.proofs.lemmas.List.{length-map}
 use mathlib.Core.HLevel.{Σ_prop_path}
 use Rattle.rl_plain.specs.declared.refusal.OrMemory.{OrMemory}
@@ -12,32 +10,17 @@ use Rattle.rl_query.specs.declared.fault.QueryFault.TheVariants as faults
 use Rattle.rl_query.specs.declared.filter.LineFilter.{LineFilter}
 use Rattle.rl_query.specs.declared.filter.Sieve.{Sieve}
 use Rattle.rl_query.specs.Answering.{is_bad_regex, Reads, IsForRoom}
-use Rattle.rl_query.specs.Form.{FilterForm, SieveForm, filter_form, sieve_form, sieve_has_pattern}
+use Rattle.rl_query.specs.Form.{SieveForm, filter_form, sieve_form, sieve_has_pattern}
 use Rattle.rl_query.specs.Grammar.{DerivesSieve}
 use Rattle.rl_query.specs.Lexing.{lexemes_of}
-use Rattle.rl_query.specs.Limits.{is_filter, most_stages}
+use Rattle.rl_query.specs.Limits.{most_stages}
 use Rattle.rl_query.specs.Printing.{sieve_text}
 use Rattle.rl_query.specs.Sieving.{sieve_of}
 use Rattle.rl_query.proofs.Elements.{real_forms}
 use Rattle.rl_query.proofs.PrintedSieve.{KeepsSieve, sieve_printed}
-use Rattle.rl_query.proofs.SameQuery.{same_matchers, same_selector, all_proper}
-use Rattle.rl_query.proofs.Sieves.{sieve_derived, sieve_is_read, sieve_cramped}
-
-same_filter : (a b : LineFilter) → filter_form a ≡ filter_form b → a ≡ b
-same_filter a b e =
-    let whole : ◌≡◌ {A = (f : FilterForm) × IsTrue (is_filter f.op f.text)} (filter_form a, a.comparable) (filter_form b, b.comparable) = Σ_prop_path (λ f. hlevel props) e in
-    λ i. record { op = (whole i).0.op; text = (whole i).0.text; comparable = (whole i).1 }
-
-same_filters : (xs ys : List LineFilter) → map filter_form xs ≡ map filter_form ys → xs ≡ ys
-same_filters [] [] e = refl
-same_filters [] (y ∷ ys) e = cc
-same_filters (x ∷ xs) [] e = cc
-same_filters (x ∷ xs) (y ∷ ys) e =
-    let heads : filter_form x ≡ filter_form y = cc in
-    let tails : map filter_form xs ≡ map filter_form ys = cc in
-    let first = same_filter x y heads in
-    let rest = same_filters xs ys tails in
-    λ i. first i ∷ rest i
+use Rattle.rl_query.proofs.SameQuery.{same_matchers, same_selector, same_filters, all_proper, filters_proper}
+use Rattle.rl_query.proofs.Sieves.{sieve_derived, sieve_is_read}
+use Rattle.rl_query.proofs.Cramped.{sieve_cramps}
 
 -- sieves with one form are one
 same_sieve : (a b : Sieve) → sieve_form a ≡ sieve_form b → a ≡ b
@@ -46,10 +29,6 @@ same_sieve a b e =
     let filters = same_filters a.filters b.filters (ap (λ f. f.filters) e) in
     let whole : ◌≡◌ {A = (fs : List LineFilter) × (length fs ≤ most_stages)} (a.filters, a.few) (b.filters, b.few) = Σ_prop_path (λ fs. hlevel props) filters in
     λ i. record { selector = selectors i; filters = (whole i).0; few = (whole i).1 }
-
-filters_proper : (fs : List LineFilter) → list_all (λ f. is_filter f.op f.text) (map filter_form fs) ≡ true
-filters_proper [] = refl
-filters_proper (f ∷ fs) = and_from (is_filter f.op f.text) _ f.comparable (filters_proper fs)
 
 -- a sieve keeps its limits
 keeps_limits : (s : Sieve) → KeepsSieve (sieve_form s)
@@ -67,7 +46,7 @@ derived (Err e) text read = tt
 
 -- a fault in place of a sieve that is read
 in_place : (text : List ℕ) (s : SieveForm) (fault : QueryFault) → sieve_of false text ≡ Ok s → sieve_of (is_bad_regex fault) text ≡ Err fault → IsForRoom (sieve_has_pattern s) (errors.Fault fault)
-in_place text s faults.BadRegex read refused = by_pattern (sieve_has_pattern s) (sym (sieve_cramped (lexemes_of text) s read) ∙ refused)
+in_place text s faults.BadRegex read refused = by_pattern (sieve_has_pattern s) (sym (sieve_cramps (lexemes_of text) s read) ∙ refused)
   where
     by_pattern : (patterned : Bool) → cond patterned (Err faults.BadRegex) (Ok s) ≡ Err faults.BadRegex → patterned ≡ true
     by_pattern true h = refl

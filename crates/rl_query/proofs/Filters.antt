@@ -1,20 +1,15 @@
 -- Reading line filters one after the other, as a loop does.
 use Rattle.std.proofs.Common.{◌≡◌, ℕ, zero, suc, ◌-◌, ◌+◌, ◌≤◌, ◌<◌, List, [], ◌∷◌, ◌++◌, Some, None, Result, Ok, Err, refl, sym, ap, ◌∙◌, arith, append-nil, Bool, true, false, ◌||◌, map, length, get_or}
-use Rattle.rl_plain.specs.Answers.{◌>>=◌, Fails}
+use Rattle.rl_plain.specs.Answers.{Fails}
 use Rattle.rl_plain.specs.declared.refusal.OrMemory.{OrMemory}
 use Rattle.rl_plain.specs.declared.refusal.OrMemory.TheVariants as errors
 use Rattle.rl_query.specs.declared.fault.QueryFault.{QueryFault}
 use Rattle.rl_query.specs.declared.filter.LineOp.{LineOp}
 use Rattle.rl_query.specs.declared.token.Lexeme.{Lexeme}
 use Rattle.rl_query.specs.declared.filter.LineFilter.{LineFilter}
-use Rattle.rl_query.specs.declared.parser.Position.TheVariants as positions
-use Rattle.rl_query.specs.declared.token.Sign.TheVariants as signs
-use Rattle.rl_query.specs.Answering.{is_bad_regex}
-use Rattle.rl_query.specs.Form.{MatcherForm, FilterForm, SieveForm, filter_form, has_pattern, filters_have_pattern}
-use Rattle.rl_query.specs.Limits.{is_line_pattern, most_stages}
-use Rattle.rl_query.specs.Parsing.{next, expected, selector_at}
-use Rattle.rl_query.specs.Sieving.{filter_op, filter_at, filters_at, roomy_filters, behind_filters, sieve_ends, rest_at, sieve_in}
-use Rattle.rl_query.proofs.Cramped.{late, selector_cramps}
+use Rattle.rl_query.specs.Form.{FilterForm, filter_form, filters_have_pattern}
+use Rattle.rl_query.specs.Limits.{is_line_pattern}
+use Rattle.rl_query.specs.Parsing.{next, filter_op, filter_at, filters_at}
 use Rattle.rl_query.proofs.Elements.{with_front, regroup}
 
 -- what is read so far, and is read of the tokens that are left, is the whole
@@ -71,25 +66,3 @@ some_pattern (x ∷ filters) (suc i) f within is pattern = ap (λ b. is_line_pat
     or_true : (b : Bool) → (b || true) ≡ true
     or_true true = refl
     or_true false = refl
-
--- a fault behind the line filters
-pub rest_late : (lexemes rest : List Lexeme) (filters : List FilterForm) (fault : QueryFault) → filters_at most_stages lexemes ≡ Ok (filters, rest)
-    → (next rest >>= λ last. sieve_ends (behind_filters filters) last.0.place last.0.token) ≡ Err fault → rest_at (is_bad_regex fault) lexemes ≡ Err fault
-unfolding rest_at
-rest_late lexemes rest filters fault read refused = rw read (late (λ cramped. roomy_filters cramped filters) _ filters (filters_have_pattern filters) fault (refl, refl) (ending (next rest) refused))
-  where
-    made : Unit {0} → Result (List FilterForm) QueryFault
-    made nothing = Ok filters
-
-    ending : (first : Result (Lexeme × List Lexeme) QueryFault) → (first >>= λ last. sieve_ends (behind_filters filters) last.0.place last.0.token) ≡ Err fault → (first >>= λ last. sieve_ends (behind_filters filters) last.0.place last.0.token >>= made) ≡ Err fault
-    ending (Ok lexeme) h = ap (λ r. r >>= made) h
-    ending (Err f) h = cc
-
--- a fault behind the selector
-pub sieve_late : (lexemes braced rest : List Lexeme) (ms : List MatcherForm) (fault : QueryFault) → expected signs.OpenBrace positions.Elsewhere lexemes ≡ Ok braced → selector_at false braced ≡ Ok (ms, rest) → rest_at (is_bad_regex fault) rest ≡ Err fault → sieve_in (is_bad_regex fault) lexemes ≡ Err fault
-unfolding sieve_in
-sieve_late lexemes braced rest ms fault brace selector refused =
-    rw brace (late (λ cramped. selector_at cramped braced) (λ matchers. rest_at (is_bad_regex fault) matchers.1 >>= made matchers.0) (ms, rest) (has_pattern ms) fault (selector_cramps braced ms rest selector) (rw refused refl))
-  where
-    made : List MatcherForm → List FilterForm → Result SieveForm QueryFault
-    made matchers filters = Ok (record { matchers = matchers; filters = filters })

@@ -13,21 +13,20 @@ use Rattle.std.proofs.Math.Utf8.{encode}
 use Rattle.rl_labels.specs.Name.{is_name, is_name_start, is_name_byte}
 use Rattle.rl_labels.specs.declared.matcher.MatchOp.{MatchOp}
 use Rattle.rl_labels.specs.declared.matcher.MatchOp.TheVariants as operators
-use Rattle.rl_query.specs.declared.query.RangeFunction.{RangeFunction}
-use Rattle.rl_query.specs.declared.query.RangeFunction.TheVariants as functions
+use Rattle.rl_query.specs.declared.filter.LineOp.{LineOp}
+use Rattle.rl_query.specs.declared.filter.LineOp.TheVariants as lines
 use Rattle.rl_query.specs.declared.token.Sign.{Sign}
 use Rattle.rl_query.specs.declared.token.Sign.TheVariants as signs
 use Rattle.rl_query.specs.declared.token.Token.{Token}
 use Rattle.rl_query.specs.declared.token.Token.TheVariants as tokens
 use Rattle.rl_query.specs.Durations.{duration_from, duration_of}
-use Rattle.rl_query.specs.Form.{MatcherForm, QueryForm, has_real_form}
-use Rattle.rl_query.specs.Grammar.{Stand, operator_sign, is_matcher, matcher_tokens, matchers_tokens, IsRange, Derives}
+use Rattle.rl_query.specs.Form.{MatcherForm, FilterForm}
+use Rattle.rl_query.specs.Grammar.{Stand, operator_sign, is_matcher, matcher_tokens, matchers_tokens, filter_sign, filter_tokens, filters_tokens}
 use Rattle.rl_query.specs.Lexing.{is_space, is_number_byte, gap_len, run_at, onto, quoted, or_bad, or_else, sign_at, token_at, lexemes_in}
-use Rattle.rl_query.specs.Limits.{longest_range}
-use Rattle.rl_query.specs.Printing.{operator_text, matcher_text, function_text, query_text}
+use Rattle.rl_query.specs.Printing.{operator_text, matcher_text, filter_op_text, filter_print, filters_text}
 use Rattle.rl_plain.specs.Escapes.{escaped}
 use Rattle.rl_query.specs.Tables.{one_byte, two_bytes, escapes}
-use Rattle.rl_query.specs.laws.Productions.{stand_then}
+use Rattle.rl_query.proofs.Productions.{stand_then}
 
 -- the tokens that a text begins with, and what is left of it
 pub record Lexes (front : List Token) (text rest : List ℕ) : Type 0 where
@@ -96,7 +95,7 @@ digit_goes_on : (b : ℕ) → is_ascii_digit b ≡ true → is_number_byte b ≡
 digit_goes_on b h = grind (arith, nat_tests)
 
 -- a word, and what does not go on with it
-word_lexes : (word rest : List ℕ) → is_name word ≡ true → prefix_len is_name_byte rest ≡ 0 → Lexes (tokens.Word word ∷ []) (word ++ rest) rest
+pub word_lexes : (word rest : List ℕ) → is_name word ≡ true → prefix_len is_name_byte rest ≡ 0 → Lexes (tokens.Word word ∷ []) (word ++ rest) rest
 unfolding token_at
 word_lexes [] rest h stop = absurd (true≢false (sym h))
 word_lexes (b ∷ word) rest h stop =
@@ -138,7 +137,7 @@ unfolding token_at
 text_lexes value rest = token_lexes (tokens.Text value) 34 (escaped escapes value ++ 34 ∷ rest) rest refl (ap (or_bad tokens.Text) (quoted_again value rest)) (omega (arith, length-append (escaped escapes value) (34 ∷ rest)))
 
 -- a sign of one byte that begins no longer sign
-lone_sign : (b : ℕ) (rest : List ℕ) (sign : Sign) → gap_len false (b ∷ rest) ≡ 0 → token_at (b ∷ rest) ≡ or_bad tokens.Sign (sign_at (b ∷ rest)) → one_byte b ≡ Some sign → ((second : ℕ) → two_bytes b second ≡ None) → Lexes (tokens.Sign sign ∷ []) (b ∷ rest) rest
+pub lone_sign : (b : ℕ) (rest : List ℕ) (sign : Sign) → gap_len false (b ∷ rest) ≡ 0 → token_at (b ∷ rest) ≡ or_bad tokens.Sign (sign_at (b ∷ rest)) → one_byte b ≡ Some sign → ((second : ℕ) → two_bytes b second ≡ None) → Lexes (tokens.Sign sign ∷ []) (b ∷ rest) rest
 lone_sign b rest sign no_gap is one two = token_lexes (tokens.Sign sign) b rest rest no_gap (is ∙ ap (or_bad tokens.Sign) (by_rest rest)) (omega arith)
   where
     by_rest : (rest : List ℕ) → sign_at (b ∷ rest) ≡ Some (sign, rest)
@@ -249,14 +248,8 @@ seconds_lexes n rest small =
     weaker [] h = refl
     weaker (x ∷ xs) h = let parts = and_parts (is_ascii_digit x) (list_all is_ascii_digit xs) h in and_from (is_number_byte x) _ (digit_goes_on x parts.0) (weaker xs parts.1)
 
-seconds_read : (n : ℕ) → n < 2 ^ 64 → duration_of (decimal n ++ 115 ∷ []) ≡ Some n
+pub seconds_read : (n : ℕ) → n < 2 ^ 64 → duration_of (decimal n ++ 115 ∷ []) ≡ Some n
 seconds_read n small = let same : n * 1 + 0 ≡ n = omega arith in (decimal_reads n small).value (115 ∷ []) ∙ ap (λ k. Some k) same
-
--- what a form keeps of a query's limits
-pub record Keeps (query : QueryForm) : Type 0 where
-  pub proper : are_proper query.left.range.matchers ≡ true
-  pub real : has_real_form query.left.range.matchers ≡ true
-  pub in_range : (1 ≤ query.left.range.seconds) × (query.left.range.seconds ≤ longest_range)
 
 pub selector_lexes : (m : MatcherForm) (ms : List MatcherForm) (rest : List ℕ) → are_proper (m ∷ ms) ≡ true → Lexes (tokens.Sign signs.OpenBrace ∷ matchers_tokens (m ∷ ms)) (123 ∷ (matcher_text m ++ (others_text ms ++ 125 ∷ rest))) rest
 unfolding token_at
@@ -264,7 +257,7 @@ selector_lexes m ms rest proper =
     let matchers = matcher_text m ++ (others_text ms ++ 125 ∷ rest) in
     lexes_then (tokens.Sign signs.OpenBrace ∷ []) (matchers_tokens (m ∷ ms)) (123 ∷ matchers) matchers rest (lone_sign 123 matchers signs.OpenBrace refl refl refl (λ _. refl)) (matchers_lexes m ms rest proper)
 
-duration_lexes : (n : ℕ) (rest : List ℕ) → n < 2 ^ 64 → Lexes (tokens.Sign signs.OpenBracket ∷ tokens.Number (decimal n ++ 115 ∷ []) ∷ tokens.Sign signs.CloseBracket ∷ []) (32 ∷ 91 ∷ (decimal n ++ 115 ∷ 93 ∷ rest)) rest
+pub duration_lexes : (n : ℕ) (rest : List ℕ) → n < 2 ^ 64 → Lexes (tokens.Sign signs.OpenBracket ∷ tokens.Number (decimal n ++ 115 ∷ []) ∷ tokens.Sign signs.CloseBracket ∷ []) (32 ∷ 91 ∷ (decimal n ++ 115 ∷ 93 ∷ rest)) rest
 unfolding token_at
 duration_lexes n rest small =
     let number = decimal n ++ 115 ∷ 93 ∷ rest in
@@ -273,57 +266,32 @@ duration_lexes n rest small =
     (lexes_then (tokens.Sign signs.OpenBracket ∷ []) (token ∷ tokens.Sign signs.CloseBracket ∷ []) (91 ∷ number) number rest (lone_sign 91 number signs.OpenBracket refl refl refl (λ _. refl))
     (lexes_then (token ∷ []) (tokens.Sign signs.CloseBracket ∷ []) number (93 ∷ rest) rest (seconds_lexes n rest small) (lone_sign 93 rest signs.CloseBracket refl refl refl (λ _. refl))))
 
-function_named : (f : RangeFunction) → is_name (function_text f) ≡ true
-function_named functions.CountOverTime = refl
-
 pub end_left : (most total : ℕ) → lexemes_in most total [] ≡ record { token = tokens.End; place = total } ∷ []
 unfolding lexemes_in
 end_left zero total = refl
 end_left (suc most) total = refl
 
--- a printed query is derived
-pub query_printed : (query : QueryForm) → Keeps query → Derives (query_text query) query
-unfolding lexemes_in token_at
-query_printed query keeps = by_matchers query.left.range.matchers keeps.proper keeps.real
+-- a line filter's sign before a space
+sign_lexes : (op : LineOp) (rest : List ℕ) → Lexes (tokens.Sign (filter_sign op) ∷ []) (filter_op_text op ++ 32 ∷ rest) (32 ∷ rest)
+unfolding token_at
+sign_lexes lines.Contains rest = token_lexes (tokens.Sign signs.Contains) 124 (61 ∷ 32 ∷ rest) (32 ∷ rest) refl refl (omega arith)
+sign_lexes lines.Lacks rest = token_lexes (tokens.Sign signs.NotEqual) 33 (61 ∷ 32 ∷ rest) (32 ∷ rest) refl refl (omega arith)
+sign_lexes lines.Matches rest = token_lexes (tokens.Sign signs.ContainsMatch) 124 (126 ∷ 32 ∷ rest) (32 ∷ rest) refl refl (omega arith)
+sign_lexes lines.NotMatches rest = token_lexes (tokens.Sign signs.NotMatches) 33 (126 ∷ 32 ∷ rest) (32 ∷ rest) refl refl (omega arith)
+
+filter_lexes : (filter : FilterForm) (rest : List ℕ) → Lexes (filter_tokens filter) (filter_print filter ++ rest) rest
+filter_lexes filter rest =
+    let text = 34 ∷ (escaped escapes filter.text ++ 34 ∷ rest) in
+    subst (λ t. Lexes (filter_tokens filter) t rest) (sym (regrouped (filter_op_text filter.op) (escaped escapes filter.text)))
+    (lexes_then (tokens.Sign (filter_sign filter.op) ∷ []) (tokens.Text filter.text ∷ []) (filter_op_text filter.op ++ 32 ∷ text) (32 ∷ text) rest (sign_lexes filter.op text) (spaced (tokens.Text filter.text ∷ []) text rest (text_lexes filter.text rest)))
   where
-    n : ℕ
-    n = query.left.range.seconds
+    regrouped : (sign value : List ℕ) → (sign ++ (32 ∷ 34 ∷ []) ++ value ++ (34 ∷ [])) ++ rest ≡ sign ++ (32 ∷ 34 ∷ (value ++ 34 ∷ rest))
+    regrouped sign value = simp append_assoc
 
-    f : RangeFunction
-    f = query.left.function
-
-    regrouped : (name first others digits : List ℕ) → name ++ (40 ∷ []) ++ ((123 ∷ []) ++ (first ++ others) ++ (125 ∷ 32 ∷ 91 ∷ []) ++ digits ++ (115 ∷ 93 ∷ [])) ++ (41 ∷ []) ≡ name ++ (40 ∷ 123 ∷ (first ++ (others ++ 125 ∷ 32 ∷ 91 ∷ (digits ++ 115 ∷ 93 ∷ 41 ∷ []))))
-    regrouped name first others digits = simp append_assoc
-
-    form : List MatcherForm → QueryForm
-    form ms = record { left = record { function = f; range = record { matchers = ms; seconds = n } } }
-
-    by_matchers : (ms : List MatcherForm) → are_proper ms ≡ true → has_real_form ms ≡ true → Derives (query_text (form ms)) (form ms)
-    by_matchers [] proper real = absurd (true≢false (sym real))
-    by_matchers (m ∷ ms) proper real =
-        let small : n < 2 ^ 64 = omega (arith, keeps.in_range.1) in
-        let closing = 41 ∷ [] in
-        let duration = 32 ∷ 91 ∷ (decimal n ++ 115 ∷ 93 ∷ closing) in
-        let selector = 123 ∷ (matcher_text m ++ (others_text ms ++ 125 ∷ duration)) in
-        let text = function_text f ++ (40 ∷ selector) in
-        let total = length text in
-        let name = word_lexes (function_text f) (40 ∷ selector) (function_named f) refl in
-        let opened = lone_sign 40 selector signs.OpenParenthesis refl refl refl (λ _. refl) in
-        let matchers = selector_lexes m ms duration proper in
-        let bracketed = duration_lexes n closing small in
-        let closed = lone_sign 41 [] signs.CloseParenthesis refl refl refl (λ _. refl) in
-        let count = length (tokens.Sign signs.OpenBrace ∷ matchers_tokens (m ∷ ms)) in
-        let left = total - (1 + (1 + (count + (3 + (1 + 0))))) in
-        let fuel : 1 + (1 + (count + (3 + (1 + left)))) ≡ total = omega (arith, name.shorter, opened.shorter, matchers.shorter, bracketed.shorter, closed.shorter) in
-        let range : IsRange (record { matchers = m ∷ ms; seconds = n }) (lexemes_in (1 + (count + (3 + (1 + left)))) total (40 ∷ selector)) (lexemes_in left total []) = record {
-          behind_parenthesis = lexemes_in (count + (3 + (1 + left))) total selector;
-          behind_selector = lexemes_in (3 + (1 + left)) total duration;
-          behind_duration = lexemes_in (1 + left) total closing;
-          opened = opened.stand total (count + (3 + (1 + left)));
-          selector = record { stand = matchers.stand total (3 + (1 + left)); proper = proper; real = real };
-          duration = record { duration = decimal n ++ 115 ∷ []; stand = bracketed.stand total (1 + left); read = seconds_read n small; in_range = keeps.in_range };
-          closed = closed.stand total left;
-        } in
-        let start = subst (λ k. Stand (tokens.Word (function_text f) ∷ []) (lexemes_in k total text) (lexemes_in (1 + (count + (3 + (1 + left)))) total (40 ∷ selector))) fuel (name.stand total (1 + (count + (3 + (1 + left))))) in
-        subst (λ t. Derives t (form (m ∷ ms))) (sym (regrouped (function_text f) (matcher_text m) (others_text ms) (decimal n)))
-        (lexemes_in left total [], [], (lexemes_in (1 + (count + (3 + (1 + left)))) total (40 ∷ selector), start, range), subst (λ ls. Stand (tokens.End ∷ []) ls []) (sym (end_left left total)) (refl, refl))
+pub filters_lexes : (filters : List FilterForm) (rest : List ℕ) → Lexes (filters_tokens filters) (filters_text filters ++ rest) rest
+filters_lexes [] rest = record { stand = λ total most. let none : 0 + most ≡ most = omega arith in ap (λ n. lexemes_in n total rest) none; shorter = omega arith }
+filters_lexes (filter ∷ filters) rest =
+    let behind = filters_text filters ++ rest in
+    let grouped : filters_text (filter ∷ filters) ++ rest ≡ 32 ∷ (filter_print filter ++ behind) = ap (λ t. 32 ∷ t) (append_assoc (filter_print filter) (filters_text filters) rest) in
+    subst (λ t. Lexes (filters_tokens (filter ∷ filters)) t rest) (sym grouped)
+    (lexes_then (filter_tokens filter) (filters_tokens filters) (32 ∷ (filter_print filter ++ behind)) behind rest (spaced (filter_tokens filter) (filter_print filter ++ behind) behind (filter_lexes filter behind)) (filters_lexes filters rest))

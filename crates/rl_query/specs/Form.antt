@@ -18,8 +18,13 @@ pub record MatcherForm : Type 0 where
   pub op : MatchOp
   pub value : List ℕ
 
+pub record FilterForm : Type 0 where
+  pub op : LineOp
+  pub text : List ℕ
+
 pub record RangeForm : Type 0 where
   pub matchers : List MatcherForm
+  pub filters : List FilterForm
   pub seconds : ℕ
 
 pub record TermForm : Type 0 where
@@ -32,8 +37,11 @@ pub record QueryForm : Type 0 where
 abbrev pub matcher_form : Matcher → MatcherForm
 matcher_form matcher = record { name = matcher.name; op = matcher.op; value = matcher.value }
 
+abbrev pub filter_form : LineFilter → FilterForm
+filter_form filter = record { op = filter.op; text = filter.text }
+
 abbrev pub range_form : LogRange → RangeForm
-range_form range = record { matchers = map matcher_form range.selector.matchers; seconds = range.seconds }
+range_form range = record { matchers = map matcher_form range.selector.matchers; filters = map filter_form range.filters; seconds = range.seconds }
 
 abbrev pub term_form : Term → TermForm
 term_form term = record { function = term.function; range = range_form term.range }
@@ -49,26 +57,22 @@ has_real_form matchers = list_any (λ matcher. not (passes matcher.op matcher.va
 abbrev pub has_pattern : List MatcherForm → Bool
 has_pattern matchers = list_any (λ matcher. is_by_pattern matcher.op) matchers
 
-abbrev pub query_has_pattern : QueryForm → Bool
-query_has_pattern query = has_pattern query.left.range.matchers
+-- some line filter has a pattern
+abbrev pub filters_have_pattern : List FilterForm → Bool
+filters_have_pattern filters = list_any (λ filter. is_line_pattern filter.op) filters
 
-pub record FilterForm : Type 0 where
-  pub op : LineOp
-  pub text : List ℕ
+abbrev pub range_has_pattern : RangeForm → Bool
+range_has_pattern range = has_pattern range.matchers || filters_have_pattern range.filters
+
+abbrev pub query_has_pattern : QueryForm → Bool
+query_has_pattern query = range_has_pattern query.left.range
 
 pub record SieveForm : Type 0 where
   pub matchers : List MatcherForm
   pub filters : List FilterForm
 
-abbrev pub filter_form : LineFilter → FilterForm
-filter_form filter = record { op = filter.op; text = filter.text }
-
 abbrev pub sieve_form : Sieve → SieveForm
 sieve_form sieve = record { matchers = map matcher_form sieve.selector.matchers; filters = map filter_form sieve.filters }
-
--- some line filter has a pattern
-abbrev pub filters_have_pattern : List FilterForm → Bool
-filters_have_pattern filters = list_any (λ filter. is_line_pattern filter.op) filters
 
 abbrev pub sieve_has_pattern : SieveForm → Bool
 sieve_has_pattern sieve = has_pattern sieve.matchers || filters_have_pattern sieve.filters

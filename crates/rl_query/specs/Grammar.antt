@@ -1,5 +1,5 @@
 -- The grammar of query texts, over their tokens and apart from how they are read. Each rule relates tokens and those that follow.
-use Rattle.std.specs.Prelude.{◌≡◌, ℕ, ◌≤◌, Bool, true, ◌&&◌, List, [], ◌∷◌, ◌++◌, length, Some}
+use Rattle.std.specs.Prelude.{◌≡◌, ◌⊎◌, ℕ, ◌≤◌, Bool, true, ◌&&◌, List, [], ◌∷◌, ◌++◌, length, Some}
 use Rattle.std.specs.List.{list_all}
 use Rattle.rl_labels.specs.Name.{is_name}
 use Rattle.rl_labels.specs.Operators.{is_comparable}
@@ -57,24 +57,6 @@ pub record IsDuration (seconds : ℕ) (lexemes rest : List Lexeme) : Type 0 wher
   pub read : duration_of duration ≡ Some seconds
   pub in_range : (1 ≤ seconds) × (seconds ≤ longest_range)
 
--- ({matchers}[duration])
-pub record IsRange (range : RangeForm) (lexemes rest : List Lexeme) : Type 0 where
-  pub behind_parenthesis : List Lexeme
-  pub behind_selector : List Lexeme
-  pub behind_duration : List Lexeme
-  pub opened : Stand (tokens.Sign signs.OpenParenthesis ∷ []) lexemes behind_parenthesis
-  pub selector : IsSelector range.matchers behind_parenthesis behind_selector
-  pub duration : IsDuration range.seconds behind_selector behind_duration
-  pub closed : Stand (tokens.Sign signs.CloseParenthesis ∷ []) behind_duration rest
-
--- function range
-abbrev pub IsTerm : TermForm → List Lexeme → List Lexeme → Type 0
-IsTerm term lexemes rest = (behind : List Lexeme) × Stand (tokens.Word (function_text term.function) ∷ []) lexemes behind × IsRange term.range behind rest
-
--- a term, and nothing behind it
-abbrev pub Derives : List ℕ → QueryForm → Type 0
-Derives text query = (behind rest : List Lexeme) × IsTerm query.left (lexemes_of text) behind × Stand (tokens.End ∷ []) behind rest
-
 abbrev pub filter_sign : LineOp → Sign
 filter_sign lines.Contains = signs.Contains
 filter_sign lines.Lacks = signs.NotEqual
@@ -90,11 +72,39 @@ abbrev pub filters_tokens : List FilterForm → List Token
 filters_tokens [] = []
 filters_tokens (filter ∷ filters) = filter_tokens filter ++ filters_tokens filters
 
+-- line filters, at most so many, whose patterns are patterns
+pub record AreFilters (filters : List FilterForm) (lexemes rest : List Lexeme) : Type 0 where
+  pub stand : Stand (filters_tokens filters) lexemes rest
+  pub proper : list_all (λ filter. is_filter filter.op filter.text) filters ≡ true
+  pub few : length filters ≤ most_stages
+
+-- line filters [duration], or [duration] line filters
+abbrev pub IsTimed : List FilterForm → ℕ → List Lexeme → List Lexeme → Type 0
+IsTimed filters seconds lexemes rest = ((behind : List Lexeme) × AreFilters filters lexemes behind × IsDuration seconds behind rest) ⊎ ((behind : List Lexeme) × IsDuration seconds lexemes behind × AreFilters filters behind rest)
+
+-- ({matchers} line filters [duration]), or the line filters behind the duration
+pub record IsRange (range : RangeForm) (lexemes rest : List Lexeme) : Type 0 where
+  pub behind_parenthesis : List Lexeme
+  pub behind_selector : List Lexeme
+  pub behind_duration : List Lexeme
+  pub opened : Stand (tokens.Sign signs.OpenParenthesis ∷ []) lexemes behind_parenthesis
+  pub selector : IsSelector range.matchers behind_parenthesis behind_selector
+  pub timed : IsTimed range.filters range.seconds behind_selector behind_duration
+  pub closed : Stand (tokens.Sign signs.CloseParenthesis ∷ []) behind_duration rest
+
+-- function range
+abbrev pub IsTerm : TermForm → List Lexeme → List Lexeme → Type 0
+IsTerm term lexemes rest = (behind : List Lexeme) × Stand (tokens.Word (function_text term.function) ∷ []) lexemes behind × IsRange term.range behind rest
+
+-- a term, and nothing behind it
+abbrev pub Derives : List ℕ → QueryForm → Type 0
+Derives text query = (behind rest : List Lexeme) × IsTerm query.left (lexemes_of text) behind × Stand (tokens.End ∷ []) behind rest
+
 -- {matchers} line filters, and nothing behind them
 pub record DerivesSieve (text : List ℕ) (sieve : SieveForm) : Type 0 where
   pub behind_selector : List Lexeme
+  pub behind_filters : List Lexeme
   pub rest : List Lexeme
   pub selector : IsSelector sieve.matchers (lexemes_of text) behind_selector
-  pub filters : Stand (filters_tokens sieve.filters ++ tokens.End ∷ []) behind_selector rest
-  pub proper : list_all (λ filter. is_filter filter.op filter.text) sieve.filters ≡ true
-  pub few : length sieve.filters ≤ most_stages
+  pub filters : AreFilters sieve.filters behind_selector behind_filters
+  pub end : Stand (tokens.End ∷ []) behind_filters rest

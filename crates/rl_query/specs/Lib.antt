@@ -8,4 +8,3 @@ pub mod Limits
 pub mod Parsing
 pub mod Printing
 pub mod Sieving
-pub mod laws

@@ -1,5 +1,5 @@
 -- Reading a query from its tokens: what is read and the tokens that follow it, or the first fault from the left.
-use Rattle.std.specs.Prelude.{ℕ, zero, suc, ◌-◌, ◌==◌, nat_le, Bool, true, false, not, ◌&&◌, ◌||◌, List, [], ◌∷◌, length, slice_index, Option, Some, None, Result, Ok, Err, if◌then◌else◌, codes}
+use Rattle.std.specs.Prelude.{ℕ, zero, suc, ◌-◌, ◌==◌, nat_le, Bool, true, false, not, ◌&&◌, ◌||◌, List, [], ◌∷◌, length, slice_index, Option, Some, None, is_some, Result, Ok, Err, if◌then◌else◌, codes}
 use Rattle.std.specs.List.{list_any, list_all}
 use Rattle.std.specs.Option.{option_map_or}
 use Rattle.std.specs.Char.{is_ascii_digit}
@@ -10,6 +10,8 @@ use Rattle.rl_labels.specs.declared.matcher.MatchOp.{MatchOp}
 use Rattle.rl_labels.specs.declared.matcher.MatchOp.TheVariants as operators
 use Rattle.rl_query.specs.declared.fault.QueryFault.{QueryFault}
 use Rattle.rl_query.specs.declared.fault.QueryFault.TheVariants as faults
+use Rattle.rl_query.specs.declared.filter.LineOp.{LineOp}
+use Rattle.rl_query.specs.declared.filter.LineOp.TheVariants as lines
 use Rattle.rl_query.specs.declared.parser.Position.{Position}
 use Rattle.rl_query.specs.declared.parser.Position.TheVariants as positions
 use Rattle.rl_query.specs.declared.query.RangeFunction.{RangeFunction}
@@ -19,23 +21,12 @@ use Rattle.rl_query.specs.declared.token.Sign.TheVariants as signs
 use Rattle.rl_query.specs.declared.token.Lexeme.{Lexeme}
 use Rattle.rl_query.specs.declared.token.Token.{Token}
 use Rattle.rl_query.specs.declared.token.Token.TheVariants as tokens
-use Rattle.rl_query.specs.Form.{MatcherForm, RangeForm, TermForm, QueryForm, has_real_form, has_pattern}
+use Rattle.rl_query.specs.Form.{MatcherForm, FilterForm, RangeForm, TermForm, QueryForm, has_real_form, has_pattern, filters_have_pattern}
 use Rattle.rl_query.specs.Durations.{duration_of}
 use Rattle.rl_query.specs.Lexing.{lexemes_of}
-use Rattle.rl_query.specs.Limits.{longest_range}
+use Rattle.rl_query.specs.Limits.{is_filter, longest_range, most_stages}
 use Rattle.rl_query.specs.Tables.{sign_text}
 use Rattle.rl_plain.specs.Answers.{◌>>=◌}
-
--- a sign that begins a stage
-abbrev pub is_stage : Sign → Bool
-is_stage signs.Pipe = true
-is_stage signs.Contains = true
-is_stage signs.NotEqual = true
-is_stage signs.ContainsMatch = true
-is_stage signs.NotMatches = true
-is_stage signs.ContainsPattern = true
-is_stage signs.LacksPattern = true
-is_stage _ = false
 
 -- a sign between terms
 abbrev pub is_operator : Sign → Bool
@@ -63,7 +54,7 @@ is_later_start signs.Minus = true
 is_later_start signs.Plus = true
 is_later_start _ = false
 
--- a sign that begins a stage which a sieve has not
+-- a sign that begins a stage in LogQL
 abbrev pub is_later_stage : Sign → Bool
 is_later_stage signs.Pipe = true
 is_later_stage signs.ContainsPattern = true
@@ -98,6 +89,7 @@ is_later_word word = list_any (λ later. is_in_any_case later word) later_words
 abbrev pub is_unsupported_word : Position → List ℕ → Bool
 is_unsupported_word positions.Start word = is_later_word word
 is_unsupported_word positions.BehindRange word = is_in_any_case word (codes "offset")
+is_unsupported_word positions.BehindFilteredRange word = is_in_any_case word (codes "offset")
 is_unsupported_word positions.BehindTerm word = is_in_any_case word (codes "and") || (is_in_any_case word (codes "or") || is_in_any_case word (codes "unless"))
 is_unsupported_word positions.InFilter word = true
 is_unsupported_word positions.BehindFilter word = is_in_any_case word (codes "or")
@@ -106,12 +98,12 @@ is_unsupported_word _ word = false
 -- and the same of a sign
 abbrev pub is_unsupported_sign : Position → Sign → Bool
 is_unsupported_sign positions.Start sign = is_later_start sign
-is_unsupported_sign positions.BehindSelector sign = is_stage sign
-is_unsupported_sign positions.InRange sign = is_colon sign
-is_unsupported_sign positions.BehindRange sign = is_stage sign || is_at sign
-is_unsupported_sign positions.BehindTerm sign = is_operator sign
-is_unsupported_sign positions.BehindSieve sign = is_later_stage sign
+is_unsupported_sign positions.BehindSelector sign = is_later_stage sign
 is_unsupported_sign positions.BehindFilter sign = is_later_stage sign
+is_unsupported_sign positions.InRange sign = is_colon sign
+is_unsupported_sign positions.BehindRange sign = is_later_stage sign || is_at sign
+is_unsupported_sign positions.BehindFilteredRange sign = is_at sign
+is_unsupported_sign positions.BehindTerm sign = is_operator sign
 is_unsupported_sign positions.InFilter sign = false
 is_unsupported_sign positions.Elsewhere sign = false
 
@@ -219,6 +211,65 @@ selector_at cramped lexemes = do
   matchers ← real_matchers cramped found.0
   Ok (matchers, found.1)
 
+-- the line filter that a sign begins
+abbrev pub filter_of : Sign → Option LineOp
+filter_of signs.Contains = Some lines.Contains
+filter_of signs.NotEqual = Some lines.Lacks
+filter_of signs.ContainsMatch = Some lines.Matches
+filter_of signs.NotMatches = Some lines.NotMatches
+filter_of _ = None
+
+abbrev pub filter_op : Token → Option LineOp
+filter_op (tokens.Sign sign) = filter_of sign
+filter_op _ = None
+
+-- the text of a line filter; LogQL has words there too
+abbrev pub filter_text : ℕ → Token → Result (List ℕ) QueryFault
+filter_text place (tokens.Text text) = Ok text
+filter_text place token = Err (refusal positions.InFilter place token)
+
+-- what is looked for by a pattern has to be one
+abbrev pub checked_filter : FilterForm → Result FilterForm QueryFault
+checked_filter filter = if is_filter filter.op filter.text then Ok filter else Err faults.BadRegex
+
+-- the text of a line filter, behind its sign
+unfoldable pub filter_at : LineOp → List Lexeme → Result (FilterForm × List Lexeme) QueryFault
+filter_at op lexemes = do
+  text ← next lexemes
+  value ← filter_text text.0.place text.0.token
+  filter ← checked_filter (record { op = op; text = value })
+  Ok (filter, text.1)
+
+-- line filters, at most so many
+unfoldable pub filters_at : ℕ → List Lexeme → Result (List FilterForm × List Lexeme) QueryFault
+filters_at zero lexemes = do
+  first ← next lexemes
+  if is_some (filter_op first.0.token) then Err faults.TooDeep else Ok ([], lexemes)
+filters_at (suc most) lexemes = do
+  first ← next lexemes
+  option_map_or (λ op. filter_at op first.1 >>= λ filter. filters_at most filter.1 >>= λ others. Ok (filter.0 ∷ others.0, others.1)) (filter_op first.0.token) (Ok ([], lexemes))
+
+-- where it is cramped no pattern has room, and each is refused
+abbrev pub roomy_filters : (cramped : Bool) → List FilterForm → Result (List FilterForm) QueryFault
+roomy_filters cramped filters = if cramped && filters_have_pattern filters then Err faults.BadRegex else Ok filters
+
+-- line filters, each of whose patterns has room
+unfoldable pub filters_in : (cramped : Bool) → List Lexeme → Result (List FilterForm × List Lexeme) QueryFault
+filters_in cramped lexemes = do
+  found ← filters_at most_stages lexemes
+  filters ← roomy_filters cramped found.0
+  Ok (filters, found.1)
+
+-- the position behind a selector and line filters
+abbrev pub behind_filters : List FilterForm → Position
+behind_filters [] = positions.BehindSelector
+behind_filters (filter ∷ filters) = positions.BehindFilter
+
+-- the position behind a range and the line filters behind it
+abbrev pub behind_range : List FilterForm → Position
+behind_range [] = positions.BehindRange
+behind_range (filter ∷ filters) = positions.BehindFilter
+
 -- digits, points and letters of units, with a letter at the end
 abbrev pub is_unit_letter : ℕ → Bool
 is_unit_letter byte = byte == 119 || (byte == 100 || (byte == 104 || (byte == 109 || (byte == 115 || (byte == 121 || (byte == 110 || byte == 117))))))
@@ -240,7 +291,7 @@ seconds_of None place number = if looks_like_duration number then Err faults.Bad
 
 abbrev pub range_of : ℕ → Token → Result ℕ QueryFault
 range_of place (tokens.Number number) = seconds_of (duration_of number) place number
-range_of place token = Err (refusal positions.BehindSelector place token)
+range_of place token = Err (refusal positions.Elsewhere place token)
 
 -- the range aggregation that a word names
 abbrev pub named_function : ℕ → List ℕ → Result RangeFunction QueryFault
@@ -251,29 +302,45 @@ function_of place (tokens.Word word) = named_function place word
 function_of place token = Err (refusal positions.Start place token)
 
 -- a range in brackets
-unfoldable pub seconds_at : List Lexeme → Result (ℕ × List Lexeme) QueryFault
-seconds_at lexemes = do
-  bracket ← expected signs.OpenBracket positions.BehindSelector lexemes
+unfoldable pub seconds_at : Position → List Lexeme → Result (ℕ × List Lexeme) QueryFault
+seconds_at position lexemes = do
+  bracket ← expected signs.OpenBracket position lexemes
   number ← next bracket
   seconds ← range_of number.0.place number.0.token
   closed ← expected signs.CloseBracket positions.InRange number.1
   Ok (seconds, closed)
 
--- a range in brackets, and the parenthesis behind it
-unfoldable pub closing_at : List Lexeme → Result (ℕ × List Lexeme) QueryFault
-closing_at lexemes = do
-  seconds ← seconds_at lexemes
-  closed ← expected signs.CloseParenthesis positions.BehindRange seconds.1
-  Ok (seconds.0, closed)
+-- the parenthesis behind a range, and the line filters before it, if none stand before the range
+unfoldable pub closed_at : (cramped : Bool) → List FilterForm → List Lexeme → Result (List FilterForm × List Lexeme) QueryFault
+closed_at cramped [] lexemes = do
+  filters ← filters_in cramped lexemes
+  closed ← expected signs.CloseParenthesis (behind_range filters.0) filters.1
+  Ok (filters.0, closed)
+closed_at cramped (filter ∷ filters) lexemes = do
+  closed ← expected signs.CloseParenthesis positions.BehindFilteredRange lexemes
+  Ok (filter ∷ filters, closed)
 
--- a selector and a range in parentheses
+-- a range in brackets behind line filters or none, and what closes it
+unfoldable pub timed_at : (cramped : Bool) → List FilterForm → List Lexeme → Result (List FilterForm × ℕ × List Lexeme) QueryFault
+timed_at cramped front lexemes = do
+  seconds ← seconds_at (behind_filters front) lexemes
+  closed ← closed_at cramped front seconds.1
+  Ok (closed.0, seconds.0, closed.1)
+
+-- behind a selector: line filters and a range in brackets, whichever stand first, and the parenthesis
+unfoldable pub closing_at : (cramped : Bool) → List Lexeme → Result (List FilterForm × ℕ × List Lexeme) QueryFault
+closing_at cramped lexemes = do
+  front ← filters_in cramped lexemes
+  timed_at cramped front.0 front.1
+
+-- a selector, line filters and a range in parentheses
 unfoldable pub range_at : (cramped : Bool) → List Lexeme → Result (RangeForm × List Lexeme) QueryFault
 range_at cramped lexemes = do
   opened ← expected signs.OpenParenthesis positions.Elsewhere lexemes
   braced ← expected signs.OpenBrace positions.Elsewhere opened
   matchers ← selector_at cramped braced
-  closing ← closing_at matchers.1
-  Ok (record { matchers = matchers.0; seconds = closing.0 }, closing.1)
+  closing ← closing_at cramped matchers.1
+  Ok (record { matchers = matchers.0; filters = closing.0; seconds = closing.1 }, closing.2)
 
 -- a range aggregation
 unfoldable pub term_at : (cramped : Bool) → List Lexeme → Result (TermForm × List Lexeme) QueryFault

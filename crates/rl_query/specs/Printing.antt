@@ -27,19 +27,6 @@ abbrev pub matchers_text : List MatcherForm → List ℕ
 matchers_text [] = []
 matchers_text (matcher ∷ matchers) = matcher_text matcher ++ flat_map (λ other. codes ", " ++ matcher_text other) matchers
 
--- {a="x", b="y"} [300s]
-abbrev pub range_text : RangeForm → List ℕ
-range_text range = codes "{" ++ matchers_text range.matchers ++ codes "} [" ++ decimal range.seconds ++ codes "s]"
-
-abbrev pub function_text : RangeFunction → List ℕ
-function_text functions.CountOverTime = codes "count_over_time"
-
-abbrev pub term_text : TermForm → List ℕ
-term_text term = function_text term.function ++ codes "(" ++ range_text term.range ++ codes ")"
-
-abbrev pub query_text : QueryForm → List ℕ
-query_text query = term_text query.left
-
 abbrev pub filter_op_text : LineOp → List ℕ
 filter_op_text lines.Contains = codes "|="
 filter_op_text lines.Lacks = codes "!="
@@ -50,6 +37,23 @@ filter_op_text lines.NotMatches = codes "!~"
 abbrev pub filter_print : FilterForm → List ℕ
 filter_print filter = filter_op_text filter.op ++ codes " \"" ++ escaped escapes filter.text ++ codes "\""
 
--- {a="x", b="y"} |= "text", each line filter behind a space
+-- each line filter behind a space
+abbrev pub filters_text : List FilterForm → List ℕ
+filters_text filters = flat_map (λ filter. codes " " ++ filter_print filter) filters
+
+-- {a="x", b="y"} |= "text" [300s]
+abbrev pub range_text : RangeForm → List ℕ
+range_text range = codes "{" ++ matchers_text range.matchers ++ codes "}" ++ filters_text range.filters ++ codes " [" ++ decimal range.seconds ++ codes "s]"
+
+abbrev pub function_text : RangeFunction → List ℕ
+function_text functions.CountOverTime = codes "count_over_time"
+
+abbrev pub term_text : TermForm → List ℕ
+term_text term = function_text term.function ++ codes "(" ++ range_text term.range ++ codes ")"
+
+abbrev pub query_text : QueryForm → List ℕ
+query_text query = term_text query.left
+
+-- {a="x", b="y"} |= "text"
 abbrev pub sieve_text : SieveForm → List ℕ
-sieve_text sieve = codes "{" ++ matchers_text sieve.matchers ++ codes "}" ++ flat_map (λ filter. codes " " ++ filter_print filter) sieve.filters
+sieve_text sieve = codes "{" ++ matchers_text sieve.matchers ++ codes "}" ++ filters_text sieve.filters

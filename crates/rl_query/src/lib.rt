@@ -7,7 +7,8 @@
 //! - `fault`: why a text is refused.
 //! - `token` and `lexer`: the tokens of a text.
 //! - `duration`: the seconds of a range.
-//! - `parser`: `parse`. `printer`: `print` and `print_term`. `sieve`: `parse_delete` and `print_sieve`.
+//! - `stage`: line filters from their tokens. `parser`: `parse`. `printer`: `print` and `print_term`.
+//! - `sieve`: `parse_delete` and `print_sieve`.
 #![tactic(auto)]
 
 pub mod duration;
@@ -18,6 +19,7 @@ pub mod parser;
 pub mod printer;
 pub mod query;
 pub mod sieve;
+pub mod stage;
 pub mod token;
 
 pub use fault::{QueryError, QueryFault};

@@ -4,22 +4,24 @@ ghost use Rattle.std.specs.List.{list_all, list_any};
 ghost use Rattle.std.specs.Result.{result_map_both};
 ghost use Rattle.rl_labels.specs.Name.{is_text};
 ghost use Rattle.rl_query.specs.Answering.{Reads, IsForRoom};
-ghost use Rattle.rl_query.specs.Form.{QueryForm, query_has_pattern, matcher_form, range_form, term_form, query_form};
+ghost use Rattle.rl_query.specs.Form.{QueryForm, query_has_pattern, filter_form, matcher_form, range_form, term_form, query_form};
 ghost use Rattle.rl_query.specs.Grammar.{Derives};
 ghost use Rattle.rl_query.specs.Printing.{query_text};
 ghost use Rattle.rl_plain.specs.Answers.{Gives, Answers};
 ghost use Rattle.rl_query.specs.declared.query.Query.{Query};
-ghost use Rattle.rl_query.specs.Parsing.{is_unsupported, is_unsupported_word, is_unsupported_sign, is_stage, is_later_stage, is_operator, is_in_any_case, is_later_word, refusal, next, expected, is_sign, name_of, content_of, match_of, operator_of, checked_matcher, matcher_at, goes_on, element_at, matchers_at, some_matcher, real_matchers, selector_at, is_unit_letter, is_duration_byte, looks_like_duration, range_of, seconds_of, checked_range, function_of, named_function, seconds_at, closing_at, range_at, term_at, query_in, query_of, ends};
+ghost use Rattle.rl_query.specs.Parsing.{is_unsupported, is_unsupported_word, is_unsupported_sign, is_later_stage, is_operator, is_in_any_case, is_later_word, refusal, next, expected, is_sign, name_of, content_of, match_of, operator_of, checked_matcher, matcher_at, goes_on, element_at, matchers_at, some_matcher, real_matchers, selector_at, is_unit_letter, is_duration_byte, looks_like_duration, range_of, seconds_of, checked_range, function_of, named_function, seconds_at, closed_at, timed_at, closing_at, range_at, term_at, query_in, query_of, ends};
 ghost use Rattle.rl_query.specs.Durations.{duration_of};
-ghost use Rattle.rl_query.specs.Limits.{has_real_matcher, longest_range};
+ghost use Rattle.rl_query.specs.Limits.{has_real_matcher, longest_range, most_stages};
 ghost use Rattle.rl_labels.specs.Operators.{is_by_pattern};
 ghost use Rattle.rl_labels.specs.Selects.{are_by_text};
 ghost use Rattle.std.specs.Char.{is_ascii_digit};
 
 use crate::duration::{LONGEST_RANGE, duration_of};
 use crate::fault::{QueryError, QueryFault};
+use crate::filter::LineFilter;
 use crate::lexer::lexemes_of;
 use crate::query::{LogRange, Query, RangeFunction, Selector, Term};
+use crate::stage::{behind_filters, behind_range, filters_in};
 use crate::token::{Lexeme, Sign, Token};
 use rl_labels::{Labels, MatchOp, Matcher, MatcherFault, SelectorCode};
 use rl_plain::{OrMemory, PlainList, PlainText, TryCopy};
@@ -63,20 +65,20 @@ pub const LATER_WORDS: [&str; 29] = [
 pub enum Position {
     /// At the start of a query.
     Start,
-    /// Behind a selector, and in place of the duration.
+    /// Behind a selector.
     BehindSelector,
+    /// Behind the sign of a line filter.
+    InFilter,
+    /// Behind a line filter.
+    BehindFilter,
     /// Behind the duration.
     InRange,
     /// Behind the bracket that closes a range.
     BehindRange,
+    /// The same where line filters stand before the duration.
+    BehindFilteredRange,
     /// Behind a range aggregation.
     BehindTerm,
-    /// Behind the sign of a line filter.
-    InFilter,
-    /// Behind the selector of a sieve.
-    BehindSieve,
-    /// Behind a line filter of a sieve.
-    BehindFilter,
     Elsewhere,
 }
 
@@ -107,7 +109,9 @@ fn is_unsupported_word(position: Position, word: &str) -> bool
 {
     match position {
         Position::Start => is_later_word(word),
-        Position::BehindRange => word.eq_ignore_ascii_case("offset"),
+        Position::BehindRange | Position::BehindFilteredRange => {
+            word.eq_ignore_ascii_case("offset")
+        }
         Position::BehindTerm => {
             word.eq_ignore_ascii_case("and")
                 || word.eq_ignore_ascii_case("or")
@@ -139,38 +143,22 @@ fn is_unsupported_sign(position: Position, sign: Sign) -> bool
             sign,
             Sign::OpenBrace | Sign::OpenParenthesis | Sign::Minus | Sign::Plus
         ),
-        Position::BehindSelector => is_stage(sign),
+        Position::BehindSelector | Position::BehindFilter => is_later_stage(sign),
         Position::InRange => matches!(sign, Sign::Colon),
-        Position::BehindRange => is_stage(sign) || matches!(sign, Sign::At),
+        Position::BehindRange => is_later_stage(sign) || matches!(sign, Sign::At),
+        Position::BehindFilteredRange => matches!(sign, Sign::At),
         Position::BehindTerm => is_operator(sign),
-        Position::BehindSieve | Position::BehindFilter => is_later_stage(sign),
         Position::InFilter | Position::Elsewhere => false,
     }
 }
 
-// A sign that begins a stage which a sieve has not.
+// A sign that begins a stage in LogQL.
 fn is_later_stage(sign: Sign) -> bool
     ensures { result ≡ is_later_stage sign }
 {
     matches!(
         sign,
         Sign::Pipe | Sign::ContainsPattern | Sign::LacksPattern
-    )
-}
-
-// A sign that begins a stage.
-fn is_stage(sign: Sign) -> bool
-    ensures { result ≡ is_stage sign }
-{
-    matches!(
-        sign,
-        Sign::Pipe
-            | Sign::Contains
-            | Sign::NotEqual
-            | Sign::ContainsMatch
-            | Sign::NotMatches
-            | Sign::ContainsPattern
-            | Sign::LacksPattern
     )
 }
 
@@ -433,7 +421,7 @@ fn range_of(lexeme: &Lexeme) -> Result<u64, QueryFault>
 {
     match &lexeme.token {
         Token::Number(number) => seconds_of(lexeme.place, number.as_str().as_bytes()),
-        token => Err(refusal(Position::BehindSelector, lexeme.place, token)),
+        token => Err(refusal(Position::Elsewhere, lexeme.place, token)),
     }
 }
 
@@ -486,29 +474,85 @@ fn named_function(place: usize, word: &str) -> Result<RangeFunction, QueryFault>
 
 // The seconds of a range between its brackets.
 #[tactic(auto, unfolding(crate::specs::Parsing::seconds_at))]
-fn seconds_at(lexemes: &[Lexeme]) -> Result<(u64, &[Lexeme]), QueryFault>
-    ensures read { Answers (λ x. (x.0, x.1.now)) result (seconds_at lexemes.now) }
+fn seconds_at(position: Position, lexemes: &[Lexeme]) -> Result<(u64, &[Lexeme]), QueryFault>
+    ensures read { Answers (λ x. (x.0, x.1.now)) result (seconds_at position lexemes.now) }
     ensures fits { IfOk result (λ x. (1 ≤ x.0) × (x.0 ≤ longest_range)) }
 {
-    let rest = expected(Sign::OpenBracket, Position::BehindSelector, lexemes)?;
+    let rest = expected(Sign::OpenBracket, position, lexemes)?;
     let (lexeme, rest) = next(rest)?;
     let seconds = range_of(lexeme)?;
     let rest = expected(Sign::CloseBracket, Position::InRange, rest)?;
     Ok((seconds, rest))
 }
 
-// The seconds of a range between its brackets, and the parenthesis behind them.
-#[tactic(auto, unfolding(crate::specs::Parsing::closing_at))]
-fn closing_at(lexemes: &[Lexeme]) -> Result<(u64, &[Lexeme]), QueryFault>
-    ensures read { Answers (λ x. (x.0, x.1.now)) result (closing_at lexemes.now) }
-    ensures fits { IfOk result (λ x. (1 ≤ x.0) × (x.0 ≤ longest_range)) }
+// The parenthesis behind a range, and the line filters before it, if none stand before the range.
+#[tactic(auto, unfolding(crate::specs::Parsing::closed_at))]
+fn closed_at(
+    alloc: Global,
+    front: Vec<LineFilter>,
+    lexemes: &[Lexeme],
+) -> Result<(Vec<LineFilter>, &[Lexeme]), QueryError>
+    requires { length front.items ≤ most_stages }
+    ensures read { Reads (λ x. (map filter_form x.0.items, x.1.now)) result (λ cramped. closed_at cramped (map filter_form front.items) lexemes.now) }
+    ensures few { IfOk result (λ x. length x.0.items ≤ most_stages) }
 {
-    let (seconds, rest) = seconds_at(lexemes)?;
-    let rest = expected(Sign::CloseParenthesis, Position::BehindRange, rest)?;
-    Ok((seconds, rest))
+    if front.is_empty() {
+        return filtered_at(alloc, lexemes);
+    }
+    let rest = expected(
+        Sign::CloseParenthesis,
+        Position::BehindFilteredRange,
+        lexemes,
+    )?;
+    Ok((front, rest))
 }
 
-// The selector and its range in parentheses, behind the name of the aggregation.
+// Line filters behind a range, and the parenthesis.
+#[tactic(auto, using(crate::proofs::Cramped::closed_late), unfolding(crate::specs::Parsing::closed_at))]
+fn filtered_at(
+    alloc: Global,
+    lexemes: &[Lexeme],
+) -> Result<(Vec<LineFilter>, &[Lexeme]), QueryError>
+    ensures read { Reads (λ x. (map filter_form x.0.items, x.1.now)) result (λ cramped. closed_at cramped [] lexemes.now) }
+    ensures few { IfOk result (λ x. length x.0.items ≤ most_stages) }
+{
+    let (filters, rest) = filters_in(alloc, lexemes)?;
+    let rest = expected(Sign::CloseParenthesis, behind_range(&filters), rest)?;
+    Ok((filters, rest))
+}
+
+// A range in brackets behind line filters or none, and what closes it.
+#[tactic(auto, unfolding(crate::specs::Parsing::timed_at))]
+fn timed_at(
+    alloc: Global,
+    front: Vec<LineFilter>,
+    lexemes: &[Lexeme],
+) -> Result<(Vec<LineFilter>, u64, &[Lexeme]), QueryError>
+    requires { length front.items ≤ most_stages }
+    ensures read { Reads (λ x. (map filter_form x.0.items, x.1, x.2.now)) result (λ cramped. timed_at cramped (map filter_form front.items) lexemes.now) }
+    ensures few { IfOk result (λ x. length x.0.items ≤ most_stages) }
+    ensures fits { IfOk result (λ x. (1 ≤ x.1) × (x.1 ≤ longest_range)) }
+{
+    let (seconds, rest) = seconds_at(behind_filters(&front), lexemes)?;
+    let (filters, rest) = closed_at(alloc, front, rest)?;
+    Ok((filters, seconds, rest))
+}
+
+// Behind a selector: line filters and a range in brackets, whichever stand first, and the parenthesis.
+#[tactic(auto, using(crate::proofs::Cramped::closing_late), unfolding(crate::specs::Parsing::closing_at))]
+fn closing_at(
+    alloc: Global,
+    lexemes: &[Lexeme],
+) -> Result<(Vec<LineFilter>, u64, &[Lexeme]), QueryError>
+    ensures read { Reads (λ x. (map filter_form x.0.items, x.1, x.2.now)) result (λ cramped. closing_at cramped lexemes.now) }
+    ensures few { IfOk result (λ x. length x.0.items ≤ most_stages) }
+    ensures fits { IfOk result (λ x. (1 ≤ x.1) × (x.1 ≤ longest_range)) }
+{
+    let (front, rest) = filters_in(alloc, lexemes)?;
+    timed_at(alloc, front, rest)
+}
+
+// The selector, the line filters and the range in parentheses, behind the name of the aggregation.
 #[tactic(auto, using(crate::proofs::Cramped::range_late), unfolding(crate::specs::Parsing::range_at))]
 fn range_at(alloc: Global, lexemes: &[Lexeme]) -> Result<(LogRange, &[Lexeme]), QueryError>
     ensures { Reads (λ x. (range_form x.0, x.1.now)) result (λ cramped. range_at cramped lexemes.now) }
@@ -516,8 +560,14 @@ fn range_at(alloc: Global, lexemes: &[Lexeme]) -> Result<(LogRange, &[Lexeme]), 
     let rest = expected(Sign::OpenParenthesis, Position::Elsewhere, lexemes)?;
     let rest = expected(Sign::OpenBrace, Position::Elsewhere, rest)?;
     let (selector, rest) = selector_at(alloc, rest)?;
-    let (seconds, rest) = closing_at(rest)?;
-    Ok((LogRange { selector, seconds }, rest))
+    let (filters, seconds, rest) = closing_at(alloc, rest)?;
+    let filters = PlainList::from_vec(filters);
+    let range = LogRange {
+        selector,
+        filters,
+        seconds,
+    };
+    Ok((range, rest))
 }
 
 // A range aggregation.

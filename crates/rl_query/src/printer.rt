@@ -1,11 +1,12 @@
 //! The printer: the canonical text of a query.
 ghost use Rattle.std.specs.Prelude.{◌≡◌, ◌++◌, [], ◌∷◌, map, IfOk, OnOk, string_bytes, codes};
 ghost use Rattle.std.specs.List.{flat_map};
-ghost use Rattle.rl_query.specs.Form.{matcher_form, range_form, term_form, query_form};
-ghost use Rattle.rl_query.specs.Printing.{operator_text, matcher_text, matchers_text, range_text, function_text, term_text, query_text};
+ghost use Rattle.rl_query.specs.Form.{matcher_form, filter_form, range_form, term_form, query_form};
+ghost use Rattle.rl_query.specs.Printing.{operator_text, matcher_text, matchers_text, filter_op_text, filter_print, filters_text, range_text, function_text, term_text, query_text};
 ghost use Rattle.rl_query.specs.declared.query.Term.{Term};
 ghost use Rattle.std.specs.Fmt.{decimal};
 
+use crate::filter::{LineFilter, LineOp};
 use crate::query::{LogRange, Query, RangeFunction, Term};
 use crate::token::ESCAPES;
 use rl_labels::{MatchOp, Matcher};
@@ -52,7 +53,9 @@ fn push_range(text: &mut String, range: &LogRange) -> Result<(), AllocError>
 {
     text.push('{')?;
     push_matchers(text, range.selector.matchers.as_slice())?;
-    text.push_str("} [")?;
+    text.push('}')?;
+    push_filters(text, range.filters.as_slice())?;
+    text.push_str(" [")?;
     push_number(text, range.seconds)?;
     text.push_str("s]")
 }
@@ -105,5 +108,36 @@ fn operator_sign(op: MatchOp) -> &'static str
         MatchOp::NotEqual => "!=",
         MatchOp::Matches => "=~",
         MatchOp::NotMatches => "!~",
+    }
+}
+
+// Each line filter behind a space.
+pub(crate) fn push_filters(text: &mut String, filters: &[LineFilter]) -> Result<(), AllocError>
+    ensures { OnOk result (string_bytes text.new ≡ string_bytes text.old ++ filters_text (map filter_form filters.now)) }
+{
+    for filter in filters {
+        text.push(' ')?;
+        push_filter(text, filter)?;
+    }
+    Ok(())
+}
+
+fn push_filter(text: &mut String, filter: &LineFilter) -> Result<(), AllocError>
+    ensures { OnOk result (string_bytes text.new ≡ string_bytes text.old ++ filter_print (filter_form filter.now)) }
+{
+    text.push_str(filter_sign(filter.op))?;
+    text.push_str(" \"")?;
+    push_escaped(text, &ESCAPES, filter.text.as_str())?;
+    text.push('"')
+}
+
+fn filter_sign(op: LineOp) -> &'static str
+    ensures { result.now ≡ filter_op_text op }
+{
+    match op {
+        LineOp::Contains => "|=",
+        LineOp::Lacks => "!=",
+        LineOp::Matches => "|~",
+        LineOp::NotMatches => "!~",
     }
 }

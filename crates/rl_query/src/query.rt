@@ -1,7 +1,8 @@
 //! Queries as values. Their limits are facts of the types, so a query always has a text that is read again.
-ghost use Rattle.std.specs.Prelude.{◌≤◌, IsTrue};
-ghost use Rattle.rl_query.specs.Limits.{has_real_matcher, longest_range};
+ghost use Rattle.std.specs.Prelude.{◌≤◌, IsTrue, length};
+ghost use Rattle.rl_query.specs.Limits.{has_real_matcher, longest_range, most_stages};
 
+use crate::filter::LineFilter;
 use rl_labels::Matcher;
 use rl_plain::{PlainList, Same, TryCopy};
 use std::alloc::AllocError;
@@ -26,12 +27,14 @@ pub enum RangeFunction {
     CountOverTime,
 }
 
-/// The streams of a selector over a range.
+/// The lines of a selector's streams that pass each line filter, of which there are at most 256, over a range.
 #[derive(Debug, Drop, PartialEq, Eq)]
 pub struct LogRange {
     pub selector: Selector,
+    pub filters: PlainList<LineFilter>,
     /// The range in seconds, 1 to 2,592,000.
     pub seconds: u64,
+    ghost few: { length filters ≤ most_stages },
     ghost in_range: { (1 ≤ seconds) × (seconds ≤ longest_range) },
 }
 
@@ -58,8 +61,10 @@ impl Same for Selector {
 impl TryCopy for LogRange {
     fn try_copy(&self) -> Result<Self, AllocError> {
         let selector = self.selector.try_copy()?;
+        let filters = self.filters.try_copy()?;
         Ok(LogRange {
             selector,
+            filters,
             seconds: self.seconds,
         })
     }
@@ -67,7 +72,9 @@ impl TryCopy for LogRange {
 
 impl Same for LogRange {
     fn is_same(&self, other: &Self) -> bool {
-        self.seconds == other.seconds && self.selector.is_same(&other.selector)
+        self.seconds == other.seconds
+            && self.selector.is_same(&other.selector)
+            && self.filters.is_same(&other.filters)
     }
 }
 

@@ -50,6 +50,10 @@ fn term(alloc: Global, line: &str) -> Result<String, Trouble> {
         let (name, op, value) = (matcher.name.as_str(), matcher.op, matcher.value.as_str());
         write!(answer, "\n{name} {op:?} {value:?}")?;
     }
+    for filter in query.left.range.filters.as_slice() {
+        let (op, text) = (filter.op, filter.text.as_str());
+        write!(answer, "\n{op:?} {text:?}")?;
+    }
     Ok(answer)
 }
 

@@ -1,12 +1,15 @@
--- The bytes so far and those of the next line are within all.
+-- What is kept so far and the next line have room.
 use Rattle.std.proofs.Common.{length, ap, arith}
-use Rattle.std.proofs.lemmas.List.Sums.{sum_by_more_le}
 use Rattle.rl_labels.specs.declared.entry.Entry.{Entry}
+use Rattle.rl_aggregate.specs.declared.total.Total.{Total}
+use Rattle.rl_aggregate.proofs.Counting.{kept-fits}
 use Rattle.rl_aggregate.proofs.range.total_of.Goals as goal
 
-pub overflow_add-bytes : goal.overflow_add-bytes
-overflow_add-bytes c =
-    let i = c.loop-entry.entry-index in
-    let entry = c.entry-item.result in
+pub overflow_add-total : goal.overflow_add-total
+overflow_add-total c =
+    omega (arith, kept-fits c.args.running.now c.args.run.now c.loop-entry.entry-index c.requires (omega arith), ap (λ (t : Total). t.count) c.loop-entry.invariant.0)
+
+pub overflow_add-total-then-keeps : goal.overflow_add-total-then-keeps
+overflow_add-total-then-keeps c =
     let line = ap (λ (e : Entry). length e.line) c.entry-item.is in
-    omega (arith, c.requires, c.loop-entry.invariant, c.len.ensures, line, sum_by_more_le (λ e. length e.line) c.args.run.now i entry (omega arith))
+    omega (arith, kept-fits c.args.running.now c.args.run.now c.loop-entry.entry-index c.requires (omega arith), ap (λ (t : Total). t.bytes) c.loop-entry.invariant.0, c.entry-item.result.fits, c.len.ensures, line)

@@ -1,7 +1,7 @@
--- The bytes of the lines so far.
-use Rattle.std.proofs.Common.{◌≡◌, take, length}
-use Rattle.std.specs.List.{sum_by}
+-- What is kept of the entries so far.
+use Rattle.std.proofs.Common.{◌≡◌, take}
+use Rattle.rl_aggregate.specs.Runs.{kept, run_total}
 use Rattle.rl_aggregate.proofs.range.total_of.Given as goal
 
 abbrev pub invariant-loop-entry : goal.invariant-loop-entry
-invariant-loop-entry l = l.bytes ≡ sum_by (λ entry. length entry.line) (take l.entry-index l.run)
+invariant-loop-entry l = (l.total ≡ run_total (kept l.fn.running (take l.entry-index l.run))) × (l.running ≡ l.fn.running)

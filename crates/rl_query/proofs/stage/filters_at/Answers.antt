@@ -4,9 +4,9 @@ use Rattle.std.proofs.lemmas.Result.{err_from_is_err_and}
 use Rattle.std.proofs.lemmas.List.{map_push, length_push}
 use Rattle.rl_query.specs.Form.{filter_form}
 use Rattle.rl_query.specs.Limits.{most_stages}
-use Rattle.rl_query.specs.Sieving.{filters_at}
+use Rattle.rl_query.specs.Parsing.{filters_at}
 use Rattle.rl_query.proofs.Filters.{one_more, stops, fails, no_token}
-use Rattle.rl_query.proofs.sieve.filters_at.Goals as goal
+use Rattle.rl_query.proofs.stage.filters_at.Goals as goal
 
 pub returns-in_err-first-clause-read : goal.returns-in_err-first-clause-read
 returns-in_err-first-clause-read c =

@@ -1,7 +1,7 @@
--- Each production of the grammar: what is read is derived, and what is derived is read.
-use Rattle.std.proofs.Common.{◌≡◌, inl, inr, ◌⊎◌, ⊎_elim, ℕ, zero, suc, ◌≤◌, nat_le, Bool, true, false, cond, not, ◌&&◌, List, [], ◌∷◌, ◌++◌, Option, Some, None, Result, Ok, Err, length, refl, sym, ap, subst, ◌∙◌, arith, codes}
+-- The productions of selectors: what is read is derived, and what is derived is read.
+use Rattle.std.proofs.Common.{◌≡◌, inl, inr, ◌⊎◌, ⊎_elim, ℕ, zero, suc, ◌≤◌, Bool, true, false, cond, not, ◌&&◌, List, [], ◌∷◌, ◌++◌, Option, Some, Result, Ok, Err, length, refl, sym, ap, subst, ◌∙◌, arith}
 use Rattle.std.specs.List.{list_all}
-use Rattle.std.proofs.lemmas.Bool.{true≢false, and_parts, and_from, leb-true, le-leb, cond-true, cond-false}
+use Rattle.std.proofs.lemmas.Bool.{true≢false, and_parts, and_from, cond-true, cond-false}
 use Rattle.rl_labels.specs.Name.{is_name, is_text}
 use Rattle.rl_labels.specs.Operators.{is_comparable}
 use Rattle.rl_labels.specs.laws.LabelLaws.{same_text, is_text_itself}
@@ -11,20 +11,15 @@ use Rattle.rl_query.specs.declared.fault.QueryFault.{QueryFault}
 use Rattle.rl_query.specs.declared.fault.QueryFault.TheVariants as faults
 use Rattle.rl_query.specs.declared.parser.Position.{Position}
 use Rattle.rl_query.specs.declared.parser.Position.TheVariants as positions
-use Rattle.rl_query.specs.declared.query.RangeFunction.{RangeFunction}
-use Rattle.rl_query.specs.declared.query.RangeFunction.TheVariants as functions
 use Rattle.rl_query.specs.declared.token.Lexeme.{Lexeme}
 use Rattle.rl_query.specs.declared.token.Sign.{Sign}
 use Rattle.rl_query.specs.declared.token.Sign.TheVariants as signs
 use Rattle.rl_query.specs.declared.token.Token.{Token}
 use Rattle.rl_query.specs.declared.token.Token.TheVariants as tokens
-use Rattle.rl_query.specs.Durations.{duration_of}
-use Rattle.rl_query.specs.Form.{MatcherForm, RangeForm, TermForm, QueryForm, has_real_form}
-use Rattle.rl_query.specs.Grammar.{Stand, operator_sign, is_matcher, matcher_tokens, matchers_tokens, IsSelector, IsDuration, IsRange, IsTerm, Derives}
-use Rattle.rl_query.specs.Lexing.{sign_at, lexemes_of}
-use Rattle.rl_query.specs.Limits.{longest_range}
-use Rattle.rl_query.specs.Parsing.{is_sign, next, refusal, expected, name_of, content_of, operator_of, checked_matcher, matcher_at, goes_on, element_at, matchers_at, some_matcher, real_matchers, selector_at, looks_like_duration, seconds_of, range_of, named_function, function_of, seconds_at, closing_at, range_at, term_at, ends, query_in}
-use Rattle.rl_query.specs.Printing.{function_text}
+use Rattle.rl_query.specs.Form.{MatcherForm, has_real_form}
+use Rattle.rl_query.specs.Grammar.{Stand, operator_sign, is_matcher, matcher_tokens, matchers_tokens, IsSelector}
+use Rattle.rl_query.specs.Lexing.{sign_at}
+use Rattle.rl_query.specs.Parsing.{is_sign, next, refusal, expected, name_of, content_of, operator_of, checked_matcher, matcher_at, goes_on, element_at, matchers_at, some_matcher, real_matchers, selector_at}
 use Rattle.rl_query.specs.Tables.{sign_text}
 use Rattle.rl_plain.specs.Answers.{◌>>=◌}
 
@@ -32,7 +27,7 @@ pub bind_ok : {A B : Type 0} (r : Result A QueryFault) (f : A → Result B Query
 bind_ok (Ok x) f y h = (x, refl, h)
 bind_ok (Err e) f y h = cc
 
-chosen : {A : Type 0} (b : Bool) (x y z : A) → cond b x y ≡ z → ((b ≡ true) × (x ≡ z)) ⊎ ((b ≡ false) × (y ≡ z))
+pub chosen : {A : Type 0} (b : Bool) (x y z : A) → cond b x y ≡ z → ((b ≡ true) × (x ≡ z)) ⊎ ((b ≡ false) × (y ≡ z))
 chosen true x y z h = inl (refl, h)
 chosen false x y z h = inr (refl, h)
 
@@ -280,146 +275,3 @@ selector_is (m ∷ ms) lexemes rest is =
     first_name : (m : MatcherForm) (ms : List MatcherForm) (braced : List Lexeme) → Stand (matchers_tokens (m ∷ ms)) braced rest → (place : ℕ) × (behind : List Lexeme) × (next braced ≡ Ok (record { token = tokens.Word m.name; place = place }, behind))
     first_name m [] braced stand = let n = next_is (tokens.Word m.name) (behind_name m (tokens.Sign signs.CloseBrace ∷ [])) braced rest stand in (n.place, n.behind, n.is)
     first_name m (o ∷ os) braced stand = let n = next_is (tokens.Word m.name) (behind_name m (tokens.Sign signs.Comma ∷ matchers_tokens (o ∷ os))) braced rest stand in (n.place, n.behind, n.is)
-
--- the seconds of a range
-record IsSeconds (token : Token) (seconds : ℕ) : Type 0 where
-  pub number : List ℕ
-  pub is : token ≡ tokens.Number number
-  pub read : duration_of number ≡ Some seconds
-  pub in_range : (1 ≤ seconds) × (seconds ≤ longest_range)
-
-range_read : (place : ℕ) (token : Token) (seconds : ℕ) → range_of place token ≡ Ok seconds → IsSeconds token seconds
-range_read place (tokens.Number number) seconds h = by_duration (duration_of number) refl h
-  where
-    by_duration : (o : Option ℕ) → duration_of number ≡ o → seconds_of o place number ≡ Ok seconds → IsSeconds (tokens.Number number) seconds
-    by_duration None is h = absurd (⊎_elim (λ yes. no_err _ seconds yes.1) (λ other. no_err _ seconds other.1) (chosen (looks_like_duration number) _ _ (Ok seconds) h))
-    by_duration (Some s) is h =
-        let checked = if_ok (nat_le 1 s && nat_le s longest_range) s seconds faults.BadRange h in
-        let bounds = and_parts (nat_le 1 s) (nat_le s longest_range) checked.0 in
-        record { number = number; is = refl; read = is ∙ ap (λ n. Some n) checked.1; in_range = subst (λ n. (1 ≤ n) × (n ≤ longest_range)) checked.1 (leb-true 1 s bounds.0, leb-true s longest_range bounds.1) }
-range_read place _ seconds h = absurd (no_err _ seconds h)
-
-seconds_read : (lexemes : List Lexeme) (seconds : ℕ) (rest : List Lexeme) → seconds_at lexemes ≡ Ok (seconds, rest) → IsDuration seconds lexemes rest
-unfolding seconds_at
-seconds_read lexemes seconds rest h =
-    let a = bind_ok (expected signs.OpenBracket positions.BehindSelector lexemes) _ (seconds, rest) h in
-    let b = bind_ok (next a.0) _ (seconds, rest) a.2 in
-    let c = bind_ok (range_of b.0.0.place b.0.0.token) _ (seconds, rest) b.2 in
-    let d = bind_ok (expected signs.CloseBracket positions.InRange b.0.1) _ (seconds, rest) c.2 in
-    let made : ◌≡◌ {A = ℕ × List Lexeme} (c.0, d.0) (seconds, rest) = same_ok _ _ d.2 in
-    let number = range_read b.0.0.place b.0.0.token c.0 c.1 in
-    let whole : IsDuration c.0 lexemes d.0 = record {
-      duration = number.number;
-      stand = stand_then (tokens.Sign signs.OpenBracket ∷ []) (tokens.Number number.number ∷ tokens.Sign signs.CloseBracket ∷ []) lexemes a.0 d.0 (expected_read signs.OpenBracket positions.BehindSelector lexemes a.0 a.1)
-          (stand_then (tokens.Number number.number ∷ []) (tokens.Sign signs.CloseBracket ∷ []) a.0 b.0.1 d.0 (one_read (tokens.Number number.number) a.0 b.0.1 b.0.0 b.1 number.is) (expected_read signs.CloseBracket positions.InRange b.0.1 d.0 d.1));
-      read = number.read;
-      in_range = number.in_range;
-    } in
-    subst (λ (p : ℕ × List Lexeme). IsDuration p.0 lexemes p.1) made whole
-
-seconds_are : (seconds : ℕ) (lexemes rest : List Lexeme) → IsDuration seconds lexemes rest → seconds_at lexemes ≡ Ok (seconds, rest)
-unfolding seconds_at
-seconds_are seconds lexemes rest is =
-    let a = expected_is signs.OpenBracket (tokens.Number is.duration ∷ tokens.Sign signs.CloseBracket ∷ []) positions.BehindSelector lexemes rest is.stand in
-    let b = next_is (tokens.Number is.duration) (tokens.Sign signs.CloseBracket ∷ []) a.0 rest a.2 in
-    let c = expected_is signs.CloseBracket [] positions.InRange b.behind rest b.more in
-    let checked : nat_le 1 seconds && nat_le seconds longest_range ≡ true = and_from _ _ (le-leb 1 seconds is.in_range.0) (le-leb seconds longest_range is.in_range.1) in
-    rw (a.1, b.is, is.read, checked, c.1) (ap (λ r. Ok (seconds, r)) c.2)
-
--- a range in brackets, and the parenthesis behind it
-record IsClosing (seconds : ℕ) (lexemes rest : List Lexeme) : Type 0 where
-  pub behind_duration : List Lexeme
-  pub duration : IsDuration seconds lexemes behind_duration
-  pub closed : Stand (tokens.Sign signs.CloseParenthesis ∷ []) behind_duration rest
-
-closing_read : (lexemes : List Lexeme) (seconds : ℕ) (rest : List Lexeme) → closing_at lexemes ≡ Ok (seconds, rest) → IsClosing seconds lexemes rest
-unfolding closing_at
-closing_read lexemes seconds rest h =
-    let a = bind_ok (seconds_at lexemes) _ (seconds, rest) h in
-    let b = bind_ok (expected signs.CloseParenthesis positions.BehindRange a.0.1) _ (seconds, rest) a.2 in
-    let made : ◌≡◌ {A = ℕ × List Lexeme} (a.0.0, b.0) (seconds, rest) = same_ok _ _ b.2 in
-    let whole : IsClosing a.0.0 lexemes b.0 = record { behind_duration = a.0.1; duration = seconds_read lexemes a.0.0 a.0.1 a.1; closed = expected_read signs.CloseParenthesis positions.BehindRange a.0.1 b.0 b.1 } in
-    subst (λ (p : ℕ × List Lexeme). IsClosing p.0 lexemes p.1) made whole
-
-closing_is : (seconds : ℕ) (lexemes rest : List Lexeme) → IsClosing seconds lexemes rest → closing_at lexemes ≡ Ok (seconds, rest)
-unfolding closing_at
-closing_is seconds lexemes rest is =
-    let a = expected_is signs.CloseParenthesis [] positions.BehindRange is.behind_duration rest is.closed in
-    rw (seconds_are seconds lexemes is.behind_duration is.duration, a.1) (ap (λ r. Ok (seconds, r)) a.2)
-
-range_derived : (lexemes : List Lexeme) (range : RangeForm) (rest : List Lexeme) → range_at false lexemes ≡ Ok (range, rest) → IsRange range lexemes rest
-unfolding range_at
-range_derived lexemes range rest h =
-    let a = bind_ok (expected signs.OpenParenthesis positions.Elsewhere lexemes) _ (range, rest) h in
-    let b = bind_ok (expected signs.OpenBrace positions.Elsewhere a.0) _ (range, rest) a.2 in
-    let c = bind_ok (selector_at false b.0) _ (range, rest) b.2 in
-    let d = bind_ok (closing_at c.0.1) _ (range, rest) c.2 in
-    let closing = closing_read c.0.1 d.0.0 d.0.1 d.1 in
-    let made : ◌≡◌ {A = RangeForm × List Lexeme} (record { matchers = c.0.0; seconds = d.0.0 }, d.0.1) (range, rest) = same_ok _ _ d.2 in
-    let whole : IsRange (record { matchers = c.0.0; seconds = d.0.0 }) lexemes d.0.1 = record {
-      behind_parenthesis = a.0;
-      behind_selector = c.0.1;
-      behind_duration = closing.behind_duration;
-      opened = expected_read signs.OpenParenthesis positions.Elsewhere lexemes a.0 a.1;
-      selector = selector_read a.0 b.0 c.0.0 c.0.1 (expected_read signs.OpenBrace positions.Elsewhere a.0 b.0 b.1) c.1;
-      duration = closing.duration;
-      closed = closing.closed;
-    } in
-    subst (λ (p : RangeForm × List Lexeme). IsRange p.0 lexemes p.1) made whole
-
-range_is : (range : RangeForm) (lexemes rest : List Lexeme) → IsRange range lexemes rest → range_at false lexemes ≡ Ok (range, rest)
-unfolding range_at
-range_is range lexemes rest is =
-    let a = expected_is signs.OpenParenthesis [] positions.Elsewhere lexemes is.behind_parenthesis is.opened in
-    let selector = subst (λ ls. IsSelector range.matchers ls is.behind_selector) (sym a.2) is.selector in
-    let b = selector_is range.matchers a.0 is.behind_selector selector in
-    let closing : IsClosing range.seconds is.behind_selector rest = record { behind_duration = is.behind_duration; duration = is.duration; closed = is.closed } in
-    rw (a.1, b.1, b.2, closing_is range.seconds is.behind_selector rest closing) refl
-
-function_read : (place : ℕ) (token : Token) (function : RangeFunction) → function_of place token ≡ Ok function → token ≡ tokens.Word (function_text function)
-function_read place (tokens.Word word) function h = ap tokens.Word (by_name function h)
-  where
-    by_name : (f : RangeFunction) → named_function place word ≡ Ok f → word ≡ function_text f
-    by_name functions.CountOverTime h = same_text word (codes "count_over_time") (if_ok (is_text word (codes "count_over_time")) _ _ _ h).0
-function_read place _ function h = absurd (no_err _ function h)
-
-function_is : (place : ℕ) (function : RangeFunction) → named_function place (function_text function) ≡ Ok function
-function_is place functions.CountOverTime = refl
-
-term_read : (lexemes : List Lexeme) (term : TermForm) (rest : List Lexeme) → term_at false lexemes ≡ Ok (term, rest) → IsTerm term lexemes rest
-unfolding term_at
-term_read lexemes term rest h =
-    let a = bind_ok (next lexemes) _ (term, rest) h in
-    let b = bind_ok (function_of a.0.0.place a.0.0.token) _ (term, rest) a.2 in
-    let c = bind_ok (range_at false a.0.1) _ (term, rest) b.2 in
-    let made : ◌≡◌ {A = TermForm × List Lexeme} (record { function = b.0; range = c.0.0 }, c.0.1) (term, rest) = same_ok _ _ c.2 in
-    let whole : IsTerm (record { function = b.0; range = c.0.0 }) lexemes c.0.1 = (a.0.1, one_read (tokens.Word (function_text b.0)) lexemes a.0.1 a.0.0 a.1 (function_read a.0.0.place a.0.0.token b.0 b.1), range_derived a.0.1 c.0.0 c.0.1 c.1) in
-    subst (λ (p : TermForm × List Lexeme). IsTerm p.0 lexemes p.1) made whole
-
-term_is : (term : TermForm) (lexemes rest : List Lexeme) → IsTerm term lexemes rest → term_at false lexemes ≡ Ok (term, rest)
-unfolding term_at
-term_is term lexemes rest is =
-    let a = next_is (tokens.Word (function_text term.function)) [] lexemes is.0 is.1 in
-    rw (a.is, function_is a.place term.function, range_is term.range a.behind rest (subst (λ ls. IsRange term.range ls rest) (sym a.more) is.2)) refl
-
-end_read : (place : ℕ) (token : Token) → ends place token ≡ Ok tt → token ≡ tokens.End
-end_read place tokens.End h = refl
-end_read place _ h = absurd (no_err _ tt h)
-
--- what is read is derived
-pub query_derived : (text : List ℕ) (query : QueryForm) → query_in false (lexemes_of text) ≡ Ok query → Derives text query
-unfolding query_in
-query_derived text query h =
-    let a = bind_ok (term_at false (lexemes_of text)) _ query h in
-    let b = bind_ok (next a.0.1) _ query a.2 in
-    let c = bind_ok (ends b.0.0.place b.0.0.token) _ query b.2 in
-    let made : ◌≡◌ {A = QueryForm} (record { left = a.0.0 }) query = same_ok _ _ c.2 in
-    let whole : Derives text (record { left = a.0.0 }) = (a.0.1, b.0.1, term_read (lexemes_of text) a.0.0 a.0.1 a.1, one_read tokens.End a.0.1 b.0.1 b.0.0 b.1 (end_read b.0.0.place b.0.0.token c.1)) in
-    subst (Derives text) made whole
-
--- what is derived is read
-pub derived_is_read : (text : List ℕ) (query : QueryForm) → Derives text query → query_in false (lexemes_of text) ≡ Ok query
-unfolding query_in
-derived_is_read text query derived =
-    let a = next_is tokens.End [] derived.0 derived.1 derived.3 in
-    rw (term_is query.left (lexemes_of text) derived.0 derived.2, a.is) refl

@@ -2,9 +2,9 @@
 use Rattle.std.proofs.Common.{◌-◌, ◌≤◌, length, map}
 use Rattle.rl_query.specs.Form.{filter_form}
 use Rattle.rl_query.specs.Limits.{most_stages}
-use Rattle.rl_query.specs.Sieving.{filters_at}
+use Rattle.rl_query.specs.Parsing.{filters_at}
 use Rattle.rl_query.proofs.Filters.{AreRead}
-use Rattle.rl_query.proofs.sieve.filters_at.Given as goal
+use Rattle.rl_query.proofs.stage.filters_at.Given as goal
 
 abbrev pub invariant-loop-turn : goal.invariant-loop-turn
 invariant-loop-turn l = AreRead (map filter_form l.filters.items) (most_stages - l._turn) l.rest (filters_at most_stages l.lexemes) × (length l.filters.items ≤ l._turn)

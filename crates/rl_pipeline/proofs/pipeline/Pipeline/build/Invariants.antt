@@ -1,0 +1,6 @@
+-- The filters so far.
+use Rattle.std.proofs.Common.{◌≡◌, take}
+use Rattle.rl_pipeline.proofs.pipeline.Pipeline.build.Given as goal
+
+abbrev pub invariant-loop-filter : goal.invariant-loop-filter
+invariant-loop-filter l = l.codes.items ≡ take l.filter-index l.filters

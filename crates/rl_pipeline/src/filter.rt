@@ -1,0 +1,70 @@
+//! Built line filters.
+ghost use Rattle.std.specs.Prelude.{◌≡◌, IfOk, IfErr};
+ghost use Rattle.rl_pipeline.specs.Building.{is_by_pattern, IsUnbuilt};
+
+use crate::search::{Looking, Search};
+use memchr::memmem::Finder;
+use rl_patterns::{PatternCode, PatternError};
+use rl_plain::TryCopy;
+use rl_query::{LineFilter, LineOp};
+use std::alloc::{AllocError, Global};
+use std::marker::Model;
+
+/// A built line filter. Contracts see it as the filter that it was built of.
+#[derive(Drop)]
+pub struct FilterCode {
+    filter: LineFilter,
+    sought: Sought,
+}
+
+// What a filter looks for in a line.
+#[derive(Drop)]
+pub(crate) enum Sought {
+    Text(Finder<'static>),
+    Pattern(PatternCode),
+}
+
+impl Model for FilterCode {
+    ghost use Rattle.rl_query.specs.declared.filter.LineFilter.{LineFilter};
+
+    ghost Value = { LineFilter };
+
+    ghost use Rattle.rl_pipeline.specs.Sought.{IsSoughtBy};
+
+    ghost view = { λ a. a.filter };
+
+    ghost invariant = { λ a. IsSoughtBy a.filter a.sought };
+}
+
+impl FilterCode {
+    /// The code of the filter. TooBig where its pattern's program is.
+    pub fn build(alloc: Global, filter: &LineFilter) -> Result<FilterCode, PatternError>
+        ensures code { IfOk result (λ code. code ≡ filter.now) }
+        ensures refused { IfErr result (IsUnbuilt (is_by_pattern filter.now)) }
+    {
+        let filter = filter.try_copy()?;
+        let sought = match filter.op {
+            LineOp::Contains | LineOp::Lacks => {
+                Sought::Text(Finder::new(filter.text.as_str().as_bytes()).into_owned(alloc)?)
+            }
+            LineOp::Matches | LineOp::NotMatches => {
+                Sought::Pattern(PatternCode::build(alloc, filter.text.as_str())?)
+            }
+        };
+        Ok(FilterCode { filter, sought })
+    }
+
+    /// What asks many lines for the filter.
+    pub fn search(&self) -> Result<Search<'_>, AllocError>
+        ensures { IfOk result (λ search. search ≡ self.now) }
+    {
+        let looking = match &self.sought {
+            Sought::Text(finder) => Looking::Text(finder),
+            Sought::Pattern(code) => Looking::Pattern(code.searching()?),
+        };
+        Ok(Search {
+            filter: &self.filter,
+            looking,
+        })
+    }
+}

@@ -1,0 +1,140 @@
+-- The productions of line filters: what is read is derived, and what is derived is read.
+use Rattle.std.proofs.Common.{◌≡◌, ℕ, zero, suc, ◌≤◌, Bool, true, false, cond, List, [], ◌∷◌, length, Option, Some, None, is_some, Result, Ok, Err, refl, ap, subst, ◌∙◌, arith}
+use Rattle.std.specs.List.{list_all}
+use Rattle.std.specs.Option.{option_map_or}
+use Rattle.std.proofs.lemmas.Bool.{and_parts, and_from}
+use Rattle.rl_plain.specs.Answers.{◌>>=◌}
+use Rattle.rl_query.specs.declared.fault.QueryFault.{QueryFault}
+use Rattle.rl_query.specs.declared.fault.QueryFault.TheVariants as faults
+use Rattle.rl_query.specs.declared.filter.LineOp.{LineOp}
+use Rattle.rl_query.specs.declared.filter.LineOp.TheVariants as lines
+use Rattle.rl_query.specs.declared.token.Lexeme.{Lexeme}
+use Rattle.rl_query.specs.declared.token.Sign.TheVariants as signs
+use Rattle.rl_query.specs.declared.token.Token.{Token}
+use Rattle.rl_query.specs.declared.token.Token.TheVariants as tokens
+use Rattle.rl_query.specs.Form.{FilterForm}
+use Rattle.rl_query.specs.Grammar.{Stand, filter_sign, filter_tokens, filters_tokens, AreFilters}
+use Rattle.rl_query.specs.Limits.{is_filter, most_stages}
+use Rattle.rl_query.specs.Parsing.{next, filter_op, filter_text, checked_filter, filter_at, filters_at, filters_in}
+use Rattle.rl_query.proofs.Productions.{bind_ok, if_ok, same_ok, no_err, stand_then, one_read, next_is}
+
+abbrev pub are_proper_filters : List FilterForm → Bool
+are_proper_filters = list_all (λ filter. is_filter filter.op filter.text)
+
+op_read : (t : Token) (op : LineOp) → filter_op t ≡ Some op → t ≡ tokens.Sign (filter_sign op)
+op_read (tokens.Sign signs.Contains) op h = ap (λ o. tokens.Sign (filter_sign o)) (some_is h)
+  where
+    some_is : Some lines.Contains ≡ Some op → lines.Contains ≡ op
+    some_is e = cc
+op_read (tokens.Sign signs.NotEqual) op h = let same : lines.Lacks ≡ op = cc in ap (λ o. tokens.Sign (filter_sign o)) same
+op_read (tokens.Sign signs.ContainsMatch) op h = let same : lines.Matches ≡ op = cc in ap (λ o. tokens.Sign (filter_sign o)) same
+op_read (tokens.Sign signs.NotMatches) op h = let same : lines.NotMatches ≡ op = cc in ap (λ o. tokens.Sign (filter_sign o)) same
+op_read (tokens.Sign _) op h = cc
+op_read _ op h = cc
+
+op_is : (op : LineOp) → filter_op (tokens.Sign (filter_sign op)) ≡ Some op
+op_is lines.Contains = refl
+op_is lines.Lacks = refl
+op_is lines.Matches = refl
+op_is lines.NotMatches = refl
+
+text_read : (place : ℕ) (t : Token) (value : List ℕ) → filter_text place t ≡ Ok value → t ≡ tokens.Text value
+text_read place (tokens.Text text) value h = ap tokens.Text (same_ok _ _ h)
+text_read place _ value h = absurd (no_err _ value h)
+
+-- a line filter behind its sign
+record IsFilter (op : LineOp) (filter : FilterForm) (lexemes rest : List Lexeme) : Type 0 where
+  pub op_is : op ≡ filter.op
+  pub stand : Stand (tokens.Text filter.text ∷ []) lexemes rest
+  pub proper : is_filter filter.op filter.text ≡ true
+
+filter_read : (op : LineOp) (lexemes : List Lexeme) (filter : FilterForm) (rest : List Lexeme) → filter_at op lexemes ≡ Ok (filter, rest) → IsFilter op filter lexemes rest
+unfolding filter_at
+filter_read op lexemes filter rest h =
+    let a = bind_ok (next lexemes) _ (filter, rest) h in
+    let b = bind_ok (filter_text a.0.0.place a.0.0.token) _ (filter, rest) a.2 in
+    let read : FilterForm = record { op = op; text = b.0 } in
+    let c = bind_ok (checked_filter read) _ (filter, rest) b.2 in
+    let checked = if_ok (is_filter op b.0) read c.0 faults.BadRegex c.1 in
+    let made : ◌≡◌ {A = FilterForm × List Lexeme} (c.0, a.0.1) (filter, rest) = same_ok _ _ c.2 in
+    let whole : IsFilter op read lexemes a.0.1 = record { op_is = refl; stand = one_read (tokens.Text b.0) lexemes a.0.1 a.0.0 a.1 (text_read a.0.0.place a.0.0.token b.0 b.1); proper = checked.0 } in
+    subst (λ (p : FilterForm × List Lexeme). IsFilter op p.0 lexemes p.1) made (subst (λ x. IsFilter op x lexemes a.0.1) checked.1 whole)
+
+-- line filters, at most so many
+pub record AreUpTo (most : ℕ) (filters : List FilterForm) (lexemes rest : List Lexeme) : Type 0 where
+  pub stand : Stand (filters_tokens filters) lexemes rest
+  pub proper : are_proper_filters filters ≡ true
+  pub few : length filters ≤ most
+
+none_read : (most : ℕ) (lexemes : List Lexeme) (filters : List FilterForm) (rest : List Lexeme) → ◌≡◌ {A = Result (List FilterForm × List Lexeme) QueryFault} (Ok ([], lexemes)) (Ok (filters, rest)) → AreUpTo most filters lexemes rest
+none_read most lexemes filters rest h =
+    let whole : AreUpTo most [] lexemes lexemes = record { stand = refl; proper = refl; few = omega arith } in
+    subst (λ (p : List FilterForm × List Lexeme). AreUpTo most p.0 lexemes p.1) (same_ok _ _ h) whole
+
+filters_read : (most : ℕ) (lexemes : List Lexeme) (filters : List FilterForm) (rest : List Lexeme) → filters_at most lexemes ≡ Ok (filters, rest) → AreUpTo most filters lexemes rest
+unfolding filters_at
+filters_read zero lexemes filters rest h =
+    let a = bind_ok (next lexemes) _ (filters, rest) h in
+    by_test (is_some (filter_op a.0.0.token)) a.2
+  where
+    by_test : (more : Bool) → cond {A = Result (List FilterForm × List Lexeme) QueryFault} more (Err faults.TooDeep) (Ok ([], lexemes)) ≡ Ok (filters, rest) → AreUpTo zero filters lexemes rest
+    by_test true h = absurd (no_err _ (filters, rest) h)
+    by_test false h = none_read zero lexemes filters rest h
+filters_read (suc most) lexemes filters rest h =
+    let a = bind_ok (next lexemes) _ (filters, rest) h in
+    by_op a.0.0 a.0.1 (filter_op a.0.0.token) a.1 refl a.2 (λ behind others end read. filters_read most behind others end read)
+  where
+    reading : List Lexeme → LineOp → Result (List FilterForm × List Lexeme) QueryFault
+    reading behind op = filter_at op behind >>= λ filter. filters_at most filter.1 >>= λ others. Ok (filter.0 ∷ others.0, others.1)
+
+    by_op : (first : Lexeme) (behind : List Lexeme) (o : Option LineOp) → next lexemes ≡ Ok (first, behind) → filter_op first.token ≡ o → option_map_or (reading behind) o (Ok ([], lexemes)) ≡ Ok (filters, rest)
+        → ((behind : List Lexeme) (others : List FilterForm) (end : List Lexeme) → filters_at most behind ≡ Ok (others, end) → AreUpTo most others behind end) → AreUpTo (suc most) filters lexemes rest
+    by_op first behind None n is h inner = none_read (suc most) lexemes filters rest h
+    by_op first behind (Some op) n is h inner =
+        let b = bind_ok (filter_at op behind) _ (filters, rest) h in
+        let c = bind_ok (filters_at most b.0.1) _ (filters, rest) b.2 in
+        let one = filter_read op behind b.0.0 b.0.1 b.1 in
+        let more = inner b.0.1 c.0.0 c.0.1 c.1 in
+        let made : ◌≡◌ {A = List FilterForm × List Lexeme} (b.0.0 ∷ c.0.0, c.0.1) (filters, rest) = same_ok _ _ c.2 in
+        let sign = one_read (tokens.Sign (filter_sign b.0.0.op)) lexemes behind first n (op_read first.token op is ∙ ap (λ o. tokens.Sign (filter_sign o)) one.op_is) in
+        let whole : AreUpTo (suc most) (b.0.0 ∷ c.0.0) lexemes c.0.1 = record {
+          stand = stand_then (filter_tokens b.0.0) (filters_tokens c.0.0) lexemes b.0.1 c.0.1 (stand_then (tokens.Sign (filter_sign b.0.0.op) ∷ []) (tokens.Text b.0.0.text ∷ []) lexemes behind b.0.1 sign one.stand) more.stand;
+          proper = and_from (is_filter b.0.0.op b.0.0.text) _ one.proper more.proper;
+          few = omega (arith, more.few);
+        } in
+        subst (λ (p : List FilterForm × List Lexeme). AreUpTo (suc most) p.0 lexemes p.1) made whole
+
+-- what stands behind the line filters, and begins none
+pub record Stops (lexemes : List Lexeme) : Type 0 where
+  pub first : Lexeme
+  pub behind : List Lexeme
+  pub is : next lexemes ≡ Ok (first, behind)
+  pub none : filter_op first.token ≡ None
+
+filters_are : (most : ℕ) (filters : List FilterForm) (lexemes rest : List Lexeme) → Stand (filters_tokens filters) lexemes rest → are_proper_filters filters ≡ true → length filters ≤ most → Stops rest → filters_at most lexemes ≡ Ok (filters, rest)
+unfolding filters_at filter_at
+filters_are zero [] lexemes rest stand proper few stops = rw (stand, stops.is, stops.none) refl
+filters_are (suc most) [] lexemes rest stand proper few stops = rw (stand, stops.is, stops.none) refl
+filters_are zero (f ∷ filters) lexemes rest stand proper few stops = absurd (omega (arith, few))
+filters_are (suc most) (f ∷ filters) lexemes rest stand proper few stops =
+    let parts = and_parts (is_filter f.op f.text) (are_proper_filters filters) proper in
+    let a = next_is (tokens.Sign (filter_sign f.op)) (tokens.Text f.text ∷ filters_tokens filters) lexemes rest stand in
+    let b = next_is (tokens.Text f.text) (filters_tokens filters) a.behind rest a.more in
+    rw (a.is, op_is f.op, b.is, parts.0, filters_are most filters b.behind rest b.more parts.1 (omega (arith, few)) stops) refl
+
+-- line filters where each pattern has room
+pub filters_derived : (lexemes : List Lexeme) (filters : List FilterForm) (rest : List Lexeme) → filters_in false lexemes ≡ Ok (filters, rest) → AreFilters filters lexemes rest
+unfolding filters_in
+filters_derived lexemes filters rest h =
+    let a = bind_ok (filters_at most_stages lexemes) _ (filters, rest) h in
+    let are = filters_read most_stages lexemes a.0.0 a.0.1 a.1 in
+    let whole : AreFilters a.0.0 lexemes a.0.1 = record { stand = are.stand; proper = are.proper; few = are.few } in
+    subst (λ (p : List FilterForm × List Lexeme). AreFilters p.0 lexemes p.1) (same_ok _ _ a.2) whole
+
+pub filters_are_read : (filters : List FilterForm) (lexemes rest : List Lexeme) → AreFilters filters lexemes rest → Stops rest → filters_in false lexemes ≡ Ok (filters, rest)
+unfolding filters_in
+filters_are_read filters lexemes rest are stops = rw (filters_are most_stages filters lexemes rest are.stand are.proper are.few stops) refl
+
+-- a sign or the end begins no line filter
+pub stops_at : (token : Token) (others : List Token) (lexemes rest : List Lexeme) → Stand (token ∷ others) lexemes rest → filter_op token ≡ None → Stops lexemes
+stops_at token others lexemes rest stand none = let a = next_is token others lexemes rest stand in record { first = record { token = token; place = a.place }; behind = a.behind; is = a.is; none = none }

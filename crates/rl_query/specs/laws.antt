@@ -1,2 +1,0 @@
--- Laws that the crates above may rest on.
-pub mod Productions
