@@ -1,4 +1,6 @@
+pub mod Building
 pub mod Crossing
+pub mod Digits
 pub mod Durations
 pub mod FromPairs
 pub mod Overrides

@@ -12,6 +12,7 @@ pub mod Pairs
 pub mod Parts
 pub mod Quantities
 pub mod Quantity
+pub mod QuantityTexts
 pub mod Rising
 pub mod Selects
 pub mod laws

@@ -1,12 +1,15 @@
 //! Rows of digits, and decimals.
-ghost use Rattle.std.specs.Prelude.{◌≡◌, ◌==◌, ◌<◌, ◌≤◌, ◌^◌, ℕ, length, true, IfSome, position};
+ghost use Rattle.std.specs.Prelude.{◌≡◌, ◌==◌, ◌<◌, ◌≤◌, ◌^◌, ◌++◌, ℕ, length, true, IfOk, IfSome, IsOk, IsTrue, OnOk, Some, position, string_bytes};
 ghost use Rattle.std.specs.Option.{option_map};
 ghost use Rattle.std.specs.Result.{result_ok};
 ghost use Rattle.std.specs.List.{list_all};
 ghost use Rattle.std.specs.Char.{is_ascii_digit};
 ghost use Rattle.std.specs.Str.Parse.{digits_value};
-ghost use Rattle.rl_labels.specs.Decimals.{is_row, number_of, decimal_of, cut_at_point};
+ghost use Rattle.rl_labels.specs.Decimals.{DecimalForm, is_row, number_of, decimal_of, cut_at_point};
+ghost use Rattle.rl_labels.specs.QuantityTexts.{digits_text, decimal_text, is_decimal};
 
+use rl_plain::{Same, TryCopy};
+use std::alloc::AllocError;
 use std::marker::Model;
 use thiserror::Error;
 
@@ -54,7 +57,7 @@ fn value_of(digits: &[u8]) -> u64
 }
 
 /// A decimal as it is written, without a sign: up to 15 digits, and up to 9 behind a point.
-#[derive(Clone, Copy, Debug)]
+#[derive(Clone, Copy, Debug, PartialEq, Eq)]
 pub struct Decimal {
     whole: u64,
     fraction: u64,
@@ -94,8 +97,11 @@ impl Decimal {
     ghost use Rattle.rl_labels.specs.Decimals.{billionths};
 
     /// The decimal that a text is. Any other text is `NotOne`.
+    #[tactic(auto, using(crate::specs::laws::QuantityLaws::decimal_again, crate::specs::laws::QuantityLaws::decimal_proper))]
     pub fn read(text: &str) -> Result<Decimal, NotOne>
-        ensures { result_ok result ≡ decimal_of 15 text.now }
+        ensures read { result_ok result ≡ decimal_of 15 text.now }
+        ensures again { (decimal : DecimalForm) → IsTrue (is_decimal decimal) → text.now ≡ decimal_text decimal → result_ok result ≡ Some decimal }
+        ensures proper { IfOk result (λ decimal. IsTrue (is_decimal decimal)) }
     {
         Decimal::of_digits(text.as_bytes(), 15).ok_or(NotOne)
     }
@@ -135,6 +141,45 @@ impl Decimal {
         let zeros = 9 - self.digits;
         let fraction = self.fraction * 10u64.pow(zeros);
         u128::from(self.whole) * 1_000_000_000 + u128::from(fraction)
+    }
+
+    /// Puts its canonical text, as `0.50`, behind what the text has.
+    pub fn push_to(self, text: &mut String) -> Result<(), AllocError>
+        ensures { OnOk result (string_bytes text.new ≡ string_bytes text.old ++ decimal_text self) }
+    {
+        write!(text, "{}", self.whole)?;
+        if self.digits > 0 {
+            text.push('.')?;
+            push_digits(text, self.digits, self.fraction)?;
+        }
+        Ok(())
+    }
+}
+
+// Puts the last so many digits of a number behind what the text has.
+fn push_digits(text: &mut String, count: u32, number: u64) -> Result<(), AllocError>
+    ensures { OnOk result (string_bytes text.new ≡ string_bytes text.old ++ digits_text count number) }
+{
+    if count == 0 {
+        return Ok(());
+    }
+    push_digits(text, count - 1, number / 10)?;
+    write!(text, "{}", number % 10)
+}
+
+impl TryCopy for Decimal {
+    /// Takes no memory, and is never refused.
+    fn try_copy(&self) -> Result<Self, AllocError>
+        ensures copy { IfOk result (λ copy. copy ≡ self.now) }
+        ensures made { IsOk result }
+    {
+        Ok(*self)
+    }
+}
+
+impl Same for Decimal {
+    fn is_same(&self, other: &Self) -> bool {
+        self == other
     }
 }
 

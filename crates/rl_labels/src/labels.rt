@@ -394,7 +394,10 @@ impl Labels {
     }
 
     // The set of labels by rising name.
-    fn from_labels(alloc: Global, labels: Vec<(PlainText, PlainText)>) -> Result<Labels, AllocError>
+    pub(crate) fn from_labels(
+        alloc: Global,
+        labels: Vec<(PlainText, PlainText)>,
+    ) -> Result<Labels, AllocError>
         requires { IsTrue (are_labels labels.items) }
         ensures { IfOk result (λ made. made ≡ label_set_of labels.items) }
     {

@@ -3,7 +3,7 @@
 //! A label set is seen as a finite map from names to texts that are not empty, `LabelSet`, and two label sets are equal,
 //! ordered and hashed by their canonical texts. Upper crates speak of it by `label`, `value_of` and `canonical_text`.
 //!
-//! - `labels`: `Labels`, made from pairs with named refusals.
+//! - `labels`: `Labels`, made from pairs with named refusals. `builder`: `LabelsBuilder`, label sets that grow.
 //! - `entry`: `Entry`, labels with a moment and a line.
 //! - `matcher`: `Matcher`, and its built code that accepts label sets. `selector`: the same of many that must all accept.
 //! - `decimal`: rows of digits, and `Decimal`. `quantity`: `Duration`, `Size`, and `Signed`, which labels' values are.
@@ -12,6 +12,7 @@
 //! - `limits`: `Limits`, made from numbers that are in their ranges.
 #![tactic(auto)]
 
+pub mod builder;
 pub mod decimal;
 pub mod entry;
 pub mod labels;
@@ -22,6 +23,7 @@ pub mod quantity;
 pub mod selector;
 pub mod sending;
 
+pub use builder::LabelsBuilder;
 pub use decimal::{Decimal, NotOne, number_of};
 pub use entry::{Entry, EntryFault, RefusedEntry};
 pub use labels::{Labels, LabelsError, LabelsFault};

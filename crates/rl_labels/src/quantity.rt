@@ -1,5 +1,5 @@
 //! Durations and sizes as LogQL's label filters write them, and the quantities that labels' values are.
-ghost use Rattle.std.specs.Prelude.{◌≡◌, ◌<◌, ◌≤◌, ◌^◌, List, length, map, take, drop, IfOk, IfErr, IfSome, None, Some, [], pos, if◌then◌else◌};
+ghost use Rattle.std.specs.Prelude.{◌≡◌, ◌<◌, ◌≤◌, ◌^◌, ◌++◌, List, length, map, take, drop, IfOk, IfErr, IfSome, IsOk, IsTrue, OnOk, None, Some, [], pos, string_bytes, if◌then◌else◌};
 ghost use Rattle.std.specs.Option.{option_map};
 ghost use Rattle.std.specs.Result.{result_ok};
 ghost use Rattle.std.specs.Ordering.{int_cmp};
@@ -7,9 +7,14 @@ ghost use Rattle.std.specs.List.{prefix_len};
 ghost use Rattle.std.specs.Char.{to_ascii_lowercase};
 ghost use Rattle.rl_labels.specs.Decimals.{billionths, decimal_of};
 ghost use Rattle.rl_labels.specs.Quantities.{nanoseconds_in, bytes_in, duration_unit, size_unit, is_byte_of, part_at, part_value, duration_of, duration_value, without_space, size_of, size_value, signed, sign_at, signed_value, no_time, duration_in_label};
+ghost use Rattle.rl_labels.specs.QuantityTexts.{duration_unit_text, size_unit_text, part_text, duration_text, size_text, is_duration, is_size};
+ghost use Rattle.rl_labels.specs.declared.quantity.DurationPart.{DurationPart};
+ghost use Rattle.rl_labels.specs.declared.quantity.Size.{Size};
 
 use crate::decimal::{Decimal, NotOne};
 use arrayvec::ArrayVec;
+use rl_plain::{Same, TryCopy};
+use std::alloc::AllocError;
 use std::cmp::Ordering;
 use std::marker::Model;
 
@@ -38,6 +43,20 @@ impl DurationUnit {
             DurationUnit::Second => 1_000_000_000,
             DurationUnit::Minute => 60_000_000_000,
             DurationUnit::Hour => 3_600_000_000_000,
+        }
+    }
+
+    // As canonical texts write it.
+    fn text(self) -> &'static str
+        ensures { result.now ≡ duration_unit_text self }
+    {
+        match self {
+            DurationUnit::Nanosecond => "ns",
+            DurationUnit::Microsecond => "us",
+            DurationUnit::Millisecond => "ms",
+            DurationUnit::Second => "s",
+            DurationUnit::Minute => "m",
+            DurationUnit::Hour => "h",
         }
     }
 }
@@ -95,6 +114,21 @@ impl SizeUnit {
             SizeUnit::Gibibyte => 1 << 30,
         }
     }
+
+    // As canonical texts write it.
+    fn text(self) -> &'static str
+        ensures { result.now ≡ size_unit_text self }
+    {
+        match self {
+            SizeUnit::Byte => "b",
+            SizeUnit::Kilobyte => "kb",
+            SizeUnit::Kibibyte => "kib",
+            SizeUnit::Megabyte => "mb",
+            SizeUnit::Mebibyte => "mib",
+            SizeUnit::Gigabyte => "gb",
+            SizeUnit::Gibibyte => "gib",
+        }
+    }
 }
 
 // The unit that a text is, in either case.
@@ -121,14 +155,14 @@ fn size_unit(text: &[u8]) -> Option<SizeUnit>
 }
 
 /// A part of a duration.
-#[derive(Clone, Copy, Debug, Default)]
+#[derive(Clone, Copy, Debug, Default, PartialEq, Eq)]
 pub struct DurationPart {
     pub number: Decimal,
     pub unit: DurationUnit,
 }
 
 /// A size as it is written.
-#[derive(Clone, Copy, Debug)]
+#[derive(Clone, Copy, Debug, PartialEq, Eq)]
 pub struct Size {
     pub number: Decimal,
     pub unit: SizeUnit,
@@ -180,12 +214,23 @@ impl DurationPart {
     {
         self.number.billionths() * u128::from(self.unit.nanoseconds())
     }
+
+    // Puts its canonical text behind what the text has.
+    fn push_to(self, text: &mut String) -> Result<(), AllocError>
+        ensures { OnOk result (string_bytes text.new ≡ string_bytes text.old ++ part_text self) }
+    {
+        self.number.push_to(text)?;
+        text.push_str(self.unit.text())
+    }
 }
 
 impl Size {
     /// The size that a text is: a decimal, at most one space, and a unit. Any other text is `NotOne`.
+    #[tactic(auto, using(crate::specs::laws::QuantityLaws::size_again, crate::specs::laws::QuantityLaws::size_proper))]
     pub fn read(text: &str) -> Result<Size, NotOne>
-        ensures { result_ok result ≡ size_of text.now }
+        ensures read { result_ok result ≡ size_of text.now }
+        ensures again { (size : Size) → IsTrue (is_size size) → text.now ≡ size_text size → result_ok result ≡ Some size }
+        ensures proper { IfOk result (λ size. IsTrue (is_size size)) }
     {
         size_in(text.as_bytes()).ok_or(NotOne)
     }
@@ -196,6 +241,14 @@ impl Size {
         ensures small { result < 10 ^ 34 }
     {
         self.number.billionths() * u128::from(self.unit.bytes())
+    }
+
+    /// Puts its canonical text, as `1.5kib`, behind what the text has.
+    pub fn push_to(self, text: &mut String) -> Result<(), AllocError>
+        ensures { OnOk result (string_bytes text.new ≡ string_bytes text.old ++ size_text self) }
+    {
+        self.number.push_to(text)?;
+        text.push_str(self.unit.text())
     }
 }
 
@@ -236,10 +289,34 @@ impl Model for Duration {
     ghost view = { λ a. a.parts.items };
 }
 
+impl PartialEq for Duration {
+    ghost use Rattle.std.specs.Cmp.Lexicographic.{pointwise, lists_per};
+    ghost use Rattle.rl_labels.specs.contracts.quantity.DurationPartPartialEq.TheImpl as parts;
+    ghost use Rattle.rl_labels.specs.contracts.quantity.DurationPartPartialEq.TheImpl.Laws as parts_laws;
+
+    ghost eq = { pointwise (parts.ghosts).eq };
+
+    ghost laws = { lists_per parts_laws.laws-law };
+
+    fn eq(&self, other: &Self) -> bool {
+        self.parts() == other.parts()
+    }
+}
+
+impl Eq for Duration {
+    ghost use Rattle.std.specs.Cmp.Lexicographic.{lists_equiv};
+    ghost use Rattle.rl_labels.specs.contracts.quantity.DurationPartEq.TheImpl.Laws as parts_laws;
+
+    ghost laws = { lists_equiv parts_laws.laws-law };
+}
+
 impl Duration {
     /// The duration that a text is. Any other text is `NotOne`.
+    #[tactic(auto, using(crate::specs::laws::QuantityLaws::duration_again, crate::specs::laws::QuantityLaws::duration_proper))]
     pub fn read(text: &str) -> Result<Duration, NotOne>
-        ensures { result_ok result ≡ duration_of text.now }
+        ensures read { result_ok result ≡ duration_of text.now }
+        ensures again { (parts : List DurationPart) → IsTrue (is_duration parts) → text.now ≡ duration_text parts → result_ok result ≡ Some parts }
+        ensures proper { IfOk result (λ duration. IsTrue (is_duration duration)) }
     {
         duration_in(text.as_bytes()).ok_or(NotOne)
     }
@@ -262,6 +339,16 @@ impl Duration {
             value += part.value();
         }
         value
+    }
+
+    /// Puts its canonical text, as `1h30m`, behind what the text has.
+    pub fn push_to(&self, text: &mut String) -> Result<(), AllocError>
+        ensures { OnOk result (string_bytes text.new ≡ string_bytes text.old ++ duration_text self.now) }
+    {
+        for part in self.parts() {
+            part.push_to(text)?;
+        }
+        Ok(())
     }
 }
 
@@ -395,5 +482,89 @@ fn with_sign(is_negative: bool, value: u128) -> i128
         -(value as i128)
     } else {
         value as i128
+    }
+}
+
+impl TryCopy for DurationUnit {
+    /// Takes no memory, and is never refused.
+    fn try_copy(&self) -> Result<Self, AllocError>
+        ensures copy { IfOk result (λ copy. copy ≡ self.now) }
+        ensures made { IsOk result }
+    {
+        Ok(*self)
+    }
+}
+
+impl Same for DurationUnit {
+    fn is_same(&self, other: &Self) -> bool {
+        self == other
+    }
+}
+
+impl TryCopy for DurationPart {
+    /// Takes no memory, and is never refused.
+    fn try_copy(&self) -> Result<Self, AllocError>
+        ensures copy { IfOk result (λ copy. copy ≡ self.now) }
+        ensures made { IsOk result }
+    {
+        Ok(*self)
+    }
+}
+
+impl Same for DurationPart {
+    fn is_same(&self, other: &Self) -> bool {
+        self == other
+    }
+}
+
+impl TryCopy for SizeUnit {
+    /// Takes no memory, and is never refused.
+    fn try_copy(&self) -> Result<Self, AllocError>
+        ensures copy { IfOk result (λ copy. copy ≡ self.now) }
+        ensures made { IsOk result }
+    {
+        Ok(*self)
+    }
+}
+
+impl Same for SizeUnit {
+    fn is_same(&self, other: &Self) -> bool {
+        self == other
+    }
+}
+
+impl TryCopy for Size {
+    /// Takes no memory, and is never refused.
+    fn try_copy(&self) -> Result<Self, AllocError>
+        ensures copy { IfOk result (λ copy. copy ≡ self.now) }
+        ensures made { IsOk result }
+    {
+        Ok(*self)
+    }
+}
+
+impl Same for Size {
+    fn is_same(&self, other: &Self) -> bool {
+        self == other
+    }
+}
+
+impl TryCopy for Duration {
+    /// Takes no memory, and is never refused.
+    fn try_copy(&self) -> Result<Self, AllocError>
+        ensures copy { IfOk result (λ copy. copy ≡ self.now) }
+        ensures made { IsOk result }
+    {
+        let mut parts = ArrayVec::new();
+        for part in self.parts() {
+            parts.push(*part);
+        }
+        Ok(Duration { parts })
+    }
+}
+
+impl Same for Duration {
+    fn is_same(&self, other: &Self) -> bool {
+        self == other
     }
 }

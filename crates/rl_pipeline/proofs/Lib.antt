@@ -1,1 +1,3 @@
+pub mod Names
+pub mod Pairs
 pub mod Standing

@@ -1,3 +1,6 @@
 pub mod Building
+pub mod Extracting
 pub mod Filtering
+pub mod JsonLeaves
+pub mod Parsed
 pub mod Sought

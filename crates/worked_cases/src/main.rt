@@ -13,6 +13,7 @@ mod front;
 mod given;
 mod labels;
 mod patterns;
+mod pipeline;
 mod plain;
 mod push;
 mod quantity;
@@ -111,6 +112,7 @@ fn answer_once(
         "front" => front::answer(alloc, directive, input),
         "labels" => labels::answer(alloc, directive, input),
         "patterns" => patterns::answer(alloc, directive, input),
+        "pipeline" => pipeline::answer(alloc, directive, input),
         "plain" => plain::answer(alloc, directive, input),
         "push" => push::answer(alloc, directive, input),
         "quantity" => quantity::answer(alloc, directive, input),

@@ -1,7 +1,8 @@
 //! Cases of quantities: what texts are as decimals, durations and sizes, in a query and in a label's value, with their
 //! values in billionths.
 use crate::trouble::Trouble;
-use rl_labels::{Decimal, Duration, Signed, Size};
+use rl_labels::{Decimal, Duration, NotOne, Signed, Size};
+use rl_plain::{Same, TryCopy};
 use std::alloc::Global;
 
 pub(crate) fn answer(alloc: Global, directive: &str, input: &str) -> Result<String, Trouble> {
@@ -12,6 +13,7 @@ pub(crate) fn answer(alloc: Global, directive: &str, input: &str) -> Result<Stri
         "label_number" => number_in_label(alloc, input),
         "label_duration" => duration_in_label(alloc, input),
         "compared" => compared(alloc, input),
+        "printed" => printed(alloc, input),
         _ => Err(Trouble::NoSuchDirective),
     }
 }
@@ -77,4 +79,31 @@ fn duration_of_label(text: &str) -> Result<Signed<Duration>, Trouble> {
 
 fn duration_of_query(text: &str) -> Result<Duration, Trouble> {
     Duration::read(text).ok().ok_or(Trouble::BadInput)
+}
+
+// The canonical text of the quantity that a text is, and whether that text is read as the same again.
+fn printed(alloc: Global, input: &str) -> Result<String, Trouble> {
+    let mut text = String::new(alloc);
+    let again = if let Ok(decimal) = Decimal::read(input) {
+        decimal.push_to(&mut text)?;
+        is_again(&decimal, Decimal::read(text.as_str()))?
+    } else if let Ok(duration) = Duration::read(input) {
+        duration.push_to(&mut text)?;
+        is_again(&duration, Duration::read(text.as_str()))?
+    } else {
+        let size = Size::read(input).ok().ok_or(Trouble::BadInput)?;
+        size.push_to(&mut text)?;
+        is_again(&size, Size::read(text.as_str()))?
+    };
+    Ok(format!(in alloc; "{text} {again}")?)
+}
+
+// Whether a copy of a quantity and what its text was read as are equal and the same.
+fn is_again<T: TryCopy + Same + PartialEq + Drop>(
+    quantity: &T,
+    again: Result<T, NotOne>,
+) -> Result<bool, Trouble> {
+    let again = again.ok().ok_or(Trouble::BadInput)?;
+    let copy = quantity.try_copy()?;
+    Ok(copy == again && copy.is_same(&again))
 }

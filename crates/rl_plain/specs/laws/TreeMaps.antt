@@ -18,7 +18,8 @@ use Rattle.rl_plain.specs.laws.Bools.{true_from}
 use Rattle.std.proofs.lemmas.Float.{T_from_true}
 
 module _ {K X : Type 0} (R : K → K → Ordering) where
-  find_lookup : (es : List (K × X)) (q : K) → find R q es ≡ lookup (is_at (R q)) es
+  -- what a list of entries has at a key is what a tree of them has there
+  pub find_lookup : (es : List (K × X)) (q : K) → find R q es ≡ lookup (is_at (R q)) es
   find_lookup [] q = refl
   find_lookup (e ∷ es) q = ap (cond (is_at (R q) e.0) (Some e.1)) (find_lookup es q)
 

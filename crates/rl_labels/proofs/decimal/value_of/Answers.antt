@@ -1,7 +1,8 @@
 -- A digit more, within the number that all write.
 use Rattle.std.proofs.Common.{◌+◌, ◌*◌, ◌<◌, ◌^◌, take, take_all, sym, ap, subst, ◌∙◌, arith}
 use Rattle.std.specs.Str.Parse.{digits_value}
-use Rattle.rl_labels.proofs.Rows.{digit_more, front-below, row-below}
+use Rattle.rl_labels.specs.laws.QuantityLaws.{row-below}
+use Rattle.rl_labels.proofs.Rows.{digit_more, front-below}
 use Rattle.rl_labels.proofs.decimal.value_of.Goals as goal
 
 pub overflow_mul-value : goal.overflow_mul-value

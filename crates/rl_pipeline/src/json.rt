@@ -1,0 +1,134 @@
+//! The parser `json`: the leaves of a line that is a JSON object.
+ghost use Rattle.std.specs.Prelude.{◌≡◌, IfOk, OnOk, None, Some, string_bytes, option_map};
+ghost use Rattle.serde_json.specs.View.{view, number_view, members_view};
+ghost use Rattle.rl_pipeline.specs.Extracting.{with_pairs};
+ghost use Rattle.rl_pipeline.specs.JsonLeaves.{below, number_leaf, leaves_at, leaves_below, leaves_of, json_leaves};
+ghost use Rattle.rl_pipeline.specs.Parsed.{json_labels};
+
+use crate::extracting::{add_pair, with_error};
+use rl_labels::{Labels, LabelsBuilder};
+use rl_plain::PlainText;
+use serde_json::{Map, Number, Value};
+use std::alloc::{AllocError, Global};
+
+// The error of a line that is no JSON object.
+const JSON_PARSER_ERROR: &str = "JSONParserErr";
+
+/// The labels of a stream's line behind `json`.
+pub fn json_labels(alloc: Global, labels: &Labels, line: &str) -> Result<Labels, AllocError>
+    ensures { IfOk result (λ all. all ≡ json_labels labels.now line.now) }
+{
+    match object_of(alloc, line)? {
+        Some(members) => leaf_labels(alloc, labels, members),
+        None => with_error(labels, JSON_PARSER_ERROR),
+    }
+}
+
+// The object that a line is.
+fn object_of(alloc: Global, line: &str) -> Result<Option<Map<String, Value>>, AllocError>
+    ensures { IfOk result (λ found. option_map (λ members. leaves_below None (members_view members.entries)) found ≡ json_leaves line.now) }
+{
+    match Value::from_str(alloc, line) {
+        Ok(document) => Ok(members_of(document)),
+        Err(error) if error.is_memory() => Err(AllocError),
+        Err(_) => Ok(None),
+    }
+}
+
+fn members_of(document: Value) -> Option<Map<String, Value>>
+    ensures { option_map (λ members. leaves_below None (members_view members.entries)) result ≡ leaves_of (Some (view document)) }
+{
+    match document {
+        Value::Object(members) => Some(members),
+        _ => None,
+    }
+}
+
+// The labels of a stream with those that the leaves of an object give.
+fn leaf_labels(
+    alloc: Global,
+    stream: &Labels,
+    members: Map<String, Value>,
+) -> Result<Labels, AllocError>
+    ensures { IfOk result (λ all. all ≡ with_pairs stream.now stream.now (leaves_below None (members_view members.entries))) }
+{
+    let mut labels = LabelsBuilder::new(alloc, stream)?;
+    add_leaves(alloc, stream, &mut labels, None, members)?;
+    labels.build()
+}
+
+// Adds the leaves of an object, which stands at a path or at none.
+#[cycle(leaves)]
+#[tactic(auto, using(crate::proofs::Pairs::with_more))]
+fn add_leaves(
+    alloc: Global,
+    stream: &Labels,
+    labels: &mut LabelsBuilder,
+    path: Option<&str>,
+    members: Map<String, Value>,
+) -> Result<(), AllocError>
+    ensures { OnOk result (labels.new ≡ with_pairs stream.now labels.old (leaves_below (option_map (λ t. t.now) path.entry) (members_view members.entries))) }
+{
+    for (key, value) in members {
+        let path = below(path, key)?;
+        add_value(alloc, stream, labels, path.as_str(), value)?;
+    }
+    Ok(())
+}
+
+// Adds the leaves of a value at a path.
+#[cycle(leaves)]
+fn add_value(
+    alloc: Global,
+    stream: &Labels,
+    labels: &mut LabelsBuilder,
+    path: &str,
+    value: Value,
+) -> Result<(), AllocError>
+    ensures { OnOk result (labels.new ≡ with_pairs stream.now labels.old (leaves_at path.now (view value))) }
+{
+    match value {
+        Value::Null | Value::Array(_) => Ok(()),
+        Value::Bool(truth) => {
+            let text = PlainText::from_str(alloc, if truth { "true" } else { "false" })?;
+            add_pair(alloc, stream, labels, path, text)
+        }
+        Value::Number(number) => add_number(alloc, stream, labels, path, number),
+        Value::String(text) => add_pair(alloc, stream, labels, path, PlainText::from_string(text)),
+        Value::Object(members) => add_leaves(alloc, stream, labels, Some(path), members),
+    }
+}
+
+// The path of a key below another.
+fn below(path: Option<&str>, key: String) -> Result<String, AllocError>
+    ensures { IfOk result (λ joined. string_bytes joined ≡ below (option_map (λ t. t.now) path.entry) (string_bytes key)) }
+{
+    let Some(path) = path else {
+        return Ok(key);
+    };
+    let mut joined = String::from_str(*key.allocator(), path)?;
+    joined.push('_')?;
+    joined.push_str(key.as_str())?;
+    Ok(joined)
+}
+
+// Adds the digits of a whole number at a path.
+fn add_number(
+    alloc: Global,
+    stream: &Labels,
+    labels: &mut LabelsBuilder,
+    path: &str,
+    number: Number,
+) -> Result<(), AllocError>
+    ensures { OnOk result (labels.new ≡ with_pairs stream.now labels.old (number_leaf path.now (number_view number))) }
+{
+    let mut text = String::new(alloc);
+    if let Some(whole) = number.as_u64() {
+        write!(text, "{whole}")?;
+    } else if let Some(whole) = number.as_i64() {
+        write!(text, "{whole}")?;
+    } else {
+        return Ok(());
+    }
+    add_pair(alloc, stream, labels, path, PlainText::from_string(text))
+}
