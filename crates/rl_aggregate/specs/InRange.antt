@@ -1,10 +1,12 @@
 -- The elements that the range of a term has at a moment.
-use Rattle.std.specs.Prelude.{ℕ, ◌+◌, ◌*◌, nat_lt, nat_le, Bool, ◌&&◌, List, map, length}
+use Rattle.std.specs.Prelude.{ℕ, ◌+◌, ◌*◌, nat_lt, nat_le, Bool, ◌&&◌, List, map, length, is_some}
+use Rattle.std.specs.Option.{unwrap_or}
 use Rattle.std.specs.List.{filter}
-use Rattle.rl_labels.specs.LabelSet.{LabelSet}
+use Rattle.rl_labels.specs.LabelSet.{LabelSet, no_labels}
 use Rattle.rl_labels.specs.Selects.{selects}
 use Rattle.rl_labels.specs.declared.entry.Entry.{Entry}
-use Rattle.rl_pipeline.specs.Filtering.{keeps}
+use Rattle.rl_pipeline.specs.Running.{run}
+use Rattle.rl_query.specs.declared.stages.Stage.{Stage}
 use Rattle.rl_query.specs.declared.query.Term.{Term}
 
 -- a second, in nanoseconds
@@ -20,16 +22,21 @@ pub record Element : Type 0 where
   pub labels : LabelSet
   pub bytes : ℕ
 
-abbrev pub element : Entry → Element
-element entry = record { labels = entry.labels; bytes = length entry.line }
+-- of an entry whose line stays: the labels that the line has behind the stages
+abbrev pub element : List Stage → Entry → Element
+element stages entry = record { labels = unwrap_or (run stages entry.line entry.labels) no_labels; bytes = length entry.line }
+
+-- the line stays behind the stages
+abbrev pub stays : List Stage → Entry → Bool
+stays stages entry = is_some (run stages entry.line entry.labels)
 
 -- the window has the entry, and the selector selects its stream
 abbrev pub is_selected : Term → ℕ → Entry → Bool
 is_selected term t entry = in_window term.range.seconds t entry.timestamp && selects term.range.selector.matchers entry.labels
 
--- and each line filter lets its line pass
+-- and its line stays
 abbrev pub is_in_range : Term → ℕ → Entry → Bool
-is_in_range term t entry = is_selected term t entry && keeps term.range.filters entry.line
+is_in_range term t entry = is_selected term t entry && stays term.range.stages entry
 
 abbrev pub in_range : List Entry → Term → ℕ → List Element
-in_range entries term t = map element (filter (is_in_range term t) entries)
+in_range entries term t = map (element term.range.stages) (filter (is_in_range term t) entries)

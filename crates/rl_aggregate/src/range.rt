@@ -1,19 +1,19 @@
 //! What the range of a term has at a moment, added up anew.
-ghost use Rattle.std.specs.Prelude.{◌≡◌, ◌≤◌, ◌+◌, ◌<◌, ◌^◌, ℕ, List, length, map, get_or, ◌++◌, IfOk, OnOk, IsTrue};
+ghost use Rattle.std.specs.Prelude.{◌≡◌, ◌≤◌, ◌<◌, List, [], ◌∷◌, length, map, get_or, ◌++◌, IfOk, OnOk, IsTrue};
 ghost use Rattle.std.specs.List.{list_all};
 ghost use Rattle.std.specs.List.Sorted.{IsPermutation};
 ghost use Rattle.rl_labels.specs.declared.entry.Entry.{Entry};
 ghost use Rattle.rl_query.specs.Limits.{longest_range};
-ghost use Rattle.rl_aggregate.specs.InRange.{in_window, is_selected, element};
-ghost use Rattle.rl_aggregate.specs.Runs.{is_like, all_have, kept, run_total};
-ghost use Rattle.rl_aggregate.specs.TotalsMap.{plus, total_at};
-ghost use Rattle.rl_aggregate.specs.Partials.{has_error, partial, partial_of, merge, most_entries, TotalFits};
+ghost use Rattle.rl_aggregate.specs.InRange.{in_window, is_selected, Element, element};
+ghost use Rattle.rl_aggregate.specs.Runs.{is_like, all_have, kept, run_total, HasRoom};
+ghost use Rattle.rl_pipeline.specs.Running.{IsPlain};
+ghost use Rattle.rl_aggregate.specs.Partials.{has_error, partial, partial_of, merge, most_entries};
 
 use crate::partial::Partial;
 use crate::total::Total;
 use rl_labels::labels::ERROR_LABEL;
 use rl_labels::{Entry, Labels, Ns, SelectorCode};
-use rl_pipeline::{Pipeline, Running};
+use rl_pipeline::{Meter, Pipeline, Running};
 use rl_query::Term;
 use std::alloc::{AllocError, Global};
 
@@ -21,7 +21,7 @@ use std::alloc::{AllocError, Global};
 const SECOND: u64 = 1_000_000_000;
 
 /// What the entries in the term's range at the moment add up to. The selector is asked once for a run of entries with one
-/// label set in the window, and the line filters for each line of a run that it selects.
+/// label set in the window, and the stages for each line of a run that it selects.
 pub fn scratch(alloc: Global, entries: &[Entry], term: &Term, t: Ns) -> Result<Partial, AllocError>
     requires { length entries.now ≤ most_entries }
     ensures partial { IfOk result (λ found. found ≡ partial entries.now term.now t) }
@@ -49,11 +49,11 @@ fn selector_of(alloc: Global, term: &Term) -> Result<SelectorCode, AllocError>
     SelectorCode::build(alloc, term.range.selector.matchers.as_slice()).or(Err(AllocError))
 }
 
-// The built line filters of a term. Their patterns were built when it was read, so a refusal is one for memory.
+// The built stages of a term. Their patterns were built when it was read, so a refusal is one for memory.
 fn pipeline_of(alloc: Global, term: &Term) -> Result<Pipeline, AllocError>
-    ensures { IfOk result (λ pipeline. pipeline ≡ term.now.range.filters) }
+    ensures { IfOk result (λ pipeline. pipeline ≡ term.now.range.stages) }
 {
-    Pipeline::build(alloc, term.range.filters.as_slice()).or(Err(AllocError))
+    Pipeline::build(alloc, term.range.stages.as_slice()).or(Err(AllocError))
 }
 
 // The entries that count as the first of them does, before one that does not; and those from that one on.
@@ -113,7 +113,7 @@ fn in_window(seconds: u64, t: Ns, timestamp: Ns) -> bool
     timestamp <= t && t.get() < timestamp.get() + seconds * SECOND
 }
 
-// Counts those of a run of entries with these labels whose lines the filters let pass.
+// Counts the lines of a run of entries with these labels, as far as they stay.
 fn count(
     found: &mut Partial,
     labels: &Labels,
@@ -121,10 +121,30 @@ fn count(
     running: &mut Running<'_>,
 ) -> Result<(), AllocError>
     requires few { length run.now ≤ most_entries }
-    requires errors { found.old.errors + length run.now < 2 ^ 64 }
-    requires fits { TotalFits (plus (total_at found.old.totals labels.now) (run_total (kept running.old run.now))) }
+    requires room { HasRoom found.old run.now }
     requires labels { IsTrue (all_have labels.now run.now) }
-    ensures counted { OnOk result (found.new ≡ merge found.old (partial_of (map element (kept running.old run.now)))) }
+    ensures counted { OnOk result ((elements : List Element) → found.old ≡ partial_of elements → found.new ≡ partial_of (elements ++ map (element running.old) (kept running.old run.now))) }
+    ensures same { running.new ≡ running.old }
+{
+    if running.is_plain() {
+        count_all(found, labels, run, running)
+    } else {
+        count_each(found, run, running)
+    }
+}
+
+// The same where the lines keep their labels: all are counted at once.
+fn count_all(
+    found: &mut Partial,
+    labels: &Labels,
+    run: &[Entry],
+    running: &mut Running<'_>,
+) -> Result<(), AllocError>
+    requires few { length run.now ≤ most_entries }
+    requires room { HasRoom found.old run.now }
+    requires labels { IsTrue (all_have labels.now run.now) }
+    requires plain { IsPlain running.old }
+    ensures counted { OnOk result (found.new ≡ merge found.old (partial_of (map (element running.old) (kept running.old run.now)))) }
     ensures same { running.new ≡ running.old }
 {
     let total = total_of(running, run);
@@ -138,9 +158,10 @@ fn count(
     found.totals.add(labels, total)
 }
 
-// How many entries have lines that the filters let pass, and the bytes of these lines.
+// How many entries have lines that stay, and the bytes of these lines, where lines keep their labels.
 fn total_of(running: &mut Running<'_>, run: &[Entry]) -> Total
-    requires { length run.now ≤ most_entries }
+    requires few { length run.now ≤ most_entries }
+    requires plain { IsPlain running.old }
     ensures total { result ≡ run_total (kept running.old run.now) }
     ensures same { running.new ≡ running.old }
 {
@@ -152,6 +173,45 @@ fn total_of(running: &mut Running<'_>, run: &[Entry]) -> Total
         }
     }
     total
+}
+
+// Counts each line with the labels that it has behind the stages.
+fn count_each(
+    found: &mut Partial,
+    run: &[Entry],
+    running: &mut Running<'_>,
+) -> Result<(), AllocError>
+    requires { HasRoom found.old run.now }
+    ensures counted { OnOk result ((elements : List Element) → found.old ≡ partial_of elements → found.new ≡ partial_of (elements ++ map (element running.old) (kept running.old run.now))) }
+    ensures same { running.new ≡ running.old }
+{
+    let mut meter = Meter::new();
+    for entry in run {
+        count_one(found, &mut meter, entry, running)?;
+    }
+    Ok(())
+}
+
+// Counts the line of an entry, if it stays.
+fn count_one(
+    found: &mut Partial,
+    meter: &mut Meter,
+    entry: &Entry,
+    running: &mut Running<'_>,
+) -> Result<(), AllocError>
+    requires { HasRoom found.old (entry.now ∷ []) }
+    ensures counted { OnOk result (found.new ≡ merge found.old (partial_of (map (element running.old) (kept running.old (entry.now ∷ []))))) }
+    ensures same { running.new ≡ running.old }
+{
+    let Some(labels) = running.run(meter, &entry.labels, entry.line.as_str())? else {
+        return Ok(());
+    };
+    if has_error(&labels) {
+        found.errors += 1;
+        return Ok(());
+    }
+    let bytes = entry.line.len() as u64;
+    found.totals.add(&labels, Total { count: 1, bytes })
 }
 
 // Whether a pipeline could not make sense of the line.

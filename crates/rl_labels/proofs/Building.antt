@@ -1,61 +1,82 @@
--- Labels put one behind the other into a tree.
-use Rattle.std.proofs.Common.{◌≡◌, ℕ, zero, suc, ◌+◌, ◌<◌, true, false, cond, not, List, [], ◌∷◌, length, get_or, take, T, refl, sym, ap, ◌∙◌, arith}
-use Rattle.std.specs.Ordering.{is_lt, match_ordering, ordering_reverse}
+-- Labels put one by one among labels by rising name.
+use Rattle.std.proofs.Common.{◌≡◌, ℕ, ◌+◌, ◌<◌, ◌≤◌, Bool, true, false, cond, not, List, [], ◌∷◌, ◌++◌, length, get_or, take, drop, Option, None, Some, is_some, refl, sym, ap, ◌∙◌, arith, append_assoc}
+use Rattle.std.specs.List.{insert}
+use Rattle.std.specs.Ordering.{is_eq, is_lt}
 use Rattle.std.specs.declared.cmp.Ordering.{Ordering}
 use Rattle.std.specs.declared.cmp.Ordering.TheVariants.{Less, Equal, Greater}
-use Rattle.std.specs.BTreeMap.{insert_entry, is_at}
-use Rattle.std.specs.Map.{lookup}
-use Rattle.std.specs.FinMap.Entries.{find, put, where_key, is_sorted, below_all, by_order}
+use Rattle.std.specs.FinMap.Entries.{find, put, where_key, by_order}
+use Rattle.std.specs.Cmp.Lexicographic.{texts_ties}
 use Rattle.std.proofs.lemmas.Bool.{and_parts, true≢false}
+use Rattle.std.proofs.lemmas.List.{take_more}
+use Rattle.std.proofs.lemmas.Grind.{common_steps}
 use Rattle.rl_plain.specs.laws.Bools.{true_from}
-use Rattle.rl_plain.specs.laws.TreeMaps.{find_lookup}
 use Rattle.rl_labels.specs.Name.{name_cmp, is_name, is_text}
 use Rattle.rl_labels.specs.LabelSet.{Pair, LabelSet, is_empty, is_label, are_labels, labels_of, labels_are_proper, label, same_labels, override, with_label, label_set_of}
-use Rattle.rl_labels.specs.laws.LabelLaws.{name_cmp_total, proper-override, labels_of-with_label, labels_of-label_set_of}
+use Rattle.rl_labels.specs.laws.LabelLaws.{proper-override, labels_of-with_label, labels_of-label_set_of}
+use Rattle.rl_labels.proofs.Steps.{split_at_place, find_front}
 
--- a tree puts an entry where it stands in the order
-pub insert_entry-put : (name value : List ℕ) (es : List Pair) → insert_entry name_cmp es name value ≡ put name_cmp name value es
-insert_entry-put name value [] = refl
-insert_entry-put name value (e ∷ es) = elim (name_cmp name e.0) as (λ o. match_ordering o ((name, value) ∷ e ∷ es) ((e.0, value) ∷ es) (e ∷ insert_entry name_cmp es name value) ≡ by_order o ((name, value) ∷ e ∷ es) ((e.0, value) ∷ es) (e ∷ put name_cmp name value es)) [
-  | Less ↦ refl
-  | Equal ↦ refl
-  | Greater ↦ ap (λ t. e ∷ t) (insert_entry-put name value es)
-]
+-- the labels of a set are in order, and make it
+pub set_in_order : (set : LabelSet) → are_labels (labels_of set) ≡ true
+set_in_order set = true_from _ (labels_are_proper set)
 
-is_less : (o : Ordering) → is_lt o ≡ true → o ≡ Less
-is_less Less h = refl
-is_less Equal h = absurd (true≢false (sym h))
-is_less Greater h = absurd (true≢false (sym h))
+pub set_again : (set : LabelSet) → label_set_of (labels_of set) ≡ set
+set_again set = same_labels _ set (labels_of-label_set_of (labels_of set) (set_in_order set))
 
--- a name below all is below the one at a place
-below_at : (x : List ℕ) (es : List Pair) (i : ℕ) (pair : Pair) → below_all name_cmp x es ≡ true → i < length es → pair ≡ get_or es i pair → name_cmp x pair.0 ≡ Less
-below_at x [] i pair h in' is = absurd (omega arith)
-below_at x (e ∷ es) zero pair h in' is = ap (λ (p : Pair). name_cmp x p.0) is ∙ is_less (name_cmp x e.0) (and_parts (is_lt (name_cmp x e.0)) (below_all name_cmp x es) h).0
-below_at x (e ∷ es) (suc i) pair h in' is = below_at x es i pair (and_parts (is_lt (name_cmp x e.0)) (below_all name_cmp x es) h).1 (omega arith) is
+-- what labels have at a name is what the set has that they make
+pub label_in : (es : List Pair) → are_labels es ≡ true → (name : List ℕ) → find name_cmp name es ≡ label (label_set_of es) name
+label_in es h name = ap (find name_cmp name) (sym (labels_of-label_set_of es h))
 
--- one more of labels in order goes to the end
-pub put_next : (es : List Pair) (i : ℕ) (pair : Pair) → is_sorted name_cmp es ≡ true → i < length es → pair ≡ get_or es i pair → put name_cmp pair.0 pair.1 (take i es) ≡ take (i + 1) es
-put_next [] i pair h in' is = absurd (omega arith)
-put_next (e ∷ es) zero pair h in' is = ap (λ (p : Pair). p ∷ []) is
-put_next (e ∷ es) (suc i) pair h in' is =
-    let parts = and_parts (below_all name_cmp e.0 es) (is_sorted name_cmp es) h in
-    let less : name_cmp e.0 pair.0 ≡ Less = below_at e.0 es i pair parts.0 (omega arith) is in
-    let greater : name_cmp pair.0 e.0 ≡ Greater = name_cmp_total.antisymm pair.0 e.0 ∙ ap ordering_reverse less in
-    ap (λ o. by_order o (pair ∷ e ∷ take i es) ((e.0, pair.1) ∷ take i es) (e ∷ put name_cmp pair.0 pair.1 (take i es))) greater
-    ∙ ap (λ t. e ∷ t) (put_next es i pair parts.1 (omega arith) is)
-    ∙ (let next : suc (i + 1) ≡ suc i + 1 = omega arith in ap (λ n. take n (e ∷ es)) next)
+-- What is known in front of a place: no label behind has the name, and it would stand there.
+pub record NotYet (name : List ℕ) (labels : List Pair) (i : ℕ) : Type 0 where
+  pub none : find name_cmp name (drop i labels) ≡ None
+  pub placed : (value : List ℕ) → take i labels ++ put name_cmp name value (drop i labels) ≡ put name_cmp name value labels
 
-module _ (set : LabelSet) where
-  pub set_in_order : are_labels (labels_of set) ≡ true
-  set_in_order = true_from _ (labels_are_proper set)
+pub at_start : (name : List ℕ) (labels : List Pair) → find name_cmp name labels ≡ None → NotYet name labels 0
+at_start name labels none = record { none = none; placed = λ value. refl }
 
-  -- a set is that of its labels
-  pub set_again : label_set_of (labels_of set) ≡ set
-  set_again = same_labels _ set (labels_of-label_set_of (labels_of set) set_in_order)
+some_none : (x : List ℕ) → ◌≡◌ {A = Option (List ℕ)} (Some x) None → ⊥
+some_none x e = cc
 
-  -- what a tree has at a name is the label of the set that it makes
-  pub tree_label : (es : List Pair) → are_labels es ≡ true → label_set_of es ≡ set → (name : List ℕ) → lookup (is_at (name_cmp name)) es ≡ label set name
-  tree_label es h is name = sym (find_lookup name_cmp es name) ∙ ap (find name_cmp name) (sym (labels_of-label_set_of es h) ∙ ap labels_of is)
+-- a label that is not above the name is passed over
+pub passed : (name : List ℕ) (labels : List Pair) (i : ℕ) (pair : Pair) → i < length labels → pair ≡ get_or labels i pair → is_lt (name_cmp name pair.0) ≡ false → NotYet name labels i → NotYet name labels (i + 1)
+passed name labels i pair in' is above so_far = by_order_of (name_cmp name pair.0) refl above
+  where
+    found : (b : Bool) → is_text name pair.0 ≡ b → find name_cmp name (drop i labels) ≡ cond b (Some pair.1) (find name_cmp name (drop (i + 1) labels))
+    found b e = find_front name labels i pair in' is ∙ ap (λ t. cond t (Some pair.1) (find name_cmp name (drop (i + 1) labels))) e
+
+    next : (value : List ℕ) → name_cmp name pair.0 ≡ Greater → put name_cmp name value (drop i labels) ≡ pair ∷ put name_cmp name value (drop (i + 1) labels)
+    next value greater =
+        ap (put name_cmp name value) (split_at_place labels i pair in' is)
+        ∙ ap (λ o. by_order o ((name, value) ∷ pair ∷ drop (i + 1) labels) ((pair.0, value) ∷ drop (i + 1) labels) (pair ∷ put name_cmp name value (drop (i + 1) labels))) greater
+
+    regrouped : (rest : List Pair) → take (i + 1) labels ++ rest ≡ take i labels ++ pair ∷ rest
+    regrouped rest = ap (λ t. t ++ rest) (take_more labels i pair in') ∙ append_assoc (take i labels) (get_or labels i pair ∷ []) rest ∙ ap (λ p. take i labels ++ p ∷ rest) (sym is)
+
+    by_order_of : (o : Ordering) → name_cmp name pair.0 ≡ o → is_lt o ≡ false → NotYet name labels (i + 1)
+    by_order_of Less e h = absurd (true≢false h)
+    by_order_of Equal e h = absurd (some_none pair.1 (sym (found true (texts_ties name pair.0 ∙ ap is_eq e)) ∙ so_far.none))
+    by_order_of Greater e h = record {
+      none = sym (found false (texts_ties name pair.0 ∙ ap is_eq e)) ∙ so_far.none;
+      placed = λ value. regrouped (put name_cmp name value (drop (i + 1) labels)) ∙ ap (λ t. take i labels ++ t) (sym (next value e)) ∙ so_far.placed value;
+    }
+
+-- one that is above it stands behind
+pub stands : (name : List ℕ) (labels : List Pair) (i : ℕ) (pair : Pair) (value : List ℕ) → i < length labels → pair ≡ get_or labels i pair → is_lt (name_cmp name pair.0) ≡ true → NotYet name labels i → put name_cmp name value labels ≡ insert labels i (name, value)
+stands name labels i pair value in' is below so_far =
+    sym (so_far.placed value)
+    ∙ ap (λ t. take i labels ++ t) (
+    ap (put name_cmp name value) (split_at_place labels i pair in' is)
+    ∙ ap (λ o. by_order o ((name, value) ∷ pair ∷ drop (i + 1) labels) ((pair.0, value) ∷ drop (i + 1) labels) (pair ∷ put name_cmp name value (drop (i + 1) labels))) (is_less (name_cmp name pair.0) below)
+    ∙ ap (λ t. (name, value) ∷ t) (sym (split_at_place labels i pair in' is)))
+  where
+    is_less : (o : Ordering) → is_lt o ≡ true → o ≡ Less
+    is_less Less h = refl
+    is_less Equal h = absurd (true≢false (sym h))
+    is_less Greater h = absurd (true≢false (sym h))
+
+-- and behind all of them
+pub stands_last : (name : List ℕ) (labels : List Pair) (i : ℕ) (value : List ℕ) → length labels ≤ i → NotYet name labels i → put name_cmp name value labels ≡ insert labels (length labels) (name, value)
+stands_last name labels i value past so_far = sym (so_far.placed value) ∙ grind (arith, common_steps)
 
 module _ (name value : List ℕ) (es : List Pair) (this : is_label (name, value) ≡ true) (h : are_labels es ≡ true) where
   is_named : is_name name ≡ true
@@ -76,3 +97,31 @@ module _ (name value : List ℕ) (es : List Pair) (this : is_label (name, value)
       labels_of-label_set_of (put name_cmp name value es) are_put ∙ sym is_put
       ∙ ap (override name value) (sym (labels_of-label_set_of es h))
       ∙ sym (labels_of-with_label (label_set_of es) name value is_named))
+
+-- What is known of a label that is added, at its place.
+pub record Added (set : LabelSet) (name value : List ℕ) (es : List Pair) (place : ℕ) : Type 0 where
+  pub this : is_label (name, value) ≡ true
+  pub are : are_labels es ≡ true
+  pub of_set : label_set_of es ≡ set
+  pub absent : is_some (find name_cmp name es) ≡ false
+  pub placed : find name_cmp name es ≡ None → put name_cmp name value es ≡ insert es place (name, value)
+
+is_placed : (set : LabelSet) (name value : List ℕ) (es : List Pair) (place : ℕ) → Added set name value es place → insert es place (name, value) ≡ put name_cmp name value es
+is_placed set name value es place a = sym (a.placed (is_none (find name_cmp name es) a.absent))
+  where
+    is_none : (o : Option (List ℕ)) → is_some o ≡ false → o ≡ None
+    is_none None h = refl
+    is_none (Some x) h = absurd (true≢false h)
+
+pub added_are : (set : LabelSet) (name value : List ℕ) (es : List Pair) (place : ℕ) → Added set name value es place → are_labels (insert es place (name, value)) ≡ true
+added_are set name value es place a = ap are_labels (is_placed set name value es place a) ∙ are_put name value es a.this a.are
+
+pub added_set : (set : LabelSet) (name value : List ℕ) (es : List Pair) (place : ℕ) → Added set name value es place → label_set_of (insert es place (name, value)) ≡ cond (is_some (label set name)) set (with_label set name value)
+added_set set name value es place a =
+    ap label_set_of (is_placed set name value es place a) ∙ set_put name value es a.this a.are ∙ ap (λ s. with_label s name value) a.of_set
+    ∙ sym (ap (λ b. cond b set (with_label set name value)) (sym (ap is_some (label_in es a.are name) ∙ ap (λ s. is_some (label s name)) a.of_set) ∙ a.absent))
+
+-- and none where the name is there
+pub not_added : (set : LabelSet) (name value : List ℕ) (es : List Pair) → are_labels es ≡ true → label_set_of es ≡ set → is_some (find name_cmp name es) ≡ true → set ≡ cond (is_some (label set name)) set (with_label set name value)
+not_added set name value es are of_set there =
+    sym (ap (λ b. cond b set (with_label set name value)) (sym (ap is_some (label_in es are name) ∙ ap (λ s. is_some (label s name)) of_set) ∙ there))

@@ -1,19 +1,23 @@
 //! Label sets that are built label by label.
-ghost use Rattle.std.specs.Prelude.{◌≡◌, IsTrue, IfOk, OnOk, OnErr};
+ghost use Rattle.std.specs.Prelude.{◌≡◌, ◌≤◌, List, ℕ, IsTrue, IfOk, OnOk, OnErr, None, is_some, length, if◌then◌else◌};
+ghost use Rattle.std.specs.List.{insert};
 ghost use Rattle.std.specs.Option.{option_copied};
+ghost use Rattle.std.specs.FinMap.Entries.{find, put};
+ghost use Rattle.rl_labels.specs.Name.{name_cmp};
 ghost use Rattle.rl_labels.specs.LabelSet.{is_label, label, with_label};
 
-use crate::labels::Labels;
-use rl_plain::{PlainText, TryCopy};
+use crate::labels::{Labels, push_copies, value_in};
+use rl_plain::PlainText;
 use std::alloc::{AllocError, Global};
-use std::collections::BTreeMap;
 use std::marker::Model;
+
+// The labels for which there is room at first, beside those of the set that it begins with.
+const ROOM: usize = 8;
 
 /// A label set that grows label by label, and whose text is made once, at the end. Contracts see the set.
 #[derive(Debug, Drop)]
 pub struct LabelsBuilder {
-    alloc: Global,
-    by_name: BTreeMap<PlainText, PlainText>,
+    labels: Vec<(PlainText, PlainText)>,
 }
 
 impl Model for LabelsBuilder {
@@ -24,38 +28,40 @@ impl Model for LabelsBuilder {
 
     ghost coded = { label_set_code };
 
-    ghost view = { λ a. label_set_of a.by_name.entries };
+    ghost view = { λ a. label_set_of a.labels.items };
 
-    ghost invariant = { λ a. IsTrue (are_labels a.by_name.entries) };
+    ghost invariant = { λ a. IsTrue (are_labels a.labels.items) };
 }
 
 impl LabelsBuilder {
     /// The labels of a set, copied.
-    pub fn new(alloc: Global, labels: &Labels) -> Result<LabelsBuilder, AllocError>
-        ensures { IfOk result (λ builder. builder ≡ labels.now) }
+    pub fn new(alloc: Global, set: &Labels) -> Result<LabelsBuilder, AllocError>
+        ensures { IfOk result (λ builder. builder ≡ set.now) }
     {
-        let mut by_name = BTreeMap::new(alloc);
-        for (name, value) in labels.pairs() {
-            by_name.insert(name.try_copy()?, value.try_copy()?)?;
-        }
-        Ok(LabelsBuilder { alloc, by_name })
+        let pairs = set.pairs();
+        let mut labels = Vec::with_capacity(alloc, pairs.len().saturating_add(ROOM))?;
+        push_copies(&mut labels, pairs)?;
+        Ok(LabelsBuilder { labels })
     }
 
     /// The value of a label, if the set has it.
-    pub fn get(&self, name: &PlainText) -> Option<&str>
+    pub fn get(&self, name: &str) -> Option<&str>
         ensures { option_copied result ≡ label self.now name.now }
     {
-        let value = self.by_name.get(name)?;
-        Some(value.as_str())
+        value_in(&self.labels, name)
     }
 
-    /// Sets a label, in the place of one with its name. Refused, the set stays as it was.
-    pub fn set(&mut self, name: PlainText, value: PlainText) -> Result<(), AllocError>
+    /// Adds a label, unless the set has one with its name. Refused, the set stays as it was.
+    pub fn add(&mut self, name: PlainText, value: PlainText) -> Result<(), AllocError>
         requires { IsTrue (is_label (name, value)) }
-        ensures set { OnOk result (self.new ≡ with_label self.old name value) }
+        ensures added { OnOk result (self.new ≡ (if is_some (label self.old name) then self.old else with_label self.old name value)) }
         ensures refused { OnErr result (self.new ≡ self.old) }
     {
-        self.by_name.insert(name, value)?;
+        if has(&self.labels, name.as_str()) {
+            return Ok(());
+        }
+        let place = place_of(&self.labels, name.as_str());
+        self.labels.insert(place, (name, value))?;
         Ok(())
     }
 
@@ -63,11 +69,28 @@ impl LabelsBuilder {
     pub fn build(self) -> Result<Labels, AllocError>
         ensures { IfOk result (λ labels. labels ≡ self) }
     {
-        let mut labels = Vec::with_capacity(self.alloc, self.by_name.len())?;
-        for (name, value) in self.by_name {
-            labels.push((name, value))?;
-        }
-        let built = Labels::from_labels(self.alloc, labels)?;
+        let alloc = *self.labels.allocator();
+        let LabelsBuilder { labels } = self;
+        let built = Labels::from_labels(alloc, labels)?;
         Ok(built)
     }
+}
+
+fn has(labels: &[(PlainText, PlainText)], name: &str) -> bool
+    ensures { result ≡ is_some (find name_cmp name.now labels.now) }
+{
+    value_in(labels, name).is_some()
+}
+
+// Where a label with a name that none has stands among labels by rising name.
+fn place_of(labels: &[(PlainText, PlainText)], name: &str) -> usize
+    ensures within { result ≤ length labels.now }
+    ensures placed { find name_cmp name.now labels.now ≡ None → (value : List ℕ) → put name_cmp name.now value labels.now ≡ insert labels.now result (name.now, value) }
+{
+    for (index, label) in labels.iter().enumerate() {
+        if name.cmp(label.0.as_str()).is_lt() {
+            return index;
+        }
+    }
+    labels.len()
 }

@@ -168,7 +168,7 @@ fn room_after(room: usize, label: &(PlainText, PlainText)) -> Option<usize>
 }
 
 // The value of the label with this name.
-fn value_in<'a>(labels: &'a [(PlainText, PlainText)], name: &str) -> Option<&'a str>
+pub(crate) fn value_in<'a>(labels: &'a [(PlainText, PlainText)], name: &str) -> Option<&'a str>
     ensures { option_copied result ≡ find name_cmp name.now labels.now }
 {
     for label in labels {
@@ -271,7 +271,7 @@ fn push_new(
     Ok(())
 }
 
-fn push_copies(
+pub(crate) fn push_copies(
     all: &mut Vec<(PlainText, PlainText)>,
     labels: &[(PlainText, PlainText)],
 ) -> Result<(), AllocError>

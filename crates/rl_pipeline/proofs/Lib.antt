@@ -1,3 +1,6 @@
+pub mod LogfmtTexts
+pub mod LogfmtTurns
 pub mod Names
 pub mod Pairs
+pub mod Stages
 pub mod Standing

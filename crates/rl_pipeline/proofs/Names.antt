@@ -1,8 +1,9 @@
 -- The names that keys become are names of labels.
-use Rattle.std.proofs.Common.{◌≡◌, ℕ, Bool, true, false, cond, not, ◌||◌, List, [], ◌∷◌, ◌++◌, map, codes, refl, sym, ap, ◌∙◌}
+use Rattle.std.proofs.Common.{◌≡◌, ℕ, Bool, true, false, cond, not, ◌||◌, List, [], ◌∷◌, ◌++◌, map, codes, refl, sym, ap, ◌∙◌, arith}
 use Rattle.std.specs.List.{list_all}
 use Rattle.std.specs.Char.{is_ascii_digit}
 use Rattle.std.proofs.lemmas.Bool.{and_parts, and_from, true≢false}
+use Rattle.std.proofs.lemmas.Bool.Decides.{nat_tests}
 use Rattle.rl_labels.specs.Name.{is_name, is_name_start, is_name_byte, is_text}
 use Rattle.rl_labels.specs.LabelSet.{LabelSet, is_empty, is_label}
 use Rattle.rl_pipeline.specs.Extracting.{name_byte, name_of_key, error_name, has, gives_none, beside}
@@ -34,6 +35,26 @@ key_named (byte ∷ bytes) some = elim (is_ascii_digit byte) as (λ t. is_ascii_
   | true ↦ λ _. and_from _ _ (byte_named byte) (bytes_named bytes)
   | false ↦ λ other. and_from _ _ (start_named byte other) (bytes_named bytes)
 ] refl
+
+bytes_themselves : (bytes : List ℕ) → list_all is_name_byte bytes ≡ true → map name_byte bytes ≡ bytes
+bytes_themselves [] h = refl
+bytes_themselves (byte ∷ bytes) h =
+    let parts = and_parts (is_name_byte byte) (list_all is_name_byte bytes) h in
+    λ i. ap (λ b. cond b byte 95) parts.0 i ∷ bytes_themselves bytes parts.1 i
+
+start_no_digit : (byte : ℕ) → is_name_start byte ≡ true → is_ascii_digit byte ≡ false
+start_no_digit byte h = grind (arith, nat_tests)
+
+start_in_name : (byte : ℕ) → is_name_start byte ≡ true → is_name_byte byte ≡ true
+start_in_name byte h = ap (λ b. b || is_ascii_digit byte) h
+
+-- a key that is a name becomes itself
+pub name_itself : (key : List ℕ) → is_name key ≡ true → name_of_key key ≡ key
+name_itself [] h = absurd (true≢false (sym h))
+name_itself (byte ∷ bytes) h =
+    let parts = and_parts (is_name_start byte) (list_all is_name_byte bytes) h in
+    ap (λ b. cond b (codes "_") [] ++ map name_byte (byte ∷ bytes)) (start_no_digit byte parts.0)
+    ∙ bytes_themselves (byte ∷ bytes) (and_from (is_name_byte byte) _ (start_in_name byte parts.0) parts.1)
 
 all_more : (xs ys : List ℕ) → list_all is_name_byte xs ≡ true → list_all is_name_byte ys ≡ true → list_all is_name_byte (xs ++ ys) ≡ true
 all_more [] ys h g = g

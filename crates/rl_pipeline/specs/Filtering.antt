@@ -1,6 +1,6 @@
--- Which lines a line filter lets pass, and which a list of them keeps.
+-- Which lines a line filter lets pass.
 use Rattle.std.specs.Prelude.{ℕ, Bool, not, ◌||◌, ◌==◌, nat_eq, List, [], ◌∷◌, length}
-use Rattle.std.specs.List.{list_all, starts_with}
+use Rattle.std.specs.List.{starts_with}
 use Rattle.rl_patterns.specs.Matching.{has_match}
 use Rattle.rl_query.specs.declared.filter.LineFilter.{LineFilter}
 use Rattle.rl_query.specs.declared.filter.LineOp.{LineOp}
@@ -21,7 +21,3 @@ finds NotMatches text line = not (has_match text line)
 -- the filter lets the line pass
 abbrev pub passes : LineFilter → (line : List ℕ) → Bool
 passes filter line = finds filter.op filter.text line
-
--- each filter lets the line pass
-abbrev pub keeps : List LineFilter → (line : List ℕ) → Bool
-keeps filters line = list_all (λ filter. passes filter line) filters

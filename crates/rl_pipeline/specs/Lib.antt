@@ -2,5 +2,13 @@ pub mod Building
 pub mod Extracting
 pub mod Filtering
 pub mod JsonLeaves
+pub mod LabelTests
+pub mod LogfmtPairs
+pub mod Metering
 pub mod Parsed
+pub mod QuantityTests
+pub mod Running
+pub mod Sieving
 pub mod Sought
+pub mod Steps
+pub mod TestNodes

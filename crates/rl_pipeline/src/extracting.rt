@@ -1,11 +1,12 @@
 //! The labels that the pairs of a parser become.
-ghost use Rattle.std.specs.Prelude.{◌≡◌, ◌<◌, IfOk, OnOk};
+ghost use Rattle.std.specs.Prelude.{◌≡◌, ◌<◌, IfOk, OnOk, false};
+ghost use Rattle.rl_labels.specs.LabelSet.{is_empty};
 ghost use Rattle.rl_labels.specs.Name.{is_name_byte};
 ghost use Rattle.rl_pipeline.specs.Extracting.{name_byte, begins_with_digit, name_of_key, gives_none, beside, with_new, with_pair, with_error};
 
-use rl_labels::labels::ERROR_LABEL;
+use rl_labels::labels::{ERROR_LABEL, is_label_name};
 use rl_labels::{Labels, LabelsBuilder};
-use rl_plain::{PlainText, TryCopy};
+use rl_plain::PlainText;
 use std::alloc::{AllocError, Global};
 
 // A byte of a name, and an underscore for every other byte.
@@ -28,8 +29,19 @@ fn begins_with_digit(key: &str) -> bool
     }
 }
 
-// The name that a key becomes.
-fn name_of_key(alloc: Global, key: &str) -> Result<PlainText, AllocError>
+// The name that a key becomes. Most keys are names, which are moved.
+#[tactic(auto, using(crate::proofs::Names::name_itself))]
+fn name_of_key(alloc: Global, key: PlainText) -> Result<PlainText, AllocError>
+    ensures { IfOk result (λ name. name ≡ name_of_key key) }
+{
+    if is_label_name(key.as_str()) {
+        return Ok(key);
+    }
+    cleaned(alloc, key.as_str())
+}
+
+// The key with an underscore for each byte that no name has, and before a digit at its front.
+fn cleaned(alloc: Global, key: &str) -> Result<PlainText, AllocError>
     ensures { IfOk result (λ name. name ≡ name_of_key key.now) }
 {
     let mut name = String::with_capacity(alloc, key.len())?;
@@ -67,28 +79,27 @@ pub(crate) fn add_pair(
     alloc: Global,
     stream: &Labels,
     labels: &mut LabelsBuilder,
-    key: &str,
+    key: PlainText,
     value: PlainText,
 ) -> Result<(), AllocError>
-    ensures { OnOk result (labels.new ≡ with_pair stream.now labels.old (key.now, value)) }
+    ensures { OnOk result (labels.new ≡ with_pair stream.now labels.old (key, value)) }
 {
     let name = name_of_key(alloc, key)?;
     if gives_none(&name, &value) {
         return Ok(());
     }
-    let name = beside(stream, name)?;
-    if labels.get(&name).is_some() {
-        return Ok(());
-    }
-    labels.set(name, value)
+    labels.add(beside(stream, name)?, value)
 }
 
-/// The labels with an error, unless they have one.
-pub(crate) fn with_error(labels: &Labels, error: &str) -> Result<Labels, AllocError>
-    ensures { IfOk result (λ all. all ≡ with_error labels.now error.now) }
+// Adds an error, unless one is set.
+pub(crate) fn add_error(
+    alloc: Global,
+    labels: &mut LabelsBuilder,
+    error: &str,
+) -> Result<(), AllocError>
+    requires { is_empty error.now ≡ false }
+    ensures { OnOk result (labels.new ≡ with_error labels.old error.now) }
 {
-    if labels.get(ERROR_LABEL).is_some() {
-        return labels.try_copy();
-    }
-    labels.with_label(ERROR_LABEL, error)
+    let name = PlainText::from_str(alloc, ERROR_LABEL)?;
+    labels.add(name, PlainText::from_str(alloc, error)?)
 }

@@ -1,11 +1,11 @@
 //! The parser `json`: the leaves of a line that is a JSON object.
-ghost use Rattle.std.specs.Prelude.{◌≡◌, IfOk, OnOk, None, Some, string_bytes, option_map};
+ghost use Rattle.std.specs.Prelude.{◌≡◌, IfOk, OnOk, None, Some, string_bytes, option_map, codes, if◌then◌else◌};
 ghost use Rattle.serde_json.specs.View.{view, number_view, members_view};
-ghost use Rattle.rl_pipeline.specs.Extracting.{with_pairs};
+ghost use Rattle.rl_pipeline.specs.Extracting.{with_pair, with_pairs};
 ghost use Rattle.rl_pipeline.specs.JsonLeaves.{below, number_leaf, leaves_at, leaves_below, leaves_of, json_leaves};
 ghost use Rattle.rl_pipeline.specs.Parsed.{json_labels};
 
-use crate::extracting::{add_pair, with_error};
+use crate::extracting::{add_error, add_pair};
 use rl_labels::{Labels, LabelsBuilder};
 use rl_plain::PlainText;
 use serde_json::{Map, Number, Value};
@@ -15,13 +15,19 @@ use std::alloc::{AllocError, Global};
 const JSON_PARSER_ERROR: &str = "JSONParserErr";
 
 /// The labels of a stream's line behind `json`.
-pub fn json_labels(alloc: Global, labels: &Labels, line: &str) -> Result<Labels, AllocError>
+pub(crate) fn json_labels(
+    alloc: Global,
+    labels: &Labels,
+    line: &str,
+) -> Result<LabelsBuilder, AllocError>
     ensures { IfOk result (λ all. all ≡ json_labels labels.now line.now) }
 {
+    let mut all = LabelsBuilder::new(alloc, labels)?;
     match object_of(alloc, line)? {
-        Some(members) => leaf_labels(alloc, labels, members),
-        None => with_error(labels, JSON_PARSER_ERROR),
+        Some(members) => add_leaves(alloc, labels, &mut all, None, members)?,
+        None => add_error(alloc, &mut all, JSON_PARSER_ERROR)?,
     }
+    Ok(all)
 }
 
 // The object that a line is.
@@ -44,19 +50,6 @@ fn members_of(document: Value) -> Option<Map<String, Value>>
     }
 }
 
-// The labels of a stream with those that the leaves of an object give.
-fn leaf_labels(
-    alloc: Global,
-    stream: &Labels,
-    members: Map<String, Value>,
-) -> Result<Labels, AllocError>
-    ensures { IfOk result (λ all. all ≡ with_pairs stream.now stream.now (leaves_below None (members_view members.entries))) }
-{
-    let mut labels = LabelsBuilder::new(alloc, stream)?;
-    add_leaves(alloc, stream, &mut labels, None, members)?;
-    labels.build()
-}
-
 // Adds the leaves of an object, which stands at a path or at none.
 #[cycle(leaves)]
 #[tactic(auto, using(crate::proofs::Pairs::with_more))]
@@ -70,8 +63,7 @@ fn add_leaves(
     ensures { OnOk result (labels.new ≡ with_pairs stream.now labels.old (leaves_below (option_map (λ t. t.now) path.entry) (members_view members.entries))) }
 {
     for (key, value) in members {
-        let path = below(path, key)?;
-        add_value(alloc, stream, labels, path.as_str(), value)?;
+        add_value(alloc, stream, labels, below(path, key)?, value)?;
     }
     Ok(())
 }
@@ -82,21 +74,47 @@ fn add_value(
     alloc: Global,
     stream: &Labels,
     labels: &mut LabelsBuilder,
-    path: &str,
+    path: String,
     value: Value,
 ) -> Result<(), AllocError>
-    ensures { OnOk result (labels.new ≡ with_pairs stream.now labels.old (leaves_at path.now (view value))) }
+    ensures { OnOk result (labels.new ≡ with_pairs stream.now labels.old (leaves_at (string_bytes path) (view value))) }
 {
     match value {
         Value::Null | Value::Array(_) => Ok(()),
-        Value::Bool(truth) => {
-            let text = PlainText::from_str(alloc, if truth { "true" } else { "false" })?;
-            add_pair(alloc, stream, labels, path, text)
-        }
+        Value::Bool(truth) => add_text(alloc, stream, labels, path, truth_text(truth)),
         Value::Number(number) => add_number(alloc, stream, labels, path, number),
-        Value::String(text) => add_pair(alloc, stream, labels, path, PlainText::from_string(text)),
-        Value::Object(members) => add_leaves(alloc, stream, labels, Some(path), members),
+        Value::String(text) => {
+            let path = PlainText::from_string(path);
+            add_pair(alloc, stream, labels, path, PlainText::from_string(text))
+        }
+        Value::Object(members) => add_leaves(alloc, stream, labels, Some(path.as_str()), members),
     }
+}
+
+fn truth_text(truth: bool) -> &'static str
+    ensures { result.now ≡ (if truth then codes "true" else codes "false") }
+{
+    if truth { "true" } else { "false" }
+}
+
+// Adds a text at a path.
+fn add_text(
+    alloc: Global,
+    stream: &Labels,
+    labels: &mut LabelsBuilder,
+    path: String,
+    text: &str,
+) -> Result<(), AllocError>
+    ensures { OnOk result (labels.new ≡ with_pair stream.now labels.old (string_bytes path, text.now)) }
+{
+    let path = PlainText::from_string(path);
+    add_pair(
+        alloc,
+        stream,
+        labels,
+        path,
+        PlainText::from_str(alloc, text)?,
+    )
 }
 
 // The path of a key below another.
@@ -117,18 +135,17 @@ fn add_number(
     alloc: Global,
     stream: &Labels,
     labels: &mut LabelsBuilder,
-    path: &str,
+    path: String,
     number: Number,
 ) -> Result<(), AllocError>
-    ensures { OnOk result (labels.new ≡ with_pairs stream.now labels.old (number_leaf path.now (number_view number))) }
+    ensures { OnOk result (labels.new ≡ with_pairs stream.now labels.old (number_leaf (string_bytes path) (number_view number))) }
 {
-    let mut text = String::new(alloc);
+    let mut buffer = itoa::Buffer::new();
     if let Some(whole) = number.as_u64() {
-        write!(text, "{whole}")?;
+        add_text(alloc, stream, labels, path, buffer.format(whole))
     } else if let Some(whole) = number.as_i64() {
-        write!(text, "{whole}")?;
+        add_text(alloc, stream, labels, path, buffer.format(whole))
     } else {
-        return Ok(());
+        Ok(())
     }
-    add_pair(alloc, stream, labels, path, PlainText::from_string(text))
 }

@@ -1,23 +1,35 @@
-//! Line filters of LogQL, built once and asked for many lines.
+//! Pipelines of LogQL: what becomes of a line that goes through the stages of a range, built once and asked for many lines.
 //!
-//! Contracts see a built filter as the filter, and a pipeline as its list of filters. What they let pass is said in
-//! `specs/Filtering.antt`: `passes` of a filter and a line, and `keeps` of a list of filters.
+//! Contracts see a built line filter as the filter, and a pipeline as its list of stages. What becomes of a line is said in
+//! `specs/Running.antt`: `run` of a list of stages, a line and the labels of its stream.
 //!
-//! - `json`: `json_labels`, the labels that a line which is a JSON object gives. `extracting`: how pairs become labels.
 //! - `filter`: `FilterCode`, a built line filter. `search`: `Search`, which asks many lines for one filter.
-//! - `pipeline`: `Pipeline`, the built filters of a list, each of which a line must pass.
-//! - `running`: `Running`, which asks many lines for a whole pipeline with one set of caches.
+//! - `json`, `logfmt`: what the parsers find in a line. `extracting`: the labels that it becomes. `parsing`: either of both.
+//! - `label_tests`: built label tests. `testing`: what asks many lines for them. `comparing`: tests by quantity.
+//! - `draft`: the labels of a line on its way through the stages. `meter`: `Meter`, which counts the runs.
+//! - `pipeline`: `Pipeline`, built stages. `running`: `Running`, which sends many lines through them with one set of caches.
+//! - `sieve`: `SieveCode`, a built sieve, and `Covers`.
 #![tactic(auto)]
 
+pub(crate) mod comparing;
+pub(crate) mod draft;
 pub mod extracting;
 pub mod filter;
 pub mod json;
+pub mod label_tests;
+pub mod logfmt;
+pub mod meter;
+pub mod parsing;
 pub mod pipeline;
 pub mod running;
 pub mod search;
+pub mod sieve;
+pub(crate) mod testing;
 
 pub use filter::FilterCode;
-pub use json::json_labels;
+pub use meter::Meter;
+pub use parsing::parsed;
 pub use pipeline::Pipeline;
 pub use running::Running;
 pub use search::Search;
+pub use sieve::{Covers, SieveCode};

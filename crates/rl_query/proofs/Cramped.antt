@@ -7,10 +7,11 @@ use Rattle.rl_query.specs.declared.parser.Position.TheVariants as positions
 use Rattle.rl_query.specs.declared.token.Lexeme.{Lexeme}
 use Rattle.rl_query.specs.declared.token.Sign.TheVariants as signs
 use Rattle.rl_query.specs.Answering.{is_bad_regex}
-use Rattle.rl_query.specs.Form.{MatcherForm, FilterForm, RangeForm, TermForm, QueryForm, SieveForm, has_real_form, has_pattern, filters_have_pattern, range_has_pattern, query_has_pattern, sieve_has_pattern}
-use Rattle.rl_query.specs.Limits.{most_stages}
-use Rattle.rl_query.specs.Sieving.{sieve_ends, rest_at, sieve_in}
-use Rattle.rl_query.specs.Parsing.{next, expected, some_matcher, matchers_at, real_matchers, selector_at, filters_at, roomy_filters, filters_in, behind_filters, behind_range, seconds_at, closed_at, timed_at, closing_at, range_at, function_of, term_at, ends, query_in}
+use Rattle.rl_query.specs.Form.{MatcherForm, FilterForm, StageForm, RangeForm, TermForm, QueryForm, SieveForm, has_real_form, has_pattern, filters_have_pattern, stages_have_pattern, range_has_pattern, query_has_pattern, sieve_has_pattern}
+use Rattle.rl_query.specs.Limits.{most_stages, most_tests}
+use Rattle.rl_query.specs.Sieving.{behind_filters, sieve_ends, rest_at, sieve_in}
+use Rattle.rl_query.specs.Fronts.{next, expected}
+use Rattle.rl_query.specs.Parsing.{some_matcher, matchers_at, real_matchers, selector_at, filters_at, roomy_filters, filters_in, stages_at, roomy_stages, stages_in, behind_stages, seconds_at, closed_at, timed_at, closing_at, range_at, function_of, term_at, ends, query_in}
 use Rattle.rl_query.proofs.Productions.{bind_ok, if_ok, same_ok}
 use Rattle.rl_plain.specs.Answers.{◌>>=◌}
 
@@ -75,45 +76,52 @@ filters_cramp lexemes filters rest h =
     let whole = after_cramps (filters_at most_stages lexemes) (λ cramped found. roomy_filters cramped found.0 >>= λ all. Ok (all, found.1)) a.0 (a.0.0, a.0.1) (filters_have_pattern a.0.0) a.1 (made_cramps (λ cramped. roomy_filters cramped a.0.0) (λ all. (all, a.0.1)) a.0.0 (filters_have_pattern a.0.0) (refl, refl)) in
     subst (λ (found : List FilterForm × List Lexeme). Cramps (λ cramped. filters_in cramped lexemes) found (filters_have_pattern found.0)) (same_ok _ _ a.2) whole
 
--- the patterns of line filters behind a range, which has none before it
-abbrev closed_patterns : List FilterForm → List FilterForm → Bool
-closed_patterns [] filters = filters_have_pattern filters
-closed_patterns (f ∷ front) filters = false
+stages_cramp : (lexemes : List Lexeme) (stages : List StageForm) (rest : List Lexeme) → stages_in false lexemes ≡ Ok (stages, rest) → Cramps (λ cramped. stages_in cramped lexemes) (stages, rest) (stages_have_pattern stages)
+unfolding stages_in
+stages_cramp lexemes stages rest h =
+    let a = bind_ok (stages_at false most_tests most_stages lexemes) _ (stages, rest) h in
+    let whole = after_cramps (stages_at false most_tests most_stages lexemes) (λ cramped found. roomy_stages cramped found.0 >>= λ all. Ok (all, found.1)) a.0 (a.0.0, a.0.1) (stages_have_pattern a.0.0) a.1 (made_cramps (λ cramped. roomy_stages cramped a.0.0) (λ all. (all, a.0.1)) a.0.0 (stages_have_pattern a.0.0) (refl, refl)) in
+    subst (λ (found : List StageForm × List Lexeme). Cramps (λ cramped. stages_in cramped lexemes) found (stages_have_pattern found.0)) (same_ok _ _ a.2) whole
 
-closed_cramps : (front : List FilterForm) (lexemes : List Lexeme) (filters : List FilterForm) (rest : List Lexeme) → closed_at false front lexemes ≡ Ok (filters, rest)
-    → Cramps (λ cramped. closed_at cramped front lexemes) (filters, rest) (closed_patterns front filters) × (filters_have_pattern front || closed_patterns front filters ≡ filters_have_pattern filters)
+-- the patterns of stages behind a range, which has none before it
+abbrev closed_patterns : List StageForm → List StageForm → Bool
+closed_patterns [] stages = stages_have_pattern stages
+closed_patterns (s ∷ front) stages = false
+
+closed_cramps : (front : List StageForm) (lexemes : List Lexeme) (stages : List StageForm) (rest : List Lexeme) → closed_at false front lexemes ≡ Ok (stages, rest)
+    → Cramps (λ cramped. closed_at cramped front lexemes) (stages, rest) (closed_patterns front stages) × (stages_have_pattern front || closed_patterns front stages ≡ stages_have_pattern stages)
 unfolding closed_at
-closed_cramps [] lexemes filters rest h =
-    let a = bind_ok (filters_in false lexemes) _ (filters, rest) h in
-    let b = bind_ok (expected signs.CloseParenthesis (behind_range a.0.0) a.0.1) _ (filters, rest) a.2 in
-    let whole = then_read_cramps (λ cramped. filters_in cramped lexemes) (λ found. expected signs.CloseParenthesis (behind_range found.0) found.1 >>= λ closed. Ok (found.0, closed)) a.0 (a.0.0, b.0) (filters_have_pattern a.0.0) (filters_cramp lexemes a.0.0 a.0.1 a.1) (ap (λ r. r >>= λ closed. Ok (a.0.0, closed)) b.1) in
-    (subst (λ (found : List FilterForm × List Lexeme). Cramps (λ cramped. closed_at cramped [] lexemes) found (filters_have_pattern found.0)) (same_ok _ _ b.2) whole, refl)
-closed_cramps (f ∷ front) lexemes filters rest h =
-    let a = bind_ok (expected signs.CloseParenthesis positions.BehindFilteredRange lexemes) _ (filters, rest) h in
-    let made : ◌≡◌ {A = List FilterForm × List Lexeme} (f ∷ front, a.0) (filters, rest) = same_ok _ _ a.2 in
-    ((h, h), or-false (filters_have_pattern (f ∷ front)) ∙ ap (λ (found : List FilterForm × List Lexeme). filters_have_pattern found.0) made)
+closed_cramps [] lexemes stages rest h =
+    let a = bind_ok (stages_in false lexemes) _ (stages, rest) h in
+    let b = bind_ok (expected signs.CloseParenthesis (behind_stages positions.BehindRange a.0.0) a.0.1) _ (stages, rest) a.2 in
+    let whole = then_read_cramps (λ cramped. stages_in cramped lexemes) (λ found. expected signs.CloseParenthesis (behind_stages positions.BehindRange found.0) found.1 >>= λ closed. Ok (found.0, closed)) a.0 (a.0.0, b.0) (stages_have_pattern a.0.0) (stages_cramp lexemes a.0.0 a.0.1 a.1) (ap (λ r. r >>= λ closed. Ok (a.0.0, closed)) b.1) in
+    (subst (λ (found : List StageForm × List Lexeme). Cramps (λ cramped. closed_at cramped [] lexemes) found (stages_have_pattern found.0)) (same_ok _ _ b.2) whole, refl)
+closed_cramps (s ∷ front) lexemes stages rest h =
+    let a = bind_ok (expected signs.CloseParenthesis positions.BehindFilteredRange lexemes) _ (stages, rest) h in
+    let made : ◌≡◌ {A = List StageForm × List Lexeme} (s ∷ front, a.0) (stages, rest) = same_ok _ _ a.2 in
+    ((h, h), or-false (stages_have_pattern (s ∷ front)) ∙ ap (λ (found : List StageForm × List Lexeme). stages_have_pattern found.0) made)
 
-closing_cramps : (lexemes : List Lexeme) (filters : List FilterForm) (seconds : ℕ) (rest : List Lexeme) → closing_at false lexemes ≡ Ok (filters, seconds, rest) → Cramps (λ cramped. closing_at cramped lexemes) (filters, seconds, rest) (filters_have_pattern filters)
+closing_cramps : (lexemes : List Lexeme) (stages : List StageForm) (seconds : ℕ) (rest : List Lexeme) → closing_at false lexemes ≡ Ok (stages, seconds, rest) → Cramps (λ cramped. closing_at cramped lexemes) (stages, seconds, rest) (stages_have_pattern stages)
 unfolding closing_at timed_at
-closing_cramps lexemes filters seconds rest h =
-    let a = bind_ok (filters_in false lexemes) _ (filters, seconds, rest) h in
-    let b = bind_ok (seconds_at (behind_filters a.0.0) a.0.1) _ (filters, seconds, rest) a.2 in
-    let c = bind_ok (closed_at false a.0.0 b.0.1) _ (filters, seconds, rest) b.2 in
+closing_cramps lexemes stages seconds rest h =
+    let a = bind_ok (stages_in false lexemes) _ (stages, seconds, rest) h in
+    let b = bind_ok (seconds_at (behind_stages positions.BehindSelector a.0.0) a.0.1) _ (stages, seconds, rest) a.2 in
+    let c = bind_ok (closed_at false a.0.0 b.0.1) _ (stages, seconds, rest) b.2 in
     let closed = closed_cramps a.0.0 b.0.1 c.0.0 c.0.1 c.1 in
-    let made : ◌≡◌ {A = List FilterForm × ℕ × List Lexeme} (c.0.0, b.0.0, c.0.1) (filters, seconds, rest) = same_ok _ _ c.2 in
-    let timed = after_cramps (seconds_at (behind_filters a.0.0) a.0.1) (λ cramped s. closed_at cramped a.0.0 s.1 >>= λ all. Ok (all.0, s.0, all.1)) b.0 (c.0.0, b.0.0, c.0.1) (closed_patterns a.0.0 c.0.0) b.1 (made_cramps (λ cramped. closed_at cramped a.0.0 b.0.1) (λ all. (all.0, b.0.0, all.1)) c.0 (closed_patterns a.0.0 c.0.0) closed.0) in
-    let whole = then_cramps (λ cramped. filters_in cramped lexemes) (λ cramped front. timed_at cramped front.0 front.1) a.0 (c.0.0, b.0.0, c.0.1) (filters_have_pattern a.0.0) (closed_patterns a.0.0 c.0.0) (filters_cramp lexemes a.0.0 a.0.1 a.1) timed in
-    subst (λ (found : List FilterForm × ℕ × List Lexeme). Cramps (λ cramped. closing_at cramped lexemes) found (filters_have_pattern found.0)) made
+    let made : ◌≡◌ {A = List StageForm × ℕ × List Lexeme} (c.0.0, b.0.0, c.0.1) (stages, seconds, rest) = same_ok _ _ c.2 in
+    let timed = after_cramps (seconds_at (behind_stages positions.BehindSelector a.0.0) a.0.1) (λ cramped s. closed_at cramped a.0.0 s.1 >>= λ all. Ok (all.0, s.0, all.1)) b.0 (c.0.0, b.0.0, c.0.1) (closed_patterns a.0.0 c.0.0) b.1 (made_cramps (λ cramped. closed_at cramped a.0.0 b.0.1) (λ all. (all.0, b.0.0, all.1)) c.0 (closed_patterns a.0.0 c.0.0) closed.0) in
+    let whole = then_cramps (λ cramped. stages_in cramped lexemes) (λ cramped front. timed_at cramped front.0 front.1) a.0 (c.0.0, b.0.0, c.0.1) (stages_have_pattern a.0.0) (closed_patterns a.0.0 c.0.0) (stages_cramp lexemes a.0.0 a.0.1 a.1) timed in
+    subst (λ (found : List StageForm × ℕ × List Lexeme). Cramps (λ cramped. closing_at cramped lexemes) found (stages_have_pattern found.0)) made
     (subst (λ patterned. Cramps (λ cramped. closing_at cramped lexemes) (c.0.0, b.0.0, c.0.1) patterned) closed.1 whole)
 
--- a fault behind line filters
-pub closed_late : (lexemes rest : List Lexeme) (filters : List FilterForm) (fault : QueryFault) → filters_in false lexemes ≡ Ok (filters, rest) → expected signs.CloseParenthesis (behind_range filters) rest ≡ Err fault → closed_at (is_bad_regex fault) [] lexemes ≡ Err fault
+-- a fault behind stages
+pub closed_late : (lexemes rest : List Lexeme) (stages : List StageForm) (fault : QueryFault) → stages_in false lexemes ≡ Ok (stages, rest) → expected signs.CloseParenthesis (behind_stages positions.BehindRange stages) rest ≡ Err fault → closed_at (is_bad_regex fault) [] lexemes ≡ Err fault
 unfolding closed_at
-closed_late lexemes rest filters fault read refused = late (λ cramped. filters_in cramped lexemes) _ (filters, rest) (filters_have_pattern filters) fault (filters_cramp lexemes filters rest read) (rw refused refl)
+closed_late lexemes rest stages fault read refused = late (λ cramped. stages_in cramped lexemes) _ (stages, rest) (stages_have_pattern stages) fault (stages_cramp lexemes stages rest read) (rw refused refl)
 
-pub closing_late : (lexemes rest : List Lexeme) (front : List FilterForm) (fault : QueryFault) → filters_in false lexemes ≡ Ok (front, rest) → timed_at (is_bad_regex fault) front rest ≡ Err fault → closing_at (is_bad_regex fault) lexemes ≡ Err fault
+pub closing_late : (lexemes rest : List Lexeme) (front : List StageForm) (fault : QueryFault) → stages_in false lexemes ≡ Ok (front, rest) → timed_at (is_bad_regex fault) front rest ≡ Err fault → closing_at (is_bad_regex fault) lexemes ≡ Err fault
 unfolding closing_at
-closing_late lexemes rest front fault read refused = late (λ cramped. filters_in cramped lexemes) _ (front, rest) (filters_have_pattern front) fault (filters_cramp lexemes front rest read) refused
+closing_late lexemes rest front fault read refused = late (λ cramped. stages_in cramped lexemes) _ (front, rest) (stages_have_pattern front) fault (stages_cramp lexemes front rest read) refused
 
 -- a fault behind the selector of a range
 pub range_late : (lexemes opened braced : List Lexeme) (ms : List MatcherForm) (rest : List Lexeme) (fault : QueryFault) → expected signs.OpenParenthesis positions.Elsewhere lexemes ≡ Ok opened → expected signs.OpenBrace positions.Elsewhere opened ≡ Ok braced → selector_at false braced ≡ Ok (ms, rest)
@@ -122,8 +130,8 @@ unfolding range_at
 range_late lexemes opened braced ms rest fault parenthesis brace selector fails =
     rw (parenthesis, brace) (late (λ cramped. selector_at cramped braced) (λ matchers. closing_at (is_bad_regex fault) matchers.1 >>= made matchers.0) (ms, rest) (has_pattern ms) fault (selector_cramps braced ms rest selector) (rw fails refl))
   where
-    made : List MatcherForm → List FilterForm × ℕ × List Lexeme → Result (RangeForm × List Lexeme) QueryFault
-    made matchers closing = Ok (record { matchers = matchers; filters = closing.0; seconds = closing.1 }, closing.2)
+    made : List MatcherForm → List StageForm × ℕ × List Lexeme → Result (RangeForm × List Lexeme) QueryFault
+    made matchers closing = Ok (record { matchers = matchers; stages = closing.0; seconds = closing.1 }, closing.2)
 
 range_cramps : (lexemes : List Lexeme) (range : RangeForm) (rest : List Lexeme) → range_at false lexemes ≡ Ok (range, rest) → Cramps (λ cramped. range_at cramped lexemes) (range, rest) (range_has_pattern range)
 unfolding range_at
@@ -132,16 +140,16 @@ range_cramps lexemes range rest h =
     let b = bind_ok (expected signs.OpenBrace positions.Elsewhere a.0) _ (range, rest) a.2 in
     let c = bind_ok (selector_at false b.0) _ (range, rest) b.2 in
     let d = bind_ok (closing_at false c.0.1) _ (range, rest) c.2 in
-    let made : ◌≡◌ {A = RangeForm × List Lexeme} (record { matchers = c.0.0; filters = d.0.0; seconds = d.0.1 }, d.0.2) (range, rest) = same_ok _ _ d.2 in
-    let closing = made_cramps (λ cramped. closing_at cramped c.0.1) (form c.0.0) d.0 (filters_have_pattern d.0.0) (closing_cramps c.0.1 d.0.0 d.0.1 d.0.2 d.1) in
-    let selected = then_cramps (λ cramped. selector_at cramped b.0) (λ cramped matchers. closing_at cramped matchers.1 >>= λ y. Ok (form matchers.0 y)) c.0 (form c.0.0 d.0) (has_pattern c.0.0) (filters_have_pattern d.0.0) (selector_cramps b.0 c.0.0 c.0.1 c.1) closing in
-    let whole : Cramps (λ cramped. range_at cramped lexemes) (form c.0.0 d.0) (has_pattern c.0.0 || filters_have_pattern d.0.0) =
-    after_cramps (expected signs.OpenParenthesis positions.Elsewhere lexemes) (λ cramped opened. expected signs.OpenBrace positions.Elsewhere opened >>= λ braced. selector_at cramped braced >>= λ matchers. closing_at cramped matchers.1 >>= λ y. Ok (form matchers.0 y)) a.0 (form c.0.0 d.0) (has_pattern c.0.0 || filters_have_pattern d.0.0) a.1
-    (after_cramps (expected signs.OpenBrace positions.Elsewhere a.0) (λ cramped braced. selector_at cramped braced >>= λ matchers. closing_at cramped matchers.1 >>= λ y. Ok (form matchers.0 y)) b.0 (form c.0.0 d.0) (has_pattern c.0.0 || filters_have_pattern d.0.0) b.1 selected) in
+    let made : ◌≡◌ {A = RangeForm × List Lexeme} (record { matchers = c.0.0; stages = d.0.0; seconds = d.0.1 }, d.0.2) (range, rest) = same_ok _ _ d.2 in
+    let closing = made_cramps (λ cramped. closing_at cramped c.0.1) (form c.0.0) d.0 (stages_have_pattern d.0.0) (closing_cramps c.0.1 d.0.0 d.0.1 d.0.2 d.1) in
+    let selected = then_cramps (λ cramped. selector_at cramped b.0) (λ cramped matchers. closing_at cramped matchers.1 >>= λ y. Ok (form matchers.0 y)) c.0 (form c.0.0 d.0) (has_pattern c.0.0) (stages_have_pattern d.0.0) (selector_cramps b.0 c.0.0 c.0.1 c.1) closing in
+    let whole : Cramps (λ cramped. range_at cramped lexemes) (form c.0.0 d.0) (has_pattern c.0.0 || stages_have_pattern d.0.0) =
+    after_cramps (expected signs.OpenParenthesis positions.Elsewhere lexemes) (λ cramped opened. expected signs.OpenBrace positions.Elsewhere opened >>= λ braced. selector_at cramped braced >>= λ matchers. closing_at cramped matchers.1 >>= λ y. Ok (form matchers.0 y)) a.0 (form c.0.0 d.0) (has_pattern c.0.0 || stages_have_pattern d.0.0) a.1
+    (after_cramps (expected signs.OpenBrace positions.Elsewhere a.0) (λ cramped braced. selector_at cramped braced >>= λ matchers. closing_at cramped matchers.1 >>= λ y. Ok (form matchers.0 y)) b.0 (form c.0.0 d.0) (has_pattern c.0.0 || stages_have_pattern d.0.0) b.1 selected) in
     subst (λ (found : RangeForm × List Lexeme). Cramps (λ cramped. range_at cramped lexemes) found (range_has_pattern found.0)) made whole
   where
-    form : List MatcherForm → List FilterForm × ℕ × List Lexeme → RangeForm × List Lexeme
-    form matchers closing = (record { matchers = matchers; filters = closing.0; seconds = closing.1 }, closing.2)
+    form : List MatcherForm → List StageForm × ℕ × List Lexeme → RangeForm × List Lexeme
+    form matchers closing = (record { matchers = matchers; stages = closing.0; seconds = closing.1 }, closing.2)
 
 pub term_cramps : (lexemes : List Lexeme) (term : TermForm) (rest : List Lexeme) → term_at false lexemes ≡ Ok (term, rest) → Cramps (λ cramped. term_at cramped lexemes) (term, rest) (range_has_pattern term.range)
 unfolding term_at

@@ -7,7 +7,7 @@ use Rattle.std.proofs.lemmas.Bool.{eqb-true, cases_lt}
 use Rattle.std.proofs.lemmas.List.Sums.{prefix_len-le-length, prefix_len_passes}
 use Rattle.std.proofs.lemmas.Str.{IsCharBoundary-from_take, IsCharBoundary-after_ascii, IsCharBoundary-end}
 use Rattle.rl_labels.specs.Name.{is_name_byte}
-use Rattle.rl_query.specs.Lexing.{is_space, gap_len, is_number_byte}
+use Rattle.rl_query.specs.Lexing.{is_space, gap_len}
 
 -- a cut behind an ASCII byte, or at the front
 pub behind_ascii : (bytes : List ℕ) (n : ℕ) → IsUtf8 bytes → n ≤ length bytes → (0 < n → get_or bytes (n - 1) 0 < 128) → IsCharBoundary bytes n
@@ -23,9 +23,6 @@ run_boundary p bytes small utf8 = behind_ascii bytes (prefix_len p bytes) utf8 (
 
 pub name_byte_small : (b : ℕ) → is_name_byte b ≡ true → b < 128
 name_byte_small b h = grind (arith, nat_tests)
-
-pub number_byte_small : (b : ℕ) → is_number_byte b ≡ true → b < 128
-number_byte_small b h = grind (arith, nat_tests)
 
 gap_fits : (comment : Bool) (bytes : List ℕ) → gap_len comment bytes ≤ length bytes
 gap_fits true [] = omega arith

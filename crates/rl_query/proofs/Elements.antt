@@ -18,7 +18,8 @@ use Rattle.rl_labels.specs.declared.matcher.Matcher.{Matcher}
 use Rattle.rl_query.specs.Limits.{has_real_matcher}
 use Rattle.rl_query.specs.Form.{MatcherForm, matcher_form, has_real_form, has_pattern}
 use Rattle.rl_plain.specs.Answers.{◌>>=◌, Fails}
-use Rattle.rl_query.specs.Parsing.{checked_matcher, element_at, matchers_at}
+use Rattle.rl_query.specs.Fronts.{checked_matcher}
+use Rattle.rl_query.specs.Parsing.{element_at, matchers_at}
 
 -- what was read before, and what is still read
 abbrev pub with_front : {A : Type 0} → List A → Result (List A × List Lexeme) QueryFault → Result (List A × List Lexeme) QueryFault

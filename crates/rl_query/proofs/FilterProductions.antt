@@ -13,15 +13,17 @@ use Rattle.rl_query.specs.declared.token.Sign.TheVariants as signs
 use Rattle.rl_query.specs.declared.token.Token.{Token}
 use Rattle.rl_query.specs.declared.token.Token.TheVariants as tokens
 use Rattle.rl_query.specs.Form.{FilterForm}
-use Rattle.rl_query.specs.Grammar.{Stand, filter_sign, filter_tokens, filters_tokens, AreFilters}
+use Rattle.rl_query.specs.Standing.{Stand}
+use Rattle.rl_query.specs.Grammar.{filter_sign, filter_tokens, filters_tokens, AreFilters}
 use Rattle.rl_query.specs.Limits.{is_filter, most_stages}
-use Rattle.rl_query.specs.Parsing.{next, filter_op, filter_text, checked_filter, filter_at, filters_at, filters_in}
+use Rattle.rl_query.specs.Fronts.{next}
+use Rattle.rl_query.specs.Parsing.{filter_op, filter_text, checked_filter, filter_at, filters_at, filters_in}
 use Rattle.rl_query.proofs.Productions.{bind_ok, if_ok, same_ok, no_err, stand_then, one_read, next_is}
 
 abbrev pub are_proper_filters : List FilterForm → Bool
 are_proper_filters = list_all (λ filter. is_filter filter.op filter.text)
 
-op_read : (t : Token) (op : LineOp) → filter_op t ≡ Some op → t ≡ tokens.Sign (filter_sign op)
+pub op_read : (t : Token) (op : LineOp) → filter_op t ≡ Some op → t ≡ tokens.Sign (filter_sign op)
 op_read (tokens.Sign signs.Contains) op h = ap (λ o. tokens.Sign (filter_sign o)) (some_is h)
   where
     some_is : Some lines.Contains ≡ Some op → lines.Contains ≡ op
@@ -32,7 +34,7 @@ op_read (tokens.Sign signs.NotMatches) op h = let same : lines.NotMatches ≡ op
 op_read (tokens.Sign _) op h = cc
 op_read _ op h = cc
 
-op_is : (op : LineOp) → filter_op (tokens.Sign (filter_sign op)) ≡ Some op
+pub op_is : (op : LineOp) → filter_op (tokens.Sign (filter_sign op)) ≡ Some op
 op_is lines.Contains = refl
 op_is lines.Lacks = refl
 op_is lines.Matches = refl
@@ -43,12 +45,12 @@ text_read place (tokens.Text text) value h = ap tokens.Text (same_ok _ _ h)
 text_read place _ value h = absurd (no_err _ value h)
 
 -- a line filter behind its sign
-record IsFilter (op : LineOp) (filter : FilterForm) (lexemes rest : List Lexeme) : Type 0 where
+pub record IsFilter (op : LineOp) (filter : FilterForm) (lexemes rest : List Lexeme) : Type 0 where
   pub op_is : op ≡ filter.op
   pub stand : Stand (tokens.Text filter.text ∷ []) lexemes rest
   pub proper : is_filter filter.op filter.text ≡ true
 
-filter_read : (op : LineOp) (lexemes : List Lexeme) (filter : FilterForm) (rest : List Lexeme) → filter_at op lexemes ≡ Ok (filter, rest) → IsFilter op filter lexemes rest
+pub filter_read : (op : LineOp) (lexemes : List Lexeme) (filter : FilterForm) (rest : List Lexeme) → filter_at op lexemes ≡ Ok (filter, rest) → IsFilter op filter lexemes rest
 unfolding filter_at
 filter_read op lexemes filter rest h =
     let a = bind_ok (next lexemes) _ (filter, rest) h in
@@ -59,6 +61,10 @@ filter_read op lexemes filter rest h =
     let made : ◌≡◌ {A = FilterForm × List Lexeme} (c.0, a.0.1) (filter, rest) = same_ok _ _ c.2 in
     let whole : IsFilter op read lexemes a.0.1 = record { op_is = refl; stand = one_read (tokens.Text b.0) lexemes a.0.1 a.0.0 a.1 (text_read a.0.0.place a.0.0.token b.0 b.1); proper = checked.0 } in
     subst (λ (p : FilterForm × List Lexeme). IsFilter op p.0 lexemes p.1) made (subst (λ x. IsFilter op x lexemes a.0.1) checked.1 whole)
+
+pub filter_is : (filter : FilterForm) (lexemes rest : List Lexeme) → Stand (tokens.Text filter.text ∷ []) lexemes rest → is_filter filter.op filter.text ≡ true → filter_at filter.op lexemes ≡ Ok (filter, rest)
+unfolding filter_at
+filter_is filter lexemes rest stand proper = let a = next_is (tokens.Text filter.text) [] lexemes rest stand in rw (a.is, proper, a.more) refl
 
 -- line filters, at most so many
 pub record AreUpTo (most : ℕ) (filters : List FilterForm) (lexemes rest : List Lexeme) : Type 0 where

@@ -9,7 +9,8 @@ use Rattle.rl_query.specs.declared.token.Lexeme.{Lexeme}
 use Rattle.rl_query.specs.declared.filter.LineFilter.{LineFilter}
 use Rattle.rl_query.specs.Form.{FilterForm, filter_form, filters_have_pattern}
 use Rattle.rl_query.specs.Limits.{is_line_pattern}
-use Rattle.rl_query.specs.Parsing.{next, filter_op, filter_at, filters_at}
+use Rattle.rl_query.specs.Fronts.{next}
+use Rattle.rl_query.specs.Parsing.{filter_op, filter_at, filters_at}
 use Rattle.rl_query.proofs.Elements.{with_front, regroup}
 
 -- what is read so far, and is read of the tokens that are left, is the whole

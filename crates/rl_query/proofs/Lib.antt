@@ -1,5 +1,6 @@
 pub mod Answered
 pub mod AnsweredSieve
+pub mod Chains
 pub mod Cramped
 pub mod Cuts
 pub mod Durations
@@ -7,12 +8,25 @@ pub mod Elements
 mod Examples
 pub mod FilterProductions
 pub mod Filters
+pub mod FreeNames
 pub mod Lexemes
 pub mod Printed
 pub mod PrintedQuery
 pub mod PrintedSieve
+pub mod PrintedStages
 pub mod Productions
+pub mod QuantityPrinted
+pub mod QuantityProductions
+pub mod QuantityTokens
 pub mod RangeProductions
 pub mod SameQuery
 pub mod Sieves
+pub mod StageProductions
+pub mod StageReadings
+pub mod TestPrinted
+pub mod TestProductions
+pub mod TestReadings
 pub mod Texts
+pub mod TestDepths
+pub mod SameTests
+pub mod StageStarts

@@ -21,9 +21,11 @@ use Rattle.rl_query.specs.declared.token.Token.{Token}
 use Rattle.rl_query.specs.declared.token.Token.TheVariants as tokens
 use Rattle.rl_query.specs.Durations.{duration_from, duration_of}
 use Rattle.rl_query.specs.Form.{MatcherForm, FilterForm}
-use Rattle.rl_query.specs.Grammar.{Stand, operator_sign, is_matcher, matcher_tokens, matchers_tokens, filter_sign, filter_tokens, filters_tokens}
+use Rattle.rl_query.specs.Standing.{Stand, operator_sign, is_matcher, matcher_tokens}
+use Rattle.rl_query.specs.Grammar.{matchers_tokens, filter_sign, filter_tokens, filters_tokens}
 use Rattle.rl_query.specs.Lexing.{is_space, is_number_byte, gap_len, run_at, onto, quoted, or_bad, or_else, sign_at, token_at, lexemes_in}
-use Rattle.rl_query.specs.Printing.{operator_text, matcher_text, filter_op_text, filter_print, filters_text}
+use Rattle.rl_query.specs.MatcherPrinting.{operator_text, matcher_text}
+use Rattle.rl_query.specs.Printing.{filter_op_text, filter_print, filters_text}
 use Rattle.rl_plain.specs.Escapes.{escaped}
 use Rattle.rl_query.specs.Tables.{one_byte, two_bytes, escapes}
 use Rattle.rl_query.proofs.Productions.{stand_then}
@@ -107,7 +109,7 @@ word_lexes (b ∷ word) rest h stop =
     start_goes_on b h = grind (arith, nat_tests)
 
 -- a number, and what does not go on with it
-number_lexes : (number rest : List ℕ) → (b : ℕ) (digits : List ℕ) → number ≡ b ∷ digits → is_ascii_digit b ≡ true → list_all is_number_byte number ≡ true → prefix_len is_number_byte rest ≡ 0 → Lexes (tokens.Number number ∷ []) (number ++ rest) rest
+pub number_lexes : (number rest : List ℕ) → (b : ℕ) (digits : List ℕ) → number ≡ b ∷ digits → is_ascii_digit b ≡ true → list_all is_number_byte number ≡ true → prefix_len is_number_byte rest ≡ 0 → Lexes (tokens.Number number ∷ []) (number ++ rest) rest
 unfolding token_at
 number_lexes number rest b digits is digit all stop = subst (λ n. Lexes (tokens.Number n ∷ []) (n ++ rest) rest) (sym is) (token_lexes (tokens.Number (b ∷ digits)) b (digits ++ rest) rest (no_gap b (digits ++ rest) (digit_goes_on b digit))
     (cond-false (is_name_start b) _ _ (no_start b digit) ∙ cond-true (is_ascii_digit b) _ _ digit ∙ ap (λ (x : List ℕ × List ℕ). (tokens.Number x.0, x.1)) (run_again is_number_byte (b ∷ digits) rest (subst (λ n. list_all is_number_byte n ≡ true) is all) stop)) (omega (arith, length-append digits rest)))
@@ -159,7 +161,7 @@ operator_ends : (op : MatchOp) (rest : List ℕ) → prefix_len is_name_byte (op
 operator_ends operators.Equal rest = refl
 operator_ends _ rest = refl
 
-matcher_lexes : (m : MatcherForm) (rest : List ℕ) → is_matcher m ≡ true → Lexes (matcher_tokens m) (matcher_text m ++ rest) rest
+pub matcher_lexes : (m : MatcherForm) (rest : List ℕ) → is_matcher m ≡ true → Lexes (matcher_tokens m) (matcher_text m ++ rest) rest
 matcher_lexes m rest proper =
     let named = (and_parts (is_name m.name) _ proper).0 in
     let sign = operator_text m.op in
@@ -279,7 +281,7 @@ sign_lexes lines.Lacks rest = token_lexes (tokens.Sign signs.NotEqual) 33 (61 �
 sign_lexes lines.Matches rest = token_lexes (tokens.Sign signs.ContainsMatch) 124 (126 ∷ 32 ∷ rest) (32 ∷ rest) refl refl (omega arith)
 sign_lexes lines.NotMatches rest = token_lexes (tokens.Sign signs.NotMatches) 33 (126 ∷ 32 ∷ rest) (32 ∷ rest) refl refl (omega arith)
 
-filter_lexes : (filter : FilterForm) (rest : List ℕ) → Lexes (filter_tokens filter) (filter_print filter ++ rest) rest
+pub filter_lexes : (filter : FilterForm) (rest : List ℕ) → Lexes (filter_tokens filter) (filter_print filter ++ rest) rest
 filter_lexes filter rest =
     let text = 34 ∷ (escaped escapes filter.text ++ 34 ∷ rest) in
     subst (λ t. Lexes (filter_tokens filter) t rest) (sym (regrouped (filter_op_text filter.op) (escaped escapes filter.text)))

@@ -5,10 +5,12 @@ use Rattle.std.proofs.lemmas.Bool.{true≢false}
 use Rattle.rl_query.specs.declared.token.Sign.TheVariants as signs
 use Rattle.rl_query.specs.declared.token.Token.TheVariants as tokens
 use Rattle.rl_query.specs.Form.{MatcherForm, FilterForm, SieveForm, has_real_form}
-use Rattle.rl_query.specs.Grammar.{Stand, is_matcher, matchers_tokens, filters_tokens, DerivesSieve}
+use Rattle.rl_query.specs.Standing.{Stand, is_matcher}
+use Rattle.rl_query.specs.Grammar.{matchers_tokens, filters_tokens, DerivesSieve}
 use Rattle.rl_query.specs.Lexing.{lexemes_in}
 use Rattle.rl_query.specs.Limits.{is_filter, most_stages}
-use Rattle.rl_query.specs.Printing.{matcher_text, filters_text, sieve_text}
+use Rattle.rl_query.specs.MatcherPrinting.{matcher_text}
+use Rattle.rl_query.specs.Printing.{filters_text, sieve_text}
 use Rattle.rl_query.proofs.Printed.{others_text, selector_lexes, filters_lexes, end_left}
 
 -- what a form keeps of a sieve's limits

@@ -17,9 +17,11 @@ use Rattle.rl_query.specs.declared.token.Sign.TheVariants as signs
 use Rattle.rl_query.specs.declared.token.Token.{Token}
 use Rattle.rl_query.specs.declared.token.Token.TheVariants as tokens
 use Rattle.rl_query.specs.Form.{MatcherForm, has_real_form}
-use Rattle.rl_query.specs.Grammar.{Stand, operator_sign, is_matcher, matcher_tokens, matchers_tokens, IsSelector}
+use Rattle.rl_query.specs.Standing.{Stand, operator_sign, is_matcher, matcher_tokens}
+use Rattle.rl_query.specs.Grammar.{matchers_tokens, IsSelector}
 use Rattle.rl_query.specs.Lexing.{sign_at}
-use Rattle.rl_query.specs.Parsing.{is_sign, next, refusal, expected, name_of, content_of, operator_of, checked_matcher, matcher_at, goes_on, element_at, matchers_at, some_matcher, real_matchers, selector_at}
+use Rattle.rl_query.specs.Fronts.{is_sign, next, refusal, expected, name_of, content_of, operator_of, checked_matcher, matcher_at}
+use Rattle.rl_query.specs.Parsing.{goes_on, element_at, matchers_at, some_matcher, real_matchers, selector_at}
 use Rattle.rl_query.specs.Tables.{sign_text}
 use Rattle.rl_plain.specs.Answers.{◌>>=◌}
 
@@ -47,6 +49,12 @@ pub stand_then : (front others : List Token) (lexemes behind rest : List Lexeme)
 stand_then [] others lexemes behind rest first second = subst (λ ls. Stand others ls rest) (sym first) second
 stand_then (t ∷ front) others [] behind rest first second = absurd first
 stand_then (t ∷ front) others (l ∷ lexemes) behind rest first second = (first.0, stand_then front others lexemes behind rest first.1 second)
+
+-- tokens that stand one behind the other
+pub stand_split : (front others : List Token) (lexemes rest : List Lexeme) → Stand (front ++ others) lexemes rest → (middle : List Lexeme) × Stand front lexemes middle × Stand others middle rest
+stand_split [] others lexemes rest stand = (lexemes, refl, stand)
+stand_split (t ∷ front) others [] rest stand = absurd stand
+stand_split (t ∷ front) others (l ∷ lexemes) rest stand = let s = stand_split front others lexemes rest stand.1 in (s.0, (stand.0, s.1), s.2)
 
 pub one_read : (token : Token) (lexemes rest : List Lexeme) (l : Lexeme) → next lexemes ≡ Ok (l, rest) → l.token ≡ token → Stand (token ∷ []) lexemes rest
 one_read token [] rest l h is = absurd (no_err _ _ h)
@@ -76,7 +84,7 @@ one_sign s t h =
     let pairs : ◌≡◌ {A = Sign × List ℕ} (s, []) (t, []) = cc in
     ap (λ (p : Sign × List ℕ). p.0) pairs
 
-only_sign : (s : Sign) (t : Token) → is_sign s t ≡ true → t ≡ tokens.Sign s
+pub only_sign : (s : Sign) (t : Token) → is_sign s t ≡ true → t ≡ tokens.Sign s
 only_sign s (tokens.Sign x) h = ap tokens.Sign (one_sign x s h)
 only_sign s _ h = absurd (true≢false (sym h))
 
@@ -93,7 +101,7 @@ expected_is sign others position lexemes rest stand =
     let a = next_is (tokens.Sign sign) others lexemes rest stand in
     (a.behind, rw a.is (cond-true (is_sign sign (tokens.Sign sign)) _ _ (is_text_itself (sign_text sign))), a.more)
 
-named : (place : ℕ) (t : Token) (name : List ℕ) → name_of place t ≡ Ok name → t ≡ tokens.Word name
+pub named : (place : ℕ) (t : Token) (name : List ℕ) → name_of place t ≡ Ok name → t ≡ tokens.Word name
 named place (tokens.Word w) name h = ap tokens.Word (same_ok _ _ h)
 named place _ name h = absurd (no_err _ name h)
 
@@ -129,11 +137,11 @@ checked_is place m proper =
     cond-false (not (is_name m.name)) _ _ (ap not parts.0) ∙ cond-true (is_comparable m.op m.value) _ _ parts.1
 
 -- name="value", or another operator
-record IsMatcher (m : MatcherForm) (lexemes rest : List Lexeme) : Type 0 where
+pub record IsMatcher (m : MatcherForm) (lexemes rest : List Lexeme) : Type 0 where
   pub stand : Stand (matcher_tokens m) lexemes rest
   pub proper : is_matcher m ≡ true
 
-matcher_read : (lexemes : List Lexeme) (m : MatcherForm) (rest : List Lexeme) → matcher_at lexemes ≡ Ok (m, rest) → IsMatcher m lexemes rest
+pub matcher_read : (lexemes : List Lexeme) (m : MatcherForm) (rest : List Lexeme) → matcher_at lexemes ≡ Ok (m, rest) → IsMatcher m lexemes rest
 unfolding matcher_at
 matcher_read lexemes m rest h =
     let a = bind_ok (next lexemes) _ (m, rest) h in
@@ -154,7 +162,7 @@ matcher_read lexemes m rest h =
     } in
     subst (λ (p : MatcherForm × List Lexeme). IsMatcher p.0 lexemes p.1) made (subst (λ x. IsMatcher x lexemes e.0.1) checked.1 whole)
 
-matcher_is : (others : List Token) (m : MatcherForm) (lexemes rest : List Lexeme) → Stand (matcher_tokens m ++ others) lexemes rest → is_matcher m ≡ true → (behind : List Lexeme) × (matcher_at lexemes ≡ Ok (m, behind)) × Stand others behind rest
+pub matcher_is : (others : List Token) (m : MatcherForm) (lexemes rest : List Lexeme) → Stand (matcher_tokens m ++ others) lexemes rest → is_matcher m ≡ true → (behind : List Lexeme) × (matcher_at lexemes ≡ Ok (m, behind)) × Stand others behind rest
 unfolding matcher_at
 matcher_is others m lexemes rest stand is =
     let a = next_is (tokens.Word m.name) (tokens.Sign (operator_sign m.op) ∷ tokens.Text m.value ∷ others) lexemes rest stand in

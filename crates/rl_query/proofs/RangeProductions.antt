@@ -1,5 +1,9 @@
 -- The productions of ranges, terms and queries: what is read is derived, and what is derived is read.
-use Rattle.std.proofs.Common.{◌≡◌, inl, inr, ⊎_elim, ℕ, ◌≤◌, nat_le, true, false, ◌&&◌, List, [], ◌∷◌, Option, Some, None, Ok, refl, sym, ap, subst, ◌∙◌, arith, codes}
+use Rattle.rl_query.proofs.StageStarts.{Ends, ends_at}
+use Rattle.rl_query.specs.Grammar.{AreChained, IsSelector, IsDuration, IsRange, IsTerm, Derives, AreStages, IsTimed}
+use Rattle.rl_query.specs.Limits.{most_tests, longest_range, most_stages}
+use Rattle.rl_query.specs.Form.{label_tests, RangeForm, TermForm, QueryForm, StageForm, parsers_of}
+use Rattle.std.proofs.Common.{◌≡◌, inl, inr, ⊎_elim, ℕ, ◌≤◌, nat_le, true, false, ◌&&◌, List, [], ◌∷◌, length, Option, Some, None, Ok, refl, sym, ap, subst, ◌∙◌, arith, codes}
 use Rattle.std.proofs.lemmas.Bool.{and_parts, and_from, leb-true, le-leb}
 use Rattle.rl_labels.specs.Name.{is_text}
 use Rattle.rl_labels.specs.laws.LabelLaws.{same_text}
@@ -13,14 +17,13 @@ use Rattle.rl_query.specs.declared.token.Sign.TheVariants as signs
 use Rattle.rl_query.specs.declared.token.Token.{Token}
 use Rattle.rl_query.specs.declared.token.Token.TheVariants as tokens
 use Rattle.rl_query.specs.Durations.{duration_of}
-use Rattle.rl_query.specs.Form.{RangeForm, TermForm, QueryForm, FilterForm}
-use Rattle.rl_query.specs.Grammar.{Stand, IsSelector, IsDuration, IsRange, IsTerm, Derives, AreFilters, IsTimed}
+use Rattle.rl_query.specs.Standing.{Stand}
 use Rattle.rl_query.specs.Lexing.{lexemes_of}
-use Rattle.rl_query.specs.Limits.{longest_range}
-use Rattle.rl_query.specs.Parsing.{next, expected, selector_at, looks_like_duration, seconds_of, range_of, named_function, function_of, seconds_at, closing_at, range_at, term_at, ends, query_in, filters_in, behind_filters, behind_range, closed_at, timed_at}
+use Rattle.rl_query.specs.Fronts.{next, expected}
+use Rattle.rl_query.specs.Parsing.{selector_at, looks_like_duration, seconds_of, range_of, named_function, function_of, seconds_at, closing_at, range_at, term_at, ends, query_in, stages_in, behind_stages, closed_at, timed_at}
 use Rattle.rl_query.specs.Printing.{function_text}
 use Rattle.rl_query.proofs.Productions.{bind_ok, chosen, no_err, same_ok, if_ok, stand_then, one_read, next_is, expected_read, expected_is, selector_read, selector_is}
-use Rattle.rl_query.proofs.FilterProductions.{Stops, stops_at, filters_derived, filters_are_read}
+use Rattle.rl_query.proofs.StageProductions.{stages_derived, stages_are_read}
 
 -- the seconds of a range
 record IsSeconds (token : Token) (seconds : ℕ) : Type 0 where
@@ -68,74 +71,89 @@ seconds_are position seconds lexemes rest is =
     rw (a.1, b.is, is.read, checked, c.1) (ap (λ r. Ok (seconds, r)) c.2)
 
 -- the parenthesis behind a range, where no line filter stands before it, and where some do
-closed_none : (lexemes : List Lexeme) (filters : List FilterForm) (rest : List Lexeme) → closed_at false [] lexemes ≡ Ok (filters, rest) → (behind : List Lexeme) × AreFilters filters lexemes behind × Stand (tokens.Sign signs.CloseParenthesis ∷ []) behind rest
+closed_none : (lexemes : List Lexeme) (stages : List StageForm) (rest : List Lexeme) → closed_at false [] lexemes ≡ Ok (stages, rest) → (behind : List Lexeme) × AreStages stages lexemes behind × Stand (tokens.Sign signs.CloseParenthesis ∷ []) behind rest
 unfolding closed_at
-closed_none lexemes filters rest h =
-    let a = bind_ok (filters_in false lexemes) _ (filters, rest) h in
-    let b = bind_ok (expected signs.CloseParenthesis (behind_range a.0.0) a.0.1) _ (filters, rest) a.2 in
-    let made : ◌≡◌ {A = List FilterForm × List Lexeme} (a.0.0, b.0) (filters, rest) = same_ok _ _ b.2 in
-    let whole : AreFilters a.0.0 lexemes a.0.1 × Stand (tokens.Sign signs.CloseParenthesis ∷ []) a.0.1 b.0 = (filters_derived lexemes a.0.0 a.0.1 a.1, expected_read signs.CloseParenthesis (behind_range a.0.0) a.0.1 b.0 b.1) in
-    let moved = subst (λ (p : List FilterForm × List Lexeme). AreFilters p.0 lexemes a.0.1 × Stand (tokens.Sign signs.CloseParenthesis ∷ []) a.0.1 p.1) made whole in
+closed_none lexemes stages rest h =
+    let a = bind_ok (stages_in false lexemes) _ (stages, rest) h in
+    let b = bind_ok (expected signs.CloseParenthesis (behind_stages positions.BehindRange a.0.0) a.0.1) _ (stages, rest) a.2 in
+    let made : ◌≡◌ {A = List StageForm × List Lexeme} (a.0.0, b.0) (stages, rest) = same_ok _ _ b.2 in
+    let whole : AreStages a.0.0 lexemes a.0.1 × Stand (tokens.Sign signs.CloseParenthesis ∷ []) a.0.1 b.0 = (stages_derived lexemes a.0.0 a.0.1 a.1, expected_read signs.CloseParenthesis (behind_stages positions.BehindRange a.0.0) a.0.1 b.0 b.1) in
+    let moved = subst (λ (p : List StageForm × List Lexeme). AreStages p.0 lexemes a.0.1 × Stand (tokens.Sign signs.CloseParenthesis ∷ []) a.0.1 p.1) made whole in
     (a.0.1, moved.0, moved.1)
 
-closed_some : (f : FilterForm) (front : List FilterForm) (lexemes : List Lexeme) (filters : List FilterForm) (rest : List Lexeme) → closed_at false (f ∷ front) lexemes ≡ Ok (filters, rest) → (f ∷ front ≡ filters) × Stand (tokens.Sign signs.CloseParenthesis ∷ []) lexemes rest
+closed_some : (s : StageForm) (front : List StageForm) (lexemes : List Lexeme) (stages : List StageForm) (rest : List Lexeme) → closed_at false (s ∷ front) lexemes ≡ Ok (stages, rest) → (s ∷ front ≡ stages) × Stand (tokens.Sign signs.CloseParenthesis ∷ []) lexemes rest
 unfolding closed_at
-closed_some f front lexemes filters rest h =
-    let a = bind_ok (expected signs.CloseParenthesis positions.BehindFilteredRange lexemes) _ (filters, rest) h in
-    let made : ◌≡◌ {A = List FilterForm × List Lexeme} (f ∷ front, a.0) (filters, rest) = same_ok _ _ a.2 in
-    let whole : (f ∷ front ≡ f ∷ front) × Stand (tokens.Sign signs.CloseParenthesis ∷ []) lexemes a.0 = (refl, expected_read signs.CloseParenthesis positions.BehindFilteredRange lexemes a.0 a.1) in
-    subst (λ (p : List FilterForm × List Lexeme). (f ∷ front ≡ p.0) × Stand (tokens.Sign signs.CloseParenthesis ∷ []) lexemes p.1) made whole
+closed_some s front lexemes stages rest h =
+    let a = bind_ok (expected signs.CloseParenthesis positions.BehindFilteredRange lexemes) _ (stages, rest) h in
+    let made : ◌≡◌ {A = List StageForm × List Lexeme} (s ∷ front, a.0) (stages, rest) = same_ok _ _ a.2 in
+    let whole : (s ∷ front ≡ s ∷ front) × Stand (tokens.Sign signs.CloseParenthesis ∷ []) lexemes a.0 = (refl, expected_read signs.CloseParenthesis positions.BehindFilteredRange lexemes a.0 a.1) in
+    subst (λ (p : List StageForm × List Lexeme). (s ∷ front ≡ p.0) × Stand (tokens.Sign signs.CloseParenthesis ∷ []) lexemes p.1) made whole
 
-closed_behind : (filters : List FilterForm) (lexemes behind rest : List Lexeme) → AreFilters filters lexemes behind → Stand (tokens.Sign signs.CloseParenthesis ∷ []) behind rest → closed_at false [] lexemes ≡ Ok (filters, rest)
+closed_behind : (stages : List StageForm) (lexemes behind rest : List Lexeme) → AreStages stages lexemes behind → Stand (tokens.Sign signs.CloseParenthesis ∷ []) behind rest → closed_at false [] lexemes ≡ Ok (stages, rest)
 unfolding closed_at
-closed_behind filters lexemes behind rest are closed =
-    let a = expected_is signs.CloseParenthesis [] (behind_range filters) behind rest closed in
-    rw (filters_are_read filters lexemes behind are (stops_at (tokens.Sign signs.CloseParenthesis) [] behind rest closed refl), a.1) (ap (λ r. Ok (filters, r)) a.2)
+closed_behind stages lexemes behind rest are closed =
+    let a = expected_is signs.CloseParenthesis [] (behind_stages positions.BehindRange stages) behind rest closed in
+    rw (stages_are_read stages lexemes behind are (ends_at (tokens.Sign signs.CloseParenthesis) [] behind rest closed refl refl refl refl), a.1) (ap (λ r. Ok (stages, r)) a.2)
 
-no_filters : (lexemes : List Lexeme) → AreFilters [] lexemes lexemes
-no_filters lexemes = record { stand = refl; proper = refl; few = omega arith }
+no_stages : (lexemes : List Lexeme) → AreStages [] lexemes lexemes
+no_stages lexemes = record { chained = refl; few = omega arith; one_parser = omega arith; few_tests = omega arith }
 
-closed_before : (filters : List FilterForm) (lexemes rest : List Lexeme) → Stand (tokens.Sign signs.CloseParenthesis ∷ []) lexemes rest → closed_at false filters lexemes ≡ Ok (filters, rest)
+closed_before : (stages : List StageForm) (lexemes rest : List Lexeme) → Stand (tokens.Sign signs.CloseParenthesis ∷ []) lexemes rest → closed_at false stages lexemes ≡ Ok (stages, rest)
 unfolding closed_at
-closed_before [] lexemes rest closed = closed_behind [] lexemes lexemes rest (no_filters lexemes) closed
-closed_before (f ∷ filters) lexemes rest closed = let a = expected_is signs.CloseParenthesis [] positions.BehindFilteredRange lexemes rest closed in rw a.1 (ap (λ r. Ok (f ∷ filters, r)) a.2)
+closed_before [] lexemes rest closed = closed_behind [] lexemes lexemes rest (no_stages lexemes) closed
+closed_before (s ∷ stages) lexemes rest closed = let a = expected_is signs.CloseParenthesis [] positions.BehindFilteredRange lexemes rest closed in rw a.1 (ap (λ r. Ok (s ∷ stages, r)) a.2)
 
--- line filters and a duration, and the parenthesis behind them
-record IsClosing (filters : List FilterForm) (seconds : ℕ) (lexemes rest : List Lexeme) : Type 0 where
+-- stages and a duration, and the parenthesis behind them
+record IsClosing (stages : List StageForm) (seconds : ℕ) (lexemes rest : List Lexeme) : Type 0 where
   pub behind : List Lexeme
-  pub timed : IsTimed filters seconds lexemes behind
+  pub timed : IsTimed stages seconds lexemes behind
   pub closed : Stand (tokens.Sign signs.CloseParenthesis ∷ []) behind rest
 
-closing_read : (lexemes : List Lexeme) (filters : List FilterForm) (seconds : ℕ) (rest : List Lexeme) → closing_at false lexemes ≡ Ok (filters, seconds, rest) → IsClosing filters seconds lexemes rest
+closing_read : (lexemes : List Lexeme) (stages : List StageForm) (seconds : ℕ) (rest : List Lexeme) → closing_at false lexemes ≡ Ok (stages, seconds, rest) → IsClosing stages seconds lexemes rest
 unfolding closing_at timed_at
-closing_read lexemes filters seconds rest h =
-    let a = bind_ok (filters_in false lexemes) _ (filters, seconds, rest) h in
-    let b = bind_ok (seconds_at (behind_filters a.0.0) a.0.1) _ (filters, seconds, rest) a.2 in
-    let c = bind_ok (closed_at false a.0.0 b.0.1) _ (filters, seconds, rest) b.2 in
-    let made : ◌≡◌ {A = List FilterForm × ℕ × List Lexeme} (c.0.0, b.0.0, c.0.1) (filters, seconds, rest) = same_ok _ _ c.2 in
-    let whole = by_front a.0.0 a.0.1 b.0.0 b.0.1 c.0.0 c.0.1 (filters_derived lexemes a.0.0 a.0.1 a.1) (seconds_read (behind_filters a.0.0) a.0.1 b.0.0 b.0.1 b.1) c.1 in
-    subst (λ (p : List FilterForm × ℕ × List Lexeme). IsClosing p.0 p.1 lexemes p.2) made whole
+closing_read lexemes stages seconds rest h =
+    let a = bind_ok (stages_in false lexemes) _ (stages, seconds, rest) h in
+    let b = bind_ok (seconds_at (behind_stages positions.BehindSelector a.0.0) a.0.1) _ (stages, seconds, rest) a.2 in
+    let c = bind_ok (closed_at false a.0.0 b.0.1) _ (stages, seconds, rest) b.2 in
+    let made : ◌≡◌ {A = List StageForm × ℕ × List Lexeme} (c.0.0, b.0.0, c.0.1) (stages, seconds, rest) = same_ok _ _ c.2 in
+    let whole = by_front a.0.0 a.0.1 b.0.0 b.0.1 c.0.0 c.0.1 (stages_derived lexemes a.0.0 a.0.1 a.1) (seconds_read (behind_stages positions.BehindSelector a.0.0) a.0.1 b.0.0 b.0.1 b.1) c.1 in
+    subst (λ (p : List StageForm × ℕ × List Lexeme). IsClosing p.0 p.1 lexemes p.2) made whole
   where
-    by_front : (front : List FilterForm) (middle : List Lexeme) (n : ℕ) (after : List Lexeme) (all : List FilterForm) (end : List Lexeme) → AreFilters front lexemes middle → IsDuration n middle after → closed_at false front after ≡ Ok (all, end) → IsClosing all n lexemes end
+    by_front : (front : List StageForm) (middle : List Lexeme) (n : ℕ) (after : List Lexeme) (all : List StageForm) (end : List Lexeme) → AreStages front lexemes middle → IsDuration n middle after → closed_at false front after ≡ Ok (all, end) → IsClosing all n lexemes end
     by_front [] middle n after all end are duration h =
         let closed = closed_none after all end h in
-        record { behind = closed.0; timed = inr (after, subst (λ ls. IsDuration n ls after) (sym are.stand) duration, closed.1); closed = closed.2 }
-    by_front (f ∷ front) middle n after all end are duration h =
-        let closed = closed_some f front after all end h in
-        record { behind = after; timed = inl (middle, subst (λ fs. AreFilters fs lexemes middle) closed.0 are, duration); closed = closed.1 }
+        record { behind = closed.0; timed = inr (after, subst (λ ls. IsDuration n ls after) (sym are.chained) duration, closed.1); closed = closed.2 }
+    by_front (s ∷ front) middle n after all end are duration h =
+        let closed = closed_some s front after all end h in
+        record { behind = after; timed = inl (middle, subst (λ fs. AreStages fs lexemes middle) closed.0 are, duration); closed = closed.1 }
 
-closing_is : (filters : List FilterForm) (seconds : ℕ) (lexemes rest behind : List Lexeme) → IsTimed filters seconds lexemes behind → Stand (tokens.Sign signs.CloseParenthesis ∷ []) behind rest → closing_at false lexemes ≡ Ok (filters, seconds, rest)
+-- what is read keeps the limits
+pub record KeepsLimits (stages : List StageForm) (seconds : ℕ) : Type 0 where
+  pub few : length stages ≤ most_stages
+  pub one_parser : parsers_of stages ≤ 1
+  pub few_tests : label_tests stages ≤ most_tests
+  pub chained : (start end : List Lexeme) × AreChained stages start end
+  pub in_range : (1 ≤ seconds) × (seconds ≤ longest_range)
+
+pub closing_keeps : (lexemes : List Lexeme) (stages : List StageForm) (seconds : ℕ) (rest : List Lexeme) → closing_at false lexemes ≡ Ok (stages, seconds, rest) → KeepsLimits stages seconds
+closing_keeps lexemes stages seconds rest h = let closing = closing_read lexemes stages seconds rest h in by_timed closing.behind closing.timed
+  where
+    by_timed : (behind : List Lexeme) → IsTimed stages seconds lexemes behind → KeepsLimits stages seconds
+    by_timed behind (inl before) = record { few = before.1.few; one_parser = before.1.one_parser; few_tests = before.1.few_tests; chained = (lexemes, before.0, before.1.chained); in_range = before.2.in_range }
+    by_timed behind (inr after) = record { few = after.2.few; one_parser = after.2.one_parser; few_tests = after.2.few_tests; chained = (after.0, behind, after.2.chained); in_range = after.1.in_range }
+
+closing_is : (stages : List StageForm) (seconds : ℕ) (lexemes rest behind : List Lexeme) → IsTimed stages seconds lexemes behind → Stand (tokens.Sign signs.CloseParenthesis ∷ []) behind rest → closing_at false lexemes ≡ Ok (stages, seconds, rest)
 unfolding closing_at timed_at
-closing_is filters seconds lexemes rest behind (inl before) closed =
-    rw (filters_are_read filters lexemes before.0 before.1 (bracket_stops seconds before.0 behind before.2), seconds_are (behind_filters filters) seconds before.0 behind before.2, closed_before filters behind rest closed) refl
+closing_is stages seconds lexemes rest behind (inl before) closed =
+    rw (stages_are_read stages lexemes before.0 before.1 (bracket_stops seconds before.0 behind before.2), seconds_are (behind_stages positions.BehindSelector stages) seconds before.0 behind before.2, closed_before stages behind rest closed) refl
   where
-    bracket_stops : (n : ℕ) (ls end : List Lexeme) → IsDuration n ls end → Stops ls
-    bracket_stops n ls end duration = stops_at (tokens.Sign signs.OpenBracket) (tokens.Number duration.duration ∷ tokens.Sign signs.CloseBracket ∷ []) ls end duration.stand refl
-closing_is filters seconds lexemes rest behind (inr after) closed =
-    rw (filters_are_read [] lexemes lexemes (no_filters lexemes) (bracket_stops seconds lexemes after.0 after.1), seconds_are positions.BehindSelector seconds lexemes after.0 after.1, closed_behind filters after.0 behind rest after.2 closed) refl
+    bracket_stops : (n : ℕ) (ls end : List Lexeme) → IsDuration n ls end → Ends ls
+    bracket_stops n ls end duration = ends_at (tokens.Sign signs.OpenBracket) (tokens.Number duration.duration ∷ tokens.Sign signs.CloseBracket ∷ []) ls end duration.stand refl refl refl refl
+closing_is stages seconds lexemes rest behind (inr after) closed =
+    rw (stages_are_read [] lexemes lexemes (no_stages lexemes) (bracket_stops seconds lexemes after.0 after.1), seconds_are positions.BehindSelector seconds lexemes after.0 after.1, closed_behind stages after.0 behind rest after.2 closed) refl
   where
-    bracket_stops : (n : ℕ) (ls end : List Lexeme) → IsDuration n ls end → Stops ls
-    bracket_stops n ls end duration = stops_at (tokens.Sign signs.OpenBracket) (tokens.Number duration.duration ∷ tokens.Sign signs.CloseBracket ∷ []) ls end duration.stand refl
+    bracket_stops : (n : ℕ) (ls end : List Lexeme) → IsDuration n ls end → Ends ls
+    bracket_stops n ls end duration = ends_at (tokens.Sign signs.OpenBracket) (tokens.Number duration.duration ∷ tokens.Sign signs.CloseBracket ∷ []) ls end duration.stand refl refl refl refl
 
 range_derived : (lexemes : List Lexeme) (range : RangeForm) (rest : List Lexeme) → range_at false lexemes ≡ Ok (range, rest) → IsRange range lexemes rest
 unfolding range_at
@@ -145,8 +163,8 @@ range_derived lexemes range rest h =
     let c = bind_ok (selector_at false b.0) _ (range, rest) b.2 in
     let d = bind_ok (closing_at false c.0.1) _ (range, rest) c.2 in
     let closing = closing_read c.0.1 d.0.0 d.0.1 d.0.2 d.1 in
-    let made : ◌≡◌ {A = RangeForm × List Lexeme} (record { matchers = c.0.0; filters = d.0.0; seconds = d.0.1 }, d.0.2) (range, rest) = same_ok _ _ d.2 in
-    let whole : IsRange (record { matchers = c.0.0; filters = d.0.0; seconds = d.0.1 }) lexemes d.0.2 = record {
+    let made : ◌≡◌ {A = RangeForm × List Lexeme} (record { matchers = c.0.0; stages = d.0.0; seconds = d.0.1 }, d.0.2) (range, rest) = same_ok _ _ d.2 in
+    let whole : IsRange (record { matchers = c.0.0; stages = d.0.0; seconds = d.0.1 }) lexemes d.0.2 = record {
       behind_parenthesis = a.0;
       behind_selector = c.0.1;
       behind_duration = closing.behind;
@@ -163,7 +181,7 @@ range_is range lexemes rest is =
     let a = expected_is signs.OpenParenthesis [] positions.Elsewhere lexemes is.behind_parenthesis is.opened in
     let selector = subst (λ ls. IsSelector range.matchers ls is.behind_selector) (sym a.2) is.selector in
     let b = selector_is range.matchers a.0 is.behind_selector selector in
-    rw (a.1, b.1, b.2, closing_is range.filters range.seconds is.behind_selector rest is.behind_duration is.timed is.closed) refl
+    rw (a.1, b.1, b.2, closing_is range.stages range.seconds is.behind_selector rest is.behind_duration is.timed is.closed) refl
 
 function_read : (place : ℕ) (token : Token) (function : RangeFunction) → function_of place token ≡ Ok function → token ≡ tokens.Word (function_text function)
 function_read place (tokens.Word word) function h = ap tokens.Word (by_name function h)

@@ -1,7 +1,19 @@
 -- Queries with one form are one, and each keeps its limits.
-use Rattle.std.proofs.Common.{◌≡◌, ℕ, ◌≤◌, true, List, [], ◌∷◌, map, length, refl, ap, ◌∙◌, arith, IsTrue}
+use Rattle.rl_query.proofs.TestPrinted.{tests_kept}
+use Rattle.rl_query.proofs.TestDepths.{tests_shallow}
+use Rattle.rl_query.proofs.SameTests.{same_tests, count_forms, depth_forms}
+use Rattle.rl_query.specs.TestTree.{all_tests}
+use Rattle.rl_query.specs.TestGrammar.{is_test}
+use Rattle.rl_query.specs.TestDepth.{text_depth}
+use Rattle.rl_query.specs.Stages.{tests_in, count_label_tests, are_shallow, is_parser, count_parsers}
+use Rattle.rl_query.specs.Limits.{most_tests, most_depth, has_real_matcher, is_filter, longest_range, most_stages}
+use Rattle.rl_query.specs.Grammar.{AreChained}
+use Rattle.rl_query.specs.Form.{by_tests, tests_form, tests_of, label_tests, FilterForm, filter_form, matcher_form, by_parser, stage_form, parses, parsers_of, range_form, term_form, query_form}
+use Rattle.rl_query.specs.declared.token.Lexeme.{Lexeme}
+use Rattle.std.proofs.lemmas.Bool.{and_parts, le-leb, and_from}
+use Rattle.std.proofs.Common.{nat_le, ◌≡◌, ℕ, ◌+◌, ◌≤◌, true, cond, sym, List, [], ◌∷◌, map, length, refl, ap, ◌∙◌, arith, IsTrue}
 use Rattle.std.proofs.lemmas.List.{length-map}
-use Rattle.std.proofs.lemmas.Bool.{and_from}
+use Rattle.std.proofs.lemmas.List.Sums.{sum_by-cons}
 use Rattle.std.proofs.Props.{props}
 use Rattle.std.specs.List.{list_all}
 use mathlib.Core.HLevel.{Σ_prop_path}
@@ -13,10 +25,11 @@ use Rattle.rl_query.specs.declared.query.Query.{Query}
 use Rattle.rl_query.specs.declared.query.Term.{Term}
 use Rattle.rl_query.specs.declared.query.LogRange.{LogRange}
 use Rattle.rl_query.specs.declared.query.Selector.{Selector}
-use Rattle.rl_query.specs.Form.{FilterForm, filter_form, matcher_form, range_form, term_form, query_form}
-use Rattle.rl_query.specs.Grammar.{is_matcher}
-use Rattle.rl_query.specs.Limits.{has_real_matcher, is_filter, longest_range, most_stages}
+use Rattle.rl_query.specs.declared.stages.Stage.{Stage}
+use Rattle.rl_query.specs.declared.stages.Stage.TheVariants as kinds
+use Rattle.rl_query.specs.Standing.{is_matcher}
 use Rattle.rl_query.proofs.Elements.{real_forms}
+use Rattle.rl_query.proofs.PrintedStages.{is_stage}
 use Rattle.rl_query.proofs.PrintedQuery.{Keeps}
 
 pub same_matchers : (xs ys : List Matcher) → map matcher_form xs ≡ map matcher_form ys → xs ≡ ys
@@ -51,13 +64,35 @@ same_filters (x ∷ xs) (y ∷ ys) e =
     let rest = same_filters xs ys tails in
     λ i. first i ∷ rest i
 
+same_stage : (a b : Stage) → stage_form a ≡ stage_form b → a ≡ b
+same_stage (kinds.Filter a) (kinds.Filter b) e = let forms : filter_form a ≡ filter_form b = cc in ap kinds.Filter (same_filter a b forms)
+same_stage (kinds.Filter a) (kinds.Parser b) e = cc
+same_stage (kinds.Parser a) (kinds.Filter b) e = cc
+same_stage (kinds.Filter a) (kinds.Tests b) e = cc
+same_stage (kinds.Parser a) (kinds.Tests b) e = cc
+same_stage (kinds.Tests a) (kinds.Filter b) e = cc
+same_stage (kinds.Tests a) (kinds.Parser b) e = cc
+same_stage (kinds.Tests a) (kinds.Tests b) e = let forms : tests_form a ≡ tests_form b = cc in ap kinds.Tests (same_tests a b forms)
+same_stage (kinds.Parser a) (kinds.Parser b) e = let parsers : a ≡ b = cc in ap kinds.Parser parsers
+
+same_stages : (xs ys : List Stage) → map stage_form xs ≡ map stage_form ys → xs ≡ ys
+same_stages [] [] e = refl
+same_stages [] (y ∷ ys) e = cc
+same_stages (x ∷ xs) [] e = cc
+same_stages (x ∷ xs) (y ∷ ys) e =
+    let heads : stage_form x ≡ stage_form y = cc in
+    let tails : map stage_form xs ≡ map stage_form ys = cc in
+    let first = same_stage x y heads in
+    let rest = same_stages xs ys tails in
+    λ i. first i ∷ rest i
+
 same_range : (a b : LogRange) → range_form a ≡ range_form b → a ≡ b
 same_range a b e =
     let selectors = same_selector a.selector b.selector (same_matchers a.selector.matchers b.selector.matchers (ap (λ f. f.matchers) e)) in
-    let filters = same_filters a.filters b.filters (ap (λ f. f.filters) e) in
-    let parts : ◌≡◌ {A = Selector × List LineFilter × ℕ} (a.selector, a.filters, a.seconds) (b.selector, b.filters, b.seconds) = λ i. (selectors i, filters i, (e i).seconds) in
-    let whole : ◌≡◌ {A = (p : Selector × List LineFilter × ℕ) × ((length p.1 ≤ most_stages) × ((1 ≤ p.2) × (p.2 ≤ longest_range)))} ((a.selector, a.filters, a.seconds), (a.few, a.in_range)) ((b.selector, b.filters, b.seconds), (b.few, b.in_range)) = Σ_prop_path (λ p. hlevel props) parts in
-    λ i. record { selector = (whole i).0.0; filters = (whole i).0.1; seconds = (whole i).0.2; few = (whole i).1.0; in_range = (whole i).1.1 }
+    let stages = same_stages a.stages b.stages (ap (λ f. f.stages) e) in
+    let parts : ◌≡◌ {A = Selector × List Stage × ℕ} (a.selector, a.stages, a.seconds) (b.selector, b.stages, b.seconds) = λ i. (selectors i, stages i, (e i).seconds) in
+    let whole : ◌≡◌ {A = (p : Selector × List Stage × ℕ) × ((length p.1 ≤ most_stages) × ((count_parsers p.1 ≤ 1) × ((count_label_tests p.1 ≤ most_tests) × (IsTrue (are_shallow p.1) × ((1 ≤ p.2) × (p.2 ≤ longest_range))))))} ((a.selector, a.stages, a.seconds), (a.few, (a.one_parser, (a.few_tests, (a.shallow, a.in_range))))) ((b.selector, b.stages, b.seconds), (b.few, (b.one_parser, (b.few_tests, (b.shallow, b.in_range))))) = Σ_prop_path (λ p. hlevel props) parts in
+    λ i. record { selector = (whole i).0.0; stages = (whole i).0.1; seconds = (whole i).0.2; few = (whole i).1.0; one_parser = (whole i).1.1.0; few_tests = (whole i).1.1.1.0; shallow = (whole i).1.1.1.1.0; in_range = (whole i).1.1.1.1.1 }
 
 pub same_term : (a b : Term) → term_form a ≡ term_form b → a ≡ b
 same_term a b e =
@@ -77,12 +112,49 @@ pub filters_proper : (fs : List LineFilter) → list_all (λ f. is_filter f.op f
 filters_proper [] = refl
 filters_proper (f ∷ fs) = and_from (is_filter f.op f.text) _ f.comparable (filters_proper fs)
 
+stages_proper : (ss : List Stage) → are_shallow ss ≡ true → list_all is_stage (map stage_form ss) ≡ true
+stages_proper [] shallow = refl
+stages_proper (kinds.Filter f ∷ ss) shallow = and_from (is_filter f.op f.text) _ f.comparable (stages_proper ss shallow)
+stages_proper (kinds.Parser p ∷ ss) shallow = stages_proper ss shallow
+stages_proper (kinds.Tests t ∷ ss) shallow =
+    let parts = and_parts (nat_le (text_depth t) most_depth) (are_shallow ss) shallow in
+    and_from (is_stage (by_tests (tests_form t))) _ (and_from (all_tests is_test (tests_form t)) _ (tests_kept t) (ap (λ n. nat_le n most_depth) (depth_forms t) ∙ parts.0)) (stages_proper ss parts.1)
+
+-- stages and their forms have as many label tests
+pub label_forms : (ss : List Stage) → label_tests (map stage_form ss) ≡ count_label_tests ss
+label_forms [] = refl
+label_forms (s ∷ ss) =
+    sum_by-cons tests_of (stage_form s) (map stage_form ss) ∙ (λ i. one s i + label_forms ss i) ∙ sym (sum_by-cons tests_in s ss)
+  where
+    one : (s : Stage) → tests_of (stage_form s) ≡ tests_in s
+    one (kinds.Filter f) = refl
+    one (kinds.Parser p) = refl
+    one (kinds.Tests t) = count_forms t
+
+-- stages that are derived are shallow
+pub shallow_forms : (ss : List Stage) (lexemes rest : List Lexeme) → AreChained (map stage_form ss) lexemes rest → are_shallow ss ≡ true
+shallow_forms [] lexemes rest are = refl
+shallow_forms (kinds.Filter f ∷ ss) lexemes rest are = shallow_forms ss are.0 rest are.2
+shallow_forms (kinds.Parser p ∷ ss) lexemes rest are = shallow_forms ss are.0 rest are.2
+shallow_forms (kinds.Tests t ∷ ss) lexemes rest are =
+    let deep = tests_shallow most_depth (tests_form t) are.1.behind are.0 are.1.are in
+    and_from (nat_le (text_depth t) most_depth) _ (le-leb (text_depth t) most_depth (omega (arith, deep, depth_forms t))) (shallow_forms ss are.0 rest are.2)
+
+-- stages and their forms count parsers alike
+pub parser_forms : (ss : List Stage) → parsers_of (map stage_form ss) ≡ count_parsers ss
+parser_forms [] = refl
+parser_forms (kinds.Filter f ∷ ss) = parser_forms ss
+parser_forms (kinds.Tests t ∷ ss) = parser_forms ss
+parser_forms (kinds.Parser p ∷ ss) = sum_by-cons (λ s. cond (parses s) 1 0) (by_parser p) (map stage_form ss) ∙ ap (λ n. 1 + n) (parser_forms ss) ∙ sym (sum_by-cons (λ s. cond (is_parser s) 1 0) (kinds.Parser p) ss)
+
 -- a query keeps its limits
 pub keeps_limits : (q : Query) → Keeps (query_form q)
 keeps_limits q = record {
   matchers = all_proper q.left.range.selector.matchers;
   real = real_forms q.left.range.selector.matchers ∙ q.left.range.selector.real;
-  filters = filters_proper q.left.range.filters;
-  few = omega (arith, length-map q.left.range.filters filter_form, q.left.range.few);
+  stages = stages_proper q.left.range.stages q.left.range.shallow;
+  few = omega (arith, length-map q.left.range.stages stage_form, q.left.range.few);
+  one_parser = omega (arith, parser_forms q.left.range.stages, q.left.range.one_parser);
+  few_tests = omega (arith, label_forms q.left.range.stages, q.left.range.few_tests);
   in_range = q.left.range.in_range;
 }

@@ -7,10 +7,12 @@ use Rattle.rl_query.specs.declared.token.Sign.TheVariants as signs
 use Rattle.rl_query.specs.declared.token.Token.{Token}
 use Rattle.rl_query.specs.declared.token.Token.TheVariants as tokens
 use Rattle.rl_query.specs.Form.{FilterForm, SieveForm}
-use Rattle.rl_query.specs.Grammar.{Stand, DerivesSieve, AreFilters}
+use Rattle.rl_query.specs.Standing.{Stand}
+use Rattle.rl_query.specs.Grammar.{DerivesSieve, AreFilters}
 use Rattle.rl_query.specs.Lexing.{lexemes_of}
-use Rattle.rl_query.specs.Parsing.{next, expected, selector_at, filters_in, behind_filters}
-use Rattle.rl_query.specs.Sieving.{sieve_ends, rest_at, sieve_in}
+use Rattle.rl_query.specs.Fronts.{next, expected}
+use Rattle.rl_query.specs.Parsing.{selector_at, filters_in}
+use Rattle.rl_query.specs.Sieving.{behind_filters, sieve_ends, rest_at, sieve_in}
 use Rattle.rl_query.proofs.Productions.{bind_ok, same_ok, no_err, one_read, next_is, expected_read, selector_read, selector_is}
 use Rattle.rl_query.proofs.FilterProductions.{stops_at, filters_derived, filters_are_read}
 

@@ -10,7 +10,7 @@ use Rattle.std.proofs.Math.Utf8.{encode}
 use Rattle.rl_plain.specs.Escapes.{Escapes, are_ascii, unescape}
 use Rattle.rl_query.specs.Tables.{escapes}
 use Rattle.rl_query.specs.Lexing.{is_plain, is_raw, is_number_byte, is_in_run, hex_digit, hex_number, character, unicode_at, escape_at, escape_front, onto, quoted, backquoted}
-use Rattle.rl_query.proofs.Cuts.{behind_ascii, run_boundary, name_byte_small, number_byte_small}
+use Rattle.rl_query.proofs.Cuts.{behind_ascii, run_boundary, name_byte_small}
 use Rattle.rl_query.specs.declared.lexer.Run.{Run}
 use Rattle.rl_query.specs.declared.lexer.Run.TheVariants as runs
 use Rattle.rl_labels.specs.Name.{is_name_byte}
@@ -43,6 +43,9 @@ stop_boundary p (b ∷ bytes) small =
       | false ↦ λ stops. (omega arith, λ _ high. absurd (let low = small b stops in omega arith))
     ] refl
 
+pub number_stop : (b : ℕ) → is_number_byte b ≡ false → b < 128
+number_stop b h = grind (arith, nat_tests)
+
 pub plain_stop : (b : ℕ) → is_plain b ≡ false → b < 128
 plain_stop b h = grind (arith, nat_tests)
 
@@ -52,7 +55,7 @@ raw_stop b h = grind (arith, nat_tests)
 -- a text may be cut behind a run
 pub run_ends : (run : Run) (bytes : List ℕ) → IsUtf8 bytes → IsCharBoundary bytes (prefix_len (is_in_run run) bytes)
 run_ends runs.Word bytes utf8 = run_boundary is_name_byte bytes name_byte_small utf8
-run_ends runs.Number bytes utf8 = run_boundary is_number_byte bytes number_byte_small utf8
+run_ends runs.Number bytes utf8 = stop_boundary is_number_byte bytes number_stop
 run_ends runs.Plain bytes utf8 = stop_boundary is_plain bytes plain_stop
 run_ends runs.Raw bytes utf8 = stop_boundary is_raw bytes raw_stop
 

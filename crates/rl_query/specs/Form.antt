@@ -1,16 +1,25 @@
 -- Queries without the facts that their types keep.
-use Rattle.std.specs.Prelude.{ℕ, Bool, not, ◌||◌, List, [], map}
-use Rattle.std.specs.List.{list_any}
+use Rattle.rl_query.specs.TestTree.{any_test, count_tests, TestTree, map_tree}
+use Rattle.std.specs.List.{sum_by, list_any, count_by}
+use Rattle.std.specs.Prelude.{ℕ, Bool, true, false, not, ◌||◌, List, [], map}
 use Rattle.rl_labels.specs.Operators.{passes, is_by_pattern}
 use Rattle.rl_labels.specs.declared.matcher.Matcher.{Matcher}
 use Rattle.rl_labels.specs.declared.matcher.MatchOp.{MatchOp}
 use Rattle.rl_query.specs.declared.filter.LineFilter.{LineFilter}
 use Rattle.rl_query.specs.declared.filter.LineOp.{LineOp}
 use Rattle.rl_query.specs.declared.filter.Sieve.{Sieve}
+use Rattle.rl_query.specs.declared.label_test.LabelTest.{LabelTest}
+use Rattle.rl_query.specs.declared.label_test.LabelTest.TheVariants as tests
+use Rattle.rl_query.specs.declared.quantity_test.Comparison.{Comparison}
+use Rattle.rl_query.specs.declared.quantity_test.Quantity.{Quantity}
+use Rattle.rl_query.specs.declared.quantity_test.QuantityTest.{QuantityTest}
 use Rattle.rl_query.specs.declared.query.Query.{Query}
 use Rattle.rl_query.specs.declared.query.Term.{Term}
 use Rattle.rl_query.specs.declared.query.LogRange.{LogRange}
 use Rattle.rl_query.specs.declared.query.RangeFunction.{RangeFunction}
+use Rattle.rl_query.specs.declared.stages.Parser.{Parser}
+use Rattle.rl_query.specs.declared.stages.Stage.{Stage}
+use Rattle.rl_query.specs.declared.stages.Stage.TheVariants as kinds
 use Rattle.rl_query.specs.Limits.{is_line_pattern}
 
 pub record MatcherForm : Type 0 where
@@ -22,9 +31,23 @@ pub record FilterForm : Type 0 where
   pub op : LineOp
   pub text : List ℕ
 
+pub record QuantityForm : Type 0 where
+  pub name : List ℕ
+  pub comparison : Comparison
+  pub quantity : Quantity
+
+pub data TestForm : Type 0 where
+  by_text : MatcherForm → TestForm
+  by_quantity : QuantityForm → TestForm
+
+pub data StageForm : Type 0 where
+  by_filter : FilterForm → StageForm
+  by_parser : Parser → StageForm
+  by_tests : TestTree TestForm → StageForm
+
 pub record RangeForm : Type 0 where
   pub matchers : List MatcherForm
-  pub filters : List FilterForm
+  pub stages : List StageForm
   pub seconds : ℕ
 
 pub record TermForm : Type 0 where
@@ -40,8 +63,23 @@ matcher_form matcher = record { name = matcher.name; op = matcher.op; value = ma
 abbrev pub filter_form : LineFilter → FilterForm
 filter_form filter = record { op = filter.op; text = filter.text }
 
+abbrev pub quantity_form : QuantityTest → QuantityForm
+quantity_form test = record { name = test.name; comparison = test.comparison; quantity = test.quantity }
+
+abbrev pub test_form : LabelTest → TestForm
+test_form (tests.Text test) = by_text (matcher_form test.matcher)
+test_form (tests.Quantity test) = by_quantity (quantity_form test)
+
+abbrev pub tests_form : TestTree LabelTest → TestTree TestForm
+tests_form = map_tree test_form
+
+abbrev pub stage_form : Stage → StageForm
+stage_form (kinds.Filter filter) = by_filter (filter_form filter)
+stage_form (kinds.Parser parser) = by_parser parser
+stage_form (kinds.Tests tests) = by_tests (tests_form tests)
+
 abbrev pub range_form : LogRange → RangeForm
-range_form range = record { matchers = map matcher_form range.selector.matchers; filters = map filter_form range.filters; seconds = range.seconds }
+range_form range = record { matchers = map matcher_form range.selector.matchers; stages = map stage_form range.stages; seconds = range.seconds }
 
 abbrev pub term_form : Term → TermForm
 term_form term = record { function = term.function; range = range_form term.range }
@@ -61,8 +99,40 @@ has_pattern matchers = list_any (λ matcher. is_by_pattern matcher.op) matchers
 abbrev pub filters_have_pattern : List FilterForm → Bool
 filters_have_pattern filters = list_any (λ filter. is_line_pattern filter.op) filters
 
+abbrev pub test_has_pattern : TestForm → Bool
+test_has_pattern (by_text matcher) = is_by_pattern matcher.op
+test_has_pattern (by_quantity test) = false
+
+abbrev pub stage_has_pattern : StageForm → Bool
+stage_has_pattern (by_filter filter) = is_line_pattern filter.op
+stage_has_pattern (by_parser parser) = false
+stage_has_pattern (by_tests tests) = any_test test_has_pattern tests
+
+-- some stage has a pattern
+abbrev pub stages_have_pattern : List StageForm → Bool
+stages_have_pattern stages = list_any stage_has_pattern stages
+
+-- a stage is a parser
+abbrev pub parses : StageForm → Bool
+parses (by_filter filter) = false
+parses (by_parser parser) = true
+parses (by_tests tests) = false
+
+-- how many parsers there are
+abbrev pub parsers_of : List StageForm → ℕ
+parsers_of stages = count_by parses stages
+
+-- how many label tests a stage has
+abbrev pub tests_of : StageForm → ℕ
+tests_of (by_filter filter) = 0
+tests_of (by_parser parser) = 0
+tests_of (by_tests tests) = count_tests tests
+
+abbrev pub label_tests : List StageForm → ℕ
+label_tests stages = sum_by tests_of stages
+
 abbrev pub range_has_pattern : RangeForm → Bool
-range_has_pattern range = has_pattern range.matchers || filters_have_pattern range.filters
+range_has_pattern range = has_pattern range.matchers || stages_have_pattern range.stages
 
 abbrev pub query_has_pattern : QueryForm → Bool
 query_has_pattern query = range_has_pattern query.left.range

@@ -1,42 +1,22 @@
 -- The grammar of query texts, over their tokens and apart from how they are read. Each rule relates tokens and those that follow.
-use Rattle.std.specs.Prelude.{◌≡◌, ◌⊎◌, ℕ, ◌≤◌, Bool, true, ◌&&◌, List, [], ◌∷◌, ◌++◌, length, Some}
+use Rattle.rl_query.specs.TestTree.{TestTree}
+use Rattle.rl_query.specs.TestGrammar.{AreTests}
+use Rattle.rl_query.specs.Limits.{most_depth, most_tests, longest_range, is_filter, most_stages}
+use Rattle.rl_query.specs.Form.{TestForm, by_tests, label_tests, MatcherForm, RangeForm, TermForm, QueryForm, FilterForm, StageForm, by_filter, by_parser, SieveForm, has_real_form, parsers_of}
+use Rattle.std.specs.Prelude.{◌≡◌, ◌⊎◌, ℕ, ◌≤◌, true, List, [], ◌∷◌, ◌++◌, length, Some}
 use Rattle.std.specs.List.{list_all}
-use Rattle.rl_labels.specs.Name.{is_name}
-use Rattle.rl_labels.specs.Operators.{is_comparable}
-use Rattle.rl_labels.specs.declared.matcher.MatchOp.{MatchOp}
-use Rattle.rl_labels.specs.declared.matcher.MatchOp.TheVariants as operators
 use Rattle.rl_query.specs.declared.filter.LineOp.{LineOp}
 use Rattle.rl_query.specs.declared.filter.LineOp.TheVariants as lines
+use Rattle.rl_query.specs.declared.stages.Parser.{Parser}
 use Rattle.rl_query.specs.declared.token.Lexeme.{Lexeme}
 use Rattle.rl_query.specs.declared.token.Sign.{Sign}
 use Rattle.rl_query.specs.declared.token.Sign.TheVariants as signs
 use Rattle.rl_query.specs.declared.token.Token.{Token}
 use Rattle.rl_query.specs.declared.token.Token.TheVariants as tokens
 use Rattle.rl_query.specs.Durations.{duration_of}
-use Rattle.rl_query.specs.Form.{MatcherForm, RangeForm, TermForm, QueryForm, FilterForm, SieveForm, has_real_form}
 use Rattle.rl_query.specs.Lexing.{lexemes_of}
-use Rattle.rl_query.specs.Limits.{longest_range, is_filter, most_stages}
-use Rattle.rl_query.specs.Printing.{function_text}
-
--- these tokens stand at the front, one behind the other
-abbrev pub Stand : List Token → List Lexeme → List Lexeme → Type 0
-Stand [] lexemes rest = lexemes ≡ rest
-Stand (token ∷ tokens) [] rest = ⊥
-Stand (token ∷ tokens) (lexeme ∷ lexemes) rest = (lexeme.token ≡ token) × Stand tokens lexemes rest
-
-abbrev pub operator_sign : MatchOp → Sign
-operator_sign operators.Equal = signs.Equal
-operator_sign operators.NotEqual = signs.NotEqual
-operator_sign operators.Matches = signs.Matches
-operator_sign operators.NotMatches = signs.NotMatches
-
--- name="value", or another operator
-abbrev pub matcher_tokens : MatcherForm → List Token
-matcher_tokens matcher = tokens.Word matcher.name ∷ tokens.Sign (operator_sign matcher.op) ∷ tokens.Text matcher.value ∷ []
-
--- its name is one, and where it has a pattern its value is one
-abbrev pub is_matcher : MatcherForm → Bool
-is_matcher matcher = is_name matcher.name && is_comparable matcher.op matcher.value
+use Rattle.rl_query.specs.Printing.{parser_text, function_text}
+use Rattle.rl_query.specs.Standing.{Stand, matcher_tokens, is_matcher}
 
 -- matchers joined by commas, up to the closing brace
 abbrev pub matchers_tokens : List MatcherForm → List Token
@@ -78,18 +58,46 @@ pub record AreFilters (filters : List FilterForm) (lexemes rest : List Lexeme) :
   pub proper : list_all (λ filter. is_filter filter.op filter.text) filters ≡ true
   pub few : length filters ≤ most_stages
 
--- line filters [duration], or [duration] line filters
-abbrev pub IsTimed : List FilterForm → ℕ → List Lexeme → List Lexeme → Type 0
-IsTimed filters seconds lexemes rest = ((behind : List Lexeme) × AreFilters filters lexemes behind × IsDuration seconds behind rest) ⊎ ((behind : List Lexeme) × IsDuration seconds lexemes behind × AreFilters filters behind rest)
+-- | json
+abbrev pub parser_tokens : Parser → List Token
+parser_tokens parser = tokens.Sign signs.Pipe ∷ tokens.Word (parser_text parser) ∷ []
 
--- ({matchers} line filters [duration]), or the line filters behind the duration
+-- | tests
+pub record AreTestsPiped (tests : TestTree TestForm) (lexemes rest : List Lexeme) : Type 0 where
+  pub behind : List Lexeme
+  pub pipe : Stand (tokens.Sign signs.Pipe ∷ []) lexemes behind
+  pub are : AreTests most_depth tests behind rest
+
+-- a line filter whose pattern is one, a parser or label tests
+abbrev pub IsStage : StageForm → List Lexeme → List Lexeme → Type 0
+IsStage (by_filter filter) lexemes rest = Stand (filter_tokens filter) lexemes rest × (is_filter filter.op filter.text ≡ true)
+IsStage (by_parser parser) lexemes rest = Stand (parser_tokens parser) lexemes rest
+IsStage (by_tests tests) lexemes rest = AreTestsPiped tests lexemes rest
+
+-- stages one behind the other
+abbrev pub AreChained : List StageForm → List Lexeme → List Lexeme → Type 0
+AreChained [] lexemes rest = lexemes ≡ rest
+AreChained (stage ∷ stages) lexemes rest = (behind : List Lexeme) × IsStage stage lexemes behind × AreChained stages behind rest
+
+-- stages, at most so many, of which one at most is a parser, and at most so many label tests
+pub record AreStages (stages : List StageForm) (lexemes rest : List Lexeme) : Type 0 where
+  pub chained : AreChained stages lexemes rest
+  pub few : length stages ≤ most_stages
+  pub one_parser : parsers_of stages ≤ 1
+  pub few_tests : label_tests stages ≤ most_tests
+
+-- stages [duration], or [duration] stages
+abbrev pub IsTimed : List StageForm → ℕ → List Lexeme → List Lexeme → Type 0
+IsTimed stages seconds lexemes rest = ((behind : List Lexeme) × AreStages stages lexemes behind × IsDuration seconds behind rest) ⊎ ((behind : List Lexeme) × IsDuration seconds lexemes behind × AreStages stages behind rest)
+
+-- ({matchers} stages [duration]), or the stages behind the duration
 pub record IsRange (range : RangeForm) (lexemes rest : List Lexeme) : Type 0 where
   pub behind_parenthesis : List Lexeme
   pub behind_selector : List Lexeme
   pub behind_duration : List Lexeme
   pub opened : Stand (tokens.Sign signs.OpenParenthesis ∷ []) lexemes behind_parenthesis
   pub selector : IsSelector range.matchers behind_parenthesis behind_selector
-  pub timed : IsTimed range.filters range.seconds behind_selector behind_duration
+  pub timed : IsTimed range.stages range.seconds behind_selector behind_duration
   pub closed : Stand (tokens.Sign signs.CloseParenthesis ∷ []) behind_duration rest
 
 -- function range

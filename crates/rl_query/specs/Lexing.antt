@@ -23,9 +23,9 @@ gap_len comment [] = 0
 gap_len true (byte ∷ bytes) = 1 + gap_len (not (byte == 10)) bytes
 gap_len false (byte ∷ bytes) = if is_space byte then 1 + gap_len false bytes else (if byte == 35 then 1 + gap_len true bytes else 0)
 
--- a byte of a number: a digit, a letter, an underscore or a point
+-- a byte of a number: a digit, a letter, an underscore, a point, or one of a character beyond ASCII, as micro signs are
 abbrev pub is_number_byte : ℕ → Bool
-is_number_byte byte = is_name_byte byte || byte == 46
+is_number_byte byte = is_name_byte byte || (byte == 46 || nat_le 128 byte)
 
 -- the longest front whose bytes pass, and what follows it
 abbrev pub run_at : (ℕ → Bool) → List ℕ → List ℕ × List ℕ

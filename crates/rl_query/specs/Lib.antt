@@ -7,4 +7,16 @@ pub mod Lexing
 pub mod Limits
 pub mod Parsing
 pub mod Printing
+pub mod Quantities
 pub mod Sieving
+pub mod Stages
+pub mod Tested
+pub mod TestGrammar
+pub mod TestPrinting
+pub mod Testing
+pub mod TestTree
+pub mod Fronts
+pub mod TestDepth
+pub mod Standing
+pub mod MatcherPrinting
+pub mod TestEquality

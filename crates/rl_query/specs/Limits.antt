@@ -1,6 +1,7 @@
 -- The limits that a query keeps.
-use Rattle.std.specs.Prelude.{ℕ, ◌+◌, min, Bool, true, false, not, ◌||◌, List, []}
+use Rattle.std.specs.Prelude.{ℕ, ◌+◌, min, Bool, true, false, not, ◌||◌, List, [], codes}
 use Rattle.std.specs.List.{list_any}
+use Rattle.rl_labels.specs.Name.{is_text}
 use Rattle.rl_labels.specs.Operators.{passes}
 use Rattle.rl_labels.specs.declared.matcher.Matcher.{Matcher}
 use Rattle.rl_patterns.specs.Matching.{is_pattern}
@@ -23,6 +24,14 @@ capped n = min n (longest_range + 1)
 abbrev pub most_stages : ℕ
 most_stages = 256
 
+-- the most label tests of a range
+abbrev pub most_tests : ℕ
+most_tests = 256
+
+-- the most parentheses that label tests have open at once: the one that opens the range counts too
+abbrev pub most_depth : ℕ
+most_depth = 63
+
 -- a line filter by pattern
 abbrev pub is_line_pattern : LineOp → Bool
 is_line_pattern lines.Contains = false
@@ -33,3 +42,7 @@ is_line_pattern lines.NotMatches = true
 -- any text can be looked for, but a pattern has to be one
 abbrev pub is_filter : LineOp → List ℕ → Bool
 is_filter op text = not (is_line_pattern op) || is_pattern text
+
+-- the words that name no label in a test
+abbrev pub is_taken : List ℕ → Bool
+is_taken word = is_text word (codes "and") || (is_text word (codes "or") || (is_text word (codes "json") || is_text word (codes "logfmt")))

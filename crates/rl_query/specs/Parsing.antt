@@ -1,13 +1,13 @@
 -- Reading a query from its tokens: what is read and the tokens that follow it, or the first fault from the left.
-use Rattle.std.specs.Prelude.{ℕ, zero, suc, ◌-◌, ◌==◌, nat_le, Bool, true, false, not, ◌&&◌, ◌||◌, List, [], ◌∷◌, length, slice_index, Option, Some, None, is_some, Result, Ok, Err, if◌then◌else◌, codes}
 use Rattle.std.specs.List.{list_any, list_all}
+use Rattle.std.specs.Prelude.{not, Some, None, ℕ, zero, suc, ◌-◌, ◌==◌, nat_le, Bool, true, false, ◌&&◌, ◌||◌, List, [], ◌∷◌, length, slice_index, Option, is_some, Result, Ok, Err, if◌then◌else◌, codes}
+use Rattle.rl_query.specs.Fronts.{is_in_any_case, is_match, is_later_word, refusal, is_sign, next, expected, matcher_at}
+use Rattle.rl_query.specs.Testing.{compares, tests_at}
+use Rattle.rl_query.specs.Limits.{most_tests, most_depth, is_filter, longest_range, most_stages}
+use Rattle.rl_query.specs.Form.{by_tests, MatcherForm, FilterForm, StageForm, by_filter, by_parser, RangeForm, TermForm, QueryForm, has_real_form, has_pattern, filters_have_pattern, stages_have_pattern, parses}
 use Rattle.std.specs.Option.{option_map_or}
 use Rattle.std.specs.Char.{is_ascii_digit}
-use Rattle.std.specs.Str.{str_eq_ignore_ascii_case}
-use Rattle.rl_labels.specs.Name.{is_text, is_name}
-use Rattle.rl_labels.specs.Operators.{is_comparable}
-use Rattle.rl_labels.specs.declared.matcher.MatchOp.{MatchOp}
-use Rattle.rl_labels.specs.declared.matcher.MatchOp.TheVariants as operators
+use Rattle.rl_labels.specs.Name.{is_text}
 use Rattle.rl_query.specs.declared.fault.QueryFault.{QueryFault}
 use Rattle.rl_query.specs.declared.fault.QueryFault.TheVariants as faults
 use Rattle.rl_query.specs.declared.filter.LineOp.{LineOp}
@@ -16,162 +16,16 @@ use Rattle.rl_query.specs.declared.parser.Position.{Position}
 use Rattle.rl_query.specs.declared.parser.Position.TheVariants as positions
 use Rattle.rl_query.specs.declared.query.RangeFunction.{RangeFunction}
 use Rattle.rl_query.specs.declared.query.RangeFunction.TheVariants as functions
+use Rattle.rl_query.specs.declared.stages.Parser.{Parser}
+use Rattle.rl_query.specs.declared.stages.Parser.TheVariants as parsers
 use Rattle.rl_query.specs.declared.token.Sign.{Sign}
 use Rattle.rl_query.specs.declared.token.Sign.TheVariants as signs
 use Rattle.rl_query.specs.declared.token.Lexeme.{Lexeme}
 use Rattle.rl_query.specs.declared.token.Token.{Token}
 use Rattle.rl_query.specs.declared.token.Token.TheVariants as tokens
-use Rattle.rl_query.specs.Form.{MatcherForm, FilterForm, RangeForm, TermForm, QueryForm, has_real_form, has_pattern, filters_have_pattern}
 use Rattle.rl_query.specs.Durations.{duration_of}
 use Rattle.rl_query.specs.Lexing.{lexemes_of}
-use Rattle.rl_query.specs.Limits.{is_filter, longest_range, most_stages}
-use Rattle.rl_query.specs.Tables.{sign_text}
 use Rattle.rl_plain.specs.Answers.{◌>>=◌}
-
--- a sign between terms
-abbrev pub is_operator : Sign → Bool
-is_operator signs.Slash = true
-is_operator signs.Plus = true
-is_operator signs.Minus = true
-is_operator signs.Times = true
-is_operator signs.Percent = true
-is_operator signs.Power = true
-is_operator signs.At = true
-is_operator signs.OpenBracket = true
-is_operator signs.EqualTo = true
-is_operator signs.NotEqual = true
-is_operator signs.Greater = true
-is_operator signs.GreaterOrEqual = true
-is_operator signs.Less = true
-is_operator signs.LessOrEqual = true
-is_operator _ = false
-
--- a sign that begins a query in LogQL
-abbrev pub is_later_start : Sign → Bool
-is_later_start signs.OpenBrace = true
-is_later_start signs.OpenParenthesis = true
-is_later_start signs.Minus = true
-is_later_start signs.Plus = true
-is_later_start _ = false
-
--- a sign that begins a stage in LogQL
-abbrev pub is_later_stage : Sign → Bool
-is_later_stage signs.Pipe = true
-is_later_stage signs.ContainsPattern = true
-is_later_stage signs.LacksPattern = true
-is_later_stage _ = false
-
-abbrev pub is_colon : Sign → Bool
-is_colon signs.Colon = true
-is_colon _ = false
-
-abbrev pub is_at : Sign → Bool
-is_at signs.At = true
-is_at _ = false
-
--- LogQL reads its words in any case, the ruler in lower case alone
-abbrev pub is_in_any_case : List ℕ → List ℕ → Bool
-is_in_any_case = str_eq_ignore_ascii_case
-
--- the words that begin a query in LogQL
-abbrev pub later_words : List (List ℕ)
-later_words =
-    codes "rate" ∷ codes "bytes_over_time" ∷ codes "bytes_rate" ∷ codes "absent_over_time" ∷ codes "sum" ∷ codes "count" ∷ codes "min" ∷ codes "max" ∷
-    codes "topk" ∷ codes "avg" ∷ codes "stddev" ∷ codes "stdvar" ∷ codes "bottomk" ∷ codes "approx_topk" ∷ codes "sort" ∷ codes "sort_desc" ∷
-    codes "label_replace" ∷ codes "vector" ∷ codes "sum_over_time" ∷ codes "avg_over_time" ∷ codes "max_over_time" ∷ codes "min_over_time" ∷
-    codes "first_over_time" ∷ codes "last_over_time" ∷ codes "stdvar_over_time" ∷ codes "stddev_over_time" ∷ codes "quantile_over_time" ∷ codes "rate_counter" ∷
-    codes "count_over_time" ∷ []
-
-abbrev pub is_later_word : List ℕ → Bool
-is_later_word word = list_any (λ later. is_in_any_case later word) later_words
-
--- LogQL has the word at the position, and the ruler has it not
-abbrev pub is_unsupported_word : Position → List ℕ → Bool
-is_unsupported_word positions.Start word = is_later_word word
-is_unsupported_word positions.BehindRange word = is_in_any_case word (codes "offset")
-is_unsupported_word positions.BehindFilteredRange word = is_in_any_case word (codes "offset")
-is_unsupported_word positions.BehindTerm word = is_in_any_case word (codes "and") || (is_in_any_case word (codes "or") || is_in_any_case word (codes "unless"))
-is_unsupported_word positions.InFilter word = true
-is_unsupported_word positions.BehindFilter word = is_in_any_case word (codes "or")
-is_unsupported_word _ word = false
-
--- and the same of a sign
-abbrev pub is_unsupported_sign : Position → Sign → Bool
-is_unsupported_sign positions.Start sign = is_later_start sign
-is_unsupported_sign positions.BehindSelector sign = is_later_stage sign
-is_unsupported_sign positions.BehindFilter sign = is_later_stage sign
-is_unsupported_sign positions.InRange sign = is_colon sign
-is_unsupported_sign positions.BehindRange sign = is_later_stage sign || is_at sign
-is_unsupported_sign positions.BehindFilteredRange sign = is_at sign
-is_unsupported_sign positions.BehindTerm sign = is_operator sign
-is_unsupported_sign positions.InFilter sign = false
-is_unsupported_sign positions.Elsewhere sign = false
-
-abbrev pub is_unsupported : Position → Token → Bool
-is_unsupported position (tokens.Word word) = is_unsupported_word position word
-is_unsupported position (tokens.Sign sign) = is_unsupported_sign position sign
-is_unsupported position _ = false
-
--- the fault of a token that does not fit its position
-abbrev pub refusal : Position → ℕ → Token → QueryFault
-refusal position place token = if is_unsupported position token then faults.Unsupported place else faults.Syntax place
-
--- a token is the sign
-abbrev pub is_sign : Sign → Token → Bool
-is_sign sign (tokens.Sign found) = is_text (sign_text found) (sign_text sign)
-is_sign sign _ = false
-
--- the first token, and those behind it. The end is a token, so one is there until it was read
-abbrev pub next : List Lexeme → Result (Lexeme × List Lexeme) QueryFault
-next [] = Err (faults.Syntax 0)
-next (lexeme ∷ lexemes) = Ok (lexeme, lexemes)
-
--- what follows the sign, which has to stand at the front
-unfoldable pub expected : Sign → Position → List Lexeme → Result (List Lexeme) QueryFault
-expected sign position lexemes = do
-  lexeme ← next lexemes
-  if is_sign sign lexeme.0.token then Ok lexeme.1 else Err (refusal position lexeme.0.place lexeme.0.token)
-
--- the name that a token is
-abbrev pub name_of : ℕ → Token → Result (List ℕ) QueryFault
-name_of place (tokens.Word name) = Ok name
-name_of place token = Err (refusal positions.Elsewhere place token)
-
--- the text that a token is
-abbrev pub content_of : ℕ → Token → Result (List ℕ) QueryFault
-content_of place (tokens.Text content) = Ok content
-content_of place token = Err (refusal positions.Elsewhere place token)
-
--- the operator of a matcher that a sign is
-abbrev pub match_of : Sign → Option MatchOp
-match_of signs.Equal = Some operators.Equal
-match_of signs.NotEqual = Some operators.NotEqual
-match_of signs.Matches = Some operators.Matches
-match_of signs.NotMatches = Some operators.NotMatches
-match_of _ = None
-
--- the operator that a token is
-abbrev pub operator_of : ℕ → Token → Result MatchOp QueryFault
-operator_of place (tokens.Sign sign) = option_map_or Ok (match_of sign) (Err (refusal positions.Elsewhere place (tokens.Sign sign)))
-operator_of place token = Err (refusal positions.Elsewhere place token)
-
--- the matcher of its parts, where its name is one, and its pattern
-abbrev pub checked_matcher : (place : ℕ) → MatcherForm → Result MatcherForm QueryFault
-checked_matcher place matcher =
-    if not (is_name matcher.name) then Err (faults.Syntax place)
-    else (if is_comparable matcher.op matcher.value then Ok matcher else Err faults.BadRegex)
-
--- a name, an operator and a text
-unfoldable pub matcher_at : List Lexeme → Result (MatcherForm × List Lexeme) QueryFault
-matcher_at lexemes = do
-  first ← next lexemes
-  name ← name_of first.0.place first.0.token
-  sign ← next first.1
-  op ← operator_of sign.0.place sign.0.token
-  text ← next sign.1
-  value ← content_of text.0.place text.0.token
-  matcher ← checked_matcher first.0.place (record { name = name; op = op; value = value })
-  Ok (matcher, text.1)
 
 -- behind a matcher: whether another follows
 abbrev pub goes_on : ℕ → Token → Result Bool QueryFault
@@ -260,15 +114,100 @@ filters_in cramped lexemes = do
   filters ← roomy_filters cramped found.0
   Ok (filters, found.1)
 
--- the position behind a selector and line filters
-abbrev pub behind_filters : List FilterForm → Position
-behind_filters [] = positions.BehindSelector
-behind_filters (filter ∷ filters) = positions.BehindFilter
+-- a token begins a stage: a line filter, or what stands behind a pipe
+abbrev pub begins_stage : Token → Bool
+begins_stage token = is_some (filter_op token) || is_sign signs.Pipe token
 
--- the position behind a range and the line filters behind it
-abbrev pub behind_range : List FilterForm → Position
-behind_range [] = positions.BehindRange
-behind_range (filter ∷ filters) = positions.BehindFilter
+-- whether a stage comes
+abbrev pub stage_comes : List Lexeme → Result Bool QueryFault
+stage_comes lexemes = next lexemes >>= λ first. Ok (begins_stage first.0.token)
+
+-- the parser that a token names
+abbrev pub named_parser : List ℕ → Option Parser
+named_parser word = if is_text word (codes "json") then Some parsers.Json else (if is_text word (codes "logfmt") then Some parsers.Logfmt else None)
+
+abbrev pub parser_of : Token → Option Parser
+parser_of (tokens.Word word) = named_parser word
+parser_of _ = None
+
+-- a parser comes once
+abbrev pub only_parser : (parsed : Bool) → Parser → Result Parser QueryFault
+only_parser parsed parser = if parsed then Err faults.TwoParsers else Ok parser
+
+-- the words that begin a stage in LogQL
+abbrev pub later_stages : List (List ℕ)
+later_stages =
+    codes "json" ∷ codes "logfmt" ∷ codes "line_format" ∷ codes "label_format" ∷ codes "pattern" ∷ codes "regexp" ∷ codes "unpack" ∷
+    codes "drop" ∷ codes "keep" ∷ codes "decolorize" ∷ codes "unwrap" ∷ codes "distinct" ∷ []
+
+abbrev pub is_later_stage_word : List ℕ → Bool
+is_later_stage_word word = list_any (λ later. is_in_any_case later word) later_stages
+
+-- the operator of a test comes
+abbrev pub operator_comes : List Lexeme → Bool
+operator_comes [] = false
+operator_comes (lexeme ∷ lexemes) = is_match lexeme.token || compares lexeme.token
+
+-- label tests begin with a word or a parenthesis; a word of LogQL's names a label only before an operator
+abbrev pub word_begins : ℕ → List ℕ → List Lexeme → Result (Unit {0}) QueryFault
+word_begins place word lexemes = if is_later_stage_word word && not (operator_comes lexemes) then Err (faults.Unsupported place) else Ok tt
+
+abbrev pub parenthesis_begins : ℕ → Token → Result (Unit {0}) QueryFault
+parenthesis_begins place token = if is_sign signs.OpenParenthesis token then Ok tt else Err (refusal positions.Elsewhere place token)
+
+abbrev pub tests_begin : ℕ → Token → List Lexeme → Result (Unit {0}) QueryFault
+tests_begin place (tokens.Word word) lexemes = word_begins place word lexemes
+tests_begin place token lexemes = parenthesis_begins place token
+
+-- label tests behind their pipe, how many may still come, and the tokens that follow
+unfoldable pub tested_at : (left : ℕ) → List Lexeme → Result (StageForm × ℕ × List Lexeme) QueryFault
+tested_at left lexemes = do
+  first ← next lexemes
+  begin ← tests_begin first.0.place first.0.token first.1
+  tests ← tests_at most_depth left lexemes
+  Ok (by_tests tests.0, tests.1, tests.2)
+
+-- a parser or label tests, behind the pipe
+unfoldable pub piped_at : (parsed : Bool) (left : ℕ) → List Lexeme → Result (StageForm × ℕ × List Lexeme) QueryFault
+piped_at parsed left lexemes = do
+  first ← next lexemes
+  option_map_or (λ parser. only_parser parsed parser >>= λ only. Ok (by_parser only, left, first.1)) (parser_of first.0.token) (tested_at left lexemes)
+
+-- a stage, where one comes, and how many label tests may still come behind it
+unfoldable pub stage_at : (parsed : Bool) (left : ℕ) → List Lexeme → Result (StageForm × ℕ × List Lexeme) QueryFault
+stage_at parsed left lexemes = do
+  sign ← next lexemes
+  option_map_or (λ op. filter_at op sign.1 >>= λ filter. Ok (by_filter filter.0, left, filter.1)) (filter_op sign.0.token) (piped_at parsed left sign.1)
+
+-- stages, at most so many, where a parser was read before or not, and so many label tests may come
+unfoldable pub stages_at : (parsed : Bool) (left most : ℕ) → List Lexeme → Result (List StageForm × List Lexeme) QueryFault
+stages_at parsed left zero lexemes = do
+  more ← stage_comes lexemes
+  if more then Err faults.TooDeep else Ok ([], lexemes)
+stages_at parsed left (suc most) lexemes = do
+  more ← stage_comes lexemes
+  if more then (stage_at parsed left lexemes >>= λ stage. stages_at (parsed || parses stage.0) stage.1 most stage.2 >>= λ others. Ok (stage.0 ∷ others.0, others.1)) else Ok ([], lexemes)
+
+-- where it is cramped no pattern has room, and each is refused
+abbrev pub roomy_stages : (cramped : Bool) → List StageForm → Result (List StageForm) QueryFault
+roomy_stages cramped stages = if cramped && stages_have_pattern stages then Err faults.BadRegex else Ok stages
+
+-- stages, each of whose patterns has room
+unfoldable pub stages_in : (cramped : Bool) → List Lexeme → Result (List StageForm × List Lexeme) QueryFault
+stages_in cramped lexemes = do
+  found ← stages_at false most_tests most_stages lexemes
+  stages ← roomy_stages cramped found.0
+  Ok (stages, found.1)
+
+abbrev pub behind_stage : StageForm → Position
+behind_stage (by_filter filter) = positions.BehindFilter
+behind_stage (by_parser parser) = positions.BehindParser
+behind_stage (by_tests tests) = positions.BehindTests
+
+-- the position behind the last stage, or where there is none that before the stages
+abbrev pub behind_stages : Position → List StageForm → Position
+behind_stages position [] = position
+behind_stages position (stage ∷ stages) = behind_stages (behind_stage stage) stages
 
 -- digits, points and letters of units, with a letter at the end
 abbrev pub is_unit_letter : ℕ → Bool
@@ -310,37 +249,37 @@ seconds_at position lexemes = do
   closed ← expected signs.CloseBracket positions.InRange number.1
   Ok (seconds, closed)
 
--- the parenthesis behind a range, and the line filters before it, if none stand before the range
-unfoldable pub closed_at : (cramped : Bool) → List FilterForm → List Lexeme → Result (List FilterForm × List Lexeme) QueryFault
+-- the parenthesis behind a range, and the stages before it, if none stand before the range
+unfoldable pub closed_at : (cramped : Bool) → List StageForm → List Lexeme → Result (List StageForm × List Lexeme) QueryFault
 closed_at cramped [] lexemes = do
-  filters ← filters_in cramped lexemes
-  closed ← expected signs.CloseParenthesis (behind_range filters.0) filters.1
-  Ok (filters.0, closed)
-closed_at cramped (filter ∷ filters) lexemes = do
+  stages ← stages_in cramped lexemes
+  closed ← expected signs.CloseParenthesis (behind_stages positions.BehindRange stages.0) stages.1
+  Ok (stages.0, closed)
+closed_at cramped (stage ∷ stages) lexemes = do
   closed ← expected signs.CloseParenthesis positions.BehindFilteredRange lexemes
-  Ok (filter ∷ filters, closed)
+  Ok (stage ∷ stages, closed)
 
--- a range in brackets behind line filters or none, and what closes it
-unfoldable pub timed_at : (cramped : Bool) → List FilterForm → List Lexeme → Result (List FilterForm × ℕ × List Lexeme) QueryFault
+-- a range in brackets behind stages or none, and what closes it
+unfoldable pub timed_at : (cramped : Bool) → List StageForm → List Lexeme → Result (List StageForm × ℕ × List Lexeme) QueryFault
 timed_at cramped front lexemes = do
-  seconds ← seconds_at (behind_filters front) lexemes
+  seconds ← seconds_at (behind_stages positions.BehindSelector front) lexemes
   closed ← closed_at cramped front seconds.1
   Ok (closed.0, seconds.0, closed.1)
 
--- behind a selector: line filters and a range in brackets, whichever stand first, and the parenthesis
-unfoldable pub closing_at : (cramped : Bool) → List Lexeme → Result (List FilterForm × ℕ × List Lexeme) QueryFault
+-- behind a selector: stages and a range in brackets, whichever stand first, and the parenthesis
+unfoldable pub closing_at : (cramped : Bool) → List Lexeme → Result (List StageForm × ℕ × List Lexeme) QueryFault
 closing_at cramped lexemes = do
-  front ← filters_in cramped lexemes
+  front ← stages_in cramped lexemes
   timed_at cramped front.0 front.1
 
--- a selector, line filters and a range in parentheses
+-- a selector, stages and a range in parentheses
 unfoldable pub range_at : (cramped : Bool) → List Lexeme → Result (RangeForm × List Lexeme) QueryFault
 range_at cramped lexemes = do
   opened ← expected signs.OpenParenthesis positions.Elsewhere lexemes
   braced ← expected signs.OpenBrace positions.Elsewhere opened
   matchers ← selector_at cramped braced
   closing ← closing_at cramped matchers.1
-  Ok (record { matchers = matchers.0; filters = closing.0; seconds = closing.1 }, closing.2)
+  Ok (record { matchers = matchers.0; stages = closing.0; seconds = closing.1 }, closing.2)
 
 -- a range aggregation
 unfoldable pub term_at : (cramped : Bool) → List Lexeme → Result (TermForm × List Lexeme) QueryFault

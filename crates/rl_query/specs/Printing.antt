@@ -1,26 +1,18 @@
 -- The canonical text of a query.
+use Rattle.rl_query.specs.TestPrinting.{tests_text}
+use Rattle.rl_query.specs.Form.{by_tests, MatcherForm, RangeForm, TermForm, QueryForm, FilterForm, StageForm, by_filter, by_parser, SieveForm}
 use Rattle.std.specs.Prelude.{ℕ, List, [], ◌∷◌, ◌++◌, codes}
 use Rattle.std.specs.List.{flat_map}
 use Rattle.std.specs.Fmt.{decimal}
-use Rattle.rl_labels.specs.declared.matcher.MatchOp.{MatchOp}
-use Rattle.rl_labels.specs.declared.matcher.MatchOp.TheVariants as operators
 use Rattle.rl_query.specs.declared.filter.LineOp.{LineOp}
 use Rattle.rl_query.specs.declared.filter.LineOp.TheVariants as lines
 use Rattle.rl_query.specs.declared.query.RangeFunction.{RangeFunction}
 use Rattle.rl_query.specs.declared.query.RangeFunction.TheVariants as functions
+use Rattle.rl_query.specs.declared.stages.Parser.{Parser}
+use Rattle.rl_query.specs.declared.stages.Parser.TheVariants as parsers
 use Rattle.rl_plain.specs.Escapes.{escaped}
 use Rattle.rl_query.specs.Tables.{escapes}
-use Rattle.rl_query.specs.Form.{MatcherForm, RangeForm, TermForm, QueryForm, FilterForm, SieveForm}
-
-abbrev pub operator_text : MatchOp → List ℕ
-operator_text operators.Equal = codes "="
-operator_text operators.NotEqual = codes "!="
-operator_text operators.Matches = codes "=~"
-operator_text operators.NotMatches = codes "!~"
-
--- name="value"
-abbrev pub matcher_text : MatcherForm → List ℕ
-matcher_text matcher = matcher.name ++ operator_text matcher.op ++ codes "\"" ++ escaped escapes matcher.value ++ codes "\""
+use Rattle.rl_query.specs.MatcherPrinting.{matcher_text}
 
 -- the matchers in their order, joined by a comma and a space
 abbrev pub matchers_text : List MatcherForm → List ℕ
@@ -41,9 +33,23 @@ filter_print filter = filter_op_text filter.op ++ codes " \"" ++ escaped escapes
 abbrev pub filters_text : List FilterForm → List ℕ
 filters_text filters = flat_map (λ filter. codes " " ++ filter_print filter) filters
 
--- {a="x", b="y"} |= "text" [300s]
+abbrev pub parser_text : Parser → List ℕ
+parser_text parsers.Json = codes "json"
+parser_text parsers.Logfmt = codes "logfmt"
+
+-- a line filter, a parser as in | json, or label tests behind a pipe
+abbrev pub stage_print : StageForm → List ℕ
+stage_print (by_filter filter) = filter_print filter
+stage_print (by_parser parser) = codes "| " ++ parser_text parser
+stage_print (by_tests tests) = codes "| " ++ tests_text tests
+
+-- each stage behind a space
+abbrev pub stages_text : List StageForm → List ℕ
+stages_text stages = flat_map (λ stage. codes " " ++ stage_print stage) stages
+
+-- {a="x", b="y"} |= "text" | json [300s]
 abbrev pub range_text : RangeForm → List ℕ
-range_text range = codes "{" ++ matchers_text range.matchers ++ codes "}" ++ filters_text range.filters ++ codes " [" ++ decimal range.seconds ++ codes "s]"
+range_text range = codes "{" ++ matchers_text range.matchers ++ codes "}" ++ stages_text range.stages ++ codes " [" ++ decimal range.seconds ++ codes "s]"
 
 abbrev pub function_text : RangeFunction → List ℕ
 function_text functions.CountOverTime = codes "count_over_time"

@@ -1,5 +1,5 @@
 -- Reading a sieve from its tokens: a selector, line filters, and nothing else.
-use Rattle.std.specs.Prelude.{ℕ, Bool, List, Result, Ok, Err}
+use Rattle.std.specs.Prelude.{ℕ, Bool, List, [], ◌∷◌, Result, Ok, Err}
 use Rattle.rl_plain.specs.Answers.{◌>>=◌}
 use Rattle.rl_query.specs.declared.fault.QueryFault.{QueryFault}
 use Rattle.rl_query.specs.declared.parser.Position.{Position}
@@ -10,7 +10,13 @@ use Rattle.rl_query.specs.declared.token.Token.{Token}
 use Rattle.rl_query.specs.declared.token.Token.TheVariants as tokens
 use Rattle.rl_query.specs.Form.{FilterForm, SieveForm}
 use Rattle.rl_query.specs.Lexing.{lexemes_of}
-use Rattle.rl_query.specs.Parsing.{next, expected, refusal, selector_at, filters_in, behind_filters}
+use Rattle.rl_query.specs.Fronts.{next, expected, refusal}
+use Rattle.rl_query.specs.Parsing.{selector_at, filters_in}
+
+-- the position behind a selector and line filters
+abbrev pub behind_filters : List FilterForm → Position
+behind_filters [] = positions.BehindSieveSelector
+behind_filters (filter ∷ filters) = positions.BehindSieveFilter
 
 -- nothing follows a sieve
 abbrev pub sieve_ends : Position → ℕ → Token → Result (Unit {0}) QueryFault

@@ -1,6 +1,8 @@
--- The tables of query texts: signs, escapes and units.
+-- The tables of query texts: signs, comparisons, escapes and units.
 use Rattle.std.specs.Prelude.{ℕ, ◌==◌, List, [], ◌∷◌, Option, Some, None, if◌then◌else◌, codes}
 use Rattle.rl_plain.specs.Escapes.{Escapes}
+use Rattle.rl_query.specs.declared.quantity_test.Comparison.{Comparison}
+use Rattle.rl_query.specs.declared.quantity_test.Comparison.TheVariants as comparisons
 use Rattle.rl_query.specs.declared.token.Sign.{Sign}
 use Rattle.rl_query.specs.declared.token.Sign.TheVariants as signs
 
@@ -55,6 +57,26 @@ one_byte byte =
     else (if byte == 60 then Some signs.Less else (if byte == 124 then Some signs.Pipe else (if byte == 47 then Some signs.Slash else (if byte == 43 then Some signs.Plus
     else (if byte == 45 then Some signs.Minus else (if byte == 42 then Some signs.Times else (if byte == 37 then Some signs.Percent else (if byte == 94 then Some signs.Power
     else (if byte == 64 then Some signs.At else None))))))))))))))))))
+
+-- the comparison that a sign is in a label test
+abbrev pub comparison_of : Sign → Option Comparison
+comparison_of signs.Equal = Some comparisons.Equal
+comparison_of signs.EqualTo = Some comparisons.Equal
+comparison_of signs.NotEqual = Some comparisons.NotEqual
+comparison_of signs.Greater = Some comparisons.Greater
+comparison_of signs.GreaterOrEqual = Some comparisons.GreaterOrEqual
+comparison_of signs.Less = Some comparisons.Less
+comparison_of signs.LessOrEqual = Some comparisons.LessOrEqual
+comparison_of _ = None
+
+-- and the sign that is printed
+abbrev pub comparison_sign : Comparison → Sign
+comparison_sign comparisons.Equal = signs.EqualTo
+comparison_sign comparisons.NotEqual = signs.NotEqual
+comparison_sign comparisons.Greater = signs.Greater
+comparison_sign comparisons.GreaterOrEqual = signs.GreaterOrEqual
+comparison_sign comparisons.Less = signs.Less
+comparison_sign comparisons.LessOrEqual = signs.LessOrEqual
 
 -- what is escaped between quotes: a backslash, a quote, a newline, a carriage return and a tab
 abbrev pub escapes : Escapes

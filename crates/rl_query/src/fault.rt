@@ -20,6 +20,8 @@ pub enum QueryFault {
     BadRegex,
     #[error("nested too deep, or too many stages")]
     TooDeep,
+    #[error("a range has one parser at most")]
+    TwoParsers,
 }
 
 /// Why a text gave no query.

@@ -117,7 +117,7 @@ fn is_in_run(run: Run, byte: u8) -> bool
 {
     match run {
         Run::Word => is_name_byte(byte),
-        Run::Number => is_name_byte(byte) || byte == b'.',
+        Run::Number => is_name_byte(byte) || byte == b'.' || byte >= 128,
         Run::Plain => byte != b'"' && byte != b'\\',
         Run::Raw => byte != b'`',
     }

@@ -3,28 +3,40 @@
 //! `parse` reads a text as a `Query` only where the grammar derives it, and refuses by the first fault from the left.
 //! What `print` writes is read again as the same query.
 //!
-//! - `query`: `Query`, `Term`, `LogRange`, `Selector`. `filter`: `LineFilter` and `Sieve`.
+//! - `query`: `Query`, `Term`, `LogRange`, `Selector`. `stages`: `Stage` and `Parser`. `filter`: `LineFilter` and `Sieve`.
 //! - `fault`: why a text is refused.
 //! - `token` and `lexer`: the tokens of a text.
 //! - `duration`: the seconds of a range.
-//! - `stage`: line filters from their tokens. `parser`: `parse`. `printer`: `print` and `print_term`.
+//! - `stage`: line filters and stages from their tokens. `parser`: `parse`. `printer`: `print` and `print_term`.
 //! - `sieve`: `parse_delete` and `print_sieve`.
+//! - `label_test`, `matcher_test` and `quantity_test`: `LabelTests`, trees of tests of texts and of quantities. `testing`: tests from their tokens. `test_printer`: `print_tests`.
 #![tactic(auto)]
 
 pub mod duration;
 pub mod fault;
 pub mod filter;
+pub mod label_test;
 pub mod lexer;
+pub mod matcher_test;
 pub mod parser;
 pub mod printer;
+pub mod quantity_test;
 pub mod query;
 pub mod sieve;
 pub mod stage;
+pub mod stages;
+pub mod test_printer;
+pub mod testing;
 pub mod token;
 
 pub use fault::{QueryError, QueryFault};
 pub use filter::{LineFilter, LineOp, Sieve};
+pub use label_test::{Join, LabelTest, LabelTests, TestParts};
+pub use matcher_test::MatcherTest;
 pub use parser::parse;
 pub use printer::{print, print_term};
+pub use quantity_test::{Comparison, Quantity, QuantityTest};
 pub use query::{LogRange, Query, RangeFunction, Selector, Term};
 pub use sieve::{parse_delete, print_sieve};
+pub use stages::{Parser, Stage};
+pub use test_printer::print_tests;

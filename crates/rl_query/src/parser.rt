@@ -4,12 +4,13 @@ ghost use Rattle.std.specs.List.{list_all, list_any};
 ghost use Rattle.std.specs.Result.{result_map_both};
 ghost use Rattle.rl_labels.specs.Name.{is_text};
 ghost use Rattle.rl_query.specs.Answering.{Reads, IsForRoom};
-ghost use Rattle.rl_query.specs.Form.{QueryForm, query_has_pattern, filter_form, matcher_form, range_form, term_form, query_form};
+ghost use Rattle.rl_query.specs.Form.{QueryForm, query_has_pattern, matcher_form, stage_form, range_form, term_form, query_form};
 ghost use Rattle.rl_query.specs.Grammar.{Derives};
 ghost use Rattle.rl_query.specs.Printing.{query_text};
 ghost use Rattle.rl_plain.specs.Answers.{Gives, Answers};
 ghost use Rattle.rl_query.specs.declared.query.Query.{Query};
-ghost use Rattle.rl_query.specs.Parsing.{is_unsupported, is_unsupported_word, is_unsupported_sign, is_later_stage, is_operator, is_in_any_case, is_later_word, refusal, next, expected, is_sign, name_of, content_of, match_of, operator_of, checked_matcher, matcher_at, goes_on, element_at, matchers_at, some_matcher, real_matchers, selector_at, is_unit_letter, is_duration_byte, looks_like_duration, range_of, seconds_of, checked_range, function_of, named_function, seconds_at, closed_at, timed_at, closing_at, range_at, term_at, query_in, query_of, ends};
+ghost use Rattle.rl_query.specs.Fronts.{is_unsupported, is_unsupported_word, is_unsupported_sign, is_later_stage, is_pipe, is_minus, is_operator, is_in_any_case, is_later_word, refusal, next, expected, is_sign, name_of, content_of, match_of, is_match, operator_of, checked_matcher, matcher_at};
+ghost use Rattle.rl_query.specs.Parsing.{goes_on, element_at, matchers_at, some_matcher, real_matchers, selector_at, is_unit_letter, is_duration_byte, looks_like_duration, range_of, seconds_of, checked_range, function_of, named_function, seconds_at, closed_at, timed_at, closing_at, range_at, term_at, query_in, query_of, ends};
 ghost use Rattle.rl_query.specs.Durations.{duration_of};
 ghost use Rattle.rl_query.specs.Limits.{has_real_matcher, longest_range, most_stages};
 ghost use Rattle.rl_labels.specs.Operators.{is_by_pattern};
@@ -18,10 +19,10 @@ ghost use Rattle.std.specs.Char.{is_ascii_digit};
 
 use crate::duration::{LONGEST_RANGE, duration_of};
 use crate::fault::{QueryError, QueryFault};
-use crate::filter::LineFilter;
 use crate::lexer::lexemes_of;
 use crate::query::{LogRange, Query, RangeFunction, Selector, Term};
-use crate::stage::{behind_filters, behind_range, filters_in};
+use crate::stage::{behind_stages, stages_in};
+use crate::stages::Stage;
 use crate::token::{Lexeme, Sign, Token};
 use rl_labels::{Labels, MatchOp, Matcher, MatcherFault, SelectorCode};
 use rl_plain::{OrMemory, PlainList, PlainText, TryCopy};
@@ -65,17 +66,27 @@ pub const LATER_WORDS: [&str; 29] = [
 pub enum Position {
     /// At the start of a query.
     Start,
-    /// Behind a selector.
+    /// Behind the selector of a range.
     BehindSelector,
     /// Behind the sign of a line filter.
     InFilter,
-    /// Behind a line filter.
+    /// Behind a line filter of a range.
     BehindFilter,
+    /// Behind a parser.
+    BehindParser,
+    /// Behind the comparison of a label test.
+    InTest,
+    /// Behind label tests.
+    BehindTests,
+    /// Behind the selector of a sieve.
+    BehindSieveSelector,
+    /// Behind a line filter of a sieve.
+    BehindSieveFilter,
     /// Behind the duration.
     InRange,
     /// Behind the bracket that closes a range.
     BehindRange,
-    /// The same where line filters stand before the duration.
+    /// The same where stages stand before the duration.
     BehindFilteredRange,
     /// Behind a range aggregation.
     BehindTerm,
@@ -117,8 +128,9 @@ fn is_unsupported_word(position: Position, word: &str) -> bool
                 || word.eq_ignore_ascii_case("or")
                 || word.eq_ignore_ascii_case("unless")
         }
-        Position::InFilter => true,
-        Position::BehindFilter => word.eq_ignore_ascii_case("or"),
+        Position::InFilter | Position::BehindParser => true,
+        Position::InTest => word.eq_ignore_ascii_case("ip"),
+        Position::BehindFilter | Position::BehindSieveFilter => word.eq_ignore_ascii_case("or"),
         _ => false,
     }
 }
@@ -129,7 +141,7 @@ fn is_later_word(word: &str) -> bool
     is_one_of(&LATER_WORDS, word)
 }
 
-fn is_one_of(words: &[&str], word: &str) -> bool
+pub(crate) fn is_one_of(words: &[&str], word: &str) -> bool
     ensures { result ≡ list_any (λ one. is_in_any_case one.now word.now) words.now }
 {
     words.iter().any(|one| one.eq_ignore_ascii_case(word))
@@ -143,7 +155,14 @@ fn is_unsupported_sign(position: Position, sign: Sign) -> bool
             sign,
             Sign::OpenBrace | Sign::OpenParenthesis | Sign::Minus | Sign::Plus
         ),
-        Position::BehindSelector | Position::BehindFilter => is_later_stage(sign),
+        Position::BehindSelector | Position::BehindFilter | Position::BehindTests => {
+            is_later_stage(sign)
+        }
+        Position::BehindSieveSelector | Position::BehindSieveFilter => {
+            is_later_stage(sign) || matches!(sign, Sign::Pipe)
+        }
+        Position::BehindParser => is_later_stage(sign) || matches!(sign, Sign::Minus),
+        Position::InTest => matches!(sign, Sign::Minus),
         Position::InRange => matches!(sign, Sign::Colon),
         Position::BehindRange => is_later_stage(sign) || matches!(sign, Sign::At),
         Position::BehindFilteredRange => matches!(sign, Sign::At),
@@ -152,14 +171,11 @@ fn is_unsupported_sign(position: Position, sign: Sign) -> bool
     }
 }
 
-// A sign that begins a stage in LogQL.
+// A sign that begins a stage in LogQL, and in the ruler none.
 fn is_later_stage(sign: Sign) -> bool
     ensures { result ≡ is_later_stage sign }
 {
-    matches!(
-        sign,
-        Sign::Pipe | Sign::ContainsPattern | Sign::LacksPattern
-    )
+    matches!(sign, Sign::ContainsPattern | Sign::LacksPattern)
 }
 
 // A sign between terms.
@@ -196,7 +212,7 @@ pub(crate) fn next(lexemes: &[Lexeme]) -> Result<(&Lexeme, &[Lexeme]), QueryFaul
 }
 
 // What follows the sign, which has to stand at the front.
-#[tactic(auto, unfolding(crate::specs::Parsing::expected))]
+#[tactic(auto, unfolding(crate::specs::Fronts::expected))]
 pub(crate) fn expected(
     sign: Sign,
     position: Position,
@@ -211,7 +227,7 @@ pub(crate) fn expected(
     Err(refusal(position, lexeme.place, &lexeme.token))
 }
 
-fn is_sign(sign: Sign, token: &Token) -> bool
+pub(crate) fn is_sign(sign: Sign, token: &Token) -> bool
     ensures { result ≡ is_sign sign token.now }
 {
     match token {
@@ -221,7 +237,7 @@ fn is_sign(sign: Sign, token: &Token) -> bool
 }
 
 // The word that a token is.
-fn name_of(lexeme: &Lexeme) -> Result<&PlainText, QueryFault>
+pub(crate) fn name_of(lexeme: &Lexeme) -> Result<&PlainText, QueryFault>
     ensures { Answers (λ name. name.now) result (name_of lexeme.now.place lexeme.now.token) }
 {
     match &lexeme.token {
@@ -238,6 +254,16 @@ fn content_of(lexeme: &Lexeme) -> Result<&PlainText, QueryFault>
         Token::Text(content) => Ok(content),
         token => Err(refusal(Position::Elsewhere, lexeme.place, token)),
     }
+}
+
+// A token that is the operator of a matcher.
+pub(crate) fn is_match(token: &Token) -> bool
+    ensures { result ≡ is_match token.now }
+{
+    matches!(
+        token,
+        Token::Sign(Sign::Equal | Sign::NotEqual | Sign::Matches | Sign::NotMatches)
+    )
 }
 
 // The operator of a matcher that a token is.
@@ -276,8 +302,8 @@ fn checked_matcher(
 }
 
 // One matcher: a name, an operator and a text.
-#[tactic(auto, unfolding(crate::specs::Parsing::matcher_at))]
-fn matcher_at(lexemes: &[Lexeme]) -> Result<(Matcher, &[Lexeme]), QueryError>
+#[tactic(auto, unfolding(crate::specs::Fronts::matcher_at))]
+pub(crate) fn matcher_at(lexemes: &[Lexeme]) -> Result<(Matcher, &[Lexeme]), QueryError>
     ensures { Gives (λ x. (matcher_form x.0, x.1.now)) result (matcher_at lexemes.now) }
 {
     let (first, rest) = next(lexemes)?;
@@ -485,19 +511,17 @@ fn seconds_at(position: Position, lexemes: &[Lexeme]) -> Result<(u64, &[Lexeme])
     Ok((seconds, rest))
 }
 
-// The parenthesis behind a range, and the line filters before it, if none stand before the range.
+// The parenthesis behind a range, and the stages before it, if none stand before the range.
 #[tactic(auto, unfolding(crate::specs::Parsing::closed_at))]
 fn closed_at(
     alloc: Global,
-    front: Vec<LineFilter>,
+    front: Vec<Stage>,
     lexemes: &[Lexeme],
-) -> Result<(Vec<LineFilter>, &[Lexeme]), QueryError>
-    requires { length front.items ≤ most_stages }
-    ensures read { Reads (λ x. (map filter_form x.0.items, x.1.now)) result (λ cramped. closed_at cramped (map filter_form front.items) lexemes.now) }
-    ensures few { IfOk result (λ x. length x.0.items ≤ most_stages) }
+) -> Result<(Vec<Stage>, &[Lexeme]), QueryError>
+    ensures { Reads (λ x. (map stage_form x.0.items, x.1.now)) result (λ cramped. closed_at cramped (map stage_form front.items) lexemes.now) }
 {
     if front.is_empty() {
-        return filtered_at(alloc, lexemes);
+        return staged_at(alloc, lexemes);
     }
     let rest = expected(
         Sign::CloseParenthesis,
@@ -507,52 +531,42 @@ fn closed_at(
     Ok((front, rest))
 }
 
-// Line filters behind a range, and the parenthesis.
+// Stages behind a range, and the parenthesis.
 #[tactic(auto, using(crate::proofs::Cramped::closed_late), unfolding(crate::specs::Parsing::closed_at))]
-fn filtered_at(
-    alloc: Global,
-    lexemes: &[Lexeme],
-) -> Result<(Vec<LineFilter>, &[Lexeme]), QueryError>
-    ensures read { Reads (λ x. (map filter_form x.0.items, x.1.now)) result (λ cramped. closed_at cramped [] lexemes.now) }
-    ensures few { IfOk result (λ x. length x.0.items ≤ most_stages) }
+fn staged_at(alloc: Global, lexemes: &[Lexeme]) -> Result<(Vec<Stage>, &[Lexeme]), QueryError>
+    ensures { Reads (λ x. (map stage_form x.0.items, x.1.now)) result (λ cramped. closed_at cramped [] lexemes.now) }
 {
-    let (filters, rest) = filters_in(alloc, lexemes)?;
-    let rest = expected(Sign::CloseParenthesis, behind_range(&filters), rest)?;
-    Ok((filters, rest))
+    let (stages, rest) = stages_in(alloc, lexemes)?;
+    let position = behind_stages(Position::BehindRange, &stages);
+    let rest = expected(Sign::CloseParenthesis, position, rest)?;
+    Ok((stages, rest))
 }
 
-// A range in brackets behind line filters or none, and what closes it.
+// A range in brackets behind stages or none, and what closes it.
 #[tactic(auto, unfolding(crate::specs::Parsing::timed_at))]
 fn timed_at(
     alloc: Global,
-    front: Vec<LineFilter>,
+    front: Vec<Stage>,
     lexemes: &[Lexeme],
-) -> Result<(Vec<LineFilter>, u64, &[Lexeme]), QueryError>
-    requires { length front.items ≤ most_stages }
-    ensures read { Reads (λ x. (map filter_form x.0.items, x.1, x.2.now)) result (λ cramped. timed_at cramped (map filter_form front.items) lexemes.now) }
-    ensures few { IfOk result (λ x. length x.0.items ≤ most_stages) }
-    ensures fits { IfOk result (λ x. (1 ≤ x.1) × (x.1 ≤ longest_range)) }
+) -> Result<(Vec<Stage>, u64, &[Lexeme]), QueryError>
+    ensures { Reads (λ x. (map stage_form x.0.items, x.1, x.2.now)) result (λ cramped. timed_at cramped (map stage_form front.items) lexemes.now) }
 {
-    let (seconds, rest) = seconds_at(behind_filters(&front), lexemes)?;
-    let (filters, rest) = closed_at(alloc, front, rest)?;
-    Ok((filters, seconds, rest))
+    let position = behind_stages(Position::BehindSelector, &front);
+    let (seconds, rest) = seconds_at(position, lexemes)?;
+    let (stages, rest) = closed_at(alloc, front, rest)?;
+    Ok((stages, seconds, rest))
 }
 
-// Behind a selector: line filters and a range in brackets, whichever stand first, and the parenthesis.
+// Behind a selector: stages and a range in brackets, whichever stand first, and the parenthesis.
 #[tactic(auto, using(crate::proofs::Cramped::closing_late), unfolding(crate::specs::Parsing::closing_at))]
-fn closing_at(
-    alloc: Global,
-    lexemes: &[Lexeme],
-) -> Result<(Vec<LineFilter>, u64, &[Lexeme]), QueryError>
-    ensures read { Reads (λ x. (map filter_form x.0.items, x.1, x.2.now)) result (λ cramped. closing_at cramped lexemes.now) }
-    ensures few { IfOk result (λ x. length x.0.items ≤ most_stages) }
-    ensures fits { IfOk result (λ x. (1 ≤ x.1) × (x.1 ≤ longest_range)) }
+fn closing_at(alloc: Global, lexemes: &[Lexeme]) -> Result<(Vec<Stage>, u64, &[Lexeme]), QueryError>
+    ensures { Reads (λ x. (map stage_form x.0.items, x.1, x.2.now)) result (λ cramped. closing_at cramped lexemes.now) }
 {
-    let (front, rest) = filters_in(alloc, lexemes)?;
+    let (front, rest) = stages_in(alloc, lexemes)?;
     timed_at(alloc, front, rest)
 }
 
-// The selector, the line filters and the range in parentheses, behind the name of the aggregation.
+// The selector, the stages and the range in parentheses, behind the name of the aggregation.
 #[tactic(auto, using(crate::proofs::Cramped::range_late), unfolding(crate::specs::Parsing::range_at))]
 fn range_at(alloc: Global, lexemes: &[Lexeme]) -> Result<(LogRange, &[Lexeme]), QueryError>
     ensures { Reads (λ x. (range_form x.0, x.1.now)) result (λ cramped. range_at cramped lexemes.now) }
@@ -560,11 +574,11 @@ fn range_at(alloc: Global, lexemes: &[Lexeme]) -> Result<(LogRange, &[Lexeme]), 
     let rest = expected(Sign::OpenParenthesis, Position::Elsewhere, lexemes)?;
     let rest = expected(Sign::OpenBrace, Position::Elsewhere, rest)?;
     let (selector, rest) = selector_at(alloc, rest)?;
-    let (filters, seconds, rest) = closing_at(alloc, rest)?;
-    let filters = PlainList::from_vec(filters);
+    let (stages, seconds, rest) = closing_at(alloc, rest)?;
+    let stages = PlainList::from_vec(stages);
     let range = LogRange {
         selector,
-        filters,
+        stages,
         seconds,
     };
     Ok((range, rest))

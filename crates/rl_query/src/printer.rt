@@ -1,13 +1,16 @@
 //! The printer: the canonical text of a query.
 ghost use Rattle.std.specs.Prelude.{◌≡◌, ◌++◌, [], ◌∷◌, map, IfOk, OnOk, string_bytes, codes};
 ghost use Rattle.std.specs.List.{flat_map};
-ghost use Rattle.rl_query.specs.Form.{matcher_form, filter_form, range_form, term_form, query_form};
-ghost use Rattle.rl_query.specs.Printing.{operator_text, matcher_text, matchers_text, filter_op_text, filter_print, filters_text, range_text, function_text, term_text, query_text};
+ghost use Rattle.rl_query.specs.Form.{matcher_form, filter_form, stage_form, range_form, term_form, query_form};
+ghost use Rattle.rl_query.specs.MatcherPrinting.{operator_text, matcher_text};
+ghost use Rattle.rl_query.specs.Printing.{matchers_text, filter_op_text, filter_print, filters_text, parser_text, stage_print, stages_text, range_text, function_text, term_text, query_text};
 ghost use Rattle.rl_query.specs.declared.query.Term.{Term};
 ghost use Rattle.std.specs.Fmt.{decimal};
 
 use crate::filter::{LineFilter, LineOp};
 use crate::query::{LogRange, Query, RangeFunction, Term};
+use crate::stages::{Parser, Stage};
+use crate::test_printer::push_tests;
 use crate::token::ESCAPES;
 use rl_labels::{MatchOp, Matcher};
 use rl_plain::push_escaped;
@@ -54,7 +57,7 @@ fn push_range(text: &mut String, range: &LogRange) -> Result<(), AllocError>
     text.push('{')?;
     push_matchers(text, range.selector.matchers.as_slice())?;
     text.push('}')?;
-    push_filters(text, range.filters.as_slice())?;
+    push_stages(text, range.stages.as_slice())?;
     text.push_str(" [")?;
     push_number(text, range.seconds)?;
     text.push_str("s]")
@@ -89,7 +92,7 @@ fn push_others(text: &mut String, matchers: &[Matcher]) -> Result<(), AllocError
     Ok(())
 }
 
-fn push_matcher(text: &mut String, matcher: &Matcher) -> Result<(), AllocError>
+pub(crate) fn push_matcher(text: &mut String, matcher: &Matcher) -> Result<(), AllocError>
     ensures { OnOk result (string_bytes text.new ≡ string_bytes text.old ++ matcher_text (matcher_form matcher.now)) }
 {
     text.push_str(matcher.name.as_str())?;
@@ -120,6 +123,42 @@ pub(crate) fn push_filters(text: &mut String, filters: &[LineFilter]) -> Result<
         push_filter(text, filter)?;
     }
     Ok(())
+}
+
+// Each stage behind a space.
+fn push_stages(text: &mut String, stages: &[Stage]) -> Result<(), AllocError>
+    ensures { OnOk result (string_bytes text.new ≡ string_bytes text.old ++ stages_text (map stage_form stages.now)) }
+{
+    for stage in stages {
+        text.push(' ')?;
+        push_stage(text, stage)?;
+    }
+    Ok(())
+}
+
+fn push_stage(text: &mut String, stage: &Stage) -> Result<(), AllocError>
+    ensures { OnOk result (string_bytes text.new ≡ string_bytes text.old ++ stage_print (stage_form stage.now)) }
+{
+    match stage {
+        Stage::Filter(filter) => push_filter(text, filter),
+        Stage::Parser(parser) => {
+            text.push_str("| ")?;
+            text.push_str(parser_name(*parser))
+        }
+        Stage::Tests(tests) => {
+            text.push_str("| ")?;
+            push_tests(text, tests)
+        }
+    }
+}
+
+fn parser_name(parser: Parser) -> &'static str
+    ensures { result.now ≡ parser_text parser }
+{
+    match parser {
+        Parser::Json => "json",
+        Parser::Logfmt => "logfmt",
+    }
 }
 
 fn push_filter(text: &mut String, filter: &LineFilter) -> Result<(), AllocError>

@@ -1,8 +1,9 @@
 //! Queries as values. Their limits are facts of the types, so a query always has a text that is read again.
 ghost use Rattle.std.specs.Prelude.{◌≤◌, IsTrue, length};
-ghost use Rattle.rl_query.specs.Limits.{has_real_matcher, longest_range, most_stages};
+ghost use Rattle.rl_query.specs.Limits.{has_real_matcher, longest_range, most_stages, most_tests};
+ghost use Rattle.rl_query.specs.Stages.{count_parsers, count_label_tests, are_shallow};
 
-use crate::filter::LineFilter;
+use crate::stages::Stage;
 use rl_labels::Matcher;
 use rl_plain::{PlainList, Same, TryCopy};
 use std::alloc::AllocError;
@@ -27,14 +28,17 @@ pub enum RangeFunction {
     CountOverTime,
 }
 
-/// The lines of a selector's streams that pass each line filter, of which there are at most 256, over a range.
+/// The lines of a selector's streams that go through each stage, over a range. There are at most 256 stages, one parser, 256 label tests, and 63 parentheses open at once in tests.
 #[derive(Debug, Drop, PartialEq, Eq)]
 pub struct LogRange {
     pub selector: Selector,
-    pub filters: PlainList<LineFilter>,
+    pub stages: PlainList<Stage>,
     /// The range in seconds, 1 to 2,592,000.
     pub seconds: u64,
-    ghost few: { length filters ≤ most_stages },
+    ghost few: { length stages ≤ most_stages },
+    ghost one_parser: { count_parsers stages ≤ 1 },
+    ghost few_tests: { count_label_tests stages ≤ most_tests },
+    ghost shallow: { IsTrue (are_shallow stages) },
     ghost in_range: { (1 ≤ seconds) × (seconds ≤ longest_range) },
 }
 
@@ -61,10 +65,10 @@ impl Same for Selector {
 impl TryCopy for LogRange {
     fn try_copy(&self) -> Result<Self, AllocError> {
         let selector = self.selector.try_copy()?;
-        let filters = self.filters.try_copy()?;
+        let stages = self.stages.try_copy()?;
         Ok(LogRange {
             selector,
-            filters,
+            stages,
             seconds: self.seconds,
         })
     }
@@ -74,7 +78,7 @@ impl Same for LogRange {
     fn is_same(&self, other: &Self) -> bool {
         self.seconds == other.seconds
             && self.selector.is_same(&other.selector)
-            && self.filters.is_same(&other.filters)
+            && self.stages.is_same(&other.stages)
     }
 }
 

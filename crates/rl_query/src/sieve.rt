@@ -5,7 +5,7 @@ ghost use Rattle.rl_query.specs.Form.{SieveForm, filter_form, sieve_form, sieve_
 ghost use Rattle.rl_query.specs.Grammar.{DerivesSieve};
 ghost use Rattle.rl_query.specs.Limits.{most_stages};
 ghost use Rattle.rl_query.specs.Printing.{sieve_text};
-ghost use Rattle.rl_query.specs.Sieving.{sieve_ends, rest_at, sieve_in, sieve_of};
+ghost use Rattle.rl_query.specs.Sieving.{behind_filters, sieve_ends, rest_at, sieve_in, sieve_of};
 ghost use Rattle.rl_query.specs.declared.filter.Sieve.{Sieve};
 
 use crate::fault::{QueryError, QueryFault};
@@ -13,7 +13,7 @@ use crate::filter::{LineFilter, Sieve};
 use crate::lexer::lexemes_of;
 use crate::parser::{Position, expected, next, refusal, selector_at};
 use crate::printer::{push_filters, push_matchers};
-use crate::stage::{behind_filters, filters_in};
+use crate::stage::filters_in;
 use crate::token::{Lexeme, Sign, Token};
 use rl_plain::PlainList;
 use std::alloc::{AllocError, Global};
@@ -53,6 +53,15 @@ fn sieve_text(alloc: Global, sieve: &Sieve) -> Result<String, AllocError>
     text.push('}')?;
     push_filters(&mut text, sieve.filters.as_slice())?;
     Ok(text)
+}
+
+fn behind_filters(filters: &[LineFilter]) -> Position
+    ensures { result ≡ behind_filters (map filter_form filters.now) }
+{
+    match filters {
+        [] => Position::BehindSieveSelector,
+        _ => Position::BehindSieveFilter,
+    }
 }
 
 fn sieve_ends(position: Position, lexeme: &Lexeme) -> Result<(), QueryFault>

@@ -1,21 +1,49 @@
-//! Line filters, read from their tokens.
-ghost use Rattle.std.specs.Prelude.{◌≡◌, ◌≤◌, List, [], ◌∷◌, Option, None, Some, IfOk, IfErr, length, map, true};
+//! Line filters and stages, read from their tokens.
+ghost use Rattle.std.specs.Prelude.{◌≡◌, ℕ, ◌≤◌, Bool, ◌||◌, List, [], ◌∷◌, Option, None, Some, IfOk, IfErr, length, map, true, false};
 ghost use Rattle.rl_plain.specs.Answers.{Gives, Answers};
 ghost use Rattle.rl_query.specs.Answering.{Reads, IsForRoom};
-ghost use Rattle.rl_query.specs.Form.{filter_form, filters_have_pattern};
-ghost use Rattle.rl_query.specs.Limits.{is_line_pattern, most_stages};
-ghost use Rattle.rl_query.specs.Parsing.{behind_filters, behind_range, filter_op, filter_text, checked_filter, filter_at, filters_at, roomy_filters, filters_in};
+ghost use Rattle.rl_labels.specs.Operators.{is_by_pattern};
+ghost use Rattle.rl_query.specs.TestTree.{any_test};
+ghost use Rattle.rl_query.specs.Form.{test_form, tests_form, test_has_pattern, filter_form, filters_have_pattern, stage_form, stage_has_pattern, stages_have_pattern, parses};
+ghost use Rattle.rl_query.specs.Limits.{is_line_pattern, most_stages, most_tests, most_depth};
+ghost use Rattle.rl_query.specs.Parsing.{filter_op, filter_text, checked_filter, filter_at, filters_at, roomy_filters, filters_in, begins_stage, stage_comes, named_parser, parser_of, only_parser, is_later_stage_word, operator_comes, word_begins, parenthesis_begins, tests_begin, tested_at, piped_at, stage_at, stages_at, roomy_stages, stages_in, behind_stage, behind_stages};
 
 use crate::fault::{QueryError, QueryFault};
 use crate::filter::{LineFilter, LineOp};
-use crate::parser::{Position, next, refusal};
+use crate::label_test::{LabelTest, LabelTests, TestParts};
+use crate::parser::{Position, is_match, is_one_of, is_sign, next, refusal};
+use crate::stages::{Parser, Stage};
+use crate::testing::{compares, tests_at};
 use crate::token::{Lexeme, Sign, Token};
+use rl_labels::Matcher;
 use rl_patterns::{PatternCode, is_pattern};
 use rl_plain::{OrMemory, PlainText, TryCopy};
 use std::alloc::Global;
 
 // The most stages of a text.
 const MOST_STAGES: usize = 256;
+
+// The most label tests of a range.
+const MOST_TESTS: usize = 256;
+
+// The most parentheses that label tests have open at once, beside the one of the range.
+const MOST_DEPTH: usize = 63;
+
+/// The words that begin a stage in LogQL. `json` and `logfmt` are supported in lower case, the others in no case.
+pub const LATER_STAGES: [&str; 12] = [
+    "json",
+    "logfmt",
+    "line_format",
+    "label_format",
+    "pattern",
+    "regexp",
+    "unpack",
+    "drop",
+    "keep",
+    "decolorize",
+    "unwrap",
+    "distinct",
+];
 
 // The line filter that a token begins.
 fn filter_op(token: &Token) -> Option<LineOp>
@@ -137,20 +165,272 @@ pub(crate) fn filters_in(
     Ok((filters, rest))
 }
 
-pub(crate) fn behind_filters(filters: &[LineFilter]) -> Position
-    ensures { result ≡ behind_filters (map filter_form filters.now) }
+// A token that begins a stage: a line filter, or what stands behind a pipe.
+fn begins_stage(token: &Token) -> bool
+    ensures { result ≡ begins_stage token.now }
 {
-    match filters {
-        [] => Position::BehindSelector,
-        _ => Position::BehindFilter,
+    filter_op(token).is_some() || is_sign(Sign::Pipe, token)
+}
+
+// Whether a stage comes.
+fn stage_comes(lexemes: &[Lexeme]) -> Result<bool, QueryFault>
+    ensures { result ≡ stage_comes lexemes.now }
+{
+    let (first, _) = next(lexemes)?;
+    Ok(begins_stage(&first.token))
+}
+
+// The parser that a token names.
+fn parser_of(token: &Token) -> Option<Parser>
+    ensures { result ≡ parser_of token.now }
+{
+    match token {
+        Token::Word(word) => named_parser(word.as_str()),
+        _ => None,
     }
 }
 
-pub(crate) fn behind_range(filters: &[LineFilter]) -> Position
-    ensures { result ≡ behind_range (map filter_form filters.now) }
+fn named_parser(word: &str) -> Option<Parser>
+    ensures { result ≡ named_parser word.now }
 {
-    match filters {
-        [] => Position::BehindRange,
-        _ => Position::BehindFilter,
+    if word == "json" {
+        return Some(Parser::Json);
+    }
+    if word == "logfmt" {
+        return Some(Parser::Logfmt);
+    }
+    None
+}
+
+// A parser comes once.
+fn only_parser(parsed: bool, parser: Parser) -> Result<Parser, QueryFault>
+    ensures { result ≡ only_parser parsed parser }
+{
+    if parsed {
+        return Err(QueryFault::TwoParsers);
+    }
+    Ok(parser)
+}
+
+fn is_later_stage_word(word: &str) -> bool
+    ensures { result ≡ is_later_stage_word word.now }
+{
+    is_one_of(&LATER_STAGES, word)
+}
+
+// Whether the operator of a test comes.
+fn operator_comes(lexemes: &[Lexeme]) -> bool
+    ensures { result ≡ operator_comes lexemes.now }
+{
+    match lexemes {
+        [first, ..] => is_match(&first.token) || compares(&first.token),
+        [] => false,
+    }
+}
+
+// That label tests begin with a token; a word of LogQL's names a label only before an operator.
+fn tests_begin(first: &Lexeme, rest: &[Lexeme]) -> Result<(), QueryFault>
+    ensures { result ≡ tests_begin first.now.place first.now.token rest.now }
+{
+    match &first.token {
+        Token::Word(word) => word_begins(first.place, word.as_str(), rest),
+        token => parenthesis_begins(first.place, token),
+    }
+}
+
+fn word_begins(place: usize, word: &str, rest: &[Lexeme]) -> Result<(), QueryFault>
+    ensures { result ≡ word_begins place word.now rest.now }
+{
+    if is_later_stage_word(word) && !operator_comes(rest) {
+        return Err(QueryFault::Unsupported(place));
+    }
+    Ok(())
+}
+
+fn parenthesis_begins(place: usize, token: &Token) -> Result<(), QueryFault>
+    ensures { result ≡ parenthesis_begins place token.now }
+{
+    if is_sign(Sign::OpenParenthesis, token) {
+        return Ok(());
+    }
+    Err(refusal(Position::Elsewhere, place, token))
+}
+
+// Label tests, behind their pipe.
+#[tactic(auto, unfolding(crate::specs::Parsing::tested_at))]
+fn tested_at(
+    alloc: Global,
+    left: usize,
+    lexemes: &[Lexeme],
+) -> Result<(Stage, usize, &[Lexeme]), QueryError>
+    ensures { Gives (λ x. (stage_form x.0, x.1, x.2.now)) result (tested_at left lexemes.now) }
+{
+    let (first, rest) = next(lexemes)?;
+    tests_begin(first, rest)?;
+    let (tests, left, rest) = tests_at(alloc, MOST_DEPTH, left, lexemes)?;
+    Ok((Stage::Tests(tests), left, rest))
+}
+
+// A parser or label tests, behind the pipe.
+#[tactic(auto, unfolding(crate::specs::Parsing::piped_at))]
+fn piped_at(
+    alloc: Global,
+    parsed: bool,
+    left: usize,
+    lexemes: &[Lexeme],
+) -> Result<(Stage, usize, &[Lexeme]), QueryError>
+    ensures { Gives (λ x. (stage_form x.0, x.1, x.2.now)) result (piped_at parsed left lexemes.now) }
+{
+    let (first, rest) = next(lexemes)?;
+    if let Some(parser) = parser_of(&first.token) {
+        let parser = only_parser(parsed, parser)?;
+        return Ok((Stage::Parser(parser), left, rest));
+    }
+    tested_at(alloc, left, lexemes)
+}
+
+// A stage, where one comes.
+#[tactic(auto, unfolding(crate::specs::Parsing::stage_at))]
+fn stage_at(
+    alloc: Global,
+    parsed: bool,
+    left: usize,
+    lexemes: &[Lexeme],
+) -> Result<(Stage, usize, &[Lexeme]), QueryError>
+    ensures { Gives (λ x. (stage_form x.0, x.1, x.2.now)) result (stage_at parsed left lexemes.now) }
+{
+    let (sign, rest) = next(lexemes)?;
+    if let Some(op) = filter_op(&sign.token) {
+        let (filter, rest) = filter_at(op, rest)?;
+        return Ok((Stage::Filter(filter), left, rest));
+    }
+    piped_at(alloc, parsed, left, rest)
+}
+
+// Whether a parser was read, before a stage or with it.
+fn is_parsed(before: bool, stage: &Stage) -> bool
+    ensures { result ≡ (before || parses (stage_form stage.now)) }
+{
+    before || matches!(stage, Stage::Parser(_))
+}
+
+// Stages, as many as there are.
+fn stages_at(alloc: Global, lexemes: &[Lexeme]) -> Result<(Vec<Stage>, &[Lexeme]), QueryError>
+    ensures { Gives (λ x. (map stage_form x.0.items, x.1.now)) result (stages_at false most_tests most_stages lexemes.now) }
+{
+    let mut stages = Vec::new(alloc);
+    let mut parsed = false;
+    let mut left = MOST_TESTS;
+    let mut rest = lexemes;
+    for _turn in 0..MOST_STAGES {
+        if !stage_comes(rest)? {
+            return Ok((stages, rest));
+        }
+        let (stage, fewer, behind) = stage_at(alloc, parsed, left, rest)?;
+        parsed = is_parsed(parsed, &stage);
+        left = fewer;
+        stages.push(stage)?;
+        rest = behind;
+    }
+    no_stage(rest)?;
+    Ok((stages, rest))
+}
+
+// No stage comes where there may be no more.
+#[tactic(auto, unfolding(crate::specs::Parsing::stages_at))]
+fn no_stage(lexemes: &[Lexeme]) -> Result<(), QueryFault>
+    ensures { (parsed : Bool) (left : ℕ) → Answers (λ _. ([], lexemes.now)) result (stages_at parsed left 0 lexemes.now) }
+{
+    if stage_comes(lexemes)? {
+        return Err(QueryFault::TooDeep);
+    }
+    Ok(())
+}
+
+// That each pattern of stages has room.
+#[tactic(auto, using(crate::proofs::StageReadings::some_pattern))]
+fn stages_have_room(alloc: Global, stages: &[Stage]) -> Result<(), QueryError>
+    ensures { Reads (λ _. map stage_form stages.now) result (λ cramped. roomy_stages cramped (map stage_form stages.now)) }
+{
+    for stage in stages {
+        stage_has_room(alloc, stage)?;
+    }
+    Ok(())
+}
+
+fn stage_has_room(alloc: Global, stage: &Stage) -> Result<(), QueryError>
+    ensures { IfErr result (IsForRoom (stage_has_pattern (stage_form stage.now))) }
+{
+    match stage {
+        Stage::Filter(filter) if is_line_pattern(filter.op) => has_room(alloc, &filter.text),
+        Stage::Tests(tests) => tests_have_room(tests),
+        _ => Ok(()),
+    }
+}
+
+// That each pattern of label tests has room.
+#[tactic(auto, using(crate::proofs::StageReadings::room_left, crate::proofs::StageReadings::room_right))]
+fn tests_have_room(tests: &LabelTests) -> Result<(), QueryError>
+    ensures { IfErr result (IsForRoom (any_test test_has_pattern (tests_form tests.now))) }
+{
+    match tests.parts() {
+        TestParts::One(test) => test_has_room(test),
+        TestParts::Joined(_, left, right) => {
+            tests_have_room(left)?;
+            tests_have_room(right)
+        }
+    }
+}
+
+fn test_has_room(test: &LabelTest) -> Result<(), QueryError>
+    ensures { IfErr result (IsForRoom (test_has_pattern (test_form test.now))) }
+{
+    match test {
+        LabelTest::Text(test) => matcher_has_room(&test.matcher),
+        LabelTest::Quantity(_) => Ok(()),
+    }
+}
+
+// That a matcher's pattern has room as one of whole values.
+fn matcher_has_room(matcher: &Matcher) -> Result<(), QueryError>
+    ensures { IfErr result (IsForRoom (is_by_pattern matcher.now.op)) }
+{
+    match matcher.build() {
+        Ok(_) => Ok(()),
+        Err(OrMemory::Fault(_)) => Err(QueryError::Fault(QueryFault::BadRegex)),
+        Err(OrMemory::Memory) => Err(QueryError::Memory),
+    }
+}
+
+// Stages, each of whose patterns has room.
+#[tactic(auto, unfolding(crate::specs::Parsing::stages_in))]
+pub(crate) fn stages_in(
+    alloc: Global,
+    lexemes: &[Lexeme],
+) -> Result<(Vec<Stage>, &[Lexeme]), QueryError>
+    ensures { Reads (λ x. (map stage_form x.0.items, x.1.now)) result (λ cramped. stages_in cramped lexemes.now) }
+{
+    let (stages, rest) = stages_at(alloc, lexemes)?;
+    stages_have_room(alloc, &stages)?;
+    Ok((stages, rest))
+}
+
+fn behind_stage(stage: &Stage) -> Position
+    ensures { result ≡ behind_stage (stage_form stage.now) }
+{
+    match stage {
+        Stage::Filter(_) => Position::BehindFilter,
+        Stage::Parser(_) => Position::BehindParser,
+        Stage::Tests(_) => Position::BehindTests,
+    }
+}
+
+// The position behind the last stage, or where there is none that before the stages.
+pub(crate) fn behind_stages(position: Position, stages: &[Stage]) -> Position
+    ensures { result ≡ behind_stages position (map stage_form stages.now) }
+{
+    match stages {
+        [] => position,
+        [first, rest @ ..] => behind_stages(behind_stage(first), rest),
     }
 }

@@ -91,7 +91,7 @@ impl Sign {
 pub enum Token {
     /// A name or a keyword.
     Word(PlainText),
-    /// A run of digits, letters, `_` and `.` that begins with a digit.
+    /// A run of digits, letters, `_`, `.` and characters beyond ASCII that begins with a digit.
     Number(PlainText),
     /// What stands between quotes or backquotes, escapes read.
     Text(PlainText),

@@ -14,12 +14,11 @@ use Rattle.rl_world.specs.Offering.{TookPrefix, Offered, AllOffered, texts_of}
 use Rattle.rl_world.specs.WorldState.{BookState, IsBookOf, kept_open, world_of}
 use Rattle.rl_labels.specs.declared.entry.Entry.{Entry}
 use Rattle.rl_world.specs.laws.ShownLaws.{kept_evaluation}
-use Rattle.rl_world.specs.WorldStep.{WorldStep, partials}
+use Rattle.rl_world.specs.WorldStep.{WorldStep, partials, told_of_book}
 use Rattle.rl_plain.specs.declared.refusal.OrMemory.{OrMemory}
 use Rattle.rl_world.specs.declared.fault.BookFault.{BookFault}
 use Rattle.rl_world.specs.declared.fault.Refusal.{Refusal}
 use Rattle.rl_world.specs.declared.fault.Refusal.TheVariants as refusals
-use Rattle.rl_world.specs.WorldStep.{told_of_book}
 use Rattle.rl_world.specs.declared.opened.OpenEvaluation.{OpenEvaluation}
 use Rattle.rl_world.specs.declared.step.Committed.{Committed}
 use Rattle.rl_world.specs.declared.step.Step.TheVariants as steps

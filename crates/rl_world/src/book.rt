@@ -45,8 +45,9 @@ impl<S: Sink> Model for Book<S> {
     ghost use Rattle.std.specs.Coded.{codes};
     ghost use Rattle.rl_labels.specs.LabelSet.{label_set_code};
     ghost use Rattle.rl_aggregate.specs.contracts.totals.Totals as totals_type;
+    ghost use Rattle.rl_query.specs.contracts.label_test.LabelTests as tests_type;
 
-    ghost coded = { Prim.hlevel (codes, label_set_code, totals_type.the_row.coded) };
+    ghost coded = { Prim.hlevel (codes, label_set_code, totals_type.the_row.coded, tests_type.the_row.coded) };
 
     ghost view = { λ a. record { history = record { group = a.group; records = a.records; evaluations = a.evaluations.items; opened = a.opened }; shards = a.shards; slot = a.slot; sinks = map S.state a.sinks.items } };
 

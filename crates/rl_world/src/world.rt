@@ -32,9 +32,10 @@ impl<S: Sink> Model for World<S> {
     ghost use Rattle.std.specs.Coded.{codes};
     ghost use Rattle.rl_labels.specs.LabelSet.{label_set_code};
     ghost use Rattle.rl_aggregate.specs.contracts.totals.Totals as totals_type;
+    ghost use Rattle.rl_query.specs.contracts.label_test.LabelTests as tests_type;
     ghost use Rattle.rl_shard.specs.contracts.shard.Shard as shard_type;
 
-    ghost coded = { Prim.hlevel (codes, label_set_code, totals_type.the_row.coded, shard_type.the_row.coded) };
+    ghost coded = { Prim.hlevel (codes, label_set_code, totals_type.the_row.coded, tests_type.the_row.coded, shard_type.the_row.coded) };
 
     ghost view = { λ a. record { shards = a.parts.shards.items; books = a.parts.books.items } };
 }

@@ -1,34 +1,91 @@
-//! Cases of pipelines: the labels that lines have behind a parser.
+//! Cases of pipelines: the labels that lines have behind a parser, or behind all stages, and what sieves cover.
 //!
-//! The first line is the label set of the stream, and each other line a line of it. With `error` the set has the error `E`.
-use crate::given::labels_in;
+//! With a parser the first line is the label set of the stream, and each other line a line of it; with `_error` the set has
+//! the error `E`. `runs` has a query before them. `covers` has a delete selector, and an entry in each other line.
+use crate::given::{entry_in, labels_in};
 use crate::trouble::Trouble;
 use rl_labels::Labels;
-use rl_labels::labels::ERROR_LABEL;
-use rl_pipeline::json_labels;
+use rl_labels::labels::{ERROR_LABEL, is_label_name};
+use rl_pipeline::{Covers, Meter, Pipeline, Running, SieveCode, parsed};
+use rl_query::{Parser, parse, parse_delete};
 use std::alloc::Global;
 
 pub(crate) fn answer(alloc: Global, directive: &str, input: &str) -> Result<String, Trouble> {
     let (first, lines) = input.split_once('\n').ok_or(Trouble::BadInput)?;
-    let labels = labels_in(alloc, first)?;
     match directive {
-        "json" => json(alloc, &labels, lines),
-        "json_error" => json(alloc, &with_error(&labels)?, lines),
+        "json" => behind(alloc, Parser::Json, &labels_in(alloc, first)?, lines),
+        "json_error" => behind(alloc, Parser::Json, &with_error(alloc, first)?, lines),
+        "logfmt" => behind(alloc, Parser::Logfmt, &labels_in(alloc, first)?, lines),
+        "logfmt_error" => behind(alloc, Parser::Logfmt, &with_error(alloc, first)?, lines),
+        "runs" => runs(alloc, first, lines),
+        "covers" => covers(alloc, first, lines),
         _ => Err(Trouble::NoSuchDirective),
     }
 }
 
-fn with_error(labels: &Labels) -> Result<Labels, Trouble> {
-    if !rl_labels::labels::is_label_name(ERROR_LABEL) {
+fn with_error(alloc: Global, labels: &str) -> Result<Labels, Trouble> {
+    if !is_label_name(ERROR_LABEL) {
         return Err(Trouble::BadInput);
     }
-    Ok(labels.with_label(ERROR_LABEL, "E")?)
+    Ok(labels_in(alloc, labels)?.with_label(ERROR_LABEL, "E")?)
 }
 
-fn json(alloc: Global, labels: &Labels, lines: &str) -> Result<String, Trouble> {
+// The labels that each line has behind the parser.
+fn behind(alloc: Global, parser: Parser, labels: &Labels, lines: &str) -> Result<String, Trouble> {
     let mut answer = String::new(alloc);
     for line in lines.split('\n') {
-        writeln!(answer, "{}", json_labels(alloc, labels, line)?)?;
+        writeln!(answer, "{}", parsed(alloc, parser, labels, line)?)?;
+    }
+    Ok(answer)
+}
+
+// The labels that each line has behind all stages, and what was counted.
+fn runs(alloc: Global, query: &str, rest: &str) -> Result<String, Trouble> {
+    let (labels, lines) = rest.split_once('\n').ok_or(Trouble::BadInput)?;
+    let labels = labels_in(alloc, labels)?;
+    let query = parse(alloc, query).ok().ok_or(Trouble::BadInput)?;
+    let stages = query.left.range.stages.as_slice();
+    let pipeline = Pipeline::build(alloc, stages)
+        .ok()
+        .ok_or(Trouble::BadInput)?;
+    let mut running = pipeline.running()?;
+    let mut meter = Meter::new();
+    let mut answer = String::new(alloc);
+    for line in lines.split('\n') {
+        push_run(&mut answer, &mut running, &mut meter, &labels, line)?;
+    }
+    meter.count_visits(u64::MAX - 1);
+    meter.count_visits(meter.runs());
+    let (runs, visits) = (meter.runs(), meter.visits());
+    let is_plain = running.is_plain();
+    writeln!(answer, "{runs} runs, {visits} visits, plain {is_plain}")?;
+    Ok(answer)
+}
+
+fn push_run(
+    answer: &mut String,
+    running: &mut Running<'_>,
+    meter: &mut Meter,
+    labels: &Labels,
+    line: &str,
+) -> Result<(), Trouble> {
+    match running.run(meter, labels, line)? {
+        Some(labels) => writeln!(answer, "{labels}")?,
+        None => writeln!(answer, "left out")?,
+    }
+    Ok(())
+}
+
+// Whether a sieve covers each entry.
+fn covers(alloc: Global, selector: &str, entries: &str) -> Result<String, Trouble> {
+    let sieve = parse_delete(alloc, selector).ok().ok_or(Trouble::BadInput)?;
+    let code = SieveCode::build(alloc, &sieve)
+        .ok()
+        .ok_or(Trouble::BadInput)?;
+    let mut answer = String::new(alloc);
+    for entry in entries.split('\n') {
+        let entry = entry_in(alloc, entry)?;
+        writeln!(answer, "{}", code.covers(&entry)?)?;
     }
     Ok(answer)
 }

@@ -1,7 +1,9 @@
 //! Query texts: what they are read as, the faults of those that are refused, and queries beside each other.
 use crate::trouble::Trouble;
 use rl_plain::{Same, TryCopy};
-use rl_query::{Query, QueryError, parse, parse_delete, print, print_sieve, print_term};
+use rl_query::{
+    Query, QueryError, Stage, parse, parse_delete, print, print_sieve, print_term, print_tests,
+};
 use std::alloc::{AllocError, AllocFailed, Global};
 
 /// `text` takes its whole input as one text, every other directive each line.
@@ -50,11 +52,22 @@ fn term(alloc: Global, line: &str) -> Result<String, Trouble> {
         let (name, op, value) = (matcher.name.as_str(), matcher.op, matcher.value.as_str());
         write!(answer, "\n{name} {op:?} {value:?}")?;
     }
-    for filter in query.left.range.filters.as_slice() {
-        let (op, text) = (filter.op, filter.text.as_str());
-        write!(answer, "\n{op:?} {text:?}")?;
+    for stage in query.left.range.stages.as_slice() {
+        push_stage(&mut answer, alloc, stage)?;
     }
     Ok(answer)
+}
+
+fn push_stage(answer: &mut String, alloc: Global, stage: &Stage) -> Result<(), Trouble> {
+    match stage {
+        Stage::Filter(filter) => {
+            let (op, text) = (filter.op, filter.text.as_str());
+            write!(answer, "\n{op:?} {text:?}")?;
+        }
+        Stage::Parser(parser) => write!(answer, "\n{parser:?}")?,
+        Stage::Tests(tests) => write!(answer, "\n{}", print_tests(alloc, tests)?)?,
+    }
+    Ok(())
 }
 
 // Two texts with ` ~ ` between them: how their queries compare, or whether their faults are equal.

@@ -132,41 +132,41 @@ partial_of-append es fs = λ i. record {
 
 pub in_range-append : (first second : List Entry) (term : Term) (t : ℕ) → in_range (first ++ second) term t ≡ in_range first term t ++ in_range second term t
 in_range-append first second term t =
-    ap (map element) (filter-append (is_in_range term t) first second) ∙ map-append element (filter (is_in_range term t) first) (filter (is_in_range term t) second)
+    ap (map (element term.range.stages)) (filter-append (is_in_range term t) first second) ∙ map-append (element term.range.stages) (filter (is_in_range term t) first) (filter (is_in_range term t) second)
 
 -- the partial of one list of entries behind another is the merge of their partials
 pub partial-append : (first second : List Entry) (term : Term) (t : ℕ) → partial (first ++ second) term t ≡ merge (partial first term t) (partial second term t)
 partial-append first second term t = ap partial_of (in_range-append first second term t) ∙ partial_of-append (in_range first term t) (in_range second term t)
 
 -- a sum over the elements of a range is one over the entries
-sum_by-in_range : (f : Element → ℕ) (entries : List Entry) (term : Term) (t : ℕ) → sum_by f (in_range entries term t) ≡ sum_by (λ e. cond (is_in_range term t e) (f (element e)) 0) entries
+sum_by-in_range : (f : Element → ℕ) (entries : List Entry) (term : Term) (t : ℕ) → sum_by f (in_range entries term t) ≡ sum_by (λ e. cond (is_in_range term t e) (f (element term.range.stages e)) 0) entries
 sum_by-in_range f [] term t = refl
 sum_by-in_range f (e ∷ es) term t =
-    elim (is_in_range term t e) as (λ b. sum_by f (map element (cond b (e ∷ filter (is_in_range term t) es) (filter (is_in_range term t) es))) ≡ cond b (f (element e)) 0 + sum_by (λ x. cond (is_in_range term t x) (f (element x)) 0) es) [
-      | true ↦ sum_by-cons f (element e) (in_range es term t) ∙ ap (λ n. f (element e) + n) (sum_by-in_range f es term t)
+    elim (is_in_range term t e) as (λ b. sum_by f (map (element term.range.stages) (cond b (e ∷ filter (is_in_range term t) es) (filter (is_in_range term t) es))) ≡ cond b (f (element term.range.stages e)) 0 + sum_by (λ x. cond (is_in_range term t x) (f (element term.range.stages x)) 0) es) [
+      | true ↦ sum_by-cons f (element term.range.stages e) (in_range es term t) ∙ ap (λ n. f (element term.range.stages e) + n) (sum_by-in_range f es term t)
       | false ↦ omega (arith, sum_by-in_range f es term t)
     ]
-    ∙ sym (sum_by-cons (λ x. cond (is_in_range term t x) (f (element x)) 0) e es)
+    ∙ sym (sum_by-cons (λ x. cond (is_in_range term t x) (f (element term.range.stages x)) 0) e es)
 
 -- a test of the elements of a range is one of the entries
-list_any-in_range : (p : Element → Bool) (entries : List Entry) (term : Term) (t : ℕ) → list_any p (in_range entries term t) ≡ list_any (λ e. is_in_range term t e && p (element e)) entries
+list_any-in_range : (p : Element → Bool) (entries : List Entry) (term : Term) (t : ℕ) → list_any p (in_range entries term t) ≡ list_any (λ e. is_in_range term t e && p (element term.range.stages e)) entries
 list_any-in_range p [] term t = refl
 list_any-in_range p (e ∷ es) term t =
-    elim (is_in_range term t e) as (λ b. list_any p (map element (cond b (e ∷ filter (is_in_range term t) es) (filter (is_in_range term t) es))) ≡ ((b && p (element e)) || list_any (λ x. is_in_range term t x && p (element x)) es)) [
-      | true ↦ ap (λ b. p (element e) || b) (list_any-in_range p es term t)
+    elim (is_in_range term t e) as (λ b. list_any p (map (element term.range.stages) (cond b (e ∷ filter (is_in_range term t) es) (filter (is_in_range term t) es))) ≡ ((b && p (element term.range.stages e)) || list_any (λ x. is_in_range term t x && p (element term.range.stages x)) es)) [
+      | true ↦ ap (λ b. p (element term.range.stages e) || b) (list_any-in_range p es term t)
       | false ↦ list_any-in_range p es term t
     ]
 
 sum_by-permuted : (f : Element → ℕ) (entries others : List Entry) (term : Term) (t : ℕ) → IsPermutation entries others → sum_by f (in_range entries term t) ≡ sum_by f (in_range others term t)
 sum_by-permuted f entries others term t moved =
     sum_by-in_range f entries term t
-    ∙ sym (sum_by-IsPermutation (λ e. cond (is_in_range term t e) (f (element e)) 0) entries others moved)
+    ∙ sym (sum_by-IsPermutation (λ e. cond (is_in_range term t e) (f (element term.range.stages e)) 0) entries others moved)
     ∙ sym (sum_by-in_range f others term t)
 
 list_any-permuted : (p : Element → Bool) (entries others : List Entry) (term : Term) (t : ℕ) → IsPermutation entries others → list_any p (in_range entries term t) ≡ list_any p (in_range others term t)
 list_any-permuted p entries others term t moved =
     list_any-in_range p entries term t
-    ∙ list_any-IsPermutation (λ e. is_in_range term t e && p (element e)) entries others moved
+    ∙ list_any-IsPermutation (λ e. is_in_range term t e && p (element term.range.stages e)) entries others moved
     ∙ sym (list_any-in_range p others term t)
 
 -- the order of entries does not matter
@@ -185,11 +185,11 @@ partial-permuted entries others term t moved =
     λ i. record { errors = sum_by-permuted (λ e. cond (has_error e.labels) 1 0) entries others term t moved i; totals = same i }
 
 -- a sum over the elements of a range, each of them within a bound
-sum_by-within : (f : Element → ℕ) (m : ℕ) (entries : List Entry) (term : Term) (t : ℕ) → ((e : Entry) → f (element e) ≤ m) → sum_by f (in_range entries term t) ≤ length entries * m
+sum_by-within : (f : Element → ℕ) (m : ℕ) (entries : List Entry) (term : Term) (t : ℕ) → ((e : Entry) → f (element term.range.stages e) ≤ m) → sum_by f (in_range entries term t) ≤ length entries * m
 sum_by-within f m [] term t within = omega arith
 sum_by-within f m (e ∷ es) term t within =
-    elim (is_in_range term t e) as (λ b. sum_by f (map element (cond b (e ∷ filter (is_in_range term t) es) (filter (is_in_range term t) es))) ≤ length (e ∷ es) * m) [
-      | true ↦ omega (arith, sum_by-cons f (element e) (in_range es term t), sum_by-within f m es term t within, within e)
+    elim (is_in_range term t e) as (λ b. sum_by f (map (element term.range.stages) (cond b (e ∷ filter (is_in_range term t) es) (filter (is_in_range term t) es))) ≤ length (e ∷ es) * m) [
+      | true ↦ omega (arith, sum_by-cons f (element term.range.stages e) (in_range es term t), sum_by-within f m es term t within, within e)
       | false ↦ omega (arith, sum_by-within f m es term t within)
     ]
 
@@ -200,20 +200,20 @@ cond-within false n m h = omega arith
 
 -- how large a partial's numbers are
 pub errors-within : (entries : List Entry) (term : Term) (t : ℕ) → (partial entries term t).errors ≤ length entries
-errors-within entries term t = omega (arith, sum_by-within (λ e. cond (has_error e.labels) 1 0) 1 entries term t (λ e. cond-within (has_error e.labels) 1 1 (omega arith)))
+errors-within entries term t = omega (arith, sum_by-within (λ e. cond (has_error e.labels) 1 0) 1 entries term t (λ e. cond-within (has_error (element term.range.stages e).labels) 1 1 (omega arith)))
 
 pub count-within : (entries : List Entry) (term : Term) (t : ℕ) (q : LabelSet) → (total_at (partial entries term t).totals q).count ≤ length entries
 count-within entries term t q = omega (
   arith,
   ap (λ total. total.count) (total_at-totals_of (in_range entries term t) q),
-  sum_by-within (λ e. cond (counts_for q e) 1 0) 1 entries term t (λ e. cond-within (counts_for q (element e)) 1 1 (omega arith)),
+  sum_by-within (λ e. cond (counts_for q e) 1 0) 1 entries term t (λ e. cond-within (counts_for q (element term.range.stages e)) 1 1 (omega arith)),
 )
 
 pub bytes-within : (entries : List Entry) (term : Term) (t : ℕ) (q : LabelSet) → (total_at (partial entries term t).totals q).bytes ≤ length entries * longest_line
 bytes-within entries term t q = omega (
   arith,
   ap (λ total. total.bytes) (total_at-totals_of (in_range entries term t) q),
-  sum_by-within (λ e. cond (counts_for q e) e.bytes 0) longest_line entries term t (λ e. cond-within (counts_for q (element e)) (length e.line) longest_line e.fits),
+  sum_by-within (λ e. cond (counts_for q e) e.bytes 0) longest_line entries term t (λ e. cond-within (counts_for q (element term.range.stages e)) (length e.line) longest_line e.fits),
 )
 
 -- the merge of the partials of few enough entries fits

@@ -183,12 +183,12 @@ parts_proper text (Some parts) d = by_whole (number_of 15 parts.0) refl
 pub decimal_proper : (text : List ℕ) (d : DecimalForm) → decimal_of 15 text ≡ Some d → is_decimal d ≡ true
 decimal_proper text d h = parts_proper text (cut_at_point text) d h
 
--- the bytes of a decimal, the first of which is a digit
+-- the bytes of a decimal's canonical text, the first of which is a digit
 
 digit_of_number : (b : ℕ) → is_ascii_digit b ≡ true → is_byte_of true b ≡ true
 digit_of_number b h = ap (λ t. t || b == 46) h
 
-record Bytes (text : List ℕ) : Type 0 where
+pub record Bytes (text : List ℕ) : Type 0 where
   pub bytes : list_all (is_byte_of true) text ≡ true
   pub first : ℕ
   pub others : List ℕ
@@ -209,7 +209,7 @@ behind_point : (b : Bool) (k n : ℕ) → list_all (is_byte_of true) (cond b [] 
 behind_point true k n = refl
 behind_point false k n = weaker is_ascii_digit (is_byte_of true) digit_of_number (digits_text k n) (digits_are k n)
 
-decimal_bytes : (d : DecimalForm) → is_decimal d ≡ true → Bytes (decimal_text d)
+pub decimal_bytes : (d : DecimalForm) → is_decimal d ≡ true → Bytes (decimal_text d)
 decimal_bytes d h =
     let small : d.whole < 2 ^ 64 = let below = (limits d h).whole in omega (arith, below) in
     bytes_of (decimal d.whole) (cond (d.digits == 0) [] (46 ∷ digits_text d.digits d.fraction)) (decimal_nonempty d.whole small) (decimal_digits d.whole small) (behind_point (d.digits == 0) d.digits d.fraction)
@@ -323,6 +323,23 @@ duration_again (part ∷ others) h =
     let both = and_parts (nat_le (length (part ∷ others)) 8) (list_all (λ p. is_decimal p.number) (part ∷ others)) behind in
     let few : length (part ∷ others) ≤ 8 = leb-true _ _ both.0 in
     parts_again 8 part others (omega (arith, few)) both.1
+
+-- a size's canonical text is no duration
+pub size_no_duration : (size : Size) → is_size size ≡ true → duration_of (size_text size) ≡ None
+unfolding duration_of
+size_no_duration size h =
+    ap (λ (front : List ℕ × List ℕ). option_and_then (part_then (parts_of 7)) (option_map (λ p. (p, (front_of false front.1).1)) (part_of (decimal_of 15 front.0) (duration_unit (front_of false front.1).0)))) (front_again true (decimal_text size.number) (size_unit_text size.unit) (decimal_bytes size.number h).bytes (size_unit_stops size.unit))
+    ∙ by_unit (decimal_of 15 (decimal_text size.number)) size.unit
+  where
+    by_unit : (number : Option DecimalForm) (unit : SizeUnit) → option_and_then (part_then (parts_of 7)) (option_map (λ p. (p, (front_of false (size_unit_text unit)).1)) (part_of number (duration_unit (front_of false (size_unit_text unit)).0))) ≡ None
+    by_unit None unit = refl
+    by_unit (Some number) sizes.Byte = refl
+    by_unit (Some number) sizes.Kilobyte = refl
+    by_unit (Some number) sizes.Kibibyte = refl
+    by_unit (Some number) sizes.Megabyte = refl
+    by_unit (Some number) sizes.Mebibyte = refl
+    by_unit (Some number) sizes.Gigabyte = refl
+    by_unit (Some number) sizes.Gibibyte = refl
 
 part_proper : (text : List ℕ) (part : DurationPart) (rest : List ℕ) → part_at text ≡ Some (part, rest) → is_decimal part.number ≡ true
 part_proper text part rest h =

@@ -1,34 +1,10 @@
--- Where no line is kept nothing is counted; errors count as many, and any other run at its label set.
-use Rattle.std.proofs.Common.{◌≡◌, ℕ, zero, suc, ◌+◌, ◌<◌, length, refl, sym, subst, ap, ◌∙◌, arith}
+-- What is counted at once stands behind the others.
+use Rattle.std.proofs.Common.{map}
 use Rattle.std.proofs.lemmas.Result.{on_ok_weaker}
-use Rattle.rl_aggregate.specs.TotalsMap.{added}
+use Rattle.rl_aggregate.specs.InRange.{element}
 use Rattle.rl_aggregate.specs.Runs.{kept}
-use Rattle.rl_aggregate.specs.declared.total.Total.{Total}
-use Rattle.rl_aggregate.proofs.Counting.{kept-fewer, kept-have, merge-none, merge-errors, merge-counted}
+use Rattle.rl_aggregate.proofs.Counting.{merged_behind}
 use Rattle.rl_aggregate.proofs.range.count.Goals as goal
 
-positive : (n : ℕ) → (n ≡ 0 → ⊥) → 0 < n
-positive zero some = absurd (some refl)
-positive (suc n) some = omega arith
-
-pub returns-then-total-eq0-clause-counted : goal.returns-then-total-eq0-clause-counted
-returns-then-total-eq0-clause-counted c = merge-none c.args.found.now (kept c.args.running.now c.args.run.now) (sym (ap (λ (t : Total). t.count) c.total_of-total.ensures.total) ∙ c.if-total-eq0.true)
-
-pub overflow_add-found : goal.overflow_add-found
-overflow_add-found c = omega (arith, c.requires.errors, kept-fewer c.args.running.now c.args.run.now, ap (λ (t : Total). t.count) c.total_of-total.ensures.total)
-
-pub returns-then-has_error-clause-counted : goal.returns-then-has_error-clause-counted
-returns-then-has_error-clause-counted c =
-    let found = c.args.found.now in
-    let run = kept c.args.running.now c.args.run.now in
-    let counted = ap (λ (t : Total). t.count) c.total_of-total.ensures.total in
-    (λ i. record { errors = found.errors + counted i; totals = found.totals })
-    ∙ merge-errors c.args.labels.now found run (kept-have c.args.running.now c.args.labels.now c.args.run.now c.requires.labels) (sym c.if-has_error.ensures)
-
-pub returns-clause-counted : goal.returns-clause-counted
-returns-clause-counted c =
-    let found = c.args.found.now in
-    let run = kept c.args.running.now c.args.run.now in
-    let some : 0 < length run = subst (λ n. 0 < n) (ap (λ (t : Total). t.count) c.total_of-total.ensures.total) (positive c.total_of-total.result.count c.if-total-eq0.false) in
-    let one = merge-counted c.args.labels.now found run some (kept-have c.args.running.now c.args.labels.now c.args.run.now c.requires.labels) (sym c.if-has_error.ensures) in
-    on_ok_weaker c.add.result (λ ok. ap (λ totals. record { errors = found.errors; totals = totals }) (ok ∙ ap (added found.totals c.args.labels.now) c.total_of-total.ensures.total) ∙ one) c.add.ensures.ok
+pub returns-then-is_plain-clause-counted : goal.returns-then-is_plain-clause-counted
+returns-then-is_plain-clause-counted c = on_ok_weaker c.count_all.result (λ ok elements is. merged_behind c.args.found.now c.count_all.new.found elements (map (element c.args.running.now) (kept c.args.running.now c.args.run.now)) ok is) c.count_all.ensures.counted

@@ -1,10 +1,12 @@
--- The filters so far let the line pass, and all stay as they were.
+-- The line filters so far let the line pass, and all stages are as they were.
 use Rattle.std.proofs.Common.{◌≡◌, true, take}
-use Rattle.rl_pipeline.specs.Filtering.{keeps}
+use Rattle.std.specs.List.{list_all}
+use Rattle.rl_pipeline.specs.Running.{lets_pass}
+use Rattle.rl_pipeline.specs.Steps.{step_stage}
 use Rattle.rl_pipeline.proofs.running.all_pass.Given as goal
 
-abbrev pub invariant-loop-search : goal.invariant-loop-search
-invariant-loop-search l = record {
-  passed : keeps (take l.search-index l.searches) l.line ≡ true;
-  same : l.searches ≡ l.initial.searches;
+abbrev pub invariant-loop-step : goal.invariant-loop-step
+invariant-loop-step l = record {
+  passed : list_all (λ step. lets_pass (step_stage step) l.line) (take l.step-index l.steps) ≡ true;
+  same : l.steps ≡ l.initial.steps;
 }

@@ -2,7 +2,7 @@
 use Rattle.std.proofs.Common.{◌≡◌, ◌++◌, ◌∷◌, take, map, string_bytes}
 use Rattle.std.specs.List.{flat_map}
 use Rattle.rl_query.specs.Form.{matcher_form}
-use Rattle.rl_query.specs.Printing.{matcher_text}
+use Rattle.rl_query.specs.MatcherPrinting.{matcher_text}
 use Rattle.rl_query.proofs.printer.push_others.Given as goal
 
 abbrev pub invariant-loop-matcher : goal.invariant-loop-matcher

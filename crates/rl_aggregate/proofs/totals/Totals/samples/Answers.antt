@@ -1,6 +1,5 @@
 -- The entries of the tree are those of the totals.
-use Rattle.std.proofs.Common.{◌++◌, sym, ap, ◌∙◌}
-use Rattle.std.proofs.Common.{map as map_list}
+use Rattle.std.proofs.Common.{◌++◌, sym, ap, ◌∙◌, map as map_list}
 use Rattle.std.specs.FinMap as map
 use Rattle.rl_aggregate.specs.Evaluated.{sample}
 use Rattle.rl_labels.specs.laws.TextLaws.{label_set_cmp_total, label_set_cmp-IsAntisymmetric}

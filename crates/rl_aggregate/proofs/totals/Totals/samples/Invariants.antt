@@ -1,6 +1,5 @@
 -- The samples so far and those of the entries that are left are all.
-use Rattle.std.proofs.Common.{◌≡◌, ◌++◌}
-use Rattle.std.proofs.Common.{map as map_list}
+use Rattle.std.proofs.Common.{◌≡◌, ◌++◌, map as map_list}
 use Rattle.std.specs.FinMap as map
 use Rattle.rl_aggregate.specs.Evaluated.{sample}
 use Rattle.rl_aggregate.proofs.totals.Totals.samples.Given as goal

@@ -1,11 +1,10 @@
--- The tree's look-up is that of the set.
-use Rattle.std.proofs.Common.{Some, ap, ◌∙◌}
-use Rattle.std.specs.Option.{option_copied}
-use Rattle.rl_labels.proofs.Building.{tree_label}
+-- The labels' look-up is that of the set.
+use Rattle.std.proofs.Common.{ap, ◌∙◌}
+use Rattle.std.specs.FinMap.Entries.{find}
+use Rattle.rl_labels.specs.Name.{name_cmp}
+use Rattle.rl_labels.specs.LabelSet.{label}
+use Rattle.rl_labels.proofs.Building.{label_in}
 use Rattle.rl_labels.proofs.builder.LabelsBuilder.get.Goals as goal
 
-pub returns-in_err-value : goal.returns-in_err-value
-returns-in_err-value c = ap option_copied c.from_residual.ensures ∙ c.in_err-value.ensures.value ∙ tree_label c.args.self.now c.self.inside.by_name.entries c.self.invariant c.self.view_is c.args.name.now
-
 pub returns : goal.returns
-returns c = ap Some c.as_str.ensures ∙ c.in_ok-value.ensures.value ∙ tree_label c.args.self.now c.self.inside.by_name.entries c.self.invariant c.self.view_is c.args.name.now
+returns c = c.value_in.ensures ∙ ap (find name_cmp c.args.name.now) c.deref.ensures.value ∙ label_in c.self.inside.labels.items c.self.invariant c.args.name.now ∙ ap (λ s. label s c.args.name.now) c.self.view_is

@@ -1,6 +1,7 @@
--- The filters so far.
-use Rattle.std.proofs.Common.{◌≡◌, take}
+-- The stages so far.
+use Rattle.std.proofs.Common.{◌≡◌, map, take}
+use Rattle.rl_pipeline.specs.Steps.{code_stage}
 use Rattle.rl_pipeline.proofs.pipeline.Pipeline.build.Given as goal
 
-abbrev pub invariant-loop-filter : goal.invariant-loop-filter
-invariant-loop-filter l = l.codes.items ≡ take l.filter-index l.filters
+abbrev pub invariant-loop-stage : goal.invariant-loop-stage
+invariant-loop-stage l = map code_stage l.codes.items ≡ take l.stage-index l.stages

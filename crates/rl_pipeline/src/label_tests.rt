@@ -1,0 +1,110 @@
+//! Built label tests.
+ghost use Rattle.std.specs.Prelude.{◌≡◌, IfOk, IfErr};
+ghost use Rattle.rl_labels.specs.Operators as operators;
+ghost use Rattle.rl_pipeline.specs.Building.{IsUnbuilt};
+ghost use Rattle.rl_pipeline.specs.LabelTests.{is_by_pattern, are_by_pattern, matcher_pattern, test_pattern};
+
+use rl_labels::{MatchOp, Matcher};
+use rl_patterns::{PatternError, PatternFault, WholePatternCode};
+use rl_plain::{OrMemory, TryCopy};
+use rl_query::{Join, LabelTest, LabelTests, TestParts};
+use std::alloc::Global;
+use std::marker::Model;
+
+/// A built test of one label. Contracts see the test.
+#[derive(Drop)]
+pub struct TestCode {
+    pub(crate) test: LabelTest,
+    pub(crate) pattern: Option<WholePatternCode>,
+}
+
+impl Model for TestCode {
+    ghost use Rattle.std.specs.Prelude.{◌≡◌};
+    ghost use Rattle.rl_query.specs.declared.label_test.LabelTest.{LabelTest};
+    ghost use Rattle.rl_pipeline.specs.LabelTests.{test_pattern};
+
+    ghost Value = { LabelTest };
+
+    ghost view = { λ a. a.test };
+
+    ghost invariant = { λ a. a.pattern ≡ test_pattern a.test };
+}
+
+/// Built label tests. Contracts see the tests.
+#[cycle(tests)]
+#[derive(Drop)]
+pub struct TestsCode {
+    pub(crate) node: Node,
+}
+
+#[cycle(tests)]
+#[derive(Drop)]
+pub(crate) enum Node {
+    One(TestCode),
+    Joined(Join, Box<TestsCode>, Box<TestsCode>),
+}
+
+impl Model for TestsCode {
+    ghost use Rattle.rl_query.specs.TestTree.{TestTree, tree_code, tree_size};
+    ghost use Rattle.rl_query.specs.declared.label_test.LabelTest.{LabelTest};
+    ghost use Rattle.rl_query.specs.contracts.label_test.LabelTest as test;
+
+    ghost Value = { TestTree LabelTest };
+
+    ghost coded = { tree_code test.the_row.coded };
+
+    ghost use Rattle.rl_pipeline.specs.TestNodes.{node_tree};
+
+    ghost view = { λ a. node_tree a.node };
+
+    ghost size = { tree_size };
+
+    ghost use Rattle.std.proofs.Common.{arith};
+
+    ghost size_decreases = { λ a h. Prim.grind (arith) };
+}
+
+// The code of a matcher's pattern, if it has one. The pattern is one, so it is refused for memory or for its size.
+fn pattern_code(alloc: Global, matcher: &Matcher) -> Result<Option<WholePatternCode>, PatternError>
+    ensures code { IfOk result (λ code. code ≡ matcher_pattern matcher.now) }
+    ensures refused { IfErr result (IsUnbuilt (operators.is_by_pattern matcher.now.op)) }
+{
+    if matches!(matcher.op, MatchOp::Equal | MatchOp::NotEqual) {
+        return Ok(None);
+    }
+    match WholePatternCode::build(alloc, matcher.value.as_str()) {
+        Ok(code) => Ok(Some(code)),
+        Err(OrMemory::Fault(_)) => Err(OrMemory::Fault(PatternFault::TooBig)),
+        Err(OrMemory::Memory) => Err(OrMemory::Memory),
+    }
+}
+
+fn test_code(alloc: Global, test: &LabelTest) -> Result<TestCode, PatternError>
+    ensures code { IfOk result (λ code. code ≡ test.now) }
+    ensures refused { IfErr result (IsUnbuilt (is_by_pattern test.now)) }
+{
+    let pattern = match test {
+        LabelTest::Text(text) => pattern_code(alloc, &text.matcher)?,
+        LabelTest::Quantity(_) => None,
+    };
+    let test = test.try_copy()?;
+    Ok(TestCode { test, pattern })
+}
+
+impl TestsCode {
+    /// The code of the tests. TooBig where a pattern's program is.
+    pub fn build(alloc: Global, tests: &LabelTests) -> Result<TestsCode, PatternError>
+        ensures code { IfOk result (λ code. code ≡ tests.now) }
+        ensures refused { IfErr result (IsUnbuilt (are_by_pattern tests.now)) }
+    {
+        let node = match tests.parts() {
+            TestParts::One(test) => Node::One(test_code(alloc, test)?),
+            TestParts::Joined(join, left, right) => {
+                let left = Box::new(alloc, TestsCode::build(alloc, left)?)?;
+                let right = Box::new(alloc, TestsCode::build(alloc, right)?)?;
+                Node::Joined(join, left, right)
+            }
+        };
+        Ok(TestsCode { node })
+    }
+}

@@ -1,0 +1,98 @@
+-- What is printed of a test by quantity is derived.
+use Rattle.std.proofs.Common.{◌≡◌, ℕ, ◌==◌, ◌+◌, Bool, true, false, cond, not, List, [], ◌∷◌, ◌++◌, Some, refl, sym, ap, subst, arith, append_assoc}
+use Rattle.std.specs.List.{prefix_len}
+use Rattle.std.specs.Option.{option_map}
+use Rattle.std.specs.Char.{is_ascii_digit}
+use Rattle.std.proofs.lemmas.Bool.{and_parts, cond-false}
+use Rattle.std.proofs.lemmas.Bool.Decides.{nat_tests}
+use Rattle.rl_labels.specs.Name.{is_name, is_name_byte}
+use Rattle.rl_query.specs.declared.quantity_test.Comparison.{Comparison}
+use Rattle.rl_query.specs.declared.quantity_test.Comparison.TheVariants as comparisons
+use Rattle.rl_query.specs.declared.token.Lexeme.{Lexeme}
+use Rattle.rl_query.specs.declared.token.Sign.TheVariants as signs
+use Rattle.rl_query.specs.declared.token.Token.{Token}
+use Rattle.rl_query.specs.declared.token.Token.TheVariants as tokens
+use Rattle.rl_query.specs.Form.{QuantityForm, by_quantity}
+use Rattle.rl_query.specs.Lexing.{is_number_byte, token_at, or_bad, or_else}
+use Rattle.rl_query.specs.Limits.{is_taken}
+use Rattle.rl_query.specs.Quantities.{quantity_text}
+use Rattle.rl_query.specs.Standing.{Stand}
+use Rattle.rl_query.specs.Tables.{sign_text, comparison_of, comparison_sign}
+use Rattle.rl_query.specs.TestGrammar.{IsQuantityTest, is_test}
+use Rattle.rl_query.specs.TestPrinting.{quantity_test_text}
+use Rattle.rl_query.proofs.Printed.{Lexes, lexes_then, token_lexes, word_lexes, number_lexes}
+use Rattle.rl_query.proofs.QuantityTokens.{quantity_number, quantity_again}
+
+abbrev pub quantity_tokens : QuantityForm → List Token
+quantity_tokens test = tokens.Word test.name ∷ tokens.Sign (comparison_sign test.comparison) ∷ tokens.Number (quantity_text test.quantity) ∷ []
+
+-- what a number does not go on with, a name does not either
+pub name_stops : (rest : List ℕ) → prefix_len is_number_byte rest ≡ 0 → prefix_len is_name_byte rest ≡ 0
+name_stops [] stop = refl
+name_stops (b ∷ rest) stop = by_test (is_number_byte b) refl stop
+  where
+    no_name : (b : ℕ) → is_number_byte b ≡ false → is_name_byte b ≡ false
+    no_name b h = grind (arith, nat_tests)
+
+    by_test : (t : Bool) → is_number_byte b ≡ t → cond t (1 + prefix_len is_number_byte rest) 0 ≡ 0 → prefix_len is_name_byte (b ∷ rest) ≡ 0
+    by_test true is stop = absurd (omega (arith, stop))
+    by_test false is stop = cond-false (is_name_byte b) _ _ (no_name b is)
+
+no_equal : (d : ℕ) → is_ascii_digit d ≡ true → (d == 61) ≡ false
+no_equal d h = grind (arith, nat_tests)
+
+-- a comparison before a digit
+comparison_lexes : (c : Comparison) (d : ℕ) (rest : List ℕ) → is_ascii_digit d ≡ true → Lexes (tokens.Sign (comparison_sign c) ∷ []) (sign_text (comparison_sign c) ++ d ∷ rest) (d ∷ rest)
+unfolding token_at
+comparison_lexes comparisons.Equal d rest digit = token_lexes (tokens.Sign signs.EqualTo) 61 (61 ∷ d ∷ rest) (d ∷ rest) refl refl (omega arith)
+comparison_lexes comparisons.NotEqual d rest digit = token_lexes (tokens.Sign signs.NotEqual) 33 (61 ∷ d ∷ rest) (d ∷ rest) refl refl (omega arith)
+comparison_lexes comparisons.GreaterOrEqual d rest digit = token_lexes (tokens.Sign signs.GreaterOrEqual) 62 (61 ∷ d ∷ rest) (d ∷ rest) refl refl (omega arith)
+comparison_lexes comparisons.LessOrEqual d rest digit = token_lexes (tokens.Sign signs.LessOrEqual) 60 (61 ∷ d ∷ rest) (d ∷ rest) refl refl (omega arith)
+comparison_lexes comparisons.Greater d rest digit =
+    token_lexes (tokens.Sign signs.Greater) 62 (d ∷ rest) (d ∷ rest) refl (ap (λ o. or_bad tokens.Sign (or_else (option_map (λ sign. (sign, rest)) o) (Some (signs.Greater, d ∷ rest)))) (cond-false (d == 61) _ _ (no_equal d digit))) (omega arith)
+comparison_lexes comparisons.Less d rest digit =
+    token_lexes (tokens.Sign signs.Less) 60 (d ∷ rest) (d ∷ rest) refl (ap (λ o. or_bad tokens.Sign (or_else (option_map (λ sign. (sign, rest)) o) (Some (signs.Less, d ∷ rest)))) (cond-false (d == 61) _ _ (no_equal d digit))) (omega arith)
+
+-- a name ends before a comparison
+comparison_ends : (c : Comparison) (rest : List ℕ) → prefix_len is_name_byte (sign_text (comparison_sign c) ++ rest) ≡ 0
+comparison_ends comparisons.Equal rest = refl
+comparison_ends comparisons.NotEqual rest = refl
+comparison_ends comparisons.Greater rest = refl
+comparison_ends comparisons.GreaterOrEqual rest = refl
+comparison_ends comparisons.Less rest = refl
+comparison_ends comparisons.LessOrEqual rest = refl
+
+pub quantity_test_lexes : (test : QuantityForm) (rest : List ℕ) → is_test (by_quantity test) ≡ true → prefix_len is_number_byte rest ≡ 0 → Lexes (quantity_tokens test) (quantity_test_text test ++ rest) rest
+quantity_test_lexes test rest proper stop =
+    let named = and_parts (is_name test.name) _ proper in
+    let free = and_parts (not (is_taken test.name)) _ named.1 in
+    let sign = sign_text (comparison_sign test.comparison) in
+    let text = quantity_text test.quantity in
+    let number = quantity_number test.quantity free.1 in
+    let behind : text ++ rest ≡ number.first ∷ (number.others ++ rest) = ap (λ t. t ++ rest) number.is in
+    subst (λ t. Lexes (quantity_tokens test) t rest) (sym (regrouped test.name sign text))
+    (lexes_then (tokens.Word test.name ∷ []) (tokens.Sign (comparison_sign test.comparison) ∷ tokens.Number text ∷ []) (test.name ++ (sign ++ (text ++ rest))) (sign ++ (text ++ rest)) rest (word_lexes test.name (sign ++ (text ++ rest)) named.0 (comparison_ends test.comparison (text ++ rest)))
+    (lexes_then (tokens.Sign (comparison_sign test.comparison) ∷ []) (tokens.Number text ∷ []) (sign ++ (text ++ rest)) (text ++ rest) rest
+    (subst (λ t. Lexes (tokens.Sign (comparison_sign test.comparison) ∷ []) (sign ++ t) t) (sym behind) (comparison_lexes test.comparison number.first (number.others ++ rest) number.digit))
+    (number_lexes text rest number.first number.others number.is number.digit number.bytes stop)))
+  where
+    regrouped : (name sign text : List ℕ) → (name ++ sign ++ text) ++ rest ≡ name ++ (sign ++ (text ++ rest))
+    regrouped name sign text = simp append_assoc
+
+comparison_again : (c : Comparison) → comparison_of (comparison_sign c) ≡ Some c
+comparison_again comparisons.Equal = refl
+comparison_again comparisons.NotEqual = refl
+comparison_again comparisons.Greater = refl
+comparison_again comparisons.GreaterOrEqual = refl
+comparison_again comparisons.Less = refl
+comparison_again comparisons.LessOrEqual = refl
+
+pub quantity_test_stands : (test : QuantityForm) (lexemes rest : List Lexeme) → is_test (by_quantity test) ≡ true → Stand (quantity_tokens test) lexemes rest → IsQuantityTest test lexemes rest
+quantity_test_stands test lexemes rest proper stand =
+    let named = and_parts (is_name test.name) _ proper in
+    let free = and_parts (not (is_taken test.name)) _ named.1 in
+    record { sign = comparison_sign test.comparison; number = quantity_text test.quantity; stand = stand; compares = comparison_again test.comparison; read = quantity_again test.quantity free.1; named = named.0; free = not_true (is_taken test.name) free.0 }
+  where
+    not_true : (b : Bool) → not b ≡ true → b ≡ false
+    not_true true h = sym h
+    not_true false h = refl

@@ -1,0 +1,228 @@
+-- The productions of stages: what is read is derived, and what is derived is read.
+use Rattle.rl_query.proofs.TestReadings.{tests_are_read}
+use Rattle.rl_query.proofs.TestProductions.{tests_derived}
+use Rattle.rl_query.proofs.StageStarts.{tests_start, chain_ends, Ends}
+use Rattle.rl_query.specs.Testing.{tests_at}
+use Rattle.rl_query.specs.TestGrammar.{IsEnd}
+use Rattle.rl_query.specs.Limits.{most_tests, most_depth, most_stages}
+use Rattle.rl_query.specs.Form.{by_tests, tests_of, label_tests, StageForm, by_filter, by_parser, parses, parsers_of}
+use Rattle.std.proofs.Common.{◌-◌, ◌≡◌, ⊎_elim, ℕ, zero, suc, ◌+◌, ◌≤◌, Bool, true, false, cond, ◌||◌, ◌&&◌, List, [], ◌∷◌, codes, length, Option, Some, None, is_some, Result, Ok, Err, refl, sym, ap, subst, ◌∙◌, arith}
+use Rattle.std.specs.Option.{option_map_or}
+use Rattle.std.proofs.lemmas.List.Sums.{sum_by-cons}
+use Rattle.rl_labels.specs.Name.{is_text}
+use Rattle.rl_labels.specs.laws.LabelLaws.{same_text}
+use Rattle.rl_plain.specs.Answers.{◌>>=◌}
+use Rattle.rl_query.specs.declared.fault.QueryFault.{QueryFault}
+use Rattle.rl_query.specs.declared.fault.QueryFault.TheVariants as faults
+use Rattle.rl_query.specs.declared.filter.LineOp.{LineOp}
+use Rattle.rl_query.specs.declared.stages.Parser.{Parser}
+use Rattle.rl_query.specs.declared.stages.Parser.TheVariants as parsers
+use Rattle.rl_query.specs.declared.token.Lexeme.{Lexeme}
+use Rattle.rl_query.specs.declared.token.Sign.TheVariants as signs
+use Rattle.rl_query.specs.declared.token.Token.{Token}
+use Rattle.rl_query.specs.declared.token.Token.TheVariants as tokens
+use Rattle.rl_query.specs.Standing.{Stand}
+use Rattle.rl_query.specs.Grammar.{filter_sign, IsStage, AreChained, AreStages}
+use Rattle.rl_query.specs.Fronts.{next, is_sign}
+use Rattle.rl_query.specs.Parsing.{filter_op, filter_at, begins_stage, stage_comes, parser_of, only_parser, tests_begin, tested_at, piped_at, stage_at, stages_at, stages_in}
+use Rattle.rl_query.specs.Printing.{parser_text}
+use Rattle.rl_query.proofs.Productions.{bind_ok, chosen, same_ok, no_err, stand_then, one_read, next_is, only_sign}
+use Rattle.rl_query.proofs.FilterProductions.{op_read, op_is, filter_read, filter_is}
+
+same_some : {A : Type 0} (x y : A) → ◌≡◌ {A = Option A} (Some x) (Some y) → x ≡ y
+same_some x y e = cc
+
+no_some : {A : Type 0} (y : A) → ◌≡◌ {A = Option A} None (Some y) → ⊥
+no_some y e = cc
+
+parser_read : (t : Token) (parser : Parser) → parser_of t ≡ Some parser → t ≡ tokens.Word (parser_text parser)
+parser_read (tokens.Word word) parser h =
+    ap tokens.Word
+    (⊎_elim
+    (λ json. same_text word (codes "json") json.0 ∙ ap parser_text (same_some parsers.Json parser json.1))
+    (λ other. ⊎_elim (λ logfmt. same_text word (codes "logfmt") logfmt.0 ∙ ap parser_text (same_some parsers.Logfmt parser logfmt.1)) (λ none. absurd (no_some parser none.1)) (chosen (is_text word (codes "logfmt")) _ _ (Some parser) other.1))
+    (chosen (is_text word (codes "json")) _ _ (Some parser) h))
+parser_read _ parser h = absurd (no_some parser h)
+
+parser_is : (parser : Parser) → parser_of (tokens.Word (parser_text parser)) ≡ Some parser
+parser_is parsers.Json = refl
+parser_is parsers.Logfmt = refl
+
+only_read : (parsed : Bool) (named parser : Parser) → only_parser parsed named ≡ Ok parser → (parsed ≡ false) × (named ≡ parser)
+only_read true named parser h = absurd (no_err _ parser h)
+only_read false named parser h = (refl, same_ok named parser h)
+
+-- a stage, no parser where one was read before, and how many label tests may still come
+record IsNext (parsed : Bool) (left : ℕ) (lexemes : List Lexeme) (read : StageForm × ℕ × List Lexeme) : Type 0 where
+  pub is : IsStage read.0 lexemes read.2
+  pub only : parsed && parses read.0 ≡ false
+  pub counts : tests_of read.0 + read.1 ≡ left
+
+and_no : (b : Bool) → b && false ≡ false
+and_no true = refl
+and_no false = refl
+
+tested_read : (parsed : Bool) (left : ℕ) (lexemes behind : List Lexeme) (read : StageForm × ℕ × List Lexeme) → Stand (tokens.Sign signs.Pipe ∷ []) lexemes behind → tested_at left behind ≡ Ok read → IsNext parsed left lexemes read
+unfolding tested_at
+tested_read parsed left lexemes behind read pipe h =
+    let a = bind_ok (next behind) _ read h in
+    let b = bind_ok (tests_begin a.0.0.place a.0.0.token a.0.1) _ read a.2 in
+    let c = bind_ok (tests_at most_depth left behind) _ read b.2 in
+    let tests = tests_derived most_depth left behind c.0.0 c.0.1 c.0.2 c.1 in
+    let whole : IsNext parsed left lexemes (by_tests c.0.0, c.0.1, c.0.2) = record { is = record { behind = behind; pipe = pipe; are = tests.0 }; only = and_no parsed; counts = tests.1 } in
+    subst (IsNext parsed left lexemes) (same_ok _ _ c.2) whole
+
+piped_read : (parsed : Bool) (left : ℕ) (lexemes behind : List Lexeme) (read : StageForm × ℕ × List Lexeme) → Stand (tokens.Sign signs.Pipe ∷ []) lexemes behind → piped_at parsed left behind ≡ Ok read → IsNext parsed left lexemes read
+unfolding piped_at
+piped_read parsed left lexemes behind read pipe h =
+    let a = bind_ok (next behind) _ read h in
+    by_parser_of a.0.0 a.0.1 a.1 (parser_of a.0.0.token) refl a.2
+  where
+    parsed_as : List Lexeme → Parser → Result (StageForm × ℕ × List Lexeme) QueryFault
+    parsed_as after parser = only_parser parsed parser >>= λ only. Ok (by_parser only, left, after)
+
+    by_parser_of : (first : Lexeme) (after : List Lexeme) → next behind ≡ Ok (first, after) → (o : Option Parser) → parser_of first.token ≡ o → option_map_or (parsed_as after) o (tested_at left behind) ≡ Ok read → IsNext parsed left lexemes read
+    by_parser_of first after n None is h = tested_read parsed left lexemes behind read pipe h
+    by_parser_of first after n (Some parser) is h =
+        let b = bind_ok (only_parser parsed parser) _ read h in
+        let only = only_read parsed parser b.0 b.1 in
+        let word = one_read (tokens.Word (parser_text b.0)) behind after first n (parser_read first.token parser is ∙ ap (λ p. tokens.Word (parser_text p)) only.1) in
+        let whole : IsNext parsed left lexemes (by_parser b.0, left, after) = record { is = stand_then (tokens.Sign signs.Pipe ∷ []) (tokens.Word (parser_text b.0) ∷ []) lexemes behind after pipe word; only = ap (λ b. b && true) only.0; counts = omega arith } in
+        subst (IsNext parsed left lexemes) (same_ok _ _ b.2) whole
+
+stage_read : (parsed : Bool) (left : ℕ) (lexemes : List Lexeme) (read : StageForm × ℕ × List Lexeme) → stage_comes lexemes ≡ Ok true → stage_at parsed left lexemes ≡ Ok read → IsNext parsed left lexemes read
+unfolding stage_at
+stage_read parsed left lexemes read comes h =
+    let a = bind_ok (next lexemes) _ read h in
+    let begins : begins_stage a.0.0.token ≡ true = same_ok _ _ (sym (ap (λ r. r >>= λ first. Ok (begins_stage first.0.token)) a.1) ∙ comes) in
+    by_op a.0.0 a.0.1 a.1 (filter_op a.0.0.token) refl begins a.2
+  where
+    filtered : List Lexeme → LineOp → Result (StageForm × ℕ × List Lexeme) QueryFault
+    filtered behind op = filter_at op behind >>= λ filter. Ok (by_filter filter.0, left, filter.1)
+
+    by_op : (first : Lexeme) (behind : List Lexeme) → next lexemes ≡ Ok (first, behind) → (o : Option LineOp) → filter_op first.token ≡ o → is_some o || is_sign signs.Pipe first.token ≡ true
+        → option_map_or (filtered behind) o (piped_at parsed left behind) ≡ Ok read → IsNext parsed left lexemes read
+    by_op first behind n (Some op) is begins h =
+        let b = bind_ok (filter_at op behind) _ read h in
+        let one = filter_read op behind b.0.0 b.0.1 b.1 in
+        let sign = one_read (tokens.Sign (filter_sign b.0.0.op)) lexemes behind first n (op_read first.token op is ∙ ap (λ o. tokens.Sign (filter_sign o)) one.op_is) in
+        let whole : IsNext parsed left lexemes (by_filter b.0.0, left, b.0.1) = record { is = (stand_then (tokens.Sign (filter_sign b.0.0.op) ∷ []) (tokens.Text b.0.0.text ∷ []) lexemes behind b.0.1 sign one.stand, one.proper); only = and_no parsed; counts = omega arith } in
+        subst (IsNext parsed left lexemes) (same_ok _ _ b.2) whole
+    by_op first behind n None is begins h = piped_read parsed left lexemes behind read (one_read (tokens.Sign signs.Pipe) lexemes behind first n (only_sign signs.Pipe first.token begins)) h
+
+-- a stage is read where one comes
+record IsTaken (parsed : Bool) (left : ℕ) (stage : StageForm) (fewer : ℕ) (lexemes rest : List Lexeme) : Type 0 where
+  pub comes : stage_comes lexemes ≡ Ok true
+  pub read : stage_at parsed left lexemes ≡ Ok (stage, fewer, rest)
+
+stage_is : (parsed : Bool) (left : ℕ) (stage : StageForm) (fewer : ℕ) (lexemes rest : List Lexeme) → IsStage stage lexemes rest → IsEnd rest → parsed && parses stage ≡ false → tests_of stage + fewer ≡ left → IsTaken parsed left stage fewer lexemes rest
+unfolding stage_at piped_at tested_at
+stage_is parsed left (by_filter f) fewer lexemes rest is end only counts =
+    let a = next_is (tokens.Sign (filter_sign f.op)) (tokens.Text f.text ∷ []) lexemes rest is.0 in
+    let same : left ≡ fewer = omega (arith, counts) in
+    record { comes = rw (a.is, op_is f.op) refl; read = rw (a.is, op_is f.op, filter_is f a.behind rest a.more is.1, same) refl }
+stage_is true left (by_parser parser) fewer lexemes rest is end only counts = cc
+stage_is false left (by_parser parser) fewer lexemes rest is end only counts =
+    let a = next_is (tokens.Sign signs.Pipe) (tokens.Word (parser_text parser) ∷ []) lexemes rest is in
+    let b = next_is (tokens.Word (parser_text parser)) [] a.behind rest a.more in
+    let same : left ≡ fewer = omega (arith, counts) in
+    record { comes = rw a.is refl; read = rw (a.is, b.is, parser_is parser, b.more, same) refl }
+stage_is parsed left (by_tests tests) fewer lexemes rest is end only counts =
+    let a = next_is (tokens.Sign signs.Pipe) [] lexemes is.behind is.pipe in
+    let starts = tests_start most_depth tests is.behind rest is.are in
+    record { comes = rw a.is refl; read = rw (a.is, a.more, starts.is, starts.no_parser, starts.begin, tests_are_read most_depth left is.behind tests fewer rest is.are end counts) refl }
+
+-- stages, at most so many, and a parser only where none was read before
+record AreUpTo (parsed : Bool) (left most : ℕ) (stages : List StageForm) (lexemes rest : List Lexeme) : Type 0 where
+  pub chained : AreChained stages lexemes rest
+  pub few : length stages ≤ most
+  pub one_parser : cond parsed 1 0 + parsers_of stages ≤ 1
+  pub few_tests : label_tests stages ≤ left
+
+none_read : (parsed : Bool) (left most : ℕ) (lexemes : List Lexeme) (stages : List StageForm) (rest : List Lexeme) → ◌≡◌ {A = Result (List StageForm × List Lexeme) QueryFault} (Ok ([], lexemes)) (Ok (stages, rest)) → AreUpTo parsed left most stages lexemes rest
+none_read parsed left most lexemes stages rest h =
+    let whole : AreUpTo parsed left most [] lexemes lexemes = record { chained = refl; few = omega arith; one_parser = small parsed; few_tests = omega arith } in
+    subst (λ (p : List StageForm × List Lexeme). AreUpTo parsed left most p.0 lexemes p.1) (same_ok _ _ h) whole
+  where
+    small : (b : Bool) → cond b 1 0 + 0 ≤ 1
+    small true = omega arith
+    small false = omega arith
+
+-- the parsers of a stage and of those behind it
+parsers_more : (stage : StageForm) (stages : List StageForm) → parsers_of (stage ∷ stages) ≡ cond (parses stage) 1 0 + parsers_of stages
+parsers_more stage stages = sum_by-cons (λ s. cond (parses s) 1 0) stage stages
+
+tests_more : (stage : StageForm) (stages : List StageForm) → label_tests (stage ∷ stages) ≡ tests_of stage + label_tests stages
+tests_more stage stages = sum_by-cons tests_of stage stages
+
+together : (parsed : Bool) (stage : StageForm) (stages : List StageForm) → parsed && parses stage ≡ false → cond (parsed || parses stage) 1 0 + parsers_of stages ≤ 1 → cond parsed 1 0 + parsers_of (stage ∷ stages) ≤ 1
+together parsed stage stages only h = by_tests parsed (parses stage) (parsers_of stages) (parsers_of (stage ∷ stages)) (parsers_more stage stages) only h
+  where
+    by_tests : (before this : Bool) (n all : ℕ) → all ≡ cond this 1 0 + n → before && this ≡ false → cond (before || this) 1 0 + n ≤ 1 → cond before 1 0 + all ≤ 1
+    by_tests true true n all is only h = cc
+    by_tests true false n all is only h = omega (arith, is, h)
+    by_tests false true n all is only h = omega (arith, is, h)
+    by_tests false false n all is only h = omega (arith, is, h)
+
+apart : (parsed : Bool) (stage : StageForm) (stages : List StageForm) → cond parsed 1 0 + parsers_of (stage ∷ stages) ≤ 1 → (parsed && parses stage ≡ false) × (cond (parsed || parses stage) 1 0 + parsers_of stages ≤ 1)
+apart parsed stage stages h = by_tests parsed (parses stage) (parsers_of stages) (parsers_of (stage ∷ stages)) (parsers_more stage stages) h
+  where
+    by_tests : (before this : Bool) (n all : ℕ) → all ≡ cond this 1 0 + n → cond before 1 0 + all ≤ 1 → (before && this ≡ false) × (cond (before || this) 1 0 + n ≤ 1)
+    by_tests true true n all is h = absurd (omega (arith, is, h))
+    by_tests true false n all is h = (refl, omega (arith, is, h))
+    by_tests false true n all is h = (refl, omega (arith, is, h))
+    by_tests false false n all is h = (refl, omega (arith, is, h))
+
+stages_read : (parsed : Bool) (left most : ℕ) (lexemes : List Lexeme) (stages : List StageForm) (rest : List Lexeme) → stages_at parsed left most lexemes ≡ Ok (stages, rest) → AreUpTo parsed left most stages lexemes rest
+unfolding stages_at
+stages_read parsed left zero lexemes stages rest h =
+    let a = bind_ok (stage_comes lexemes) _ (stages, rest) h in
+    by_test a.0 a.2
+  where
+    by_test : (more : Bool) → cond {A = Result (List StageForm × List Lexeme) QueryFault} more (Err faults.TooDeep) (Ok ([], lexemes)) ≡ Ok (stages, rest) → AreUpTo parsed left zero stages lexemes rest
+    by_test true h = absurd (no_err _ (stages, rest) h)
+    by_test false h = none_read parsed left zero lexemes stages rest h
+stages_read parsed left (suc most) lexemes stages rest h =
+    let a = bind_ok (stage_comes lexemes) _ (stages, rest) h in
+    by_test a.0 a.1 a.2 (λ before fewer behind others end read. stages_read before fewer most behind others end read)
+  where
+    reading : Result (List StageForm × List Lexeme) QueryFault
+    reading = stage_at parsed left lexemes >>= λ stage. stages_at (parsed || parses stage.0) stage.1 most stage.2 >>= λ others. Ok (stage.0 ∷ others.0, others.1)
+
+    by_test : (more : Bool) → stage_comes lexemes ≡ Ok more → cond more reading (Ok ([], lexemes)) ≡ Ok (stages, rest)
+        → ((before : Bool) (fewer : ℕ) (behind : List Lexeme) (others : List StageForm) (end : List Lexeme) → stages_at before fewer most behind ≡ Ok (others, end) → AreUpTo before fewer most others behind end) → AreUpTo parsed left (suc most) stages lexemes rest
+    by_test false comes h inner = none_read parsed left (suc most) lexemes stages rest h
+    by_test true comes h inner =
+        let b = bind_ok (stage_at parsed left lexemes) _ (stages, rest) h in
+        let c = bind_ok (stages_at (parsed || parses b.0.0) b.0.1 most b.0.2) _ (stages, rest) b.2 in
+        let one = stage_read parsed left lexemes b.0 comes b.1 in
+        let more = inner (parsed || parses b.0.0) b.0.1 b.0.2 c.0.0 c.0.1 c.1 in
+        let whole : AreUpTo parsed left (suc most) (b.0.0 ∷ c.0.0) lexemes c.0.1 = record { chained = (b.0.2, one.is, more.chained); few = omega (arith, more.few); one_parser = together parsed b.0.0 c.0.0 one.only more.one_parser; few_tests = omega (arith, more.few_tests, one.counts, tests_more b.0.0 c.0.0) } in
+        subst (λ (p : List StageForm × List Lexeme). AreUpTo parsed left (suc most) p.0 lexemes p.1) (same_ok _ _ c.2) whole
+
+stages_are : (parsed : Bool) (left most : ℕ) (stages : List StageForm) (lexemes rest : List Lexeme) → AreUpTo parsed left most stages lexemes rest → Ends rest → stages_at parsed left most lexemes ≡ Ok (stages, rest)
+unfolding stages_at
+stages_are parsed left zero [] lexemes rest are ends = rw (are.chained, ends.comes) refl
+stages_are parsed left (suc most) [] lexemes rest are ends = rw (are.chained, ends.comes) refl
+stages_are parsed left zero (s ∷ stages) lexemes rest are ends = absurd (omega (arith, are.few))
+stages_are parsed left (suc most) (s ∷ stages) lexemes rest are ends =
+    let counts = apart parsed s stages are.one_parser in
+    let fewer = left - tests_of s in
+    let one = stage_is parsed left s fewer lexemes are.chained.0 are.chained.1 (chain_ends stages are.chained.0 rest are.chained.2 ends.end) counts.0 (omega (arith, are.few_tests, tests_more s stages)) in
+    let more : AreUpTo (parsed || parses s) fewer most stages are.chained.0 rest = record { chained = are.chained.2; few = omega (arith, are.few); one_parser = counts.1; few_tests = omega (arith, are.few_tests, tests_more s stages) } in
+    rw (one.comes, one.read, stages_are (parsed || parses s) fewer most stages are.chained.0 rest more ends) refl
+
+-- stages where each pattern has room
+pub stages_derived : (lexemes : List Lexeme) (stages : List StageForm) (rest : List Lexeme) → stages_in false lexemes ≡ Ok (stages, rest) → AreStages stages lexemes rest
+unfolding stages_in
+stages_derived lexemes stages rest h =
+    let a = bind_ok (stages_at false most_tests most_stages lexemes) _ (stages, rest) h in
+    let are = stages_read false most_tests most_stages lexemes a.0.0 a.0.1 a.1 in
+    let whole : AreStages a.0.0 lexemes a.0.1 = record { chained = are.chained; few = are.few; one_parser = omega (arith, are.one_parser); few_tests = are.few_tests } in
+    subst (λ (p : List StageForm × List Lexeme). AreStages p.0 lexemes p.1) (same_ok _ _ a.2) whole
+
+pub stages_are_read : (stages : List StageForm) (lexemes rest : List Lexeme) → AreStages stages lexemes rest → Ends rest → stages_in false lexemes ≡ Ok (stages, rest)
+unfolding stages_in
+stages_are_read stages lexemes rest are stops =
+    let up_to : AreUpTo false most_tests most_stages stages lexemes rest = record { chained = are.chained; few = are.few; one_parser = omega (arith, are.one_parser); few_tests = are.few_tests } in
+    rw (stages_are false most_tests most_stages stages lexemes rest up_to stops) refl
