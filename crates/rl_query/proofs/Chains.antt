@@ -24,9 +24,9 @@ abbrev pub AreJoined : Join → Reader → (most : ℕ) → TestTree TestForm �
 AreJoined join part most tests left lexemes whole = others_at join part most tests left lexemes ≡ whole
 
 pub first_part : (join : Join) (part : Reader) (left : ℕ) (lexemes : List Lexeme) (tests : TestTree TestForm) (fewer : ℕ) (rest : List Lexeme) → part left lexemes ≡ Ok (tests, fewer, rest)
-    → AreJoined join part (length lexemes - 0) tests fewer rest (joined_at join part left lexemes)
+    → AreJoined join part (left - 0) tests fewer rest (joined_at join part left lexemes)
 unfolding joined_at
-first_part join part left lexemes tests fewer rest h = let k : length lexemes - 0 ≡ length lexemes = omega arith in rw (h, k) refl
+first_part join part left lexemes tests fewer rest h = let k : left - 0 ≡ left = omega arith in rw (h, k) refl
 
 pub first_fails : (e : OrMemory QueryFault) (join : Join) (part : Reader) (left : ℕ) (lexemes : List Lexeme) → Fails e (part left lexemes) → Fails e (joined_at join part left lexemes)
 unfolding joined_at

@@ -23,10 +23,11 @@ use Rattle.rl_query.specs.Durations.{duration_from, duration_of}
 use Rattle.rl_query.specs.Form.{MatcherForm, FilterForm}
 use Rattle.rl_query.specs.Standing.{Stand, operator_sign, is_matcher, matcher_tokens}
 use Rattle.rl_query.specs.Grammar.{matchers_tokens, filter_sign, filter_tokens, filters_tokens}
-use Rattle.rl_query.specs.Lexing.{is_space, is_number_byte, gap_len, run_at, onto, quoted, or_bad, or_else, sign_at, token_at, lexemes_in}
+use Rattle.rl_query.specs.Lexing.{is_space, is_number_byte, gap_len, run_at, onto, quoted, or_bad, or_else, sign_at, token_at, lexemes_in, lexemes_of}
 use Rattle.rl_query.specs.MatcherPrinting.{operator_text, matcher_text}
 use Rattle.rl_query.specs.Printing.{filter_op_text, filter_print, filters_text}
 use Rattle.rl_plain.specs.Escapes.{escaped}
+use Rattle.rl_query.specs.TestGrammar.{ended}
 use Rattle.rl_query.specs.Tables.{one_byte, two_bytes, escapes}
 use Rattle.rl_query.proofs.Productions.{stand_then}
 
@@ -161,17 +162,25 @@ operator_ends : (op : MatchOp) (rest : List ℕ) → prefix_len is_name_byte (op
 operator_ends operators.Equal rest = refl
 operator_ends _ rest = refl
 
+-- a name, a sign and a value, printed one behind the other
+pub row_lexes : (name sign value : List ℕ) (op : Sign) (content : Token) (rest : List ℕ) → is_name name ≡ true → prefix_len is_name_byte (sign ++ (value ++ rest)) ≡ 0 → Lexes (tokens.Sign op ∷ []) (sign ++ (value ++ rest)) (value ++ rest) → Lexes (content ∷ []) (value ++ rest) rest
+    → Lexes (tokens.Word name ∷ tokens.Sign op ∷ content ∷ []) ((name ++ sign ++ value) ++ rest) rest
+row_lexes name sign value op content rest named ends first second =
+    subst (λ text. Lexes (tokens.Word name ∷ tokens.Sign op ∷ content ∷ []) text rest) (sym regrouped)
+    (lexes_then (tokens.Word name ∷ []) (tokens.Sign op ∷ content ∷ []) (name ++ (sign ++ (value ++ rest))) (sign ++ (value ++ rest)) rest (word_lexes name (sign ++ (value ++ rest)) named ends) (lexes_then (tokens.Sign op ∷ []) (content ∷ []) (sign ++ (value ++ rest)) (value ++ rest) rest first second))
+  where
+    regrouped : (name ++ sign ++ value) ++ rest ≡ name ++ (sign ++ (value ++ rest))
+    regrouped = simp append_assoc
+
 pub matcher_lexes : (m : MatcherForm) (rest : List ℕ) → is_matcher m ≡ true → Lexes (matcher_tokens m) (matcher_text m ++ rest) rest
 matcher_lexes m rest proper =
-    let named = (and_parts (is_name m.name) _ proper).0 in
-    let sign = operator_text m.op in
-    let value = 34 ∷ (escaped escapes m.value ++ 34 ∷ rest) in
-    subst (λ text. Lexes (matcher_tokens m) text rest) (sym (regrouped m.name sign m.value))
-    (lexes_then (tokens.Word m.name ∷ []) (tokens.Sign (operator_sign m.op) ∷ tokens.Text m.value ∷ []) (m.name ++ (sign ++ value)) (sign ++ value) rest (word_lexes m.name (sign ++ value) named (operator_ends m.op value))
-    (lexes_then (tokens.Sign (operator_sign m.op) ∷ []) (tokens.Text m.value ∷ []) (sign ++ value) value rest (operator_lexes m.op (escaped escapes m.value ++ 34 ∷ rest)) (text_lexes m.value rest)))
+    let value = escaped escapes m.value ++ 34 ∷ [] in
+    let text = subst (λ t. Lexes (tokens.Text m.value ∷ []) (34 ∷ t) rest) (sym (append_assoc (escaped escapes m.value) (34 ∷ []) rest)) (text_lexes m.value rest) in
+    subst (λ t. Lexes (matcher_tokens m) t rest) (regrouped (m.name ++ operator_text m.op) (escaped escapes m.value))
+    (row_lexes m.name (operator_text m.op) (34 ∷ value) (operator_sign m.op) (tokens.Text m.value) rest (and_parts (is_name m.name) _ proper).0 (operator_ends m.op (34 ∷ (value ++ rest))) (operator_lexes m.op (value ++ rest)) text)
   where
-    regrouped : (name sign value : List ℕ) → (name ++ sign ++ (34 ∷ []) ++ escaped escapes value ++ (34 ∷ [])) ++ rest ≡ name ++ (sign ++ (34 ∷ (escaped escapes value ++ 34 ∷ rest)))
-    regrouped name sign value = simp append_assoc
+    regrouped : (front value : List ℕ) → (front ++ (34 ∷ (value ++ 34 ∷ []))) ++ rest ≡ (front ++ (34 ∷ []) ++ value ++ (34 ∷ [])) ++ rest
+    regrouped front value = simp append_assoc
 
 abbrev pub others_text : List MatcherForm → List ℕ
 others_text = flat_map (λ other. 44 ∷ 32 ∷ matcher_text other)
@@ -272,6 +281,13 @@ pub end_left : (most total : ℕ) → lexemes_in most total [] ≡ record { toke
 unfolding lexemes_in
 end_left zero total = refl
 end_left (suc most) total = refl
+
+-- what is printed as tokens is read as these, up to the end
+pub all_stand : (ts : List Token) (text : List ℕ) → Lexes ts text [] → Stand ts (lexemes_of text) (ended text)
+all_stand ts text lexes =
+    let left = length text - length ts in
+    let fuel : length ts + left ≡ length text = omega (arith, lexes.shorter) in
+    subst (λ k. Stand ts (lexemes_in k (length text) text) (ended text)) fuel (subst (λ ls. Stand ts (lexemes_in (length ts + left) (length text) text) ls) (end_left left (length text)) (lexes.stand (length text) left))
 
 -- a line filter's sign before a space
 sign_lexes : (op : LineOp) (rest : List ℕ) → Lexes (tokens.Sign (filter_sign op) ∷ []) (filter_op_text op ++ 32 ∷ rest) (32 ∷ rest)

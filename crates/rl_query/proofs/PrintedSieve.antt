@@ -1,5 +1,5 @@
 -- What is printed of a sieve is derived.
-use Rattle.std.proofs.Common.{◌≡◌, ℕ, ◌+◌, ◌-◌, ◌≤◌, true, List, [], ◌∷◌, ◌++◌, length, refl, sym, subst, arith, append_assoc, append-nil}
+use Rattle.std.proofs.Common.{◌≡◌, ℕ, ◌≤◌, true, List, [], ◌∷◌, ◌++◌, length, refl, sym, subst, append_assoc, append-nil}
 use Rattle.std.specs.List.{list_all}
 use Rattle.std.proofs.lemmas.Bool.{true≢false}
 use Rattle.rl_query.specs.declared.token.Sign.TheVariants as signs
@@ -7,11 +7,13 @@ use Rattle.rl_query.specs.declared.token.Token.TheVariants as tokens
 use Rattle.rl_query.specs.Form.{MatcherForm, FilterForm, SieveForm, has_real_form}
 use Rattle.rl_query.specs.Standing.{Stand, is_matcher}
 use Rattle.rl_query.specs.Grammar.{matchers_tokens, filters_tokens, DerivesSieve}
-use Rattle.rl_query.specs.Lexing.{lexemes_in}
+use Rattle.rl_query.specs.Lexing.{lexemes_of}
 use Rattle.rl_query.specs.Limits.{is_filter, most_stages}
 use Rattle.rl_query.specs.MatcherPrinting.{matcher_text}
 use Rattle.rl_query.specs.Printing.{filters_text, sieve_text}
-use Rattle.rl_query.proofs.Printed.{others_text, selector_lexes, filters_lexes, end_left}
+use Rattle.rl_query.proofs.Printed.{others_text, lexes_then, selector_lexes, filters_lexes, all_stand}
+use Rattle.rl_query.proofs.Productions.{stand_split}
+use Rattle.rl_query.specs.TestGrammar.{ended}
 
 -- what a form keeps of a sieve's limits
 pub record KeepsSieve (sieve : SieveForm) : Type 0 where
@@ -38,20 +40,15 @@ sieve_printed sieve keeps = by_matchers sieve.matchers keeps.matchers keeps.real
     by_matchers (m ∷ ms) matchers real =
         let filters = filters_text fs ++ [] in
         let text = 123 ∷ (matcher_text m ++ (others_text ms ++ 125 ∷ filters)) in
-        let total = length text in
-        let selector = selector_lexes m ms filters matchers in
-        let behind = filters_lexes fs [] in
-        let count = length (tokens.Sign signs.OpenBrace ∷ matchers_tokens (m ∷ ms)) in
-        let left = total - (count + (length (filters_tokens fs) + 0)) in
-        let fuel : count + (length (filters_tokens fs) + left) ≡ total = omega (arith, selector.shorter, behind.shorter) in
-        let start = subst (λ k. Stand (tokens.Sign signs.OpenBrace ∷ matchers_tokens (m ∷ ms)) (lexemes_in k total text) (lexemes_in (length (filters_tokens fs) + left) total filters)) fuel (selector.stand total (length (filters_tokens fs) + left)) in
-        let end : Stand (tokens.End ∷ []) (lexemes_in left total []) [] = subst (λ ls. Stand (tokens.End ∷ []) ls []) (sym (end_left left total)) (refl, refl) in
+        let front = tokens.Sign signs.OpenBrace ∷ matchers_tokens (m ∷ ms) in
+        let lexes = lexes_then front (filters_tokens fs) text filters [] (selector_lexes m ms filters matchers) (filters_lexes fs []) in
+        let split = stand_split front (filters_tokens fs) (lexemes_of text) (ended text) (all_stand (front ++ filters_tokens fs) text lexes) in
         subst (λ t. DerivesSieve t (form (m ∷ ms))) (sym (regrouped (matcher_text m) (others_text ms) (filters_text fs)))
         (record {
-          behind_selector = lexemes_in (length (filters_tokens fs) + left) total filters;
-          behind_filters = lexemes_in left total [];
+          behind_selector = split.0;
+          behind_filters = ended text;
           rest = [];
-          selector = record { stand = start; proper = matchers; real = real };
-          filters = record { stand = behind.stand total left; proper = keeps.proper; few = keeps.few };
-          end = end;
+          selector = record { stand = split.1; proper = matchers; real = real };
+          filters = record { stand = split.2; proper = keeps.proper; few = keeps.few };
+          end = (refl, refl);
         })

@@ -1,6 +1,7 @@
 -- The productions of selectors: what is read is derived, and what is derived is read.
-use Rattle.std.proofs.Common.{◌≡◌, inl, inr, ◌⊎◌, ⊎_elim, ℕ, zero, suc, ◌≤◌, Bool, true, false, cond, not, ◌&&◌, List, [], ◌∷◌, ◌++◌, Option, Some, Result, Ok, Err, length, refl, sym, ap, subst, ◌∙◌, arith}
+use Rattle.std.proofs.Common.{◌≡◌, inl, inr, ◌⊎◌, ⊎_elim, ℕ, zero, suc, ◌≤◌, Bool, true, false, cond, not, ◌&&◌, List, [], ◌∷◌, ◌++◌, Option, Some, None, Result, Ok, Err, length, refl, sym, ap, subst, ◌∙◌, arith}
 use Rattle.std.specs.List.{list_all}
+use Rattle.std.specs.Option.{option_map_or}
 use Rattle.std.proofs.lemmas.Bool.{true≢false, and_parts, and_from, cond-true, cond-false}
 use Rattle.rl_labels.specs.Name.{is_name, is_text}
 use Rattle.rl_labels.specs.Operators.{is_comparable}
@@ -20,7 +21,7 @@ use Rattle.rl_query.specs.Form.{MatcherForm, has_real_form}
 use Rattle.rl_query.specs.Standing.{Stand, operator_sign, is_matcher, matcher_tokens}
 use Rattle.rl_query.specs.Grammar.{matchers_tokens, IsSelector}
 use Rattle.rl_query.specs.Lexing.{sign_at}
-use Rattle.rl_query.specs.Fronts.{is_sign, next, refusal, expected, name_of, content_of, operator_of, checked_matcher, matcher_at}
+use Rattle.rl_query.specs.Fronts.{is_sign, next, refusal, expected, name_of, content_of, operator_of, checked_matcher, row_at, matcher_at}
 use Rattle.rl_query.specs.Parsing.{goes_on, element_at, matchers_at, some_matcher, real_matchers, selector_at}
 use Rattle.rl_query.specs.Tables.{sign_text}
 use Rattle.rl_plain.specs.Answers.{◌>>=◌}
@@ -32,6 +33,11 @@ bind_ok (Err e) f y h = cc
 pub chosen : {A : Type 0} (b : Bool) (x y z : A) → cond b x y ≡ z → ((b ≡ true) × (x ≡ z)) ⊎ ((b ≡ false) × (y ≡ z))
 chosen true x y z h = inl (refl, h)
 chosen false x y z h = inr (refl, h)
+
+-- an answer by what is there, or by nothing
+pub by_option : {A B : Type 0} (f : A → Result B QueryFault) (o : Option A) (d : Result B QueryFault) (y : B) → option_map_or f o d ≡ Ok y → ((o ≡ None) × (d ≡ Ok y)) ⊎ ((x : A) × (o ≡ Some x) × (f x ≡ Ok y))
+by_option f None d y h = inl (refl, h)
+by_option f (Some x) d y h = inr (x, refl, h)
 
 pub no_err : {B : Type 0} (e : QueryFault) (y : B) → Err e ≡ Ok y → ⊥
 no_err e y h = cc
@@ -119,9 +125,7 @@ operator_read place _ op h = absurd (no_err _ op h)
 
 operator_is : (place : ℕ) (op : MatchOp) → operator_of place (tokens.Sign (operator_sign op)) ≡ Ok op
 operator_is place operators.Equal = refl
-operator_is place operators.NotEqual = refl
-operator_is place operators.Matches = refl
-operator_is place operators.NotMatches = refl
+operator_is place _ = refl
 
 checked_read : (place : ℕ) (m made : MatcherForm) → checked_matcher place m ≡ Ok made → (is_matcher m ≡ true) × (m ≡ made)
 checked_read place m made h = by_tests (is_name m.name) (is_comparable m.op m.value) h
@@ -141,34 +145,52 @@ pub record IsMatcher (m : MatcherForm) (lexemes rest : List Lexeme) : Type 0 whe
   pub stand : Stand (matcher_tokens m) lexemes rest
   pub proper : is_matcher m ≡ true
 
+-- a row that was read: its tokens stood there, and each was read as what it is
+pub record IsRow {Op Value Made : Type 0} (op_of : ℕ → Token → Result Op QueryFault) (value_of : ℕ → Token → Result Value QueryFault) (made : ℕ → List ℕ → Op → Value → Result Made QueryFault) (whole : Made) (lexemes rest : List Lexeme) : Type 0 where
+  pub place : ℕ
+  pub name : List ℕ
+  pub sign : Lexeme
+  pub content : Lexeme
+  pub op : Op
+  pub value : Value
+  pub stand : Stand (tokens.Word name ∷ sign.token ∷ content.token ∷ []) lexemes rest
+  pub op_is : op_of sign.place sign.token ≡ Ok op
+  pub value_is : value_of content.place content.token ≡ Ok value
+  pub whole_is : made place name op value ≡ Ok whole
+
+pub row_read : {Op Value Made : Type 0} (op_of : ℕ → Token → Result Op QueryFault) (value_of : ℕ → Token → Result Value QueryFault) (made : ℕ → List ℕ → Op → Value → Result Made QueryFault) (whole : Made) (lexemes rest : List Lexeme) → row_at op_of value_of made lexemes ≡ Ok (whole, rest) → IsRow op_of value_of made whole lexemes rest
+row_read op_of value_of made whole [] rest h = absurd (no_err _ (whole, rest) h)
+row_read op_of value_of made whole (a ∷ []) rest h = absurd (no_err _ (whole, rest) (bind_ok (name_of a.place a.token) _ (whole, rest) h).2)
+row_read op_of value_of made whole (a ∷ b ∷ []) rest h = let n = bind_ok (name_of a.place a.token) _ (whole, rest) h in absurd (no_err _ (whole, rest) (bind_ok (op_of b.place b.token) _ (whole, rest) n.2).2)
+row_read {Op} {Value} {Made} op_of value_of made whole (a ∷ b ∷ c ∷ lexemes) rest h =
+    let n = bind_ok (name_of a.place a.token) _ (whole, rest) h in
+    let o = bind_ok (op_of b.place b.token) _ (whole, rest) n.2 in
+    let v = bind_ok (value_of c.place c.token) _ (whole, rest) o.2 in
+    let m = bind_ok (made a.place n.0 o.0 v.0) _ (whole, rest) v.2 in
+    let same : ◌≡◌ {A = Made × List Lexeme} (m.0, lexemes) (whole, rest) = same_ok _ _ m.2 in
+    record { place = a.place; name = n.0; sign = b; content = c; op = o.0; value = v.0; stand = (named a.place a.token n.0 n.1, (refl, (refl, ap (λ (p : Made × List Lexeme). p.1) same))); op_is = o.1; value_is = v.1; whole_is = m.1 ∙ ap (λ (p : Made × List Lexeme). Ok p.0) same }
+
+-- a row that stands is read to its end
+pub row_is : {Op Value Made : Type 0} (op_of : ℕ → Token → Result Op QueryFault) (value_of : ℕ → Token → Result Value QueryFault) (made : ℕ → List ℕ → Op → Value → Result Made QueryFault) (name : List ℕ) (sign content : Token) (op : Op) (value : Value) (whole : Made) (others : List Token) (lexemes rest : List Lexeme)
+    → Stand (tokens.Word name ∷ sign ∷ content ∷ others) lexemes rest → ((place : ℕ) → op_of place sign ≡ Ok op) → ((place : ℕ) → value_of place content ≡ Ok value) → ((place : ℕ) → made place name op value ≡ Ok whole) → (behind : List Lexeme) × (row_at op_of value_of made lexemes ≡ Ok (whole, behind)) × Stand others behind rest
+row_is op_of value_of made name sign content op value whole others [] rest stand op_is value_is whole_is = absurd stand
+row_is op_of value_of made name sign content op value whole others (a ∷ []) rest stand op_is value_is whole_is = absurd stand.1
+row_is op_of value_of made name sign content op value whole others (a ∷ b ∷ []) rest stand op_is value_is whole_is = absurd stand.1.1
+row_is op_of value_of made name sign content op value whole others (a ∷ b ∷ c ∷ lexemes) rest stand op_is value_is whole_is = (lexemes, rw (stand.0, stand.1.0, stand.1.1.0, op_is b.place, value_is c.place, whole_is a.place) refl, stand.1.1.1)
+
 pub matcher_read : (lexemes : List Lexeme) (m : MatcherForm) (rest : List Lexeme) → matcher_at lexemes ≡ Ok (m, rest) → IsMatcher m lexemes rest
 unfolding matcher_at
 matcher_read lexemes m rest h =
-    let a = bind_ok (next lexemes) _ (m, rest) h in
-    let b = bind_ok (name_of a.0.0.place a.0.0.token) _ (m, rest) a.2 in
-    let c = bind_ok (next a.0.1) _ (m, rest) b.2 in
-    let d = bind_ok (operator_of c.0.0.place c.0.0.token) _ (m, rest) c.2 in
-    let e = bind_ok (next c.0.1) _ (m, rest) d.2 in
-    let f = bind_ok (content_of e.0.0.place e.0.0.token) _ (m, rest) e.2 in
-    let read : MatcherForm = record { name = b.0; op = d.0; value = f.0 } in
-    let g = bind_ok (checked_matcher a.0.0.place read) _ (m, rest) f.2 in
-    let checked = checked_read a.0.0.place read g.0 g.1 in
-    let made : ◌≡◌ {A = MatcherForm × List Lexeme} (g.0, e.0.1) (m, rest) = same_ok _ _ g.2 in
-    let whole : IsMatcher read lexemes e.0.1 = record {
-      stand = stand_then (tokens.Word b.0 ∷ []) (tokens.Sign (operator_sign d.0) ∷ tokens.Text f.0 ∷ []) lexemes a.0.1 e.0.1 (one_read (tokens.Word b.0) lexemes a.0.1 a.0.0 a.1 (named a.0.0.place a.0.0.token b.0 b.1))
-          (stand_then (tokens.Sign (operator_sign d.0) ∷ []) (tokens.Text f.0 ∷ []) a.0.1 c.0.1 e.0.1 (one_read (tokens.Sign (operator_sign d.0)) a.0.1 c.0.1 c.0.0 c.1 (operator_read c.0.0.place c.0.0.token d.0 d.1))
-          (one_read (tokens.Text f.0) c.0.1 e.0.1 e.0.0 e.1 (content e.0.0.place e.0.0.token f.0 f.1)));
-      proper = checked.0;
-    } in
-    subst (λ (p : MatcherForm × List Lexeme). IsMatcher p.0 lexemes p.1) made (subst (λ x. IsMatcher x lexemes e.0.1) checked.1 whole)
+    let row = row_read operator_of content_of _ m lexemes rest h in
+    let sign = operator_read row.sign.place row.sign.token row.op row.op_is in
+    let text = content row.content.place row.content.token row.value row.value_is in
+    let read : MatcherForm = record { name = row.name; op = row.op; value = row.value } in
+    let checked = checked_read row.place read m row.whole_is in
+    subst (λ x. IsMatcher x lexemes rest) checked.1 (record { stand = subst (λ ts. Stand ts lexemes rest) (λ i. tokens.Word row.name ∷ sign i ∷ text i ∷ []) row.stand; proper = checked.0 })
 
 pub matcher_is : (others : List Token) (m : MatcherForm) (lexemes rest : List Lexeme) → Stand (matcher_tokens m ++ others) lexemes rest → is_matcher m ≡ true → (behind : List Lexeme) × (matcher_at lexemes ≡ Ok (m, behind)) × Stand others behind rest
 unfolding matcher_at
-matcher_is others m lexemes rest stand is =
-    let a = next_is (tokens.Word m.name) (tokens.Sign (operator_sign m.op) ∷ tokens.Text m.value ∷ others) lexemes rest stand in
-    let b = next_is (tokens.Sign (operator_sign m.op)) (tokens.Text m.value ∷ others) a.behind rest a.more in
-    let c = next_is (tokens.Text m.value) others b.behind rest b.more in
-    (c.behind, rw (a.is, b.is, operator_is b.place m.op, c.is, checked_is a.place m is) refl, c.more)
+matcher_is others m lexemes rest stand is = row_is operator_of content_of _ m.name (tokens.Sign (operator_sign m.op)) (tokens.Text m.value) m.op m.value m others lexemes rest stand (λ place. operator_is place m.op) (λ place. refl) (λ place. checked_is place m is)
 
 goes_on_read : (place : ℕ) (t : Token) (more : Bool) → goes_on place t ≡ Ok more → t ≡ tokens.Sign (cond more signs.Comma signs.CloseBrace)
 goes_on_read place t more h =

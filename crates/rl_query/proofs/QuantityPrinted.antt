@@ -8,23 +8,15 @@ use Rattle.std.proofs.lemmas.Bool.Decides.{nat_tests}
 use Rattle.rl_labels.specs.Name.{is_name, is_name_byte}
 use Rattle.rl_query.specs.declared.quantity_test.Comparison.{Comparison}
 use Rattle.rl_query.specs.declared.quantity_test.Comparison.TheVariants as comparisons
-use Rattle.rl_query.specs.declared.token.Lexeme.{Lexeme}
 use Rattle.rl_query.specs.declared.token.Sign.TheVariants as signs
-use Rattle.rl_query.specs.declared.token.Token.{Token}
 use Rattle.rl_query.specs.declared.token.Token.TheVariants as tokens
-use Rattle.rl_query.specs.Form.{QuantityForm, by_quantity}
+use Rattle.rl_query.specs.Form.{QuantityForm}
 use Rattle.rl_query.specs.Lexing.{is_number_byte, token_at, or_bad, or_else}
-use Rattle.rl_query.specs.Limits.{is_taken}
-use Rattle.rl_query.specs.Quantities.{quantity_text}
-use Rattle.rl_query.specs.Standing.{Stand}
+use Rattle.rl_query.specs.Quantities.{quantity_text, is_quantity}
 use Rattle.rl_query.specs.Tables.{sign_text, comparison_of, comparison_sign}
-use Rattle.rl_query.specs.TestGrammar.{IsQuantityTest, is_test}
 use Rattle.rl_query.specs.TestPrinting.{quantity_test_text}
-use Rattle.rl_query.proofs.Printed.{Lexes, lexes_then, token_lexes, word_lexes, number_lexes}
-use Rattle.rl_query.proofs.QuantityTokens.{quantity_number, quantity_again}
-
-abbrev pub quantity_tokens : QuantityForm → List Token
-quantity_tokens test = tokens.Word test.name ∷ tokens.Sign (comparison_sign test.comparison) ∷ tokens.Number (quantity_text test.quantity) ∷ []
+use Rattle.rl_query.proofs.Printed.{Lexes, token_lexes, row_lexes, number_lexes}
+use Rattle.rl_query.proofs.QuantityTokens.{quantity_number}
 
 -- what a number does not go on with, a name does not either
 pub name_stops : (rest : List ℕ) → prefix_len is_number_byte rest ≡ 0 → prefix_len is_name_byte rest ≡ 0
@@ -56,43 +48,17 @@ comparison_lexes comparisons.Less d rest digit =
 -- a name ends before a comparison
 comparison_ends : (c : Comparison) (rest : List ℕ) → prefix_len is_name_byte (sign_text (comparison_sign c) ++ rest) ≡ 0
 comparison_ends comparisons.Equal rest = refl
-comparison_ends comparisons.NotEqual rest = refl
-comparison_ends comparisons.Greater rest = refl
-comparison_ends comparisons.GreaterOrEqual rest = refl
-comparison_ends comparisons.Less rest = refl
-comparison_ends comparisons.LessOrEqual rest = refl
+comparison_ends _ rest = refl
 
-pub quantity_test_lexes : (test : QuantityForm) (rest : List ℕ) → is_test (by_quantity test) ≡ true → prefix_len is_number_byte rest ≡ 0 → Lexes (quantity_tokens test) (quantity_test_text test ++ rest) rest
-quantity_test_lexes test rest proper stop =
-    let named = and_parts (is_name test.name) _ proper in
-    let free = and_parts (not (is_taken test.name)) _ named.1 in
+pub quantity_test_lexes : (test : QuantityForm) (rest : List ℕ) → is_name test.name ≡ true → is_quantity test.quantity ≡ true → prefix_len is_number_byte rest ≡ 0
+    → Lexes (tokens.Word test.name ∷ tokens.Sign (comparison_sign test.comparison) ∷ tokens.Number (quantity_text test.quantity) ∷ []) (quantity_test_text test ++ rest) rest
+quantity_test_lexes test rest named proper stop =
     let sign = sign_text (comparison_sign test.comparison) in
     let text = quantity_text test.quantity in
-    let number = quantity_number test.quantity free.1 in
-    let behind : text ++ rest ≡ number.first ∷ (number.others ++ rest) = ap (λ t. t ++ rest) number.is in
-    subst (λ t. Lexes (quantity_tokens test) t rest) (sym (regrouped test.name sign text))
-    (lexes_then (tokens.Word test.name ∷ []) (tokens.Sign (comparison_sign test.comparison) ∷ tokens.Number text ∷ []) (test.name ++ (sign ++ (text ++ rest))) (sign ++ (text ++ rest)) rest (word_lexes test.name (sign ++ (text ++ rest)) named.0 (comparison_ends test.comparison (text ++ rest)))
-    (lexes_then (tokens.Sign (comparison_sign test.comparison) ∷ []) (tokens.Number text ∷ []) (sign ++ (text ++ rest)) (text ++ rest) rest
-    (subst (λ t. Lexes (tokens.Sign (comparison_sign test.comparison) ∷ []) (sign ++ t) t) (sym behind) (comparison_lexes test.comparison number.first (number.others ++ rest) number.digit))
-    (number_lexes text rest number.first number.others number.is number.digit number.bytes stop)))
-  where
-    regrouped : (name sign text : List ℕ) → (name ++ sign ++ text) ++ rest ≡ name ++ (sign ++ (text ++ rest))
-    regrouped name sign text = simp append_assoc
+    let number = quantity_number test.quantity proper in
+    let compared = subst (λ t. Lexes (tokens.Sign (comparison_sign test.comparison) ∷ []) (sign ++ t) t) (sym (ap (λ t. t ++ rest) number.is)) (comparison_lexes test.comparison number.first (number.others ++ rest) number.digit) in
+    row_lexes test.name sign text (comparison_sign test.comparison) (tokens.Number text) rest named (comparison_ends test.comparison (text ++ rest)) compared (number_lexes text rest number.first number.others number.is number.digit number.bytes stop)
 
-comparison_again : (c : Comparison) → comparison_of (comparison_sign c) ≡ Some c
+pub comparison_again : (c : Comparison) → comparison_of (comparison_sign c) ≡ Some c
 comparison_again comparisons.Equal = refl
-comparison_again comparisons.NotEqual = refl
-comparison_again comparisons.Greater = refl
-comparison_again comparisons.GreaterOrEqual = refl
-comparison_again comparisons.Less = refl
-comparison_again comparisons.LessOrEqual = refl
-
-pub quantity_test_stands : (test : QuantityForm) (lexemes rest : List Lexeme) → is_test (by_quantity test) ≡ true → Stand (quantity_tokens test) lexemes rest → IsQuantityTest test lexemes rest
-quantity_test_stands test lexemes rest proper stand =
-    let named = and_parts (is_name test.name) _ proper in
-    let free = and_parts (not (is_taken test.name)) _ named.1 in
-    record { sign = comparison_sign test.comparison; number = quantity_text test.quantity; stand = stand; compares = comparison_again test.comparison; read = quantity_again test.quantity free.1; named = named.0; free = not_true (is_taken test.name) free.0 }
-  where
-    not_true : (b : Bool) → not b ≡ true → b ≡ false
-    not_true true h = sym h
-    not_true false h = refl
+comparison_again _ = refl

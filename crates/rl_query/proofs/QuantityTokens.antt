@@ -49,20 +49,11 @@ decimal_then d rest h are =
 
 duration_unit_bytes : (unit : DurationUnit) → list_all is_number_byte (duration_unit_text unit) ≡ true
 duration_unit_bytes time.Nanosecond = refl
-duration_unit_bytes time.Microsecond = refl
-duration_unit_bytes time.Millisecond = refl
-duration_unit_bytes time.Second = refl
-duration_unit_bytes time.Minute = refl
-duration_unit_bytes time.Hour = refl
+duration_unit_bytes _ = refl
 
 size_unit_bytes : (unit : SizeUnit) → list_all is_number_byte (size_unit_text unit) ≡ true
 size_unit_bytes sizes.Byte = refl
-size_unit_bytes sizes.Kilobyte = refl
-size_unit_bytes sizes.Kibibyte = refl
-size_unit_bytes sizes.Megabyte = refl
-size_unit_bytes sizes.Mebibyte = refl
-size_unit_bytes sizes.Gigabyte = refl
-size_unit_bytes sizes.Gibibyte = refl
+size_unit_bytes _ = refl
 
 part_then : (part : DurationPart) (rest : List ℕ) → is_decimal part.number ≡ true → list_all is_number_byte rest ≡ true → IsNumber (part_text part ++ rest)
 part_then part rest h are =
@@ -107,20 +98,11 @@ later (b ∷ front) rest h = ap (λ t. is_byte_of false b || t) (later front res
 
 duration_unit_is : (unit : DurationUnit) (rest : List ℕ) → has_unit (duration_unit_text unit ++ rest) ≡ true
 duration_unit_is time.Nanosecond rest = refl
-duration_unit_is time.Microsecond rest = refl
-duration_unit_is time.Millisecond rest = refl
-duration_unit_is time.Second rest = refl
-duration_unit_is time.Minute rest = refl
-duration_unit_is time.Hour rest = refl
+duration_unit_is _ rest = refl
 
 size_unit_is : (unit : SizeUnit) → has_unit (size_unit_text unit) ≡ true
 size_unit_is sizes.Byte = refl
-size_unit_is sizes.Kilobyte = refl
-size_unit_is sizes.Kibibyte = refl
-size_unit_is sizes.Megabyte = refl
-size_unit_is sizes.Mebibyte = refl
-size_unit_is sizes.Gigabyte = refl
-size_unit_is sizes.Gibibyte = refl
+size_unit_is _ = refl
 
 -- what has a unit is a duration or else a size
 with_unit : (text : List ℕ) → has_unit text ≡ true → quantity_of text ≡ option_or (option_map quantities.Duration (duration_of text)) (option_map quantities.Size (size_of text))

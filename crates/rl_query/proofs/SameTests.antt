@@ -44,15 +44,9 @@ count_forms (one test) = refl
 count_forms (joined join left right) = λ i. count_forms left i + count_forms right i
 
 needs_forms : (level : Level) (tests : TestTree LabelTest) → needs level (tests_form tests) ≡ needs level tests
-needs_forms levels.Tests (one test) = refl
-needs_forms levels.All (one test) = refl
-needs_forms levels.One (one test) = refl
-needs_forms levels.Tests (joined And left right) = refl
 needs_forms levels.All (joined And left right) = refl
-needs_forms levels.One (joined And left right) = refl
-needs_forms levels.Tests (joined Or left right) = refl
-needs_forms levels.All (joined Or left right) = refl
-needs_forms levels.One (joined Or left right) = refl
+needs_forms levels.One (one test) = refl
+needs_forms _ _ = refl
 
 pub depth_forms : (tests : TestTree LabelTest) → text_depth (tests_form tests) ≡ text_depth tests
 depth_forms (one test) = refl

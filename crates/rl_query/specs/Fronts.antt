@@ -173,14 +173,18 @@ checked_matcher place matcher =
     if not (is_name matcher.name) then Err (faults.Syntax place)
     else (if is_comparable matcher.op matcher.value then Ok matcher else Err faults.BadRegex)
 
--- a name, an operator and a text
-unfoldable pub matcher_at : List Lexeme → Result (MatcherForm × List Lexeme) QueryFault
-matcher_at lexemes = do
+-- a row of three tokens: a name, a sign and a value, and what they make at the place of the name. Its fault is that of the first that does not fit
+abbrev pub row_at : {Op Value Made : Type 0} → (op_of : ℕ → Token → Result Op QueryFault) → (value_of : ℕ → Token → Result Value QueryFault) → (made : (place : ℕ) → List ℕ → Op → Value → Result Made QueryFault) → List Lexeme → Result (Made × List Lexeme) QueryFault
+row_at op_of value_of made lexemes = do
   first ← next lexemes
   name ← name_of first.0.place first.0.token
-  sign ← next first.1
-  op ← operator_of sign.0.place sign.0.token
-  text ← next sign.1
-  value ← content_of text.0.place text.0.token
-  matcher ← checked_matcher first.0.place (record { name = name; op = op; value = value })
-  Ok (matcher, text.1)
+  second ← next first.1
+  op ← op_of second.0.place second.0.token
+  third ← next second.1
+  value ← value_of third.0.place third.0.token
+  whole ← made first.0.place name op value
+  Ok (whole, third.1)
+
+-- a name, an operator and a text
+unfoldable pub matcher_at : List Lexeme → Result (MatcherForm × List Lexeme) QueryFault
+matcher_at lexemes = row_at operator_of content_of (λ place name op value. checked_matcher place (record { name = name; op = op; value = value })) lexemes

@@ -1,14 +1,16 @@
 -- The grammar of label tests, over their tokens and apart from how they are read. Each rule relates tests, tokens and those that follow.
 use Rattle.std.specs.Prelude.{◌≡◌, ◌⊎◌, ℕ, zero, suc, Bool, true, false, not, ◌&&◌, List, [], ◌∷◌, length, Some, None, codes}
 use Rattle.rl_labels.specs.Name.{is_name}
+use Rattle.rl_labels.specs.Operators.{is_comparable}
 use Rattle.rl_query.specs.declared.label_test.Join.{Join}
 use Rattle.rl_query.specs.declared.label_test.Join.TheVariants.{And, Or}
 use Rattle.rl_query.specs.declared.token.Lexeme.{Lexeme}
 use Rattle.rl_query.specs.declared.token.Sign.{Sign}
 use Rattle.rl_query.specs.declared.token.Sign.TheVariants as signs
+use Rattle.rl_query.specs.declared.token.Token.{Token}
 use Rattle.rl_query.specs.declared.token.Token.TheVariants as tokens
-use Rattle.rl_query.specs.Form.{MatcherForm, QuantityForm, TestForm, by_text, by_quantity}
-use Rattle.rl_query.specs.Standing.{Stand, matcher_tokens, is_matcher}
+use Rattle.rl_query.specs.Form.{TestForm, by_text, by_quantity}
+use Rattle.rl_query.specs.Standing.{Stand, operator_sign}
 use Rattle.rl_query.specs.Limits.{is_taken}
 use Rattle.rl_query.specs.Quantities.{quantity_of, is_quantity}
 use Rattle.rl_query.specs.Tables.{comparison_of}
@@ -19,42 +21,37 @@ use Rattle.rl_query.specs.TestTree.{TestTree, one, joined}
 abbrev pub Rule : Type 1
 Rule = TestTree TestForm → List Lexeme → List Lexeme → Type 0
 
--- name="value", or another operator, where the name is no word of the grammar
-pub record IsMatcherTest (matcher : MatcherForm) (lexemes rest : List Lexeme) : Type 0 where
-  pub stand : Stand (matcher_tokens matcher) lexemes rest
-  pub proper : is_matcher matcher ≡ true
-  pub free : is_taken matcher.name ≡ false
+abbrev pub test_name : TestForm → List ℕ
+test_name (by_text matcher) = matcher.name
+test_name (by_quantity test) = test.name
 
--- name>quantity, or another comparison, where the name is no word of the grammar
-pub record IsQuantityTest (test : QuantityForm) (lexemes rest : List Lexeme) : Type 0 where
+-- what stands behind the name: ="value", or another operator; >quantity, or another comparison
+abbrev pub Compares : TestForm → Sign → Token → Type 0
+Compares (by_text matcher) sign value = (sign ≡ operator_sign matcher.op) × (value ≡ tokens.Text matcher.value) × (is_comparable matcher.op matcher.value ≡ true)
+Compares (by_quantity test) sign value = (comparison_of sign ≡ Some test.comparison) × ((number : List ℕ) × (value ≡ tokens.Number number) × (quantity_of number ≡ Some test.quantity))
+
+-- a name that is no word of the grammar, a sign and a value
+pub record IsLabelTest (test : TestForm) (lexemes rest : List Lexeme) : Type 0 where
   pub sign : Sign
-  pub number : List ℕ
-  pub stand : Stand (tokens.Word test.name ∷ tokens.Sign sign ∷ tokens.Number number ∷ []) lexemes rest
-  pub compares : comparison_of sign ≡ Some test.comparison
-  pub read : quantity_of number ≡ Some test.quantity
-  pub named : is_name test.name ≡ true
-  pub free : is_taken test.name ≡ false
+  pub value : Token
+  pub stand : Stand (tokens.Word (test_name test) ∷ tokens.Sign sign ∷ value ∷ []) lexemes rest
+  pub compares : Compares test sign value
+  pub named : is_name (test_name test) ≡ true
+  pub free : is_taken (test_name test) ≡ false
 
-abbrev pub IsLabelTest : Rule
-IsLabelTest (one (by_text matcher)) lexemes rest = IsMatcherTest matcher lexemes rest
-IsLabelTest (one (by_quantity test)) lexemes rest = IsQuantityTest test lexemes rest
-IsLabelTest (joined join left right) lexemes rest = ⊥
+-- the pattern or the quantity of a test is one
+abbrev pub has_value : TestForm → Bool
+has_value (by_text matcher) = is_comparable matcher.op matcher.value
+has_value (by_quantity test) = is_quantity test.quantity
 
--- the matcher or the quantity of a test is one, and its name is no word of the grammar
+-- and its name, which is no word of the grammar
 abbrev pub is_test : TestForm → Bool
-is_test (by_text matcher) = is_matcher matcher && not (is_taken matcher.name)
-is_test (by_quantity test) = is_name test.name && (not (is_taken test.name) && is_quantity test.quantity)
+is_test test = is_name (test_name test) && (not (is_taken (test_name test)) && has_value test)
 
--- "(" tests ")"
-pub record IsEnclosed (Inside : Rule) (tests : TestTree TestForm) (lexemes rest : List Lexeme) : Type 0 where
-  pub behind : List Lexeme
-  pub end : List Lexeme
-  pub opened : Stand (tokens.Sign signs.OpenParenthesis ∷ []) lexemes behind
-  pub inside : Inside tests behind end
-  pub closed : Stand (tokens.Sign signs.CloseParenthesis ∷ []) end rest
-
-abbrev pub IsOne : (Inside : Rule) → Rule
-IsOne Inside tests lexemes rest = IsLabelTest tests lexemes rest ⊎ IsEnclosed Inside tests lexemes rest
+-- the test of a label, or "(" tests ")"
+pub data IsOne (Inside : Rule) : TestTree TestForm → List Lexeme → List Lexeme → Type 0 where
+  alone : (test : TestForm) (lexemes rest : List Lexeme) → IsLabelTest test lexemes rest → IsOne Inside (one test) lexemes rest
+  in_parentheses : (tests : TestTree TestForm) (lexemes behind end rest : List Lexeme) → Stand (tokens.Sign signs.OpenParenthesis ∷ []) lexemes behind → Inside tests behind end → Stand (tokens.Sign signs.CloseParenthesis ∷ []) end rest → IsOne Inside tests lexemes rest
 
 -- what stands between two tests: "and", a comma or nothing, and "or"
 abbrev pub Joins : Join → List Lexeme → List Lexeme → Type 0

@@ -1,5 +1,5 @@
 -- Reading label tests from their tokens: what is read, how many tests may still come and the tokens that follow it, or the first fault from the left.
-use Rattle.std.specs.Prelude.{ℕ, zero, suc, Bool, true, false, not, ◌&&◌, ◌||◌, List, [], ◌∷◌, length, Option, Some, None, is_some, Result, Ok, Err, if◌then◌else◌, codes}
+use Rattle.std.specs.Prelude.{ℕ, zero, suc, Bool, true, false, not, ◌&&◌, ◌||◌, List, [], ◌∷◌, Option, Some, None, is_some, Result, Ok, Err, if◌then◌else◌, codes}
 use Rattle.std.specs.Option.{option_map_or}
 use Rattle.rl_labels.specs.Name.{is_text, is_name}
 use Rattle.rl_plain.specs.Answers.{◌>>=◌}
@@ -15,7 +15,7 @@ use Rattle.rl_query.specs.declared.token.Sign.TheVariants as signs
 use Rattle.rl_query.specs.declared.token.Token.{Token}
 use Rattle.rl_query.specs.declared.token.Token.TheVariants as tokens
 use Rattle.rl_query.specs.Limits.{is_taken}
-use Rattle.rl_query.specs.Fronts.{next, expected, refusal, is_sign, is_match, name_of, matcher_at}
+use Rattle.rl_query.specs.Fronts.{next, expected, refusal, is_sign, is_match, row_at, matcher_at}
 use Rattle.rl_query.specs.Form.{QuantityForm, TestForm, by_text, by_quantity}
 use Rattle.rl_query.specs.Quantities.{quantity_of}
 use Rattle.rl_query.specs.Tables.{comparison_of}
@@ -72,15 +72,7 @@ named_test place test = if is_name test.name then Ok test else Err (faults.Synta
 
 -- a name, a comparison and a quantity
 unfoldable pub quantity_test_at : List Lexeme → Result (QuantityForm × List Lexeme) QueryFault
-quantity_test_at lexemes = do
-  first ← next lexemes
-  name ← name_of first.0.place first.0.token
-  sign ← next first.1
-  comparison ← comparison_at sign.0.place sign.0.token
-  number ← next sign.1
-  quantity ← quantity_at number.0.place number.0.token
-  test ← named_test first.0.place (record { name = name; comparison = comparison; quantity = quantity })
-  Ok (test, number.1)
+quantity_test_at lexemes = row_at comparison_at quantity_at (λ place name comparison quantity. named_test place (record { name = name; comparison = comparison; quantity = quantity })) lexemes
 
 -- a token is a comparison
 abbrev pub compares : Token → Bool
@@ -154,11 +146,11 @@ others_at join part zero tests left lexemes = Ok (tests, left, lexemes)
 others_at join part (suc most) tests left lexemes =
     option_map_or (λ behind. part left behind >>= λ other. others_at join part most (joined join tests other.0) other.1 other.2) (behind_join join lexemes) (Ok (tests, left, lexemes))
 
--- parts joined in one way
+-- parts joined in one way. Each has a test at least, so there are no more of them than tests that may come
 unfoldable pub joined_at : Join → (part : Reader) → Reader
 joined_at join part left lexemes = do
   first ← part left lexemes
-  others_at join part (length lexemes) first.0 first.1 first.2
+  others_at join part left first.0 first.1 first.2
 
 -- what `and` joins, and what `or` joins
 abbrev pub part_at : Join → (inside : Reader) → Reader

@@ -333,7 +333,7 @@ fn joined_at(
     ensures { Gives (λ x. (tests_form x.0, x.1, x.2.now)) result (joined_at join (part_at join (inside_at depth)) left lexemes.now) }
 {
     let (mut tests, mut fewer, mut rest) = part_at(alloc, join, depth, left, lexemes)?;
-    for _turn in 0..lexemes.len() {
+    for _turn in 0..left {
         let Some(behind) = behind_join(join, rest) else {
             return Ok((tests, fewer, rest));
         };

@@ -24,18 +24,18 @@ pub joined_at-returns-in_err-other : goal.joined_at-returns-in_err-other
 joined_at-returns-in_err-other t c =
     let part = part_at c.args.join (inside_at c.args.depth) in
     let p = err_from_is_err_and c.from_residual-in_err-other.result c.from_residual-in_err-other.ensures.1 in
-    rw (p.1, p.2) (fails c.in_err-other.field-0.0 c.args.join part (length c.args.lexemes.now) c.loop-turn._turn (tests_form c.loop-turn.tests) c.loop-turn.fewer c.loop-turn.rest.now c.in-Some.behind.now (joined_at c.args.join part c.args.left c.args.lexemes.now) c.loop-turn-test.true (sym c.in-Some.ensures) c.in_err-other.ensures c.loop-turn.invariant)
+    rw (p.1, p.2) (fails c.in_err-other.field-0.0 c.args.join part c.args.left c.loop-turn._turn (tests_form c.loop-turn.tests) c.loop-turn.fewer c.loop-turn.rest.now c.in-Some.behind.now (joined_at c.args.join part c.args.left c.args.lexemes.now) c.loop-turn-test.true (sym c.in-Some.ensures) c.in_err-other.ensures c.loop-turn.invariant)
 
 pub joined_at-loop-turn-preserved : goal.joined_at-loop-turn-preserved
 joined_at-loop-turn-preserved t c =
     let part = part_at c.args.join (inside_at c.args.depth) in
     let whole = joined_at c.args.join part c.args.left c.args.lexemes.now in
-    rw c.in_ok-tests-2.ensures (one_more c.args.join part (length c.args.lexemes.now) c.loop-turn._turn (tests_form c.loop-turn.tests) c.loop-turn.fewer c.loop-turn.rest.now c.in-Some.behind.now (tests_form c.in_ok-other.other) c.in_ok-other.still c.in_ok-other.after.now whole c.loop-turn-test.true (sym c.in-Some.ensures) c.in_ok-other.ensures c.loop-turn.invariant)
+    rw c.in_ok-tests-2.ensures (one_more c.args.join part c.args.left c.loop-turn._turn (tests_form c.loop-turn.tests) c.loop-turn.fewer c.loop-turn.rest.now c.in-Some.behind.now (tests_form c.in_ok-other.other) c.in_ok-other.still c.in_ok-other.after.now whole c.loop-turn-test.true (sym c.in-Some.ensures) c.in_ok-other.ensures c.loop-turn.invariant)
 
 pub joined_at-returns : goal.joined_at-returns
 joined_at-returns t c =
     let part = part_at c.args.join (inside_at c.args.depth) in
-    at_end c.args.join part (length c.args.lexemes.now) c.loop-turn._turn (tests_form c.loop-turn.tests) c.loop-turn.fewer c.loop-turn.rest.now (joined_at c.args.join part c.args.left c.args.lexemes.now) c.loop-turn-test.false c.loop-turn.invariant
+    at_end c.args.join part c.args.left c.loop-turn._turn (tests_form c.loop-turn.tests) c.loop-turn.fewer c.loop-turn.rest.now (joined_at c.args.join part c.args.left c.args.lexemes.now) c.loop-turn-test.false c.loop-turn.invariant
 
 pub enclosed_at-returns-in_err-rest : goal.enclosed_at-returns-in_err-rest
 enclosed_at-returns-in_err-rest t c =

@@ -19,4 +19,4 @@ decreases-joined_at l = 6 * l.depth + part_rank l.join + 1
 
 abbrev pub invariant-joined_at-loop-turn : goal.invariant-joined_at-loop-turn
 invariant-joined_at-loop-turn l =
-    AreJoined l.join (part_at l.join (inside_at l.depth)) (length l.lexemes - l._turn) (tests_form l.tests) l.fewer l.rest (joined_at l.join (part_at l.join (inside_at l.depth)) l.fn.left l.fn.lexemes)
+    AreJoined l.join (part_at l.join (inside_at l.depth)) (l.left - l._turn) (tests_form l.tests) l.fewer l.rest (joined_at l.join (part_at l.join (inside_at l.depth)) l.fn.left l.fn.lexemes)
