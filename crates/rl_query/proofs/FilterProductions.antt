@@ -1,8 +1,8 @@
 -- The productions of line filters: what is read is derived, and what is derived is read.
-use Rattle.std.proofs.Common.{◌≡◌, ℕ, zero, suc, ◌≤◌, Bool, true, false, cond, List, [], ◌∷◌, length, Option, Some, None, is_some, Result, Ok, Err, refl, ap, subst, ◌∙◌, arith}
+use Rattle.std.proofs.Common.{◌≡◌, ⊎_elim, ℕ, zero, suc, ◌≤◌, Bool, true, false, cond, List, [], ◌∷◌, length, Option, Some, None, is_some, Result, Ok, Err, refl, ap, subst, ◌∙◌, arith}
 use Rattle.std.specs.List.{list_all}
-use Rattle.std.specs.Option.{option_map_or}
 use Rattle.std.proofs.lemmas.Bool.{and_parts, and_from}
+use Rattle.std.proofs.lemmas.Option.{none-some, same_Some}
 use Rattle.rl_plain.specs.Answers.{◌>>=◌}
 use Rattle.rl_query.specs.declared.fault.QueryFault.{QueryFault}
 use Rattle.rl_query.specs.declared.fault.QueryFault.TheVariants as faults
@@ -18,49 +18,39 @@ use Rattle.rl_query.specs.Grammar.{filter_sign, filter_tokens, filters_tokens, A
 use Rattle.rl_query.specs.Limits.{is_filter, most_stages}
 use Rattle.rl_query.specs.Fronts.{next}
 use Rattle.rl_query.specs.Parsing.{filter_op, filter_text, checked_filter, filter_at, filters_at, filters_in}
-use Rattle.rl_query.proofs.Productions.{bind_ok, if_ok, same_ok, no_err, stand_then, one_read, next_is}
+use Rattle.rl_query.proofs.Productions.{bind_ok, chosen, by_option, if_ok, same_ok, no_err, stand_then, one_read, next_is}
 
 abbrev pub are_proper_filters : List FilterForm → Bool
 are_proper_filters = list_all (λ filter. is_filter filter.op filter.text)
 
-pub op_read : (t : Token) (op : LineOp) → filter_op t ≡ Some op → t ≡ tokens.Sign (filter_sign op)
-op_read (tokens.Sign signs.Contains) op h = ap (λ o. tokens.Sign (filter_sign o)) (some_is h)
-  where
-    some_is : Some lines.Contains ≡ Some op → lines.Contains ≡ op
-    some_is e = cc
-op_read (tokens.Sign signs.NotEqual) op h = let same : lines.Lacks ≡ op = cc in ap (λ o. tokens.Sign (filter_sign o)) same
-op_read (tokens.Sign signs.ContainsMatch) op h = let same : lines.Matches ≡ op = cc in ap (λ o. tokens.Sign (filter_sign o)) same
-op_read (tokens.Sign signs.NotMatches) op h = let same : lines.NotMatches ≡ op = cc in ap (λ o. tokens.Sign (filter_sign o)) same
-op_read (tokens.Sign _) op h = cc
-op_read _ op h = cc
+op_read : (t : Token) (op : LineOp) → filter_op t ≡ Some op → t ≡ tokens.Sign (filter_sign op)
+op_read (tokens.Sign signs.Contains) op h = ap (λ o. tokens.Sign (filter_sign o)) (same_Some lines.Contains op h)
+op_read (tokens.Sign signs.NotEqual) op h = ap (λ o. tokens.Sign (filter_sign o)) (same_Some lines.Lacks op h)
+op_read (tokens.Sign signs.ContainsMatch) op h = ap (λ o. tokens.Sign (filter_sign o)) (same_Some lines.Matches op h)
+op_read (tokens.Sign signs.NotMatches) op h = ap (λ o. tokens.Sign (filter_sign o)) (same_Some lines.NotMatches op h)
+op_read (tokens.Sign _) op h = absurd (none-some op h)
+op_read _ op h = absurd (none-some op h)
 
 pub op_is : (op : LineOp) → filter_op (tokens.Sign (filter_sign op)) ≡ Some op
 op_is lines.Contains = refl
-op_is lines.Lacks = refl
-op_is lines.Matches = refl
-op_is lines.NotMatches = refl
+op_is _ = refl
 
 text_read : (place : ℕ) (t : Token) (value : List ℕ) → filter_text place t ≡ Ok value → t ≡ tokens.Text value
 text_read place (tokens.Text text) value h = ap tokens.Text (same_ok _ _ h)
 text_read place _ value h = absurd (no_err _ value h)
 
--- a line filter behind its sign
-pub record IsFilter (op : LineOp) (filter : FilterForm) (lexemes rest : List Lexeme) : Type 0 where
-  pub op_is : op ≡ filter.op
-  pub stand : Stand (tokens.Text filter.text ∷ []) lexemes rest
-  pub proper : is_filter filter.op filter.text ≡ true
-
-pub filter_read : (op : LineOp) (lexemes : List Lexeme) (filter : FilterForm) (rest : List Lexeme) → filter_at op lexemes ≡ Ok (filter, rest) → IsFilter op filter lexemes rest
+-- a line filter that was read stood there with its sign
+pub filter_read : (first : Lexeme) (lexemes behind : List Lexeme) (op : LineOp) (filter : FilterForm) (rest : List Lexeme) → next lexemes ≡ Ok (first, behind) → filter_op first.token ≡ Some op → filter_at op behind ≡ Ok (filter, rest) → Stand (filter_tokens filter) lexemes rest × (is_filter filter.op filter.text ≡ true)
 unfolding filter_at
-filter_read op lexemes filter rest h =
-    let a = bind_ok (next lexemes) _ (filter, rest) h in
+filter_read first lexemes behind op filter rest n is h =
+    let a = bind_ok (next behind) _ (filter, rest) h in
     let b = bind_ok (filter_text a.0.0.place a.0.0.token) _ (filter, rest) a.2 in
-    let read : FilterForm = record { op = op; text = b.0 } in
-    let c = bind_ok (checked_filter read) _ (filter, rest) b.2 in
-    let checked = if_ok (is_filter op b.0) read c.0 faults.BadRegex c.1 in
+    let c = bind_ok (checked_filter (record { op = op; text = b.0 })) _ (filter, rest) b.2 in
+    let checked = if_ok (is_filter op b.0) (record { op = op; text = b.0 }) c.0 faults.BadRegex c.1 in
     let made : ◌≡◌ {A = FilterForm × List Lexeme} (c.0, a.0.1) (filter, rest) = same_ok _ _ c.2 in
-    let whole : IsFilter op read lexemes a.0.1 = record { op_is = refl; stand = one_read (tokens.Text b.0) lexemes a.0.1 a.0.0 a.1 (text_read a.0.0.place a.0.0.token b.0 b.1); proper = checked.0 } in
-    subst (λ (p : FilterForm × List Lexeme). IsFilter op p.0 lexemes p.1) made (subst (λ x. IsFilter op x lexemes a.0.1) checked.1 whole)
+    let sign = one_read (tokens.Sign (filter_sign op)) lexemes behind first n (op_read first.token op is) in
+    let stand = stand_then (tokens.Sign (filter_sign op) ∷ []) (tokens.Text b.0 ∷ []) lexemes behind a.0.1 sign (one_read (tokens.Text b.0) behind a.0.1 a.0.0 a.1 (text_read a.0.0.place a.0.0.token b.0 b.1)) in
+    subst (λ (p : FilterForm × List Lexeme). Stand (filter_tokens p.0) lexemes p.1 × (is_filter p.0.op p.0.text ≡ true)) (ap (λ (f : FilterForm). (f, a.0.1)) checked.1 ∙ made) (stand, checked.0)
 
 pub filter_is : (filter : FilterForm) (lexemes rest : List Lexeme) → Stand (tokens.Text filter.text ∷ []) lexemes rest → is_filter filter.op filter.text ≡ true → filter_at filter.op lexemes ≡ Ok (filter, rest)
 unfolding filter_at
@@ -81,34 +71,18 @@ filters_read : (most : ℕ) (lexemes : List Lexeme) (filters : List FilterForm) 
 unfolding filters_at
 filters_read zero lexemes filters rest h =
     let a = bind_ok (next lexemes) _ (filters, rest) h in
-    by_test (is_some (filter_op a.0.0.token)) a.2
-  where
-    by_test : (more : Bool) → cond {A = Result (List FilterForm × List Lexeme) QueryFault} more (Err faults.TooDeep) (Ok ([], lexemes)) ≡ Ok (filters, rest) → AreUpTo zero filters lexemes rest
-    by_test true h = absurd (no_err _ (filters, rest) h)
-    by_test false h = none_read zero lexemes filters rest h
+    ⊎_elim (λ more. absurd (no_err _ (filters, rest) more.1)) (λ none. none_read zero lexemes filters rest none.1) (chosen (is_some (filter_op a.0.0.token)) _ _ (Ok (filters, rest)) a.2)
 filters_read (suc most) lexemes filters rest h =
     let a = bind_ok (next lexemes) _ (filters, rest) h in
-    by_op a.0.0 a.0.1 (filter_op a.0.0.token) a.1 refl a.2 (λ behind others end read. filters_read most behind others end read)
-  where
-    reading : List Lexeme → LineOp → Result (List FilterForm × List Lexeme) QueryFault
-    reading behind op = filter_at op behind >>= λ filter. filters_at most filter.1 >>= λ others. Ok (filter.0 ∷ others.0, others.1)
-
-    by_op : (first : Lexeme) (behind : List Lexeme) (o : Option LineOp) → next lexemes ≡ Ok (first, behind) → filter_op first.token ≡ o → option_map_or (reading behind) o (Ok ([], lexemes)) ≡ Ok (filters, rest)
-        → ((behind : List Lexeme) (others : List FilterForm) (end : List Lexeme) → filters_at most behind ≡ Ok (others, end) → AreUpTo most others behind end) → AreUpTo (suc most) filters lexemes rest
-    by_op first behind None n is h inner = none_read (suc most) lexemes filters rest h
-    by_op first behind (Some op) n is h inner =
-        let b = bind_ok (filter_at op behind) _ (filters, rest) h in
-        let c = bind_ok (filters_at most b.0.1) _ (filters, rest) b.2 in
-        let one = filter_read op behind b.0.0 b.0.1 b.1 in
-        let more = inner b.0.1 c.0.0 c.0.1 c.1 in
-        let made : ◌≡◌ {A = List FilterForm × List Lexeme} (b.0.0 ∷ c.0.0, c.0.1) (filters, rest) = same_ok _ _ c.2 in
-        let sign = one_read (tokens.Sign (filter_sign b.0.0.op)) lexemes behind first n (op_read first.token op is ∙ ap (λ o. tokens.Sign (filter_sign o)) one.op_is) in
-        let whole : AreUpTo (suc most) (b.0.0 ∷ c.0.0) lexemes c.0.1 = record {
-          stand = stand_then (filter_tokens b.0.0) (filters_tokens c.0.0) lexemes b.0.1 c.0.1 (stand_then (tokens.Sign (filter_sign b.0.0.op) ∷ []) (tokens.Text b.0.0.text ∷ []) lexemes behind b.0.1 sign one.stand) more.stand;
-          proper = and_from (is_filter b.0.0.op b.0.0.text) _ one.proper more.proper;
-          few = omega (arith, more.few);
-        } in
-        subst (λ (p : List FilterForm × List Lexeme). AreUpTo (suc most) p.0 lexemes p.1) made whole
+    ⊎_elim
+    (λ none. none_read (suc most) lexemes filters rest none.1)
+    (λ some. let b = bind_ok (filter_at some.0 a.0.1) _ (filters, rest) some.2 in
+    let c = bind_ok (filters_at most b.0.1) _ (filters, rest) b.2 in
+    let one = filter_read a.0.0 lexemes a.0.1 some.0 b.0.0 b.0.1 a.1 some.1 b.1 in
+    let more = filters_read most b.0.1 c.0.0 c.0.1 c.1 in
+    let whole : AreUpTo (suc most) (b.0.0 ∷ c.0.0) lexemes c.0.1 = record { stand = stand_then (filter_tokens b.0.0) (filters_tokens c.0.0) lexemes b.0.1 c.0.1 one.0 more.stand; proper = and_from (is_filter b.0.0.op b.0.0.text) _ one.1 more.proper; few = omega (arith, more.few) } in
+    subst (λ (p : List FilterForm × List Lexeme). AreUpTo (suc most) p.0 lexemes p.1) (same_ok _ _ c.2) whole)
+    (by_option _ (filter_op a.0.0.token) _ (filters, rest) a.2)
 
 -- what stands behind the line filters, and begins none
 pub record Stops (lexemes : List Lexeme) : Type 0 where

@@ -70,25 +70,6 @@ seconds_are position seconds lexemes rest is =
     let checked : nat_le 1 seconds && nat_le seconds longest_range ≡ true = and_from _ _ (le-leb 1 seconds is.in_range.0) (le-leb seconds longest_range is.in_range.1) in
     rw (a.1, b.is, is.read, checked, c.1) (ap (λ r. Ok (seconds, r)) c.2)
 
--- the parenthesis behind a range, where no line filter stands before it, and where some do
-closed_none : (lexemes : List Lexeme) (stages : List StageForm) (rest : List Lexeme) → closed_at false [] lexemes ≡ Ok (stages, rest) → (behind : List Lexeme) × AreStages stages lexemes behind × Stand (tokens.Sign signs.CloseParenthesis ∷ []) behind rest
-unfolding closed_at
-closed_none lexemes stages rest h =
-    let a = bind_ok (stages_in false lexemes) _ (stages, rest) h in
-    let b = bind_ok (expected signs.CloseParenthesis (behind_stages positions.BehindRange a.0.0) a.0.1) _ (stages, rest) a.2 in
-    let made : ◌≡◌ {A = List StageForm × List Lexeme} (a.0.0, b.0) (stages, rest) = same_ok _ _ b.2 in
-    let whole : AreStages a.0.0 lexemes a.0.1 × Stand (tokens.Sign signs.CloseParenthesis ∷ []) a.0.1 b.0 = (stages_derived lexemes a.0.0 a.0.1 a.1, expected_read signs.CloseParenthesis (behind_stages positions.BehindRange a.0.0) a.0.1 b.0 b.1) in
-    let moved = subst (λ (p : List StageForm × List Lexeme). AreStages p.0 lexemes a.0.1 × Stand (tokens.Sign signs.CloseParenthesis ∷ []) a.0.1 p.1) made whole in
-    (a.0.1, moved.0, moved.1)
-
-closed_some : (s : StageForm) (front : List StageForm) (lexemes : List Lexeme) (stages : List StageForm) (rest : List Lexeme) → closed_at false (s ∷ front) lexemes ≡ Ok (stages, rest) → (s ∷ front ≡ stages) × Stand (tokens.Sign signs.CloseParenthesis ∷ []) lexemes rest
-unfolding closed_at
-closed_some s front lexemes stages rest h =
-    let a = bind_ok (expected signs.CloseParenthesis positions.BehindFilteredRange lexemes) _ (stages, rest) h in
-    let made : ◌≡◌ {A = List StageForm × List Lexeme} (s ∷ front, a.0) (stages, rest) = same_ok _ _ a.2 in
-    let whole : (s ∷ front ≡ s ∷ front) × Stand (tokens.Sign signs.CloseParenthesis ∷ []) lexemes a.0 = (refl, expected_read signs.CloseParenthesis positions.BehindFilteredRange lexemes a.0 a.1) in
-    subst (λ (p : List StageForm × List Lexeme). (s ∷ front ≡ p.0) × Stand (tokens.Sign signs.CloseParenthesis ∷ []) lexemes p.1) made whole
-
 closed_behind : (stages : List StageForm) (lexemes behind rest : List Lexeme) → AreStages stages lexemes behind → Stand (tokens.Sign signs.CloseParenthesis ∷ []) behind rest → closed_at false [] lexemes ≡ Ok (stages, rest)
 unfolding closed_at
 closed_behind stages lexemes behind rest are closed =
@@ -110,22 +91,24 @@ record IsClosing (stages : List StageForm) (seconds : ℕ) (lexemes rest : List 
   pub closed : Stand (tokens.Sign signs.CloseParenthesis ∷ []) behind rest
 
 closing_read : (lexemes : List Lexeme) (stages : List StageForm) (seconds : ℕ) (rest : List Lexeme) → closing_at false lexemes ≡ Ok (stages, seconds, rest) → IsClosing stages seconds lexemes rest
-unfolding closing_at timed_at
+unfolding closing_at timed_at closed_at
 closing_read lexemes stages seconds rest h =
     let a = bind_ok (stages_in false lexemes) _ (stages, seconds, rest) h in
     let b = bind_ok (seconds_at (behind_stages positions.BehindSelector a.0.0) a.0.1) _ (stages, seconds, rest) a.2 in
     let c = bind_ok (closed_at false a.0.0 b.0.1) _ (stages, seconds, rest) b.2 in
-    let made : ◌≡◌ {A = List StageForm × ℕ × List Lexeme} (c.0.0, b.0.0, c.0.1) (stages, seconds, rest) = same_ok _ _ c.2 in
     let whole = by_front a.0.0 a.0.1 b.0.0 b.0.1 c.0.0 c.0.1 (stages_derived lexemes a.0.0 a.0.1 a.1) (seconds_read (behind_stages positions.BehindSelector a.0.0) a.0.1 b.0.0 b.0.1 b.1) c.1 in
-    subst (λ (p : List StageForm × ℕ × List Lexeme). IsClosing p.0 p.1 lexemes p.2) made whole
+    subst (λ (p : List StageForm × ℕ × List Lexeme). IsClosing p.0 p.1 lexemes p.2) (same_ok _ _ c.2) whole
   where
     by_front : (front : List StageForm) (middle : List Lexeme) (n : ℕ) (after : List Lexeme) (all : List StageForm) (end : List Lexeme) → AreStages front lexemes middle → IsDuration n middle after → closed_at false front after ≡ Ok (all, end) → IsClosing all n lexemes end
     by_front [] middle n after all end are duration h =
-        let closed = closed_none after all end h in
-        record { behind = closed.0; timed = inr (after, subst (λ ls. IsDuration n ls after) (sym are.chained) duration, closed.1); closed = closed.2 }
+        let a = bind_ok (stages_in false after) _ (all, end) h in
+        let b = bind_ok (expected signs.CloseParenthesis (behind_stages positions.BehindRange a.0.0) a.0.1) _ (all, end) a.2 in
+        let whole : IsClosing a.0.0 n lexemes b.0 = record { behind = a.0.1; timed = inr (after, subst (λ ls. IsDuration n ls after) (sym are.chained) duration, stages_derived after a.0.0 a.0.1 a.1); closed = expected_read signs.CloseParenthesis (behind_stages positions.BehindRange a.0.0) a.0.1 b.0 b.1 } in
+        subst (λ (p : List StageForm × List Lexeme). IsClosing p.0 n lexemes p.1) (same_ok _ _ b.2) whole
     by_front (s ∷ front) middle n after all end are duration h =
-        let closed = closed_some s front after all end h in
-        record { behind = after; timed = inl (middle, subst (λ fs. AreStages fs lexemes middle) closed.0 are, duration); closed = closed.1 }
+        let a = bind_ok (expected signs.CloseParenthesis positions.BehindFilteredRange after) _ (all, end) h in
+        let whole : IsClosing (s ∷ front) n lexemes a.0 = record { behind = after; timed = inl (middle, are, duration); closed = expected_read signs.CloseParenthesis positions.BehindFilteredRange after a.0 a.1 } in
+        subst (λ (p : List StageForm × List Lexeme). IsClosing p.0 n lexemes p.1) (same_ok _ _ a.2) whole
 
 -- what is read keeps the limits
 pub record KeepsLimits (stages : List StageForm) (seconds : ℕ) : Type 0 where
@@ -142,18 +125,15 @@ closing_keeps lexemes stages seconds rest h = let closing = closing_read lexemes
     by_timed behind (inl before) = record { few = before.1.few; one_parser = before.1.one_parser; few_tests = before.1.few_tests; chained = (lexemes, before.0, before.1.chained); in_range = before.2.in_range }
     by_timed behind (inr after) = record { few = after.2.few; one_parser = after.2.one_parser; few_tests = after.2.few_tests; chained = (after.0, behind, after.2.chained); in_range = after.1.in_range }
 
+bracket_stops : (n : ℕ) (ls end : List Lexeme) → IsDuration n ls end → Ends ls
+bracket_stops n ls end duration = ends_at (tokens.Sign signs.OpenBracket) (tokens.Number duration.duration ∷ tokens.Sign signs.CloseBracket ∷ []) ls end duration.stand refl refl refl refl
+
 closing_is : (stages : List StageForm) (seconds : ℕ) (lexemes rest behind : List Lexeme) → IsTimed stages seconds lexemes behind → Stand (tokens.Sign signs.CloseParenthesis ∷ []) behind rest → closing_at false lexemes ≡ Ok (stages, seconds, rest)
 unfolding closing_at timed_at
 closing_is stages seconds lexemes rest behind (inl before) closed =
     rw (stages_are_read stages lexemes before.0 before.1 (bracket_stops seconds before.0 behind before.2), seconds_are (behind_stages positions.BehindSelector stages) seconds before.0 behind before.2, closed_before stages behind rest closed) refl
-  where
-    bracket_stops : (n : ℕ) (ls end : List Lexeme) → IsDuration n ls end → Ends ls
-    bracket_stops n ls end duration = ends_at (tokens.Sign signs.OpenBracket) (tokens.Number duration.duration ∷ tokens.Sign signs.CloseBracket ∷ []) ls end duration.stand refl refl refl refl
 closing_is stages seconds lexemes rest behind (inr after) closed =
     rw (stages_are_read [] lexemes lexemes (no_stages lexemes) (bracket_stops seconds lexemes after.0 after.1), seconds_are positions.BehindSelector seconds lexemes after.0 after.1, closed_behind stages after.0 behind rest after.2 closed) refl
-  where
-    bracket_stops : (n : ℕ) (ls end : List Lexeme) → IsDuration n ls end → Ends ls
-    bracket_stops n ls end duration = ends_at (tokens.Sign signs.OpenBracket) (tokens.Number duration.duration ∷ tokens.Sign signs.CloseBracket ∷ []) ls end duration.stand refl refl refl refl
 
 range_derived : (lexemes : List Lexeme) (range : RangeForm) (rest : List Lexeme) → range_at false lexemes ≡ Ok (range, rest) → IsRange range lexemes rest
 unfolding range_at

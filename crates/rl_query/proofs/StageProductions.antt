@@ -7,7 +7,8 @@ use Rattle.rl_query.specs.TestGrammar.{IsEnd}
 use Rattle.rl_query.specs.Limits.{most_tests, most_depth, most_stages}
 use Rattle.rl_query.specs.Form.{by_tests, tests_of, label_tests, StageForm, by_filter, by_parser, parses, parsers_of}
 use Rattle.std.proofs.Common.{◌-◌, ◌≡◌, ⊎_elim, ℕ, zero, suc, ◌+◌, ◌≤◌, Bool, true, false, cond, ◌||◌, ◌&&◌, List, [], ◌∷◌, codes, length, Option, Some, None, is_some, Result, Ok, Err, refl, sym, ap, subst, ◌∙◌, arith}
-use Rattle.std.specs.Option.{option_map_or}
+use Rattle.std.proofs.Math.Bool.{and-false}
+use Rattle.std.proofs.lemmas.Option.{cond_some, none-some, same_Some}
 use Rattle.std.proofs.lemmas.List.Sums.{sum_by-cons}
 use Rattle.rl_labels.specs.Name.{is_text}
 use Rattle.rl_labels.specs.laws.LabelLaws.{same_text}
@@ -26,23 +27,17 @@ use Rattle.rl_query.specs.Grammar.{filter_sign, IsStage, AreChained, AreStages}
 use Rattle.rl_query.specs.Fronts.{next, is_sign}
 use Rattle.rl_query.specs.Parsing.{filter_op, filter_at, begins_stage, stage_comes, parser_of, only_parser, tests_begin, tested_at, piped_at, stage_at, stages_at, stages_in}
 use Rattle.rl_query.specs.Printing.{parser_text}
-use Rattle.rl_query.proofs.Productions.{bind_ok, chosen, same_ok, no_err, stand_then, one_read, next_is, only_sign}
-use Rattle.rl_query.proofs.FilterProductions.{op_read, op_is, filter_read, filter_is}
-
-same_some : {A : Type 0} (x y : A) → ◌≡◌ {A = Option A} (Some x) (Some y) → x ≡ y
-same_some x y e = cc
-
-no_some : {A : Type 0} (y : A) → ◌≡◌ {A = Option A} None (Some y) → ⊥
-no_some y e = cc
+use Rattle.rl_query.proofs.Productions.{bind_ok, chosen, by_option, same_ok, no_err, stand_then, one_read, next_is, only_sign}
+use Rattle.rl_query.proofs.FilterProductions.{op_is, filter_read, filter_is}
 
 parser_read : (t : Token) (parser : Parser) → parser_of t ≡ Some parser → t ≡ tokens.Word (parser_text parser)
 parser_read (tokens.Word word) parser h =
     ap tokens.Word
     (⊎_elim
-    (λ json. same_text word (codes "json") json.0 ∙ ap parser_text (same_some parsers.Json parser json.1))
-    (λ other. ⊎_elim (λ logfmt. same_text word (codes "logfmt") logfmt.0 ∙ ap parser_text (same_some parsers.Logfmt parser logfmt.1)) (λ none. absurd (no_some parser none.1)) (chosen (is_text word (codes "logfmt")) _ _ (Some parser) other.1))
+    (λ json. same_text word (codes "json") json.0 ∙ ap parser_text (same_Some parsers.Json parser json.1))
+    (λ other. let logfmt = cond_some (is_text word (codes "logfmt")) parsers.Logfmt parser other.1 in same_text word (codes "logfmt") logfmt.0 ∙ ap parser_text logfmt.1)
     (chosen (is_text word (codes "json")) _ _ (Some parser) h))
-parser_read _ parser h = absurd (no_some parser h)
+parser_read _ parser h = absurd (none-some parser h)
 
 parser_is : (parser : Parser) → parser_of (tokens.Word (parser_text parser)) ≡ Some parser
 parser_is parsers.Json = refl
@@ -58,10 +53,6 @@ record IsNext (parsed : Bool) (left : ℕ) (lexemes : List Lexeme) (read : Stage
   pub only : parsed && parses read.0 ≡ false
   pub counts : tests_of read.0 + read.1 ≡ left
 
-and_no : (b : Bool) → b && false ≡ false
-and_no true = refl
-and_no false = refl
-
 tested_read : (parsed : Bool) (left : ℕ) (lexemes behind : List Lexeme) (read : StageForm × ℕ × List Lexeme) → Stand (tokens.Sign signs.Pipe ∷ []) lexemes behind → tested_at left behind ≡ Ok read → IsNext parsed left lexemes read
 unfolding tested_at
 tested_read parsed left lexemes behind read pipe h =
@@ -69,46 +60,34 @@ tested_read parsed left lexemes behind read pipe h =
     let b = bind_ok (tests_begin a.0.0.place a.0.0.token a.0.1) _ read a.2 in
     let c = bind_ok (tests_at most_depth left behind) _ read b.2 in
     let tests = tests_derived most_depth left behind c.0.0 c.0.1 c.0.2 c.1 in
-    let whole : IsNext parsed left lexemes (by_tests c.0.0, c.0.1, c.0.2) = record { is = record { behind = behind; pipe = pipe; are = tests.0 }; only = and_no parsed; counts = tests.1 } in
+    let whole : IsNext parsed left lexemes (by_tests c.0.0, c.0.1, c.0.2) = record { is = record { behind = behind; pipe = pipe; are = tests.0 }; only = and-false parsed; counts = tests.1 } in
     subst (IsNext parsed left lexemes) (same_ok _ _ c.2) whole
 
 piped_read : (parsed : Bool) (left : ℕ) (lexemes behind : List Lexeme) (read : StageForm × ℕ × List Lexeme) → Stand (tokens.Sign signs.Pipe ∷ []) lexemes behind → piped_at parsed left behind ≡ Ok read → IsNext parsed left lexemes read
 unfolding piped_at
 piped_read parsed left lexemes behind read pipe h =
     let a = bind_ok (next behind) _ read h in
-    by_parser_of a.0.0 a.0.1 a.1 (parser_of a.0.0.token) refl a.2
-  where
-    parsed_as : List Lexeme → Parser → Result (StageForm × ℕ × List Lexeme) QueryFault
-    parsed_as after parser = only_parser parsed parser >>= λ only. Ok (by_parser only, left, after)
-
-    by_parser_of : (first : Lexeme) (after : List Lexeme) → next behind ≡ Ok (first, after) → (o : Option Parser) → parser_of first.token ≡ o → option_map_or (parsed_as after) o (tested_at left behind) ≡ Ok read → IsNext parsed left lexemes read
-    by_parser_of first after n None is h = tested_read parsed left lexemes behind read pipe h
-    by_parser_of first after n (Some parser) is h =
-        let b = bind_ok (only_parser parsed parser) _ read h in
-        let only = only_read parsed parser b.0 b.1 in
-        let word = one_read (tokens.Word (parser_text b.0)) behind after first n (parser_read first.token parser is ∙ ap (λ p. tokens.Word (parser_text p)) only.1) in
-        let whole : IsNext parsed left lexemes (by_parser b.0, left, after) = record { is = stand_then (tokens.Sign signs.Pipe ∷ []) (tokens.Word (parser_text b.0) ∷ []) lexemes behind after pipe word; only = ap (λ b. b && true) only.0; counts = omega arith } in
-        subst (IsNext parsed left lexemes) (same_ok _ _ b.2) whole
+    ⊎_elim
+    (λ none. tested_read parsed left lexemes behind read pipe none.1)
+    (λ some. let b = bind_ok (only_parser parsed some.0) _ read some.2 in
+    let only = only_read parsed some.0 b.0 b.1 in
+    let word = one_read (tokens.Word (parser_text b.0)) behind a.0.1 a.0.0 a.1 (parser_read a.0.0.token some.0 some.1 ∙ ap (λ p. tokens.Word (parser_text p)) only.1) in
+    let whole : IsNext parsed left lexemes (by_parser b.0, left, a.0.1) = record { is = stand_then (tokens.Sign signs.Pipe ∷ []) (tokens.Word (parser_text b.0) ∷ []) lexemes behind a.0.1 pipe word; only = ap (λ b. b && true) only.0; counts = omega arith } in
+    subst (IsNext parsed left lexemes) (same_ok _ _ b.2) whole)
+    (by_option _ (parser_of a.0.0.token) _ read a.2)
 
 stage_read : (parsed : Bool) (left : ℕ) (lexemes : List Lexeme) (read : StageForm × ℕ × List Lexeme) → stage_comes lexemes ≡ Ok true → stage_at parsed left lexemes ≡ Ok read → IsNext parsed left lexemes read
 unfolding stage_at
 stage_read parsed left lexemes read comes h =
     let a = bind_ok (next lexemes) _ read h in
     let begins : begins_stage a.0.0.token ≡ true = same_ok _ _ (sym (ap (λ r. r >>= λ first. Ok (begins_stage first.0.token)) a.1) ∙ comes) in
-    by_op a.0.0 a.0.1 a.1 (filter_op a.0.0.token) refl begins a.2
-  where
-    filtered : List Lexeme → LineOp → Result (StageForm × ℕ × List Lexeme) QueryFault
-    filtered behind op = filter_at op behind >>= λ filter. Ok (by_filter filter.0, left, filter.1)
-
-    by_op : (first : Lexeme) (behind : List Lexeme) → next lexemes ≡ Ok (first, behind) → (o : Option LineOp) → filter_op first.token ≡ o → is_some o || is_sign signs.Pipe first.token ≡ true
-        → option_map_or (filtered behind) o (piped_at parsed left behind) ≡ Ok read → IsNext parsed left lexemes read
-    by_op first behind n (Some op) is begins h =
-        let b = bind_ok (filter_at op behind) _ read h in
-        let one = filter_read op behind b.0.0 b.0.1 b.1 in
-        let sign = one_read (tokens.Sign (filter_sign b.0.0.op)) lexemes behind first n (op_read first.token op is ∙ ap (λ o. tokens.Sign (filter_sign o)) one.op_is) in
-        let whole : IsNext parsed left lexemes (by_filter b.0.0, left, b.0.1) = record { is = (stand_then (tokens.Sign (filter_sign b.0.0.op) ∷ []) (tokens.Text b.0.0.text ∷ []) lexemes behind b.0.1 sign one.stand, one.proper); only = and_no parsed; counts = omega arith } in
-        subst (IsNext parsed left lexemes) (same_ok _ _ b.2) whole
-    by_op first behind n None is begins h = piped_read parsed left lexemes behind read (one_read (tokens.Sign signs.Pipe) lexemes behind first n (only_sign signs.Pipe first.token begins)) h
+    ⊎_elim
+    (λ none. let pipe : is_sign signs.Pipe a.0.0.token ≡ true = ap (λ o. is_some o || is_sign signs.Pipe a.0.0.token) (sym none.0) ∙ begins in
+    piped_read parsed left lexemes a.0.1 read (one_read (tokens.Sign signs.Pipe) lexemes a.0.1 a.0.0 a.1 (only_sign signs.Pipe a.0.0.token pipe)) none.1)
+    (λ some. let b = bind_ok (filter_at some.0 a.0.1) _ read some.2 in
+    let whole : IsNext parsed left lexemes (by_filter b.0.0, left, b.0.1) = record { is = filter_read a.0.0 lexemes a.0.1 some.0 b.0.0 b.0.1 a.1 some.1 b.1; only = and-false parsed; counts = omega arith } in
+    subst (IsNext parsed left lexemes) (same_ok _ _ b.2) whole)
+    (by_option _ (filter_op a.0.0.token) _ read a.2)
 
 -- a stage is read where one comes
 record IsTaken (parsed : Bool) (left : ℕ) (stage : StageForm) (fewer : ℕ) (lexemes rest : List Lexeme) : Type 0 where
@@ -177,28 +156,18 @@ stages_read : (parsed : Bool) (left most : ℕ) (lexemes : List Lexeme) (stages 
 unfolding stages_at
 stages_read parsed left zero lexemes stages rest h =
     let a = bind_ok (stage_comes lexemes) _ (stages, rest) h in
-    by_test a.0 a.2
-  where
-    by_test : (more : Bool) → cond {A = Result (List StageForm × List Lexeme) QueryFault} more (Err faults.TooDeep) (Ok ([], lexemes)) ≡ Ok (stages, rest) → AreUpTo parsed left zero stages lexemes rest
-    by_test true h = absurd (no_err _ (stages, rest) h)
-    by_test false h = none_read parsed left zero lexemes stages rest h
+    ⊎_elim (λ more. absurd (no_err _ (stages, rest) more.1)) (λ none. none_read parsed left zero lexemes stages rest none.1) (chosen a.0 _ _ (Ok (stages, rest)) a.2)
 stages_read parsed left (suc most) lexemes stages rest h =
     let a = bind_ok (stage_comes lexemes) _ (stages, rest) h in
-    by_test a.0 a.1 a.2 (λ before fewer behind others end read. stages_read before fewer most behind others end read)
-  where
-    reading : Result (List StageForm × List Lexeme) QueryFault
-    reading = stage_at parsed left lexemes >>= λ stage. stages_at (parsed || parses stage.0) stage.1 most stage.2 >>= λ others. Ok (stage.0 ∷ others.0, others.1)
-
-    by_test : (more : Bool) → stage_comes lexemes ≡ Ok more → cond more reading (Ok ([], lexemes)) ≡ Ok (stages, rest)
-        → ((before : Bool) (fewer : ℕ) (behind : List Lexeme) (others : List StageForm) (end : List Lexeme) → stages_at before fewer most behind ≡ Ok (others, end) → AreUpTo before fewer most others behind end) → AreUpTo parsed left (suc most) stages lexemes rest
-    by_test false comes h inner = none_read parsed left (suc most) lexemes stages rest h
-    by_test true comes h inner =
-        let b = bind_ok (stage_at parsed left lexemes) _ (stages, rest) h in
-        let c = bind_ok (stages_at (parsed || parses b.0.0) b.0.1 most b.0.2) _ (stages, rest) b.2 in
-        let one = stage_read parsed left lexemes b.0 comes b.1 in
-        let more = inner (parsed || parses b.0.0) b.0.1 b.0.2 c.0.0 c.0.1 c.1 in
-        let whole : AreUpTo parsed left (suc most) (b.0.0 ∷ c.0.0) lexemes c.0.1 = record { chained = (b.0.2, one.is, more.chained); few = omega (arith, more.few); one_parser = together parsed b.0.0 c.0.0 one.only more.one_parser; few_tests = omega (arith, more.few_tests, one.counts, tests_more b.0.0 c.0.0) } in
-        subst (λ (p : List StageForm × List Lexeme). AreUpTo parsed left (suc most) p.0 lexemes p.1) (same_ok _ _ c.2) whole
+    ⊎_elim
+    (λ yes. let b = bind_ok (stage_at parsed left lexemes) _ (stages, rest) yes.1 in
+    let c = bind_ok (stages_at (parsed || parses b.0.0) b.0.1 most b.0.2) _ (stages, rest) b.2 in
+    let one = stage_read parsed left lexemes b.0 (a.1 ∙ ap (λ (b : Bool). Ok b) yes.0) b.1 in
+    let more = stages_read (parsed || parses b.0.0) b.0.1 most b.0.2 c.0.0 c.0.1 c.1 in
+    let whole : AreUpTo parsed left (suc most) (b.0.0 ∷ c.0.0) lexemes c.0.1 = record { chained = (b.0.2, one.is, more.chained); few = omega (arith, more.few); one_parser = together parsed b.0.0 c.0.0 one.only more.one_parser; few_tests = omega (arith, more.few_tests, one.counts, tests_more b.0.0 c.0.0) } in
+    subst (λ (p : List StageForm × List Lexeme). AreUpTo parsed left (suc most) p.0 lexemes p.1) (same_ok _ _ c.2) whole)
+    (λ none. none_read parsed left (suc most) lexemes stages rest none.1)
+    (chosen a.0 _ _ (Ok (stages, rest)) a.2)
 
 stages_are : (parsed : Bool) (left most : ℕ) (stages : List StageForm) (lexemes rest : List Lexeme) → AreUpTo parsed left most stages lexemes rest → Ends rest → stages_at parsed left most lexemes ≡ Ok (stages, rest)
 unfolding stages_at
