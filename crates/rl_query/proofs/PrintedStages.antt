@@ -1,5 +1,5 @@
 -- What is printed of stages is derived.
-use Rattle.rl_query.proofs.TestPrinted.{tests_tokens, tests_lexes, tests_stand}
+use Rattle.rl_query.proofs.TestPrinted.{tests_tokens, tests_lexes, stand_at}
 use Rattle.rl_query.specs.TestTree.{all_tests}
 use Rattle.rl_query.specs.TestPrinting.{tests_text}
 use Rattle.rl_query.specs.TestGrammar.{is_test}
@@ -13,6 +13,7 @@ use Rattle.rl_labels.specs.Name.{is_name}
 use Rattle.rl_query.specs.declared.stages.Parser.{Parser}
 use Rattle.rl_query.specs.declared.stages.Parser.TheVariants as parsers
 use Rattle.rl_query.specs.declared.token.Lexeme.{Lexeme}
+use Rattle.rl_query.specs.declared.test_printer.Level.TheVariants as levels
 use Rattle.rl_query.specs.declared.token.Sign.TheVariants as signs
 use Rattle.rl_query.specs.declared.token.Token.{Token}
 use Rattle.rl_query.specs.declared.token.Token.TheVariants as tokens
@@ -78,7 +79,7 @@ stage_stands (by_parser parser) lexemes rest proper stand = stand
 stage_stands (by_tests tests) lexemes rest proper stand =
     let parts = and_parts (all_tests is_test tests) (nat_le (text_depth tests) most_depth) proper in
     let split = stand_split (tokens.Sign signs.Pipe ∷ []) (tests_tokens tests) lexemes rest stand in
-    record { behind = split.0; pipe = split.1; are = tests_stand tests most_depth split.0 rest parts.0 (leb-true (text_depth tests) most_depth parts.1) split.2 }
+    record { behind = split.0; pipe = split.1; are = stand_at tests parts.0 levels.Tests most_depth split.0 rest (leb-true (text_depth tests) most_depth parts.1) split.2 }
 
 pub stages_chained : (stages : List StageForm) (lexemes rest : List Lexeme) → list_all is_stage stages ≡ true → Stand (stages_tokens stages) lexemes rest → AreChained stages lexemes rest
 stages_chained [] lexemes rest proper stand = stand

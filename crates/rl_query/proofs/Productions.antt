@@ -233,22 +233,17 @@ join m [] lexemes behind rest element others = absurd others
 join m (o ∷ os) lexemes behind rest element others =
     (stand_then (matcher_tokens m ++ tokens.Sign signs.Comma ∷ []) (matchers_tokens (o ∷ os)) lexemes behind rest element.stand others.0, and_from (is_matcher m) _ element.proper others.1)
 
-abbrev with_first : MatcherForm → List MatcherForm × List Lexeme → Result (List MatcherForm × List Lexeme) QueryFault
-with_first m others = Ok (m ∷ others.0, others.1)
-
 matchers_read : (most : ℕ) (lexemes : List Lexeme) (ms : List MatcherForm) (rest : List Lexeme) → matchers_at most lexemes ≡ Ok (ms, rest) → AreMatchers ms lexemes rest
 unfolding matchers_at
 matchers_read zero lexemes ms rest h = absurd (no_err _ (ms, rest) h)
 matchers_read (suc most) lexemes ms rest h =
     let a = bind_ok (element_at lexemes) _ (ms, rest) h in
-    by_more a.0.0 a.0.1 a.0.2 (element_read lexemes a.0.0 a.0.1 a.0.2 a.1) a.2 (λ others behind read. matchers_read most a.0.2 others behind read)
-  where
-    by_more : (m : MatcherForm) (more : Bool) (behind : List Lexeme) → IsElement m more lexemes behind → cond more (matchers_at most behind >>= with_first m) (Ok (m ∷ [], behind)) ≡ Ok (ms, rest)
-        → ((others : List MatcherForm) (end : List Lexeme) → matchers_at most behind ≡ Ok (others, end) → AreMatchers others behind end) → AreMatchers ms lexemes rest
-    by_more m true behind element h inner =
-        let b = bind_ok (matchers_at most behind) (with_first m) (ms, rest) h in
-        subst (λ (p : List MatcherForm × List Lexeme). AreMatchers p.0 lexemes p.1) (same_ok _ _ b.2) (join m b.0.0 lexemes behind b.0.1 element (inner b.0.0 b.0.1 b.1))
-    by_more m false behind element h inner = subst (λ (p : List MatcherForm × List Lexeme). AreMatchers p.0 lexemes p.1) (same_ok _ _ h) (element.stand, and_from (is_matcher m) true element.proper refl)
+    let element = element_read lexemes a.0.0 a.0.1 a.0.2 a.1 in
+    ⊎_elim
+    (λ yes. let b = bind_ok (matchers_at most a.0.2) _ (ms, rest) yes.1 in
+    subst (λ (p : List MatcherForm × List Lexeme). AreMatchers p.0 lexemes p.1) (same_ok _ _ b.2) (join a.0.0 b.0.0 lexemes a.0.2 b.0.1 (subst (λ more. IsElement a.0.0 more lexemes a.0.2) yes.0 element) (matchers_read most a.0.2 b.0.0 b.0.1 b.1)))
+    (λ no. subst (λ (p : List MatcherForm × List Lexeme). AreMatchers p.0 lexemes p.1) (same_ok _ _ no.1) ((subst (λ more. IsElement a.0.0 more lexemes a.0.2) no.0 element).stand, and_from (is_matcher a.0.0) true element.proper refl))
+    (chosen a.0.1 _ _ (Ok (ms, rest)) a.2)
 
 few_matchers : (ms : List MatcherForm) (lexemes rest : List Lexeme) → Stand (matchers_tokens ms) lexemes rest → length ms ≤ length lexemes
 few_matchers [] lexemes rest stand = omega arith

@@ -65,21 +65,13 @@ parts_bytes [] h = refl
 parts_bytes (part ∷ parts) h = let kept = and_parts (is_decimal part.number) _ h in (part_then part (duration_text parts) kept.0 (parts_bytes parts kept.1)).bytes
 
 -- the facts of a duration that has a part
-pub record HasPart (part : DurationPart) (parts : List DurationPart) : Type 0 where
-  pub first : is_decimal part.number ≡ true
-  pub others : list_all (λ part. is_decimal part.number) parts ≡ true
-
-has_part : (part : DurationPart) (parts : List DurationPart) → is_quantity (quantities.Duration (part ∷ parts)) ≡ true → HasPart part parts
-has_part part parts h =
-    let some = and_parts (nat_lt 0 (length (part ∷ parts))) _ h in
-    let few = and_parts (nat_le (length (part ∷ parts)) 8) _ some.1 in
-    let kept = and_parts (is_decimal part.number) _ few.1 in
-    record { first = kept.0; others = kept.1 }
+has_part : (part : DurationPart) (parts : List DurationPart) → is_quantity (quantities.Duration (part ∷ parts)) ≡ true → (is_decimal part.number ≡ true) × (list_all (λ part. is_decimal part.number) parts ≡ true)
+has_part part parts h = and_parts (is_decimal part.number) _ (and_parts (nat_le (length (part ∷ parts)) 8) _ (and_parts (nat_lt 0 (length (part ∷ parts))) _ h).1).1
 
 pub quantity_number : (quantity : Quantity) → is_quantity quantity ≡ true → IsNumber (quantity_text quantity)
 quantity_number (quantities.Number d) h = subst IsNumber (append-nil (decimal_text d)) (decimal_then d [] h refl)
 quantity_number (quantities.Duration []) h = absurd (true≢false (sym h))
-quantity_number (quantities.Duration (part ∷ parts)) h = let kept = has_part part parts h in part_then part (duration_text parts) kept.first (parts_bytes parts kept.others)
+quantity_number (quantities.Duration (part ∷ parts)) h = let kept = has_part part parts h in part_then part (duration_text parts) kept.0 (parts_bytes parts kept.1)
 quantity_number (quantities.Size size) h = decimal_then size.number (size_unit_text size.unit) h (size_unit_bytes size.unit)
 
 no_unit : (text : List ℕ) → list_all (is_byte_of true) text ≡ true → has_unit text ≡ false

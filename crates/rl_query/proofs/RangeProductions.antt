@@ -26,11 +26,8 @@ use Rattle.rl_query.proofs.Productions.{bind_ok, chosen, no_err, same_ok, if_ok,
 use Rattle.rl_query.proofs.StageProductions.{stages_derived, stages_are_read}
 
 -- the seconds of a range
-record IsSeconds (token : Token) (seconds : ℕ) : Type 0 where
-  pub number : List ℕ
-  pub is : token ≡ tokens.Number number
-  pub read : duration_of number ≡ Some seconds
-  pub in_range : (1 ≤ seconds) × (seconds ≤ longest_range)
+abbrev IsSeconds : Token → ℕ → Type 0
+IsSeconds token seconds = (number : List ℕ) × (token ≡ tokens.Number number) × (duration_of number ≡ Some seconds) × ((1 ≤ seconds) × (seconds ≤ longest_range))
 
 range_read : (place : ℕ) (token : Token) (seconds : ℕ) → range_of place token ≡ Ok seconds → IsSeconds token seconds
 range_read place (tokens.Number number) seconds h = by_duration (duration_of number) refl h
@@ -40,7 +37,7 @@ range_read place (tokens.Number number) seconds h = by_duration (duration_of num
     by_duration (Some s) is h =
         let checked = if_ok (nat_le 1 s && nat_le s longest_range) s seconds faults.BadRange h in
         let bounds = and_parts (nat_le 1 s) (nat_le s longest_range) checked.0 in
-        record { number = number; is = refl; read = is ∙ ap (λ n. Some n) checked.1; in_range = subst (λ n. (1 ≤ n) × (n ≤ longest_range)) checked.1 (leb-true 1 s bounds.0, leb-true s longest_range bounds.1) }
+        (number, refl, is ∙ ap (λ n. Some n) checked.1, subst (λ n. (1 ≤ n) × (n ≤ longest_range)) checked.1 (leb-true 1 s bounds.0, leb-true s longest_range bounds.1))
 range_read place _ seconds h = absurd (no_err _ seconds h)
 
 seconds_read : (position : Position) (lexemes : List Lexeme) (seconds : ℕ) (rest : List Lexeme) → seconds_at position lexemes ≡ Ok (seconds, rest) → IsDuration seconds lexemes rest
@@ -50,16 +47,11 @@ seconds_read position lexemes seconds rest h =
     let b = bind_ok (next a.0) _ (seconds, rest) a.2 in
     let c = bind_ok (range_of b.0.0.place b.0.0.token) _ (seconds, rest) b.2 in
     let d = bind_ok (expected signs.CloseBracket positions.InRange b.0.1) _ (seconds, rest) c.2 in
-    let made : ◌≡◌ {A = ℕ × List Lexeme} (c.0, d.0) (seconds, rest) = same_ok _ _ d.2 in
     let number = range_read b.0.0.place b.0.0.token c.0 c.1 in
-    let whole : IsDuration c.0 lexemes d.0 = record {
-      duration = number.number;
-      stand = stand_then (tokens.Sign signs.OpenBracket ∷ []) (tokens.Number number.number ∷ tokens.Sign signs.CloseBracket ∷ []) lexemes a.0 d.0 (expected_read signs.OpenBracket position lexemes a.0 a.1)
-          (stand_then (tokens.Number number.number ∷ []) (tokens.Sign signs.CloseBracket ∷ []) a.0 b.0.1 d.0 (one_read (tokens.Number number.number) a.0 b.0.1 b.0.0 b.1 number.is) (expected_read signs.CloseBracket positions.InRange b.0.1 d.0 d.1));
-      read = number.read;
-      in_range = number.in_range;
-    } in
-    subst (λ (p : ℕ × List Lexeme). IsDuration p.0 lexemes p.1) made whole
+    let digits = stand_then (tokens.Number number.0 ∷ []) (tokens.Sign signs.CloseBracket ∷ []) a.0 b.0.1 d.0 (one_read (tokens.Number number.0) a.0 b.0.1 b.0.0 b.1 number.1) (expected_read signs.CloseBracket positions.InRange b.0.1 d.0 d.1) in
+    let stand = stand_then (tokens.Sign signs.OpenBracket ∷ []) (tokens.Number number.0 ∷ tokens.Sign signs.CloseBracket ∷ []) lexemes a.0 d.0 (expected_read signs.OpenBracket position lexemes a.0 a.1) digits in
+    let whole : IsDuration c.0 lexemes d.0 = record { duration = number.0; stand = stand; read = number.2; in_range = number.3 } in
+    subst (λ (p : ℕ × List Lexeme). IsDuration p.0 lexemes p.1) (same_ok _ _ d.2) whole
 
 seconds_are : (position : Position) (seconds : ℕ) (lexemes rest : List Lexeme) → IsDuration seconds lexemes rest → seconds_at position lexemes ≡ Ok (seconds, rest)
 unfolding seconds_at
@@ -111,19 +103,10 @@ closing_read lexemes stages seconds rest h =
         subst (λ (p : List StageForm × List Lexeme). IsClosing p.0 n lexemes p.1) (same_ok _ _ a.2) whole
 
 -- what is read keeps the limits
-pub record KeepsLimits (stages : List StageForm) (seconds : ℕ) : Type 0 where
-  pub few : length stages ≤ most_stages
-  pub one_parser : parsers_of stages ≤ 1
-  pub few_tests : label_tests stages ≤ most_tests
-  pub chained : (start end : List Lexeme) × AreChained stages start end
-  pub in_range : (1 ≤ seconds) × (seconds ≤ longest_range)
-
-pub closing_keeps : (lexemes : List Lexeme) (stages : List StageForm) (seconds : ℕ) (rest : List Lexeme) → closing_at false lexemes ≡ Ok (stages, seconds, rest) → KeepsLimits stages seconds
-closing_keeps lexemes stages seconds rest h = let closing = closing_read lexemes stages seconds rest h in by_timed closing.behind closing.timed
-  where
-    by_timed : (behind : List Lexeme) → IsTimed stages seconds lexemes behind → KeepsLimits stages seconds
-    by_timed behind (inl before) = record { few = before.1.few; one_parser = before.1.one_parser; few_tests = before.1.few_tests; chained = (lexemes, before.0, before.1.chained); in_range = before.2.in_range }
-    by_timed behind (inr after) = record { few = after.2.few; one_parser = after.2.one_parser; few_tests = after.2.few_tests; chained = (after.0, behind, after.2.chained); in_range = after.1.in_range }
+pub closing_keeps : (lexemes : List Lexeme) (stages : List StageForm) (seconds : ℕ) (rest : List Lexeme) → closing_at false lexemes ≡ Ok (stages, seconds, rest) → (start end : List Lexeme) × AreStages stages start end × ((1 ≤ seconds) × (seconds ≤ longest_range))
+closing_keeps lexemes stages seconds rest h =
+    let closing = closing_read lexemes stages seconds rest h in
+    ⊎_elim (λ before. (lexemes, before.0, before.1, before.2.in_range)) (λ after. (after.0, closing.behind, after.2, after.1.in_range)) closing.timed
 
 bracket_stops : (n : ℕ) (ls end : List Lexeme) → IsDuration n ls end → Ends ls
 bracket_stops n ls end duration = ends_at (tokens.Sign signs.OpenBracket) (tokens.Number duration.duration ∷ tokens.Sign signs.CloseBracket ∷ []) ls end duration.stand refl refl refl refl

@@ -35,7 +35,7 @@ abbrev join_word : Join → List ℕ
 join_word And = codes "and"
 join_word Or = codes "or"
 
-abbrev enclosed_tokens : (needed : Bool) → List Token → List Token
+abbrev pub enclosed_tokens : (needed : Bool) → List Token → List Token
 enclosed_tokens true ts = tokens.Sign signs.OpenParenthesis ∷ (ts ++ tokens.Sign signs.CloseParenthesis ∷ [])
 enclosed_tokens false ts = ts
 
@@ -94,12 +94,12 @@ tests_lexes (joined join l r) rest proper stop =
     regrouped left between right = simp append_assoc
 
 -- the tokens of tests are tests, at each level with the parentheses that they need there
-abbrev RuleAt : Level → Rule → Rule
+abbrev pub RuleAt : Level → Rule → Rule
 RuleAt levels.Tests Inside = AreTestsIn Inside
 RuleAt levels.All Inside = AreJoined And (IsOne Inside)
 RuleAt levels.One Inside = IsOne Inside
 
-abbrev StandAt : Level → TestTree TestForm → Type 0
+abbrev pub StandAt : Level → TestTree TestForm → Type 0
 StandAt level tests = (depth : ℕ) (lexemes rest : List Lexeme) → deepened (needs level tests) (text_depth tests) ≤ depth → Stand (enclosed_tokens (needs level tests) (tests_tokens tests)) lexemes rest → RuleAt level (AreInside depth) tests lexemes rest
 
 parenthesized : (tests : TestTree TestForm) → ((depth : ℕ) (lexemes rest : List Lexeme) → text_depth tests ≤ depth → Stand (tests_tokens tests) lexemes rest → AreTests depth tests lexemes rest)
@@ -129,7 +129,7 @@ joined_stand join l r left right depth lexemes rest deep stand =
     by_join And middle behind front word back = more l r lexemes middle behind rest front (inl word) back
     by_join Or middle behind front word back = more l r lexemes middle behind rest front word back
 
-stand_at : (tests : TestTree TestForm) → all_tests is_test tests ≡ true → (level : Level) → StandAt level tests
+pub stand_at : (tests : TestTree TestForm) → all_tests is_test tests ≡ true → (level : Level) → StandAt level tests
 stand_at (one t) proper levels.Tests = λ depth lexemes rest deep stand. part _ lexemes rest (part _ lexemes rest (alone t lexemes rest (test_stands t lexemes rest proper stand)))
 stand_at (one t) proper levels.All = λ depth lexemes rest deep stand. part _ lexemes rest (alone t lexemes rest (test_stands t lexemes rest proper stand))
 stand_at (one t) proper levels.One = λ depth lexemes rest deep stand. alone t lexemes rest (test_stands t lexemes rest proper stand)
@@ -145,14 +145,11 @@ stand_at (joined join l r) proper level =
     by_level Or levels.All at = λ depth lexemes rest deep stand. part _ lexemes rest (parenthesized (joined Or l r) at depth lexemes rest deep stand)
     by_level Or levels.One at = parenthesized (joined Or l r) at
 
-pub tests_stand : (tests : TestTree TestForm) (depth : ℕ) (lexemes rest : List Lexeme) → all_tests is_test tests ≡ true → text_depth tests ≤ depth → Stand (tests_tokens tests) lexemes rest → AreTests depth tests lexemes rest
-tests_stand tests depth lexemes rest proper deep stand = stand_at tests proper levels.Tests depth lexemes rest deep stand
-
 -- what is printed is derived, up to the end
 pub tests_printed : (tests : TestTree TestForm) (depth : ℕ) → all_tests is_test tests ≡ true → text_depth tests ≤ depth → AreTests depth tests (lexemes_of (tests_text tests)) (ended (tests_text tests))
 tests_printed tests depth proper deep =
     let lexes = subst (λ t. Lexes (tests_tokens tests) t []) (append-nil (tests_text tests)) (tests_lexes tests [] proper refl) in
-    tests_stand tests depth (lexemes_of (tests_text tests)) (ended (tests_text tests)) proper deep (all_stand (tests_tokens tests) (tests_text tests) lexes)
+    stand_at tests proper levels.Tests depth (lexemes_of (tests_text tests)) (ended (tests_text tests)) deep (all_stand (tests_tokens tests) (tests_text tests) lexes)
 
 -- the facts of the types are what a test's form keeps
 pub tests_kept : (tests : TestTree LabelTest) → all_tests is_test (tests_form tests) ≡ true

@@ -10,7 +10,7 @@ use Rattle.rl_query.specs.declared.token.Token.TheVariants as tokens
 use Rattle.rl_query.specs.Form.{TestForm}
 use Rattle.rl_query.specs.Fronts.{is_sign}
 use Rattle.rl_query.specs.TestGrammar.{Rule, IsLabelTest, IsOne, alone, in_parentheses, Joins, AreJoined, part, more, AreTestsIn, AreInside, AreTests, IsEnd}
-use Rattle.rl_query.specs.Testing.{Reader, is_label, test_at, enclosed_at, one_at, behind_and, behind_join, others_at, joined_at, tests_in, inside_at, tests_at}
+use Rattle.rl_query.specs.Testing.{Reading, Reader, is_label, test_at, enclosed_at, one_at, behind_and, behind_join, others_at, joined_at, tests_in, inside_at, tests_at}
 use Rattle.rl_query.specs.TestTree.{TestTree, one, joined, count_tests}
 use Rattle.rl_query.proofs.Chains.{stops}
 use Rattle.rl_query.proofs.StageStarts.{one_starts, no_more}
@@ -40,30 +40,22 @@ some_test : (tests : TestTree TestForm) → 1 ≤ count_tests tests
 some_test (one test) = omega arith
 some_test (joined join l r) = omega (arith, some_test l)
 
--- what was joined so far, and how many parts more may be, which are no fewer than the tests that may still come
-record Chain (join : Join) (reader : Reader) (tests : TestTree TestForm) (lexemes rest : List Lexeme) (left fewer : ℕ) : Type 0 where
-  pub most : ℕ
-  pub enough : fewer ≤ most
-  pub reads : joined_at join reader left lexemes ≡ others_at join reader most tests fewer rest
-
-chain : (join : Join) (reader : Reader) (Part : Rule) (Ends : List Lexeme → Type 0) → IsComplete reader Part Ends → JoinsAre join Part Ends
-    → (tests : TestTree TestForm) (lexemes rest : List Lexeme) (left fewer : ℕ) → AreJoined join Part tests lexemes rest → Ends rest → count_tests tests + fewer ≡ left → Chain join reader tests lexemes rest left fewer
+-- what is read of parts is what is read behind them, where no fewer may be joined than tests may still come
+chain : (join : Join) (reader : Reader) (Part : Rule) (Ends : List Lexeme → Type 0) → IsComplete reader Part Ends → JoinsAre join Part Ends → (tests : TestTree TestForm) (lexemes rest : List Lexeme) (left fewer : ℕ) (whole : Reading) → AreJoined join Part tests lexemes rest → Ends rest
+    → count_tests tests + fewer ≡ left → ((most : ℕ) → fewer ≤ most → others_at join reader most tests fewer rest ≡ whole) → joined_at join reader left lexemes ≡ whole
 unfolding joined_at others_at
-chain join reader Part Ends complete are _ _ _ left fewer (part tests lexemes rest is) ends count = record { most = left; enough = omega (arith, count); reads = rw (complete tests lexemes rest left fewer is ends count) refl }
-chain join reader Part Ends complete are _ _ _ left fewer (more l r lexemes middle behind rest front joins is) ends count =
-    let found = are r middle behind rest joins is in
-    let so_far = chain join reader Part Ends complete are l lexemes middle left (count_tests r + fewer) front found.1 (omega (arith, count)) in
-    one_more so_far.most so_far.enough so_far.reads found.0 (complete r behind rest (count_tests r + fewer) fewer is ends refl)
+chain join reader Part Ends complete are _ _ _ left fewer whole (part tests lexemes rest is) ends count then = rw (complete tests lexemes rest left fewer is ends count) (then left (omega (arith, count)))
+chain join reader Part Ends complete are _ _ _ left fewer whole (more l r lexemes middle behind rest front joins is) ends count then =
+    chain join reader Part Ends complete are l lexemes middle left (count_tests r + fewer) whole front (are r middle behind rest joins is).1 (omega (arith, count)) one_more
   where
-    one_more : (most : ℕ) → count_tests r + fewer ≤ most → joined_at join reader left lexemes ≡ others_at join reader most l (count_tests r + fewer) middle → behind_join join middle ≡ Some behind → reader (count_tests r + fewer) behind ≡ Ok (r, fewer, rest) → Chain join reader (joined join l r) lexemes rest left fewer
-    one_more zero enough reads found right = absurd (omega (arith, enough, some_test r))
-    one_more (suc most) enough reads found right = record { most = most; enough = omega (arith, enough, some_test r); reads = reads ∙ rw (found, right) refl }
+    one_more : (most : ℕ) → count_tests r + fewer ≤ most → others_at join reader most l (count_tests r + fewer) middle ≡ whole
+    one_more zero enough = absurd (omega (arith, enough, some_test r))
+    one_more (suc most) enough = rw ((are r middle behind rest joins is).0, complete r behind rest (count_tests r + fewer) fewer is ends refl) (then most (omega (arith, enough, some_test r)))
 
 joined_complete : (join : Join) (reader : Reader) (Part : Rule) (Ends : List Lexeme → Type 0) → IsComplete reader Part Ends → JoinsAre join Part Ends
     → (tests : TestTree TestForm) (lexemes rest : List Lexeme) (left fewer : ℕ) → AreJoined join Part tests lexemes rest → Ends rest → behind_join join rest ≡ None → count_tests tests + fewer ≡ left → joined_at join reader left lexemes ≡ Ok (tests, fewer, rest)
 joined_complete join reader Part Ends complete are tests lexemes rest left fewer is ends none count =
-    let c = chain join reader Part Ends complete are tests lexemes rest left fewer is ends count in
-    c.reads ∙ stops join reader c.most tests fewer rest (others_at join reader c.most tests fewer rest) none refl
+    chain join reader Part Ends complete are tests lexemes rest left fewer (Ok (tests, fewer, rest)) is ends count (λ most enough. stops join reader most tests fewer rest (others_at join reader most tests fewer rest) none refl)
 
 test_complete : (inside : Reader) (test : TestForm) (lexemes rest : List Lexeme) (fewer : ℕ) → IsLabelTest test lexemes rest → one_at inside (suc fewer) lexemes ≡ Ok (one test, fewer, rest)
 unfolding one_at test_at

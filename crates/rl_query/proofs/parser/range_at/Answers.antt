@@ -13,9 +13,9 @@ pub invariant_of-range : goal.invariant_of-range
 invariant_of-range c =
     let stages = c.in_ok-stages.stages.items in
     let keeps = closing_keeps _ (map stage_form stages) c.in_ok-stages.seconds c.in_ok-stages.rest.now c.in_ok-stages.ensures in
-    let few : length stages ≤ most_stages = omega (arith, keeps.few, length-map stages stage_form) in
-    let one_parser : count_parsers stages ≤ 1 = omega (arith, keeps.one_parser, parser_forms stages) in
-    let few_tests : count_label_tests stages ≤ most_tests = omega (arith, keeps.few_tests, label_forms stages) in
-    let shallow : are_shallow stages ≡ true = shallow_forms stages keeps.chained.0 keeps.chained.1 keeps.chained.2 in
+    let few : length stages ≤ most_stages = omega (arith, keeps.2.few, length-map stages stage_form) in
+    let one_parser : count_parsers stages ≤ 1 = omega (arith, keeps.2.one_parser, parser_forms stages) in
+    let few_tests : count_label_tests stages ≤ most_tests = omega (arith, keeps.2.few_tests, label_forms stages) in
+    let shallow : are_shallow stages ≡ true = shallow_forms stages keeps.0 keeps.1 keeps.2.chained in
     let same = sym c.from_vec-stages.ensures in
-    record { few = subst (λ (all : List Stage). length all ≤ most_stages) same few; one_parser = subst (λ (all : List Stage). count_parsers all ≤ 1) same one_parser; few_tests = subst (λ (all : List Stage). count_label_tests all ≤ most_tests) same few_tests; shallow = subst (λ (all : List Stage). are_shallow all ≡ true) same shallow; in_range = keeps.in_range }
+    record { few = subst (λ (all : List Stage). length all ≤ most_stages) same few; one_parser = subst (λ (all : List Stage). count_parsers all ≤ 1) same one_parser; few_tests = subst (λ (all : List Stage). count_label_tests all ≤ most_tests) same few_tests; shallow = subst (λ (all : List Stage). are_shallow all ≡ true) same shallow; in_range = keeps.3 }
