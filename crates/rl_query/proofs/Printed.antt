@@ -15,6 +15,7 @@ use Rattle.rl_labels.specs.declared.matcher.MatchOp.{MatchOp}
 use Rattle.rl_labels.specs.declared.matcher.MatchOp.TheVariants as operators
 use Rattle.rl_query.specs.declared.filter.LineOp.{LineOp}
 use Rattle.rl_query.specs.declared.filter.LineOp.TheVariants as lines
+use Rattle.rl_query.specs.declared.token.Lexeme.{Lexeme}
 use Rattle.rl_query.specs.declared.token.Sign.{Sign}
 use Rattle.rl_query.specs.declared.token.Sign.TheVariants as signs
 use Rattle.rl_query.specs.declared.token.Token.{Token}
@@ -31,25 +32,40 @@ use Rattle.rl_query.specs.TestGrammar.{ended}
 use Rattle.rl_query.specs.Tables.{one_byte, two_bytes, escapes}
 use Rattle.rl_query.proofs.Productions.{stand_then}
 
--- the tokens that a text begins with, and what is left of it
-pub record Lexes (front : List Token) (text rest : List ℕ) : Type 0 where
-  pub stand : (total most : ℕ) → Stand front (lexemes_in (length front + most) total text) (lexemes_in most total rest)
-  pub shorter : length front + length rest ≤ length text
+-- what a text begins with is read as what R relates, and what is left of it
+pub record Prints (R : List Lexeme → List Lexeme → Type 0) (text rest : List ℕ) : Type 0 where
+  pub count : ℕ
+  pub reads : (total most : ℕ) → R (lexemes_in (count + most) total text) (lexemes_in most total rest)
+  pub shorter : count + length rest ≤ length text
 
-pub lexes_then : (front others : List Token) (text behind rest : List ℕ) → Lexes front text behind → Lexes others behind rest → Lexes (front ++ others) text rest
-lexes_then front others text behind rest first second = record {
-  stand = λ total most.
-      let count : length front + (length others + most) ≡ length (front ++ others) + most = omega (arith, length-append front others) in
-      subst (λ n. Stand (front ++ others) (lexemes_in n total text) (lexemes_in most total rest)) count (stand_then front others _ _ _ (first.stand total (length others + most)) (second.stand total most));
-  shorter = omega (arith, length-append front others, first.shorter, second.shorter);
+-- the tokens that a text begins with
+abbrev pub Lexes : List Token → List ℕ → List ℕ → Type 0
+Lexes front text rest = Prints (Stand front) text rest
+
+-- what is printed as one thing is another
+pub prints_as : (R S : List Lexeme → List Lexeme → Type 0) → ((a b : List Lexeme) → R a b → S a b) → (text rest : List ℕ) → Prints R text rest → Prints S text rest
+prints_as R S turned text rest prints = record { count = prints.count; reads = λ total most. turned _ _ (prints.reads total most); shorter = prints.shorter }
+
+-- one thing behind the other
+pub prints_then : (R S T : List Lexeme → List Lexeme → Type 0) → ((a b c : List Lexeme) → R a b → S b c → T a c) → (text behind rest : List ℕ) → Prints R text behind → Prints S behind rest → Prints T text rest
+prints_then R S T join text behind rest first second = record {
+  count = first.count + second.count;
+  reads = λ total most.
+      let count : first.count + (second.count + most) ≡ first.count + second.count + most = omega arith in
+      subst (λ n. T (lexemes_in n total text) (lexemes_in most total rest)) count (join _ _ _ (first.reads total (second.count + most)) (second.reads total most));
+  shorter = omega (arith, first.shorter, second.shorter);
 }
 
--- a space before tokens
-pub spaced : (front : List Token) (text rest : List ℕ) → Lexes front text rest → Lexes front (32 ∷ text) rest
+pub lexes_then : (front others : List Token) (text behind rest : List ℕ) → Lexes front text behind → Lexes others behind rest → Lexes (front ++ others) text rest
+lexes_then front others text behind rest first second = prints_then (Stand front) (Stand others) (Stand (front ++ others)) (λ a b c. stand_then front others a b c) text behind rest first second
+
+-- a space before it
+pub spaced : (R : List Lexeme → List Lexeme → Type 0) (text rest : List ℕ) → Prints R text rest → Prints R (32 ∷ text) rest
 unfolding lexemes_in
-spaced front text rest lexes = record {
-  stand = λ total most. subst (λ ls. Stand front ls (lexemes_in most total rest)) (passed (length front + most) total) (lexes.stand total most);
-  shorter = omega (arith, lexes.shorter);
+spaced R text rest prints = record {
+  count = prints.count;
+  reads = λ total most. subst (λ ls. R ls (lexemes_in most total rest)) (passed (prints.count + most) total) (prints.reads total most);
+  shorter = omega (arith, prints.shorter);
 }
   where
     passed : (most total : ℕ) → lexemes_in most total text ≡ lexemes_in most total (32 ∷ text)
@@ -62,7 +78,8 @@ spaced front text rest lexes = record {
 pub token_lexes : (token : Token) (b : ℕ) (bytes rest : List ℕ) → gap_len false (b ∷ bytes) ≡ 0 → token_at (b ∷ bytes) ≡ (token, rest) → length rest ≤ length bytes → Lexes (token ∷ []) (b ∷ bytes) rest
 unfolding lexemes_in
 token_lexes token b bytes rest no_gap is shorter = record {
-  stand = λ total most.
+  count = 1;
+  reads = λ total most.
       let next : suc most ≡ 1 + most = omega arith in
       let place = total - length (b ∷ bytes) in
       let some : (length (b ∷ bytes) == 0) ≡ false = ne_eqb (length (b ∷ bytes)) 0 (λ e. omega (arith, e)) in
@@ -197,7 +214,7 @@ matchers_lexes m (o ∷ os) rest proper =
     let grouped : others_text (o ∷ os) ++ 125 ∷ rest ≡ 44 ∷ 32 ∷ behind = ap (λ t. 44 ∷ 32 ∷ t) (append_assoc (matcher_text o) (others_text os) (125 ∷ rest)) in
     subst (λ t. Lexes (matchers_tokens (m ∷ o ∷ os)) (matcher_text m ++ t) rest) (sym grouped)
     (lexes_then (matcher_tokens m) (tokens.Sign signs.Comma ∷ matchers_tokens (o ∷ os)) (matcher_text m ++ 44 ∷ 32 ∷ behind) (44 ∷ 32 ∷ behind) rest (matcher_lexes m (44 ∷ 32 ∷ behind) parts.0)
-    (lexes_then (tokens.Sign signs.Comma ∷ []) (matchers_tokens (o ∷ os)) (44 ∷ 32 ∷ behind) (32 ∷ behind) rest (lone_sign 44 (32 ∷ behind) signs.Comma refl refl refl (λ _. refl)) (spaced (matchers_tokens (o ∷ os)) behind rest (matchers_lexes o os rest parts.1))))
+    (lexes_then (tokens.Sign signs.Comma ∷ []) (matchers_tokens (o ∷ os)) (44 ∷ 32 ∷ behind) (32 ∷ behind) rest (lone_sign 44 (32 ∷ behind) signs.Comma refl refl refl (λ _. refl)) (spaced (Stand (matchers_tokens (o ∷ os))) behind rest (matchers_lexes o os rest parts.1))))
 
 -- the digits of a number
 digit_byte : (n : ℕ) → n < 10 → is_ascii_digit (48 + n) ≡ true
@@ -273,7 +290,7 @@ unfolding token_at
 duration_lexes n rest small =
     let number = decimal n ++ 115 ∷ 93 ∷ rest in
     let token = tokens.Number (decimal n ++ 115 ∷ []) in
-    spaced (tokens.Sign signs.OpenBracket ∷ token ∷ tokens.Sign signs.CloseBracket ∷ []) (91 ∷ number) rest
+    spaced (Stand (tokens.Sign signs.OpenBracket ∷ token ∷ tokens.Sign signs.CloseBracket ∷ [])) (91 ∷ number) rest
     (lexes_then (tokens.Sign signs.OpenBracket ∷ []) (token ∷ tokens.Sign signs.CloseBracket ∷ []) (91 ∷ number) number rest (lone_sign 91 number signs.OpenBracket refl refl refl (λ _. refl))
     (lexes_then (token ∷ []) (tokens.Sign signs.CloseBracket ∷ []) number (93 ∷ rest) rest (seconds_lexes n rest small) (lone_sign 93 rest signs.CloseBracket refl refl refl (λ _. refl))))
 
@@ -282,12 +299,12 @@ unfolding lexemes_in
 end_left zero total = refl
 end_left (suc most) total = refl
 
--- what is printed as tokens is read as these, up to the end
-pub all_stand : (ts : List Token) (text : List ℕ) → Lexes ts text [] → Stand ts (lexemes_of text) (ended text)
-all_stand ts text lexes =
-    let left = length text - length ts in
-    let fuel : length ts + left ≡ length text = omega (arith, lexes.shorter) in
-    subst (λ k. Stand ts (lexemes_in k (length text) text) (ended text)) fuel (subst (λ ls. Stand ts (lexemes_in (length ts + left) (length text) text) ls) (end_left left (length text)) (lexes.stand (length text) left))
+-- what is printed is read up to the end
+pub prints_all : (R : List Lexeme → List Lexeme → Type 0) (text : List ℕ) → Prints R text [] → R (lexemes_of text) (ended text)
+prints_all R text prints =
+    let left = length text - prints.count in
+    let fuel : prints.count + left ≡ length text = omega (arith, prints.shorter) in
+    subst (λ k. R (lexemes_in k (length text) text) (ended text)) fuel (subst (λ ls. R (lexemes_in (prints.count + left) (length text) text) ls) (end_left left (length text)) (prints.reads (length text) left))
 
 -- a line filter's sign before a space
 sign_lexes : (op : LineOp) (rest : List ℕ) → Lexes (tokens.Sign (filter_sign op) ∷ []) (filter_op_text op ++ 32 ∷ rest) (32 ∷ rest)
@@ -301,15 +318,15 @@ pub filter_lexes : (filter : FilterForm) (rest : List ℕ) → Lexes (filter_tok
 filter_lexes filter rest =
     let text = 34 ∷ (escaped escapes filter.text ++ 34 ∷ rest) in
     subst (λ t. Lexes (filter_tokens filter) t rest) (sym (regrouped (filter_op_text filter.op) (escaped escapes filter.text)))
-    (lexes_then (tokens.Sign (filter_sign filter.op) ∷ []) (tokens.Text filter.text ∷ []) (filter_op_text filter.op ++ 32 ∷ text) (32 ∷ text) rest (sign_lexes filter.op text) (spaced (tokens.Text filter.text ∷ []) text rest (text_lexes filter.text rest)))
+    (lexes_then (tokens.Sign (filter_sign filter.op) ∷ []) (tokens.Text filter.text ∷ []) (filter_op_text filter.op ++ 32 ∷ text) (32 ∷ text) rest (sign_lexes filter.op text) (spaced (Stand (tokens.Text filter.text ∷ [])) text rest (text_lexes filter.text rest)))
   where
     regrouped : (sign value : List ℕ) → (sign ++ (32 ∷ 34 ∷ []) ++ value ++ (34 ∷ [])) ++ rest ≡ sign ++ (32 ∷ 34 ∷ (value ++ 34 ∷ rest))
     regrouped sign value = simp append_assoc
 
 pub filters_lexes : (filters : List FilterForm) (rest : List ℕ) → Lexes (filters_tokens filters) (filters_text filters ++ rest) rest
-filters_lexes [] rest = record { stand = λ total most. let none : 0 + most ≡ most = omega arith in ap (λ n. lexemes_in n total rest) none; shorter = omega arith }
+filters_lexes [] rest = record { count = 0; reads = λ total most. let none : 0 + most ≡ most = omega arith in ap (λ n. lexemes_in n total rest) none; shorter = omega arith }
 filters_lexes (filter ∷ filters) rest =
     let behind = filters_text filters ++ rest in
     let grouped : filters_text (filter ∷ filters) ++ rest ≡ 32 ∷ (filter_print filter ++ behind) = ap (λ t. 32 ∷ t) (append_assoc (filter_print filter) (filters_text filters) rest) in
     subst (λ t. Lexes (filters_tokens (filter ∷ filters)) t rest) (sym grouped)
-    (lexes_then (filter_tokens filter) (filters_tokens filters) (32 ∷ (filter_print filter ++ behind)) behind rest (spaced (filter_tokens filter) (filter_print filter ++ behind) behind (filter_lexes filter behind)) (filters_lexes filters rest))
+    (lexes_then (filter_tokens filter) (filters_tokens filters) (32 ∷ (filter_print filter ++ behind)) behind rest (spaced (Stand (filter_tokens filter)) (filter_print filter ++ behind) behind (filter_lexes filter behind)) (filters_lexes filters rest))

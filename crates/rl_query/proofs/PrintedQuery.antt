@@ -11,12 +11,14 @@ use Rattle.rl_query.specs.declared.query.RangeFunction.TheVariants as functions
 use Rattle.rl_query.specs.declared.token.Sign.TheVariants as signs
 use Rattle.rl_query.specs.declared.token.Token.TheVariants as tokens
 use Rattle.rl_query.specs.Standing.{Stand, is_matcher}
-use Rattle.rl_query.specs.Grammar.{matchers_tokens, IsRange, Derives}
+use Rattle.rl_query.specs.Grammar.{matchers_tokens, IsSelector, IsDuration, AreChained, AreStages, IsTimed, IsRange, IsTerm, Derives}
+use Rattle.rl_query.specs.TestGrammar.{ended}
+use Rattle.rl_query.specs.declared.token.Lexeme.{Lexeme}
 use Rattle.rl_query.specs.Lexing.{token_at, lexemes_in}
 use Rattle.rl_query.specs.MatcherPrinting.{matcher_text}
 use Rattle.rl_query.specs.Printing.{function_text, query_text, stages_text}
-use Rattle.rl_query.proofs.Printed.{others_text, word_lexes, lone_sign, selector_lexes, duration_lexes, seconds_read, end_left}
-use Rattle.rl_query.proofs.PrintedStages.{is_stage, stages_tokens, stages_lexes, stages_chained}
+use Rattle.rl_query.proofs.Printed.{prints_as, prints_then, prints_all, others_text, word_lexes, lone_sign, selector_lexes, duration_lexes, seconds_read}
+use Rattle.rl_query.proofs.PrintedStages.{is_stage, stages_print}
 
 -- what a form keeps of a query's limits
 pub record Keeps (query : QueryForm) : Type 0 where
@@ -48,6 +50,15 @@ query_printed query keeps = by_matchers query.left.range.matchers keeps.matchers
     regrouped : (name first others filters digits : List ℕ) → name ++ (40 ∷ []) ++ ((123 ∷ []) ++ (first ++ others) ++ (125 ∷ []) ++ filters ++ (32 ∷ 91 ∷ []) ++ digits ++ (115 ∷ 93 ∷ [])) ++ (41 ∷ []) ≡ name ++ (40 ∷ 123 ∷ (first ++ (others ++ 125 ∷ (filters ++ 32 ∷ 91 ∷ (digits ++ 115 ∷ 93 ∷ 41 ∷ [])))))
     regrouped name first others filters digits = simp append_assoc
 
+    Close : List Lexeme → List Lexeme → Type 0
+    Close = Stand (tokens.Sign signs.CloseParenthesis ∷ [])
+
+    Ending : List Lexeme → List Lexeme → Type 0
+    Ending lexemes rest = (behind : List Lexeme) × IsTimed ss n lexemes behind × Close behind rest
+
+    Inside : List MatcherForm → List Lexeme → List Lexeme → Type 0
+    Inside ms lexemes rest = (behind : List Lexeme) × IsSelector ms lexemes behind × Ending behind rest
+
     form : List MatcherForm → QueryForm
     form ms = record { left = record { function = f; range = record { matchers = ms; stages = ss; seconds = n } } }
 
@@ -60,26 +71,16 @@ query_printed query keeps = by_matchers query.left.range.matchers keeps.matchers
         let stages = stages_text ss ++ duration in
         let selector = 123 ∷ (matcher_text m ++ (others_text ms ++ 125 ∷ stages)) in
         let text = function_text f ++ (40 ∷ selector) in
-        let total = length text in
+        let term = (form (m ∷ ms)).left in
         let name = word_lexes (function_text f) (40 ∷ selector) (function_named f) refl in
         let opened = lone_sign 40 selector signs.OpenParenthesis refl refl refl (λ _. refl) in
-        let matchers = selector_lexes m ms stages proper in
-        let staged = stages_lexes ss duration keeps.stages refl in
-        let bracketed = duration_lexes n closing small in
+        let matchers = prints_as (Stand (tokens.Sign signs.OpenBrace ∷ matchers_tokens (m ∷ ms))) (IsSelector (m ∷ ms)) (λ a b stand. record { stand = stand; proper = proper; real = real }) selector stages (selector_lexes m ms stages proper) in
+        let staged = prints_as (AreChained ss) (AreStages ss) (λ a b chained. record { chained = chained; few = keeps.few; one_parser = keeps.one_parser; few_tests = keeps.few_tests }) stages duration (stages_print ss duration keeps.stages refl) in
+        let bracketed = prints_as (Stand (tokens.Sign signs.OpenBracket ∷ tokens.Number (decimal n ++ 115 ∷ []) ∷ tokens.Sign signs.CloseBracket ∷ [])) (IsDuration n) (λ a b stand. record { duration = decimal n ++ 115 ∷ []; stand = stand; read = seconds_read n small; in_range = keeps.in_range }) duration closing (duration_lexes n closing small) in
         let closed = lone_sign 41 [] signs.CloseParenthesis refl refl refl (λ _. refl) in
-        let count = length (tokens.Sign signs.OpenBrace ∷ matchers_tokens (m ∷ ms)) in
-        let few = length (stages_tokens ss) in
-        let left = total - (1 + (1 + (count + (few + (3 + (1 + 0)))))) in
-        let fuel : 1 + (1 + (count + (few + (3 + (1 + left))))) ≡ total = omega (arith, name.shorter, opened.shorter, matchers.shorter, staged.shorter, bracketed.shorter, closed.shorter) in
-        let range : IsRange (record { matchers = m ∷ ms; stages = ss; seconds = n }) (lexemes_in (1 + (count + (few + (3 + (1 + left))))) total (40 ∷ selector)) (lexemes_in left total []) = record {
-          behind_parenthesis = lexemes_in (count + (few + (3 + (1 + left)))) total selector;
-          behind_selector = lexemes_in (few + (3 + (1 + left))) total stages;
-          behind_duration = lexemes_in (1 + left) total closing;
-          opened = opened.stand total (count + (few + (3 + (1 + left))));
-          selector = record { stand = matchers.stand total (few + (3 + (1 + left))); proper = proper; real = real };
-          timed = inl (lexemes_in (3 + (1 + left)) total duration, record { chained = stages_chained ss _ _ keeps.stages (staged.stand total (3 + (1 + left))); few = keeps.few; one_parser = keeps.one_parser; few_tests = keeps.few_tests }, record { duration = decimal n ++ 115 ∷ []; stand = bracketed.stand total (1 + left); read = seconds_read n small; in_range = keeps.in_range });
-          closed = closed.stand total left;
-        } in
-        let start = subst (λ k. Stand (tokens.Word (function_text f) ∷ []) (lexemes_in k total text) (lexemes_in (1 + (count + (few + (3 + (1 + left))))) total (40 ∷ selector))) fuel (name.stand total (1 + (count + (few + (3 + (1 + left)))))) in
-        subst (λ t. Derives t (form (m ∷ ms))) (sym (regrouped (function_text f) (matcher_text m) (others_text ms) (stages_text ss) (decimal n)))
-        (lexemes_in left total [], [], (lexemes_in (1 + (count + (few + (3 + (1 + left))))) total (40 ∷ selector), start, range), subst (λ ls. Stand (tokens.End ∷ []) ls []) (sym (end_left left total)) (refl, refl))
+        let timed = prints_then (AreStages ss) (IsDuration n) (IsTimed ss n) (λ a b c are is. inl (b, are, is)) stages duration closing staged bracketed in
+        let ending = prints_then (IsTimed ss n) Close Ending (λ a b c is closed. (b, is, closed)) stages closing [] timed closed in
+        let inside = prints_then (IsSelector (m ∷ ms)) Ending (Inside (m ∷ ms)) (λ a b c is behind. (b, is, behind)) selector stages [] matchers ending in
+        let range = prints_then (Stand (tokens.Sign signs.OpenParenthesis ∷ [])) (Inside (m ∷ ms)) (IsRange term.range) (λ a b c opened is. record { behind_parenthesis = b; behind_selector = is.0; behind_duration = is.2.0; opened = opened; selector = is.1; timed = is.2.1; closed = is.2.2 }) (40 ∷ selector) selector [] opened inside in
+        let whole = prints_all (IsTerm term) text (prints_then (Stand (tokens.Word (function_text f) ∷ [])) (IsRange term.range) (IsTerm term) (λ a b c word is. (b, word, is)) text (40 ∷ selector) [] name range) in
+        subst (λ t. Derives t (form (m ∷ ms))) (sym (regrouped (function_text f) (matcher_text m) (others_text ms) (stages_text ss) (decimal n))) (ended text, [], whole, (refl, refl))

@@ -11,7 +11,7 @@ use Rattle.rl_query.specs.Lexing.{lexemes_of}
 use Rattle.rl_query.specs.Limits.{is_filter, most_stages}
 use Rattle.rl_query.specs.MatcherPrinting.{matcher_text}
 use Rattle.rl_query.specs.Printing.{filters_text, sieve_text}
-use Rattle.rl_query.proofs.Printed.{others_text, lexes_then, selector_lexes, filters_lexes, all_stand}
+use Rattle.rl_query.proofs.Printed.{others_text, lexes_then, selector_lexes, filters_lexes, prints_all}
 use Rattle.rl_query.proofs.Productions.{stand_split}
 use Rattle.rl_query.specs.TestGrammar.{ended}
 
@@ -42,7 +42,7 @@ sieve_printed sieve keeps = by_matchers sieve.matchers keeps.matchers keeps.real
         let text = 123 ∷ (matcher_text m ++ (others_text ms ++ 125 ∷ filters)) in
         let front = tokens.Sign signs.OpenBrace ∷ matchers_tokens (m ∷ ms) in
         let lexes = lexes_then front (filters_tokens fs) text filters [] (selector_lexes m ms filters matchers) (filters_lexes fs []) in
-        let split = stand_split front (filters_tokens fs) (lexemes_of text) (ended text) (all_stand (front ++ filters_tokens fs) text lexes) in
+        let split = stand_split front (filters_tokens fs) (lexemes_of text) (ended text) (prints_all (Stand (front ++ filters_tokens fs)) text lexes) in
         subst (λ t. DerivesSieve t (form (m ∷ ms))) (sym (regrouped (matcher_text m) (others_text ms) (filters_text fs)))
         (record {
           behind_selector = split.0;

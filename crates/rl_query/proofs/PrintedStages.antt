@@ -1,8 +1,8 @@
 -- What is printed of stages is derived.
-use Rattle.rl_query.proofs.TestPrinted.{tests_tokens, tests_lexes, stand_at}
+use Rattle.rl_query.proofs.TestPrinted.{Stops, prints_at}
 use Rattle.rl_query.specs.TestTree.{all_tests}
 use Rattle.rl_query.specs.TestPrinting.{tests_text}
-use Rattle.rl_query.specs.TestGrammar.{is_test}
+use Rattle.rl_query.specs.TestGrammar.{AreTests, is_test}
 use Rattle.rl_query.specs.TestDepth.{text_depth}
 use Rattle.rl_query.specs.Limits.{most_depth, is_filter}
 use Rattle.rl_query.specs.Form.{by_tests, StageForm, by_filter, by_parser}
@@ -20,20 +20,9 @@ use Rattle.rl_query.specs.declared.token.Token.TheVariants as tokens
 use Rattle.rl_query.specs.Standing.{Stand}
 use Rattle.rl_query.specs.Grammar.{filter_tokens, parser_tokens, IsStage, AreChained}
 use Rattle.rl_query.specs.Lexing.{is_number_byte, lexemes_in, token_at}
-use Rattle.rl_query.specs.Printing.{parser_text, stage_print, stages_text}
+use Rattle.rl_query.specs.Printing.{parser_text, filter_print, stage_print, stages_text}
 use Rattle.rl_query.proofs.QuantityPrinted.{name_stops}
-use Rattle.rl_query.proofs.Printed.{Lexes, lexes_then, spaced, token_lexes, word_lexes, filter_lexes}
-use Rattle.rl_query.proofs.Productions.{stand_split}
-
--- the tokens that are printed
-abbrev stage_tokens : StageForm → List Token
-stage_tokens (by_filter filter) = filter_tokens filter
-stage_tokens (by_parser parser) = parser_tokens parser
-stage_tokens (by_tests tests) = tokens.Sign signs.Pipe ∷ tests_tokens tests
-
-abbrev pub stages_tokens : List StageForm → List Token
-stages_tokens [] = []
-stages_tokens (stage ∷ stages) = stage_tokens stage ++ stages_tokens stages
+use Rattle.rl_query.proofs.Printed.{Prints, Lexes, prints_as, prints_then, lexes_then, spaced, token_lexes, word_lexes, filter_lexes}
 
 -- where a stage has a pattern it is one
 abbrev pub is_stage : StageForm → Bool
@@ -50,40 +39,26 @@ unfolding token_at
 pipe_lexes rest = token_lexes (tokens.Sign signs.Pipe) 124 (32 ∷ rest) (32 ∷ rest) refl refl (omega arith)
 
 -- a stage, and what does not go on with it
-stage_lexes : (stage : StageForm) (rest : List ℕ) → is_stage stage ≡ true → prefix_len is_number_byte rest ≡ 0 → Lexes (stage_tokens stage) (stage_print stage ++ rest) rest
-stage_lexes (by_filter filter) rest proper stop = filter_lexes filter rest
-stage_lexes (by_tests tests) rest proper stop =
+stage_prints : (stage : StageForm) (rest : List ℕ) → is_stage stage ≡ true → Stops rest → Prints (IsStage stage) (stage_print stage ++ rest) rest
+stage_prints (by_filter filter) rest proper stop = prints_as (Stand (filter_tokens filter)) (IsStage (by_filter filter)) (λ a b stand. (stand, proper)) (filter_print filter ++ rest) rest (filter_lexes filter rest)
+stage_prints (by_tests tests) rest proper stop =
     let word = tests_text tests ++ rest in
     let parts = and_parts (all_tests is_test tests) (nat_le (text_depth tests) most_depth) proper in
-    lexes_then (tokens.Sign signs.Pipe ∷ []) (tests_tokens tests) (124 ∷ 32 ∷ word) (32 ∷ word) rest (pipe_lexes word) (spaced (tests_tokens tests) word rest (tests_lexes tests rest parts.0 stop))
-stage_lexes (by_parser parser) rest proper stop =
+    let are = prints_at tests parts.0 levels.Tests most_depth rest (leb-true (text_depth tests) most_depth parts.1) stop in
+    prints_then (Stand (tokens.Sign signs.Pipe ∷ [])) (AreTests most_depth tests) (IsStage (by_tests tests)) (λ a b c pipe are. record { behind = b; pipe = pipe; are = are }) (124 ∷ 32 ∷ word) (32 ∷ word) rest (pipe_lexes word) (spaced (AreTests most_depth tests) word rest are)
+stage_prints (by_parser parser) rest proper stop =
     let word = parser_text parser ++ rest in
-    lexes_then (tokens.Sign signs.Pipe ∷ []) (tokens.Word (parser_text parser) ∷ []) (124 ∷ 32 ∷ word) (32 ∷ word) rest (pipe_lexes word) (spaced (tokens.Word (parser_text parser) ∷ []) word rest (word_lexes (parser_text parser) rest (parser_named parser) (name_stops rest stop)))
+    lexes_then (tokens.Sign signs.Pipe ∷ []) (tokens.Word (parser_text parser) ∷ []) (124 ∷ 32 ∷ word) (32 ∷ word) rest (pipe_lexes word) (spaced (Stand (tokens.Word (parser_text parser) ∷ [])) word rest (word_lexes (parser_text parser) rest (parser_named parser) (name_stops rest stop)))
 
-pub stages_lexes : (stages : List StageForm) (rest : List ℕ) → list_all is_stage stages ≡ true → prefix_len is_number_byte rest ≡ 0 → Lexes (stages_tokens stages) (stages_text stages ++ rest) rest
-stages_lexes [] rest proper stop = record { stand = λ total most. let none : 0 + most ≡ most = omega arith in ap (λ n. lexemes_in n total rest) none; shorter = omega arith }
-stages_lexes (stage ∷ stages) rest proper stop =
+pub stages_print : (stages : List StageForm) (rest : List ℕ) → list_all is_stage stages ≡ true → Stops rest → Prints (AreChained stages) (stages_text stages ++ rest) rest
+stages_print [] rest proper stop = record { count = 0; reads = λ total most. let none : 0 + most ≡ most = omega arith in ap (λ n. lexemes_in n total rest) none; shorter = omega arith }
+stages_print (stage ∷ stages) rest proper stop =
     let parts = and_parts (is_stage stage) (list_all is_stage stages) proper in
     let behind = stages_text stages ++ rest in
-    let grouped : stages_text (stage ∷ stages) ++ rest ≡ 32 ∷ (stage_print stage ++ behind) = ap (λ t. 32 ∷ t) (append_assoc (stage_print stage) (stages_text stages) rest) in
-    subst (λ t. Lexes (stages_tokens (stage ∷ stages)) t rest) (sym grouped)
-    (lexes_then (stage_tokens stage) (stages_tokens stages) (32 ∷ (stage_print stage ++ behind)) behind rest (spaced (stage_tokens stage) (stage_print stage ++ behind) behind (stage_lexes stage behind parts.0 (ends stages))) (stages_lexes stages rest parts.1 stop))
+    let first = spaced (IsStage stage) (stage_print stage ++ behind) behind (stage_prints stage behind parts.0 (ends stages)) in
+    subst (λ t. Prints (AreChained (stage ∷ stages)) (32 ∷ t) rest) (sym (append_assoc (stage_print stage) (stages_text stages) rest))
+    (prints_then (IsStage stage) (AreChained stages) (AreChained (stage ∷ stages)) (λ a b c is are. (b, is, are)) (32 ∷ (stage_print stage ++ behind)) behind rest first (stages_print stages rest parts.1 stop))
   where
-    ends : (others : List StageForm) → prefix_len is_number_byte (stages_text others ++ rest) ≡ 0
+    ends : (others : List StageForm) → Stops (stages_text others ++ rest)
     ends [] = stop
     ends (other ∷ others) = refl
-
-stage_stands : (stage : StageForm) (lexemes rest : List Lexeme) → is_stage stage ≡ true → Stand (stage_tokens stage) lexemes rest → IsStage stage lexemes rest
-stage_stands (by_filter filter) lexemes rest proper stand = (stand, proper)
-stage_stands (by_parser parser) lexemes rest proper stand = stand
-stage_stands (by_tests tests) lexemes rest proper stand =
-    let parts = and_parts (all_tests is_test tests) (nat_le (text_depth tests) most_depth) proper in
-    let split = stand_split (tokens.Sign signs.Pipe ∷ []) (tests_tokens tests) lexemes rest stand in
-    record { behind = split.0; pipe = split.1; are = stand_at tests parts.0 levels.Tests most_depth split.0 rest (leb-true (text_depth tests) most_depth parts.1) split.2 }
-
-pub stages_chained : (stages : List StageForm) (lexemes rest : List Lexeme) → list_all is_stage stages ≡ true → Stand (stages_tokens stages) lexemes rest → AreChained stages lexemes rest
-stages_chained [] lexemes rest proper stand = stand
-stages_chained (stage ∷ stages) lexemes rest proper stand =
-    let parts = and_parts (is_stage stage) (list_all is_stage stages) proper in
-    let split = stand_split (stage_tokens stage) (stages_tokens stages) lexemes rest stand in
-    (split.0, stage_stands stage lexemes split.0 parts.0 split.1, stages_chained stages split.0 rest parts.1 split.2)

@@ -3,20 +3,23 @@ use Rattle.std.proofs.Common.{◌≡◌, ℕ, ◌==◌, ◌+◌, Bool, true, fal
 use Rattle.std.specs.List.{prefix_len}
 use Rattle.std.specs.Option.{option_map}
 use Rattle.std.specs.Char.{is_ascii_digit}
-use Rattle.std.proofs.lemmas.Bool.{and_parts, cond-false}
+use Rattle.std.proofs.lemmas.Bool.{cond-false, not-true}
 use Rattle.std.proofs.lemmas.Bool.Decides.{nat_tests}
 use Rattle.rl_labels.specs.Name.{is_name, is_name_byte}
 use Rattle.rl_query.specs.declared.quantity_test.Comparison.{Comparison}
 use Rattle.rl_query.specs.declared.quantity_test.Comparison.TheVariants as comparisons
 use Rattle.rl_query.specs.declared.token.Sign.TheVariants as signs
 use Rattle.rl_query.specs.declared.token.Token.TheVariants as tokens
-use Rattle.rl_query.specs.Form.{QuantityForm}
+use Rattle.rl_query.specs.Form.{QuantityForm, by_quantity}
+use Rattle.rl_query.specs.Limits.{is_taken}
+use Rattle.rl_query.specs.Standing.{Stand}
+use Rattle.rl_query.specs.TestGrammar.{IsLabelTest}
 use Rattle.rl_query.specs.Lexing.{is_number_byte, token_at, or_bad, or_else}
 use Rattle.rl_query.specs.Quantities.{quantity_text, is_quantity}
 use Rattle.rl_query.specs.Tables.{sign_text, comparison_of, comparison_sign}
 use Rattle.rl_query.specs.TestPrinting.{quantity_test_text}
-use Rattle.rl_query.proofs.Printed.{Lexes, token_lexes, row_lexes, number_lexes}
-use Rattle.rl_query.proofs.QuantityTokens.{quantity_number}
+use Rattle.rl_query.proofs.Printed.{Prints, prints_as, Lexes, token_lexes, row_lexes, number_lexes}
+use Rattle.rl_query.proofs.QuantityTokens.{quantity_number, quantity_again}
 
 -- what a number does not go on with, a name does not either
 pub name_stops : (rest : List ℕ) → prefix_len is_number_byte rest ≡ 0 → prefix_len is_name_byte rest ≡ 0
@@ -50,15 +53,16 @@ comparison_ends : (c : Comparison) (rest : List ℕ) → prefix_len is_name_byte
 comparison_ends comparisons.Equal rest = refl
 comparison_ends _ rest = refl
 
-pub quantity_test_lexes : (test : QuantityForm) (rest : List ℕ) → is_name test.name ≡ true → is_quantity test.quantity ≡ true → prefix_len is_number_byte rest ≡ 0
-    → Lexes (tokens.Word test.name ∷ tokens.Sign (comparison_sign test.comparison) ∷ tokens.Number (quantity_text test.quantity) ∷ []) (quantity_test_text test ++ rest) rest
-quantity_test_lexes test rest named proper stop =
-    let sign = sign_text (comparison_sign test.comparison) in
-    let text = quantity_text test.quantity in
-    let number = quantity_number test.quantity proper in
-    let compared = subst (λ t. Lexes (tokens.Sign (comparison_sign test.comparison) ∷ []) (sign ++ t) t) (sym (ap (λ t. t ++ rest) number.is)) (comparison_lexes test.comparison number.first (number.others ++ rest) number.digit) in
-    row_lexes test.name sign text (comparison_sign test.comparison) (tokens.Number text) rest named (comparison_ends test.comparison (text ++ rest)) compared (number_lexes text rest number.first number.others number.is number.digit number.bytes stop)
-
-pub comparison_again : (c : Comparison) → comparison_of (comparison_sign c) ≡ Some c
+comparison_again : (c : Comparison) → comparison_of (comparison_sign c) ≡ Some c
 comparison_again comparisons.Equal = refl
 comparison_again _ = refl
+
+pub quantity_test_prints : (test : QuantityForm) (rest : List ℕ) → (is_name test.name ≡ true) × (not (is_taken test.name) ≡ true) × (is_quantity test.quantity ≡ true) → prefix_len is_number_byte rest ≡ 0 → Prints (IsLabelTest (by_quantity test)) (quantity_test_text test ++ rest) rest
+quantity_test_prints test rest kept stop =
+    let sign = comparison_sign test.comparison in
+    let text = quantity_text test.quantity in
+    let number = quantity_number test.quantity kept.2 in
+    let compared = subst (λ t. Lexes (tokens.Sign sign ∷ []) (sign_text sign ++ t) t) (sym (ap (λ t. t ++ rest) number.is)) (comparison_lexes test.comparison number.first (number.others ++ rest) number.digit) in
+    prints_as (Stand (tokens.Word test.name ∷ tokens.Sign sign ∷ tokens.Number text ∷ [])) (IsLabelTest (by_quantity test))
+    (λ a b stand. record { sign = sign; value = tokens.Number text; stand = stand; compares = (comparison_again test.comparison, (text, refl, quantity_again test.quantity kept.2)); named = kept.0; free = not-true (is_taken test.name) kept.1 })
+    (quantity_test_text test ++ rest) rest (row_lexes test.name (sign_text sign) text sign (tokens.Number text) rest kept.0 (comparison_ends test.comparison (text ++ rest)) compared (number_lexes text rest number.first number.others number.is number.digit number.bytes stop))

@@ -19,55 +19,28 @@ use Rattle.rl_query.proofs.TestReadings.{tests_are_read}
 use Rattle.rl_query.specs.Form.{TestForm, by_text, by_quantity, tests_form}
 use Rattle.rl_query.specs.Quantities.{quantity_text}
 use Rattle.rl_query.specs.Tables.{comparison_sign}
-use Rattle.rl_query.specs.Standing.{Stand, operator_sign}
+use Rattle.rl_query.specs.Standing.{Stand, operator_sign, matcher_tokens}
 use Rattle.rl_query.specs.Lexing.{is_number_byte, lexemes_in, lexemes_of, token_at}
-use Rattle.rl_query.specs.TestGrammar.{Rule, test_name, has_value, Compares, IsLabelTest, IsOne, alone, in_parentheses, AreJoined, part, more, AreTestsIn, AreInside, AreTests, is_test, ended}
+use Rattle.rl_query.specs.TestGrammar.{Rule, test_name, has_value, Compares, IsLabelTest, IsOne, alone, in_parentheses, Joins, AreJoined, part, more, AreTestsIn, AreInside, AreTests, is_test, ended}
 use Rattle.rl_query.specs.Limits.{is_taken}
-use Rattle.rl_query.specs.TestPrinting.{join_text, enclosed, tests_text}
+use Rattle.rl_query.specs.TestPrinting.{test_text, join_text, enclosed, tests_text}
+use Rattle.rl_query.specs.MatcherPrinting.{matcher_text}
 use Rattle.rl_query.specs.TestDepth.{left_level, right_level, needs, deepened, text_depth}
 use Rattle.rl_query.specs.TestTree.{TestTree, one, joined, all_tests, count_tests}
-use Rattle.rl_query.proofs.Productions.{stand_split}
-use Rattle.rl_query.proofs.QuantityPrinted.{quantity_test_lexes, comparison_again}
-use Rattle.rl_query.proofs.QuantityTokens.{quantity_again}
-use Rattle.rl_query.proofs.Printed.{Lexes, lexes_then, spaced, lone_sign, word_lexes, matcher_lexes, all_stand}
-
-abbrev join_word : Join → List ℕ
-join_word And = codes "and"
-join_word Or = codes "or"
-
-abbrev pub enclosed_tokens : (needed : Bool) → List Token → List Token
-enclosed_tokens true ts = tokens.Sign signs.OpenParenthesis ∷ (ts ++ tokens.Sign signs.CloseParenthesis ∷ [])
-enclosed_tokens false ts = ts
-
--- the tokens that are printed
-abbrev test_sign : TestForm → Sign
-test_sign (by_text m) = operator_sign m.op
-test_sign (by_quantity t) = comparison_sign t.comparison
-
-abbrev test_value : TestForm → Token
-test_value (by_text m) = tokens.Text m.value
-test_value (by_quantity t) = tokens.Number (quantity_text t.quantity)
-
-abbrev pub tests_tokens : TestTree TestForm → List Token
-tests_tokens (one test) = tokens.Word (test_name test) ∷ tokens.Sign (test_sign test) ∷ test_value test ∷ []
-tests_tokens (joined join l r) = enclosed_tokens (needs (left_level join) l) (tests_tokens l) ++ tokens.Word (join_word join) ∷ enclosed_tokens (needs (right_level join) r) (tests_tokens r)
+use Rattle.rl_query.proofs.QuantityPrinted.{quantity_test_prints}
+use Rattle.rl_query.proofs.Printed.{Prints, prints_as, prints_then, prints_all, spaced, lone_sign, word_lexes, matcher_lexes}
 
 -- numbers do not go on with what follows
-abbrev Stops : List ℕ → Type 0
+abbrev pub Stops : List ℕ → Type 0
 Stops rest = prefix_len is_number_byte rest ≡ 0
 
-enclosed_lexes : (needed : Bool) (ts : List Token) (bytes rest : List ℕ) → ((behind : List ℕ) → Stops behind → Lexes ts (bytes ++ behind) behind) → Stops rest → Lexes (enclosed_tokens needed ts) (enclosed needed bytes ++ rest) rest
-unfolding token_at
-enclosed_lexes false ts bytes rest lexes stop = lexes rest stop
-enclosed_lexes true ts bytes rest lexes stop =
-    let grouped : enclosed true bytes ++ rest ≡ 40 ∷ (bytes ++ 41 ∷ rest) = ap (λ t. 40 ∷ t) (append_assoc bytes (41 ∷ []) rest) in
-    subst (λ t. Lexes (enclosed_tokens true ts) t rest) (sym grouped)
-    (lexes_then (tokens.Sign signs.OpenParenthesis ∷ []) (ts ++ tokens.Sign signs.CloseParenthesis ∷ []) (40 ∷ (bytes ++ 41 ∷ rest)) (bytes ++ 41 ∷ rest) rest (lone_sign 40 (bytes ++ 41 ∷ rest) signs.OpenParenthesis refl refl refl (λ _. refl))
-    (lexes_then ts (tokens.Sign signs.CloseParenthesis ∷ []) (bytes ++ 41 ∷ rest) (41 ∷ rest) rest (lexes (41 ∷ rest) refl) (lone_sign 41 rest signs.CloseParenthesis refl refl refl (λ _. refl))))
+-- what joins, and what is behind it
+abbrev Behind : Join → (List Lexeme → List Lexeme → Type 0) → List Lexeme → List Lexeme → Type 0
+Behind join R lexemes rest = (behind : List Lexeme) × Joins join lexemes behind × R behind rest
 
-join_lexes : (join : Join) (ts : List Token) (bytes rest : List ℕ) → Lexes ts bytes rest → Lexes (tokens.Word (join_word join) ∷ ts) (join_text join ++ bytes) rest
-join_lexes And ts bytes rest lexes = spaced _ (codes "and" ++ 32 ∷ bytes) rest (lexes_then (tokens.Word (codes "and") ∷ []) ts (codes "and" ++ 32 ∷ bytes) (32 ∷ bytes) rest (word_lexes (codes "and") (32 ∷ bytes) refl refl) (spaced ts bytes rest lexes))
-join_lexes Or ts bytes rest lexes = spaced _ (codes "or" ++ 32 ∷ bytes) rest (lexes_then (tokens.Word (codes "or") ∷ []) ts (codes "or" ++ 32 ∷ bytes) (32 ∷ bytes) rest (word_lexes (codes "or") (32 ∷ bytes) refl refl) (spaced ts bytes rest lexes))
+join_prints : (join : Join) (R : List Lexeme → List Lexeme → Type 0) (bytes rest : List ℕ) → Prints R bytes rest → Prints (Behind join R) (join_text join ++ bytes) rest
+join_prints And R bytes rest prints = spaced (Behind And R) (codes "and" ++ 32 ∷ bytes) rest (prints_then (Stand (tokens.Word (codes "and") ∷ [])) R (Behind And R) (λ a b c word is. (b, inl word, is)) (codes "and" ++ 32 ∷ bytes) (32 ∷ bytes) rest (word_lexes (codes "and") (32 ∷ bytes) refl refl) (spaced R bytes rest prints))
+join_prints Or R bytes rest prints = spaced (Behind Or R) (codes "or" ++ 32 ∷ bytes) rest (prints_then (Stand (tokens.Word (codes "or") ∷ [])) R (Behind Or R) (λ a b c word is. (b, word, is)) (codes "or" ++ 32 ∷ bytes) (32 ∷ bytes) rest (word_lexes (codes "or") (32 ∷ bytes) refl refl) (spaced R bytes rest prints))
 
 join_stops : (join : Join) (bytes : List ℕ) → Stops (join_text join ++ bytes)
 join_stops And bytes = refl
@@ -77,79 +50,72 @@ join_stops Or bytes = refl
 kept : (test : TestForm) → is_test test ≡ true → (is_name (test_name test) ≡ true) × (not (is_taken (test_name test)) ≡ true) × (has_value test ≡ true)
 kept test proper = let parts = and_parts (is_name (test_name test)) _ proper in let others = and_parts (not (is_taken (test_name test))) _ parts.1 in (parts.0, others.0, others.1)
 
-pub tests_lexes : (tests : TestTree TestForm) (rest : List ℕ) → all_tests is_test tests ≡ true → prefix_len is_number_byte rest ≡ 0 → Lexes (tests_tokens tests) (tests_text tests ++ rest) rest
-tests_lexes (one (by_quantity t)) rest proper stop = let k = kept (by_quantity t) proper in quantity_test_lexes t rest k.0 k.2 stop
-tests_lexes (one (by_text m)) rest proper stop = let k = kept (by_text m) proper in matcher_lexes m rest (and_from (is_name m.name) _ k.0 k.2)
-tests_lexes (joined join l r) rest proper stop =
-    let parts = and_parts (all_tests is_test l) (all_tests is_test r) proper in
-    let left = enclosed (needs (left_level join) l) (tests_text l) in
-    let right = enclosed (needs (right_level join) r) (tests_text r) in
-    let right_tokens = enclosed_tokens (needs (right_level join) r) (tests_tokens r) in
-    subst (λ t. Lexes (tests_tokens (joined join l r)) t rest) (sym (regrouped left (join_text join) right))
-    (lexes_then (enclosed_tokens (needs (left_level join) l) (tests_tokens l)) (tokens.Word (join_word join) ∷ right_tokens) (left ++ (join_text join ++ (right ++ rest))) (join_text join ++ (right ++ rest)) rest
-    (enclosed_lexes (needs (left_level join) l) (tests_tokens l) (tests_text l) (join_text join ++ (right ++ rest)) (λ behind ends. tests_lexes l behind parts.0 ends) (join_stops join (right ++ rest)))
-    (join_lexes join right_tokens (right ++ rest) rest (enclosed_lexes (needs (right_level join) r) (tests_tokens r) (tests_text r) rest (λ behind ends. tests_lexes r behind parts.1 ends) stop)))
-  where
-    regrouped : (left between right : List ℕ) → (left ++ between ++ right) ++ rest ≡ left ++ (between ++ (right ++ rest))
-    regrouped left between right = simp append_assoc
+test_prints : (test : TestForm) (rest : List ℕ) → is_test test ≡ true → Stops rest → Prints (IsLabelTest test) (test_text test ++ rest) rest
+test_prints (by_text m) rest proper stop =
+    let k = kept (by_text m) proper in
+    prints_as (Stand (matcher_tokens m)) (IsLabelTest (by_text m)) (λ a b stand. record { sign = operator_sign m.op; value = tokens.Text m.value; stand = stand; compares = (refl, refl, k.2); named = k.0; free = not-true (is_taken m.name) k.1 }) (matcher_text m ++ rest) rest (matcher_lexes m rest (and_from (is_name m.name) _ k.0 k.2))
+test_prints (by_quantity t) rest proper stop = quantity_test_prints t rest (kept (by_quantity t) proper) stop
 
--- the tokens of tests are tests, at each level with the parentheses that they need there
+-- what is printed of tests is read as tests, at each level with the parentheses that they need there
 abbrev pub RuleAt : Level → Rule → Rule
 RuleAt levels.Tests Inside = AreTestsIn Inside
 RuleAt levels.All Inside = AreJoined And (IsOne Inside)
 RuleAt levels.One Inside = IsOne Inside
 
-abbrev pub StandAt : Level → TestTree TestForm → Type 0
-StandAt level tests = (depth : ℕ) (lexemes rest : List Lexeme) → deepened (needs level tests) (text_depth tests) ≤ depth → Stand (enclosed_tokens (needs level tests) (tests_tokens tests)) lexemes rest → RuleAt level (AreInside depth) tests lexemes rest
+abbrev pub PrintsAt : Level → TestTree TestForm → Type 0
+PrintsAt level tests = (depth : ℕ) (rest : List ℕ) → deepened (needs level tests) (text_depth tests) ≤ depth → Stops rest → Prints (RuleAt level (AreInside depth) tests) (enclosed (needs level tests) (tests_text tests) ++ rest) rest
 
-parenthesized : (tests : TestTree TestForm) → ((depth : ℕ) (lexemes rest : List Lexeme) → text_depth tests ≤ depth → Stand (tests_tokens tests) lexemes rest → AreTests depth tests lexemes rest)
-    → (depth : ℕ) (lexemes rest : List Lexeme) → suc (text_depth tests) ≤ depth → Stand (enclosed_tokens true (tests_tokens tests)) lexemes rest → IsOne (AreInside depth) tests lexemes rest
-parenthesized tests at zero lexemes rest deep stand = absurd (omega (arith, deep))
-parenthesized tests at (suc depth) lexemes rest deep stand =
-    let a = stand_split (tokens.Sign signs.OpenParenthesis ∷ []) (tests_tokens tests ++ tokens.Sign signs.CloseParenthesis ∷ []) lexemes rest stand in
-    let b = stand_split (tests_tokens tests) (tokens.Sign signs.CloseParenthesis ∷ []) a.0 rest a.2 in
-    in_parentheses tests lexemes a.0 b.0 rest a.1 (at depth a.0 b.0 (omega (arith, deep)) b.1) b.2
+-- tests, and what closes them
+abbrev Closed : ℕ → TestTree TestForm → List Lexeme → List Lexeme → Type 0
+Closed depth tests lexemes rest = (end : List Lexeme) × AreTests depth tests lexemes end × Stand (tokens.Sign signs.CloseParenthesis ∷ []) end rest
 
-test_stands : (test : TestForm) (lexemes rest : List Lexeme) → is_test test ≡ true → Stand (tests_tokens (one test)) lexemes rest → IsLabelTest test lexemes rest
-test_stands test lexemes rest proper stand = let k = kept test proper in record { sign = test_sign test; value = test_value test; stand = stand; compares = by_kind test k.2; named = k.0; free = not-true (is_taken (test_name test)) k.1 }
+parenthesized : (tests : TestTree TestForm) → ((depth : ℕ) (rest : List ℕ) → text_depth tests ≤ depth → Stops rest → Prints (AreTests depth tests) (tests_text tests ++ rest) rest)
+    → (depth : ℕ) (rest : List ℕ) → suc (text_depth tests) ≤ depth → Stops rest → Prints (IsOne (AreInside depth) tests) (enclosed true (tests_text tests) ++ rest) rest
+unfolding token_at
+parenthesized tests at zero rest deep stop = absurd (omega (arith, deep))
+parenthesized tests at (suc depth) rest deep stop =
+    let inner = tests_text tests ++ 41 ∷ rest in
+    let closed = prints_then (AreTests depth tests) (Stand (tokens.Sign signs.CloseParenthesis ∷ [])) (Closed depth tests) (λ a b c are end. (b, are, end)) inner (41 ∷ rest) rest (at depth (41 ∷ rest) (omega (arith, deep)) refl) (lone_sign 41 rest signs.CloseParenthesis refl refl refl (λ _. refl)) in
+    subst (λ t. Prints (IsOne (AreInside (suc depth)) tests) (40 ∷ t) rest) (sym (append_assoc (tests_text tests) (41 ∷ []) rest))
+    (prints_then (Stand (tokens.Sign signs.OpenParenthesis ∷ [])) (Closed depth tests) (IsOne (AreInside (suc depth)) tests) (λ a b c opened is. in_parentheses tests a b is.0 c opened is.1 is.2) (40 ∷ inner) inner rest (lone_sign 40 inner signs.OpenParenthesis refl refl refl (λ _. refl)) closed)
+
+joined_prints : (join : Join) (l r : TestTree TestForm) → PrintsAt (left_level join) l → PrintsAt (right_level join) r → (depth : ℕ) (rest : List ℕ) → text_depth (joined join l r) ≤ depth → Stops rest → Prints (RuleAt (left_level join) (AreInside depth) (joined join l r)) (tests_text (joined join l r) ++ rest) rest
+joined_prints join l r left right depth rest deep stop =
+    let front = enclosed (needs (left_level join) l) (tests_text l) in
+    let back = enclosed (needs (right_level join) r) (tests_text r) ++ rest in
+    let behind = join_prints join (RuleAt (right_level join) (AreInside depth) r) back rest (right depth rest (omega (arith, deep)) stop) in
+    subst (λ t. Prints (RuleAt (left_level join) (AreInside depth) (joined join l r)) t rest) (sym (regrouped front (join_text join) (enclosed (needs (right_level join) r) (tests_text r))))
+    (prints_then (RuleAt (left_level join) (AreInside depth) l) (Behind join (RuleAt (right_level join) (AreInside depth) r)) (RuleAt (left_level join) (AreInside depth) (joined join l r)) (by_join join) (front ++ (join_text join ++ back)) (join_text join ++ back) rest (left depth (join_text join ++ back) (omega (arith, deep)) (join_stops join back)) behind)
   where
-    by_kind : (t : TestForm) → has_value t ≡ true → Compares t (test_sign t) (test_value t)
-    by_kind (by_text m) valued = (refl, refl, valued)
-    by_kind (by_quantity t) valued = (comparison_again t.comparison, (quantity_text t.quantity, refl, quantity_again t.quantity valued))
+    regrouped : (left between right : List ℕ) → (left ++ between ++ right) ++ rest ≡ left ++ (between ++ (right ++ rest))
+    regrouped left between right = simp append_assoc
 
--- trees, of whose parts this holds
-joined_stand : (join : Join) (l r : TestTree TestForm) → StandAt (left_level join) l → StandAt (right_level join) r → (depth : ℕ) (lexemes rest : List Lexeme) → text_depth (joined join l r) ≤ depth → Stand (tests_tokens (joined join l r)) lexemes rest → RuleAt (left_level join) (AreInside depth) (joined join l r) lexemes rest
-joined_stand join l r left right depth lexemes rest deep stand =
-    let right_tokens = enclosed_tokens (needs (right_level join) r) (tests_tokens r) in
-    let a = stand_split (enclosed_tokens (needs (left_level join) l) (tests_tokens l)) (tokens.Word (join_word join) ∷ right_tokens) lexemes rest stand in
-    let b = stand_split (tokens.Word (join_word join) ∷ []) right_tokens a.0 rest a.2 in
-    by_join join a.0 b.0 (left depth lexemes a.0 (omega (arith, deep)) a.1) b.1 (right depth b.0 rest (omega (arith, deep)) b.2)
-  where
-    by_join : (j : Join) (middle behind : List Lexeme) → RuleAt (left_level j) (AreInside depth) l lexemes middle → Stand (tokens.Word (join_word j) ∷ []) middle behind → RuleAt (right_level j) (AreInside depth) r behind rest → RuleAt (left_level j) (AreInside depth) (joined j l r) lexemes rest
-    by_join And middle behind front word back = more l r lexemes middle behind rest front (inl word) back
-    by_join Or middle behind front word back = more l r lexemes middle behind rest front word back
+    by_join : (j : Join) (a b c : List Lexeme) → RuleAt (left_level j) (AreInside depth) l a b → Behind j (RuleAt (right_level j) (AreInside depth) r) b c → RuleAt (left_level j) (AreInside depth) (joined j l r) a c
+    by_join And a b c front back = more l r a b back.0 c front back.1 back.2
+    by_join Or a b c front back = more l r a b back.0 c front back.1 back.2
 
-pub stand_at : (tests : TestTree TestForm) → all_tests is_test tests ≡ true → (level : Level) → StandAt level tests
-stand_at (one t) proper levels.Tests = λ depth lexemes rest deep stand. part _ lexemes rest (part _ lexemes rest (alone t lexemes rest (test_stands t lexemes rest proper stand)))
-stand_at (one t) proper levels.All = λ depth lexemes rest deep stand. part _ lexemes rest (alone t lexemes rest (test_stands t lexemes rest proper stand))
-stand_at (one t) proper levels.One = λ depth lexemes rest deep stand. alone t lexemes rest (test_stands t lexemes rest proper stand)
-stand_at (joined join l r) proper level =
+pub prints_at : (tests : TestTree TestForm) → all_tests is_test tests ≡ true → (level : Level) → PrintsAt level tests
+prints_at (one t) proper levels.Tests = λ depth rest deep stop. prints_as (IsLabelTest t) (AreTests depth (one t)) (λ a b is. part (one t) a b (part (one t) a b (alone t a b is))) (test_text t ++ rest) rest (test_prints t rest proper stop)
+prints_at (one t) proper levels.All = λ depth rest deep stop. prints_as (IsLabelTest t) (AreJoined And (IsOne (AreInside depth)) (one t)) (λ a b is. part (one t) a b (alone t a b is)) (test_text t ++ rest) rest (test_prints t rest proper stop)
+prints_at (one t) proper levels.One = λ depth rest deep stop. prints_as (IsLabelTest t) (IsOne (AreInside depth) (one t)) (λ a b is. alone t a b is) (test_text t ++ rest) rest (test_prints t rest proper stop)
+prints_at (joined join l r) proper level =
     let parts = and_parts (all_tests is_test l) (all_tests is_test r) proper in
-    by_level join level (joined_stand join l r (stand_at l parts.0 (left_level join)) (stand_at r parts.1 (right_level join)))
+    by_level join level (joined_prints join l r (prints_at l parts.0 (left_level join)) (prints_at r parts.1 (right_level join)))
   where
-    by_level : (j : Join) (level : Level) → ((depth : ℕ) (lexemes rest : List Lexeme) → text_depth (joined j l r) ≤ depth → Stand (tests_tokens (joined j l r)) lexemes rest → RuleAt (left_level j) (AreInside depth) (joined j l r) lexemes rest) → StandAt level (joined j l r)
-    by_level And levels.Tests at = λ depth lexemes rest deep stand. part _ lexemes rest (at depth lexemes rest deep stand)
+    as_part : (j i : Join) (Part : Rule) (text rest : List ℕ) → Prints (Part (joined j l r)) text rest → Prints (AreJoined i Part (joined j l r)) text rest
+    as_part j i Part text rest prints = prints_as (Part (joined j l r)) (AreJoined i Part (joined j l r)) (λ a b is. part (joined j l r) a b is) text rest prints
+
+    by_level : (j : Join) (level : Level) → ((depth : ℕ) (rest : List ℕ) → text_depth (joined j l r) ≤ depth → Stops rest → Prints (RuleAt (left_level j) (AreInside depth) (joined j l r)) (tests_text (joined j l r) ++ rest) rest) → PrintsAt level (joined j l r)
+    by_level And levels.Tests at = λ depth rest deep stop. as_part And Or (AreJoined And (IsOne (AreInside depth))) _ rest (at depth rest deep stop)
     by_level And levels.All at = at
-    by_level And levels.One at = parenthesized (joined And l r) (λ depth lexemes rest deep stand. part _ lexemes rest (at depth lexemes rest deep stand))
+    by_level And levels.One at = parenthesized (joined And l r) (λ depth rest deep stop. as_part And Or (AreJoined And (IsOne (AreInside depth))) _ rest (at depth rest deep stop))
     by_level Or levels.Tests at = at
-    by_level Or levels.All at = λ depth lexemes rest deep stand. part _ lexemes rest (parenthesized (joined Or l r) at depth lexemes rest deep stand)
+    by_level Or levels.All at = λ depth rest deep stop. as_part Or And (IsOne (AreInside depth)) _ rest (parenthesized (joined Or l r) at depth rest deep stop)
     by_level Or levels.One at = parenthesized (joined Or l r) at
 
 -- what is printed is derived, up to the end
 pub tests_printed : (tests : TestTree TestForm) (depth : ℕ) → all_tests is_test tests ≡ true → text_depth tests ≤ depth → AreTests depth tests (lexemes_of (tests_text tests)) (ended (tests_text tests))
-tests_printed tests depth proper deep =
-    let lexes = subst (λ t. Lexes (tests_tokens tests) t []) (append-nil (tests_text tests)) (tests_lexes tests [] proper refl) in
-    stand_at tests proper levels.Tests depth (lexemes_of (tests_text tests)) (ended (tests_text tests)) deep (all_stand (tests_tokens tests) (tests_text tests) lexes)
+tests_printed tests depth proper deep = prints_all (AreTests depth tests) (tests_text tests) (subst (λ t. Prints (AreTests depth tests) t []) (append-nil (tests_text tests)) (prints_at tests proper levels.Tests depth [] deep refl))
 
 -- the facts of the types are what a test's form keeps
 pub tests_kept : (tests : TestTree LabelTest) → all_tests is_test (tests_form tests) ≡ true
