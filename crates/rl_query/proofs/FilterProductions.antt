@@ -56,18 +56,12 @@ pub filter_is : (filter : FilterForm) (lexemes rest : List Lexeme) → Stand (to
 unfolding filter_at
 filter_is filter lexemes rest stand proper = let a = next_is (tokens.Text filter.text) [] lexemes rest stand in rw (a.is, proper, a.more) refl
 
--- line filters, at most so many
-pub record AreUpTo (most : ℕ) (filters : List FilterForm) (lexemes rest : List Lexeme) : Type 0 where
-  pub stand : Stand (filters_tokens filters) lexemes rest
-  pub proper : are_proper_filters filters ≡ true
-  pub few : length filters ≤ most
-
-none_read : (most : ℕ) (lexemes : List Lexeme) (filters : List FilterForm) (rest : List Lexeme) → ◌≡◌ {A = Result (List FilterForm × List Lexeme) QueryFault} (Ok ([], lexemes)) (Ok (filters, rest)) → AreUpTo most filters lexemes rest
+none_read : (most : ℕ) (lexemes : List Lexeme) (filters : List FilterForm) (rest : List Lexeme) → ◌≡◌ {A = Result (List FilterForm × List Lexeme) QueryFault} (Ok ([], lexemes)) (Ok (filters, rest)) → AreFilters most filters lexemes rest
 none_read most lexemes filters rest h =
-    let whole : AreUpTo most [] lexemes lexemes = record { stand = refl; proper = refl; few = omega arith } in
-    subst (λ (p : List FilterForm × List Lexeme). AreUpTo most p.0 lexemes p.1) (same_ok _ _ h) whole
+    let whole : AreFilters most [] lexemes lexemes = record { stand = refl; proper = refl; few = omega arith } in
+    subst (λ (p : List FilterForm × List Lexeme). AreFilters most p.0 lexemes p.1) (same_ok _ _ h) whole
 
-filters_read : (most : ℕ) (lexemes : List Lexeme) (filters : List FilterForm) (rest : List Lexeme) → filters_at most lexemes ≡ Ok (filters, rest) → AreUpTo most filters lexemes rest
+filters_read : (most : ℕ) (lexemes : List Lexeme) (filters : List FilterForm) (rest : List Lexeme) → filters_at most lexemes ≡ Ok (filters, rest) → AreFilters most filters lexemes rest
 unfolding filters_at
 filters_read zero lexemes filters rest h =
     let a = bind_ok (next lexemes) _ (filters, rest) h in
@@ -80,8 +74,8 @@ filters_read (suc most) lexemes filters rest h =
     let c = bind_ok (filters_at most b.0.1) _ (filters, rest) b.2 in
     let one = filter_read a.0.0 lexemes a.0.1 some.0 b.0.0 b.0.1 a.1 some.1 b.1 in
     let more = filters_read most b.0.1 c.0.0 c.0.1 c.1 in
-    let whole : AreUpTo (suc most) (b.0.0 ∷ c.0.0) lexemes c.0.1 = record { stand = stand_then (filter_tokens b.0.0) (filters_tokens c.0.0) lexemes b.0.1 c.0.1 one.0 more.stand; proper = and_from (is_filter b.0.0.op b.0.0.text) _ one.1 more.proper; few = omega (arith, more.few) } in
-    subst (λ (p : List FilterForm × List Lexeme). AreUpTo (suc most) p.0 lexemes p.1) (same_ok _ _ c.2) whole)
+    let whole : AreFilters (suc most) (b.0.0 ∷ c.0.0) lexemes c.0.1 = record { stand = stand_then (filter_tokens b.0.0) (filters_tokens c.0.0) lexemes b.0.1 c.0.1 one.0 more.stand; proper = and_from (is_filter b.0.0.op b.0.0.text) _ one.1 more.proper; few = omega (arith, more.few) } in
+    subst (λ (p : List FilterForm × List Lexeme). AreFilters (suc most) p.0 lexemes p.1) (same_ok _ _ c.2) whole)
     (by_option _ (filter_op a.0.0.token) _ (filters, rest) a.2)
 
 -- what stands behind the line filters, and begins none
@@ -91,29 +85,27 @@ pub record Stops (lexemes : List Lexeme) : Type 0 where
   pub is : next lexemes ≡ Ok (first, behind)
   pub none : filter_op first.token ≡ None
 
-filters_are : (most : ℕ) (filters : List FilterForm) (lexemes rest : List Lexeme) → Stand (filters_tokens filters) lexemes rest → are_proper_filters filters ≡ true → length filters ≤ most → Stops rest → filters_at most lexemes ≡ Ok (filters, rest)
+filters_are : (most : ℕ) (filters : List FilterForm) (lexemes rest : List Lexeme) → AreFilters most filters lexemes rest → Stops rest → filters_at most lexemes ≡ Ok (filters, rest)
 unfolding filters_at filter_at
-filters_are zero [] lexemes rest stand proper few stops = rw (stand, stops.is, stops.none) refl
-filters_are (suc most) [] lexemes rest stand proper few stops = rw (stand, stops.is, stops.none) refl
-filters_are zero (f ∷ filters) lexemes rest stand proper few stops = absurd (omega (arith, few))
-filters_are (suc most) (f ∷ filters) lexemes rest stand proper few stops =
-    let parts = and_parts (is_filter f.op f.text) (are_proper_filters filters) proper in
-    let a = next_is (tokens.Sign (filter_sign f.op)) (tokens.Text f.text ∷ filters_tokens filters) lexemes rest stand in
+filters_are zero [] lexemes rest are stops = rw (are.stand, stops.is, stops.none) refl
+filters_are (suc most) [] lexemes rest are stops = rw (are.stand, stops.is, stops.none) refl
+filters_are zero (f ∷ filters) lexemes rest are stops = absurd (omega (arith, are.few))
+filters_are (suc most) (f ∷ filters) lexemes rest are stops =
+    let parts = and_parts (is_filter f.op f.text) (are_proper_filters filters) are.proper in
+    let a = next_is (tokens.Sign (filter_sign f.op)) (tokens.Text f.text ∷ filters_tokens filters) lexemes rest are.stand in
     let b = next_is (tokens.Text f.text) (filters_tokens filters) a.behind rest a.more in
-    rw (a.is, op_is f.op, b.is, parts.0, filters_are most filters b.behind rest b.more parts.1 (omega (arith, few)) stops) refl
+    rw (a.is, op_is f.op, b.is, parts.0, filters_are most filters b.behind rest (record { stand = b.more; proper = parts.1; few = omega (arith, are.few) }) stops) refl
 
 -- line filters where each pattern has room
-pub filters_derived : (lexemes : List Lexeme) (filters : List FilterForm) (rest : List Lexeme) → filters_in false lexemes ≡ Ok (filters, rest) → AreFilters filters lexemes rest
+pub filters_derived : (lexemes : List Lexeme) (filters : List FilterForm) (rest : List Lexeme) → filters_in false lexemes ≡ Ok (filters, rest) → AreFilters most_stages filters lexemes rest
 unfolding filters_in
 filters_derived lexemes filters rest h =
     let a = bind_ok (filters_at most_stages lexemes) _ (filters, rest) h in
-    let are = filters_read most_stages lexemes a.0.0 a.0.1 a.1 in
-    let whole : AreFilters a.0.0 lexemes a.0.1 = record { stand = are.stand; proper = are.proper; few = are.few } in
-    subst (λ (p : List FilterForm × List Lexeme). AreFilters p.0 lexemes p.1) (same_ok _ _ a.2) whole
+    subst (λ (p : List FilterForm × List Lexeme). AreFilters most_stages p.0 lexemes p.1) (same_ok _ _ a.2) (filters_read most_stages lexemes a.0.0 a.0.1 a.1)
 
-pub filters_are_read : (filters : List FilterForm) (lexemes rest : List Lexeme) → AreFilters filters lexemes rest → Stops rest → filters_in false lexemes ≡ Ok (filters, rest)
+pub filters_are_read : (filters : List FilterForm) (lexemes rest : List Lexeme) → AreFilters most_stages filters lexemes rest → Stops rest → filters_in false lexemes ≡ Ok (filters, rest)
 unfolding filters_in
-filters_are_read filters lexemes rest are stops = rw (filters_are most_stages filters lexemes rest are.stand are.proper are.few stops) refl
+filters_are_read filters lexemes rest are stops = rw (filters_are most_stages filters lexemes rest are stops) refl
 
 -- a sign or the end begins no line filter
 pub stops_at : (token : Token) (others : List Token) (lexemes rest : List Lexeme) → Stand (token ∷ others) lexemes rest → filter_op token ≡ None → Stops lexemes

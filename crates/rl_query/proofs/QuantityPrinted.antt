@@ -1,5 +1,5 @@
 -- What is printed of a test by quantity is derived.
-use Rattle.std.proofs.Common.{◌≡◌, ℕ, ◌==◌, ◌+◌, Bool, true, false, cond, not, List, [], ◌∷◌, ◌++◌, Some, refl, sym, ap, subst, arith, append_assoc}
+use Rattle.std.proofs.Common.{◌≡◌, ⊎_elim, ℕ, ◌==◌, ◌+◌, Bool, true, false, cond, not, List, [], ◌∷◌, ◌++◌, Some, refl, sym, ap, subst, arith, append_assoc}
 use Rattle.std.specs.List.{prefix_len}
 use Rattle.std.specs.Option.{option_map}
 use Rattle.std.specs.Char.{is_ascii_digit}
@@ -18,20 +18,17 @@ use Rattle.rl_query.specs.Lexing.{is_number_byte, token_at, or_bad, or_else}
 use Rattle.rl_query.specs.Quantities.{quantity_text, is_quantity}
 use Rattle.rl_query.specs.Tables.{sign_text, comparison_of, comparison_sign}
 use Rattle.rl_query.specs.TestPrinting.{quantity_test_text}
+use Rattle.rl_query.proofs.Productions.{chosen}
 use Rattle.rl_query.proofs.Printed.{Prints, prints_as, Lexes, token_lexes, row_lexes, number_lexes}
 use Rattle.rl_query.proofs.QuantityTokens.{quantity_number, quantity_again}
 
 -- what a number does not go on with, a name does not either
 pub name_stops : (rest : List ℕ) → prefix_len is_number_byte rest ≡ 0 → prefix_len is_name_byte rest ≡ 0
 name_stops [] stop = refl
-name_stops (b ∷ rest) stop = by_test (is_number_byte b) refl stop
+name_stops (b ∷ rest) stop = ⊎_elim (λ yes. absurd (omega (arith, yes.1))) (λ no. cond-false (is_name_byte b) _ _ (no_name b no.0)) (chosen (is_number_byte b) (1 + prefix_len is_number_byte rest) 0 0 stop)
   where
     no_name : (b : ℕ) → is_number_byte b ≡ false → is_name_byte b ≡ false
     no_name b h = grind (arith, nat_tests)
-
-    by_test : (t : Bool) → is_number_byte b ≡ t → cond t (1 + prefix_len is_number_byte rest) 0 ≡ 0 → prefix_len is_name_byte (b ∷ rest) ≡ 0
-    by_test true is stop = absurd (omega (arith, stop))
-    by_test false is stop = cond-false (is_name_byte b) _ _ (no_name b is)
 
 no_equal : (d : ℕ) → is_ascii_digit d ≡ true → (d == 61) ≡ false
 no_equal d h = grind (arith, nat_tests)

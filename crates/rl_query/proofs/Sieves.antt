@@ -9,6 +9,7 @@ use Rattle.rl_query.specs.declared.token.Token.TheVariants as tokens
 use Rattle.rl_query.specs.Form.{FilterForm, SieveForm}
 use Rattle.rl_query.specs.Standing.{Stand}
 use Rattle.rl_query.specs.Grammar.{DerivesSieve, AreFilters}
+use Rattle.rl_query.specs.Limits.{most_stages}
 use Rattle.rl_query.specs.Lexing.{lexemes_of}
 use Rattle.rl_query.specs.Fronts.{next, expected}
 use Rattle.rl_query.specs.Parsing.{selector_at, filters_in}
@@ -24,7 +25,7 @@ end_read position place _ h = absurd (no_err _ tt h)
 record IsRest (filters : List FilterForm) (lexemes : List Lexeme) : Type 0 where
   pub behind : List Lexeme
   pub rest : List Lexeme
-  pub are : AreFilters filters lexemes behind
+  pub are : AreFilters most_stages filters lexemes behind
   pub end : Stand (tokens.End ∷ []) behind rest
 
 rest_read : (lexemes : List Lexeme) (filters : List FilterForm) → rest_at false lexemes ≡ Ok filters → IsRest filters lexemes
@@ -36,7 +37,7 @@ rest_read lexemes filters h =
     let whole : IsRest a.0.0 lexemes = record { behind = a.0.1; rest = b.0.1; are = filters_derived lexemes a.0.0 a.0.1 a.1; end = one_read tokens.End a.0.1 b.0.1 b.0.0 b.1 (end_read (behind_filters a.0.0) b.0.0.place b.0.0.token c.1) } in
     subst (λ fs. IsRest fs lexemes) (same_ok _ _ c.2) whole
 
-rest_is : (filters : List FilterForm) (lexemes behind rest : List Lexeme) → AreFilters filters lexemes behind → Stand (tokens.End ∷ []) behind rest → rest_at false lexemes ≡ Ok filters
+rest_is : (filters : List FilterForm) (lexemes behind rest : List Lexeme) → AreFilters most_stages filters lexemes behind → Stand (tokens.End ∷ []) behind rest → rest_at false lexemes ≡ Ok filters
 unfolding rest_at
 rest_is filters lexemes behind rest are stand =
     let end = next_is tokens.End [] behind rest stand in

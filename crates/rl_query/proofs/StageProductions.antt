@@ -8,6 +8,7 @@ use Rattle.rl_query.specs.Limits.{most_tests, most_depth, most_stages}
 use Rattle.rl_query.specs.Form.{by_tests, tests_of, label_tests, StageForm, by_filter, by_parser, parses, parsers_of}
 use Rattle.std.proofs.Common.{◌-◌, ◌≡◌, ⊎_elim, ℕ, zero, suc, ◌+◌, ◌≤◌, Bool, true, false, cond, ◌||◌, ◌&&◌, List, [], ◌∷◌, codes, length, Option, Some, None, is_some, Result, Ok, Err, refl, sym, ap, subst, ◌∙◌, arith}
 use Rattle.std.proofs.Math.Bool.{and-false}
+use Rattle.std.proofs.lemmas.Bool.{true≢false}
 use Rattle.std.proofs.lemmas.Option.{cond_some, none-some, same_Some}
 use Rattle.std.proofs.lemmas.List.Sums.{sum_by-cons}
 use Rattle.rl_labels.specs.Name.{is_text}
@@ -134,23 +135,12 @@ parsers_more stage stages = sum_by-cons (λ s. cond (parses s) 1 0) stage stages
 tests_more : (stage : StageForm) (stages : List StageForm) → label_tests (stage ∷ stages) ≡ tests_of stage + label_tests stages
 tests_more stage stages = sum_by-cons tests_of stage stages
 
-together : (parsed : Bool) (stage : StageForm) (stages : List StageForm) → parsed && parses stage ≡ false → cond (parsed || parses stage) 1 0 + parsers_of stages ≤ 1 → cond parsed 1 0 + parsers_of (stage ∷ stages) ≤ 1
-together parsed stage stages only h = by_tests parsed (parses stage) (parsers_of stages) (parsers_of (stage ∷ stages)) (parsers_more stage stages) only h
-  where
-    by_tests : (before this : Bool) (n all : ℕ) → all ≡ cond this 1 0 + n → before && this ≡ false → cond (before || this) 1 0 + n ≤ 1 → cond before 1 0 + all ≤ 1
-    by_tests true true n all is only h = cc
-    by_tests true false n all is only h = omega (arith, is, h)
-    by_tests false true n all is only h = omega (arith, is, h)
-    by_tests false false n all is only h = omega (arith, is, h)
-
-apart : (parsed : Bool) (stage : StageForm) (stages : List StageForm) → cond parsed 1 0 + parsers_of (stage ∷ stages) ≤ 1 → (parsed && parses stage ≡ false) × (cond (parsed || parses stage) 1 0 + parsers_of stages ≤ 1)
-apart parsed stage stages h = by_tests parsed (parses stage) (parsers_of stages) (parsers_of (stage ∷ stages)) (parsers_more stage stages) h
-  where
-    by_tests : (before this : Bool) (n all : ℕ) → all ≡ cond this 1 0 + n → cond before 1 0 + all ≤ 1 → (before && this ≡ false) × (cond (before || this) 1 0 + n ≤ 1)
-    by_tests true true n all is h = absurd (omega (arith, is, h))
-    by_tests true false n all is h = (refl, omega (arith, is, h))
-    by_tests false true n all is h = (refl, omega (arith, is, h))
-    by_tests false false n all is h = (refl, omega (arith, is, h))
+-- one parser at most, where one was read before or not, and a stage is one or not
+one_parser : (before this : Bool) (n all : ℕ) → all ≡ cond this 1 0 + n → ((before && this ≡ false) × (cond (before || this) 1 0 + n ≤ 1) → cond before 1 0 + all ≤ 1) × (cond before 1 0 + all ≤ 1 → (before && this ≡ false) × (cond (before || this) 1 0 + n ≤ 1))
+one_parser true true n all is = (λ h. absurd (true≢false h.0), λ h. absurd (omega (arith, is, h)))
+one_parser true false n all is = (λ h. omega (arith, is, h.1), λ h. (refl, omega (arith, is, h)))
+one_parser false true n all is = (λ h. omega (arith, is, h.1), λ h. (refl, omega (arith, is, h)))
+one_parser false false n all is = (λ h. omega (arith, is, h.1), λ h. (refl, omega (arith, is, h)))
 
 stages_read : (parsed : Bool) (left most : ℕ) (lexemes : List Lexeme) (stages : List StageForm) (rest : List Lexeme) → stages_at parsed left most lexemes ≡ Ok (stages, rest) → AreUpTo parsed left most stages lexemes rest
 unfolding stages_at
@@ -164,7 +154,7 @@ stages_read parsed left (suc most) lexemes stages rest h =
     let c = bind_ok (stages_at (parsed || parses b.0.0) b.0.1 most b.0.2) _ (stages, rest) b.2 in
     let one = stage_read parsed left lexemes b.0 (a.1 ∙ ap (λ (b : Bool). Ok b) yes.0) b.1 in
     let more = stages_read (parsed || parses b.0.0) b.0.1 most b.0.2 c.0.0 c.0.1 c.1 in
-    let whole : AreUpTo parsed left (suc most) (b.0.0 ∷ c.0.0) lexemes c.0.1 = record { chained = (b.0.2, one.is, more.chained); few = omega (arith, more.few); one_parser = together parsed b.0.0 c.0.0 one.only more.one_parser; few_tests = omega (arith, more.few_tests, one.counts, tests_more b.0.0 c.0.0) } in
+    let whole : AreUpTo parsed left (suc most) (b.0.0 ∷ c.0.0) lexemes c.0.1 = record { chained = (b.0.2, one.is, more.chained); few = omega (arith, more.few); one_parser = (one_parser parsed (parses b.0.0) (parsers_of c.0.0) (parsers_of (b.0.0 ∷ c.0.0)) (parsers_more b.0.0 c.0.0)).0 (one.only, more.one_parser); few_tests = omega (arith, more.few_tests, one.counts, tests_more b.0.0 c.0.0) } in
     subst (λ (p : List StageForm × List Lexeme). AreUpTo parsed left (suc most) p.0 lexemes p.1) (same_ok _ _ c.2) whole)
     (λ none. none_read parsed left (suc most) lexemes stages rest none.1)
     (chosen a.0 _ _ (Ok (stages, rest)) a.2)
@@ -175,7 +165,7 @@ stages_are parsed left zero [] lexemes rest are ends = rw (are.chained, ends.com
 stages_are parsed left (suc most) [] lexemes rest are ends = rw (are.chained, ends.comes) refl
 stages_are parsed left zero (s ∷ stages) lexemes rest are ends = absurd (omega (arith, are.few))
 stages_are parsed left (suc most) (s ∷ stages) lexemes rest are ends =
-    let counts = apart parsed s stages are.one_parser in
+    let counts = (one_parser parsed (parses s) (parsers_of stages) (parsers_of (s ∷ stages)) (parsers_more s stages)).1 are.one_parser in
     let fewer = left - tests_of s in
     let one = stage_is parsed left s fewer lexemes are.chained.0 are.chained.1 (chain_ends stages are.chained.0 rest are.chained.2 ends.end) counts.0 (omega (arith, are.few_tests, tests_more s stages)) in
     let more : AreUpTo (parsed || parses s) fewer most stages are.chained.0 rest = record { chained = are.chained.2; few = omega (arith, are.few); one_parser = counts.1; few_tests = omega (arith, are.few_tests, tests_more s stages) } in

@@ -32,9 +32,9 @@ and_joins Inside right [] behind rest (inr (inl joins)) is = absurd joins
 and_joins Inside right (l ∷ middle) behind rest (inr (inl joins)) is = (rw (joins.0, joins.1) refl, tt)
 and_joins Inside right middle behind rest (inr (inr joins)) is = (ap behind_and joins ∙ (one_starts Inside right behind rest is).goes_on, tt)
 
-or_joins : (Inside : Rule) → JoinsAre Or (AreJoined And (IsOne Inside)) (λ rest. behind_and rest ≡ None)
+or_joins : (Inside : Rule) → JoinsAre Or (AreJoined And (IsOne Inside)) (λ rest. Unit {0} × (behind_join And rest ≡ None))
 or_joins Inside right [] behind rest joins is = absurd joins
-or_joins Inside right (l ∷ middle) behind rest joins is = (rw (joins.0, joins.1) refl, rw joins.0 refl)
+or_joins Inside right (l ∷ middle) behind rest joins is = (rw (joins.0, joins.1) refl, (tt, rw joins.0 refl))
 
 some_test : (tests : TestTree TestForm) → 1 ≤ count_tests tests
 some_test (one test) = omega arith
@@ -52,10 +52,9 @@ chain join reader Part Ends complete are _ _ _ left fewer whole (more l r lexeme
     one_more zero enough = absurd (omega (arith, enough, some_test r))
     one_more (suc most) enough = rw ((are r middle behind rest joins is).0, complete r behind rest (count_tests r + fewer) fewer is ends refl) (then most (omega (arith, enough, some_test r)))
 
-joined_complete : (join : Join) (reader : Reader) (Part : Rule) (Ends : List Lexeme → Type 0) → IsComplete reader Part Ends → JoinsAre join Part Ends
-    → (tests : TestTree TestForm) (lexemes rest : List Lexeme) (left fewer : ℕ) → AreJoined join Part tests lexemes rest → Ends rest → behind_join join rest ≡ None → count_tests tests + fewer ≡ left → joined_at join reader left lexemes ≡ Ok (tests, fewer, rest)
-joined_complete join reader Part Ends complete are tests lexemes rest left fewer is ends none count =
-    chain join reader Part Ends complete are tests lexemes rest left fewer (Ok (tests, fewer, rest)) is ends count (λ most enough. stops join reader most tests fewer rest (others_at join reader most tests fewer rest) none refl)
+joined_complete : (join : Join) (reader : Reader) (Part : Rule) (Ends : List Lexeme → Type 0) → IsComplete reader Part Ends → JoinsAre join Part Ends → IsComplete (joined_at join reader) (AreJoined join Part) (λ rest. Ends rest × (behind_join join rest ≡ None))
+joined_complete join reader Part Ends complete are tests lexemes rest left fewer is ends count =
+    chain join reader Part Ends complete are tests lexemes rest left fewer (Ok (tests, fewer, rest)) is ends.0 count (λ most enough. stops join reader most tests fewer rest (others_at join reader most tests fewer rest) ends.1 refl)
 
 test_complete : (inside : Reader) (test : TestForm) (lexemes rest : List Lexeme) (fewer : ℕ) → IsLabelTest test lexemes rest → one_at inside (suc fewer) lexemes ≡ Ok (one test, fewer, rest)
 unfolding one_at test_at
@@ -74,13 +73,10 @@ one_complete inside Inside complete _ _ _ left fewer (in_parentheses tests lexem
     let last = expected_is signs.CloseParenthesis [] positions.Elsewhere end rest closed in
     rw (n.is, n.more, read, last.1, last.2) refl
 
-all_complete : (inside : Reader) (Inside : Rule) → IsComplete inside Inside IsEnd → IsComplete (joined_at And (one_at inside)) (AreJoined And (IsOne Inside)) (λ rest. behind_and rest ≡ None)
-all_complete inside Inside complete tests lexemes rest left fewer is ends count =
-    joined_complete And (one_at inside) (IsOne Inside) (λ _. Unit {0}) (one_complete inside Inside complete) (and_joins Inside) tests lexemes rest left fewer is tt ends count
-
 in_complete : (inside : Reader) (Inside : Rule) → IsComplete inside Inside IsEnd → IsComplete (tests_in inside) (AreTestsIn Inside) IsEnd
 in_complete inside Inside complete tests lexemes rest left fewer is ends count =
-    joined_complete Or (joined_at And (one_at inside)) (AreJoined And (IsOne Inside)) (λ rest. behind_and rest ≡ None) (all_complete inside Inside complete) (or_joins Inside) tests lexemes rest left fewer is ends.0 ends.1 count
+    let all = joined_complete And (one_at inside) (IsOne Inside) (λ _. Unit {0}) (one_complete inside Inside complete) (and_joins Inside) in
+    joined_complete Or (joined_at And (one_at inside)) (AreJoined And (IsOne Inside)) (λ rest. Unit {0} × (behind_join And rest ≡ None)) all (or_joins Inside) tests lexemes rest left fewer is ((tt, ends.0), ends.1) count
 
 inside_complete : (depth : ℕ) → IsComplete (inside_at depth) (AreInside depth) IsEnd
 inside_complete zero tests lexemes rest left fewer is ends count = absurd is

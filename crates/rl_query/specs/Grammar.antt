@@ -53,10 +53,10 @@ filters_tokens [] = []
 filters_tokens (filter ∷ filters) = filter_tokens filter ++ filters_tokens filters
 
 -- line filters, at most so many, whose patterns are patterns
-pub record AreFilters (filters : List FilterForm) (lexemes rest : List Lexeme) : Type 0 where
+pub record AreFilters (most : ℕ) (filters : List FilterForm) (lexemes rest : List Lexeme) : Type 0 where
   pub stand : Stand (filters_tokens filters) lexemes rest
   pub proper : list_all (λ filter. is_filter filter.op filter.text) filters ≡ true
-  pub few : length filters ≤ most_stages
+  pub few : length filters ≤ most
 
 -- | json
 abbrev pub parser_tokens : Parser → List Token
@@ -114,5 +114,5 @@ pub record DerivesSieve (text : List ℕ) (sieve : SieveForm) : Type 0 where
   pub behind_filters : List Lexeme
   pub rest : List Lexeme
   pub selector : IsSelector sieve.matchers (lexemes_of text) behind_selector
-  pub filters : AreFilters sieve.filters behind_selector behind_filters
+  pub filters : AreFilters most_stages sieve.filters behind_selector behind_filters
   pub end : Stand (tokens.End ∷ []) behind_filters rest
