@@ -1,5 +1,7 @@
 -- Reading line filters one after the other, as a loop does.
 use Rattle.std.proofs.Common.{◌≡◌, ℕ, zero, suc, ◌-◌, ◌+◌, ◌≤◌, ◌<◌, List, [], ◌∷◌, ◌++◌, Some, None, Result, Ok, Err, refl, sym, ap, ◌∙◌, arith, append-nil, Bool, true, false, ◌||◌, map, length, get_or}
+use Rattle.std.proofs.lemmas.List.{get_or-map, length-map}
+use Rattle.std.proofs.lemmas.List.Folds.{list_any_at}
 use Rattle.rl_plain.specs.Answers.{Fails}
 use Rattle.rl_plain.specs.declared.refusal.OrMemory.{OrMemory}
 use Rattle.rl_plain.specs.declared.refusal.OrMemory.TheVariants as errors
@@ -60,10 +62,6 @@ too_many f front count i lexemes whole le h so_far =
 
 -- a filter by pattern is one of all
 pub some_pattern : (filters : List LineFilter) (i : ℕ) (f : LineFilter) → i < length filters → f ≡ get_or filters i f → is_line_pattern f.op ≡ true → filters_have_pattern (map filter_form filters) ≡ true
-some_pattern [] i f within is pattern = absurd (omega arith)
-some_pattern (x ∷ filters) zero f within is pattern = ap (λ (g : LineFilter). is_line_pattern g.op || filters_have_pattern (map filter_form filters)) (sym is) ∙ ap (λ b. b || filters_have_pattern (map filter_form filters)) pattern
-some_pattern (x ∷ filters) (suc i) f within is pattern = ap (λ b. is_line_pattern x.op || b) (some_pattern filters i f (omega arith) is pattern) ∙ or_true (is_line_pattern x.op)
-  where
-    or_true : (b : Bool) → (b || true) ≡ true
-    or_true true = refl
-    or_true false = refl
+some_pattern filters i f within is pattern =
+    let there : get_or (map filter_form filters) i (filter_form f) ≡ filter_form f = get_or-map filter_form filters i f (filter_form f) within ∙ ap filter_form (sym is) in
+    list_any_at (λ g. is_line_pattern g.op) (map filter_form filters) i (filter_form f) (omega (arith, within, length-map filters filter_form)) (ap (λ (g : FilterForm). is_line_pattern g.op) there ∙ pattern)

@@ -3,7 +3,7 @@ use Rattle.std.proofs.Common.{◌≡◌, ℕ, Bool, true, false, not, ◌||◌, 
 use Rattle.std.specs.List.{list_all}
 use Rattle.std.specs.Option.{option_map, option_or}
 use Rattle.std.specs.Char.{is_ascii_digit}
-use Rattle.std.proofs.lemmas.Bool.{and_parts, and_from, cond-true, cond-false, true≢false}
+use Rattle.std.proofs.lemmas.Bool.{and_parts, and_from, or_right, cond-true, cond-false, true≢false}
 use Rattle.std.proofs.lemmas.Bool.Decides.{nat_tests}
 use Rattle.std.proofs.lemmas.List.Folds.{list_all-append}
 use Rattle.rl_labels.specs.Decimals.{DecimalForm}
@@ -82,11 +82,7 @@ no_unit (b ∷ bytes) h =
 
 later : (front rest : List ℕ) → has_unit rest ≡ true → has_unit (front ++ rest) ≡ true
 later [] rest h = h
-later (b ∷ front) rest h = ap (λ t. is_byte_of false b || t) (later front rest h) ∙ or_true (is_byte_of false b)
-  where
-    or_true : (b : Bool) → (b || true) ≡ true
-    or_true true = refl
-    or_true false = refl
+later (b ∷ front) rest h = or_right (is_byte_of false b) _ (later front rest h)
 
 duration_unit_is : (unit : DurationUnit) (rest : List ℕ) → has_unit (duration_unit_text unit ++ rest) ≡ true
 duration_unit_is time.Nanosecond rest = refl

@@ -32,16 +32,20 @@ use Rattle.rl_query.proofs.Elements.{real_forms}
 use Rattle.rl_query.proofs.PrintedStages.{is_stage}
 use Rattle.rl_query.proofs.PrintedQuery.{Keeps}
 
-pub same_matchers : (xs ys : List Matcher) → map matcher_form xs ≡ map matcher_form ys → xs ≡ ys
-same_matchers [] [] e = refl
-same_matchers [] (y ∷ ys) e = cc
-same_matchers (x ∷ xs) [] e = cc
-same_matchers (x ∷ xs) (y ∷ ys) e =
-    let heads : matcher_form x ≡ matcher_form y = cc in
-    let tails : map matcher_form xs ≡ map matcher_form ys = cc in
-    let first = same_matcher x y (ap (λ f. f.name) heads) (ap (λ f. f.op) heads) (ap (λ f. f.value) heads) in
-    let rest = same_matchers xs ys tails in
+-- lists of what is one where its forms are
+same_map : {A B : Type 0} (form : A → B) → ((x y : A) → form x ≡ form y → x ≡ y) → (xs ys : List A) → map form xs ≡ map form ys → xs ≡ ys
+same_map form same [] [] e = refl
+same_map form same [] (y ∷ ys) e = cc
+same_map form same (x ∷ xs) [] e = cc
+same_map form same (x ∷ xs) (y ∷ ys) e =
+    let heads : form x ≡ form y = cc in
+    let tails : map form xs ≡ map form ys = cc in
+    let first = same x y heads in
+    let rest = same_map form same xs ys tails in
     λ i. first i ∷ rest i
+
+pub same_matchers : (xs ys : List Matcher) → map matcher_form xs ≡ map matcher_form ys → xs ≡ ys
+same_matchers = same_map matcher_form (λ x y e. same_matcher x y (ap (λ f. f.name) e) (ap (λ f. f.op) e) (ap (λ f. f.value) e))
 
 pub same_selector : (a b : Selector) → a.matchers ≡ b.matchers → a ≡ b
 same_selector a b e =
@@ -54,42 +58,18 @@ same_filter a b e =
     λ i. record { op = (whole i).0.op; text = (whole i).0.text; comparable = (whole i).1 }
 
 pub same_filters : (xs ys : List LineFilter) → map filter_form xs ≡ map filter_form ys → xs ≡ ys
-same_filters [] [] e = refl
-same_filters [] (y ∷ ys) e = cc
-same_filters (x ∷ xs) [] e = cc
-same_filters (x ∷ xs) (y ∷ ys) e =
-    let heads : filter_form x ≡ filter_form y = cc in
-    let tails : map filter_form xs ≡ map filter_form ys = cc in
-    let first = same_filter x y heads in
-    let rest = same_filters xs ys tails in
-    λ i. first i ∷ rest i
+same_filters = same_map filter_form same_filter
 
 same_stage : (a b : Stage) → stage_form a ≡ stage_form b → a ≡ b
 same_stage (kinds.Filter a) (kinds.Filter b) e = let forms : filter_form a ≡ filter_form b = cc in ap kinds.Filter (same_filter a b forms)
-same_stage (kinds.Filter a) (kinds.Parser b) e = cc
-same_stage (kinds.Parser a) (kinds.Filter b) e = cc
-same_stage (kinds.Filter a) (kinds.Tests b) e = cc
-same_stage (kinds.Parser a) (kinds.Tests b) e = cc
-same_stage (kinds.Tests a) (kinds.Filter b) e = cc
-same_stage (kinds.Tests a) (kinds.Parser b) e = cc
 same_stage (kinds.Tests a) (kinds.Tests b) e = let forms : tests_form a ≡ tests_form b = cc in ap kinds.Tests (same_tests a b forms)
 same_stage (kinds.Parser a) (kinds.Parser b) e = let parsers : a ≡ b = cc in ap kinds.Parser parsers
-
-same_stages : (xs ys : List Stage) → map stage_form xs ≡ map stage_form ys → xs ≡ ys
-same_stages [] [] e = refl
-same_stages [] (y ∷ ys) e = cc
-same_stages (x ∷ xs) [] e = cc
-same_stages (x ∷ xs) (y ∷ ys) e =
-    let heads : stage_form x ≡ stage_form y = cc in
-    let tails : map stage_form xs ≡ map stage_form ys = cc in
-    let first = same_stage x y heads in
-    let rest = same_stages xs ys tails in
-    λ i. first i ∷ rest i
+same_stage _ _ e = cc
 
 same_range : (a b : LogRange) → range_form a ≡ range_form b → a ≡ b
 same_range a b e =
     let selectors = same_selector a.selector b.selector (same_matchers a.selector.matchers b.selector.matchers (ap (λ f. f.matchers) e)) in
-    let stages = same_stages a.stages b.stages (ap (λ f. f.stages) e) in
+    let stages = same_map stage_form same_stage a.stages b.stages (ap (λ f. f.stages) e) in
     let parts : ◌≡◌ {A = Selector × List Stage × ℕ} (a.selector, a.stages, a.seconds) (b.selector, b.stages, b.seconds) = λ i. (selectors i, stages i, (e i).seconds) in
     let whole : ◌≡◌ {A = (p : Selector × List Stage × ℕ) × ((length p.1 ≤ most_stages) × ((count_parsers p.1 ≤ 1) × ((count_label_tests p.1 ≤ most_tests) × (IsTrue (are_shallow p.1) × ((1 ≤ p.2) × (p.2 ≤ longest_range))))))} ((a.selector, a.stages, a.seconds), (a.few, (a.one_parser, (a.few_tests, (a.shallow, a.in_range))))) ((b.selector, b.stages, b.seconds), (b.few, (b.one_parser, (b.few_tests, (b.shallow, b.in_range))))) = Σ_prop_path (λ p. hlevel props) parts in
     λ i. record { selector = (whole i).0.0; stages = (whole i).0.1; seconds = (whole i).0.2; few = (whole i).1.0; one_parser = (whole i).1.1.0; few_tests = (whole i).1.1.1.0; shallow = (whole i).1.1.1.1.0; in_range = (whole i).1.1.1.1.1 }

@@ -2,6 +2,8 @@
 use Rattle.rl_query.specs.declared.fault.QueryFault.TheVariants as faults
 use Rattle.rl_query.specs.Answering.{IsForRoom}
 use Rattle.std.proofs.Common.{◌≡◌, ℕ, zero, suc, ◌-◌, ◌+◌, ◌≤◌, ◌<◌, List, [], ◌∷◌, ◌++◌, Result, Ok, Err, refl, sym, ap, ◌∙◌, arith, append-nil, Bool, true, false, ◌||◌, map, length, get_or}
+use Rattle.std.proofs.lemmas.List.{get_or-map, length-map}
+use Rattle.std.proofs.lemmas.List.Folds.{list_any_at}
 use Rattle.rl_plain.specs.Answers.{Fails}
 use Rattle.rl_plain.specs.declared.refusal.OrMemory.{OrMemory}
 use Rattle.rl_plain.specs.declared.refusal.OrMemory.TheVariants as errors
@@ -58,13 +60,9 @@ too_many f front parsed left count i lexemes whole le h so_far =
 
 -- a stage with a pattern is one of all
 pub some_pattern : (stages : List Stage) (i : ℕ) (s : Stage) → i < length stages → s ≡ get_or stages i s → stage_has_pattern (stage_form s) ≡ true → stages_have_pattern (map stage_form stages) ≡ true
-some_pattern [] i s within is pattern = absurd (omega arith)
-some_pattern (x ∷ stages) zero s within is pattern = ap (λ (g : Stage). stage_has_pattern (stage_form g) || stages_have_pattern (map stage_form stages)) (sym is) ∙ ap (λ b. b || stages_have_pattern (map stage_form stages)) pattern
-some_pattern (x ∷ stages) (suc i) s within is pattern = ap (λ b. stage_has_pattern (stage_form x) || b) (some_pattern stages i s (omega arith) is pattern) ∙ or_true (stage_has_pattern (stage_form x))
-  where
-    or_true : (b : Bool) → (b || true) ≡ true
-    or_true true = refl
-    or_true false = refl
+some_pattern stages i s within is pattern =
+    let there : get_or (map stage_form stages) i (stage_form s) ≡ stage_form s = get_or-map stage_form stages i s (stage_form s) within ∙ ap stage_form (sym is) in
+    list_any_at stage_has_pattern (map stage_form stages) i (stage_form s) (omega (arith, within, length-map stages stage_form)) (ap stage_has_pattern there ∙ pattern)
 
 -- a pattern of one of two is a pattern of both
 pub room_left : (a b : Bool) (e : OrMemory QueryFault) → IsForRoom a e → IsForRoom (a || b) e
