@@ -1,7 +1,7 @@
 -- What is printed of a query is derived.
 use Rattle.rl_query.specs.Limits.{most_tests, longest_range, most_stages}
 use Rattle.rl_query.specs.Form.{label_tests, MatcherForm, QueryForm, has_real_form, StageForm, parsers_of}
-use Rattle.std.proofs.Common.{inl, ◌≡◌, ℕ, ◌+◌, ◌-◌, ◌^◌, ◌<◌, ◌≤◌, true, List, [], ◌∷◌, ◌++◌, length, refl, sym, subst, arith, append_assoc}
+use Rattle.std.proofs.Common.{inl, ◌≡◌, ℕ, ◌^◌, ◌<◌, ◌≤◌, true, List, [], ◌∷◌, ◌++◌, length, refl, sym, subst, arith, append_assoc}
 use Rattle.std.specs.List.{list_all}
 use Rattle.std.specs.Fmt.{decimal}
 use Rattle.std.proofs.lemmas.Bool.{true≢false}

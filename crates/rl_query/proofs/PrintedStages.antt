@@ -8,18 +8,16 @@ use Rattle.rl_query.specs.Limits.{most_depth, is_filter}
 use Rattle.rl_query.specs.Form.{by_tests, StageForm, by_filter, by_parser}
 use Rattle.std.proofs.lemmas.Bool.{leb-true, and_parts}
 use Rattle.std.proofs.Common.{◌&&◌, nat_le, ◌≡◌, ℕ, ◌+◌, Bool, true, List, [], ◌∷◌, ◌++◌, refl, sym, ap, subst, arith, append_assoc}
-use Rattle.std.specs.List.{prefix_len, list_all}
+use Rattle.std.specs.List.{list_all}
 use Rattle.rl_labels.specs.Name.{is_name}
 use Rattle.rl_query.specs.declared.stages.Parser.{Parser}
 use Rattle.rl_query.specs.declared.stages.Parser.TheVariants as parsers
-use Rattle.rl_query.specs.declared.token.Lexeme.{Lexeme}
 use Rattle.rl_query.specs.declared.test_printer.Level.TheVariants as levels
 use Rattle.rl_query.specs.declared.token.Sign.TheVariants as signs
-use Rattle.rl_query.specs.declared.token.Token.{Token}
 use Rattle.rl_query.specs.declared.token.Token.TheVariants as tokens
 use Rattle.rl_query.specs.Standing.{Stand}
-use Rattle.rl_query.specs.Grammar.{filter_tokens, parser_tokens, IsStage, AreChained}
-use Rattle.rl_query.specs.Lexing.{is_number_byte, lexemes_in, token_at}
+use Rattle.rl_query.specs.Grammar.{filter_tokens, IsStage, AreChained}
+use Rattle.rl_query.specs.Lexing.{lexemes_in, token_at}
 use Rattle.rl_query.specs.Printing.{parser_text, filter_print, stage_print, stages_text}
 use Rattle.rl_query.proofs.QuantityPrinted.{name_stops}
 use Rattle.rl_query.proofs.Printed.{Prints, Lexes, prints_as, prints_then, lexes_then, spaced, token_lexes, word_lexes, filter_lexes}

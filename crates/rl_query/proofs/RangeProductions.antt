@@ -1,9 +1,9 @@
 -- The productions of ranges, terms and queries: what is read is derived, and what is derived is read.
 use Rattle.rl_query.proofs.StageStarts.{Ends, ends_at}
-use Rattle.rl_query.specs.Grammar.{AreChained, IsSelector, IsDuration, IsRange, IsTerm, Derives, AreStages, IsTimed}
-use Rattle.rl_query.specs.Limits.{most_tests, longest_range, most_stages}
-use Rattle.rl_query.specs.Form.{label_tests, RangeForm, TermForm, QueryForm, StageForm, parsers_of}
-use Rattle.std.proofs.Common.{◌≡◌, inl, inr, ⊎_elim, ℕ, ◌≤◌, nat_le, true, false, ◌&&◌, List, [], ◌∷◌, length, Option, Some, None, Ok, refl, sym, ap, subst, ◌∙◌, arith, codes}
+use Rattle.rl_query.specs.Grammar.{IsSelector, IsDuration, IsRange, IsTerm, Derives, AreStages, IsTimed}
+use Rattle.rl_query.specs.Limits.{longest_range}
+use Rattle.rl_query.specs.Form.{RangeForm, TermForm, QueryForm, StageForm}
+use Rattle.std.proofs.Common.{◌≡◌, inl, inr, ⊎_elim, ℕ, ◌≤◌, nat_le, true, false, ◌&&◌, List, [], ◌∷◌, Option, Some, None, Ok, refl, sym, ap, subst, ◌∙◌, arith, codes}
 use Rattle.std.proofs.lemmas.Bool.{and_parts, and_from, leb-true, le-leb}
 use Rattle.rl_labels.specs.Name.{is_text}
 use Rattle.rl_labels.specs.laws.LabelLaws.{same_text}

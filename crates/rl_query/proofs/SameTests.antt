@@ -4,7 +4,7 @@ use Rattle.std.proofs.Props.{props}
 use mathlib.Core.HLevel.{Σ_prop_path}
 use Rattle.rl_labels.specs.laws.OrderLaws.{same_matcher}
 use Rattle.rl_labels.specs.declared.matcher.Matcher.{Matcher}
-use Rattle.rl_query.specs.declared.label_test.Join.TheVariants.{And, Or}
+use Rattle.rl_query.specs.declared.label_test.Join.TheVariants.{And}
 use Rattle.rl_query.specs.declared.label_test.LabelTest.{LabelTest}
 use Rattle.rl_query.specs.declared.label_test.LabelTest.TheVariants as leaves
 use Rattle.rl_query.specs.declared.test_printer.Level.{Level}

@@ -6,7 +6,7 @@ use Rattle.rl_query.specs.Testing.{tests_at}
 use Rattle.rl_query.specs.TestGrammar.{IsEnd}
 use Rattle.rl_query.specs.Limits.{most_tests, most_depth, most_stages}
 use Rattle.rl_query.specs.Form.{by_tests, tests_of, label_tests, StageForm, by_filter, by_parser, parses, parsers_of}
-use Rattle.std.proofs.Common.{◌-◌, ◌≡◌, ⊎_elim, ℕ, zero, suc, ◌+◌, ◌≤◌, Bool, true, false, cond, ◌||◌, ◌&&◌, List, [], ◌∷◌, codes, length, Option, Some, None, is_some, Result, Ok, Err, refl, sym, ap, subst, ◌∙◌, arith}
+use Rattle.std.proofs.Common.{◌-◌, ◌≡◌, ⊎_elim, ℕ, zero, suc, ◌+◌, ◌≤◌, Bool, true, false, cond, ◌||◌, ◌&&◌, List, [], ◌∷◌, codes, length, Some, is_some, Result, Ok, refl, sym, ap, subst, ◌∙◌, arith}
 use Rattle.std.proofs.Math.Bool.{and-false}
 use Rattle.std.proofs.lemmas.Bool.{true≢false}
 use Rattle.std.proofs.lemmas.Option.{cond_some, none-some, same_Some}
@@ -15,8 +15,6 @@ use Rattle.rl_labels.specs.Name.{is_text}
 use Rattle.rl_labels.specs.laws.LabelLaws.{same_text}
 use Rattle.rl_plain.specs.Answers.{◌>>=◌}
 use Rattle.rl_query.specs.declared.fault.QueryFault.{QueryFault}
-use Rattle.rl_query.specs.declared.fault.QueryFault.TheVariants as faults
-use Rattle.rl_query.specs.declared.filter.LineOp.{LineOp}
 use Rattle.rl_query.specs.declared.stages.Parser.{Parser}
 use Rattle.rl_query.specs.declared.stages.Parser.TheVariants as parsers
 use Rattle.rl_query.specs.declared.token.Lexeme.{Lexeme}

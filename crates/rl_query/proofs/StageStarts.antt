@@ -1,5 +1,5 @@
 -- The tokens with which label tests and stages begin.
-use Rattle.std.proofs.Common.{◌≡◌, inl, inr, Bool, true, false, not, ◌&&◌, ◌||◌, List, [], ◌∷◌, codes, None, Some, is_some, Ok, refl, sym, ap, subst, ◌∙◌, ℕ}
+use Rattle.std.proofs.Common.{◌≡◌, true, false, not, ◌&&◌, ◌||◌, List, [], ◌∷◌, codes, None, Some, is_some, Ok, refl, sym, ap, subst, ◌∙◌, ℕ}
 use Rattle.std.proofs.Math.Bool.{and-false}
 use Rattle.std.proofs.lemmas.Bool.{cond-false, or_parts, or_left, or_right}
 use Rattle.rl_labels.specs.Name.{is_text}
@@ -22,7 +22,7 @@ use Rattle.rl_query.specs.Printing.{parser_text}
 use Rattle.rl_query.specs.Standing.{Stand, operator_sign}
 use Rattle.rl_query.specs.TestGrammar.{Rule, test_name, Compares, IsLabelTest, IsOne, alone, in_parentheses, AreJoined, part, more, AreInside, AreTests, IsEnd}
 use Rattle.rl_query.specs.Testing.{is_word, is_and, begins, compares, behind_and}
-use Rattle.rl_query.specs.TestTree.{TestTree, one, joined}
+use Rattle.rl_query.specs.TestTree.{TestTree}
 use Rattle.rl_query.proofs.Productions.{next_is}
 
 -- label tests begin there, whatever stands before them, and no parser is named

@@ -1,5 +1,5 @@
 -- Tests that are derived need no more parentheses than stand in their text.
-use Rattle.std.proofs.Common.{ℕ, zero, suc, ◌≤◌, Bool, true, false, List, arith, inl, inr}
+use Rattle.std.proofs.Common.{ℕ, zero, suc, ◌≤◌, Bool, true, false, List, arith}
 use Rattle.rl_query.specs.declared.label_test.Join.{Join}
 use Rattle.rl_query.specs.declared.label_test.Join.TheVariants.{And, Or}
 use Rattle.rl_query.specs.declared.test_printer.Level.TheVariants as levels
@@ -7,7 +7,7 @@ use Rattle.rl_query.specs.declared.token.Lexeme.{Lexeme}
 use Rattle.rl_query.specs.Form.{TestForm}
 use Rattle.rl_query.specs.TestDepth.{left_level, right_level, needs, deepened, text_depth}
 use Rattle.rl_query.specs.TestGrammar.{Rule, IsOne, alone, in_parentheses, AreJoined, part, more, AreTestsIn, AreInside, AreTests}
-use Rattle.rl_query.specs.TestTree.{TestTree, one, joined}
+use Rattle.rl_query.specs.TestTree.{TestTree, joined}
 
 -- what stands in parentheses takes one of so many
 abbrev IsShallow : Rule → ℕ → Type 0

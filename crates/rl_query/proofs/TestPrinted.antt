@@ -1,5 +1,5 @@
 -- What is printed of label tests is derived.
-use Rattle.std.proofs.Common.{◌≡◌, inl, inr, ℕ, zero, suc, ◌+◌, ◌-◌, ◌≤◌, Bool, true, false, not, List, [], ◌∷◌, ◌++◌, codes, length, refl, sym, ap, subst, arith, append_assoc, append-nil, Ok}
+use Rattle.std.proofs.Common.{◌≡◌, inl, ℕ, zero, suc, ◌-◌, ◌≤◌, true, not, List, [], ◌∷◌, ◌++◌, codes, refl, sym, subst, arith, append_assoc, append-nil, Ok}
 use Rattle.std.specs.List.{prefix_len}
 use Rattle.std.proofs.lemmas.Bool.{and_parts, and_from, not-true}
 use Rattle.rl_query.specs.declared.label_test.Join.{Join}
@@ -7,9 +7,7 @@ use Rattle.rl_query.specs.declared.label_test.Join.TheVariants.{And, Or}
 use Rattle.rl_query.specs.declared.test_printer.Level.{Level}
 use Rattle.rl_query.specs.declared.test_printer.Level.TheVariants as levels
 use Rattle.rl_query.specs.declared.token.Lexeme.{Lexeme}
-use Rattle.rl_query.specs.declared.token.Sign.{Sign}
 use Rattle.rl_query.specs.declared.token.Sign.TheVariants as signs
-use Rattle.rl_query.specs.declared.token.Token.{Token}
 use Rattle.rl_query.specs.declared.token.Token.TheVariants as tokens
 use Rattle.rl_labels.specs.Name.{is_name}
 use Rattle.rl_query.specs.declared.label_test.LabelTest.{LabelTest}
@@ -17,11 +15,9 @@ use Rattle.rl_query.specs.declared.label_test.LabelTest.TheVariants as leaves
 use Rattle.rl_query.specs.Testing.{tests_at}
 use Rattle.rl_query.proofs.TestReadings.{tests_are_read}
 use Rattle.rl_query.specs.Form.{TestForm, by_text, by_quantity, tests_form}
-use Rattle.rl_query.specs.Quantities.{quantity_text}
-use Rattle.rl_query.specs.Tables.{comparison_sign}
 use Rattle.rl_query.specs.Standing.{Stand, operator_sign, matcher_tokens}
-use Rattle.rl_query.specs.Lexing.{is_number_byte, lexemes_in, lexemes_of, token_at}
-use Rattle.rl_query.specs.TestGrammar.{Rule, test_name, has_value, Compares, IsLabelTest, IsOne, alone, in_parentheses, Joins, AreJoined, part, more, AreTestsIn, AreInside, AreTests, is_test, ended}
+use Rattle.rl_query.specs.Lexing.{is_number_byte, lexemes_of, token_at}
+use Rattle.rl_query.specs.TestGrammar.{Rule, test_name, has_value, IsLabelTest, IsOne, alone, in_parentheses, Joins, AreJoined, part, more, AreTestsIn, AreInside, AreTests, is_test, ended}
 use Rattle.rl_query.specs.Limits.{is_taken}
 use Rattle.rl_query.specs.TestPrinting.{test_text, join_text, enclosed, tests_text}
 use Rattle.rl_query.specs.MatcherPrinting.{matcher_text}

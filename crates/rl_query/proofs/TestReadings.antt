@@ -1,6 +1,5 @@
 -- The productions of label tests: what is derived is read.
-use Rattle.std.proofs.Common.{◌≡◌, inl, inr, ℕ, zero, suc, ◌+◌, ◌≤◌, Bool, true, false, not, List, [], ◌∷◌, Some, None, Ok, refl, ap, ◌∙◌, arith}
-use Rattle.rl_plain.specs.Answers.{◌>>=◌}
+use Rattle.std.proofs.Common.{◌≡◌, inl, inr, ℕ, zero, suc, ◌+◌, ◌≤◌, true, false, not, List, [], ◌∷◌, Some, None, Ok, refl, ap, ◌∙◌, arith}
 use Rattle.rl_query.specs.declared.label_test.Join.{Join}
 use Rattle.rl_query.specs.declared.label_test.Join.TheVariants.{And, Or}
 use Rattle.rl_query.specs.declared.parser.Position.TheVariants as positions

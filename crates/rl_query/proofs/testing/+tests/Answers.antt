@@ -1,5 +1,5 @@
 -- Each turn joins one part more.
-use Rattle.std.proofs.Common.{length, sym}
+use Rattle.std.proofs.Common.{sym}
 use Rattle.std.proofs.lemmas.Result.{err_from_is_err_and}
 use Rattle.rl_query.specs.Form.{tests_form}
 use Rattle.rl_query.specs.Testing.{joined_at, part_at, inside_at}

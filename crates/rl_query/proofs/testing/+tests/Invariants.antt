@@ -1,5 +1,5 @@
 -- The tests so far, and what is left. A parenthesis that is opened takes one of those that may still be.
-use Rattle.std.proofs.Common.{◌+◌, ◌-◌, ◌*◌, length}
+use Rattle.std.proofs.Common.{◌+◌, ◌-◌, ◌*◌}
 use Rattle.rl_query.specs.Form.{tests_form}
 use Rattle.rl_query.specs.Testing.{joined_at, part_at, inside_at}
 use Rattle.rl_query.proofs.Chains.{AreJoined, part_rank}
