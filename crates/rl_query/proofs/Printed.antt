@@ -225,38 +225,31 @@ all_append p xs y all this = list_all-append p xs (y ∷ []) ∙ and_from (list_
 
 -- digits, one at least, that read as the number
 record Reads (n : ℕ) (ds : List ℕ) : Type 0 where
-  pub digits : list_all is_ascii_digit ds ≡ true
+  pub bytes : list_all is_number_byte ds ≡ true
   pub first : ℕ
   pub others : List ℕ
   pub is : ds ≡ first ∷ others
+  pub digit : is_ascii_digit first ≡ true
   pub value : (rest : List ℕ) → duration_from 0 None (ds ++ rest) ≡ duration_from 0 (Some n) rest
 
-digit_step : (n b : ℕ) (rest : List ℕ) → is_ascii_digit b ≡ true → duration_from 0 (Some n) (b ∷ rest) ≡ duration_from 0 (Some (10 * n + (b - 48))) rest
-digit_step n b rest digit = cond-true (is_ascii_digit b) _ _ digit
-
 one_digit : (n : ℕ) → n < 10 → Reads n ((48 + n) ∷ [])
-one_digit n small = record {
-  digits = and_from (is_ascii_digit (48 + n)) true (digit_byte n small) refl;
-  first = 48 + n;
-  others = [];
-  is = refl;
-  value = λ rest. let less : 48 + n - 48 ≡ n = omega arith in cond-true (is_ascii_digit (48 + n)) _ _ (digit_byte n small) ∙ ap (λ k. duration_from 0 (Some k) rest) less;
-}
+one_digit n small =
+    let digit = digit_byte n small in
+    let less : 48 + n - 48 ≡ n = omega arith in
+    record { bytes = and_from (is_number_byte (48 + n)) true (digit_goes_on (48 + n) digit) refl; first = 48 + n; others = []; is = refl; digit = digit; value = λ rest. cond-true (is_ascii_digit (48 + n)) _ _ digit ∙ ap (λ k. duration_from 0 (Some k) rest) less }
 
 more_digits : (n : ℕ) (ds : List ℕ) → 10 ≤ n → Reads (n / 10) ds → Reads n (ds ++ (48 + n % 10) ∷ [])
 more_digits n ds many read =
+    let last = (48 + n % 10) ∷ [] in
     let digit : is_ascii_digit (48 + n % 10) ≡ true = digit_byte (n % 10) (omega arith) in
     let same : 10 * (n / 10) + (48 + n % 10 - 48) ≡ n = omega arith in
     record {
-      digits = all_append is_ascii_digit ds (48 + n % 10) read.digits digit;
+      bytes = all_append is_number_byte ds (48 + n % 10) read.bytes (digit_goes_on (48 + n % 10) digit);
       first = read.first;
-      others = read.others ++ (48 + n % 10) ∷ [];
-      is = ap (λ t. t ++ (48 + n % 10) ∷ []) read.is;
-      value = λ rest.
-          ap (duration_from 0 None) (append_assoc ds ((48 + n % 10) ∷ []) rest)
-          ∙ read.value ((48 + n % 10) ∷ rest)
-          ∙ digit_step (n / 10) (48 + n % 10) rest digit
-          ∙ ap (λ k. duration_from 0 (Some k) rest) same;
+      others = read.others ++ last;
+      is = ap (λ t. t ++ last) read.is;
+      digit = read.digit;
+      value = λ rest. ap (duration_from 0 None) (append_assoc ds last rest) ∙ read.value (last ++ rest) ∙ cond-true (is_ascii_digit (48 + n % 10)) _ _ digit ∙ ap (λ k. duration_from 0 (Some k) rest) same;
     }
 
 decimal_reads : (n : ℕ) → n < 2 ^ 64 → Reads n (decimal n)
@@ -268,13 +261,8 @@ seconds_lexes n rest small =
     let reads = decimal_reads n small in
     let number = decimal n ++ 115 ∷ [] in
     let is : number ≡ reads.first ∷ (reads.others ++ 115 ∷ []) = ap (λ t. t ++ 115 ∷ []) reads.is in
-    let digit = (and_parts (is_ascii_digit reads.first) (list_all is_ascii_digit reads.others) (subst (λ ds. list_all is_ascii_digit ds ≡ true) reads.is reads.digits)).0 in
     subst (λ t. Lexes (tokens.Number number ∷ []) t (93 ∷ rest)) (append_assoc (decimal n) (115 ∷ []) (93 ∷ rest))
-    (number_lexes number (93 ∷ rest) reads.first (reads.others ++ 115 ∷ []) is digit (all_append is_number_byte (decimal n) 115 (weaker (decimal n) reads.digits) refl) refl)
-  where
-    weaker : (xs : List ℕ) → list_all is_ascii_digit xs ≡ true → list_all is_number_byte xs ≡ true
-    weaker [] h = refl
-    weaker (x ∷ xs) h = let parts = and_parts (is_ascii_digit x) (list_all is_ascii_digit xs) h in and_from (is_number_byte x) _ (digit_goes_on x parts.0) (weaker xs parts.1)
+    (number_lexes number (93 ∷ rest) reads.first (reads.others ++ 115 ∷ []) is reads.digit (all_append is_number_byte (decimal n) 115 reads.bytes refl) refl)
 
 pub seconds_read : (n : ℕ) → n < 2 ^ 64 → duration_of (decimal n ++ 115 ∷ []) ≡ Some n
 seconds_read n small = let same : n * 1 + 0 ≡ n = omega arith in (decimal_reads n small).value (115 ∷ []) ∙ ap (λ k. Some k) same
