@@ -170,9 +170,7 @@ lone_sign b rest sign no_gap is one two = token_lexes (tokens.Sign sign) b rest 
 operator_lexes : (op : MatchOp) (rest : List ℕ) → Lexes (tokens.Sign (operator_sign op) ∷ []) (operator_text op ++ 34 ∷ rest) (34 ∷ rest)
 unfolding token_at
 operator_lexes operators.Equal rest = token_lexes (tokens.Sign signs.Equal) 61 (34 ∷ rest) (34 ∷ rest) refl refl (omega arith)
-operator_lexes operators.NotEqual rest = token_lexes (tokens.Sign signs.NotEqual) 33 (61 ∷ 34 ∷ rest) (34 ∷ rest) refl refl (omega arith)
-operator_lexes operators.Matches rest = token_lexes (tokens.Sign signs.Matches) 61 (126 ∷ 34 ∷ rest) (34 ∷ rest) refl refl (omega arith)
-operator_lexes operators.NotMatches rest = token_lexes (tokens.Sign signs.NotMatches) 33 (126 ∷ 34 ∷ rest) (34 ∷ rest) refl refl (omega arith)
+operator_lexes _ rest = token_lexes _ _ _ (34 ∷ rest) refl refl (omega arith)
 
 -- a name ends before an operator
 operator_ends : (op : MatchOp) (rest : List ℕ) → prefix_len is_name_byte (operator_text op ++ rest) ≡ 0
@@ -298,9 +296,7 @@ prints_all R text prints =
 sign_lexes : (op : LineOp) (rest : List ℕ) → Lexes (tokens.Sign (filter_sign op) ∷ []) (filter_op_text op ++ 32 ∷ rest) (32 ∷ rest)
 unfolding token_at
 sign_lexes lines.Contains rest = token_lexes (tokens.Sign signs.Contains) 124 (61 ∷ 32 ∷ rest) (32 ∷ rest) refl refl (omega arith)
-sign_lexes lines.Lacks rest = token_lexes (tokens.Sign signs.NotEqual) 33 (61 ∷ 32 ∷ rest) (32 ∷ rest) refl refl (omega arith)
-sign_lexes lines.Matches rest = token_lexes (tokens.Sign signs.ContainsMatch) 124 (126 ∷ 32 ∷ rest) (32 ∷ rest) refl refl (omega arith)
-sign_lexes lines.NotMatches rest = token_lexes (tokens.Sign signs.NotMatches) 33 (126 ∷ 32 ∷ rest) (32 ∷ rest) refl refl (omega arith)
+sign_lexes _ rest = token_lexes _ _ _ (32 ∷ rest) refl refl (omega arith)
 
 pub filter_lexes : (filter : FilterForm) (rest : List ℕ) → Lexes (filter_tokens filter) (filter_print filter ++ rest) rest
 filter_lexes filter rest =

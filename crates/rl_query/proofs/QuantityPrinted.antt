@@ -36,14 +36,11 @@ no_equal d h = grind (arith, nat_tests)
 -- a comparison before a digit
 comparison_lexes : (c : Comparison) (d : ℕ) (rest : List ℕ) → is_ascii_digit d ≡ true → Lexes (tokens.Sign (comparison_sign c) ∷ []) (sign_text (comparison_sign c) ++ d ∷ rest) (d ∷ rest)
 unfolding token_at
-comparison_lexes comparisons.Equal d rest digit = token_lexes (tokens.Sign signs.EqualTo) 61 (61 ∷ d ∷ rest) (d ∷ rest) refl refl (omega arith)
-comparison_lexes comparisons.NotEqual d rest digit = token_lexes (tokens.Sign signs.NotEqual) 33 (61 ∷ d ∷ rest) (d ∷ rest) refl refl (omega arith)
-comparison_lexes comparisons.GreaterOrEqual d rest digit = token_lexes (tokens.Sign signs.GreaterOrEqual) 62 (61 ∷ d ∷ rest) (d ∷ rest) refl refl (omega arith)
-comparison_lexes comparisons.LessOrEqual d rest digit = token_lexes (tokens.Sign signs.LessOrEqual) 60 (61 ∷ d ∷ rest) (d ∷ rest) refl refl (omega arith)
 comparison_lexes comparisons.Greater d rest digit =
     token_lexes (tokens.Sign signs.Greater) 62 (d ∷ rest) (d ∷ rest) refl (ap (λ o. or_bad tokens.Sign (or_else (option_map (λ sign. (sign, rest)) o) (Some (signs.Greater, d ∷ rest)))) (cond-false (d == 61) _ _ (no_equal d digit))) (omega arith)
 comparison_lexes comparisons.Less d rest digit =
     token_lexes (tokens.Sign signs.Less) 60 (d ∷ rest) (d ∷ rest) refl (ap (λ o. or_bad tokens.Sign (or_else (option_map (λ sign. (sign, rest)) o) (Some (signs.Less, d ∷ rest)))) (cond-false (d == 61) _ _ (no_equal d digit))) (omega arith)
+comparison_lexes _ d rest digit = token_lexes _ _ _ (d ∷ rest) refl refl (omega arith)
 
 -- a name ends before a comparison
 comparison_ends : (c : Comparison) (rest : List ℕ) → prefix_len is_name_byte (sign_text (comparison_sign c) ++ rest) ≡ 0
