@@ -14,7 +14,8 @@ use Rattle.rl_query.specs.Standing.{Stand, is_matcher}
 use Rattle.rl_query.specs.Grammar.{matchers_tokens, IsRange, Derives}
 use Rattle.rl_query.specs.Lexing.{token_at, lexemes_in}
 use Rattle.rl_query.specs.MatcherPrinting.{matcher_text}
-use Rattle.rl_query.specs.Printing.{function_text, query_text, stages_text}
+use Rattle.rl_query.specs.Printing.{query_text, stages_text}
+use Rattle.rl_query.specs.Tables.{function_text}
 use Rattle.rl_query.proofs.Printed.{others_text, word_lexes, lone_sign, selector_lexes, duration_lexes, seconds_read, end_left}
 use Rattle.rl_query.proofs.PrintedStages.{is_stage, stages_tokens, stages_lexes, stages_chained}
 
@@ -30,6 +31,10 @@ pub record Keeps (query : QueryForm) : Type 0 where
 
 function_named : (f : RangeFunction) → is_name (function_text f) ≡ true
 function_named functions.CountOverTime = refl
+function_named functions.Rate = refl
+function_named functions.BytesOverTime = refl
+function_named functions.BytesRate = refl
+function_named functions.AbsentOverTime = refl
 
 -- a printed query is derived
 pub query_printed : (query : QueryForm) → Keeps query → Derives (query_text query) query
