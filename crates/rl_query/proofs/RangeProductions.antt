@@ -3,7 +3,7 @@ use Rattle.rl_query.proofs.StageStarts.{Ends, ends_at}
 use Rattle.rl_query.specs.Grammar.{AreChained, IsSelector, IsDuration, IsRange, IsTerm, Derives, AreStages, IsTimed}
 use Rattle.rl_query.specs.Limits.{most_tests, longest_range, most_stages}
 use Rattle.rl_query.specs.Form.{label_tests, RangeForm, TermForm, QueryForm, StageForm, parsers_of}
-use Rattle.std.proofs.Common.{◌≡◌, inl, inr, ⊎_elim, ℕ, ◌≤◌, nat_le, true, false, ◌&&◌, List, [], ◌∷◌, length, Option, Some, None, Ok, Err, refl, sym, ap, subst, ◌∙◌, arith, codes}
+use Rattle.std.proofs.Common.{◌≡◌, inl, inr, ⊎_elim, ℕ, ◌≤◌, nat_le, true, false, cond, ◌&&◌, List, [], ◌∷◌, length, Option, Some, None, Ok, Err, refl, sym, ap, subst, ◌∙◌, arith, codes}
 use Rattle.std.specs.List.{find}
 use Rattle.std.specs.Option.{option_map_or}
 use Rattle.std.proofs.lemmas.Bool.{and_parts, and_from, leb-true, le-leb}
@@ -193,7 +193,7 @@ function_read place (tokens.Word word) function h = ap tokens.Word (by_name (fun
     has_text [] is = absurd (none-some function is)
     has_text (f ∷ fs) is = ⊎_elim (λ yes. same_text word (function_text f) yes.0 ∙ ap function_text (same_Some f function yes.1)) (λ other. has_text fs other.1) (chosen (is_text word (function_text f)) (Some f) (find (λ f. is_text word (function_text f)) fs) (Some function) is)
 
-    by_name : (o : Option RangeFunction) → function_with_text word ≡ o → option_map_or Ok o (Err (if is_later_word word then faults.Unsupported place else faults.Syntax place)) ≡ Ok function → word ≡ function_text function
+    by_name : (o : Option RangeFunction) → function_with_text word ≡ o → option_map_or Ok o (Err (cond (is_later_word word) (faults.Unsupported place) (faults.Syntax place))) ≡ Ok function → word ≡ function_text function
     by_name None is h = absurd (no_err _ function h)
     by_name (Some f) is h = has_text all_functions (is ∙ ap (λ f. Some f) (same_ok f function h))
 function_read place _ function h = absurd (no_err _ function h)

@@ -12,7 +12,7 @@ ghost use Rattle.rl_query.specs.declared.query.Query.{Query};
 ghost use Rattle.rl_query.specs.Fronts.{is_unsupported, is_unsupported_word, is_unsupported_sign, is_later_stage, is_pipe, is_minus, is_operator, is_in_any_case, is_later_word, refusal, next, expected, is_sign, name_of, content_of, match_of, is_match, operator_of, checked_matcher, matcher_at};
 ghost use Rattle.rl_query.specs.Parsing.{goes_on, element_at, matchers_at, some_matcher, real_matchers, selector_at, is_unit_letter, is_duration_byte, looks_like_duration, range_of, seconds_of, checked_range, function_of, named_function, seconds_at, closed_at, timed_at, closing_at, range_at, term_at, query_in, query_of, ends};
 ghost use Rattle.rl_query.specs.Durations.{duration_of};
-ghost use Rattle.rl_query.specs.Tables.{function_text, all_functions};
+ghost use Rattle.rl_query.specs.Tables.{function_text};
 ghost use Rattle.rl_query.specs.Limits.{has_real_matcher, longest_range, most_stages};
 ghost use Rattle.rl_labels.specs.Operators.{is_by_pattern};
 ghost use Rattle.rl_labels.specs.Selects.{are_by_text};
@@ -135,15 +135,19 @@ fn is_unsupported_word(position: Position, word: &str) -> bool
 fn is_later_word(word: &str) -> bool
     ensures { result ≡ is_later_word word.now }
 {
-    is_one_of(&LATER_WORDS, word) || is_function_in_any_case(word)
+    is_one_of(&LATER_WORDS, word) || is_text_of_one(&ALL_FUNCTIONS, word)
 }
 
-fn is_function_in_any_case(word: &str) -> bool
-    ensures { result ≡ list_any (λ function. is_in_any_case (function_text function) word.now) all_functions }
+fn is_text_of_one(functions: &[RangeFunction], word: &str) -> bool
+    ensures { result ≡ list_any (λ function. is_in_any_case (function_text function) word.now) functions.now }
 {
-    ALL_FUNCTIONS
-        .iter()
-        .any(|function| function.as_str().eq_ignore_ascii_case(word))
+    functions.iter().any(|function| is_text_of(*function, word))
+}
+
+fn is_text_of(function: RangeFunction, word: &str) -> bool
+    ensures { result ≡ is_in_any_case (function_text function) word.now }
+{
+    function.as_str().eq_ignore_ascii_case(word)
 }
 
 pub(crate) fn is_one_of(words: &[&str], word: &str) -> bool
