@@ -1,3 +1,4 @@
+pub mod Absences
 pub mod Counting
 pub mod Maps
 pub mod Merging

@@ -1,3 +1,4 @@
+pub mod Absence
 pub mod Evaluated
 pub mod InRange
 pub mod Partials

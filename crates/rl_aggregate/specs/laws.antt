@@ -1,2 +1,3 @@
 -- Laws and lemmas that the crates above rest on.
+pub mod Absences
 pub mod Totals

@@ -4,9 +4,10 @@
 //! one list of entries followed by another is the merge of their partials, and the order of entries does not matter.
 //!
 //! - `total`, `totals`: counts and bytes, by label set. `partial`: `Partial`, `merge`. `range`: `scratch`.
-//! - `outcome`: `Outcome`, `Sample`, `Fraction`. `vector`: `finish`.
+//! - `outcome`: `Outcome`, `Sample`, `Fraction`. `absence`: what `absent_over_time` gives. `vector`: `finish`.
 #![tactic(auto)]
 
+pub mod absence;
 pub mod outcome;
 pub mod partial;
 pub mod range;

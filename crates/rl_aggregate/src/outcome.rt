@@ -33,15 +33,31 @@ pub enum Outcome {
 impl Fraction {
     ghost use Rattle.rl_aggregate.specs.Evaluated.{fraction};
 
-    /// What a range aggregation gives of a total.
-    pub fn of(function: RangeFunction, total: Total) -> Fraction
-        ensures { result ≡ fraction function total }
+    /// 1/1.
+    pub const ONE: Fraction = Fraction {
+        numerator: 1,
+        denominator: 1,
+    };
+
+    /// What a range aggregation gives of a total over a range in seconds. `absent_over_time` gives 1/1.
+    pub fn of(function: RangeFunction, seconds: u64, total: Total) -> Fraction
+        ensures { result ≡ fraction function seconds total }
     {
         match function {
-            RangeFunction::CountOverTime => Fraction {
-                numerator: u128::from(total.count),
-                denominator: 1,
-            },
+            RangeFunction::CountOverTime => Fraction::over(total.count, 1),
+            RangeFunction::Rate => Fraction::over(total.count, seconds),
+            RangeFunction::BytesOverTime => Fraction::over(total.bytes, 1),
+            RangeFunction::BytesRate => Fraction::over(total.bytes, seconds),
+            RangeFunction::AbsentOverTime => Fraction::ONE,
+        }
+    }
+
+    fn over(numerator: u64, denominator: u64) -> Fraction
+        ensures { result ≡ record { numerator = numerator; denominator = denominator } }
+    {
+        Fraction {
+            numerator: u128::from(numerator),
+            denominator: u128::from(denominator),
         }
     }
 }

@@ -1,16 +1,16 @@
 //! Totals by label set.
-ghost use Rattle.std.specs.Prelude.{◌≡◌, ◌==◌, IfOk, IsOk, OnOk, OnErr, IsTrue, map as map_list};
+ghost use Rattle.std.specs.Prelude.{◌≡◌, ◌==◌, IfOk, IsOk, OnOk, OnErr, IsTrue};
 ghost use Rattle.std.specs.FinMap as map;
 ghost use Rattle.rl_aggregate.specs.TotalsMap.{added, plus, total_at, HasAll};
 ghost use Rattle.rl_aggregate.specs.Partials.{TotalFits, both_totals};
-ghost use Rattle.rl_aggregate.specs.Evaluated.{sample};
+ghost use Rattle.rl_aggregate.specs.Evaluated.{samples};
 ghost use Rattle.rl_labels.specs.LabelSet.{LabelSet};
 
 use crate::outcome::{Fraction, Sample};
 use crate::total::Total;
 use rl_labels::Labels;
 use rl_plain::TryCopy;
-use rl_query::RangeFunction;
+use rl_query::Term;
 use std::alloc::{AllocError, Global};
 use std::collections::BTreeMap;
 use std::marker::Model;
@@ -93,17 +93,13 @@ impl Totals {
     }
 
     // An element of a vector for each label set, in their order.
-    pub(crate) fn samples(
-        &self,
-        alloc: Global,
-        function: RangeFunction,
-    ) -> Result<Vec<Sample>, AllocError>
-        ensures { IfOk result (λ samples. samples.items ≡ map_list (sample function) (map.entries self.now)) }
+    pub(crate) fn samples(&self, alloc: Global, term: &Term) -> Result<Vec<Sample>, AllocError>
+        ensures { IfOk result (λ samples. samples.items ≡ samples term.now self.now) }
     {
         let mut samples = Vec::with_capacity(alloc, self.len())?;
         for (labels, total) in self.by_labels.iter() {
             let labels = labels.try_copy()?;
-            let value = Fraction::of(function, *total);
+            let value = Fraction::of(term.function, term.range.seconds, *total);
             samples.push(Sample { labels, value })?;
         }
         Ok(samples)

@@ -16,7 +16,8 @@ use Rattle.rl_query.specs.TestGrammar.{ended}
 use Rattle.rl_query.specs.declared.token.Lexeme.{Lexeme}
 use Rattle.rl_query.specs.Lexing.{token_at, lexemes_in}
 use Rattle.rl_query.specs.MatcherPrinting.{matcher_text}
-use Rattle.rl_query.specs.Printing.{function_text, query_text, stages_text}
+use Rattle.rl_query.specs.Printing.{query_text, stages_text}
+use Rattle.rl_query.specs.Tables.{function_text}
 use Rattle.rl_query.proofs.Printed.{prints_as, prints_then, prints_all, others_text, word_lexes, lone_sign, selector_lexes, duration_lexes, seconds_read}
 use Rattle.rl_query.proofs.PrintedStages.{is_stage, stages_print}
 
@@ -32,6 +33,10 @@ pub record Keeps (query : QueryForm) : Type 0 where
 
 function_named : (f : RangeFunction) → is_name (function_text f) ≡ true
 function_named functions.CountOverTime = refl
+function_named functions.Rate = refl
+function_named functions.BytesOverTime = refl
+function_named functions.BytesRate = refl
+function_named functions.AbsentOverTime = refl
 
 -- a printed query is derived
 pub query_printed : (query : QueryForm) → Keeps query → Derives (query_text query) query

@@ -3,8 +3,11 @@ use Rattle.rl_query.proofs.StageStarts.{Ends, ends_at}
 use Rattle.rl_query.specs.Grammar.{IsSelector, IsDuration, IsRange, IsTerm, Derives, AreStages, IsTimed}
 use Rattle.rl_query.specs.Limits.{longest_range}
 use Rattle.rl_query.specs.Form.{RangeForm, TermForm, QueryForm, StageForm}
-use Rattle.std.proofs.Common.{◌≡◌, inl, inr, ⊎_elim, ℕ, ◌≤◌, nat_le, true, false, ◌&&◌, List, [], ◌∷◌, Option, Some, None, Ok, refl, sym, ap, subst, ◌∙◌, arith, codes}
+use Rattle.std.proofs.Common.{◌≡◌, inl, inr, ⊎_elim, ℕ, ◌≤◌, nat_le, true, false, cond, ◌&&◌, List, [], ◌∷◌, Option, Some, None, Ok, Err, refl, sym, ap, subst, ◌∙◌, arith}
+use Rattle.std.specs.List.{find}
+use Rattle.std.specs.Option.{option_map_or}
 use Rattle.std.proofs.lemmas.Bool.{and_parts, and_from, leb-true, le-leb}
+use Rattle.std.proofs.lemmas.Option.{same_Some, none-some}
 use Rattle.rl_labels.specs.Name.{is_text}
 use Rattle.rl_labels.specs.laws.LabelLaws.{same_text}
 use Rattle.rl_query.specs.declared.fault.QueryFault.TheVariants as faults
@@ -19,9 +22,9 @@ use Rattle.rl_query.specs.declared.token.Token.TheVariants as tokens
 use Rattle.rl_query.specs.Durations.{duration_of}
 use Rattle.rl_query.specs.Standing.{Stand}
 use Rattle.rl_query.specs.Lexing.{lexemes_of}
-use Rattle.rl_query.specs.Fronts.{next, expected}
+use Rattle.rl_query.specs.Fronts.{next, expected, is_later_word}
 use Rattle.rl_query.specs.Parsing.{selector_at, looks_like_duration, seconds_of, range_of, named_function, function_of, seconds_at, closing_at, range_at, term_at, ends, query_in, stages_in, behind_stages, closed_at, timed_at}
-use Rattle.rl_query.specs.Printing.{function_text}
+use Rattle.rl_query.specs.Tables.{function_text, all_functions, function_with_text}
 use Rattle.rl_query.proofs.Productions.{bind_ok, chosen, no_err, same_ok, if_ok, stand_then, one_read, next_is, expected_read, expected_is, selector_read, selector_is}
 use Rattle.rl_query.proofs.StageProductions.{stages_derived, stages_are_read}
 
@@ -147,14 +150,23 @@ range_is range lexemes rest is =
     rw (a.1, b.1, b.2, closing_is range.stages range.seconds is.behind_selector rest is.behind_duration is.timed is.closed) refl
 
 function_read : (place : ℕ) (token : Token) (function : RangeFunction) → function_of place token ≡ Ok function → token ≡ tokens.Word (function_text function)
-function_read place (tokens.Word word) function h = ap tokens.Word (by_name function h)
+function_read place (tokens.Word word) function h = ap tokens.Word (by_name (function_with_text word) refl h)
   where
-    by_name : (f : RangeFunction) → named_function place word ≡ Ok f → word ≡ function_text f
-    by_name functions.CountOverTime h = same_text word (codes "count_over_time") (if_ok (is_text word (codes "count_over_time")) _ _ _ h).0
+    has_text : (fs : List RangeFunction) → find (λ f. is_text word (function_text f)) fs ≡ Some function → word ≡ function_text function
+    has_text [] is = absurd (none-some function is)
+    has_text (f ∷ fs) is = ⊎_elim (λ yes. same_text word (function_text f) yes.0 ∙ ap function_text (same_Some f function yes.1)) (λ other. has_text fs other.1) (chosen (is_text word (function_text f)) (Some f) (find (λ f. is_text word (function_text f)) fs) (Some function) is)
+
+    by_name : (o : Option RangeFunction) → function_with_text word ≡ o → option_map_or Ok o (Err (cond (is_later_word word) (faults.Unsupported place) (faults.Syntax place))) ≡ Ok function → word ≡ function_text function
+    by_name None is h = absurd (no_err _ function h)
+    by_name (Some f) is h = has_text all_functions (is ∙ ap (λ f. Some f) (same_ok f function h))
 function_read place _ function h = absurd (no_err _ function h)
 
 function_is : (place : ℕ) (function : RangeFunction) → named_function place (function_text function) ≡ Ok function
 function_is place functions.CountOverTime = refl
+function_is place functions.Rate = refl
+function_is place functions.BytesOverTime = refl
+function_is place functions.BytesRate = refl
+function_is place functions.AbsentOverTime = refl
 
 term_read : (lexemes : List Lexeme) (term : TermForm) (rest : List Lexeme) → term_at false lexemes ≡ Ok (term, rest) → IsTerm term lexemes rest
 unfolding term_at

@@ -17,7 +17,7 @@ use Rattle.rl_query.specs.declared.token.Lexeme.{Lexeme}
 use Rattle.rl_query.specs.declared.token.Token.{Token}
 use Rattle.rl_query.specs.declared.token.Token.TheVariants as tokens
 use Rattle.rl_query.specs.Form.{MatcherForm}
-use Rattle.rl_query.specs.Tables.{sign_text}
+use Rattle.rl_query.specs.Tables.{sign_text, function_text, all_functions}
 use Rattle.rl_plain.specs.Answers.{◌>>=◌}
 
 -- a sign between terms
@@ -72,17 +72,17 @@ is_at _ = false
 abbrev pub is_in_any_case : List ℕ → List ℕ → Bool
 is_in_any_case = str_eq_ignore_ascii_case
 
--- the words that begin a query in LogQL
+-- the words that begin a query in LogQL, and in the ruler none
 abbrev pub later_words : List (List ℕ)
 later_words =
-    codes "rate" ∷ codes "bytes_over_time" ∷ codes "bytes_rate" ∷ codes "absent_over_time" ∷ codes "sum" ∷ codes "count" ∷ codes "min" ∷ codes "max" ∷
+    codes "sum" ∷ codes "count" ∷ codes "min" ∷ codes "max" ∷
     codes "topk" ∷ codes "avg" ∷ codes "stddev" ∷ codes "stdvar" ∷ codes "bottomk" ∷ codes "approx_topk" ∷ codes "sort" ∷ codes "sort_desc" ∷
     codes "label_replace" ∷ codes "vector" ∷ codes "sum_over_time" ∷ codes "avg_over_time" ∷ codes "max_over_time" ∷ codes "min_over_time" ∷
-    codes "first_over_time" ∷ codes "last_over_time" ∷ codes "stdvar_over_time" ∷ codes "stddev_over_time" ∷ codes "quantile_over_time" ∷ codes "rate_counter" ∷
-    codes "count_over_time" ∷ []
+    codes "first_over_time" ∷ codes "last_over_time" ∷ codes "stdvar_over_time" ∷ codes "stddev_over_time" ∷ codes "quantile_over_time" ∷ codes "rate_counter" ∷ []
 
+-- such a word, or that of a range aggregation in any case
 abbrev pub is_later_word : List ℕ → Bool
-is_later_word word = list_any (λ later. is_in_any_case later word) later_words
+is_later_word word = list_any (λ later. is_in_any_case later word) later_words || list_any (λ function. is_in_any_case (function_text function) word) all_functions
 
 -- LogQL has the word at the position, and the ruler has it not
 abbrev pub is_unsupported_word : Position → List ℕ → Bool

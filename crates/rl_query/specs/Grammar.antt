@@ -15,7 +15,8 @@ use Rattle.rl_query.specs.declared.token.Token.{Token}
 use Rattle.rl_query.specs.declared.token.Token.TheVariants as tokens
 use Rattle.rl_query.specs.Durations.{duration_of}
 use Rattle.rl_query.specs.Lexing.{lexemes_of}
-use Rattle.rl_query.specs.Printing.{parser_text, function_text}
+use Rattle.rl_query.specs.Printing.{parser_text}
+use Rattle.rl_query.specs.Tables.{function_text}
 use Rattle.rl_query.specs.Standing.{Stand, matcher_tokens, is_matcher}
 
 -- matchers joined by commas, up to the closing brace

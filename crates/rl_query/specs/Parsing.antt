@@ -15,7 +15,6 @@ use Rattle.rl_query.specs.declared.filter.LineOp.TheVariants as lines
 use Rattle.rl_query.specs.declared.parser.Position.{Position}
 use Rattle.rl_query.specs.declared.parser.Position.TheVariants as positions
 use Rattle.rl_query.specs.declared.query.RangeFunction.{RangeFunction}
-use Rattle.rl_query.specs.declared.query.RangeFunction.TheVariants as functions
 use Rattle.rl_query.specs.declared.stages.Parser.{Parser}
 use Rattle.rl_query.specs.declared.stages.Parser.TheVariants as parsers
 use Rattle.rl_query.specs.declared.token.Sign.{Sign}
@@ -25,6 +24,7 @@ use Rattle.rl_query.specs.declared.token.Token.{Token}
 use Rattle.rl_query.specs.declared.token.Token.TheVariants as tokens
 use Rattle.rl_query.specs.Durations.{duration_of}
 use Rattle.rl_query.specs.Lexing.{lexemes_of}
+use Rattle.rl_query.specs.Tables.{function_with_text}
 use Rattle.rl_plain.specs.Answers.{◌>>=◌}
 
 -- behind a matcher: whether another follows
@@ -234,7 +234,7 @@ range_of place token = Err (refusal positions.Elsewhere place token)
 
 -- the range aggregation that a word names
 abbrev pub named_function : ℕ → List ℕ → Result RangeFunction QueryFault
-named_function place word = if is_text word (codes "count_over_time") then Ok functions.CountOverTime else Err (if is_later_word word then faults.Unsupported place else faults.Syntax place)
+named_function place word = option_map_or Ok (function_with_text word) (Err (if is_later_word word then faults.Unsupported place else faults.Syntax place))
 
 abbrev pub function_of : ℕ → Token → Result RangeFunction QueryFault
 function_of place (tokens.Word word) = named_function place word

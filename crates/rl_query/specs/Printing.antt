@@ -6,12 +6,10 @@ use Rattle.std.specs.List.{flat_map}
 use Rattle.std.specs.Fmt.{decimal}
 use Rattle.rl_query.specs.declared.filter.LineOp.{LineOp}
 use Rattle.rl_query.specs.declared.filter.LineOp.TheVariants as lines
-use Rattle.rl_query.specs.declared.query.RangeFunction.{RangeFunction}
-use Rattle.rl_query.specs.declared.query.RangeFunction.TheVariants as functions
 use Rattle.rl_query.specs.declared.stages.Parser.{Parser}
 use Rattle.rl_query.specs.declared.stages.Parser.TheVariants as parsers
 use Rattle.rl_plain.specs.Escapes.{escaped}
-use Rattle.rl_query.specs.Tables.{escapes}
+use Rattle.rl_query.specs.Tables.{escapes, function_text}
 use Rattle.rl_query.specs.MatcherPrinting.{matcher_text}
 
 -- the matchers in their order, joined by a comma and a space
@@ -50,9 +48,6 @@ stages_text stages = flat_map (λ stage. codes " " ++ stage_print stage) stages
 -- {a="x", b="y"} |= "text" | json [300s]
 abbrev pub range_text : RangeForm → List ℕ
 range_text range = codes "{" ++ matchers_text range.matchers ++ codes "}" ++ stages_text range.stages ++ codes " [" ++ decimal range.seconds ++ codes "s]"
-
-abbrev pub function_text : RangeFunction → List ℕ
-function_text functions.CountOverTime = codes "count_over_time"
 
 abbrev pub term_text : TermForm → List ℕ
 term_text term = function_text term.function ++ codes "(" ++ range_text term.range ++ codes ")"

@@ -1,8 +1,12 @@
--- The tables of query texts: signs, comparisons, escapes and units.
+-- The tables of query texts: signs, comparisons, range aggregations, escapes and units.
 use Rattle.std.specs.Prelude.{ℕ, ◌==◌, List, [], ◌∷◌, Option, Some, None, if◌then◌else◌, codes}
+use Rattle.std.specs.List.{find}
+use Rattle.rl_labels.specs.Name.{is_text}
 use Rattle.rl_plain.specs.Escapes.{Escapes}
 use Rattle.rl_query.specs.declared.quantity_test.Comparison.{Comparison}
 use Rattle.rl_query.specs.declared.quantity_test.Comparison.TheVariants as comparisons
+use Rattle.rl_query.specs.declared.query.RangeFunction.{RangeFunction}
+use Rattle.rl_query.specs.declared.query.RangeFunction.TheVariants as functions
 use Rattle.rl_query.specs.declared.token.Sign.{Sign}
 use Rattle.rl_query.specs.declared.token.Sign.TheVariants as signs
 
@@ -77,6 +81,21 @@ comparison_sign comparisons.Greater = signs.Greater
 comparison_sign comparisons.GreaterOrEqual = signs.GreaterOrEqual
 comparison_sign comparisons.Less = signs.Less
 comparison_sign comparisons.LessOrEqual = signs.LessOrEqual
+
+-- the word of a range aggregation
+abbrev pub function_text : RangeFunction → List ℕ
+function_text functions.CountOverTime = codes "count_over_time"
+function_text functions.Rate = codes "rate"
+function_text functions.BytesOverTime = codes "bytes_over_time"
+function_text functions.BytesRate = codes "bytes_rate"
+function_text functions.AbsentOverTime = codes "absent_over_time"
+
+abbrev pub all_functions : List RangeFunction
+all_functions = functions.CountOverTime ∷ functions.Rate ∷ functions.BytesOverTime ∷ functions.BytesRate ∷ functions.AbsentOverTime ∷ []
+
+-- the range aggregation whose word it is
+abbrev pub function_with_text : List ℕ → Option RangeFunction
+function_with_text word = find (λ function. is_text word (function_text function)) all_functions
 
 -- what is escaped between quotes: a backslash, a quote, a newline, a carriage return and a tab
 abbrev pub escapes : Escapes

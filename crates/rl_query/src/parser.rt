@@ -12,6 +12,7 @@ ghost use Rattle.rl_query.specs.declared.query.Query.{Query};
 ghost use Rattle.rl_query.specs.Fronts.{is_unsupported, is_unsupported_word, is_unsupported_sign, is_later_stage, is_pipe, is_minus, is_operator, is_in_any_case, is_later_word, refusal, next, expected, is_sign, name_of, content_of, match_of, is_match, operator_of, checked_matcher, matcher_at};
 ghost use Rattle.rl_query.specs.Parsing.{goes_on, element_at, matchers_at, some_matcher, real_matchers, selector_at, is_unit_letter, is_duration_byte, looks_like_duration, range_of, seconds_of, checked_range, function_of, named_function, seconds_at, closed_at, timed_at, closing_at, range_at, term_at, query_in, query_of, ends};
 ghost use Rattle.rl_query.specs.Durations.{duration_of};
+ghost use Rattle.rl_query.specs.Tables.{function_text};
 ghost use Rattle.rl_query.specs.Limits.{has_real_matcher, longest_range, most_stages};
 ghost use Rattle.rl_labels.specs.Operators.{is_by_pattern};
 ghost use Rattle.rl_labels.specs.Selects.{are_by_text};
@@ -20,7 +21,7 @@ ghost use Rattle.std.specs.Char.{is_ascii_digit};
 use crate::duration::{LONGEST_RANGE, duration_of};
 use crate::fault::{QueryError, QueryFault};
 use crate::lexer::lexemes_of;
-use crate::query::{LogRange, Query, RangeFunction, Selector, Term};
+use crate::query::{ALL_FUNCTIONS, LogRange, Query, RangeFunction, Selector, Term};
 use crate::stage::{behind_stages, stages_in};
 use crate::stages::Stage;
 use crate::token::{Lexeme, Sign, Token};
@@ -28,12 +29,8 @@ use rl_labels::{Labels, MatchOp, Matcher, MatcherFault, SelectorCode};
 use rl_plain::{OrMemory, PlainList, PlainText, TryCopy};
 use std::alloc::Global;
 
-/// The words that begin a query in LogQL. `count_over_time` is supported in lower case, the others in no case.
-pub const LATER_WORDS: [&str; 29] = [
-    "rate",
-    "bytes_over_time",
-    "bytes_rate",
-    "absent_over_time",
+/// The words that begin a query in LogQL, and in the ruler none.
+pub const LATER_WORDS: [&str; 24] = [
     "sum",
     "count",
     "min",
@@ -58,7 +55,6 @@ pub const LATER_WORDS: [&str; 29] = [
     "stddev_over_time",
     "quantile_over_time",
     "rate_counter",
-    "count_over_time",
 ];
 
 /// Where in a query a token was looked for.
@@ -135,10 +131,23 @@ fn is_unsupported_word(position: Position, word: &str) -> bool
     }
 }
 
+// Such a word, or that of a range aggregation in any case.
 fn is_later_word(word: &str) -> bool
     ensures { result ≡ is_later_word word.now }
 {
-    is_one_of(&LATER_WORDS, word)
+    is_one_of(&LATER_WORDS, word) || is_text_of_one(&ALL_FUNCTIONS, word)
+}
+
+fn is_text_of_one(functions: &[RangeFunction], word: &str) -> bool
+    ensures { result ≡ list_any (λ function. is_in_any_case (function_text function) word.now) functions.now }
+{
+    functions.iter().any(|function| is_text_of(*function, word))
+}
+
+fn is_text_of(function: RangeFunction, word: &str) -> bool
+    ensures { result ≡ is_in_any_case (function_text function) word.now }
+{
+    function.as_str().eq_ignore_ascii_case(word)
 }
 
 pub(crate) fn is_one_of(words: &[&str], word: &str) -> bool
@@ -488,14 +497,14 @@ fn function_of(lexeme: &Lexeme) -> Result<RangeFunction, QueryFault>
 fn named_function(place: usize, word: &str) -> Result<RangeFunction, QueryFault>
     ensures { result ≡ named_function place word.now }
 {
-    if word == "count_over_time" {
-        return Ok(RangeFunction::CountOverTime);
+    match RangeFunction::with_text(word) {
+        Some(function) => Ok(function),
+        None => Err(if is_later_word(word) {
+            QueryFault::Unsupported(place)
+        } else {
+            QueryFault::Syntax(place)
+        }),
     }
-    Err(if is_later_word(word) {
-        QueryFault::Unsupported(place)
-    } else {
-        QueryFault::Syntax(place)
-    })
 }
 
 // The seconds of a range between its brackets.

@@ -3,12 +3,12 @@ ghost use Rattle.std.specs.Prelude.{◌≡◌, ◌++◌, [], ◌∷◌, map, IfO
 ghost use Rattle.std.specs.List.{flat_map};
 ghost use Rattle.rl_query.specs.Form.{matcher_form, filter_form, stage_form, range_form, term_form, query_form};
 ghost use Rattle.rl_query.specs.MatcherPrinting.{operator_text, matcher_text};
-ghost use Rattle.rl_query.specs.Printing.{matchers_text, filter_op_text, filter_print, filters_text, parser_text, stage_print, stages_text, range_text, function_text, term_text, query_text};
+ghost use Rattle.rl_query.specs.Printing.{matchers_text, filter_op_text, filter_print, filters_text, parser_text, stage_print, stages_text, range_text, term_text, query_text};
 ghost use Rattle.rl_query.specs.declared.query.Term.{Term};
 ghost use Rattle.std.specs.Fmt.{decimal};
 
 use crate::filter::{LineFilter, LineOp};
-use crate::query::{LogRange, Query, RangeFunction, Term};
+use crate::query::{LogRange, Query, Term};
 use crate::stages::{Parser, Stage};
 use crate::test_printer::push_tests;
 use crate::token::ESCAPES;
@@ -36,19 +36,11 @@ fn term_text(alloc: Global, term: &Term) -> Result<String, AllocError>
     ensures { IfOk result (λ text. string_bytes text ≡ term_text (term_form term.now)) }
 {
     let mut text = String::new(alloc);
-    text.push_str(function_name(term.function))?;
+    text.push_str(term.function.as_str())?;
     text.push('(')?;
     push_range(&mut text, &term.range)?;
     text.push(')')?;
     Ok(text)
-}
-
-fn function_name(function: RangeFunction) -> &'static str
-    ensures { result.now ≡ function_text function }
-{
-    match function {
-        RangeFunction::CountOverTime => "count_over_time",
-    }
 }
 
 fn push_range(text: &mut String, range: &LogRange) -> Result<(), AllocError>

@@ -1,7 +1,8 @@
 //! Queries as values. Their limits are facts of the types, so a query always has a text that is read again.
-ghost use Rattle.std.specs.Prelude.{◌≤◌, IsTrue, length};
+ghost use Rattle.std.specs.Prelude.{◌≡◌, ◌≤◌, IsTrue, length};
 ghost use Rattle.rl_query.specs.Limits.{has_real_matcher, longest_range, most_stages, most_tests};
 ghost use Rattle.rl_query.specs.Stages.{count_parsers, count_label_tests, are_shallow};
+ghost use Rattle.rl_query.specs.Tables.{function_text, function_with_text};
 
 use crate::stages::Stage;
 use rl_labels::Matcher;
@@ -21,11 +22,57 @@ pub struct Term {
     pub range: LogRange,
 }
 
-/// What a range aggregation computes of the entries in its range.
+/// What a range aggregation computes of the lines in its range (LogQL).
 #[derive(Clone, Copy, Debug, PartialEq, Eq)]
 pub enum RangeFunction {
-    /// `count_over_time`: how many entries there are.
+    /// `count_over_time`: how many lines there are.
     CountOverTime,
+    /// `rate`: how many there are in a second.
+    Rate,
+    /// `bytes_over_time`: how many bytes the lines have.
+    BytesOverTime,
+    /// `bytes_rate`: how many they have in a second.
+    BytesRate,
+    /// `absent_over_time`: 1 where there is no line.
+    AbsentOverTime,
+}
+
+/// The range aggregations.
+pub const ALL_FUNCTIONS: [RangeFunction; 5] = [
+    RangeFunction::CountOverTime,
+    RangeFunction::Rate,
+    RangeFunction::BytesOverTime,
+    RangeFunction::BytesRate,
+    RangeFunction::AbsentOverTime,
+];
+
+impl RangeFunction {
+    /// The word of the range aggregation.
+    pub fn as_str(self) -> &'static str
+        ensures { result.now ≡ function_text self }
+    {
+        match self {
+            RangeFunction::CountOverTime => "count_over_time",
+            RangeFunction::Rate => "rate",
+            RangeFunction::BytesOverTime => "bytes_over_time",
+            RangeFunction::BytesRate => "bytes_rate",
+            RangeFunction::AbsentOverTime => "absent_over_time",
+        }
+    }
+
+    /// The range aggregation whose word it is.
+    pub fn with_text(word: &str) -> Option<RangeFunction>
+        ensures { result ≡ function_with_text word.now }
+    {
+        match word {
+            "count_over_time" => Some(RangeFunction::CountOverTime),
+            "rate" => Some(RangeFunction::Rate),
+            "bytes_over_time" => Some(RangeFunction::BytesOverTime),
+            "bytes_rate" => Some(RangeFunction::BytesRate),
+            "absent_over_time" => Some(RangeFunction::AbsentOverTime),
+            _ => None,
+        }
+    }
 }
 
 /// The lines of a selector's streams that go through each stage, over a range. There are at most 256 stages, one parser, 256 label tests, and 63 parentheses open at once in tests.

@@ -143,7 +143,7 @@ fn push_got(
     labels: &Labels,
 ) -> Result<(), Trouble> {
     let (here, copy) = (here.totals.get(labels), copy.totals.get(labels));
-    let value = |total| Fraction::of(RangeFunction::CountOverTime, total);
+    let value = |total| Fraction::of(RangeFunction::CountOverTime, 5, total);
     let totals = compared(&here, &copy)?;
     let values = compared(&here.map(&value), &copy.map(&value))?;
     writeln!(text, "{here:?}, {copy:?}: {totals}, values {values}")?;

@@ -9,6 +9,7 @@ use Rattle.rl_aggregate.proofs.totals.Totals.samples.Goals as goal
 pub loop-labels-init : goal.loop-labels-init
 loop-labels-init c =
     let es = c.self.inside.by_labels.entries in
-    ap (λ front. front ++ map_list (sample c.args.function) c.into_iter-labels-iterator.result) c.in_ok-samples.ensures.items
-    ∙ ap (map_list (sample c.args.function)) (c.into_iter-labels-iterator.ensures.into_iter_gives ∙ c.iter-labels-items.ensures.rest
+    let value = sample c.args.term.now.function c.args.term.now.range.seconds in
+    ap (λ front. front ++ map_list value c.into_iter-labels-iterator.result) c.in_ok-samples.ensures.items
+    ∙ ap (map_list value) (c.into_iter-labels-iterator.ensures.into_iter_gives ∙ c.iter-labels-items.ensures.rest
     ∙ sym (entries-of_tree label_set_cmp_total label_set_cmp-IsAntisymmetric es c.iter-labels-items.ensures.ordered) ∙ ap (λ m. map.entries m) c.self.view_is)
