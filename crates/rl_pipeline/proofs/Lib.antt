@@ -1,3 +1,4 @@
+pub mod JsonData
 pub mod LogfmtTexts
 pub mod LogfmtTurns
 pub mod Names

@@ -1,12 +1,14 @@
 pub mod Building
 pub mod Extracting
 pub mod Filtering
+pub mod JsonData
 pub mod JsonLeaves
 pub mod LabelTests
 pub mod LogfmtPairs
 pub mod Metering
 pub mod Parsed
 pub mod QuantityTests
+pub mod Reading
 pub mod Running
 pub mod Sieving
 pub mod Sought

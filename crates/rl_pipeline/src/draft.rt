@@ -6,10 +6,9 @@ ghost use Rattle.rl_pipeline.specs.Extracting.{with_error};
 ghost use Rattle.rl_pipeline.specs.Parsed.{parsed};
 
 use crate::extracting::add_error;
-use crate::parsing::labels_behind;
+use crate::parsing::ParserRunning;
 use rl_labels::{Labels, LabelsBuilder};
 use rl_plain::TryCopy;
-use rl_query::Parser;
 use std::alloc::{AllocError, Global};
 use std::marker::Model;
 
@@ -67,14 +66,15 @@ impl<'a> Draft<'a> {
     pub(crate) fn parse(
         &mut self,
         alloc: Global,
-        parser: Parser,
+        parser: &mut ParserRunning,
         line: &str,
     ) -> Result<(), AllocError>
-        ensures { OnOk result (self.new ≡ parsed parser self.old line.now) }
+        ensures labels { OnOk result (self.new ≡ parsed parser.old self.old line.now) }
+        ensures same { parser.new ≡ parser.old }
     {
         let own = match self.own.take() {
-            Some(own) => labels_behind(alloc, parser, &own.build()?, line)?,
-            None => labels_behind(alloc, parser, self.stream, line)?,
+            Some(own) => parser.labels_behind(alloc, &own.build()?, line)?,
+            None => parser.labels_behind(alloc, self.stream, line)?,
         };
         self.own = Some(own);
         Ok(())

@@ -4,7 +4,8 @@
 //! `specs/Running.antt`: `run` of a list of stages, a line and the labels of its stream.
 //!
 //! - `filter`: `FilterCode`, a built line filter. `search`: `Search`, which asks many lines for one filter.
-//! - `json`, `logfmt`: what the parsers find in a line. `extracting`: the labels that it becomes. `parsing`: either of both.
+//! - `json_labels`, `logfmt`: what the parsers find in a line. `extracting`: the labels that it becomes. `parsing`: either of both.
+//! - `json_data`: lines that are JSON, with borrowed texts. `json_number`: the numbers in them.
 //! - `label_tests`: built label tests. `testing`: what asks many lines for them. `comparing`: tests by quantity.
 //! - `draft`: the labels of a line on its way through the stages. `meter`: `Meter`, which counts the runs.
 //! - `pipeline`: `Pipeline`, built stages. `running`: `Running`, which sends many lines through them with one set of caches.
@@ -15,7 +16,9 @@ pub(crate) mod comparing;
 pub(crate) mod draft;
 pub mod extracting;
 pub mod filter;
-pub mod json;
+pub(crate) mod json_data;
+pub mod json_labels;
+pub(crate) mod json_number;
 pub mod label_tests;
 pub mod logfmt;
 pub mod meter;

@@ -7,11 +7,11 @@ ghost use Rattle.rl_pipeline.specs.Steps.{code_stage, step_stage};
 
 use crate::draft::Draft;
 use crate::meter::Meter;
+use crate::parsing::ParserRunning;
 use crate::pipeline::StageCode;
 use crate::search::Search;
 use crate::testing::TestsRunning;
 use rl_labels::Labels;
-use rl_query::Parser;
 use std::alloc::{AllocError, Global};
 use std::marker::Model;
 
@@ -25,7 +25,7 @@ pub struct Running<'a> {
 #[derive(Drop)]
 pub(crate) enum Step<'a> {
     Filter(Search<'a>),
-    Parser(Parser),
+    Parser(ParserRunning),
     Tests(TestsRunning<'a>),
 }
 
@@ -103,7 +103,7 @@ fn step_of(alloc: Global, code: &StageCode) -> Result<Step<'_>, AllocError>
 {
     match code {
         StageCode::Filter(filter) => Ok(Step::Filter(filter.search()?)),
-        StageCode::Parser(parser) => Ok(Step::Parser(*parser)),
+        StageCode::Parser(parser) => Ok(Step::Parser(ParserRunning::new(alloc, *parser)?)),
         StageCode::Tests(tests) => Ok(Step::Tests(TestsRunning::new(alloc, tests)?)),
     }
 }
@@ -182,7 +182,7 @@ fn send_on(
     match step {
         Step::Filter(_) => Ok(true),
         Step::Parser(parser) => {
-            draft.parse(alloc, *parser, line)?;
+            draft.parse(alloc, parser, line)?;
             Ok(true)
         }
         Step::Tests(tests) => tests.ask(alloc, draft),
