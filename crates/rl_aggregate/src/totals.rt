@@ -94,7 +94,7 @@ impl Totals {
 
     // An element of a vector for each label set, in their order.
     pub(crate) fn samples(&self, alloc: Global, term: &Term) -> Result<Vec<Sample>, AllocError>
-        ensures { IfOk result (λ samples. samples.items ≡ samples term.now self.now) }
+        ensures { IfOk result (λ made. made.items ≡ samples term.now self.now) }
     {
         let mut samples = Vec::with_capacity(alloc, self.len())?;
         for (labels, total) in self.by_labels.iter() {

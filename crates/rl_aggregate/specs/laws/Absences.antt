@@ -4,6 +4,7 @@ use Rattle.std.specs.List.{count_by, list_any}
 use Rattle.std.specs.FinMap.{get, len, empty, empty_of_len, get-empty, len-empty}
 use Rattle.std.proofs.Common.{sym, ap, ◌∙◌, arith}
 use Rattle.std.proofs.lemmas.Bool.{ltb-false}
+use Rattle.std.proofs.lemmas.Bool.Decides.{nat_tests}
 use Rattle.std.proofs.lemmas.List.Sums.{sum_by-cons}
 use Rattle.std.proofs.lemmas.Option.{none-some}
 use Rattle.rl_labels.specs.LabelSet.{LabelSet}
@@ -24,7 +25,7 @@ use Rattle.rl_aggregate.specs.declared.total.Total.{Total}
 use Rattle.rl_aggregate.specs.declared.outcome.Outcome.TheVariants as outcomes
 
 -- no element has a total
-no_totals : totals_of [] ≡ empty {R = label_set_cmp} {X = Total}
+no_totals : totals_of [] ≡ empty {X = Total} {R = label_set_cmp}
 no_totals = same_totals (totals_of []) empty (λ q. get-totals_of [] q ∙ sym (get-empty label_set_cmp q))
 
 -- where an element has no error there are totals
@@ -35,10 +36,13 @@ some_total e es good none =
     let missing : get (totals_of (e ∷ es)) e.labels ≡ None = ap (λ m. get m e.labels) (empty_of_len (totals_of (e ∷ es)) none) ∙ get-empty label_set_cmp e.labels in
     none-some (total_of (e ∷ es) e.labels) (sym missing ∙ found)
 
+more : (n : ℕ) → (suc n == 0) ≡ false
+more n = grind (arith, nat_tests)
+
 -- without an error there are totals exactly where there are elements
 pub len-totals_of : (es : List Element) → count_by (λ e. has_error e.labels) es ≡ 0 → (len (totals_of es) == 0) ≡ (length es == 0)
 len-totals_of [] good = ap (λ m. len m == 0) no_totals ∙ ap (λ n. n == 0) (len-empty label_set_cmp Total)
-len-totals_of (e ∷ es) good = counted (len (totals_of (e ∷ es))) refl
+len-totals_of (e ∷ es) good = counted (len (totals_of (e ∷ es))) refl ∙ sym (more (length es))
   where
     own : has_error e.labels ≡ false
     own = elim (has_error e.labels) as (λ b. cond b 1 0 + count_by (λ x. has_error x.labels) es ≡ 0 → b ≡ false) [
@@ -48,7 +52,7 @@ len-totals_of (e ∷ es) good = counted (len (totals_of (e ∷ es))) refl
 
     counted : (n : ℕ) → len (totals_of (e ∷ es)) ≡ n → (n == 0) ≡ false
     counted zero is = absurd (some_total e es own is)
-    counted (suc n) is = refl
+    counted (suc n) is = more n
 
 -- so an absence of totals is one of elements
 pub absent-elements : (term : Term) (entries : List Entry) (t : ℕ) → term.function ≡ functions.AbsentOverTime → range_value term (partial entries term t) ≡ absent_of (in_range entries term t) term.range.selector.matchers
