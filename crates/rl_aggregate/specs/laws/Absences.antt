@@ -1,5 +1,5 @@
 -- What absent_over_time gives of totals is what it gives of the elements that they are of.
-use Rattle.std.specs.Prelude.{◌≡◌, ℕ, zero, suc, ◌+◌, ◌==◌, nat_lt, true, false, cond, ◌||◌, List, [], ◌∷◌, length, Option, Some, None, refl}
+use Rattle.std.specs.Prelude.{◌≡◌, ℕ, zero, suc, ◌+◌, ◌==◌, nat_lt, true, false, cond, ◌||◌, List, [], ◌∷◌, length, Some, None, refl}
 use Rattle.std.specs.List.{count_by, list_any}
 use Rattle.std.specs.FinMap.{get, len, empty, empty_of_len, get-empty, len-empty}
 use Rattle.std.proofs.Common.{sym, ap, ◌∙◌, arith}
@@ -7,19 +7,15 @@ use Rattle.std.proofs.lemmas.Bool.{ltb-false}
 use Rattle.std.proofs.lemmas.Bool.Decides.{nat_tests}
 use Rattle.std.proofs.lemmas.List.Sums.{sum_by-cons}
 use Rattle.std.proofs.lemmas.Option.{none-some}
-use Rattle.rl_labels.specs.LabelSet.{LabelSet}
-use Rattle.rl_labels.specs.LabelText.{label_set_cmp, label_set_eq}
+use Rattle.rl_labels.specs.LabelText.{label_set_cmp}
 use Rattle.rl_labels.specs.laws.TextLaws.{label_set_eq_itself}
 use Rattle.rl_labels.specs.declared.entry.Entry.{Entry}
-use Rattle.rl_labels.specs.declared.matcher.Matcher.{Matcher}
 use Rattle.rl_query.specs.declared.query.Term.{Term}
-use Rattle.rl_query.specs.declared.query.RangeFunction.{RangeFunction}
 use Rattle.rl_query.specs.declared.query.RangeFunction.TheVariants as functions
 use Rattle.rl_aggregate.specs.Absence.{absence, absent_sample}
 use Rattle.rl_aggregate.specs.Evaluated.{samples_by, range_value, absent_of}
 use Rattle.rl_aggregate.specs.InRange.{Element, in_range}
 use Rattle.rl_aggregate.specs.Partials.{has_error, counts_for, total_of, totals_of, partial}
-use Rattle.rl_aggregate.specs.TotalsMap.{TotalsMap}
 use Rattle.rl_aggregate.specs.laws.Totals.{same_totals, get-totals_of}
 use Rattle.rl_aggregate.specs.declared.total.Total.{Total}
 use Rattle.rl_aggregate.specs.declared.outcome.Outcome.TheVariants as outcomes

@@ -15,9 +15,9 @@ loop-matcher-preserved-in_ok-labels-2 c =
     let before : List Matcher = c.in-Some.before.now in
     let labels : LabelSet = c.loop-matcher.labels in
     let one : c.in_ok-labels-2.labels ≡ told_one ms labels m =
-        c.in_ok-labels-2.ensures
-        ∙ (λ i. with_label labels (c.as_str.ensures i) (c.as_str-then-tells_label.ensures i))
-        ∙ ap (λ b. cond b (with_label labels m.name m.value) labels) (sym c.if-tells_label.true ∙ c.tells_label.ensures) in
+    c.in_ok-labels-2.ensures
+    ∙ (λ i. with_label labels (c.as_str.ensures i) (c.as_str-then-tells_label.ensures i))
+    ∙ ap (λ b. cond b (with_label labels m.name m.value) labels) (sym c.if-tells_label.true ∙ c.tells_label.ensures) in
     ap (told_onto ms before) one ∙ sym (told-last ms before m labels) ∙ ap (λ rest. told_onto ms rest labels) (sym c.in-Some.ensures.cases.0) ∙ c.loop-matcher.invariant
 
 pub loop-matcher-preserved : goal.loop-matcher-preserved
