@@ -1,30 +1,27 @@
 -- What absent_over_time gives of totals is what it gives of the elements that they are of.
-use Rattle.std.specs.Prelude.{◌≡◌, ℕ, zero, suc, ◌+◌, ◌==◌, nat_lt, true, false, cond, ◌||◌, List, [], ◌∷◌, length, Option, Some, None, refl}
+use Rattle.std.specs.Prelude.{◌≡◌, ℕ, zero, suc, ◌+◌, ◌==◌, nat_lt, true, false, cond, ◌||◌, List, [], ◌∷◌, length, Some, None, refl}
 use Rattle.std.specs.List.{count_by, list_any}
 use Rattle.std.specs.FinMap.{get, len, empty, empty_of_len, get-empty, len-empty}
 use Rattle.std.proofs.Common.{sym, ap, ◌∙◌, arith}
 use Rattle.std.proofs.lemmas.Bool.{ltb-false}
+use Rattle.std.proofs.lemmas.Bool.Decides.{nat_tests}
 use Rattle.std.proofs.lemmas.List.Sums.{sum_by-cons}
 use Rattle.std.proofs.lemmas.Option.{none-some}
-use Rattle.rl_labels.specs.LabelSet.{LabelSet}
-use Rattle.rl_labels.specs.LabelText.{label_set_cmp, label_set_eq}
+use Rattle.rl_labels.specs.LabelText.{label_set_cmp}
 use Rattle.rl_labels.specs.laws.TextLaws.{label_set_eq_itself}
 use Rattle.rl_labels.specs.declared.entry.Entry.{Entry}
-use Rattle.rl_labels.specs.declared.matcher.Matcher.{Matcher}
 use Rattle.rl_query.specs.declared.query.Term.{Term}
-use Rattle.rl_query.specs.declared.query.RangeFunction.{RangeFunction}
 use Rattle.rl_query.specs.declared.query.RangeFunction.TheVariants as functions
 use Rattle.rl_aggregate.specs.Absence.{absence, absent_sample}
 use Rattle.rl_aggregate.specs.Evaluated.{samples_by, range_value, absent_of}
 use Rattle.rl_aggregate.specs.InRange.{Element, in_range}
 use Rattle.rl_aggregate.specs.Partials.{has_error, counts_for, total_of, totals_of, partial}
-use Rattle.rl_aggregate.specs.TotalsMap.{TotalsMap}
 use Rattle.rl_aggregate.specs.laws.Totals.{same_totals, get-totals_of}
 use Rattle.rl_aggregate.specs.declared.total.Total.{Total}
 use Rattle.rl_aggregate.specs.declared.outcome.Outcome.TheVariants as outcomes
 
 -- no element has a total
-no_totals : totals_of [] ≡ empty {R = label_set_cmp} {X = Total}
+no_totals : totals_of [] ≡ empty {X = Total} {R = label_set_cmp}
 no_totals = same_totals (totals_of []) empty (λ q. get-totals_of [] q ∙ sym (get-empty label_set_cmp q))
 
 -- where an element has no error there are totals
@@ -35,10 +32,13 @@ some_total e es good none =
     let missing : get (totals_of (e ∷ es)) e.labels ≡ None = ap (λ m. get m e.labels) (empty_of_len (totals_of (e ∷ es)) none) ∙ get-empty label_set_cmp e.labels in
     none-some (total_of (e ∷ es) e.labels) (sym missing ∙ found)
 
+more : (n : ℕ) → (suc n == 0) ≡ false
+more n = grind (arith, nat_tests)
+
 -- without an error there are totals exactly where there are elements
 pub len-totals_of : (es : List Element) → count_by (λ e. has_error e.labels) es ≡ 0 → (len (totals_of es) == 0) ≡ (length es == 0)
 len-totals_of [] good = ap (λ m. len m == 0) no_totals ∙ ap (λ n. n == 0) (len-empty label_set_cmp Total)
-len-totals_of (e ∷ es) good = counted (len (totals_of (e ∷ es))) refl
+len-totals_of (e ∷ es) good = counted (len (totals_of (e ∷ es))) refl ∙ sym (more (length es))
   where
     own : has_error e.labels ≡ false
     own = elim (has_error e.labels) as (λ b. cond b 1 0 + count_by (λ x. has_error x.labels) es ≡ 0 → b ≡ false) [
@@ -48,7 +48,7 @@ len-totals_of (e ∷ es) good = counted (len (totals_of (e ∷ es))) refl
 
     counted : (n : ℕ) → len (totals_of (e ∷ es)) ≡ n → (n == 0) ≡ false
     counted zero is = absurd (some_total e es own is)
-    counted (suc n) is = refl
+    counted (suc n) is = more n
 
 -- so an absence of totals is one of elements
 pub absent-elements : (term : Term) (entries : List Entry) (t : ℕ) → term.function ≡ functions.AbsentOverTime → range_value term (partial entries term t) ≡ absent_of (in_range entries term t) term.range.selector.matchers

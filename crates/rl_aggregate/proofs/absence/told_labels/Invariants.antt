@@ -4,8 +4,8 @@ use Rattle.rl_aggregate.specs.Absence.{told_labels}
 use Rattle.rl_aggregate.proofs.Absences.{told_onto}
 use Rattle.rl_aggregate.proofs.absence.told_labels.Given as goal
 
-abbrev pub invariant-loop-rest : goal.invariant-loop-rest
-invariant-loop-rest l = told_onto l.matchers l.rest l.labels ≡ told_labels l.matchers
+abbrev pub invariant-loop-matcher : goal.invariant-loop-matcher
+invariant-loop-matcher l = told_onto l.matchers l.rest l.labels ≡ told_labels l.matchers
 
-abbrev pub decreases-loop-rest : goal.decreases-loop-rest
-decreases-loop-rest l = length l.rest
+abbrev pub decreases-loop-matcher : goal.decreases-loop-matcher
+decreases-loop-matcher l = length l.rest
