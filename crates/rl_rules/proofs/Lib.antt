@@ -1,3 +1,4 @@
+mod Capped
 mod Named
 mod Places
 mod Recorded

@@ -1,28 +1,21 @@
 -- Tests of groups, as the code makes them.
-use Rattle.std.proofs.Common.{◌≡◌, ℕ, ◌+◌, ◌<◌, ◌≤◌, nat_lt, Bool, true, false, ◌&&◌, ◌||◌, List, [], ◌∷◌, length, map, get_or, drop, refl, sym, ap, ◌∙◌}
-use Rattle.std.specs.List.{list_all, list_any}
+use Rattle.std.proofs.Common.{◌≡◌, ℕ, ◌+◌, ◌<◌, ◌≤◌, nat_lt, Bool, true, false, ◌||◌, List, [], ◌∷◌, length, map, get_or, drop, refl, sym, ap, ◌∙◌}
+use Rattle.std.specs.List.{list_any}
 use Rattle.std.proofs.lemmas.Bool.{le-ltb}
 use Rattle.std.proofs.lemmas.List.{drop_more, length-map}
-use Rattle.std.proofs.lemmas.List.Folds.{list_all-map}
 use Rattle.rl_labels.specs.Name.{is_text}
 use Rattle.rl_rules.specs.declared.rule.Group.{Group}
 use Rattle.rl_rules.specs.Forms.{group_form, rule_form}
-use Rattle.rl_rules.specs.RuleNames.{is_group_name, is_metric_name}
-use Rattle.rl_rules.specs.Document.{names_are_good, has_same_group, has_too_many}
+use Rattle.rl_rules.specs.Document.{has_same_group, most_groups, most_rules, has_too_many}
 
--- groups and their forms have the same names
-pub good_names : (groups : List Group) → names_are_good (map group_form groups) ≡ list_all (λ group. is_group_name group.name && list_all (λ rule. is_metric_name rule.name) group.rules) groups
-good_names [] = refl
-good_names (group ∷ groups) = λ i. (is_group_name group.name && list_all-map (λ rule. is_metric_name rule.name) rule_form group.rules i) && good_names groups i
-
-many_rules : (groups : List Group) → list_any (λ group. nat_lt 1 (length group.rules)) (map group_form groups) ≡ list_any (λ group. nat_lt 1 (length group.rules)) groups
+many_rules : (groups : List Group) → list_any (λ group. nat_lt most_rules (length group.rules)) (map group_form groups) ≡ list_any (λ group. nat_lt most_rules (length group.rules)) groups
 many_rules [] = refl
-many_rules (group ∷ groups) = λ i. nat_lt 1 (length-map group.rules rule_form i) || many_rules groups i
+many_rules (group ∷ groups) = λ i. nat_lt most_rules (length-map group.rules rule_form i) || many_rules groups i
 
--- of one group at most, the rules are counted
-pub too_many : (groups : List Group) → length groups ≤ 1 → has_too_many (map group_form groups) ≡ list_any (λ group. nat_lt 1 (length group.rules)) groups
+-- where the groups are few, the rules of each are counted
+pub too_many : (groups : List Group) → length groups ≤ most_groups → has_too_many (map group_form groups) ≡ list_any (λ group. nat_lt most_rules (length group.rules)) groups
 too_many groups few =
-    ap (λ b. b || list_any (λ group. nat_lt 1 (length group.rules)) (map group_form groups)) (ap (nat_lt 1) (length-map groups group_form) ∙ le-ltb 1 (length groups) few)
+    ap (λ b. b || list_any (λ group. nat_lt most_rules (length group.rules)) (map group_form groups)) (ap (nat_lt most_groups) (length-map groups group_form) ∙ le-ltb most_groups (length groups) few)
     ∙ many_rules groups
 
 same_name : (group : Group) (groups : List Group) → list_any (λ other. is_text group.name other.name) (map group_form groups) ≡ list_any (λ other. is_text group.name other.name) groups

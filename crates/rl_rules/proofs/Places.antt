@@ -8,19 +8,20 @@ use Rattle.rl_query.specs.Form.{QueryForm}
 use Rattle.rl_query.specs.Parsing.{query_of}
 use Rattle.rl_query.specs.declared.fault.QueryFault.{QueryFault}
 use Rattle.rl_rules.specs.Answering.{Cramped, nowhere, cramped_by}
-use Rattle.rl_rules.specs.Document.{text_at, query_at, rule_at, group_at, each_from, tables_at, names_are_good, has_same_group, has_too_many, checked, check_keys, document_groups}
+use Rattle.rl_rules.specs.Document.{interval_of, limit_of, query_at, rule_at, group_at, each_from, tables_at, groups_are_named_well, has_same_group, has_too_many, checked, check_keys, document_groups}
 use Rattle.rl_rules.specs.Forms.{RuleForm, GroupForm}
+use Rattle.rl_rules.specs.Values.{text_at, texts_at}
 use Rattle.rl_rules.specs.declared.rule.RuleKind.TheVariants as rules
 use Rattle.rl_rules.specs.declared.fault.RulesFault.{RulesFault}
 use Rattle.rl_rules.specs.declared.fault.RulesFault.TheVariants as faults
 
 -- the rule of a table and its query
 abbrev made : Members → QueryForm → Result RuleForm RulesFault
-made t query = Ok (record { kind = rules.Recording; name = text_at (codes "record") t; query = query })
+made t query = Ok (record { kind = rules.Recording; name = text_at (codes "record") t; query = query; labels = texts_at (codes "labels") t })
 
 -- the group of a table and its rules
 abbrev gathered : Members → List RuleForm → Result GroupForm RulesFault
-gathered t rules = Ok (record { name = text_at (codes "name") t; rules = rules })
+gathered t rules = Ok (record { name = text_at (codes "name") t; interval = interval_of t; limit = limit_of t; rules = rules })
 
 -- a rule hangs on its own place
 abbrev pub IsFreeRule : ℕ → Cramped → ℕ → Type 0
@@ -93,8 +94,8 @@ before_group cramped group t fault h j less r = by_rules (each_from (rule_at cra
         ap (λ f. cramped_by f j r) at.1.is ∙ none (is_bad_regex at.1.query) (j == group) (r == at.0) (ne_eqb j group (omega (arith, less)))
 
 -- what is refused behind the queries cramps no rule
-uncramped : (gs : List GroupForm) (fault : RulesFault) → checked gs ≡ Err fault → cramped_by fault ≡ nowhere
-uncramped gs fault h = by_tests (names_are_good gs) (has_same_group gs) (has_too_many gs) h
+uncramped : (named : Bool) (gs : List GroupForm) (fault : RulesFault) → checked named gs ≡ Err fault → cramped_by fault ≡ nowhere
+uncramped named gs fault h = by_tests named (has_same_group gs) (has_too_many gs) h
   where
     by_tests : (good same many : Bool) → cond (not good) (Err faults.BadName) (cond same (Err faults.SameGroup) (cond many (Err faults.TooMany) (Ok gs))) ≡ Err fault → cramped_by fault ≡ nowhere
     by_tests false same many h = let is : fault ≡ faults.BadName = cc in ap cramped_by is
@@ -102,5 +103,6 @@ uncramped gs fault h = by_tests (names_are_good gs) (has_same_group gs) (has_too
     by_tests true false true h = let is : fault ≡ faults.TooMany = cc in ap cramped_by is
     by_tests true false false h = cc
 
-pub checked_late : (document : Members) (gs : List GroupForm) (fault : RulesFault) → check_keys document ≡ Ok tt → each_from (group_at nowhere) 0 (tables_at (codes "groups") document) ≡ Ok gs → checked gs ≡ Err fault → document_groups (cramped_by fault) document ≡ Err fault
-checked_late document gs fault keys groups h = ap (λ cramped. document_groups cramped document) (uncramped gs fault h) ∙ rw (keys, groups) h
+pub checked_late : (document : Members) (gs : List GroupForm) (fault : RulesFault) → check_keys document ≡ Ok tt → each_from (group_at nowhere) 0 (tables_at (codes "groups") document) ≡ Ok gs → checked (groups_are_named_well (tables_at (codes "groups") document)) gs ≡ Err fault
+    → document_groups (cramped_by fault) document ≡ Err fault
+checked_late document gs fault keys groups h = ap (λ cramped. document_groups cramped document) (uncramped (groups_are_named_well (tables_at (codes "groups") document)) gs fault h) ∙ rw (keys, groups) h

@@ -9,12 +9,13 @@ use Rattle.std.specs.Cmp.Lexicographic.{texts_ties}
 use Rattle.std.specs.FinMap.{entries, from_entries, same_map}
 use Rattle.std.specs.Map.{keys_of, lookup}
 use Rattle.std.proofs.lemmas.Bool.{or_parts, or_from, false≢true, true_from_ne_false}
+use Rattle.std.proofs.lemmas.List.{length-map}
 use Rattle.std.proofs.lemmas.List.Kept.{IsStrictlySortedBy-dedup}
 use Rattle.std.proofs.lemmas.List.Sorted.{IsPermutation-map, IsPermutation-sym, Contains-permutation}
 use Rattle.std.proofs.lemmas.Map.Keys.{IsDistinct-from_sorted, IsDistinct-IsPermutation}
 use Rattle.std.proofs.lemmas.Map.Views.{Contains-from_lookup, lookup-from_Contains}
 use Rattle.rl_plain.specs.laws.TreeMaps.{get-of_tree, entries-of_tree}
-use Rattle.rl_labels.specs.LabelSet.{LabelSet, with_label}
+use Rattle.rl_labels.specs.LabelSet.{LabelSet}
 use Rattle.rl_labels.specs.LabelText.{canonical_text, label_set_cmp, label_set_eq}
 use Rattle.rl_labels.specs.laws.TextLaws.{label_set_cmp_total, label_set_cmp-IsAntisymmetric, label_set_eq-true}
 use Rattle.rl_aggregate.specs.declared.outcome.Fraction.{Fraction}
@@ -22,7 +23,7 @@ use Rattle.rl_aggregate.specs.declared.outcome.Sample.{Sample}
 use Rattle.rl_rules.specs.declared.rule.Rule.{Rule}
 use Rattle.rl_rules.specs.declared.evaluation.RuleOutcome.TheVariants as made
 use Rattle.rl_rules.specs.declared.evaluation.Cause.TheVariants as causes
-use Rattle.rl_rules.specs.Outcomes.{recorded, has_same_labels, in_order, samples_of}
+use Rattle.rl_rules.specs.Outcomes.{recorded_labels, recorded, has_same_labels, is_exceeded, in_order, samples_of}
 use Rattle.rl_rules.specs.Recording.{named, sample_cmp, has_same_neighbours}
 
 -- the first of some elements are changed, and then the next one
@@ -37,13 +38,13 @@ next_kept f (x ∷ xs) zero d h = refl
 next_kept f (x ∷ xs) (suc i) d h = next_kept f xs i d (omega arith)
 
 -- one sample more is named
-pub named_more : (name : List ℕ) (old now : List Sample) (i : ℕ) (x : Sample) (labels : LabelSet) → i < length old → now ≡ map (named name) (take i old) ++ drop i old → labels ≡ with_label (get_or now i x).labels (codes "__name__") name
-    → set now i (record { labels = labels; value = (get_or now i x).value }) ≡ map (named name) (take (i + 1) old) ++ drop (i + 1) old
-named_more name old now i x labels within so_far set_to =
-    let there : get_or now i x ≡ get_or old i x = ap (λ xs. get_or xs i x) so_far ∙ next_kept (named name) old i x within in
-    let made : ◌≡◌ {A = Sample} (record { labels = labels; value = (get_or now i x).value }) (named name (get_or old i x)) =
-    λ j. record { labels = (set_to ∙ ap (λ (s : Sample). with_label s.labels (codes "__name__") name) there) j; value = (there j).value } in
-    (λ j. set (so_far j) i (made j)) ∙ set_next (named name) old i x within ∙ ap (λ n. map (named name) (take n old) ++ drop n old) (sym (add-one i))
+pub named_more : (rule : Rule) (old now : List Sample) (i : ℕ) (x : Sample) (labels : LabelSet) → i < length old → now ≡ map (named rule) (take i old) ++ drop i old → labels ≡ recorded_labels rule (get_or now i x).labels
+    → set now i (record { labels = labels; value = (get_or now i x).value }) ≡ map (named rule) (take (i + 1) old) ++ drop (i + 1) old
+named_more rule old now i x labels within so_far set_to =
+    let there : get_or now i x ≡ get_or old i x = ap (λ xs. get_or xs i x) so_far ∙ next_kept (named rule) old i x within in
+    let made : ◌≡◌ {A = Sample} (record { labels = labels; value = (get_or now i x).value }) (named rule (get_or old i x)) =
+    λ j. record { labels = (set_to ∙ ap (λ (s : Sample). recorded_labels rule s.labels) there) j; value = (there j).value } in
+    (λ j. set (so_far j) i (made j)) ∙ set_next (named rule) old i x within ∙ ap (λ n. map (named rule) (take n old) ++ drop n old) (sym (add-one i))
 
 -- at most one sample has no neighbour
 pub no_neighbours : (samples : List Sample) → length samples ≤ 1 → has_same_neighbours samples ≡ false
@@ -58,9 +59,9 @@ Element = LabelSet × Fraction
 abbrev pairs : List Sample → List Element
 pairs = map (λ sample. (sample.labels, sample.value))
 
-recorded-pairs : (rule : Rule) (samples : List Sample) → recorded rule samples ≡ pairs (map (named rule.name) samples)
+recorded-pairs : (rule : Rule) (samples : List Sample) → recorded rule samples ≡ pairs (map (named rule) samples)
 recorded-pairs rule [] = refl
-recorded-pairs rule (sample ∷ samples) = ap (λ es. (with_label sample.labels (codes "__name__") rule.name, sample.value) ∷ es) (recorded-pairs rule samples)
+recorded-pairs rule (sample ∷ samples) = ap (λ es. (recorded_labels rule sample.labels, sample.value) ∷ es) (recorded-pairs rule samples)
 
 back_again : (samples : List Sample) → map (λ (element : Element). record { labels = element.0; value = element.1 }) (pairs samples) ≡ samples
 back_again [] = refl
@@ -150,21 +151,27 @@ in_map es fs moved differ up =
 still_differ : (samples others : List Sample) → IsPermutation samples others → IsDistinct ties (keys_of (pairs samples)) → IsDistinct ties (keys_of (pairs others))
 still_differ samples others moved = IsDistinct-IsPermutation ties flips _ _ (IsPermutation-map (λ (e : Element). e.0) _ _ (IsPermutation-map (λ (s : Sample). (s.labels, s.value)) samples others moved))
 
-chosen : (es : List Element) (b : Bool) → has_same_labels es ≡ b → samples_of es ≡ cond b (made.Failed causes.SameLabels) (made.Samples (in_order es))
-chosen es b is = ap (λ b. cond b (made.Failed causes.SameLabels) (made.Samples (in_order es))) is
+-- which of the three a rule makes of elements is told by two tests
+module _ (rule : Rule) (limit : ℕ) (samples : List Sample) (exceeded : Bool) (count : is_exceeded limit (length samples) ≡ exceeded) where
+  chosen : (b : Bool) → has_same_labels (pairs (map (named rule) samples)) ≡ b
+      → samples_of limit (recorded rule samples) ≡ cond b (made.Failed causes.SameLabels) (cond exceeded (made.Failed causes.LimitExceeded) (made.Samples (in_order (pairs (map (named rule) samples)))))
+  chosen b is =
+      (λ i. cond (has_same_labels (recorded-pairs rule samples i)) (made.Failed causes.SameLabels) (cond (is_exceeded limit (length-map {B = Element} samples (λ sample. (recorded_labels rule sample.labels, sample.value)) i)) (made.Failed causes.LimitExceeded) (made.Samples (in_order (recorded-pairs rule samples i)))))
+      ∙ (λ i. cond (is i) (made.Failed causes.SameLabels) (cond (count i) (made.Failed causes.LimitExceeded) (made.Samples (in_order (pairs (map (named rule) samples))))))
 
--- two neighbours with one label set: the rule fails
-pub same_recorded : (rule : Rule) (samples sorted : List Sample) → IsPermutation (map (named rule.name) samples) sorted → has_same_neighbours sorted ≡ true → made.Failed causes.SameLabels ≡ samples_of (recorded rule samples)
-same_recorded rule samples sorted moved neighbours =
-    let ours = map (named rule.name) samples in
-    let found : has_same_labels (pairs ours) ≡ true = true_from_ne_false _ (λ none. false≢true (sym (apart sorted (still_differ ours sorted moved (all_differ (pairs ours) none))) ∙ neighbours)) in
-    sym (ap samples_of (recorded-pairs rule samples) ∙ chosen (pairs ours) true found)
+  -- two neighbours with one label set: the rule fails
+  pub same_recorded : (sorted : List Sample) → IsPermutation (map (named rule) samples) sorted → has_same_neighbours sorted ≡ true → made.Failed causes.SameLabels ≡ samples_of limit (recorded rule samples)
+  same_recorded sorted moved neighbours =
+      let ours = map (named rule) samples in
+      let found : has_same_labels (pairs ours) ≡ true = true_from_ne_false _ (λ none. false≢true (sym (apart sorted (still_differ ours sorted moved (all_differ (pairs ours) none))) ∙ neighbours)) in
+      sym (chosen true found)
 
--- none: the samples are those of the map
-pub order_recorded : (rule : Rule) (samples sorted : List Sample) → IsPermutation (map (named rule.name) samples) sorted → IsSorted sample_cmp sorted → has_same_neighbours sorted ≡ false → made.Samples sorted ≡ samples_of (recorded rule samples)
-order_recorded rule samples sorted moved up neighbours =
-    let ours = map (named rule.name) samples in
-    let higher = rise sorted up neighbours in
-    let differ = still_differ sorted ours (IsPermutation-sym ours sorted moved) (IsDistinct-from_sorted label_set_cmp _ higher) in
-    let listed : in_order (pairs ours) ≡ sorted = ap (map (λ (element : Element). record { labels = element.0; value = element.1 })) (in_map (pairs ours) (pairs sorted) (IsPermutation-map (λ (s : Sample). (s.labels, s.value)) ours sorted moved) differ higher) ∙ back_again sorted in
-    sym (ap samples_of (recorded-pairs rule samples) ∙ chosen (pairs ours) false (none_same (pairs ours) differ) ∙ ap (λ ss. made.Samples ss) listed)
+  -- none: it fails for its limit, or the samples are those of the map
+  pub order_recorded : (sorted : List Sample) → IsPermutation (map (named rule) samples) sorted → IsSorted sample_cmp sorted → has_same_neighbours sorted ≡ false
+      → cond exceeded (made.Failed causes.LimitExceeded) (made.Samples sorted) ≡ samples_of limit (recorded rule samples)
+  order_recorded sorted moved up neighbours =
+      let ours = map (named rule) samples in
+      let higher = rise sorted up neighbours in
+      let differ = still_differ sorted ours (IsPermutation-sym ours sorted moved) (IsDistinct-from_sorted label_set_cmp _ higher) in
+      let listed : in_order (pairs ours) ≡ sorted = ap (map (λ (element : Element). record { labels = element.0; value = element.1 })) (in_map (pairs ours) (pairs sorted) (IsPermutation-map (λ (s : Sample). (s.labels, s.value)) ours sorted moved) differ higher) ∙ back_again sorted in
+      sym (chosen false (none_same (pairs ours) differ) ∙ ap (λ ss. cond exceeded (made.Failed causes.LimitExceeded) (made.Samples ss)) listed)

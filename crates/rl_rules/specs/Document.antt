@@ -1,17 +1,20 @@
 -- Rule files: the groups that a TOML document has, or its lowest fault.
-use Rattle.std.specs.Prelude.{ℕ, ◌+◌, nat_lt, Bool, true, false, not, ◌&&◌, ◌||◌, List, [], ◌∷◌, length, Option, None, Some, is_some, Result, Ok, Err, codes, if◌then◌else◌}
+use Rattle.std.specs.Prelude.{ℕ, ◌+◌, nat_lt, Bool, true, false, not, ◌&&◌, ◌||◌, List, [], ◌∷◌, length, Option, None, Some, is_some, option_and_then, unwrap_or, Result, Ok, Err, is_ok, codes, if◌then◌else◌}
 use Rattle.std.specs.List.{list_all, list_any}
 use Rattle.std.specs.Option.{option_map_or}
 use Rattle.toml.specs.Parse.{parse_document}
-use Rattle.toml.specs.Data.{Data, string, array, as_str, as_array, as_table, Items, no_items, item, Members, no_members, member, get_member}
+use Rattle.toml.specs.Data.{Data, array, as_str, as_array, as_table, Items, no_items, item, Members, no_members, member, get_member}
 use Rattle.rl_plain.specs.Answers.{◌>>=◌}
+use Rattle.rl_labels.specs.LabelSet.{Pair}
 use Rattle.rl_labels.specs.Name.{is_text}
+use Rattle.rl_labels.specs.Pairs.{labels_from}
 use Rattle.rl_query.specs.Form.{QueryForm}
 use Rattle.rl_query.specs.Parsing.{query_of}
 use Rattle.rl_query.specs.declared.fault.QueryFault.{QueryFault}
 use Rattle.rl_rules.specs.Answering.{Cramped}
 use Rattle.rl_rules.specs.Forms.{KeyForm, RuleForm, GroupForm}
 use Rattle.rl_rules.specs.RuleNames.{is_metric_name, is_group_name}
+use Rattle.rl_rules.specs.Values.{seconds_in, number_in, are_texts, text_at, texts_at}
 use Rattle.rl_rules.specs.declared.rule.RuleKind.TheVariants as rules
 use Rattle.rl_rules.specs.declared.shape.Kind.{Kind}
 use Rattle.rl_rules.specs.declared.shape.Kind.TheVariants as kinds
@@ -21,6 +24,16 @@ use Rattle.rl_rules.specs.declared.shape.Test.{Test}
 use Rattle.rl_rules.specs.declared.shape.Test.TheVariants as tests
 use Rattle.rl_rules.specs.declared.fault.RulesFault.{RulesFault}
 use Rattle.rl_rules.specs.declared.fault.RulesFault.TheVariants as faults
+
+-- the shortest interval of a group and the one that it has where it names none, in seconds, and the greatest limit
+abbrev pub shortest_interval : ℕ
+shortest_interval = 1
+
+abbrev pub usual_interval : ℕ
+usual_interval = 60
+
+abbrev pub greatest_limit : ℕ
+greatest_limit = 1000000
 
 -- the keys of a document
 abbrev pub document_keys : List KeyForm
@@ -33,6 +46,8 @@ abbrev pub group_keys : List KeyForm
 group_keys =
     record { name = codes "name"; kind = kinds.Text; need = needs.Required }
     ∷ record { name = codes "rules"; kind = kinds.Tables; need = needs.Required }
+    ∷ record { name = codes "interval"; kind = kinds.Seconds shortest_interval; need = needs.Optional }
+    ∷ record { name = codes "limit"; kind = kinds.Number greatest_limit; need = needs.Optional }
     ∷ []
 
 -- the keys of a rule
@@ -40,6 +55,7 @@ abbrev pub rule_keys : List KeyForm
 rule_keys =
     record { name = codes "record"; kind = kinds.Text; need = needs.Required }
     ∷ record { name = codes "expr"; kind = kinds.Text; need = needs.Required }
+    ∷ record { name = codes "labels"; kind = kinds.Texts; need = needs.Optional }
     ∷ []
 
 -- the items of an array, none where there is none
@@ -64,6 +80,9 @@ are_tables (item value items) = is_some (as_table value) && are_tables items
 abbrev pub is_of : Kind → Data → Bool
 is_of kinds.Text value = is_some (as_str value)
 is_of kinds.Tables value = option_map_or are_tables (as_array value) false
+is_of (kinds.Seconds least) value = is_some (seconds_in least value)
+is_of (kinds.Number most) value = is_some (number_in most value)
+is_of kinds.Texts value = option_map_or are_texts (as_table value) false
 
 abbrev pub is_optional : Need → Bool
 is_optional needs.Required = false
@@ -104,14 +123,6 @@ group_passes test group = test group_keys group && list_all (test rule_keys) (ta
 abbrev pub document_passes : (List KeyForm → Members → Bool) → Members → Bool
 document_passes test document = test document_keys document && list_all (group_passes test) (tables_at (codes "groups") document)
 
--- the text at a key
-abbrev pub text_in : Option Data → List ℕ
-text_in (Some (string text)) = text
-text_in _ = []
-
-abbrev pub text_at : List ℕ → Members → List ℕ
-text_at key members = text_in (get_member key members)
-
 -- the query of a rule, or its fault with the places of the group and of the rule, counted from 0
 abbrev pub query_at : ℕ → ℕ → Result QueryForm QueryFault → Result QueryForm RulesFault
 query_at group rule (Ok query) = Ok query
@@ -120,7 +131,7 @@ query_at group rule (Err fault) = Err (faults.BadQuery group rule fault)
 abbrev pub rule_at : Cramped → ℕ → ℕ → Members → Result RuleForm RulesFault
 rule_at cramped group rule members = do
   query ← query_at group rule (query_of (cramped group rule) (text_at (codes "expr") members))
-  Ok (record { kind = rules.Recording; name = text_at (codes "record") members; query = query })
+  Ok (record { kind = rules.Recording; name = text_at (codes "record") members; query = query; labels = texts_at (codes "labels") members })
 
 -- what is read of tables one after the other, each with its place
 abbrev pub each_from : {A : Type 0} → (ℕ → Members → Result A RulesFault) → ℕ → List Members → Result (List A) RulesFault
@@ -130,28 +141,52 @@ each_from read place (table ∷ tables) = do
   others ← each_from read (place + 1) tables
   Ok (first ∷ others)
 
+-- the interval of a group in seconds, and its limit, 0 where it names none
+abbrev pub interval_of : Members → ℕ
+interval_of members = unwrap_or (option_and_then (seconds_in shortest_interval) (get_member (codes "interval") members)) usual_interval
+
+abbrev pub limit_of : Members → ℕ
+limit_of members = unwrap_or (option_and_then (number_in greatest_limit) (get_member (codes "limit") members)) 0
+
 abbrev pub group_at : Cramped → ℕ → Members → Result GroupForm RulesFault
 group_at cramped group members = do
   rules ← each_from (rule_at cramped group) 0 (tables_at (codes "rules") members)
-  Ok (record { name = text_at (codes "name") members; rules = rules })
+  Ok (record { name = text_at (codes "name") members; interval = interval_of members; limit = limit_of members; rules = rules })
 
--- each name is one that a group or a recorded metric may have
-abbrev pub names_are_good : List GroupForm → Bool
-names_are_good = list_all (λ group. is_group_name group.name && list_all (λ rule. is_metric_name rule.name) group.rules)
+-- texts that make a label set
+abbrev pub make_labels : List Pair → Bool
+make_labels texts = is_ok (labels_from texts)
+
+-- the name of a rule is one that a recorded metric may have, and its labels make a set
+abbrev pub rule_is_named_well : Members → Bool
+rule_is_named_well rule = is_metric_name (text_at (codes "record") rule) && make_labels (texts_at (codes "labels") rule)
+
+-- the name of a group is one that a group may have, and each of its rules is named well
+abbrev pub group_is_named_well : Members → Bool
+group_is_named_well group = is_group_name (text_at (codes "name") group) && list_all rule_is_named_well (tables_at (codes "rules") group)
+
+abbrev pub groups_are_named_well : List Members → Bool
+groups_are_named_well = list_all group_is_named_well
 
 -- two groups have one name
 abbrev pub has_same_group : List GroupForm → Bool
 has_same_group [] = false
 has_same_group (group ∷ groups) = list_any (λ other. is_text group.name other.name) groups || has_same_group groups
 
--- more groups, or more rules of a group, than are evaluated yet: one
+-- the most groups, and the most rules of a group
+abbrev pub most_groups : ℕ
+most_groups = 64
+
+abbrev pub most_rules : ℕ
+most_rules = 256
+
 abbrev pub has_too_many : List GroupForm → Bool
-has_too_many groups = nat_lt 1 (length groups) || list_any (λ group. nat_lt 1 (length group.rules)) groups
+has_too_many groups = nat_lt most_groups (length groups) || list_any (λ group. nat_lt most_rules (length group.rules)) groups
 
 -- what is read, unless a name or a number is refused
-abbrev pub checked : List GroupForm → Result (List GroupForm) RulesFault
-checked groups =
-    if not (names_are_good groups) then Err faults.BadName
+abbrev pub checked : Bool → List GroupForm → Result (List GroupForm) RulesFault
+checked named groups =
+    if not named then Err faults.BadName
     else (if has_same_group groups then Err faults.SameGroup
     else (if has_too_many groups then Err faults.TooMany else Ok groups))
 
@@ -167,7 +202,7 @@ abbrev pub document_groups : Cramped → Members → Result (List GroupForm) Rul
 document_groups cramped document = do
   _ ← check_keys document
   groups ← each_from (group_at cramped) 0 (tables_at (codes "groups") document)
-  checked groups
+  checked (groups_are_named_well (tables_at (codes "groups") document)) groups
 
 abbrev pub groups_in : Cramped → Option Members → Result (List GroupForm) RulesFault
 groups_in cramped None = Err faults.BadToml

@@ -1,5 +1,6 @@
 -- Keys, rules and groups as definitions speak of them, without the facts that their types keep.
 use Rattle.std.specs.Prelude.{ℕ, List, map}
+use Rattle.rl_labels.specs.LabelSet.{Pair}
 use Rattle.rl_query.specs.Form.{QueryForm, query_form}
 use Rattle.rl_rules.specs.declared.rule.Group.{Group}
 use Rattle.rl_rules.specs.declared.rule.Rule.{Rule}
@@ -18,16 +19,19 @@ pub record RuleForm : Type 0 where
   pub kind : RuleKind
   pub name : List ℕ
   pub query : QueryForm
+  pub labels : List Pair
 
 pub record GroupForm : Type 0 where
   pub name : List ℕ
+  pub interval : ℕ
+  pub limit : ℕ
   pub rules : List RuleForm
 
 abbrev pub key_form : Key → KeyForm
 key_form key = record { name = key.0.now; kind = key.1; need = key.2 }
 
 abbrev pub rule_form : Rule → RuleForm
-rule_form rule = record { kind = rule.kind; name = rule.name; query = query_form rule.query }
+rule_form rule = record { kind = rule.kind; name = rule.name; query = query_form rule.query; labels = rule.labels }
 
 abbrev pub group_form : Group → GroupForm
-group_form group = record { name = group.name; rules = map rule_form group.rules }
+group_form group = record { name = group.name; interval = group.interval; limit = group.limit; rules = map rule_form group.rules }

@@ -4,3 +4,4 @@ pub mod Forms
 pub mod Outcomes
 pub mod Recording
 pub mod RuleNames
+pub mod Values

@@ -1,13 +1,14 @@
 -- Samples as they are recorded: under their final label sets, and in order.
-use Rattle.std.specs.Prelude.{ℕ, Bool, false, ◌||◌, List, [], ◌∷◌, codes}
+use Rattle.std.specs.Prelude.{Bool, false, ◌||◌, List, [], ◌∷◌}
 use Rattle.std.specs.declared.cmp.Ordering.{Ordering}
-use Rattle.rl_labels.specs.LabelSet.{with_label}
 use Rattle.rl_labels.specs.LabelText.{label_set_cmp, label_set_eq}
 use Rattle.rl_aggregate.specs.declared.outcome.Sample.{Sample}
+use Rattle.rl_rules.specs.Outcomes.{recorded_labels}
+use Rattle.rl_rules.specs.declared.rule.Rule.{Rule}
 
--- a sample with the name of what is recorded
-abbrev pub named : List ℕ → Sample → Sample
-named name sample = record { labels = with_label sample.labels (codes "__name__") name; value = sample.value }
+-- a sample under its final label set
+abbrev pub named : Rule → Sample → Sample
+named rule sample = record { labels = recorded_labels rule sample.labels; value = sample.value }
 
 -- by label set
 abbrev pub sample_cmp : Sample → Sample → Ordering

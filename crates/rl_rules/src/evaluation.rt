@@ -43,6 +43,8 @@ pub enum Cause {
     PipelineError,
     /// Two elements have one final label set.
     SameLabels,
+    /// The vector has more elements than the group's limit.
+    LimitExceeded,
 }
 
 impl TryCopy for Cause {

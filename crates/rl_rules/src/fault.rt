@@ -9,7 +9,7 @@ use thiserror::Error;
 /// Why a document has no groups, the lowest first.
 #[derive(Clone, Copy, Debug, Drop, Error, PartialEq, Eq)]
 pub enum RulesFault {
-    #[error("not TOML, or the value of a key has another type")]
+    #[error("not TOML, or the value of a key has another type or is out of range")]
     BadToml,
     #[error("a key that no group and no rule has")]
     UnknownKey,
@@ -22,11 +22,11 @@ pub enum RulesFault {
         rule: usize,
         fault: QueryFault,
     },
-    #[error("a name that no group or no metric has")]
+    #[error("a name that no group or no metric has, or labels that no stream has")]
     BadName,
     #[error("two groups have one name")]
     SameGroup,
-    #[error("more than one group or rule")]
+    #[error("more than 64 groups, or more than 256 rules of a group")]
     TooMany,
 }
 

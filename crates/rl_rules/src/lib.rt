@@ -7,6 +7,7 @@
 //! - `fault`: why a rule file is refused. `reading`: `read_rules`. `stepping`: `step_rule`.
 #![tactic(auto)]
 
+mod durations;
 pub mod evaluation;
 pub mod fault;
 mod names;
@@ -14,6 +15,7 @@ pub mod reading;
 pub mod rule;
 mod shape;
 pub mod stepping;
+mod values;
 
 pub use evaluation::{Cause, Evaluation, RuleOutcome, RuleResult};
 pub use fault::{RulesError, RulesFault};

@@ -1,6 +1,6 @@
 //! Rule files: groups of rules from a TOML text.
-ghost use Rattle.std.specs.Prelude.{◌≡◌, ◌&&◌, nat_lt, length, map};
-ghost use Rattle.std.specs.List.{list_all, list_any};
+ghost use Rattle.std.specs.Prelude.{◌≡◌, nat_lt, length, map};
+ghost use Rattle.std.specs.List.{list_any};
 ghost use Rattle.toml.specs.View.{table_view, items_view};
 ghost use Rattle.rl_plain.specs.Answers.{Answers};
 ghost use Rattle.rl_labels.specs.Name.{is_text};
@@ -8,17 +8,26 @@ ghost use Rattle.rl_query.specs.Form.{query_form};
 ghost use Rattle.rl_query.specs.Parsing.{query_of};
 ghost use Rattle.rl_rules.specs.Answering.{Reads};
 ghost use Rattle.rl_rules.specs.Forms.{group_form, rule_form};
-ghost use Rattle.rl_rules.specs.RuleNames.{is_group_name, is_metric_name};
-ghost use Rattle.rl_rules.specs.Document.{groups_of, document_groups, tables_of, query_at, rule_at, group_at, each_from, names_are_good, has_same_group, has_too_many, checked, check_keys};
+ghost use Rattle.rl_rules.specs.Document.{groups_of, document_groups, tables_of, query_at, rule_at, group_at, each_from, most_rules, has_same_group, has_too_many, checked, check_keys};
 
 use crate::fault::{RulesError, RulesFault};
-use crate::names::{is_group_name, is_metric_name};
+use crate::names::groups_are_named_well;
 use crate::rule::{Group, Rule, RuleKind};
-use crate::shape::{Test, document_passes, items_at, text_at};
+use crate::shape::{GREATEST_LIMIT, SHORTEST_INTERVAL, Test, document_passes};
+use crate::values::{items_at, number_at, seconds_at, text_at, texts_at};
 use rl_plain::{PlainList, PlainText};
 use rl_query::{Query, QueryError, parse};
 use std::alloc::Global;
 use toml::{Table, Value};
+
+/// The most groups of a rule file.
+pub const MOST_GROUPS: usize = 64;
+
+/// The most rules of a group.
+pub const MOST_RULES: usize = 256;
+
+// From one evaluation of a group to the next where it names none, in seconds.
+const USUAL_INTERVAL: u64 = 60;
 
 /// The groups of a rule file, unless its document has a fault: the lowest that it has anywhere.
 #[tactic(auto, unfolding(crate::specs::Document::groups_of))]
@@ -37,8 +46,10 @@ fn groups_in(alloc: Global, document: &Table) -> Result<Vec<Group>, RulesError>
     ensures { Reads (λ groups. map group_form groups.items) result (λ cramped. document_groups cramped (table_view document.now)) }
 {
     check_keys(document)?;
-    let groups = groups_from(alloc, items_at(document, "groups"))?;
-    Ok(checked(groups)?)
+    let items = items_at(document, "groups");
+    let groups = groups_from(alloc, items)?;
+    let named = groups_are_named_well(alloc, items)?;
+    Ok(checked(named, groups)?)
 }
 
 // The lowest fault of the keys, if they have one.
@@ -76,8 +87,12 @@ fn group_at(alloc: Global, group: usize, table: &Table) -> Result<Group, RulesEr
 {
     let rules = rules_from(alloc, group, items_at(table, "rules"))?;
     let name = PlainText::from_str(alloc, text_at(table, "name"))?;
-    let rules = PlainList::from_vec(rules);
-    Ok(Group { name, rules })
+    Ok(Group {
+        name,
+        interval: seconds_at(table, "interval", SHORTEST_INTERVAL, USUAL_INTERVAL),
+        limit: number_at(table, "limit", GREATEST_LIMIT, 0),
+        rules: PlainList::from_vec(rules),
+    })
 }
 
 // The rules of an array's tables.
@@ -99,10 +114,12 @@ fn rule_at(alloc: Global, group: usize, rule: usize, table: &Table) -> Result<Ru
 {
     let query = query_at(alloc, group, rule, text_at(table, "expr"))?;
     let name = PlainText::from_str(alloc, text_at(table, "record"))?;
+    let labels = texts_at(alloc, table, "labels")?;
     Ok(Rule {
         kind: RuleKind::Recording,
         name,
         query,
+        labels: PlainList::from_vec(labels),
     })
 }
 
@@ -122,10 +139,10 @@ fn query_at(alloc: Global, group: usize, rule: usize, text: &str) -> Result<Quer
 }
 
 // The groups, unless a name or a number is refused.
-fn checked(groups: Vec<Group>) -> Result<Vec<Group>, RulesFault>
-    ensures { Answers (λ groups. map group_form groups.items) result (checked (map group_form groups.items)) }
+fn checked(named: bool, groups: Vec<Group>) -> Result<Vec<Group>, RulesFault>
+    ensures { Answers (λ groups. map group_form groups.items) result (checked named (map group_form groups.items)) }
 {
-    if !names_are_good(&groups) {
+    if !named {
         return Err(RulesFault::BadName);
     }
     if has_same_group(&groups) {
@@ -135,25 +152,6 @@ fn checked(groups: Vec<Group>) -> Result<Vec<Group>, RulesFault>
         return Err(RulesFault::TooMany);
     }
     Ok(groups)
-}
-
-// Whether each name is one that a group or a recorded metric may have.
-fn names_are_good(groups: &[Group]) -> bool
-    ensures { result ≡ names_are_good (map group_form groups.now) }
-{
-    groups.iter().all(has_good_names)
-}
-
-fn has_good_names(group: &Group) -> bool
-    ensures { result ≡ (is_group_name group.now.name && list_all (λ rule. is_metric_name rule.name) group.now.rules) }
-{
-    is_group_name(group.name.as_str()) && are_metric_names(group.rules.as_slice())
-}
-
-fn are_metric_names(rules: &[Rule]) -> bool
-    ensures { result ≡ list_all (λ rule. is_metric_name rule.name) rules.now }
-{
-    rules.iter().all(|rule| is_metric_name(rule.name.as_str()))
 }
 
 // Whether two groups have one name.
@@ -174,15 +172,15 @@ fn has_name(groups: &[Group], name: &str) -> bool
     groups.iter().any(|group| name == group.name.as_str())
 }
 
-// Whether there are more groups, or more rules of a group, than are evaluated yet: one.
+// Whether there are more than 64 groups, or more than 256 rules of a group.
 fn has_too_many(groups: &[Group]) -> bool
     ensures { result ≡ has_too_many (map group_form groups.now) }
 {
-    groups.len() > 1 || groups.iter().any(has_many_rules)
+    groups.len() > MOST_GROUPS || groups.iter().any(has_many_rules)
 }
 
 fn has_many_rules(group: &Group) -> bool
-    ensures { result ≡ nat_lt 1 (length group.now.rules) }
+    ensures { result ≡ nat_lt most_rules (length group.now.rules) }
 {
-    group.rules.len() > 1
+    group.rules.len() > MOST_RULES
 }

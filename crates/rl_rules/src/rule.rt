@@ -9,6 +9,10 @@ use std::alloc::AllocError;
 #[derive(Debug, Drop, PartialEq, Eq)]
 pub struct Group {
     pub name: PlainText,
+    /// From one evaluation to the next, in seconds.
+    pub interval: u64,
+    /// The most elements that the vector of a rule may have; 0 is no limit.
+    pub limit: u64,
     pub rules: PlainList<Rule>,
 }
 
@@ -19,6 +23,8 @@ pub struct Rule {
     /// The name of the metric that is recorded.
     pub name: PlainText,
     pub query: Query,
+    /// Names and values that stand over the labels of each element, by rising name. An empty value removes a label.
+    pub labels: PlainList<(PlainText, PlainText)>,
 }
 
 /// What a rule is for.
@@ -48,10 +54,12 @@ impl TryCopy for Rule {
     fn try_copy(&self) -> Result<Self, AllocError> {
         let name = self.name.try_copy()?;
         let query = self.query.try_copy()?;
+        let labels = self.labels.try_copy()?;
         Ok(Rule {
             kind: self.kind,
             name,
             query,
+            labels,
         })
     }
 }
@@ -61,6 +69,7 @@ impl Same for Rule {
         self.kind == other.kind
             && self.name.is_same(&other.name)
             && self.query.is_same(&other.query)
+            && self.labels.is_same(&other.labels)
     }
 }
 
@@ -68,12 +77,20 @@ impl TryCopy for Group {
     fn try_copy(&self) -> Result<Self, AllocError> {
         let name = self.name.try_copy()?;
         let rules = self.rules.try_copy()?;
-        Ok(Group { name, rules })
+        Ok(Group {
+            name,
+            interval: self.interval,
+            limit: self.limit,
+            rules,
+        })
     }
 }
 
 impl Same for Group {
     fn is_same(&self, other: &Self) -> bool {
-        self.name.is_same(&other.name) && self.rules.is_same(&other.rules)
+        self.interval == other.interval
+            && self.limit == other.limit
+            && self.name.is_same(&other.name)
+            && self.rules.is_same(&other.rules)
     }
 }

@@ -1,13 +1,14 @@
 //! The shape of a rule file: which keys its tables have, and what stands at them.
-ghost use Rattle.std.specs.Prelude.{◌≡◌, true, map, option_map};
+ghost use Rattle.std.specs.Prelude.{◌≡◌, true, map};
 ghost use Rattle.std.specs.Option.{option_map_or};
 ghost use Rattle.std.specs.List.{list_all, list_any};
-ghost use Rattle.toml.specs.Data.{get_member, as_table};
+ghost use Rattle.toml.specs.Data.{as_table};
 ghost use Rattle.toml.specs.View.{view, table_view, items_view};
 ghost use Rattle.rl_labels.specs.Name.{is_text};
 ghost use Rattle.rl_rules.specs.Forms.{key_form};
-ghost use Rattle.rl_rules.specs.Document.{rule_keys, items_in, tables_of, are_tables, is_of, has_kind, has_needed, is_typed, is_known, is_whole, passes, group_passes, document_passes, text_at};
+ghost use Rattle.rl_rules.specs.Document.{rule_keys, tables_of, are_tables, is_of, has_kind, has_needed, is_typed, is_known, is_whole, passes, group_passes, document_passes};
 
+use crate::values::{are_texts, items_at, number_in, seconds_in, value_at};
 use toml::{Table, Value};
 
 /// A key that a table may have: its name, what stands there, and whether it has to be there.
@@ -20,6 +21,12 @@ pub(crate) enum Kind {
     Text,
     /// An array of tables.
     Tables,
+    /// A duration, from the least up to 30 days.
+    Seconds(u64),
+    /// A whole number from 0 up to the most.
+    Number(u64),
+    /// A table of texts.
+    Texts,
 }
 
 /// Whether a key has to be there.
@@ -40,54 +47,27 @@ pub(crate) enum Test {
     Whole,
 }
 
+/// The shortest interval of a group, in seconds.
+pub(crate) const SHORTEST_INTERVAL: u64 = 1;
+
+/// The greatest limit of a group.
+pub(crate) const GREATEST_LIMIT: u64 = 1_000_000;
+
 // The keys of a document, of a group and of a rule.
 const DOCUMENT_KEYS: &[Key] = &[Key("groups", Kind::Tables, Need::Required)];
 
 const GROUP_KEYS: &[Key] = &[
     Key("name", Kind::Text, Need::Required),
     Key("rules", Kind::Tables, Need::Required),
+    Key("interval", Kind::Seconds(SHORTEST_INTERVAL), Need::Optional),
+    Key("limit", Kind::Number(GREATEST_LIMIT), Need::Optional),
 ];
 
 const RULE_KEYS: &[Key] = &[
     Key("record", Kind::Text, Need::Required),
     Key("expr", Kind::Text, Need::Required),
+    Key("labels", Kind::Texts, Need::Optional),
 ];
-
-// The value at a key.
-fn value_at<'a>(table: &'a Table, key: &str) -> Option<&'a Value>
-    ensures { option_map (λ value. view value.now) result ≡ get_member key.now (table_view table.now) }
-{
-    table.get(key)
-}
-
-// The text at a key, the empty one where there is none.
-pub(crate) fn text_at<'a>(table: &'a Table, key: &str) -> &'a str
-    ensures { result.now ≡ text_at key.now (table_view table.now) }
-{
-    match value_at(table, key) {
-        Some(value) => value.as_str().unwrap_or(""),
-        None => "",
-    }
-}
-
-// The items of the array at a key, none where there is none.
-pub(crate) fn items_at<'a>(table: &'a Table, key: &str) -> &'a [Value]
-    ensures { items_view result.now ≡ items_in (get_member key.now (table_view table.now)) }
-{
-    match value_at(table, key) {
-        Some(value) => items_of(value),
-        None => &[],
-    }
-}
-
-fn items_of(value: &Value) -> &[Value]
-    ensures { items_view result.now ≡ items_in (Some (view value.now)) }
-{
-    match value.as_array() {
-        Some(items) => items.as_slice(),
-        None => &[],
-    }
-}
 
 // Whether a value is of the kind.
 fn is_of(kind: Kind, value: &Value) -> bool
@@ -96,6 +76,9 @@ fn is_of(kind: Kind, value: &Value) -> bool
     match kind {
         Kind::Text => value.is_str(),
         Kind::Tables => value.as_array().is_some_and(|items| are_tables(items)),
+        Kind::Seconds(least) => seconds_in(value, least).is_some(),
+        Kind::Number(most) => number_in(value, most).is_some(),
+        Kind::Texts => value.as_table().is_some_and(|table| are_texts(table)),
     }
 }
 

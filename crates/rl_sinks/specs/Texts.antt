@@ -26,6 +26,7 @@ sample_text sample = canonical_text sample.labels ++ codes " " ++ value_text sam
 abbrev pub cause_text : Cause → List ℕ
 cause_text causes.PipelineError = codes "PipelineError"
 cause_text causes.SameLabels = codes "SameLabels"
+cause_text causes.LimitExceeded = codes "LimitExceeded"
 
 -- a recorder's line of a sample, and of a recording rule that failed
 abbrev pub recorded_line : ℕ → Sample → List ℕ

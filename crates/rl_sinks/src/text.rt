@@ -107,6 +107,7 @@ fn cause_text(cause: Cause) -> &'static str
     match cause {
         Cause::PipelineError => "PipelineError",
         Cause::SameLabels => "SameLabels",
+        Cause::LimitExceeded => "LimitExceeded",
     }
 }
 

@@ -1,5 +1,5 @@
 -- What an evaluation gives, from scratch on the lists that shards showed.
-use Rattle.std.specs.Prelude.{List, map, option_to_list, flat_map}
+use Rattle.std.specs.Prelude.{ℕ, List, map, option_to_list, flat_map}
 use Rattle.rl_labels.specs.LabelSet.{no_labels}
 use Rattle.rl_labels.specs.declared.entry.Entry.{Entry}
 use Rattle.rl_query.specs.declared.query.Term.{Term}
@@ -21,9 +21,9 @@ group_terms group = flat_map (λ rule. terms_of rule.query) group.rules
 abbrev pub answers : {X : Type 0} → OpenEvaluation X → List (Gathered X)
 answers opened = flat_map option_to_list opened.gathered
 
--- what a rule makes of the outcome of its query
-abbrev pub result_of : Rule → Outcome → RuleResult
-result_of rule outcome = record { kind = rule.kind; name = rule.name; annotations = no_labels; outcome = rule_outcome rule outcome }
+-- what a rule of a group with this limit makes of the outcome of its query
+abbrev pub result_of : ℕ → Rule → Outcome → RuleResult
+result_of limit rule outcome = record { kind = rule.kind; name = rule.name; annotations = no_labels; outcome = rule_outcome rule limit outcome }
 
 -- an evaluation of the group with these results
 abbrev pub evaluation_with : {X : Type 0} → Group → OpenEvaluation X → List RuleResult → Evaluation
@@ -35,4 +35,4 @@ shown_entries opened = flat_map (λ answer. answer.shown) (answers opened)
 
 -- from scratch: each rule's query on all entries that were shown
 abbrev pub evaluation_of : Group → OpenEvaluation (List Entry) → Evaluation
-evaluation_of group opened = evaluation_with group opened (map (λ rule. result_of rule (evaluated (shown_entries opened) rule.query opened.t)) group.rules)
+evaluation_of group opened = evaluation_with group opened (map (λ rule. result_of group.limit rule (evaluated (shown_entries opened) rule.query opened.t)) group.rules)

@@ -31,11 +31,11 @@ abbrev pub merged_terms : ℕ → ℕ → List (Gathered (List Partial)) → Lis
 merged_terms term zero answers = []
 merged_terms term (suc more) answers = merged_from no_partial term answers ∷ merged_terms (suc term) more answers
 
--- each rule on the partials of its own terms
-abbrev pub results_from : List Rule → List Partial → List RuleResult
-results_from [] partials = []
-results_from (rule ∷ rules) partials = result_of rule (finished rule.query (take (length (terms_of rule.query)) partials)) ∷ results_from rules (drop (length (terms_of rule.query)) partials)
+-- each rule on the partials of its own terms, under the limit of the group
+abbrev pub results_from : ℕ → List Rule → List Partial → List RuleResult
+results_from limit [] partials = []
+results_from limit (rule ∷ rules) partials = result_of limit rule (finished rule.query (take (length (terms_of rule.query)) partials)) ∷ results_from limit rules (drop (length (terms_of rule.query)) partials)
 
 -- the evaluation, on the partials that are kept
 abbrev pub evaluation_from : Group → OpenEvaluation (List Partial) → Evaluation
-evaluation_from group opened = evaluation_with group opened (results_from group.rules (merged_terms 0 (length (group_terms group)) (answers opened)))
+evaluation_from group opened = evaluation_with group opened (results_from group.limit group.rules (merged_terms 0 (length (group_terms group)) (answers opened)))

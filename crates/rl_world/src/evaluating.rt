@@ -48,7 +48,7 @@ pub(crate) fn evaluate(
 {
     let slots = opened.gathered.as_slice();
     let partials = merged_terms(alloc, slots, terms)?;
-    let outcomes = results(alloc, group.rules.as_slice(), &partials)?;
+    let outcomes = results(alloc, group.limit, group.rules.as_slice(), &partials)?;
     let places = places(alloc, slots)?;
     let name = group.name.try_copy()?;
     let evaluation = Evaluation {
@@ -118,20 +118,21 @@ fn merge_first(sum: Option<Partial>, own: &Partial) -> Result<Partial, AllocErro
     }
 }
 
-// Each rule on the partials of its own terms.
+// Each rule on the partials of its own terms, under the limit of the group.
 fn results(
     alloc: Global,
+    limit: u64,
     rules: &[Rule],
     partials: &[Partial],
 ) -> Result<Vec<RuleResult>, AllocError>
     requires { length partials.now ≡ length (flat_map (λ rule. terms_of rule.query) rules.now) }
-    ensures { IfOk result (λ results. results.items ≡ results_from rules.now partials.now) }
+    ensures { IfOk result (λ results. results.items ≡ results_from limit rules.now partials.now) }
 {
     let mut results = Vec::with_capacity(alloc, rules.len())?;
     let mut rest = partials;
     for rule in rules {
         let (own, others) = rest.split_at(count_terms(&rule.query));
-        let result = result_of(alloc, rule, own)?;
+        let result = result_of(alloc, limit, rule, own)?;
         results.push(result)?;
         rest = others;
     }
@@ -146,13 +147,18 @@ fn count_terms(query: &Query) -> usize
     1
 }
 
-// What the rule makes of what its terms add up to.
-fn result_of(alloc: Global, rule: &Rule, partials: &[Partial]) -> Result<RuleResult, AllocError>
+// What the rule makes of what its terms add up to, under the limit of the group.
+fn result_of(
+    alloc: Global,
+    limit: u64,
+    rule: &Rule,
+    partials: &[Partial],
+) -> Result<RuleResult, AllocError>
     requires { length partials.now ≡ length (terms_of rule.now.query) }
-    ensures { IfOk result (λ made. made ≡ result_of rule.now (finished rule.now.query partials.now)) }
+    ensures { IfOk result (λ made. made ≡ result_of limit rule.now (finished rule.now.query partials.now)) }
 {
     let outcome = finish(alloc, &rule.query, partials)?;
-    let outcome = step_rule(rule, outcome)?;
+    let outcome = step_rule(rule, limit, outcome)?;
     let name = rule.name.try_copy()?;
     let annotations = Labels::empty(alloc)?;
     Ok(RuleResult {

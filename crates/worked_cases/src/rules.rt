@@ -31,8 +31,8 @@ fn read(alloc: Global, input: &str) -> Result<String, Trouble> {
 
 fn push_groups(text: &mut String, groups: &[Group]) -> Result<(), Trouble> {
     for group in groups {
-        let name = group.name.as_str();
-        write!(text, "group {name}\n")?;
+        let (name, interval, limit) = (group.name.as_str(), group.interval, group.limit);
+        write!(text, "group {name}, {interval} s, limit {limit}\n")?;
         for rule in group.rules.as_slice() {
             push_rule(text, rule)?;
         }
@@ -44,6 +44,10 @@ fn push_rule(text: &mut String, rule: &Rule) -> Result<(), Trouble> {
     let query = print(*text.allocator(), &rule.query)?;
     let (kind, name) = (rule.kind, rule.name.as_str());
     write!(text, "{kind:?} {name} = {query}\n")?;
+    for label in rule.labels.as_slice() {
+        let (name, value) = (label.0.as_str(), label.1.as_str());
+        write!(text, "  {name} = {value:?}\n")?;
+    }
     Ok(())
 }
 
@@ -70,7 +74,7 @@ fn fault(alloc: Global, input: &str) -> Result<String, Trouble> {
     Ok(text)
 }
 
-// A rule file of one rule, and behind it the outcome of its query: samples, one a line, or `failed`.
+// A rule file of one group, and behind it the outcome of the query of each of its rules: samples, one a line, or `failed`.
 fn step(alloc: Global, input: &str) -> Result<String, Trouble> {
     let (file, outcome) = input.split_once('\n').unwrap_or((input, ""));
     let group = group_in(alloc, file)?;
@@ -80,7 +84,7 @@ fn step(alloc: Global, input: &str) -> Result<String, Trouble> {
             "failed" => Outcome::Failed,
             _ => Outcome::Vector(samples_in(alloc, outcome)?),
         };
-        push_made(&mut text, &step_rule(rule, outcome)?)?;
+        push_made(&mut text, &step_rule(rule, group.limit, outcome)?)?;
     }
     Ok(text)
 }

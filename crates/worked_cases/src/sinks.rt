@@ -142,6 +142,7 @@ fn result_in(alloc: Global, text: &str) -> Result<RuleResult, Trouble> {
     let outcome = match outcome {
         "PipelineError" => RuleOutcome::Failed(Cause::PipelineError),
         "SameLabels" => RuleOutcome::Failed(Cause::SameLabels),
+        "LimitExceeded" => RuleOutcome::Failed(Cause::LimitExceeded),
         _ => RuleOutcome::Samples(samples_in(alloc, outcome)?),
     };
     Ok(RuleResult {

@@ -125,8 +125,12 @@ fn behind(groups: &mut Vec<Group>, last: Group, group: Group) -> Result<Group, T
     for rule in group.rules.into_vec() {
         rules.push(rule)?;
     }
-    let (name, rules) = (group.name, PlainList::from_vec(rules));
-    Ok(Group { name, rules })
+    Ok(Group {
+        name: group.name,
+        interval: group.interval,
+        limit: group.limit,
+        rules: PlainList::from_vec(rules),
+    })
 }
 
 fn opened(alloc: Global, settings: Settings<'_>, files: &str) -> Result<World<Sunk>, Trouble> {

@@ -68,12 +68,12 @@ others_behind f [] others = refl
 others_behind f (term ∷ own) others = others_behind f own others
 
 -- so each rule is evaluated on the partials of its own terms
-pub results_from-each : (f : Term → Partial) (rules : List Rule) → results_from rules (map f (flat_map (λ rule. terms_of rule.query) rules)) ≡ map (λ rule. result_of rule (finished rule.query (map f (terms_of rule.query)))) rules
-results_from-each f [] = refl
-results_from-each f (rule ∷ rules) =
+pub results_from-each : (limit : ℕ) (f : Term → Partial) (rules : List Rule) → results_from limit rules (map f (flat_map (λ rule. terms_of rule.query) rules)) ≡ map (λ rule. result_of limit rule (finished rule.query (map f (terms_of rule.query)))) rules
+results_from-each limit f [] = refl
+results_from-each limit f (rule ∷ rules) =
     let own = terms_of rule.query in
     let others = flat_map (λ other. terms_of other.query) rules in
-    λ k. result_of rule (finished rule.query (own_first f own others k)) ∷ (ap (results_from rules) (others_behind f own others) ∙ results_from-each f rules) k
+    λ k. result_of limit rule (finished rule.query (own_first f own others k)) ∷ (ap (results_from limit rules) (others_behind f own others) ∙ results_from-each limit f rules) k
 
 -- the evaluation on kept partials is the one from scratch
 pub kept_evaluation : (group : Group) (opened : OpenEvaluation (List Entry)) → evaluation_from group (kept_open (group_terms group) opened) ≡ evaluation_of group opened
@@ -82,5 +82,5 @@ kept_evaluation group opened =
     let same = answers-kept terms opened in
     let places = ap (λ shown. map (λ answer. answer.place) shown) same ∙ places-kept terms opened.t (answers opened) in
     let partials = ap (merged_terms 0 (length terms)) same ∙ merged_terms-kept terms 0 terms opened.t (answers opened) refl in
-    let outcomes = ap (results_from group.rules) partials ∙ results_from-each (λ term. partial (shown_entries opened) term opened.t) group.rules in
+    let outcomes = ap (results_from group.limit group.rules) partials ∙ results_from-each group.limit (λ term. partial (shown_entries opened) term opened.t) group.rules in
     λ k. record { group = group.name; t = opened.t; places = places k; outcomes = outcomes k }

@@ -4,4 +4,4 @@ use Rattle.rl_rules.specs.Recording.{named}
 use Rattle.rl_rules.proofs.stepping.name_samples.Given as goal
 
 abbrev pub invariant-loop-sample : goal.invariant-loop-sample
-invariant-loop-sample l = l.samples ≡ map (named l.name) (take l.sample-index l.initial.samples) ++ drop l.sample-index l.initial.samples
+invariant-loop-sample l = l.samples ≡ map (named l.rule) (take l.sample-index l.initial.samples) ++ drop l.sample-index l.initial.samples

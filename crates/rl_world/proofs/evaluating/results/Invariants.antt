@@ -6,6 +6,6 @@ use Rattle.rl_world.proofs.evaluating.results.Given as goal
 
 abbrev pub invariant-loop-rule : goal.invariant-loop-rule
 invariant-loop-rule l = record {
-  all : l.results.items ++ results_from (drop l.rule-index l.rules) l.rest ≡ results_from l.rules l.partials;
+  all : l.results.items ++ results_from l.limit (drop l.rule-index l.rules) l.rest ≡ results_from l.limit l.rules l.partials;
   each : length l.rest ≡ length (flat_map (λ rule. terms_of rule.query) (drop l.rule-index l.rules));
 }
