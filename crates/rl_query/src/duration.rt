@@ -1,4 +1,4 @@
-//! Durations of ranges.
+//! Durations of ranges, which rule files have too.
 ghost use Rattle.std.specs.Prelude.{◌≡◌, ◌+◌, ◌≤◌, IfSome, IsTrue};
 ghost use Rattle.std.specs.Option.{option_map};
 ghost use Rattle.std.specs.Char.{is_ascii_digit};
@@ -24,8 +24,8 @@ fn unit_of(byte: u8) -> Option<(u64, u64)>
     }
 }
 
-// The seconds of a duration, if it is one. A longer one than the longest range counts as one second above that.
-pub(crate) fn duration_of(bytes: &[u8]) -> Option<u64>
+/// The seconds of a duration in `w d h m s`, if it is one. A longer one than the longest range counts as one second above that.
+pub fn duration_of(bytes: &[u8]) -> Option<u64>
     ensures { result ≡ option_map capped (duration_of bytes.now) }
 {
     let mut seconds = 0;

@@ -1,4 +1,3 @@
-mod Capped
 mod Named
 mod Places
 mod Recorded

@@ -7,7 +7,6 @@
 //! - `fault`: why a rule file is refused. `reading`: `read_rules`. `stepping`: `step_rule`.
 #![tactic(auto)]
 
-mod durations;
 pub mod evaluation;
 pub mod fault;
 mod names;

@@ -6,8 +6,8 @@ ghost use Rattle.rl_rules.specs.Document.{items_in};
 ghost use Rattle.rl_query.specs.Limits.{capped, longest_range};
 ghost use Rattle.rl_rules.specs.Values.{within, seconds_of, seconds_in, number_in, are_texts, texts_of, members_in, text_at, texts_at};
 
-use crate::durations::{LONGEST_DURATION, duration_of};
 use rl_plain::PlainText;
+use rl_query::duration::{LONGEST_RANGE, duration_of};
 use std::alloc::{AllocError, Global};
 use toml::{Table, Value};
 
@@ -81,7 +81,7 @@ fn seconds_from(text: &str, least: u64) -> Option<u64>
     ensures { result ≡ option_and_then (within least longest_range) (seconds_of text.now) }
 {
     let seconds = seconds_of(text)?;
-    within(least, LONGEST_DURATION, seconds)
+    within(least, LONGEST_RANGE, seconds)
 }
 
 // The seconds of a text. A longer duration than 30 days counts as one second above that.
