@@ -1,19 +1,15 @@
 -- Labels put one by one among labels by rising name.
-use Rattle.std.proofs.Common.{◌≡◌, ℕ, ◌+◌, ◌<◌, ◌≤◌, Bool, true, false, cond, not, List, [], ◌∷◌, ◌++◌, length, get_or, take, drop, Option, None, Some, is_some, refl, sym, ap, ◌∙◌, arith, append_assoc}
+use Rattle.std.proofs.Common.{◌≡◌, ℕ, ◌<◌, true, false, cond, not, List, [], ◌∷◌, ◌++◌, length, get_or, take, drop, drop-cons, zero, suc, None, Some, is_some, refl, sym, ap, ◌∙◌, arith}
 use Rattle.std.specs.List.{insert}
-use Rattle.std.specs.Ordering.{is_eq, is_lt}
+use Rattle.std.specs.Ordering.{is_eq, is_lt, eq_by_cmp, ordering_reverse}
 use Rattle.std.specs.declared.cmp.Ordering.{Ordering}
 use Rattle.std.specs.declared.cmp.Ordering.TheVariants.{Less, Equal, Greater}
-use Rattle.std.specs.FinMap.Entries.{find, put, where_key, by_order}
-use Rattle.std.specs.Cmp.Lexicographic.{texts_ties}
-use Rattle.std.proofs.lemmas.Bool.{and_parts, true≢false}
-use Rattle.std.proofs.lemmas.List.{take_more}
-use Rattle.std.proofs.lemmas.Grind.{common_steps}
+use Rattle.std.specs.FinMap.Entries.{find, put, where_key, by_order, below_all, is_sorted}
+use Rattle.std.proofs.lemmas.Bool.{and_parts, and_from, true≢false}
 use Rattle.rl_plain.specs.laws.Bools.{true_from}
 use Rattle.rl_labels.specs.Name.{name_cmp, is_name, is_text}
 use Rattle.rl_labels.specs.LabelSet.{Pair, LabelSet, is_empty, is_label, are_labels, labels_of, labels_are_proper, label, same_labels, override, with_label, label_set_of}
-use Rattle.rl_labels.specs.laws.LabelLaws.{proper-override, labels_of-with_label, labels_of-label_set_of}
-use Rattle.rl_labels.proofs.Steps.{split_at_place, find_front}
+use Rattle.rl_labels.specs.laws.LabelLaws.{name_cmp_total, proper-override, labels_of-with_label, labels_of-label_set_of}
 
 -- the labels of a set are in order, and make it
 pub set_in_order : (set : LabelSet) → are_labels (labels_of set) ≡ true
@@ -26,57 +22,74 @@ set_again set = same_labels _ set (labels_of-label_set_of (labels_of set) (set_i
 pub label_in : (es : List Pair) → are_labels es ≡ true → (name : List ℕ) → find name_cmp name es ≡ label (label_set_of es) name
 label_in es h name = ap (find name_cmp name) (sym (labels_of-label_set_of es h))
 
--- What is known in front of a place: no label behind has the name, and it would stand there.
-pub record NotYet (name : List ℕ) (labels : List Pair) (i : ℕ) : Type 0 where
-  pub none : find name_cmp name (drop i labels) ≡ None
-  pub placed : (value : List ℕ) → take i labels ++ put name_cmp name value (drop i labels) ≡ put name_cmp name value labels
+is_less : (o : Ordering) → is_lt o ≡ true → o ≡ Less
+is_less Less h = refl
+is_less Equal h = absurd (true≢false (sym h))
+is_less Greater h = absurd (true≢false (sym h))
 
-pub at_start : (name : List ℕ) (labels : List Pair) → find name_cmp name labels ≡ None → NotYet name labels 0
-at_start name labels none = record { none = none; placed = λ value. refl }
+greater_turned : (x y : List ℕ) → name_cmp x y ≡ Greater → name_cmp y x ≡ Less
+greater_turned x y h = name_cmp_total.antisymm y x ∙ ap ordering_reverse h
 
-some_none : (x : List ℕ) → ◌≡◌ {A = Option (List ℕ)} (Some x) None → ⊥
-some_none x e = cc
+less_turned : (x y : List ℕ) → name_cmp x y ≡ Less → name_cmp y x ≡ Greater
+less_turned x y h = name_cmp_total.antisymm y x ∙ ap ordering_reverse h
 
--- a label that is not above the name is passed over
-pub passed : (name : List ℕ) (labels : List Pair) (i : ℕ) (pair : Pair) → i < length labels → pair ≡ get_or labels i pair → is_lt (name_cmp name pair.0) ≡ false → NotYet name labels i → NotYet name labels (i + 1)
-passed name labels i pair in' is above so_far = by_order_of (name_cmp name pair.0) refl above
-  where
-    found : (b : Bool) → is_text name pair.0 ≡ b → find name_cmp name (drop i labels) ≡ cond b (Some pair.1) (find name_cmp name (drop (i + 1) labels))
-    found b e = find_front name labels i pair in' is ∙ ap (λ t. cond t (Some pair.1) (find name_cmp name (drop (i + 1) labels))) e
+-- a name below all is below each
+below_each : (name : List ℕ) (labels : List Pair) (i : ℕ) (pair : Pair) → below_all name_cmp name labels ≡ true → i < length labels → pair ≡ get_or labels i pair → name_cmp name pair.0 ≡ Less
+below_each name [] i pair h in' is = absurd (omega arith)
+below_each name (e ∷ es) zero pair h in' is = ap (λ p. name_cmp name p.0) is ∙ is_less (name_cmp name e.0) (and_parts (is_lt (name_cmp name e.0)) (below_all name_cmp name es) h).0
+below_each name (e ∷ es) (suc i) pair h in' is = below_each name es i pair (and_parts (is_lt (name_cmp name e.0)) (below_all name_cmp name es) h).1 (omega arith) is
 
-    next : (value : List ℕ) → name_cmp name pair.0 ≡ Greater → put name_cmp name value (drop i labels) ≡ pair ∷ put name_cmp name value (drop (i + 1) labels)
-    next value greater =
-        ap (put name_cmp name value) (split_at_place labels i pair in' is)
-        ∙ ap (λ o. by_order o ((name, value) ∷ pair ∷ drop (i + 1) labels) ((pair.0, value) ∷ drop (i + 1) labels) (pair ∷ put name_cmp name value (drop (i + 1) labels))) greater
+module _ (name : List ℕ) where
+  -- a name below all labels is none of theirs
+  pub find_below : (es : List Pair) → below_all name_cmp name es ≡ true → find name_cmp name es ≡ None
+  find_below [] h = refl
+  find_below (e ∷ es) h =
+      let parts = and_parts (is_lt (name_cmp name e.0)) (below_all name_cmp name es) h in
+      ap (λ o. cond (is_eq o) (Some e.1) (find name_cmp name es)) (is_less (name_cmp name e.0) parts.0) ∙ find_below es parts.1
 
-    regrouped : (rest : List Pair) → take (i + 1) labels ++ rest ≡ take i labels ++ pair ∷ rest
-    regrouped rest = ap (λ t. t ++ rest) (take_more labels i pair in') ∙ append_assoc (take i labels) (get_or labels i pair ∷ []) rest ∙ ap (λ p. take i labels ++ p ∷ rest) (sym is)
+  -- and stands in front of them
+  pub put_below : (value : List ℕ) (es : List Pair) → below_all name_cmp name es ≡ true → put name_cmp name value es ≡ (name, value) ∷ es
+  put_below value [] h = refl
+  put_below value (e ∷ es) h = ap (λ o. by_order o ((name, value) ∷ e ∷ es) ((e.0, value) ∷ es) (e ∷ put name_cmp name value es)) (is_less (name_cmp name e.0) (and_parts (is_lt (name_cmp name e.0)) (below_all name_cmp name es) h).0)
 
-    by_order_of : (o : Ordering) → name_cmp name pair.0 ≡ o → is_lt o ≡ false → NotYet name labels (i + 1)
-    by_order_of Less e h = absurd (true≢false h)
-    by_order_of Equal e h = absurd (some_none pair.1 (sym (found true (texts_ties name pair.0 ∙ ap is_eq e)) ∙ so_far.none))
-    by_order_of Greater e h = record {
-      none = sym (found false (texts_ties name pair.0 ∙ ap is_eq e)) ∙ so_far.none;
-      placed = λ value. regrouped (put name_cmp name value (drop (i + 1) labels)) ∙ ap (λ t. take i labels ++ t) (sym (next value e)) ∙ so_far.placed value;
-    }
+  -- the labels up to one that is below the name are passed over
+  find_behind : (es : List Pair) (i : ℕ) (pair : Pair) → is_sorted name_cmp es ≡ true → i < length es → pair ≡ get_or es i pair → name_cmp name pair.0 ≡ Greater → find name_cmp name es ≡ find name_cmp name (drop (suc i) es)
+  find_behind [] i pair sorted in' is above = absurd (omega arith)
+  find_behind (e ∷ es) zero pair sorted in' is above = ap (λ o. cond (is_eq o) (Some e.1) (find name_cmp name es)) (ap (λ p. name_cmp name p.0) (sym is) ∙ above)
+  find_behind (e ∷ es) (suc i) pair sorted in' is above =
+      let parts = and_parts (below_all name_cmp e.0 es) (is_sorted name_cmp es) sorted in
+      let first = less_turned e.0 name (name_cmp_total.trans e.0 pair.0 name (below_each e.0 es i pair parts.0 (omega arith) is) (greater_turned name pair.0 above)) in
+      ap (λ o. cond (is_eq o) (Some e.1) (find name_cmp name es)) first ∙ find_behind es i pair parts.1 (omega arith) is above
 
--- one that is above it stands behind
-pub stands : (name : List ℕ) (labels : List Pair) (i : ℕ) (pair : Pair) (value : List ℕ) → i < length labels → pair ≡ get_or labels i pair → is_lt (name_cmp name pair.0) ≡ true → NotYet name labels i → put name_cmp name value labels ≡ insert labels i (name, value)
-stands name labels i pair value in' is below so_far =
-    sym (so_far.placed value)
-    ∙ ap (λ t. take i labels ++ t) (
-    ap (put name_cmp name value) (split_at_place labels i pair in' is)
-    ∙ ap (λ o. by_order o ((name, value) ∷ pair ∷ drop (i + 1) labels) ((pair.0, value) ∷ drop (i + 1) labels) (pair ∷ put name_cmp name value (drop (i + 1) labels))) (is_less (name_cmp name pair.0) below)
-    ∙ ap (λ t. (name, value) ∷ t) (sym (split_at_place labels i pair in' is)))
-  where
-    is_less : (o : Ordering) → is_lt o ≡ true → o ≡ Less
-    is_less Less h = refl
-    is_less Equal h = absurd (true≢false (sym h))
-    is_less Greater h = absurd (true≢false (sym h))
+  put_behind : (value : List ℕ) (es : List Pair) (i : ℕ) (pair : Pair) → is_sorted name_cmp es ≡ true → i < length es → pair ≡ get_or es i pair → name_cmp name pair.0 ≡ Greater → put name_cmp name value es ≡ take (suc i) es ++ put name_cmp name value (drop (suc i) es)
+  put_behind value [] i pair sorted in' is above = absurd (omega arith)
+  put_behind value (e ∷ es) zero pair sorted in' is above = ap (λ o. by_order o ((name, value) ∷ e ∷ es) ((e.0, value) ∷ es) (e ∷ put name_cmp name value es)) (ap (λ p. name_cmp name p.0) (sym is) ∙ above)
+  put_behind value (e ∷ es) (suc i) pair sorted in' is above =
+      let parts = and_parts (below_all name_cmp e.0 es) (is_sorted name_cmp es) sorted in
+      let first = less_turned e.0 name (name_cmp_total.trans e.0 pair.0 name (below_each e.0 es i pair parts.0 (omega arith) is) (greater_turned name pair.0 above)) in
+      ap (λ o. by_order o ((name, value) ∷ e ∷ es) ((e.0, value) ∷ es) (e ∷ put name_cmp name value es)) first
+      ∙ ap (λ t. e ∷ t) (put_behind value es i pair parts.1 (omega arith) is above)
 
--- and behind all of them
-pub stands_last : (name : List ℕ) (labels : List Pair) (i : ℕ) (value : List ℕ) → length labels ≤ i → NotYet name labels i → put name_cmp name value labels ≡ insert labels (length labels) (name, value)
-stands_last name labels i value past so_far = sym (so_far.placed value) ∙ grind (arith, common_steps)
+  -- a label with the name is found
+  pub find_there : (es : List Pair) (i : ℕ) (pair : Pair) → i < length es → pair ≡ get_or es i pair → name_cmp name pair.0 ≡ Equal → is_some (find name_cmp name es) ≡ true
+  find_there [] i pair in' is tied = absurd (omega arith)
+  find_there (e ∷ es) zero pair in' is tied = ap (λ o. is_some (cond (is_eq o) (Some e.1) (find name_cmp name es))) (ap (λ p. name_cmp name p.0) (sym is) ∙ tied)
+  find_there (e ∷ es) (suc i) pair in' is tied = elim (eq_by_cmp name_cmp name e.0) as (λ b. is_some (cond b (Some e.1) (find name_cmp name es)) ≡ true) [
+    | true ↦ refl
+    | false ↦ find_there es i pair (omega arith) is tied
+  ]
+
+  -- one more label is above the name
+  pub below_more : (es : List Pair) (i : ℕ) (pair : Pair) → i < length es → pair ≡ get_or es i pair → name_cmp name pair.0 ≡ Less → below_all name_cmp name (drop (suc i) es) ≡ true → below_all name_cmp name (drop i es) ≡ true
+  below_more es i pair in' is below h = ap (below_all name_cmp name) (drop-cons es i pair in' ∙ ap (λ p. p ∷ drop (suc i) es) (sym is)) ∙ and_from (is_lt (name_cmp name pair.0)) _ (ap is_lt below) h
+
+  -- behind a label that is below the name, and in front of those above it, no label has the name
+  pub absent_at : (es : List Pair) (i : ℕ) (pair : Pair) → is_sorted name_cmp es ≡ true → i < length es → pair ≡ get_or es i pair → name_cmp name pair.0 ≡ Greater → below_all name_cmp name (drop (suc i) es) ≡ true → find name_cmp name es ≡ None
+  absent_at es i pair sorted in' is above below = find_behind es i pair sorted in' is above ∙ find_below (drop (suc i) es) below
+
+  -- and one would stand there
+  pub placed_at : (value : List ℕ) (es : List Pair) (i : ℕ) (pair : Pair) → is_sorted name_cmp es ≡ true → i < length es → pair ≡ get_or es i pair → name_cmp name pair.0 ≡ Greater → below_all name_cmp name (drop (suc i) es) ≡ true → put name_cmp name value es ≡ insert es (suc i) (name, value)
+  placed_at value es i pair sorted in' is above below = put_behind value es i pair sorted in' is above ∙ ap (λ t. take (suc i) es ++ t) (put_below value (drop (suc i) es) below)
 
 module _ (name value : List ℕ) (es : List Pair) (this : is_label (name, value) ≡ true) (h : are_labels es ≡ true) where
   is_named : is_name name ≡ true
@@ -103,23 +116,16 @@ pub record Added (set : LabelSet) (name value : List ℕ) (es : List Pair) (plac
   pub this : is_label (name, value) ≡ true
   pub are : are_labels es ≡ true
   pub of_set : label_set_of es ≡ set
-  pub absent : is_some (find name_cmp name es) ≡ false
-  pub placed : find name_cmp name es ≡ None → put name_cmp name value es ≡ insert es place (name, value)
-
-is_placed : (set : LabelSet) (name value : List ℕ) (es : List Pair) (place : ℕ) → Added set name value es place → insert es place (name, value) ≡ put name_cmp name value es
-is_placed set name value es place a = sym (a.placed (is_none (find name_cmp name es) a.absent))
-  where
-    is_none : (o : Option (List ℕ)) → is_some o ≡ false → o ≡ None
-    is_none None h = refl
-    is_none (Some x) h = absurd (true≢false h)
+  pub absent : find name_cmp name es ≡ None
+  pub placed : put name_cmp name value es ≡ insert es place (name, value)
 
 pub added_are : (set : LabelSet) (name value : List ℕ) (es : List Pair) (place : ℕ) → Added set name value es place → are_labels (insert es place (name, value)) ≡ true
-added_are set name value es place a = ap are_labels (is_placed set name value es place a) ∙ are_put name value es a.this a.are
+added_are set name value es place a = ap are_labels (sym a.placed) ∙ are_put name value es a.this a.are
 
 pub added_set : (set : LabelSet) (name value : List ℕ) (es : List Pair) (place : ℕ) → Added set name value es place → label_set_of (insert es place (name, value)) ≡ cond (is_some (label set name)) set (with_label set name value)
 added_set set name value es place a =
-    ap label_set_of (is_placed set name value es place a) ∙ set_put name value es a.this a.are ∙ ap (λ s. with_label s name value) a.of_set
-    ∙ sym (ap (λ b. cond b set (with_label set name value)) (sym (ap is_some (label_in es a.are name) ∙ ap (λ s. is_some (label s name)) a.of_set) ∙ a.absent))
+    ap label_set_of (sym a.placed) ∙ set_put name value es a.this a.are ∙ ap (λ s. with_label s name value) a.of_set
+    ∙ sym (ap (λ b. cond b set (with_label set name value)) (sym (ap is_some (label_in es a.are name) ∙ ap (λ s. is_some (label s name)) a.of_set) ∙ ap is_some a.absent))
 
 -- and none where the name is there
 pub not_added : (set : LabelSet) (name value : List ℕ) (es : List Pair) → are_labels es ≡ true → label_set_of es ≡ set → is_some (find name_cmp name es) ≡ true → set ≡ cond (is_some (label set name)) set (with_label set name value)

@@ -15,4 +15,5 @@ pub mod Quantity
 pub mod QuantityTexts
 pub mod Rising
 pub mod Selects
+pub mod Short
 pub mod laws

@@ -1,14 +1,16 @@
 //! Label sets that are built label by label.
-ghost use Rattle.std.specs.Prelude.{◌≡◌, ◌≤◌, List, ℕ, IsTrue, IfOk, OnOk, OnErr, None, is_some, length, if◌then◌else◌};
+ghost use Rattle.std.specs.Prelude.{◌≡◌, ◌≤◌, List, ℕ, true, IsTrue, IfOk, IfSome, OnOk, OnErr, None, is_some, length, ◌++◌, if◌then◌else◌};
 ghost use Rattle.std.specs.List.{insert};
 ghost use Rattle.std.specs.Option.{option_copied};
 ghost use Rattle.std.specs.FinMap.Entries.{find, put};
 ghost use Rattle.rl_labels.specs.Name.{name_cmp};
-ghost use Rattle.rl_labels.specs.LabelSet.{is_label, label, with_label};
+ghost use Rattle.rl_labels.specs.LabelSet.{is_label, are_labels, label, with_label};
 
-use crate::labels::{Labels, push_copies, value_in};
+use crate::labels::Labels;
+use crate::short::ShortText;
 use rl_plain::PlainText;
 use std::alloc::{AllocError, Global};
+use std::cmp::Ordering;
 use std::marker::Model;
 
 // The labels for which there is room at first, beside those of the set that it begins with.
@@ -17,7 +19,7 @@ const ROOM: usize = 8;
 /// A label set that grows label by label, and whose text is made once, at the end. Contracts see the set.
 #[derive(Debug, Drop)]
 pub struct LabelsBuilder {
-    labels: Vec<(PlainText, PlainText)>,
+    labels: Vec<(ShortText, ShortText)>,
 }
 
 impl Model for LabelsBuilder {
@@ -40,7 +42,7 @@ impl LabelsBuilder {
     {
         let pairs = set.pairs();
         let mut labels = Vec::with_capacity(alloc, pairs.len().saturating_add(ROOM))?;
-        push_copies(&mut labels, pairs)?;
+        push_short(&mut labels, alloc, pairs)?;
         Ok(LabelsBuilder { labels })
     }
 
@@ -52,16 +54,17 @@ impl LabelsBuilder {
     }
 
     /// Adds a label, unless the set has one with its name. Refused, the set stays as it was.
-    pub fn add(&mut self, name: PlainText, value: PlainText) -> Result<(), AllocError>
-        requires { IsTrue (is_label (name, value)) }
-        ensures added { OnOk result (self.new ≡ (if is_some (label self.old name) then self.old else with_label self.old name value)) }
+    pub fn add(&mut self, name: &str, value: &str) -> Result<(), AllocError>
+        requires { IsTrue (is_label (name.now, value.now)) }
+        ensures added { OnOk result (self.new ≡ (if is_some (label self.old name.now) then self.old else with_label self.old name.now value.now)) }
         ensures refused { OnErr result (self.new ≡ self.old) }
     {
-        if has(&self.labels, name.as_str()) {
+        let Some(place) = place_of(&self.labels, name) else {
             return Ok(());
-        }
-        let place = place_of(&self.labels, name.as_str());
-        self.labels.insert(place, (name, value))?;
+        };
+        let alloc = *self.labels.allocator();
+        let label = short_label(alloc, name, value)?;
+        self.labels.insert(place, label)?;
         Ok(())
     }
 
@@ -70,27 +73,87 @@ impl LabelsBuilder {
         ensures { IfOk result (λ labels. labels ≡ self) }
     {
         let alloc = *self.labels.allocator();
-        let LabelsBuilder { labels } = self;
+        let labels = long_labels(alloc, &self.labels)?;
         let built = Labels::from_labels(alloc, labels)?;
         Ok(built)
     }
 }
 
-fn has(labels: &[(PlainText, PlainText)], name: &str) -> bool
-    ensures { result ≡ is_some (find name_cmp name.now labels.now) }
+// A label as it stands in a set that grows.
+fn short_label(alloc: Global, name: &str, value: &str) -> Result<(ShortText, ShortText), AllocError>
+    ensures { IfOk result (λ label. label ≡ (name.now, value.now)) }
 {
-    value_in(labels, name).is_some()
+    let name = ShortText::from_str(alloc, name)?;
+    let value = ShortText::from_str(alloc, value)?;
+    Ok((name, value))
 }
 
-// Where a label with a name that none has stands among labels by rising name.
-fn place_of(labels: &[(PlainText, PlainText)], name: &str) -> usize
-    ensures within { result ≤ length labels.now }
-    ensures placed { find name_cmp name.now labels.now ≡ None → (value : List ℕ) → put name_cmp name.now value labels.now ≡ insert labels.now result (name.now, value) }
+// A label as it stands in a set.
+fn long_label(
+    alloc: Global,
+    label: &(ShortText, ShortText),
+) -> Result<(PlainText, PlainText), AllocError>
+    ensures { IfOk result (λ long. long ≡ label.now) }
 {
-    for (index, label) in labels.iter().enumerate() {
-        if name.cmp(label.0.as_str()).is_lt() {
-            return index;
+    let name = label.0.to_plain(alloc)?;
+    let value = label.1.to_plain(alloc)?;
+    Ok((name, value))
+}
+
+fn push_short(
+    all: &mut Vec<(ShortText, ShortText)>,
+    alloc: Global,
+    labels: &[(PlainText, PlainText)],
+) -> Result<(), AllocError>
+    ensures { OnOk result (all.new.items ≡ all.old.items ++ labels.now) }
+{
+    for label in labels {
+        all.push(short_label(alloc, label.0.as_str(), label.1.as_str())?)?;
+    }
+    Ok(())
+}
+
+fn long_labels(
+    alloc: Global,
+    labels: &[(ShortText, ShortText)],
+) -> Result<Vec<(PlainText, PlainText)>, AllocError>
+    ensures { IfOk result (λ all. all.items ≡ labels.now) }
+{
+    let mut all = Vec::with_capacity(alloc, labels.len())?;
+    for label in labels {
+        all.push(long_label(alloc, label)?)?;
+    }
+    Ok(all)
+}
+
+// The value of the label with this name.
+fn value_in<'a>(labels: &'a [(ShortText, ShortText)], name: &str) -> Option<&'a str>
+    ensures { option_copied result ≡ find name_cmp name.now labels.now }
+{
+    for label in labels {
+        if name == label.0.as_str() {
+            return Some(label.1.as_str());
         }
     }
-    labels.len()
+    None
+}
+
+// Where a label with the name stands among labels by rising name, unless one has it. It is sought from behind, since most
+// labels come in the order of their names.
+fn place_of(labels: &[(ShortText, ShortText)], name: &str) -> Option<usize>
+    requires { IsTrue (are_labels labels.now) }
+    ensures there { result ≡ None → is_some (find name_cmp name.now labels.now) ≡ true }
+    ensures within { IfSome result (λ place. place ≤ length labels.now) }
+    ensures absent { IfSome result (λ place. find name_cmp name.now labels.now ≡ None) }
+    ensures placed { IfSome result (λ place. (value : List ℕ) → put name_cmp name.now value labels.now ≡ insert labels.now place (name.now, value)) }
+{
+    let mut place = labels.len();
+    while place > 0 {
+        match name.cmp(labels[place - 1].0.as_str()) {
+            Ordering::Less => place -= 1,
+            Ordering::Equal => return None,
+            Ordering::Greater => return Some(place),
+        }
+    }
+    Some(0)
 }

@@ -6,6 +6,7 @@
 //! - `labels`: `Labels`, made from pairs with named refusals. `builder`: `LabelsBuilder`, label sets that grow.
 //! - `entry`: `Entry`, labels with a moment and a line.
 //! - `matcher`: `Matcher`, and its built code that accepts label sets. `selector`: the same of many that must all accept.
+//! - `short`: texts that lie in the value itself where they are short.
 //! - `decimal`: rows of digits, and `Decimal`. `quantity`: `Duration`, `Size`, and `Signed`, which labels' values are.
 //! - `sending`: built matchers may be sent to another thread.
 //! - `ns`: `Ns`, moments in nanoseconds.
@@ -22,6 +23,7 @@ pub mod ns;
 pub mod quantity;
 pub mod selector;
 pub mod sending;
+mod short;
 
 pub use builder::LabelsBuilder;
 pub use decimal::{Decimal, NotOne, number_of};

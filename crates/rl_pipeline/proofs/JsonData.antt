@@ -1,15 +1,17 @@
 -- What `serde_json` reads of a JSON value, by its numbers and its members.
-use Rattle.std.proofs.Common.{◌≡◌, ℕ, Bool, true, false, cond, ◌&&◌, List, [], ◌∷◌, Option, Some, None, is_some, option_map, option_and_then, Ordering, Less, Equal, Greater, nat_cmp, Bor, refl, ap, ◌∙◌}
+use Rattle.std.proofs.Common.{◌≡◌, ℕ, Bool, true, false, cond, ◌&&◌, List, [], ◌∷◌, Option, Some, None, is_some, option_map, option_and_then, Ordering, Less, Equal, Greater, nat_cmp, Bor, refl, sym, ap, ◌∙◌, ◌<◌, ◌+◌, ◌++◌, length, get_or, take, drop, set}
 use Rattle.std.specs.Option.{option_map_or}
 use Rattle.std.specs.Cmp.Lexicographic.{slice_cmp}
 use Rattle.std.specs.Ordering.{match_ordering}
 use Rattle.std.specs.BTreeMap.{insert_entry}
+use Rattle.std.proofs.lemmas.List.{drop_more, take_more, take-append-drop, take-set, drop-set}
+use Rattle.rl_labels.specs.laws.LabelLaws.{name_cmp-IsAntisymmetric}
 use Rattle.json.specs.Json as json
 use Rattle.json.specs.Value.{value_view}
 use Rattle.json.specs.declared.value.Value.{Value}
-use Rattle.serde_json.specs.Data.{Num, null, number, array, object, Items, item, Members, no_members, put}
+use Rattle.serde_json.specs.Data.{Num, null, number, array, object, Items, Data, item, Members, no_members, member, put}
 use Rattle.serde_json.specs.Read.{number_of, of_json, of_items, of_members}
-use Rattle.rl_pipeline.specs.JsonData.{in_range, items_in_range, members_in_range, data_of, items_data, members_data, referred}
+use Rattle.rl_pipeline.specs.JsonData.{in_range, items_in_range, members_in_range, data_of, items_data, members_data, referred, in_front}
 use Rattle.rl_pipeline.specs.JsonLeaves.{leaves_below, leaves_of}
 
 mapped : {A B : Type 0} (f : A → B) (b : Bool) (a : A) → option_map f (cond b (Some a) None) ≡ cond b (Some (f a)) None
@@ -67,3 +69,55 @@ pub inserted : {A : Type 0} (entries : List (Bor (List ℕ) × Bor (Value A))) (
     → referred (insert_entry (λ a b. slice_cmp nat_cmp a.now b.now) entries key value) ≡ put key.now (data_of (value_view value.now)) (referred entries)
 inserted [] key value = refl
 inserted (entry ∷ entries) key value = referred-match (slice_cmp nat_cmp key.now entry.0.now) _ _ _ ∙ rw (inserted entries key value)
+
+referred-append : {A : Type 0} (entries others : List (Bor (List ℕ) × Bor (Value A))) → referred (entries ++ others) ≡ in_front entries (referred others)
+referred-append [] others = refl
+referred-append (entry ∷ entries) others = ap (member entry.0.now (data_of (value_view entry.1.now))) (referred-append entries others)
+
+in_front-append : {A : Type 0} (entries : List (Bor (List ℕ) × Bor (Value A))) (entry : Bor (List ℕ) × Bor (Value A)) (others : Members) → in_front (entries ++ entry ∷ []) others ≡ in_front entries (member entry.0.now (data_of (value_view entry.1.now)) others)
+in_front-append [] entry others = refl
+in_front-append (first ∷ entries) entry others = ap (member first.0.now (data_of (value_view first.1.now))) (in_front-append entries entry others)
+
+-- What is known of a key that is above the members in front of a place.
+pub record Above {A : Type 0} (key : List ℕ) (found : List (Bor (List ℕ) × Bor (Value A))) (i : ℕ) : Type 0 where
+  pub passed : (d : Data) → put key d (referred found) ≡ in_front (take i found) (put key d (referred (drop i found)))
+
+module _ {A : Type 0} (key : List ℕ) (found : List (Bor (List ℕ) × Bor (Value A))) where
+  pub above_none : Above key found 0
+  above_none = record { passed = λ d. refl }
+
+  -- the member at a place, in front of the others
+  put_at : (i : ℕ) (m : Bor (List ℕ) × Bor (Value A)) (d : Data) (o : Ordering) → i < length found → m ≡ get_or found i m → slice_cmp nat_cmp key m.0.now ≡ o
+      → put key d (referred (drop i found)) ≡ match_ordering o (member key d (member m.0.now (data_of (value_view m.1.now)) (referred (drop (i + 1) found)))) (member m.0.now d (referred (drop (i + 1) found))) (member m.0.now (data_of (value_view m.1.now)) (put key d (referred (drop (i + 1) found))))
+  put_at i m d o in' is e =
+      ap (λ t. put key d (referred t)) (drop_more found i m in' ∙ ap (λ x. x ∷ drop (i + 1) found) (sym is))
+      ∙ ap (λ r. match_ordering r (member key d (member m.0.now (data_of (value_view m.1.now)) (referred (drop (i + 1) found)))) (member m.0.now d (referred (drop (i + 1) found))) (member m.0.now (data_of (value_view m.1.now)) (put key d (referred (drop (i + 1) found))))) e
+
+  pub above_more : (i : ℕ) (m : Bor (List ℕ) × Bor (Value A)) → i < length found → m ≡ get_or found i m → slice_cmp nat_cmp key m.0.now ≡ Greater → Above key found i → Above key found (i + 1)
+  above_more i m in' is e so_far = record {
+    passed = λ d.
+        so_far.passed d ∙ ap (in_front (take i found)) (put_at i m d Greater in' is e)
+        ∙ sym (in_front-append (take i found) m (put key d (referred (drop (i + 1) found))))
+        ∙ ap (λ t. in_front t (put key d (referred (drop (i + 1) found)))) (ap (λ x. take i found ++ x ∷ []) is ∙ sym (take_more found i m in'));
+  }
+
+  pub placed_before : (i : ℕ) (m : Bor (List ℕ) × Bor (Value A)) (d : Data) → i < length found → m ≡ get_or found i m → slice_cmp nat_cmp key m.0.now ≡ Less → Above key found i → put key d (referred found) ≡ in_front (take i found) (member key d (referred (drop i found)))
+  placed_before i m d in' is e so_far =
+      so_far.passed d ∙ ap (in_front (take i found)) (put_at i m d Less in' is e)
+      ∙ ap (λ t. in_front (take i found) (member key d (referred t))) (sym (drop_more found i m in' ∙ ap (λ x. x ∷ drop (i + 1) found) (sym is)))
+
+  pub placed_on : (i : ℕ) (m : Bor (List ℕ) × Bor (Value A)) (d : Data) → i < length found → m ≡ get_or found i m → slice_cmp nat_cmp key m.0.now ≡ Equal → Above key found i → put key d (referred found) ≡ in_front (take i found) (member key d (referred (drop (i + 1) found)))
+  placed_on i m d in' is e so_far =
+      so_far.passed d ∙ ap (in_front (take i found)) (put_at i m d Equal in' is e)
+      ∙ ap (λ k. in_front (take i found) (member k d (referred (drop (i + 1) found)))) (sym (name_cmp-IsAntisymmetric key m.0.now e))
+
+  pub placed_last : (i : ℕ) (d : Data) → drop i found ≡ [] → Above key found i → put key d (referred found) ≡ in_front (take i found) (member key d (referred (drop i found)))
+  placed_last i d ends so_far = so_far.passed d ∙ ap (λ t. in_front (take i found) (put key d (referred t))) ends ∙ ap (λ t. in_front (take i found) (member key d (referred t))) (sym ends)
+
+-- a member at a place, between those in front and those behind
+pub member_between : {A : Type 0} (found : List (Bor (List ℕ) × Bor (Value A))) (place behind : ℕ) (entry : Bor (List ℕ) × Bor (Value A)) → referred (take place found ++ entry ∷ drop behind found) ≡ in_front (take place found) (member entry.0.now (data_of (value_view entry.1.now)) (referred (drop behind found)))
+member_between found place behind entry = referred-append (take place found) (entry ∷ drop behind found)
+
+-- a member that is replaced
+pub replaced : {X : Type 0} (xs : List X) (i : ℕ) (x : X) → i < length xs → set xs i x ≡ take i xs ++ x ∷ drop (i + 1) xs
+replaced xs i x in' = sym (take-append-drop i (set xs i x)) ∙ (λ j. take-set xs i x j ++ drop-set xs i x in' j)

@@ -1,5 +1,5 @@
 -- Where the runs of logfmt end, and values between quotes piece by piece.
-use Rattle.std.proofs.Common.{◌≡◌, ℕ, zero, suc, ◌+◌, ◌<◌, ◌==◌, true, false, cond, not, List, [], ◌∷◌, ◌++◌, Option, Some, None, length, get_or, take, drop, refl, sym, ap, ◌∙◌, arith, append_assoc, append-nil}
+use Rattle.std.proofs.Common.{◌≡◌, ℕ, zero, suc, ◌+◌, ◌<◌, ◌==◌, true, false, cond, not, List, [], ◌∷◌, ◌++◌, Option, Some, None, length, get_or, take, drop, refl, sym, ap, ◌∙◌, arith, append_assoc, append-nil, take-append-drop}
 use Rattle.std.specs.Option.{option_map, option_and_then}
 use Rattle.std.specs.List.{prefix_len}
 use Rattle.std.specs.Str.{IsUtf8, IsCharBoundary}
@@ -51,6 +51,15 @@ unescaped_run (b ∷ bytes) =
           ∙ onto-onto (b ∷ []) (take (prefix_len is_plain bytes) bytes) (unescaped 0 (drop (prefix_len is_plain bytes) bytes))
           ∙ ap (λ n. onto (take n (b ∷ bytes)) (unescaped 0 (drop n (b ∷ bytes)))) next
     ] refl
+
+-- what no backslash stands in is itself
+pub all_plain : (content behind : List ℕ) → behind ≡ drop (prefix_len is_plain content) content → (length behind == 0) ≡ true → Some content ≡ unescaped 0 content
+all_plain content behind behind_is ends =
+    let n = prefix_len is_plain content in
+    let nothing : drop n content ≡ [] = sym behind_is ∙ none_left behind ends in
+    sym (
+    unescaped_run content ∙ ap (λ t. onto (take n content) (unescaped 0 t)) nothing
+    ∙ ap (λ t. Some (take n content ++ t)) (sym nothing) ∙ ap Some (take-append-drop n content))
 
 -- bytes that are passed over
 unescaped_skip : (skip : ℕ) (bytes : List ℕ) → unescaped skip bytes ≡ unescaped 0 (drop skip bytes)

@@ -5,8 +5,8 @@ use Rattle.std.specs.Char.{is_ascii_digit}
 use Rattle.std.proofs.lemmas.Bool.{and_parts, and_from, true≢false}
 use Rattle.std.proofs.lemmas.Bool.Decides.{nat_tests}
 use Rattle.rl_labels.specs.Name.{is_name, is_name_start, is_name_byte, is_text}
-use Rattle.rl_labels.specs.LabelSet.{LabelSet, is_empty, is_label}
-use Rattle.rl_pipeline.specs.Extracting.{name_byte, name_of_key, error_name, has, gives_none, beside}
+use Rattle.rl_labels.specs.LabelSet.{is_empty, is_label}
+use Rattle.rl_pipeline.specs.Extracting.{name_byte, name_of_key, error_name, gives_none}
 
 byte_named : (byte : ℕ) → is_name_byte (name_byte byte) ≡ true
 byte_named byte = elim (is_name_byte byte) as (λ t. is_name_byte byte ≡ t → is_name_byte (cond t byte 95) ≡ true) [
@@ -29,7 +29,7 @@ start_named byte other = elim (is_name_byte byte) as (λ t. is_name_byte byte �
     by_start true digit none some = refl
     by_start false digit none some = absurd (true≢false (sym some ∙ none))
 
-key_named : (key : List ℕ) → is_empty (name_of_key key) ≡ false → is_name (name_of_key key) ≡ true
+pub key_named : (key : List ℕ) → is_empty (name_of_key key) ≡ false → is_name (name_of_key key) ≡ true
 key_named [] none = absurd (true≢false none)
 key_named (byte ∷ bytes) some = elim (is_ascii_digit byte) as (λ t. is_ascii_digit byte ≡ t → is_name (cond t (codes "_") [] ++ name_byte byte ∷ map name_byte bytes) ≡ true) [
   | true ↦ λ _. and_from _ _ (byte_named byte) (bytes_named bytes)
@@ -68,11 +68,16 @@ neither : (a b : Bool) → (a || b) ≡ false → (a ≡ false) × (b ≡ false)
 neither true b e = absurd (true≢false e)
 neither false b e = (refl, e)
 
--- what a pair gives is a label
-pub gives_label : (stream : LabelSet) (key value : List ℕ) → gives_none (name_of_key key) value ≡ false → is_label (beside stream (name_of_key key), value) ≡ true
-gives_label stream key value some =
-    let name = name_of_key key in
+-- a name and a value that give a label are one
+pub own_label : (name value : List ℕ) → (is_empty name ≡ false → is_name name ≡ true) → gives_none name value ≡ false → is_label (name, value) ≡ true
+own_label name value named some =
     let outer = neither (is_empty name) (is_text name error_name || is_empty value) some in
     let inner = neither (is_text name error_name) (is_empty value) outer.1 in
-    let named = key_named key outer.0 in
-    and_from _ _ (elim (has stream name) as (λ t. is_name (cond t (name ++ codes "_extracted") name) ≡ true) [ true ↦ more_named name named | false ↦ named ]) (ap not inner.1)
+    and_from _ _ (named outer.0) (ap not inner.1)
+
+-- also under the longer name
+pub longer_label : (name value : List ℕ) → (is_empty name ≡ false → is_name name ≡ true) → gives_none name value ≡ false → is_label (name ++ codes "_extracted", value) ≡ true
+longer_label name value named some =
+    let outer = neither (is_empty name) (is_text name error_name || is_empty value) some in
+    let inner = neither (is_text name error_name) (is_empty value) outer.1 in
+    and_from _ _ (more_named name (named outer.0)) (ap not inner.1)

@@ -35,9 +35,13 @@ beside stream name = if has stream name then name ++ codes "_extracted" else nam
 abbrev pub with_new : LabelSet → (name value : List ℕ) → LabelSet
 with_new labels name value = if has labels name then labels else with_label labels name value
 
+-- the label that a name and a value give, if they give one
+abbrev pub with_named : (stream : LabelSet) → LabelSet → (name value : List ℕ) → LabelSet
+with_named stream labels name value = if gives_none name value then labels else with_new labels (beside stream name) value
+
 -- one pair more
 abbrev pub with_pair : (stream : LabelSet) → LabelSet → Pair → LabelSet
-with_pair stream labels pair = if gives_none (name_of_key pair.0) pair.1 then labels else with_new labels (beside stream (name_of_key pair.0)) pair.1
+with_pair stream labels pair = with_named stream labels (name_of_key pair.0) pair.1
 
 -- the pairs from left to right
 abbrev pub with_pairs : (stream : LabelSet) → LabelSet → List Pair → LabelSet

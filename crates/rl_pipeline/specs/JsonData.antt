@@ -55,3 +55,8 @@ abbrev mutual
 abbrev pub referred : {A : Type 0} → List (Bor (List ℕ) × Bor (Value A)) → Members
 referred [] = no_members
 referred (entry ∷ entries) = member entry.0.now (data_of (value_view entry.1.now)) (referred entries)
+
+-- such members in front of others
+abbrev pub in_front : {A : Type 0} → List (Bor (List ℕ) × Bor (Value A)) → Members → Members
+in_front [] others = others
+in_front (entry ∷ entries) others = member entry.0.now (data_of (value_view entry.1.now)) (in_front entries others)

@@ -4,6 +4,7 @@ pub mod Filtering
 pub mod JsonData
 pub mod JsonLeaves
 pub mod LabelTests
+pub mod Lent
 pub mod LogfmtPairs
 pub mod Metering
 pub mod Parsed

@@ -53,8 +53,8 @@ fn compared(value: &str, quantity: &Quantity) -> Option<Ordering>
     }
 }
 
-// Whether the comparison holds of numbers that compare so.
-fn holds(comparison: Comparison, order: Ordering) -> bool
+/// Whether the comparison holds of numbers that compare so.
+pub fn holds(comparison: Comparison, order: Ordering) -> bool
     ensures { result ≡ holds comparison order }
 {
     match comparison {

@@ -57,7 +57,7 @@ impl<'a> Draft<'a> {
             Some(own) => own,
             None => LabelsBuilder::new(alloc, self.stream)?,
         };
-        add_error(alloc, &mut own, error)?;
+        add_error(&mut own, error)?;
         self.own = Some(own);
         Ok(())
     }

@@ -1,8 +1,8 @@
 //! The labels that the pairs of a parser become.
-ghost use Rattle.std.specs.Prelude.{◌≡◌, ◌<◌, IfOk, OnOk, false};
+ghost use Rattle.std.specs.Prelude.{◌≡◌, ◌<◌, ◌++◌, IfOk, OnOk, true, false, codes, string_bytes};
 ghost use Rattle.rl_labels.specs.LabelSet.{is_empty};
-ghost use Rattle.rl_labels.specs.Name.{is_name_byte};
-ghost use Rattle.rl_pipeline.specs.Extracting.{name_byte, begins_with_digit, name_of_key, gives_none, beside, with_new, with_pair, with_error};
+ghost use Rattle.rl_labels.specs.Name.{is_name, is_name_byte};
+ghost use Rattle.rl_pipeline.specs.Extracting.{name_byte, begins_with_digit, name_of_key, gives_none, with_named, with_pair, with_error};
 
 use rl_labels::labels::{ERROR_LABEL, is_label_name};
 use rl_labels::{Labels, LabelsBuilder};
@@ -29,17 +29,6 @@ fn begins_with_digit(key: &str) -> bool
     }
 }
 
-// The name that a key becomes. Most keys are names, which are moved.
-#[tactic(auto, using(crate::proofs::Names::name_itself))]
-fn name_of_key(alloc: Global, key: PlainText) -> Result<PlainText, AllocError>
-    ensures { IfOk result (λ name. name ≡ name_of_key key) }
-{
-    if is_label_name(key.as_str()) {
-        return Ok(key);
-    }
-    cleaned(alloc, key.as_str())
-}
-
 // The key with an underscore for each byte that no name has, and before a digit at its front.
 fn cleaned(alloc: Global, key: &str) -> Result<PlainText, AllocError>
     ensures { IfOk result (λ name. name ≡ name_of_key key.now) }
@@ -55,51 +44,65 @@ fn cleaned(alloc: Global, key: &str) -> Result<PlainText, AllocError>
 }
 
 // Whether a name and a value give no label.
-fn gives_none(name: &PlainText, value: &PlainText) -> bool
+fn gives_none(name: &str, value: &str) -> bool
     ensures { result ≡ gives_none name.now value.now }
 {
-    name.is_empty() || name.as_str() == ERROR_LABEL || value.is_empty()
+    name.is_empty() || name == ERROR_LABEL || value.is_empty()
 }
 
-// The name of a label beside those of the stream.
-fn beside(stream: &Labels, name: PlainText) -> Result<PlainText, AllocError>
-    ensures { IfOk result (λ free. free ≡ beside stream.now name) }
+// The name of a label whose own name is one of the stream's.
+fn extracted(alloc: Global, name: &str) -> Result<String, AllocError>
+    ensures { IfOk result (λ longer. string_bytes longer ≡ name.now ++ codes "_extracted") }
 {
-    if stream.get(name.as_str()).is_none() {
-        return Ok(name);
-    }
-    let mut longer = name.into_string();
+    let mut longer = String::from_str(alloc, name)?;
     longer.push_str("_extracted")?;
-    Ok(PlainText::from_string(longer))
+    Ok(longer)
 }
 
-/// Adds the label that a pair gives, if it gives one.
-#[tactic(auto, using(crate::proofs::Names::gives_label))]
+// Adds the label that a name and a value give, if they give one.
+#[tactic(auto, using(crate::proofs::Names::own_label, crate::proofs::Names::longer_label))]
+fn add_named(
+    alloc: Global,
+    stream: &Labels,
+    labels: &mut LabelsBuilder,
+    name: &str,
+    value: &str,
+) -> Result<(), AllocError>
+    requires { is_empty name.now ≡ false → is_name name.now ≡ true }
+    ensures { OnOk result (labels.new ≡ with_named stream.now labels.old name.now value.now) }
+{
+    if gives_none(name, value) {
+        return Ok(());
+    }
+    if stream.get(name).is_none() {
+        return labels.add(name, value);
+    }
+    let longer = extracted(alloc, name)?;
+    labels.add(longer.as_str(), value)
+}
+
+/// Adds the label that a pair gives, if it gives one. Most keys are names as they stand.
+#[tactic(auto, using(crate::proofs::Names::name_itself, crate::proofs::Names::key_named))]
 pub(crate) fn add_pair(
     alloc: Global,
     stream: &Labels,
     labels: &mut LabelsBuilder,
-    key: PlainText,
-    value: PlainText,
+    key: &str,
+    value: &str,
 ) -> Result<(), AllocError>
-    ensures { OnOk result (labels.new ≡ with_pair stream.now labels.old (key, value)) }
+    ensures { OnOk result (labels.new ≡ with_pair stream.now labels.old (key.now, value.now)) }
 {
-    let name = name_of_key(alloc, key)?;
-    if gives_none(&name, &value) {
-        return Ok(());
+    if is_label_name(key) {
+        return add_named(alloc, stream, labels, key, value);
     }
-    labels.add(beside(stream, name)?, value)
+    let name = cleaned(alloc, key)?;
+    add_named(alloc, stream, labels, name.as_str(), value)
 }
 
 // Adds an error, unless one is set.
-pub(crate) fn add_error(
-    alloc: Global,
-    labels: &mut LabelsBuilder,
-    error: &str,
-) -> Result<(), AllocError>
+pub(crate) fn add_error(labels: &mut LabelsBuilder, error: &str) -> Result<(), AllocError>
     requires { is_empty error.now ≡ false }
     ensures { OnOk result (labels.new ≡ with_error labels.old error.now) }
 {
-    let name = PlainText::from_str(alloc, ERROR_LABEL)?;
-    labels.add(name, PlainText::from_str(alloc, error)?)
+    labels.add(ERROR_LABEL, error)
 }

@@ -1,10 +1,10 @@
 //! The parser `json`: the leaves of a line that is a JSON object.
-ghost use Rattle.std.specs.Prelude.{◌≡◌, IfOk, OnOk, None, option_map, codes, if◌then◌else◌};
+ghost use Rattle.std.specs.Prelude.{◌≡◌, IfOk, OnOk, None, Some, option_map, codes, string_bytes, if◌then◌else◌};
 ghost use Rattle.std.specs.Option.{option_map_or};
 ghost use Rattle.json.specs.Value.{value_view, members_view};
 ghost use Rattle.serde_json.specs.Data.{no_members, null, number};
 ghost use Rattle.serde_json.specs.Read.{number_of};
-ghost use Rattle.rl_pipeline.specs.Extracting.{with_pair, with_pairs};
+ghost use Rattle.rl_pipeline.specs.Extracting.{with_pairs};
 ghost use Rattle.rl_pipeline.specs.JsonData.{data_of, members_data};
 ghost use Rattle.rl_pipeline.specs.JsonLeaves.{below, leaves_at, leaves_below};
 ghost use Rattle.rl_pipeline.specs.Parsed.{json_labels};
@@ -14,7 +14,6 @@ use crate::json_data::{object_of, sorted};
 use crate::json_number::{Number, number_of};
 use json::{Scratch, Value};
 use rl_labels::{Labels, LabelsBuilder};
-use rl_plain::PlainText;
 use std::alloc::{AllocError, Global};
 
 // The error of a line that is no JSON object.
@@ -32,7 +31,7 @@ pub(crate) fn json_labels<'v>(
     let mut all = LabelsBuilder::new(alloc, labels)?;
     match object_of(alloc, line, scratch)? {
         Some(members) => add_members(alloc, labels, &mut all, members)?,
-        None => add_error(alloc, &mut all, JSON_PARSER_ERROR)?,
+        None => add_error(&mut all, JSON_PARSER_ERROR)?,
     }
     Ok(all)
 }
@@ -62,9 +61,30 @@ fn add_leaves<'m, 'v>(
     ensures { OnOk result (labels.new ≡ with_pairs stream.now labels.old (leaves_below (option_map (λ t. t.now) path.entry) (members_data (members_view members.now) no_members))) }
 {
     for (key, value) in sorted(alloc, members)? {
-        add_value(alloc, stream, labels, below(alloc, path, key)?, value)?;
+        add_member(alloc, stream, labels, path, key, value)?;
     }
     Ok(())
+}
+
+// Adds the leaves of a member of such an object.
+#[cycle(leaves)]
+fn add_member<'m, 'v>(
+    alloc: Global,
+    stream: &Labels,
+    labels: &mut LabelsBuilder,
+    path: Option<&str>,
+    key: &str,
+    value: &'m Value<'v>,
+) -> Result<(), AllocError>
+    ensures { OnOk result (labels.new ≡ with_pairs stream.now labels.old (leaves_at (below (option_map (λ t. t.now) path.entry) key.now) (data_of (value_view value.now)))) }
+{
+    match path {
+        None => add_value(alloc, stream, labels, key, value),
+        Some(path) => {
+            let path = joined(alloc, path, key)?;
+            add_value(alloc, stream, labels, path.as_str(), value)
+        }
+    }
 }
 
 // Adds the leaves of a value at a path.
@@ -73,17 +93,17 @@ fn add_value<'m, 'v>(
     alloc: Global,
     stream: &Labels,
     labels: &mut LabelsBuilder,
-    path: PlainText,
+    path: &str,
     value: &'m Value<'v>,
 ) -> Result<(), AllocError>
-    ensures { OnOk result (labels.new ≡ with_pairs stream.now labels.old (leaves_at path (data_of (value_view value.now)))) }
+    ensures { OnOk result (labels.new ≡ with_pairs stream.now labels.old (leaves_at path.now (data_of (value_view value.now)))) }
 {
     match value {
         Value::Null | Value::Array(_) => Ok(()),
-        Value::Bool(truth) => add_text(alloc, stream, labels, path, truth_text(*truth)),
+        Value::Bool(truth) => add_pair(alloc, stream, labels, path, truth_text(*truth)),
         Value::Number(text) => add_number(alloc, stream, labels, path, text),
-        Value::String(text) => add_text(alloc, stream, labels, path, text),
-        Value::Object(members) => add_leaves(alloc, stream, labels, Some(path.as_str()), members),
+        Value::String(text) => add_pair(alloc, stream, labels, path, text),
+        Value::Object(members) => add_leaves(alloc, stream, labels, Some(path), members),
     }
 }
 
@@ -93,31 +113,16 @@ fn truth_text(truth: bool) -> &'static str
     if truth { "true" } else { "false" }
 }
 
-// Adds a text at a path.
-fn add_text(
-    alloc: Global,
-    stream: &Labels,
-    labels: &mut LabelsBuilder,
-    path: PlainText,
-    text: &str,
-) -> Result<(), AllocError>
-    ensures { OnOk result (labels.new ≡ with_pair stream.now labels.old (path, text.now)) }
-{
-    let text = PlainText::from_str(alloc, text)?;
-    add_pair(alloc, stream, labels, path, text)
-}
-
 // The path of a key below another.
-fn below(alloc: Global, path: Option<&str>, key: &str) -> Result<PlainText, AllocError>
-    ensures { IfOk result (λ joined. joined ≡ below (option_map (λ t. t.now) path.entry) key.now) }
+fn joined(alloc: Global, path: &str, key: &str) -> Result<String, AllocError>
+    ensures { IfOk result (λ joined. string_bytes joined ≡ below (Some path.now) key.now) }
 {
-    let Some(path) = path else {
-        return PlainText::from_str(alloc, key);
-    };
-    let mut joined = String::from_str(alloc, path)?;
+    let room = path.len().saturating_add(key.len()).saturating_add(1);
+    let mut joined = String::with_capacity(alloc, room)?;
+    joined.push_str(path)?;
     joined.push('_')?;
     joined.push_str(key)?;
-    Ok(PlainText::from_string(joined))
+    Ok(joined)
 }
 
 // Adds the digits of a whole number at a path.
@@ -125,21 +130,21 @@ fn add_number(
     alloc: Global,
     stream: &Labels,
     labels: &mut LabelsBuilder,
-    path: PlainText,
+    path: &str,
     text: &str,
 ) -> Result<(), AllocError>
-    ensures { OnOk result (labels.new ≡ with_pairs stream.now labels.old (leaves_at path (option_map_or number (number_of text.now) null))) }
+    ensures { OnOk result (labels.new ≡ with_pairs stream.now labels.old (leaves_at path.now (option_map_or number (number_of text.now) null))) }
 {
     let mut buffer = itoa::Buffer::new();
     match number_of(text) {
-        Some(Number::Unsigned(whole)) => add_text(
+        Some(Number::Unsigned(whole)) => add_pair(
             alloc,
             stream,
             labels,
             path,
             buffer.format(whole),
         ),
-        Some(Number::Negative(whole)) => add_text(
+        Some(Number::Negative(whole)) => add_pair(
             alloc,
             stream,
             labels,

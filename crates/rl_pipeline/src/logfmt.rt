@@ -8,6 +8,7 @@ ghost use Rattle.rl_query.specs.Lexing.{hex_digit, hex_number};
 ghost use Rattle.rl_pipeline.specs.LogfmtPairs.{is_blank, is_of_pair, is_in_run, run_at, behind_pair, closed_at, unit_at, is_high, is_low, low_at, character_at, escape_at, escape_front, unescaped, goes_on, quoted_pair, plain_pair, value_at, behind_key, pair_at, logfmt_pairs};
 
 use crate::extracting::add_pair;
+use crate::lent::LentText;
 use rl_labels::{Labels, LabelsBuilder};
 use rl_plain::{PlainText, unescape};
 use std::alloc::{AllocError, Global};
@@ -64,15 +65,12 @@ fn add_found(
     alloc: Global,
     stream: &Labels,
     labels: &mut LabelsBuilder,
-    pair: Option<(&str, PlainText)>,
+    pair: Option<(&str, LentText<'_>)>,
 ) -> Result<(), AllocError>
     ensures { OnOk result (labels.new ≡ option_map_or (with_pair stream.now labels.old) (option_map (λ p. (p.0.now, p.1)) pair.entry) labels.old) }
 {
     match pair {
-        Some((key, value)) => {
-            let key = PlainText::from_str(alloc, key)?;
-            add_pair(alloc, stream, labels, key, value)
-        }
+        Some((key, value)) => add_pair(alloc, stream, labels, key, value.as_str()),
         None => Ok(()),
     }
 }
@@ -81,7 +79,7 @@ fn add_found(
 fn pair_at<'a>(
     alloc: Global,
     text: &'a str,
-) -> Result<(Option<(&'a str, PlainText)>, &'a str), AllocError>
+) -> Result<(Option<(&'a str, LentText<'a>)>, &'a str), AllocError>
     ensures { IfOk result (λ x. (option_map (λ p. (p.0.now, p.1)) x.0, x.1.now) ≡ pair_at text.now) }
 {
     let (key, rest) = run_front(Run::Key, text);
@@ -102,7 +100,7 @@ fn behind_key<'a>(
     alloc: Global,
     key: &'a str,
     text: &'a str,
-) -> Result<(Option<(&'a str, PlainText)>, &'a str), AllocError>
+) -> Result<(Option<(&'a str, LentText<'a>)>, &'a str), AllocError>
     ensures { IfOk result (λ x. (option_map (λ p. (p.0.now, p.1)) x.0, x.1.now) ≡ behind_key key.now text.now) }
 {
     let bytes = text.as_bytes();
@@ -122,18 +120,18 @@ fn value_at<'a>(
     alloc: Global,
     key: &'a str,
     text: &'a str,
-) -> Result<(Option<(&'a str, PlainText)>, &'a str), AllocError>
+) -> Result<(Option<(&'a str, LentText<'a>)>, &'a str), AllocError>
     ensures { IfOk result (λ x. (option_map (λ p. (p.0.now, p.1)) x.0, x.1.now) ≡ value_at key.now text.now) }
 {
     let bytes = text.as_bytes();
     if bytes.is_empty() {
-        return plain_pair(alloc, key, text);
+        return Ok(plain_pair(key, text));
     }
     if bytes[0] == b'"' {
         let behind = behind_first(text);
         return quoted_pair(alloc, key, behind);
     }
-    plain_pair(alloc, key, text)
+    Ok(plain_pair(key, text))
 }
 
 // A value in quotes, behind the first of them.
@@ -141,7 +139,7 @@ fn quoted_pair<'a>(
     alloc: Global,
     key: &'a str,
     text: &'a str,
-) -> Result<(Option<(&'a str, PlainText)>, &'a str), AllocError>
+) -> Result<(Option<(&'a str, LentText<'a>)>, &'a str), AllocError>
     ensures { IfOk result (λ x. (option_map (λ p. (p.0.now, p.1)) x.0, x.1.now) ≡ quoted_pair key.now (closed_at false text.now)) }
 {
     let Some((content, behind)) = closed_at(text) else {
@@ -151,25 +149,36 @@ fn quoted_pair<'a>(
     if goes_on(behind.as_bytes()) {
         return Ok((None, rest));
     }
-    match unescaped(alloc, content)? {
+    match read_content(alloc, content)? {
         Some(value) => Ok((Some((key, value)), rest)),
         None => Ok((None, rest)),
     }
 }
 
+// What stands between quotes, escapes read. It is lent where no escape stands in it.
+#[tactic(auto, using(crate::proofs::LogfmtTexts::all_plain))]
+fn read_content<'a>(alloc: Global, content: &'a str) -> Result<Option<LentText<'a>>, AllocError>
+    ensures { IfOk result (λ value. value ≡ unescaped 0 content.now) }
+{
+    let (_, behind) = run_front(Run::Plain, content);
+    if behind.is_empty() {
+        return Ok(Some(LentText::lent(content)));
+    }
+    match unescaped(alloc, content)? {
+        Some(value) => Ok(Some(LentText::own(value))),
+        None => Ok(None),
+    }
+}
+
 // A value without quotes, which has no sign of a pair in it.
-fn plain_pair<'a>(
-    alloc: Global,
-    key: &'a str,
-    text: &'a str,
-) -> Result<(Option<(&'a str, PlainText)>, &'a str), AllocError>
-    ensures { IfOk result (λ x. (option_map (λ p. (p.0.now, p.1)) x.0, x.1.now) ≡ plain_pair key.now (run_at is_of_pair text.now)) }
+fn plain_pair<'a>(key: &'a str, text: &'a str) -> (Option<(&'a str, LentText<'a>)>, &'a str)
+    ensures { (option_map (λ p. (p.0.now, p.1)) result.0, result.1.now) ≡ plain_pair key.now (run_at is_of_pair text.now) }
 {
     let (value, rest) = run_front(Run::Pair, text);
     if has_sign(value.as_bytes()) {
-        return Ok((None, rest));
+        return (None, rest);
     }
-    Ok((Some((key, PlainText::from_str(alloc, value)?)), rest))
+    (Some((key, LentText::lent(value))), rest)
 }
 
 // A sign of a pair stands among the bytes.

@@ -1,9 +1,14 @@
--- No label so far is above the name.
-use Rattle.std.proofs.Common.{◌≡◌, None}
-use Rattle.std.specs.FinMap.Entries.{find}
+-- The labels behind the place are above the name.
+use Rattle.std.proofs.Common.{◌≡◌, ◌≤◌, true, length, drop}
+use Rattle.std.specs.FinMap.Entries.{below_all}
 use Rattle.rl_labels.specs.Name.{name_cmp}
-use Rattle.rl_labels.proofs.Building.{NotYet}
 use Rattle.rl_labels.proofs.builder.place_of.Given as goal
 
-abbrev pub invariant-loop-index : goal.invariant-loop-index
-invariant-loop-index l = find name_cmp l.name l.labels ≡ None → NotYet l.name l.labels l.index
+abbrev pub invariant-loop-place : goal.invariant-loop-place
+invariant-loop-place l = record {
+  within : l.place ≤ length l.labels;
+  below : below_all name_cmp l.name (drop l.place l.labels) ≡ true;
+}
+
+abbrev pub decreases-loop-place : goal.decreases-loop-place
+decreases-loop-place l = l.place

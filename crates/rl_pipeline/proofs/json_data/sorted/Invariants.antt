@@ -6,4 +6,4 @@ use Rattle.rl_pipeline.specs.JsonData.{members_data, referred}
 use Rattle.rl_pipeline.proofs.json_data.sorted.Given as goal
 
 abbrev pub invariant-loop-member : goal.invariant-loop-member
-invariant-loop-member l = members_data (members_view (drop l.member-index l.members)) (referred l.found.entries) ≡ members_data (members_view l.members) no_members
+invariant-loop-member l = members_data (members_view (drop l.member-index l.members)) (referred l.found.items) ≡ members_data (members_view l.members) no_members

@@ -8,15 +8,18 @@ use Rattle.rl_pipeline.specs.JsonLeaves.{leaves_below}
 use Rattle.rl_pipeline.proofs.json_labels.+leaves.Given as goal
 
 abbrev pub decreases-add_value : goal.decreases-add_value
-decreases-add_value l = 2 * depth (data_of (value_view l.value.now))
+decreases-add_value l = 3 * depth (data_of (value_view l.value.now))
+
+abbrev pub decreases-add_member : goal.decreases-add_member
+decreases-add_member l = 3 * depth (data_of (value_view l.value.now)) + 1
 
 abbrev pub decreases-add_leaves : goal.decreases-add_leaves
-decreases-add_leaves l = 2 * members_depth (members_data (members_view l.members.now) no_members) + 1
+decreases-add_leaves l = 3 * members_depth (members_data (members_view l.members.now) no_members) + 2
 
 abbrev pub invariant-add_leaves-loop-key : goal.invariant-add_leaves-loop-key
 invariant-add_leaves-loop-key l = record {
   labels :
-      with_pairs l.stream l.labels (leaves_below (option_map (λ t. t.now) l.path) (referred l.key-iterator))
+      with_pairs l.stream l.labels (leaves_below (option_map (λ t. t.now) l.path) (referred l.key-iterator.rest.items))
       ≡ with_pairs l.stream l.fn.labels (leaves_below (option_map (λ t. t.now) l.path) (members_data (members_view l.members) no_members));
-  lower : members_depth (referred l.key-iterator) ≤ members_depth (members_data (members_view l.members) no_members);
+  lower : members_depth (referred l.key-iterator.rest.items) ≤ members_depth (members_data (members_view l.members) no_members);
 }

@@ -1,5 +1,5 @@
 -- The label is put where it stands among the others.
-use Rattle.std.proofs.Common.{◌≡◌, is_some, sym, ap, subst, ◌∙◌}
+use Rattle.std.proofs.Common.{◌≡◌, is_some, refl, sym, ap, subst, ◌∙◌}
 use Rattle.std.specs.List.{insert}
 use Rattle.std.specs.FinMap.Entries.{find, put}
 use Rattle.rl_labels.specs.Name.{name_cmp}
@@ -7,23 +7,30 @@ use Rattle.rl_labels.specs.LabelSet.{are_labels, label_set_of}
 use Rattle.rl_labels.proofs.Building.{Added, added_are, added_set, not_added}
 use Rattle.rl_labels.proofs.builder.LabelsBuilder.add.Goals as goal
 
-known : (c : goal.In_ok-insert) → Added c.args.self.now c.args.name c.args.value c.self.inside.labels.items c.place_of-place.result
+known : (c : goal.In_ok-insert) → Added c.args.self.now c.args.name.now c.args.value.now c.self.inside.labels.items c.in-Some.place
 known c =
-    let es = c.self.inside.labels.items in
-    let value = c.args.value in
+    let name = c.args.name.now in
+    let value = c.args.value.now in
+    let place = c.in-Some.place in
     record {
       this = c.requires;
       are = c.self.invariant;
       of_set = c.self.view_is;
-      absent = (λ i. is_some (find name_cmp (sym c.as_str.ensures i) (sym c.deref.ensures.value i))) ∙ sym c.has.ensures ∙ c.if-has.false;
-      placed = λ none. subst (λ n. put name_cmp n value es ≡ insert es c.place_of-place.result (n, value)) c.as_str-2.ensures (subst (λ ls. put name_cmp c.as_str-2.result.now value ls ≡ insert ls c.place_of-place.result (c.as_str-2.result.now, value)) c.deref-2.ensures.value (c.place_of-place.ensures.placed ((λ i. find name_cmp (c.as_str-2.ensures i) (c.deref-2.ensures.value i)) ∙ none) value));
+      absent = ap (find name_cmp name) (sym c.deref.ensures.value) ∙ c.in-Some.ensures.absent;
+      placed = subst (λ ls. put name_cmp name value ls ≡ insert ls place (name, value)) c.deref.ensures.value (c.in-Some.ensures.placed value);
     }
 
 pub invariant_of-self-2 : goal.invariant_of-self-2
-invariant_of-self-2 c = ap are_labels c.in_ok-insert.ensures.items ∙ added_are c.args.self.now c.args.name c.args.value c.self.inside.labels.items c.place_of-place.result (known c)
+invariant_of-self-2 c =
+    let es = c.self.inside.labels.items in
+    ap are_labels (c.in_ok-insert.ensures.items ∙ ap (insert es c.in-Some.place) c.in_ok-label.ensures)
+    ∙ added_are c.args.self.now c.args.name.now c.args.value.now es c.in-Some.place (known c)
 
 pub returns-clause-added : goal.returns-clause-added
-returns-clause-added c = ap label_set_of c.in_ok-insert.ensures.items ∙ added_set c.args.self.now c.args.name c.args.value c.self.inside.labels.items c.place_of-place.result (known c)
+returns-clause-added c =
+    let es = c.self.inside.labels.items in
+    ap label_set_of (c.in_ok-insert.ensures.items ∙ ap (insert es c.in-Some.place) c.in_ok-label.ensures)
+    ∙ added_set c.args.self.now c.args.name.now c.args.value.now es c.in-Some.place (known c)
 
-pub returns-then-has-clause-added : goal.returns-then-has-clause-added
-returns-then-has-clause-added c = not_added c.args.self.now c.args.name c.args.value c.self.inside.labels.items c.self.invariant c.self.view_is ((λ i. is_some (find name_cmp (sym c.as_str.ensures i) (sym c.deref.ensures.value i))) ∙ sym c.has.ensures ∙ c.if-has.true)
+pub returns-in_default-clause-added : goal.returns-in_default-clause-added
+returns-in_default-clause-added c = not_added c.args.self.now c.args.name.now c.args.value.now c.self.inside.labels.items c.self.invariant c.self.view_is (ap (λ ls. is_some (find name_cmp c.args.name.now ls)) (sym c.deref.ensures.value) ∙ c.in_default.ensures.there refl)
