@@ -8,14 +8,15 @@ use Rattle.rl_query.specs.Answering.{is_bad_regex, Reads, IsForRoom}
 use Rattle.rl_query.specs.declared.query.Query.{Query}
 use Rattle.rl_query.specs.declared.query.Term.{Term}
 use Rattle.rl_query.specs.Form.{QueryForm, query_has_pattern, term_form, query_form}
-use Rattle.rl_query.specs.Grammar.{Derives}
 use Rattle.rl_query.specs.Lexing.{lexemes_of}
-use Rattle.rl_query.specs.Parsing.{query_of}
+use Rattle.rl_query.specs.QueryReading.{query_of}
+use Rattle.rl_query.specs.TermGrammar.{Derives}
 use Rattle.rl_query.specs.Printing.{term_text, query_text}
-use Rattle.rl_query.proofs.Cramped.{query_cramps}
+use Rattle.rl_query.proofs.CrampedQueries.{query_cramps}
 use Rattle.rl_query.proofs.PrintedQuery.{query_printed}
-use Rattle.rl_query.proofs.SameQuery.{same_query, same_term, keeps_limits}
-use Rattle.rl_query.proofs.RangeProductions.{query_derived, derived_is_read}
+use Rattle.rl_query.proofs.SameQuery.{same_query, same_term, keeps_limits, as_query, text_as_query}
+use Rattle.rl_query.proofs.QueryProductions.{query_derived}
+use Rattle.rl_query.proofs.QueryReadings.{derived_is_read}
 
 -- a query that was read is derived
 pub derived : (r : Result Query (OrMemory QueryFault)) (text : List ℕ) → Reads query_form r (λ cramped. query_of cramped text) → IfOk r (λ q. Derives text (query_form q))
@@ -51,12 +52,8 @@ read_again (Ok p) text read q printed =
 read_again (Err errors.Memory) text read q printed = tt
 read_again (Err (errors.Fault fault)) text read q printed = in_place text (query_form q) fault (ap (query_of false) printed ∙ printed_is_read q) read
 
--- a term as a query
-abbrev as_query : Term → Query
-as_query term = record { left = term }
-
 pub alone : (a b : Term) → term_text (term_form a) ≡ term_text (term_form b) → a ≡ b
 alone a b e =
-    let both : ◌≡◌ {A = Result QueryForm QueryFault} (Ok (query_form (as_query a))) (Ok (query_form (as_query b))) = sym (printed_is_read (as_query a)) ∙ ap (query_of false) e ∙ printed_is_read (as_query b) in
+    let both : ◌≡◌ {A = Result QueryForm QueryFault} (Ok (query_form (as_query a))) (Ok (query_form (as_query b))) = sym (printed_is_read (as_query a)) ∙ ap (query_of false) (text_as_query a ∙ e ∙ sym (text_as_query b)) ∙ printed_is_read (as_query b) in
     let forms : query_form (as_query a) ≡ query_form (as_query b) = cc in
     same_term a b (ap (λ f. f.left) forms)

@@ -19,7 +19,7 @@ use Rattle.rl_query.specs.Limits.{has_real_matcher}
 use Rattle.rl_query.specs.Form.{MatcherForm, matcher_form, has_real_form, has_pattern}
 use Rattle.rl_plain.specs.Answers.{◌>>=◌, Fails}
 use Rattle.rl_query.specs.Fronts.{checked_matcher}
-use Rattle.rl_query.specs.Parsing.{element_at, matchers_at}
+use Rattle.rl_query.specs.Parsing.{listed_at}
 
 -- what was read before, and what is still read
 abbrev pub with_front : {A : Type 0} → List A → Result (List A × List Lexeme) QueryFault → Result (List A × List Lexeme) QueryFault
@@ -29,36 +29,36 @@ pub regroup : {A : Type 0} (front : List A) (m : A) (read : Result (List A × Li
 regroup {A} front m (Ok x) = ap (λ (ms : List A). Ok (ms, x.1)) (simp append_assoc)
 regroup front m (Err f) = refl
 
-pub one_more : (front : List MatcherForm) (count i : ℕ) (lexemes : List Lexeme) (m : MatcherForm) (after : List Lexeme) (whole : Result (List MatcherForm × List Lexeme) QueryFault) → i < count → element_at lexemes ≡ Ok (m, true, after)
-    → with_front front (matchers_at (count - i) lexemes) ≡ whole → with_front (front ++ m ∷ []) (matchers_at (count - (i + 1)) after) ≡ whole
-unfolding matchers_at
-one_more front count i lexemes m after whole lt h so_far =
+pub one_more : {A : Type 0} (element : List Lexeme → Result (A × Bool × List Lexeme) QueryFault) (front : List A) (count i : ℕ) (lexemes : List Lexeme) (m : A) (after : List Lexeme) (whole : Result (List A × List Lexeme) QueryFault) → i < count → element lexemes ≡ Ok (m, true, after)
+    → with_front front (listed_at element (count - i) lexemes) ≡ whole → with_front (front ++ m ∷ []) (listed_at element (count - (i + 1)) after) ≡ whole
+unfolding listed_at
+one_more element front count i lexemes m after whole lt h so_far =
     let k : count - i ≡ suc (count - (i + 1)) = omega arith in
-    let one : with_front front (matchers_at (count - i) lexemes) ≡ with_front (front ++ m ∷ []) (matchers_at (count - (i + 1)) after) = rw (k, h) (regroup front m (matchers_at (count - (i + 1)) after)) in
+    let one : with_front front (listed_at element (count - i) lexemes) ≡ with_front (front ++ m ∷ []) (listed_at element (count - (i + 1)) after) = rw (k, h) (regroup front m (listed_at element (count - (i + 1)) after)) in
     sym one ∙ so_far
 
-pub last_one : (front : List MatcherForm) (count i : ℕ) (lexemes : List Lexeme) (m : MatcherForm) (after : List Lexeme) (whole : Result (List MatcherForm × List Lexeme) QueryFault) → i < count → element_at lexemes ≡ Ok (m, false, after)
-    → with_front front (matchers_at (count - i) lexemes) ≡ whole → whole ≡ Ok (front ++ m ∷ [], after)
-unfolding matchers_at
-last_one front count i lexemes m after whole lt h so_far =
+pub last_one : {A : Type 0} (element : List Lexeme → Result (A × Bool × List Lexeme) QueryFault) (front : List A) (count i : ℕ) (lexemes : List Lexeme) (m : A) (after : List Lexeme) (whole : Result (List A × List Lexeme) QueryFault) → i < count → element lexemes ≡ Ok (m, false, after)
+    → with_front front (listed_at element (count - i) lexemes) ≡ whole → whole ≡ Ok (front ++ m ∷ [], after)
+unfolding listed_at
+last_one element front count i lexemes m after whole lt h so_far =
     let k : count - i ≡ suc (count - (i + 1)) = omega arith in
-    let one : with_front front (matchers_at (count - i) lexemes) ≡ Ok (front ++ m ∷ [], after) = rw (k, h) refl in
+    let one : with_front front (listed_at element (count - i) lexemes) ≡ Ok (front ++ m ∷ [], after) = rw (k, h) refl in
     sym so_far ∙ one
 
-pub ends : (e : OrMemory QueryFault) (front : List MatcherForm) (count i : ℕ) (lexemes : List Lexeme) (whole : Result (List MatcherForm × List Lexeme) QueryFault) → i < count → Fails e (element_at lexemes)
-    → with_front front (matchers_at (count - i) lexemes) ≡ whole → Fails e whole
-unfolding matchers_at
-ends errors.Memory front count i lexemes whole lt h so_far = tt
-ends (errors.Fault f) front count i lexemes whole lt h so_far =
+pub ends : {A : Type 0} (element : List Lexeme → Result (A × Bool × List Lexeme) QueryFault) (e : OrMemory QueryFault) (front : List A) (count i : ℕ) (lexemes : List Lexeme) (whole : Result (List A × List Lexeme) QueryFault) → i < count → Fails e (element lexemes)
+    → with_front front (listed_at element (count - i) lexemes) ≡ whole → Fails e whole
+unfolding listed_at
+ends element errors.Memory front count i lexemes whole lt h so_far = tt
+ends element (errors.Fault f) front count i lexemes whole lt h so_far =
     let k : count - i ≡ suc (count - (i + 1)) = omega arith in
-    let one : with_front front (matchers_at (count - i) lexemes) ≡ Err f = rw (k, h) refl in
+    let one : with_front front (listed_at element (count - i) lexemes) ≡ Err f = rw (k, h) refl in
     sym so_far ∙ one
 
-pub none_ends : (front : List MatcherForm) (count i : ℕ) (lexemes : List Lexeme) (whole : Result (List MatcherForm × List Lexeme) QueryFault) → count ≤ i → with_front front (matchers_at (count - i) lexemes) ≡ whole → whole ≡ Err (faults.Syntax 0)
-unfolding matchers_at
-none_ends front count i lexemes whole le so_far =
+pub none_ends : {A : Type 0} (element : List Lexeme → Result (A × Bool × List Lexeme) QueryFault) (front : List A) (count i : ℕ) (lexemes : List Lexeme) (whole : Result (List A × List Lexeme) QueryFault) → count ≤ i → with_front front (listed_at element (count - i) lexemes) ≡ whole → whole ≡ Err (faults.Syntax 0)
+unfolding listed_at
+none_ends element front count i lexemes whole le so_far =
     let k : count - i ≡ 0 = omega arith in
-    let one : with_front front (matchers_at (count - i) lexemes) ≡ Err (faults.Syntax 0) = rw k refl in
+    let one : with_front front (listed_at element (count - i) lexemes) ≡ Err (faults.Syntax 0) = rw k refl in
     sym so_far ∙ one
 
 -- matchers and their forms refuse the empty text alike

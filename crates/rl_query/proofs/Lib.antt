@@ -1,7 +1,9 @@
+pub mod AggregationProductions
 pub mod Answered
 pub mod AnsweredSieve
 pub mod Chains
 pub mod Cramped
+pub mod CrampedQueries
 pub mod Cuts
 pub mod Durations
 pub mod Elements
@@ -30,3 +32,12 @@ pub mod Texts
 pub mod TestDepths
 pub mod SameTests
 pub mod StageStarts
+pub mod Thresholds
+pub mod PrintedTerm
+pub mod Numbers
+pub mod Parentheses
+pub mod AggregationReadings
+pub mod TermProductions
+pub mod QueryProductions
+pub mod QueryReadings
+pub mod DraftLimits

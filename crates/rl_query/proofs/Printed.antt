@@ -59,20 +59,40 @@ prints_then R S T join text behind rest first second = record {
 pub lexes_then : (front others : List Token) (text behind rest : List ℕ) → Lexes front text behind → Lexes others behind rest → Lexes (front ++ others) text rest
 lexes_then front others text behind rest first second = prints_then (Stand front) (Stand others) (Stand (front ++ others)) (λ a b c. stand_then front others a b c) text behind rest first second
 
+-- nothing, and what R says of it
+pub prints_none : (R : List Lexeme → List Lexeme → Type 0) → ((a : List Lexeme) → R a a) → (text : List ℕ) → Prints R text text
+prints_none R none text = record { count = 0; reads = λ total most. let same : most ≡ 0 + most = omega arith in subst (λ n. R (lexemes_in n total text) (lexemes_in most total text)) same (none _); shorter = omega arith }
+
+-- one thing, and then another
+abbrev pub Then : (R S : List Lexeme → List Lexeme → Type 0) → List Lexeme → List Lexeme → Type 0
+Then R S lexemes rest = (behind : List Lexeme) × R lexemes behind × S behind rest
+
+pub then_prints : (R S : List Lexeme → List Lexeme → Type 0) (text behind rest : List ℕ) → Prints R text behind → Prints S behind rest → Prints (Then R S) text rest
+then_prints R S text behind rest first second = prints_then R S (Then R S) (λ a b c is then. (b, is, then)) text behind rest first second
+
+-- a space is passed over
+space_passed : (most total : ℕ) (text : List ℕ) → lexemes_in most total text ≡ lexemes_in most total (32 ∷ text)
+unfolding lexemes_in
+space_passed zero total text = refl
+space_passed (suc most) total text =
+    let next : suc (gap_len false text) ≡ 1 + gap_len false text = omega arith in
+    ap (λ n. let start = drop n (32 ∷ text) in cond (length start == 0) (record { token = tokens.End; place = total } ∷ []) (record { token = (token_at start).0; place = total - length start } ∷ lexemes_in most total (token_at start).1)) next
+
 -- a space before it
 pub spaced : (R : List Lexeme → List Lexeme → Type 0) (text rest : List ℕ) → Prints R text rest → Prints R (32 ∷ text) rest
-unfolding lexemes_in
 spaced R text rest prints = record {
   count = prints.count;
-  reads = λ total most. subst (λ ls. R ls (lexemes_in most total rest)) (passed (prints.count + most) total) (prints.reads total most);
+  reads = λ total most. subst (λ ls. R ls (lexemes_in most total rest)) (space_passed (prints.count + most) total text) (prints.reads total most);
   shorter = omega (arith, prints.shorter);
 }
-  where
-    passed : (most total : ℕ) → lexemes_in most total text ≡ lexemes_in most total (32 ∷ text)
-    passed zero total = refl
-    passed (suc most) total =
-        let next : suc (gap_len false text) ≡ 1 + gap_len false text = omega arith in
-        ap (λ n. let start = drop n (32 ∷ text) in cond (length start == 0) (record { token = tokens.End; place = total } ∷ []) (record { token = (token_at start).0; place = total - length start } ∷ lexemes_in most total (token_at start).1)) next
+
+-- and one behind it
+pub before_space : (R : List Lexeme → List Lexeme → Type 0) (text rest : List ℕ) → Prints R text (32 ∷ rest) → Prints R text rest
+before_space R text rest prints = record {
+  count = prints.count;
+  reads = λ total most. subst (R (lexemes_in (prints.count + most) total text)) (sym (space_passed most total rest)) (prints.reads total most);
+  shorter = omega (arith, prints.shorter);
+}
 
 -- a token at the front, with no gap before it
 pub token_lexes : (token : Token) (b : ℕ) (bytes rest : List ℕ) → gap_len false (b ∷ bytes) ≡ 0 → token_at (b ∷ bytes) ≡ (token, rest) → length rest ≤ length bytes → Lexes (token ∷ []) (b ∷ bytes) rest
@@ -308,7 +328,7 @@ filter_lexes filter rest =
     regrouped sign value = simp append_assoc
 
 pub filters_lexes : (filters : List FilterForm) (rest : List ℕ) → Lexes (filters_tokens filters) (filters_text filters ++ rest) rest
-filters_lexes [] rest = record { count = 0; reads = λ total most. let none : 0 + most ≡ most = omega arith in ap (λ n. lexemes_in n total rest) none; shorter = omega arith }
+filters_lexes [] rest = prints_none (Stand []) (λ _. refl) rest
 filters_lexes (filter ∷ filters) rest =
     let behind = filters_text filters ++ rest in
     let grouped : filters_text (filter ∷ filters) ++ rest ≡ 32 ∷ (filter_print filter ++ behind) = ap (λ t. 32 ∷ t) (append_assoc (filter_print filter) (filters_text filters) rest) in

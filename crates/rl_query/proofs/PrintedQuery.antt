@@ -1,91 +1,91 @@
 -- What is printed of a query is derived.
-use Rattle.rl_query.specs.Limits.{most_tests, longest_range, most_stages}
-use Rattle.rl_query.specs.Form.{label_tests, MatcherForm, QueryForm, has_real_form, StageForm, parsers_of}
-use Rattle.std.proofs.Common.{inl, ◌≡◌, ℕ, ◌^◌, ◌<◌, ◌≤◌, true, List, [], ◌∷◌, ◌++◌, length, refl, sym, subst, arith, append_assoc}
-use Rattle.std.specs.List.{list_all}
-use Rattle.std.specs.Fmt.{decimal}
-use Rattle.std.proofs.lemmas.Bool.{true≢false}
-use Rattle.rl_labels.specs.Name.{is_name}
-use Rattle.rl_query.specs.declared.query.RangeFunction.{RangeFunction}
-use Rattle.rl_query.specs.declared.query.RangeFunction.TheVariants as functions
+use Rattle.std.proofs.Common.{inl, ◌≡◌, ℕ, ◌≤◌, true, List, [], ◌∷◌, ◌++◌, codes, Option, None, Some, refl, subst, append_assoc, append-nil}
+use Rattle.std.specs.Option.{IfSome, option_map_or}
+use Rattle.std.proofs.lemmas.Bool.{and_parts, and_from}
+use Rattle.rl_labels.specs.QuantityTexts.{decimal_text, is_decimal}
+use Rattle.rl_query.specs.declared.quantity_test.Quantity.TheVariants as quantities
 use Rattle.rl_query.specs.declared.token.Sign.TheVariants as signs
 use Rattle.rl_query.specs.declared.token.Token.TheVariants as tokens
-use Rattle.rl_query.specs.Standing.{Stand, is_matcher}
-use Rattle.rl_query.specs.Grammar.{matchers_tokens, IsSelector, IsDuration, AreChained, AreStages, IsTimed, IsRange, IsTerm, Derives}
+use Rattle.rl_query.specs.Aggregations.{is_threshold}
+use Rattle.rl_query.specs.Form.{TermForm, ThresholdForm, QueryForm, all_label_tests, all_stages, is_nested}
+use Rattle.rl_query.specs.Lexing.{token_at}
+use Rattle.rl_query.specs.Limits.{most_parentheses, most_stages, most_tests}
+use Rattle.rl_query.specs.Printing.{over_text, query_text, term_text, threshold_text}
+use Rattle.rl_query.specs.Standing.{Stand}
+use Rattle.rl_query.specs.Tables.{comparison_sign, sign_text}
+use Rattle.rl_query.specs.TermGrammar.{Rule, IsTerm, IsQuotient, IsThreshold, Derives}
 use Rattle.rl_query.specs.TestGrammar.{ended}
-use Rattle.rl_query.specs.declared.token.Lexeme.{Lexeme}
-use Rattle.rl_query.specs.Lexing.{token_at, lexemes_in}
-use Rattle.rl_query.specs.MatcherPrinting.{matcher_text}
-use Rattle.rl_query.specs.Printing.{query_text, stages_text}
-use Rattle.rl_query.specs.Tables.{function_text}
-use Rattle.rl_query.proofs.Printed.{prints_as, prints_then, prints_all, others_text, word_lexes, lone_sign, selector_lexes, duration_lexes, seconds_read}
-use Rattle.rl_query.proofs.PrintedStages.{is_stage, stages_print}
+use Rattle.rl_query.proofs.Printed.{Prints, Lexes, Then, prints_none, prints_as, then_prints, prints_all, lexes_then, spaced, lone_sign, number_lexes}
+use Rattle.rl_query.proofs.PrintedTerm.{KeepsTerm, term_prints}
+use Rattle.rl_query.proofs.QuantityPrinted.{comparison_lexes}
+use Rattle.rl_query.proofs.QuantityTokens.{quantity_number}
+use Rattle.rl_query.proofs.Thresholds.{threshold_again}
 
 -- what a form keeps of a query's limits
 pub record Keeps (query : QueryForm) : Type 0 where
-  pub matchers : list_all is_matcher query.left.range.matchers ≡ true
-  pub real : has_real_form query.left.range.matchers ≡ true
-  pub stages : list_all is_stage query.left.range.stages ≡ true
-  pub few : length query.left.range.stages ≤ most_stages
-  pub one_parser : parsers_of query.left.range.stages ≤ 1
-  pub few_tests : label_tests query.left.range.stages ≤ most_tests
-  pub in_range : (1 ≤ query.left.range.seconds) × (query.left.range.seconds ≤ longest_range)
+  pub left : KeepsTerm query.left
+  pub over : IfSome query.over KeepsTerm
+  pub test : IfSome query.test (λ threshold. is_threshold threshold.value ≡ true)
+  pub few : all_stages query ≤ most_stages
+  pub few_tests : all_label_tests query ≤ most_tests
 
-function_named : (f : RangeFunction) → is_name (function_text f) ≡ true
-function_named functions.CountOverTime = refl
-function_named functions.Rate = refl
-function_named functions.BytesOverTime = refl
-function_named functions.BytesRate = refl
-function_named functions.AbsentOverTime = refl
+abbrev Slash : Rule
+Slash = Stand (tokens.Sign signs.Slash ∷ [])
+
+slash_prints : (rest : List ℕ) → Prints Slash (32 ∷ 47 ∷ rest) rest
+unfolding token_at
+slash_prints rest = spaced Slash (47 ∷ rest) rest (lone_sign 47 rest signs.Slash refl refl refl (λ _. refl))
+
+-- a term, and what it is divided by
+quotient_prints : (left : TermForm) (over : Option TermForm) (rest : List ℕ) → KeepsTerm left → IfSome over KeepsTerm → Prints (IsQuotient most_parentheses left over) (term_text left ++ (over_text over ++ rest)) rest
+quotient_prints left None rest keeps none = prints_as (IsTerm most_parentheses left) (IsQuotient most_parentheses left None) (λ a b is. inl is) (term_text left ++ rest) rest (term_prints left rest keeps)
+quotient_prints left (Some over) rest keeps kept =
+    let divisor = term_text over ++ rest in
+    let behind = 32 ∷ 47 ∷ 32 ∷ divisor in
+    let Left = IsTerm most_parentheses left in
+    let Over = IsTerm most_parentheses over in
+    prints_as (Then Left (Then Slash Over)) (IsQuotient most_parentheses left (Some over)) (λ a b is. inl (record { middle = is.0; behind = is.2.0; dividend = inl is.1; slash = is.2.1; divisor = inl is.2.2 })) (term_text left ++ behind) rest
+    (then_prints Left (Then Slash Over) (term_text left ++ behind) behind rest (term_prints left behind keeps)
+    (then_prints Slash Over behind (32 ∷ divisor) rest (slash_prints (32 ∷ divisor)) (spaced Over divisor rest (term_prints over rest kept))))
+
+-- a comparison and a number, up to the end
+threshold_prints : (test : Option ThresholdForm) → IfSome test (λ threshold. is_threshold threshold.value ≡ true) → Prints (IsThreshold test) (threshold_text test) []
+threshold_prints None none = prints_none (IsThreshold None) (λ _. refl) []
+threshold_prints (Some threshold) proper =
+    let sign = tokens.Sign (comparison_sign threshold.comparison) ∷ [] in
+    let text = decimal_text threshold.value in
+    let number = quantity_number (quantities.Number threshold.value) (and_parts (is_decimal threshold.value) _ proper).0 in
+    let read = subst (λ t. Lexes (tokens.Number text ∷ []) t []) (append-nil text) (number_lexes text [] number.first number.others number.is number.digit number.bytes refl) in
+    let behind = sign_text (comparison_sign threshold.comparison) ++ 32 ∷ text in
+    subst (λ t. Prints (IsThreshold (Some threshold)) t []) (regrouped (sign_text (comparison_sign threshold.comparison)) text)
+    (prints_as (Stand (sign ++ tokens.Number text ∷ [])) (IsThreshold (Some threshold)) (λ a b stand. (text, stand, threshold_again threshold.value proper)) (32 ∷ behind) []
+    (spaced (Stand (sign ++ tokens.Number text ∷ [])) behind []
+    (lexes_then sign (tokens.Number text ∷ []) behind (32 ∷ text) [] (comparison_lexes threshold.comparison 32 text refl) (spaced (Stand (tokens.Number text ∷ [])) text [] read))))
+  where
+    regrouped : (sign number : List ℕ) → 32 ∷ (sign ++ 32 ∷ number) ≡ codes " " ++ sign ++ codes " " ++ number
+    regrouped sign number = simp append_assoc
 
 -- a printed query is derived
 pub query_printed : (query : QueryForm) → Keeps query → Derives (query_text query) query
-unfolding lexemes_in token_at
-query_printed query keeps = by_matchers query.left.range.matchers keeps.matchers keeps.real
+query_printed query keeps =
+    let test = threshold_text query.test in
+    let Quotient = IsQuotient most_parentheses query.left query.over in
+    let text = term_text query.left ++ (over_text query.over ++ test) in
+    let prints = then_prints Quotient (IsThreshold query.test) text test [] (quotient_prints query.left query.over test keeps.left keeps.over) (threshold_prints query.test keeps.test) in
+    subst (λ t. Derives t query) (regrouped (term_text query.left) (over_text query.over) test)
+    (record {
+      behind = ended text;
+      rest = [];
+      is = inl (prints_all (Then Quotient (IsThreshold query.test)) text prints);
+      end = (refl, refl);
+      few = keeps.few;
+      few_tests = keeps.few_tests;
+      nested = and_from (is_nested query.left) _ keeps.left.nested (over_nested query.over keeps.over);
+    })
   where
-    n : ℕ
-    n = query.left.range.seconds
+    regrouped : (left over test : List ℕ) → left ++ (over ++ test) ≡ left ++ over ++ test
+    regrouped left over test = simp append_assoc
 
-    f : RangeFunction
-    f = query.left.function
-
-    ss : List StageForm
-    ss = query.left.range.stages
-
-    regrouped : (name first others filters digits : List ℕ) → name ++ (40 ∷ []) ++ ((123 ∷ []) ++ (first ++ others) ++ (125 ∷ []) ++ filters ++ (32 ∷ 91 ∷ []) ++ digits ++ (115 ∷ 93 ∷ [])) ++ (41 ∷ []) ≡ name ++ (40 ∷ 123 ∷ (first ++ (others ++ 125 ∷ (filters ++ 32 ∷ 91 ∷ (digits ++ 115 ∷ 93 ∷ 41 ∷ [])))))
-    regrouped name first others filters digits = simp append_assoc
-
-    Close : List Lexeme → List Lexeme → Type 0
-    Close = Stand (tokens.Sign signs.CloseParenthesis ∷ [])
-
-    Ending : List Lexeme → List Lexeme → Type 0
-    Ending lexemes rest = (behind : List Lexeme) × IsTimed ss n lexemes behind × Close behind rest
-
-    Inside : List MatcherForm → List Lexeme → List Lexeme → Type 0
-    Inside ms lexemes rest = (behind : List Lexeme) × IsSelector ms lexemes behind × Ending behind rest
-
-    form : List MatcherForm → QueryForm
-    form ms = record { left = record { function = f; range = record { matchers = ms; stages = ss; seconds = n } } }
-
-    by_matchers : (ms : List MatcherForm) → list_all is_matcher ms ≡ true → has_real_form ms ≡ true → Derives (query_text (form ms)) (form ms)
-    by_matchers [] proper real = absurd (true≢false (sym real))
-    by_matchers (m ∷ ms) proper real =
-        let small : n < 2 ^ 64 = omega (arith, keeps.in_range.1) in
-        let closing = 41 ∷ [] in
-        let duration = 32 ∷ 91 ∷ (decimal n ++ 115 ∷ 93 ∷ closing) in
-        let stages = stages_text ss ++ duration in
-        let selector = 123 ∷ (matcher_text m ++ (others_text ms ++ 125 ∷ stages)) in
-        let text = function_text f ++ (40 ∷ selector) in
-        let term = (form (m ∷ ms)).left in
-        let name = word_lexes (function_text f) (40 ∷ selector) (function_named f) refl in
-        let opened = lone_sign 40 selector signs.OpenParenthesis refl refl refl (λ _. refl) in
-        let matchers = prints_as (Stand (tokens.Sign signs.OpenBrace ∷ matchers_tokens (m ∷ ms))) (IsSelector (m ∷ ms)) (λ a b stand. record { stand = stand; proper = proper; real = real }) selector stages (selector_lexes m ms stages proper) in
-        let staged = prints_as (AreChained ss) (AreStages ss) (λ a b chained. record { chained = chained; few = keeps.few; one_parser = keeps.one_parser; few_tests = keeps.few_tests }) stages duration (stages_print ss duration keeps.stages refl) in
-        let bracketed = prints_as (Stand (tokens.Sign signs.OpenBracket ∷ tokens.Number (decimal n ++ 115 ∷ []) ∷ tokens.Sign signs.CloseBracket ∷ [])) (IsDuration n) (λ a b stand. record { duration = decimal n ++ 115 ∷ []; stand = stand; read = seconds_read n small; in_range = keeps.in_range }) duration closing (duration_lexes n closing small) in
-        let closed = lone_sign 41 [] signs.CloseParenthesis refl refl refl (λ _. refl) in
-        let timed = prints_then (AreStages ss) (IsDuration n) (IsTimed ss n) (λ a b c are is. inl (b, are, is)) stages duration closing staged bracketed in
-        let ending = prints_then (IsTimed ss n) Close Ending (λ a b c is closed. (b, is, closed)) stages closing [] timed closed in
-        let inside = prints_then (IsSelector (m ∷ ms)) Ending (Inside (m ∷ ms)) (λ a b c is behind. (b, is, behind)) selector stages [] matchers ending in
-        let range = prints_then (Stand (tokens.Sign signs.OpenParenthesis ∷ [])) (Inside (m ∷ ms)) (IsRange term.range) (λ a b c opened is. record { behind_parenthesis = b; behind_selector = is.0; behind_duration = is.2.0; opened = opened; selector = is.1; timed = is.2.1; closed = is.2.2 }) (40 ∷ selector) selector [] opened inside in
-        let whole = prints_all (IsTerm term) text (prints_then (Stand (tokens.Word (function_text f) ∷ [])) (IsRange term.range) (IsTerm term) (λ a b c word is. (b, word, is)) text (40 ∷ selector) [] name range) in
-        subst (λ t. Derives t (form (m ∷ ms))) (sym (regrouped (function_text f) (matcher_text m) (others_text ms) (stages_text ss) (decimal n))) (ended text, [], whole, (refl, refl))
+    over_nested : (over : Option TermForm) → IfSome over KeepsTerm → option_map_or is_nested over true ≡ true
+    over_nested None none = refl
+    over_nested (Some over) kept = kept.nested

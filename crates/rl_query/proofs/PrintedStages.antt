@@ -4,10 +4,10 @@ use Rattle.rl_query.specs.TestTree.{all_tests}
 use Rattle.rl_query.specs.TestPrinting.{tests_text}
 use Rattle.rl_query.specs.TestGrammar.{AreTests, is_test}
 use Rattle.rl_query.specs.TestDepth.{text_depth}
-use Rattle.rl_query.specs.Limits.{most_depth, is_filter}
+use Rattle.rl_query.specs.Limits.{is_filter}
 use Rattle.rl_query.specs.Form.{by_tests, StageForm, by_filter, by_parser}
 use Rattle.std.proofs.lemmas.Bool.{leb-true, and_parts}
-use Rattle.std.proofs.Common.{◌&&◌, nat_le, ◌≡◌, ℕ, ◌+◌, Bool, true, List, [], ◌∷◌, ◌++◌, refl, sym, ap, subst, arith, append_assoc}
+use Rattle.std.proofs.Common.{◌&&◌, nat_le, ◌≡◌, ℕ, ◌+◌, Bool, true, List, [], ◌∷◌, ◌++◌, refl, sym, subst, arith, append_assoc}
 use Rattle.std.specs.List.{list_all}
 use Rattle.rl_labels.specs.Name.{is_name}
 use Rattle.rl_query.specs.declared.stages.Parser.{Parser}
@@ -17,16 +17,16 @@ use Rattle.rl_query.specs.declared.token.Sign.TheVariants as signs
 use Rattle.rl_query.specs.declared.token.Token.TheVariants as tokens
 use Rattle.rl_query.specs.Standing.{Stand}
 use Rattle.rl_query.specs.Grammar.{filter_tokens, IsStage, AreChained}
-use Rattle.rl_query.specs.Lexing.{lexemes_in, token_at}
+use Rattle.rl_query.specs.Lexing.{token_at}
 use Rattle.rl_query.specs.Printing.{parser_text, filter_print, stage_print, stages_text}
 use Rattle.rl_query.proofs.QuantityPrinted.{name_stops}
-use Rattle.rl_query.proofs.Printed.{Prints, Lexes, prints_as, prints_then, lexes_then, spaced, token_lexes, word_lexes, filter_lexes}
+use Rattle.rl_query.proofs.Printed.{Prints, Lexes, prints_none, prints_as, prints_then, lexes_then, spaced, token_lexes, word_lexes, filter_lexes}
 
--- where a stage has a pattern it is one
-abbrev pub is_stage : StageForm → Bool
-is_stage (by_filter filter) = is_filter filter.op filter.text
-is_stage (by_parser parser) = true
-is_stage (by_tests tests) = all_tests is_test tests && nat_le (text_depth tests) most_depth
+-- where a stage has a pattern it is one, and at most so many parentheses of its tests are open at once
+abbrev pub is_stage : (depth : ℕ) → StageForm → Bool
+is_stage depth (by_filter filter) = is_filter filter.op filter.text
+is_stage depth (by_parser parser) = true
+is_stage depth (by_tests tests) = all_tests is_test tests && nat_le (text_depth tests) depth
 
 parser_named : (parser : Parser) → is_name (parser_text parser) ≡ true
 parser_named parsers.Json = refl
@@ -37,25 +37,25 @@ unfolding token_at
 pipe_lexes rest = token_lexes (tokens.Sign signs.Pipe) 124 (32 ∷ rest) (32 ∷ rest) refl refl (omega arith)
 
 -- a stage, and what does not go on with it
-stage_prints : (stage : StageForm) (rest : List ℕ) → is_stage stage ≡ true → Stops rest → Prints (IsStage stage) (stage_print stage ++ rest) rest
-stage_prints (by_filter filter) rest proper stop = prints_as (Stand (filter_tokens filter)) (IsStage (by_filter filter)) (λ a b stand. (stand, proper)) (filter_print filter ++ rest) rest (filter_lexes filter rest)
-stage_prints (by_tests tests) rest proper stop =
+stage_prints : (depth : ℕ) (stage : StageForm) (rest : List ℕ) → is_stage depth stage ≡ true → Stops rest → Prints (IsStage depth stage) (stage_print stage ++ rest) rest
+stage_prints depth (by_filter filter) rest proper stop = prints_as (Stand (filter_tokens filter)) (IsStage depth (by_filter filter)) (λ a b stand. (stand, proper)) (filter_print filter ++ rest) rest (filter_lexes filter rest)
+stage_prints depth (by_tests tests) rest proper stop =
     let word = tests_text tests ++ rest in
-    let parts = and_parts (all_tests is_test tests) (nat_le (text_depth tests) most_depth) proper in
-    let are = prints_at tests parts.0 levels.Tests most_depth rest (leb-true (text_depth tests) most_depth parts.1) stop in
-    prints_then (Stand (tokens.Sign signs.Pipe ∷ [])) (AreTests most_depth tests) (IsStage (by_tests tests)) (λ a b c pipe are. record { behind = b; pipe = pipe; are = are }) (124 ∷ 32 ∷ word) (32 ∷ word) rest (pipe_lexes word) (spaced (AreTests most_depth tests) word rest are)
-stage_prints (by_parser parser) rest proper stop =
+    let parts = and_parts (all_tests is_test tests) (nat_le (text_depth tests) depth) proper in
+    let are = prints_at tests parts.0 levels.Tests depth rest (leb-true (text_depth tests) depth parts.1) stop in
+    prints_then (Stand (tokens.Sign signs.Pipe ∷ [])) (AreTests depth tests) (IsStage depth (by_tests tests)) (λ a b c pipe are. record { behind = b; pipe = pipe; are = are }) (124 ∷ 32 ∷ word) (32 ∷ word) rest (pipe_lexes word) (spaced (AreTests depth tests) word rest are)
+stage_prints depth (by_parser parser) rest proper stop =
     let word = parser_text parser ++ rest in
     lexes_then (tokens.Sign signs.Pipe ∷ []) (tokens.Word (parser_text parser) ∷ []) (124 ∷ 32 ∷ word) (32 ∷ word) rest (pipe_lexes word) (spaced (Stand (tokens.Word (parser_text parser) ∷ [])) word rest (word_lexes (parser_text parser) rest (parser_named parser) (name_stops rest stop)))
 
-pub stages_print : (stages : List StageForm) (rest : List ℕ) → list_all is_stage stages ≡ true → Stops rest → Prints (AreChained stages) (stages_text stages ++ rest) rest
-stages_print [] rest proper stop = record { count = 0; reads = λ total most. let none : 0 + most ≡ most = omega arith in ap (λ n. lexemes_in n total rest) none; shorter = omega arith }
-stages_print (stage ∷ stages) rest proper stop =
-    let parts = and_parts (is_stage stage) (list_all is_stage stages) proper in
+pub stages_print : (depth : ℕ) (stages : List StageForm) (rest : List ℕ) → list_all (is_stage depth) stages ≡ true → Stops rest → Prints (AreChained depth stages) (stages_text stages ++ rest) rest
+stages_print depth [] rest proper stop = prints_none (AreChained depth []) (λ _. refl) rest
+stages_print depth (stage ∷ stages) rest proper stop =
+    let parts = and_parts (is_stage depth stage) (list_all (is_stage depth) stages) proper in
     let behind = stages_text stages ++ rest in
-    let first = spaced (IsStage stage) (stage_print stage ++ behind) behind (stage_prints stage behind parts.0 (ends stages)) in
-    subst (λ t. Prints (AreChained (stage ∷ stages)) (32 ∷ t) rest) (sym (append_assoc (stage_print stage) (stages_text stages) rest))
-    (prints_then (IsStage stage) (AreChained stages) (AreChained (stage ∷ stages)) (λ a b c is are. (b, is, are)) (32 ∷ (stage_print stage ++ behind)) behind rest first (stages_print stages rest parts.1 stop))
+    let first = spaced (IsStage depth stage) (stage_print stage ++ behind) behind (stage_prints depth stage behind parts.0 (ends stages)) in
+    subst (λ t. Prints (AreChained depth (stage ∷ stages)) (32 ∷ t) rest) (sym (append_assoc (stage_print stage) (stages_text stages) rest))
+    (prints_then (IsStage depth stage) (AreChained depth stages) (AreChained depth (stage ∷ stages)) (λ a b c is are. (b, is, are)) (32 ∷ (stage_print stage ++ behind)) behind rest first (stages_print depth stages rest parts.1 stop))
   where
     ends : (others : List StageForm) → Stops (stages_text others ++ rest)
     ends [] = stop

@@ -22,7 +22,7 @@ use Rattle.rl_query.specs.Standing.{Stand, operator_sign, is_matcher, matcher_to
 use Rattle.rl_query.specs.Grammar.{matchers_tokens, IsSelector}
 use Rattle.rl_query.specs.Lexing.{sign_at}
 use Rattle.rl_query.specs.Fronts.{is_sign, next, refusal, expected, name_of, content_of, operator_of, checked_matcher, row_at, matcher_at}
-use Rattle.rl_query.specs.Parsing.{goes_on, element_at, matchers_at, some_matcher, real_matchers, selector_at}
+use Rattle.rl_query.specs.Parsing.{goes_on, element_at, listed_at, matchers_at, some_matcher, real_matchers, selector_at}
 use Rattle.rl_query.specs.Tables.{sign_text}
 use Rattle.rl_plain.specs.Answers.{◌>>=◌}
 
@@ -234,7 +234,7 @@ join m (o ∷ os) lexemes behind rest element others =
     (stand_then (matcher_tokens m ++ tokens.Sign signs.Comma ∷ []) (matchers_tokens (o ∷ os)) lexemes behind rest element.stand others.0, and_from (is_matcher m) _ element.proper others.1)
 
 matchers_read : (most : ℕ) (lexemes : List Lexeme) (ms : List MatcherForm) (rest : List Lexeme) → matchers_at most lexemes ≡ Ok (ms, rest) → AreMatchers ms lexemes rest
-unfolding matchers_at
+unfolding listed_at
 matchers_read zero lexemes ms rest h = absurd (no_err _ (ms, rest) h)
 matchers_read (suc most) lexemes ms rest h =
     let a = bind_ok (element_at lexemes) _ (ms, rest) h in
@@ -256,7 +256,7 @@ few_matchers (m ∷ o ∷ os) (a ∷ []) rest stand = absurd stand.1
 few_matchers (m ∷ o ∷ os) [] rest stand = absurd stand
 
 matchers_are : (most : ℕ) (m : MatcherForm) (ms : List MatcherForm) (lexemes rest : List Lexeme) → Stand (matchers_tokens (m ∷ ms)) lexemes rest → are_proper (m ∷ ms) ≡ true → length (m ∷ ms) ≤ most → matchers_at most lexemes ≡ Ok (m ∷ ms, rest)
-unfolding matchers_at
+unfolding listed_at
 matchers_are zero m ms lexemes rest stand names few = absurd (omega (arith, few))
 matchers_are (suc most) m [] lexemes rest stand names few =
     let a = element_is [] m false lexemes rest stand (and_parts (is_matcher m) true names).0 in

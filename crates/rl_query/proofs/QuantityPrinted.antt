@@ -33,14 +33,14 @@ name_stops (b ∷ rest) stop = ⊎_elim (λ yes. absurd (omega (arith, yes.1))) 
 no_equal : (d : ℕ) → is_ascii_digit d ≡ true → (d == 61) ≡ false
 no_equal d h = grind (arith, nat_tests)
 
--- a comparison before a digit
-comparison_lexes : (c : Comparison) (d : ℕ) (rest : List ℕ) → is_ascii_digit d ≡ true → Lexes (tokens.Sign (comparison_sign c) ∷ []) (sign_text (comparison_sign c) ++ d ∷ rest) (d ∷ rest)
+-- a comparison, and no equals sign behind it
+pub comparison_lexes : (c : Comparison) (b : ℕ) (rest : List ℕ) → (b == 61) ≡ false → Lexes (tokens.Sign (comparison_sign c) ∷ []) (sign_text (comparison_sign c) ++ b ∷ rest) (b ∷ rest)
 unfolding token_at
-comparison_lexes comparisons.Greater d rest digit =
-    token_lexes (tokens.Sign signs.Greater) 62 (d ∷ rest) (d ∷ rest) refl (ap (λ o. or_bad tokens.Sign (or_else (option_map (λ sign. (sign, rest)) o) (Some (signs.Greater, d ∷ rest)))) (cond-false (d == 61) _ _ (no_equal d digit))) (omega arith)
-comparison_lexes comparisons.Less d rest digit =
-    token_lexes (tokens.Sign signs.Less) 60 (d ∷ rest) (d ∷ rest) refl (ap (λ o. or_bad tokens.Sign (or_else (option_map (λ sign. (sign, rest)) o) (Some (signs.Less, d ∷ rest)))) (cond-false (d == 61) _ _ (no_equal d digit))) (omega arith)
-comparison_lexes _ d rest digit = token_lexes _ _ _ (d ∷ rest) refl refl (omega arith)
+comparison_lexes comparisons.Greater b rest other =
+    token_lexes (tokens.Sign signs.Greater) 62 (b ∷ rest) (b ∷ rest) refl (ap (λ o. or_bad tokens.Sign (or_else (option_map (λ sign. (sign, rest)) o) (Some (signs.Greater, b ∷ rest)))) (cond-false (b == 61) _ _ other)) (omega arith)
+comparison_lexes comparisons.Less b rest other =
+    token_lexes (tokens.Sign signs.Less) 60 (b ∷ rest) (b ∷ rest) refl (ap (λ o. or_bad tokens.Sign (or_else (option_map (λ sign. (sign, rest)) o) (Some (signs.Less, b ∷ rest)))) (cond-false (b == 61) _ _ other)) (omega arith)
+comparison_lexes _ b rest other = token_lexes _ _ _ (b ∷ rest) refl refl (omega arith)
 
 -- a name ends before a comparison
 comparison_ends : (c : Comparison) (rest : List ℕ) → prefix_len is_name_byte (sign_text (comparison_sign c) ++ rest) ≡ 0
@@ -56,7 +56,7 @@ quantity_test_prints test rest kept stop =
     let sign = comparison_sign test.comparison in
     let text = quantity_text test.quantity in
     let number = quantity_number test.quantity kept.2 in
-    let compared = subst (λ t. Lexes (tokens.Sign sign ∷ []) (sign_text sign ++ t) t) (sym (ap (λ t. t ++ rest) number.is)) (comparison_lexes test.comparison number.first (number.others ++ rest) number.digit) in
+    let compared = subst (λ t. Lexes (tokens.Sign sign ∷ []) (sign_text sign ++ t) t) (sym (ap (λ t. t ++ rest) number.is)) (comparison_lexes test.comparison number.first (number.others ++ rest) (no_equal number.first number.digit)) in
     prints_as (Stand (tokens.Word test.name ∷ tokens.Sign sign ∷ tokens.Number text ∷ [])) (IsLabelTest (by_quantity test))
     (λ a b stand. record { sign = sign; value = tokens.Number text; stand = stand; compares = (comparison_again test.comparison, (text, refl, quantity_again test.quantity kept.2)); named = kept.0; free = not-true (is_taken test.name) kept.1 })
     (quantity_test_text test ++ rest) rest (row_lexes test.name (sign_text sign) text sign (tokens.Number text) rest kept.0 (comparison_ends test.comparison (text ++ rest)) compared (number_lexes text rest number.first number.others number.is number.digit number.bytes stop))

@@ -5,32 +5,46 @@ use Rattle.rl_query.proofs.SameTests.{same_tests, count_forms, depth_forms}
 use Rattle.rl_query.specs.TestTree.{all_tests}
 use Rattle.rl_query.specs.TestGrammar.{is_test}
 use Rattle.rl_query.specs.TestDepth.{text_depth}
-use Rattle.rl_query.specs.Stages.{tests_in, count_label_tests, are_shallow, is_parser, count_parsers}
-use Rattle.rl_query.specs.Limits.{most_tests, most_depth, has_real_matcher, is_filter, longest_range, most_stages}
+use Rattle.rl_query.specs.Stages.{tests_in, count_label_tests, are_shallow, are_shallow_in, in_both, is_parser, count_parsers}
+use Rattle.rl_query.specs.Limits.{most_aggregations, most_tests, most_depth, has_real_matcher, is_filter, longest_range, most_stages}
+use Rattle.rl_query.specs.Aggregations.{is_grouping, is_operator, is_threshold}
 use Rattle.rl_query.specs.Grammar.{AreChained}
-use Rattle.rl_query.specs.Form.{by_tests, tests_form, tests_of, label_tests, FilterForm, filter_form, matcher_form, by_parser, stage_form, parses, parsers_of, range_form, term_form, query_form}
+use Rattle.rl_query.specs.Form.{by_tests, tests_form, tests_of, label_tests, FilterForm, filter_form, matcher_form, by_parser, stage_form, parses, parsers_of, range_form, AggregationForm, aggregation_form, TermForm, term_form, ThresholdForm, threshold_form, query_form}
 use Rattle.rl_query.specs.declared.token.Lexeme.{Lexeme}
 use Rattle.std.proofs.lemmas.Bool.{and_parts, le-leb, and_from}
-use Rattle.std.proofs.Common.{nat_le, ◌≡◌, ℕ, ◌+◌, ◌≤◌, true, cond, sym, List, [], ◌∷◌, map, length, refl, ap, ◌∙◌, arith, IsTrue}
+use Rattle.std.proofs.Common.{nat_le, ◌≡◌, ℕ, ◌+◌, ◌-◌, ◌≤◌, true, cond, Option, None, Some, subst, append-nil, ◌++◌, sym, List, [], ◌∷◌, map, length, refl, ap, ◌∙◌, arith, IsTrue}
 use Rattle.std.proofs.lemmas.List.{length-map}
 use Rattle.std.proofs.lemmas.List.Sums.{sum_by-cons}
 use Rattle.std.proofs.Props.{props}
 use Rattle.std.specs.List.{list_all}
+use Rattle.std.specs.Option.{IfSome, option_map}
 use mathlib.Core.HLevel.{Σ_prop_path}
 use Rattle.rl_labels.specs.Name.{is_name}
 use Rattle.rl_labels.specs.laws.OrderLaws.{same_matcher}
 use Rattle.rl_labels.specs.declared.matcher.Matcher.{Matcher}
 use Rattle.rl_query.specs.declared.filter.LineFilter.{LineFilter}
+use Rattle.rl_query.specs.declared.aggregation.Aggregation.{Aggregation}
+use Rattle.rl_query.specs.declared.aggregation.Threshold.{Threshold}
 use Rattle.rl_query.specs.declared.query.Query.{Query}
 use Rattle.rl_query.specs.declared.query.Term.{Term}
 use Rattle.rl_query.specs.declared.query.LogRange.{LogRange}
+use Rattle.rl_query.specs.declared.query.RangeFunction.{RangeFunction}
 use Rattle.rl_query.specs.declared.query.Selector.{Selector}
 use Rattle.rl_query.specs.declared.stages.Stage.{Stage}
 use Rattle.rl_query.specs.declared.stages.Stage.TheVariants as kinds
+use Rattle.rl_query.specs.Printing.{term_text, query_text}
 use Rattle.rl_query.specs.Standing.{is_matcher}
 use Rattle.rl_query.proofs.Elements.{real_forms}
 use Rattle.rl_query.proofs.PrintedStages.{is_stage}
+use Rattle.rl_query.proofs.PrintedTerm.{is_aggregation, KeepsRange, KeepsTerm}
 use Rattle.rl_query.proofs.PrintedQuery.{Keeps}
+
+-- how many stages a term has, and how many label tests
+abbrev stages_of : Term → ℕ
+stages_of term = length term.range.stages
+
+abbrev label_tests_of : Term → ℕ
+label_tests_of term = count_label_tests term.range.stages
 
 -- lists of what is one where its forms are
 same_map : {A B : Type 0} (form : A → B) → ((x y : A) → form x ≡ form y → x ≡ y) → (xs ys : List A) → map form xs ≡ map form ys → xs ≡ ys
@@ -71,18 +85,41 @@ same_range a b e =
     let selectors = same_selector a.selector b.selector (same_matchers a.selector.matchers b.selector.matchers (ap (λ f. f.matchers) e)) in
     let stages = same_map stage_form same_stage a.stages b.stages (ap (λ f. f.stages) e) in
     let parts : ◌≡◌ {A = Selector × List Stage × ℕ} (a.selector, a.stages, a.seconds) (b.selector, b.stages, b.seconds) = λ i. (selectors i, stages i, (e i).seconds) in
-    let whole : ◌≡◌ {A = (p : Selector × List Stage × ℕ) × ((length p.1 ≤ most_stages) × ((count_parsers p.1 ≤ 1) × ((count_label_tests p.1 ≤ most_tests) × (IsTrue (are_shallow p.1) × ((1 ≤ p.2) × (p.2 ≤ longest_range))))))} ((a.selector, a.stages, a.seconds), (a.few, (a.one_parser, (a.few_tests, (a.shallow, a.in_range))))) ((b.selector, b.stages, b.seconds), (b.few, (b.one_parser, (b.few_tests, (b.shallow, b.in_range))))) = Σ_prop_path (λ p. hlevel props) parts in
-    λ i. record { selector = (whole i).0.0; stages = (whole i).0.1; seconds = (whole i).0.2; few = (whole i).1.0; one_parser = (whole i).1.1.0; few_tests = (whole i).1.1.1.0; shallow = (whole i).1.1.1.1.0; in_range = (whole i).1.1.1.1.1 }
+    let whole : ◌≡◌ {A = (p : Selector × List Stage × ℕ) × ((length p.1 ≤ most_stages) × ((count_parsers p.1 ≤ 1) × ((count_label_tests p.1 ≤ most_tests) × ((1 ≤ p.2) × (p.2 ≤ longest_range)))))} ((a.selector, a.stages, a.seconds), (a.few, (a.one_parser, (a.few_tests, a.in_range)))) ((b.selector, b.stages, b.seconds), (b.few, (b.one_parser, (b.few_tests, b.in_range)))) = Σ_prop_path (λ p. hlevel props) parts in
+    λ i. record { selector = (whole i).0.0; stages = (whole i).0.1; seconds = (whole i).0.2; few = (whole i).1.0; one_parser = (whole i).1.1.0; few_tests = (whole i).1.1.1.0; in_range = (whole i).1.1.1.1 }
+
+same_aggregation : (a b : Aggregation) → aggregation_form a ≡ aggregation_form b → a ≡ b
+same_aggregation a b e =
+    let whole : ◌≡◌ {A = (f : AggregationForm) × (IsTrue (is_operator f.operator) × IsTrue (is_grouping f.grouping))} (aggregation_form a, (a.proper, a.named)) (aggregation_form b, (b.proper, b.named)) = Σ_prop_path (λ f. hlevel props) e in
+    λ i. record { operator = (whole i).0.operator; grouping = (whole i).0.grouping; proper = (whole i).1.0; named = (whole i).1.1 }
 
 pub same_term : (a b : Term) → term_form a ≡ term_form b → a ≡ b
 same_term a b e =
+    let aggregations = same_map aggregation_form same_aggregation a.aggregations b.aggregations (ap (λ f. f.aggregations) e) in
     let ranges = same_range a.range b.range (ap (λ f. f.range) e) in
-    λ i. record { function = (e i).function; range = ranges i }
+    let parts : ◌≡◌ {A = List Aggregation × RangeFunction × LogRange} (a.aggregations, a.function, a.range) (b.aggregations, b.function, b.range) = λ i. (aggregations i, (e i).function, ranges i) in
+    let whole : ◌≡◌ {A = (p : List Aggregation × RangeFunction × LogRange) × ((length p.0 ≤ most_aggregations) × IsTrue (are_shallow_in p.0 p.2.stages))} ((a.aggregations, a.function, a.range), (a.nested, a.shallow)) ((b.aggregations, b.function, b.range), (b.nested, b.shallow)) = Σ_prop_path (λ p. hlevel props) parts in
+    λ i. record { aggregations = (whole i).0.0; function = (whole i).0.1; range = (whole i).0.2; nested = (whole i).1.0; shallow = (whole i).1.1 }
+
+same_threshold : (a b : Threshold) → threshold_form a ≡ threshold_form b → a ≡ b
+same_threshold a b e =
+    let whole : ◌≡◌ {A = (f : ThresholdForm) × IsTrue (is_threshold f.value)} (threshold_form a, a.proper) (threshold_form b, b.proper) = Σ_prop_path (λ f. hlevel props) e in
+    λ i. record { comparison = (whole i).0.comparison; value = (whole i).0.value; proper = (whole i).1 }
+
+-- and so with one of them or none
+same_option : {A B : Type 0} (form : A → B) → ((x y : A) → form x ≡ form y → x ≡ y) → (a b : Option A) → option_map form a ≡ option_map form b → a ≡ b
+same_option form same None None e = refl
+same_option form same (Some x) (Some y) e = let forms : form x ≡ form y = cc in ap Some (same x y forms)
+same_option form same _ _ e = cc
 
 pub same_query : (a b : Query) → query_form a ≡ query_form b → a ≡ b
 same_query a b e =
-    let terms = same_term a.left b.left (ap (λ f. f.left) e) in
-    λ i. record { left = terms i }
+    let lefts = same_term a.left b.left (ap (λ f. f.left) e) in
+    let overs = same_option term_form same_term a.over b.over (ap (λ f. f.over) e) in
+    let tests = same_option threshold_form same_threshold a.test b.test (ap (λ f. f.test) e) in
+    let parts : ◌≡◌ {A = Term × Option Term × Option Threshold} (a.left, a.over, a.test) (b.left, b.over, b.test) = λ i. (lefts i, overs i, tests i) in
+    let whole : ◌≡◌ {A = (p : Term × Option Term × Option Threshold) × ((in_both stages_of p.0 p.1 ≤ most_stages) × (in_both label_tests_of p.0 p.1 ≤ most_tests))} ((a.left, a.over, a.test), (a.few, a.few_tests)) ((b.left, b.over, b.test), (b.few, b.few_tests)) = Σ_prop_path (λ p. hlevel props) parts in
+    λ i. record { left = (whole i).0.0; over = (whole i).0.1; test = (whole i).0.2; few = (whole i).1.0; few_tests = (whole i).1.1 }
 
 pub all_proper : (ms : List Matcher) → list_all is_matcher (map matcher_form ms) ≡ true
 all_proper [] = refl
@@ -92,13 +129,13 @@ pub filters_proper : (fs : List LineFilter) → list_all (λ f. is_filter f.op f
 filters_proper [] = refl
 filters_proper (f ∷ fs) = and_from (is_filter f.op f.text) _ f.comparable (filters_proper fs)
 
-stages_proper : (ss : List Stage) → are_shallow ss ≡ true → list_all is_stage (map stage_form ss) ≡ true
-stages_proper [] shallow = refl
-stages_proper (kinds.Filter f ∷ ss) shallow = and_from (is_filter f.op f.text) _ f.comparable (stages_proper ss shallow)
-stages_proper (kinds.Parser p ∷ ss) shallow = stages_proper ss shallow
-stages_proper (kinds.Tests t ∷ ss) shallow =
-    let parts = and_parts (nat_le (text_depth t) most_depth) (are_shallow ss) shallow in
-    and_from (is_stage (by_tests (tests_form t))) _ (and_from (all_tests is_test (tests_form t)) _ (tests_kept t) (ap (λ n. nat_le n most_depth) (depth_forms t) ∙ parts.0)) (stages_proper ss parts.1)
+stages_proper : (depth : ℕ) (ss : List Stage) → are_shallow depth ss ≡ true → list_all (is_stage depth) (map stage_form ss) ≡ true
+stages_proper depth [] shallow = refl
+stages_proper depth (kinds.Filter f ∷ ss) shallow = and_from (is_filter f.op f.text) _ f.comparable (stages_proper depth ss shallow)
+stages_proper depth (kinds.Parser p ∷ ss) shallow = stages_proper depth ss shallow
+stages_proper depth (kinds.Tests t ∷ ss) shallow =
+    let parts = and_parts (nat_le (text_depth t) depth) (are_shallow depth ss) shallow in
+    and_from (is_stage depth (by_tests (tests_form t))) _ (and_from (all_tests is_test (tests_form t)) _ (tests_kept t) (ap (λ n. nat_le n depth) (depth_forms t) ∙ parts.0)) (stages_proper depth ss parts.1)
 
 -- stages and their forms have as many label tests
 pub label_forms : (ss : List Stage) → label_tests (map stage_form ss) ≡ count_label_tests ss
@@ -112,13 +149,13 @@ label_forms (s ∷ ss) =
     one (kinds.Tests t) = count_forms t
 
 -- stages that are derived are shallow
-pub shallow_forms : (ss : List Stage) (lexemes rest : List Lexeme) → AreChained (map stage_form ss) lexemes rest → are_shallow ss ≡ true
-shallow_forms [] lexemes rest are = refl
-shallow_forms (kinds.Filter f ∷ ss) lexemes rest are = shallow_forms ss are.0 rest are.2
-shallow_forms (kinds.Parser p ∷ ss) lexemes rest are = shallow_forms ss are.0 rest are.2
-shallow_forms (kinds.Tests t ∷ ss) lexemes rest are =
-    let deep = tests_shallow most_depth (tests_form t) are.1.behind are.0 are.1.are in
-    and_from (nat_le (text_depth t) most_depth) _ (le-leb (text_depth t) most_depth (omega (arith, deep, depth_forms t))) (shallow_forms ss are.0 rest are.2)
+pub shallow_forms : (depth : ℕ) (ss : List Stage) (lexemes rest : List Lexeme) → AreChained depth (map stage_form ss) lexemes rest → are_shallow depth ss ≡ true
+shallow_forms depth [] lexemes rest are = refl
+shallow_forms depth (kinds.Filter f ∷ ss) lexemes rest are = shallow_forms depth ss are.0 rest are.2
+shallow_forms depth (kinds.Parser p ∷ ss) lexemes rest are = shallow_forms depth ss are.0 rest are.2
+shallow_forms depth (kinds.Tests t ∷ ss) lexemes rest are =
+    let deep = tests_shallow depth (tests_form t) are.1.behind are.0 are.1.are in
+    and_from (nat_le (text_depth t) depth) _ (le-leb (text_depth t) depth (omega (arith, deep, depth_forms t))) (shallow_forms depth ss are.0 rest are.2)
 
 -- stages and their forms count parsers alike
 pub parser_forms : (ss : List Stage) → parsers_of (map stage_form ss) ≡ count_parsers ss
@@ -127,14 +164,53 @@ parser_forms (kinds.Filter f ∷ ss) = parser_forms ss
 parser_forms (kinds.Tests t ∷ ss) = parser_forms ss
 parser_forms (kinds.Parser p ∷ ss) = sum_by-cons (λ s. cond (parses s) 1 0) (by_parser p) (map stage_form ss) ∙ ap (λ n. 1 + n) (parser_forms ss) ∙ sym (sum_by-cons (λ s. cond (is_parser s) 1 0) (kinds.Parser p) ss)
 
+aggregations_proper : (aggregations : List Aggregation) → list_all is_aggregation (map aggregation_form aggregations) ≡ true
+aggregations_proper [] = refl
+aggregations_proper (a ∷ others) = and_from (is_aggregation (aggregation_form a)) _ (and_from (is_operator a.operator) _ a.proper a.named) (aggregations_proper others)
+
+-- a term keeps its limits
+keeps_term : (t : Term) → KeepsTerm (term_form t)
+keeps_term t =
+    let deep = most_depth - length t.aggregations in
+    let as_many = length-map t.aggregations aggregation_form in
+    let range : KeepsRange deep (range_form t.range) = record {
+      matchers = all_proper t.range.selector.matchers;
+      real = real_forms t.range.selector.matchers ∙ t.range.selector.real;
+      stages = stages_proper deep t.range.stages t.shallow;
+      one_parser = omega (arith, parser_forms t.range.stages, t.range.one_parser);
+      in_range = t.range.in_range;
+    } in
+    record {
+      proper = aggregations_proper t.aggregations;
+      nested = le-leb (length (map aggregation_form t.aggregations)) most_aggregations (omega (arith, as_many, t.nested));
+      range = subst (λ n. KeepsRange (most_depth - n) (range_form t.range)) (sym as_many) range;
+    }
+
 -- a query keeps its limits
 pub keeps_limits : (q : Query) → Keeps (query_form q)
 keeps_limits q = record {
-  matchers = all_proper q.left.range.selector.matchers;
-  real = real_forms q.left.range.selector.matchers ∙ q.left.range.selector.real;
-  stages = stages_proper q.left.range.stages q.left.range.shallow;
-  few = omega (arith, length-map q.left.range.stages stage_form, q.left.range.few);
-  one_parser = omega (arith, parser_forms q.left.range.stages, q.left.range.one_parser);
-  few_tests = omega (arith, label_forms q.left.range.stages, q.left.range.few_tests);
-  in_range = q.left.range.in_range;
+  left = keeps_term q.left;
+  over = by_over q.over;
+  test = by_test q.test;
+  few = subst (λ n. n ≤ most_stages) (sym (both_forms (λ f. length f.range.stages) stages_of (λ t. length-map t.range.stages stage_form) q.left q.over)) q.few;
+  few_tests = subst (λ n. n ≤ most_tests) (sym (both_forms (λ f. label_tests f.range.stages) label_tests_of (λ t. label_forms t.range.stages) q.left q.over)) q.few_tests;
 }
+  where
+    by_over : (over : Option Term) → IfSome (option_map term_form over) KeepsTerm
+    by_over None = tt
+    by_over (Some t) = keeps_term t
+
+    by_test : (test : Option Threshold) → IfSome (option_map threshold_form test) (λ f. is_threshold f.value ≡ true)
+    by_test None = tt
+    by_test (Some t) = t.proper
+
+    both_forms : (of_form : TermForm → ℕ) (count : Term → ℕ) → ((t : Term) → of_form (term_form t) ≡ count t) → (left : Term) (over : Option Term) → in_both of_form (term_form left) (option_map term_form over) ≡ in_both count left over
+    both_forms of_form count same left None = λ i. same left i + 0
+    both_forms of_form count same left (Some over) = λ i. same left i + same over i
+
+-- a term as a query, whose text it has
+abbrev pub as_query : Term → Query
+as_query term = record { left = term; over = None; test = None; few = omega (arith, term.range.few); few_tests = omega (arith, term.range.few_tests) }
+
+pub text_as_query : (term : Term) → query_text (query_form (as_query term)) ≡ term_text (term_form term)
+text_as_query term = let text = term_text (term_form term) in append-nil (text ++ []) ∙ append-nil text

@@ -15,48 +15,48 @@ use Rattle.rl_query.specs.Parsing.{stage_comes, stage_at, stages_at}
 use Rattle.rl_query.proofs.Elements.{with_front, regroup}
 
 -- what is read so far, and is read of the tokens that are left, is the whole
-abbrev pub AreRead : List StageForm → Bool → ℕ → ℕ → List Lexeme → Result (List StageForm × List Lexeme) QueryFault → Type 0
-AreRead front parsed left most lexemes whole = with_front front (stages_at parsed left most lexemes) ≡ whole
+abbrev pub AreRead : List StageForm → Bool → (depth left most : ℕ) → List Lexeme → Result (List StageForm × List Lexeme) QueryFault → Type 0
+AreRead front parsed depth left most lexemes whole = with_front front (stages_at parsed depth left most lexemes) ≡ whole
 
-pub one_more : (front : List StageForm) (parsed : Bool) (left count i : ℕ) (lexemes after : List Lexeme) (s : StageForm) (fewer : ℕ) (whole : Result (List StageForm × List Lexeme) QueryFault) → i < count → stage_comes lexemes ≡ Ok true
-    → stage_at parsed left lexemes ≡ Ok (s, fewer, after) → AreRead front parsed left (count - i) lexemes whole → AreRead (front ++ s ∷ []) (parsed || parses s) fewer (count - (i + 1)) after whole
+pub one_more : (front : List StageForm) (parsed : Bool) (depth left count i : ℕ) (lexemes after : List Lexeme) (s : StageForm) (fewer : ℕ) (whole : Result (List StageForm × List Lexeme) QueryFault) → i < count → stage_comes lexemes ≡ Ok true
+    → stage_at parsed depth left lexemes ≡ Ok (s, fewer, after) → AreRead front parsed depth left (count - i) lexemes whole → AreRead (front ++ s ∷ []) (parsed || parses s) depth fewer (count - (i + 1)) after whole
 unfolding stages_at
-one_more front parsed left count i lexemes after s fewer whole lt comes h so_far =
+one_more front parsed depth left count i lexemes after s fewer whole lt comes h so_far =
     let k : count - i ≡ suc (count - (i + 1)) = omega arith in
-    let one : with_front front (stages_at parsed left (count - i) lexemes) ≡ with_front (front ++ s ∷ []) (stages_at (parsed || parses s) fewer (count - (i + 1)) after) = rw (k, comes, h) (regroup front s (stages_at (parsed || parses s) fewer (count - (i + 1)) after)) in
+    let one : with_front front (stages_at parsed depth left (count - i) lexemes) ≡ with_front (front ++ s ∷ []) (stages_at (parsed || parses s) depth fewer (count - (i + 1)) after) = rw (k, comes, h) (regroup front s (stages_at (parsed || parses s) depth fewer (count - (i + 1)) after)) in
     sym one ∙ so_far
 
-pub stops : (front : List StageForm) (parsed : Bool) (left count i : ℕ) (lexemes : List Lexeme) (whole : Result (List StageForm × List Lexeme) QueryFault) → i < count → stage_comes lexemes ≡ Ok false → AreRead front parsed left (count - i) lexemes whole → whole ≡ Ok (front, lexemes)
+pub stops : (front : List StageForm) (parsed : Bool) (depth left count i : ℕ) (lexemes : List Lexeme) (whole : Result (List StageForm × List Lexeme) QueryFault) → i < count → stage_comes lexemes ≡ Ok false → AreRead front parsed depth left (count - i) lexemes whole → whole ≡ Ok (front, lexemes)
 unfolding stages_at
-stops front parsed left count i lexemes whole lt comes so_far =
+stops front parsed depth left count i lexemes whole lt comes so_far =
     let k : count - i ≡ suc (count - (i + 1)) = omega arith in
-    let one : with_front front (stages_at parsed left (count - i) lexemes) ≡ Ok (front, lexemes) = rw (k, comes) (ap (λ (ss : List StageForm). Ok (ss, lexemes)) (append-nil front)) in
+    let one : with_front front (stages_at parsed depth left (count - i) lexemes) ≡ Ok (front, lexemes) = rw (k, comes) (ap (λ (ss : List StageForm). Ok (ss, lexemes)) (append-nil front)) in
     sym so_far ∙ one
 
-pub fails : (e : OrMemory QueryFault) (front : List StageForm) (parsed : Bool) (left count i : ℕ) (lexemes : List Lexeme) (whole : Result (List StageForm × List Lexeme) QueryFault) → i < count → stage_comes lexemes ≡ Ok true
-    → Fails e (stage_at parsed left lexemes) → AreRead front parsed left (count - i) lexemes whole → Fails e whole
+pub fails : (e : OrMemory QueryFault) (front : List StageForm) (parsed : Bool) (depth left count i : ℕ) (lexemes : List Lexeme) (whole : Result (List StageForm × List Lexeme) QueryFault) → i < count → stage_comes lexemes ≡ Ok true
+    → Fails e (stage_at parsed depth left lexemes) → AreRead front parsed depth left (count - i) lexemes whole → Fails e whole
 unfolding stages_at
-fails errors.Memory front parsed left count i lexemes whole lt comes h so_far = tt
-fails (errors.Fault f) front parsed left count i lexemes whole lt comes h so_far =
+fails errors.Memory front parsed depth left count i lexemes whole lt comes h so_far = tt
+fails (errors.Fault f) front parsed depth left count i lexemes whole lt comes h so_far =
     let k : count - i ≡ suc (count - (i + 1)) = omega arith in
-    let one : with_front front (stages_at parsed left (count - i) lexemes) ≡ Err f = rw (k, comes, h) refl in
+    let one : with_front front (stages_at parsed depth left (count - i) lexemes) ≡ Err f = rw (k, comes, h) refl in
     sym so_far ∙ one
 
-pub no_token : (f : QueryFault) (front : List StageForm) (parsed : Bool) (left most : ℕ) (lexemes : List Lexeme) (whole : Result (List StageForm × List Lexeme) QueryFault) → stage_comes lexemes ≡ Err f → AreRead front parsed left most lexemes whole → whole ≡ Err f
+pub no_token : (f : QueryFault) (front : List StageForm) (parsed : Bool) (depth left most : ℕ) (lexemes : List Lexeme) (whole : Result (List StageForm × List Lexeme) QueryFault) → stage_comes lexemes ≡ Err f → AreRead front parsed depth left most lexemes whole → whole ≡ Err f
 unfolding stages_at
-no_token f front parsed left zero lexemes whole n so_far = sym so_far ∙ rw n refl
-no_token f front parsed left (suc most) lexemes whole n so_far = sym so_far ∙ rw n refl
+no_token f front parsed depth left zero lexemes whole n so_far = sym so_far ∙ rw n refl
+no_token f front parsed depth left (suc most) lexemes whole n so_far = sym so_far ∙ rw n refl
 
 -- no more may be read
-pub at_end : (front : List StageForm) (parsed : Bool) (left count i : ℕ) (lexemes : List Lexeme) (whole : Result (List StageForm × List Lexeme) QueryFault) → count ≤ i → stages_at parsed left 0 lexemes ≡ Ok ([], lexemes) → AreRead front parsed left (count - i) lexemes whole → whole ≡ Ok (front, lexemes)
-at_end front parsed left count i lexemes whole le h so_far =
+pub at_end : (front : List StageForm) (parsed : Bool) (depth left count i : ℕ) (lexemes : List Lexeme) (whole : Result (List StageForm × List Lexeme) QueryFault) → count ≤ i → stages_at parsed depth left 0 lexemes ≡ Ok ([], lexemes) → AreRead front parsed depth left (count - i) lexemes whole → whole ≡ Ok (front, lexemes)
+at_end front parsed depth left count i lexemes whole le h so_far =
     let k : count - i ≡ 0 = omega arith in
-    sym so_far ∙ ap (λ n. with_front front (stages_at parsed left n lexemes)) k ∙ ap (with_front front) h ∙ ap (λ (ss : List StageForm). Ok (ss, lexemes)) (append-nil front)
+    sym so_far ∙ ap (λ n. with_front front (stages_at parsed depth left n lexemes)) k ∙ ap (with_front front) h ∙ ap (λ (ss : List StageForm). Ok (ss, lexemes)) (append-nil front)
 
-pub too_many : (f : QueryFault) (front : List StageForm) (parsed : Bool) (left count i : ℕ) (lexemes : List Lexeme) (whole : Result (List StageForm × List Lexeme) QueryFault) → count ≤ i → stages_at parsed left 0 lexemes ≡ Err f → AreRead front parsed left (count - i) lexemes whole → whole ≡ Err f
-too_many f front parsed left count i lexemes whole le h so_far =
+pub too_many : (f : QueryFault) (front : List StageForm) (parsed : Bool) (depth left count i : ℕ) (lexemes : List Lexeme) (whole : Result (List StageForm × List Lexeme) QueryFault) → count ≤ i → stages_at parsed depth left 0 lexemes ≡ Err f → AreRead front parsed depth left (count - i) lexemes whole → whole ≡ Err f
+too_many f front parsed depth left count i lexemes whole le h so_far =
     let k : count - i ≡ 0 = omega arith in
-    sym so_far ∙ ap (λ n. with_front front (stages_at parsed left n lexemes)) k ∙ ap (with_front front) h
+    sym so_far ∙ ap (λ n. with_front front (stages_at parsed depth left n lexemes)) k ∙ ap (with_front front) h
 
 -- a stage with a pattern is one of all
 pub some_pattern : (stages : List Stage) (i : ℕ) (s : Stage) → i < length stages → s ≡ get_or stages i s → stage_has_pattern (stage_form s) ≡ true → stages_have_pattern (map stage_form stages) ≡ true

@@ -88,15 +88,15 @@ filter_ends op others [] rest stand = absurd stand
 filter_ends lines.Contains others (l ∷ lexemes) rest stand = (rw stand.0 refl, rw stand.0 refl)
 filter_ends _ others (l ∷ lexemes) rest stand = (rw stand.0 refl, rw stand.0 refl)
 
-stage_ends : (stage : StageForm) (lexemes rest : List Lexeme) → IsStage stage lexemes rest → IsEnd lexemes
-stage_ends (by_filter f) lexemes rest is = filter_ends f.op (tokens.Text f.text ∷ []) lexemes rest is.0
-stage_ends (by_parser p) lexemes rest is = no_more (tokens.Sign signs.Pipe) (tokens.Word (parser_text p) ∷ []) lexemes rest is refl refl refl
-stage_ends (by_tests t) lexemes rest is = no_more (tokens.Sign signs.Pipe) [] lexemes is.behind is.pipe refl refl refl
+stage_ends : (depth : ℕ) (stage : StageForm) (lexemes rest : List Lexeme) → IsStage depth stage lexemes rest → IsEnd lexemes
+stage_ends depth (by_filter f) lexemes rest is = filter_ends f.op (tokens.Text f.text ∷ []) lexemes rest is.0
+stage_ends depth (by_parser p) lexemes rest is = no_more (tokens.Sign signs.Pipe) (tokens.Word (parser_text p) ∷ []) lexemes rest is refl refl refl
+stage_ends depth (by_tests t) lexemes rest is = no_more (tokens.Sign signs.Pipe) [] lexemes is.behind is.pipe refl refl refl
 
 -- tests end where stages begin
-pub chain_ends : (stages : List StageForm) (lexemes rest : List Lexeme) → AreChained stages lexemes rest → IsEnd rest → IsEnd lexemes
-chain_ends [] lexemes rest are end = subst IsEnd (sym are) end
-chain_ends (s ∷ stages) lexemes rest are end = stage_ends s lexemes are.0 are.1
+pub chain_ends : (depth : ℕ) (stages : List StageForm) (lexemes rest : List Lexeme) → AreChained depth stages lexemes rest → IsEnd rest → IsEnd lexemes
+chain_ends depth [] lexemes rest are end = subst IsEnd (sym are) end
+chain_ends depth (s ∷ stages) lexemes rest are end = stage_ends depth s lexemes are.0 are.1
 
 -- no stage comes, and tests end
 pub record Ends (lexemes : List Lexeme) : Type 0 where

@@ -28,7 +28,7 @@ IsRead Part left lexemes read = Part read.0 lexemes read.2 × (count_tests read.
 abbrev pub IsSound : Reader → Rule → Type 0
 IsSound reader Part = (left : ℕ) (lexemes : List Lexeme) (read : Read) → reader left lexemes ≡ Ok read → IsRead Part left lexemes read
 
-only_word : (word : List ℕ) (t : Token) → is_word word t ≡ true → t ≡ tokens.Word word
+pub only_word : (word : List ℕ) (t : Token) → is_word word t ≡ true → t ≡ tokens.Word word
 only_word word (tokens.Word found) h = ap tokens.Word (same_text found word h)
 only_word word _ h = cc
 

@@ -41,7 +41,6 @@ is_operator _ = false
 -- a sign that begins a query in LogQL
 abbrev pub is_later_start : Sign → Bool
 is_later_start signs.OpenBrace = true
-is_later_start signs.OpenParenthesis = true
 is_later_start signs.Minus = true
 is_later_start signs.Plus = true
 is_later_start _ = false
@@ -72,7 +71,7 @@ is_at _ = false
 abbrev pub is_in_any_case : List ℕ → List ℕ → Bool
 is_in_any_case = str_eq_ignore_ascii_case
 
--- the words that begin a query in LogQL, and in the ruler none
+-- the words that begin a query in LogQL, and in the ruler none; those of its vector aggregations are later words in another case
 abbrev pub later_words : List (List ℕ)
 later_words =
     codes "sum" ∷ codes "count" ∷ codes "min" ∷ codes "max" ∷
@@ -84,9 +83,21 @@ later_words =
 abbrev pub is_later_word : List ℕ → Bool
 is_later_word word = list_any (λ later. is_in_any_case later word) later_words || list_any (λ function. is_in_any_case (function_text function) word) all_functions
 
+-- the words that LogQL has behind an operator
+abbrev pub is_matching_word : List ℕ → Bool
+is_matching_word word = is_in_any_case word (codes "bool") || (is_in_any_case word (codes "on") || is_in_any_case word (codes "ignoring"))
+
+abbrev pub is_opening : Sign → Bool
+is_opening signs.OpenParenthesis = true
+is_opening _ = false
+
 -- LogQL has the word at the position, and the ruler has it not
 abbrev pub is_unsupported_word : Position → List ℕ → Bool
 is_unsupported_word positions.Start word = is_later_word word
+is_unsupported_word positions.InTerm word = is_later_word word
+is_unsupported_word positions.Divisor word = is_later_word word || is_matching_word word
+is_unsupported_word positions.InThreshold word = is_later_word word || is_matching_word word
+is_unsupported_word positions.BehindOperator word = is_in_any_case word (codes "by") || is_in_any_case word (codes "without")
 is_unsupported_word positions.BehindRange word = is_in_any_case word (codes "offset")
 is_unsupported_word positions.BehindFilteredRange word = is_in_any_case word (codes "offset")
 is_unsupported_word positions.BehindTerm word = is_in_any_case word (codes "and") || (is_in_any_case word (codes "or") || is_in_any_case word (codes "unless"))
@@ -100,6 +111,10 @@ is_unsupported_word _ word = false
 -- and the same of a sign
 abbrev pub is_unsupported_sign : Position → Sign → Bool
 is_unsupported_sign positions.Start sign = is_later_start sign
+is_unsupported_sign positions.InTerm sign = false
+is_unsupported_sign positions.Divisor sign = is_minus sign
+is_unsupported_sign positions.InThreshold sign = is_minus sign || is_opening sign
+is_unsupported_sign positions.BehindOperator sign = false
 is_unsupported_sign positions.BehindSelector sign = is_later_stage sign
 is_unsupported_sign positions.BehindFilter sign = is_later_stage sign
 is_unsupported_sign positions.BehindSieveSelector sign = is_later_stage sign || is_pipe sign

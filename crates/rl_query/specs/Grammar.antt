@@ -1,8 +1,8 @@
--- The grammar of query texts, over their tokens and apart from how they are read. Each rule relates tokens and those that follow.
+-- The grammar of selectors, stages and ranges, over their tokens and apart from how they are read. Each rule relates tokens and those that follow.
 use Rattle.rl_query.specs.TestTree.{TestTree}
 use Rattle.rl_query.specs.TestGrammar.{AreTests}
-use Rattle.rl_query.specs.Limits.{most_depth, most_tests, longest_range, is_filter, most_stages}
-use Rattle.rl_query.specs.Form.{TestForm, by_tests, label_tests, MatcherForm, RangeForm, TermForm, QueryForm, FilterForm, StageForm, by_filter, by_parser, SieveForm, has_real_form, parsers_of}
+use Rattle.rl_query.specs.Limits.{longest_range, is_filter, most_stages}
+use Rattle.rl_query.specs.Form.{TestForm, by_tests, MatcherForm, RangeForm, FilterForm, StageForm, by_filter, by_parser, SieveForm, has_real_form, parsers_of}
 use Rattle.std.specs.Prelude.{◌≡◌, ◌⊎◌, ℕ, ◌≤◌, true, List, [], ◌∷◌, ◌++◌, length, Some}
 use Rattle.std.specs.List.{list_all}
 use Rattle.rl_query.specs.declared.filter.LineOp.{LineOp}
@@ -16,7 +16,6 @@ use Rattle.rl_query.specs.declared.token.Token.TheVariants as tokens
 use Rattle.rl_query.specs.Durations.{duration_of}
 use Rattle.rl_query.specs.Lexing.{lexemes_of}
 use Rattle.rl_query.specs.Printing.{parser_text}
-use Rattle.rl_query.specs.Tables.{function_text}
 use Rattle.rl_query.specs.Standing.{Stand, matcher_tokens, is_matcher}
 
 -- matchers joined by commas, up to the closing brace
@@ -63,51 +62,41 @@ pub record AreFilters (most : ℕ) (filters : List FilterForm) (lexemes rest : L
 abbrev pub parser_tokens : Parser → List Token
 parser_tokens parser = tokens.Sign signs.Pipe ∷ tokens.Word (parser_text parser) ∷ []
 
--- | tests
-pub record AreTestsPiped (tests : TestTree TestForm) (lexemes rest : List Lexeme) : Type 0 where
+-- | tests, with at most so many parentheses open at once
+pub record AreTestsPiped (depth : ℕ) (tests : TestTree TestForm) (lexemes rest : List Lexeme) : Type 0 where
   pub behind : List Lexeme
   pub pipe : Stand (tokens.Sign signs.Pipe ∷ []) lexemes behind
-  pub are : AreTests most_depth tests behind rest
+  pub are : AreTests depth tests behind rest
 
 -- a line filter whose pattern is one, a parser or label tests
-abbrev pub IsStage : StageForm → List Lexeme → List Lexeme → Type 0
-IsStage (by_filter filter) lexemes rest = Stand (filter_tokens filter) lexemes rest × (is_filter filter.op filter.text ≡ true)
-IsStage (by_parser parser) lexemes rest = Stand (parser_tokens parser) lexemes rest
-IsStage (by_tests tests) lexemes rest = AreTestsPiped tests lexemes rest
+abbrev pub IsStage : (depth : ℕ) → StageForm → List Lexeme → List Lexeme → Type 0
+IsStage depth (by_filter filter) lexemes rest = Stand (filter_tokens filter) lexemes rest × (is_filter filter.op filter.text ≡ true)
+IsStage depth (by_parser parser) lexemes rest = Stand (parser_tokens parser) lexemes rest
+IsStage depth (by_tests tests) lexemes rest = AreTestsPiped depth tests lexemes rest
 
 -- stages one behind the other
-abbrev pub AreChained : List StageForm → List Lexeme → List Lexeme → Type 0
-AreChained [] lexemes rest = lexemes ≡ rest
-AreChained (stage ∷ stages) lexemes rest = (behind : List Lexeme) × IsStage stage lexemes behind × AreChained stages behind rest
+abbrev pub AreChained : (depth : ℕ) → List StageForm → List Lexeme → List Lexeme → Type 0
+AreChained depth [] lexemes rest = lexemes ≡ rest
+AreChained depth (stage ∷ stages) lexemes rest = (behind : List Lexeme) × IsStage depth stage lexemes behind × AreChained depth stages behind rest
 
--- stages, at most so many, of which one at most is a parser, and at most so many label tests
-pub record AreStages (stages : List StageForm) (lexemes rest : List Lexeme) : Type 0 where
-  pub chained : AreChained stages lexemes rest
-  pub few : length stages ≤ most_stages
+-- stages of which one at most is a parser
+pub record AreStages (depth : ℕ) (stages : List StageForm) (lexemes rest : List Lexeme) : Type 0 where
+  pub chained : AreChained depth stages lexemes rest
   pub one_parser : parsers_of stages ≤ 1
-  pub few_tests : label_tests stages ≤ most_tests
 
 -- stages [duration], or [duration] stages
-abbrev pub IsTimed : List StageForm → ℕ → List Lexeme → List Lexeme → Type 0
-IsTimed stages seconds lexemes rest = ((behind : List Lexeme) × AreStages stages lexemes behind × IsDuration seconds behind rest) ⊎ ((behind : List Lexeme) × IsDuration seconds lexemes behind × AreStages stages behind rest)
+abbrev pub IsTimed : (depth : ℕ) → List StageForm → ℕ → List Lexeme → List Lexeme → Type 0
+IsTimed depth stages seconds lexemes rest = ((behind : List Lexeme) × AreStages depth stages lexemes behind × IsDuration seconds behind rest) ⊎ ((behind : List Lexeme) × IsDuration seconds lexemes behind × AreStages depth stages behind rest)
 
--- ({matchers} stages [duration]), or the stages behind the duration
-pub record IsRange (range : RangeForm) (lexemes rest : List Lexeme) : Type 0 where
+-- ({matchers} stages [duration]), or the stages behind the duration; inside, so many parentheses may be open at once
+pub record IsRange (depth : ℕ) (range : RangeForm) (lexemes rest : List Lexeme) : Type 0 where
   pub behind_parenthesis : List Lexeme
   pub behind_selector : List Lexeme
   pub behind_duration : List Lexeme
   pub opened : Stand (tokens.Sign signs.OpenParenthesis ∷ []) lexemes behind_parenthesis
   pub selector : IsSelector range.matchers behind_parenthesis behind_selector
-  pub timed : IsTimed range.stages range.seconds behind_selector behind_duration
+  pub timed : IsTimed depth range.stages range.seconds behind_selector behind_duration
   pub closed : Stand (tokens.Sign signs.CloseParenthesis ∷ []) behind_duration rest
-
--- function range
-abbrev pub IsTerm : TermForm → List Lexeme → List Lexeme → Type 0
-IsTerm term lexemes rest = (behind : List Lexeme) × Stand (tokens.Word (function_text term.function) ∷ []) lexemes behind × IsRange term.range behind rest
-
--- a term, and nothing behind it
-abbrev pub Derives : List ℕ → QueryForm → Type 0
-Derives text query = (behind rest : List Lexeme) × IsTerm query.left (lexemes_of text) behind × Stand (tokens.End ∷ []) behind rest
 
 -- {matchers} line filters, and nothing behind them
 pub record DerivesSieve (text : List ℕ) (sieve : SieveForm) : Type 0 where

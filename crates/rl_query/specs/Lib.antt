@@ -1,6 +1,9 @@
+pub mod AggregationReading
+pub mod Aggregations
 pub mod Answering
 pub mod Tables
 pub mod Durations
+pub mod Drafts
 pub mod Form
 pub mod Grammar
 pub mod Lexing
@@ -8,8 +11,10 @@ pub mod Limits
 pub mod Parsing
 pub mod Printing
 pub mod Quantities
+pub mod QueryReading
 pub mod Sieving
 pub mod Stages
+pub mod TermGrammar
 pub mod Tested
 pub mod TestGrammar
 pub mod TestPrinting

@@ -24,13 +24,21 @@ capped n = min n (longest_range + 1)
 abbrev pub most_stages : ℕ
 most_stages = 256
 
--- the most label tests of a range
+-- the most label tests of a text
 abbrev pub most_tests : ℕ
 most_tests = 256
 
--- the most parentheses that label tests have open at once: the one that opens the range counts too
+-- the most parentheses that are open at once
+abbrev pub most_parentheses : ℕ
+most_parentheses = 64
+
+-- the most that label tests have open at once: the one that opens the range counts too
 abbrev pub most_depth : ℕ
 most_depth = 63
+
+-- the most vector aggregations of a term
+abbrev pub most_aggregations : ℕ
+most_aggregations = 8
 
 -- a line filter by pattern
 abbrev pub is_line_pattern : LineOp → Bool

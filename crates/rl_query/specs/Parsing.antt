@@ -3,7 +3,7 @@ use Rattle.std.specs.List.{list_any, list_all}
 use Rattle.std.specs.Prelude.{not, Some, None, ℕ, zero, suc, ◌-◌, ◌==◌, nat_le, Bool, true, false, ◌&&◌, ◌||◌, List, [], ◌∷◌, length, slice_index, Option, is_some, Result, Ok, Err, if◌then◌else◌, codes}
 use Rattle.rl_query.specs.Fronts.{is_in_any_case, is_match, is_later_word, refusal, is_sign, next, expected, matcher_at}
 use Rattle.rl_query.specs.Testing.{compares, tests_at}
-use Rattle.rl_query.specs.Limits.{most_tests, most_depth, is_filter, longest_range, most_stages}
+use Rattle.rl_query.specs.Limits.{is_filter, longest_range, most_stages}
 use Rattle.rl_query.specs.Form.{by_tests, MatcherForm, FilterForm, StageForm, by_filter, by_parser, RangeForm, TermForm, QueryForm, has_real_form, has_pattern, filters_have_pattern, stages_have_pattern, parses}
 use Rattle.std.specs.Option.{option_map_or}
 use Rattle.std.specs.Char.{is_ascii_digit}
@@ -17,6 +17,7 @@ use Rattle.rl_query.specs.declared.parser.Position.TheVariants as positions
 use Rattle.rl_query.specs.declared.query.RangeFunction.{RangeFunction}
 use Rattle.rl_query.specs.declared.stages.Parser.{Parser}
 use Rattle.rl_query.specs.declared.stages.Parser.TheVariants as parsers
+use Rattle.rl_query.specs.declared.room.Room.{Room}
 use Rattle.rl_query.specs.declared.token.Sign.{Sign}
 use Rattle.rl_query.specs.declared.token.Sign.TheVariants as signs
 use Rattle.rl_query.specs.declared.token.Lexeme.{Lexeme}
@@ -39,12 +40,16 @@ element_at lexemes = do
   more ← goes_on lexeme.0.place lexeme.0.token
   Ok (matcher.0, more, lexeme.1)
 
--- matchers joined by commas up to the closing brace, at most so many
-unfoldable pub matchers_at : ℕ → List Lexeme → Result (List MatcherForm × List Lexeme) QueryFault
-matchers_at zero lexemes = Err (faults.Syntax 0)
-matchers_at (suc most) lexemes = do
-  element ← element_at lexemes
-  if element.1 then (matchers_at most element.2 >>= λ others. Ok (element.0 ∷ others.0, others.1)) else Ok (element.0 ∷ [], element.2)
+-- elements joined by commas up to what closes them, at most so many; each tells whether another follows
+unfoldable pub listed_at : {A : Type 0} → (element : List Lexeme → Result (A × Bool × List Lexeme) QueryFault) → ℕ → List Lexeme → Result (List A × List Lexeme) QueryFault
+listed_at element zero lexemes = Err (faults.Syntax 0)
+listed_at element (suc most) lexemes = do
+  first ← element lexemes
+  if first.1 then (listed_at element most first.2 >>= λ others. Ok (first.0 ∷ others.0, others.1)) else Ok (first.0 ∷ [], first.2)
+
+-- the matchers of a selector
+abbrev pub matchers_at : ℕ → List Lexeme → Result (List MatcherForm × List Lexeme) QueryFault
+matchers_at = listed_at element_at
 
 -- a selector that closes at once has no matcher
 abbrev pub some_matcher : Token → Result (Unit {0}) QueryFault
@@ -160,42 +165,42 @@ tests_begin place (tokens.Word word) lexemes = word_begins place word lexemes
 tests_begin place token lexemes = parenthesis_begins place token
 
 -- label tests behind their pipe, how many may still come, and the tokens that follow
-unfoldable pub tested_at : (left : ℕ) → List Lexeme → Result (StageForm × ℕ × List Lexeme) QueryFault
-tested_at left lexemes = do
+unfoldable pub tested_at : (depth left : ℕ) → List Lexeme → Result (StageForm × ℕ × List Lexeme) QueryFault
+tested_at depth left lexemes = do
   first ← next lexemes
   begin ← tests_begin first.0.place first.0.token first.1
-  tests ← tests_at most_depth left lexemes
+  tests ← tests_at depth left lexemes
   Ok (by_tests tests.0, tests.1, tests.2)
 
 -- a parser or label tests, behind the pipe
-unfoldable pub piped_at : (parsed : Bool) (left : ℕ) → List Lexeme → Result (StageForm × ℕ × List Lexeme) QueryFault
-piped_at parsed left lexemes = do
+unfoldable pub piped_at : (parsed : Bool) (depth left : ℕ) → List Lexeme → Result (StageForm × ℕ × List Lexeme) QueryFault
+piped_at parsed depth left lexemes = do
   first ← next lexemes
-  option_map_or (λ parser. only_parser parsed parser >>= λ only. Ok (by_parser only, left, first.1)) (parser_of first.0.token) (tested_at left lexemes)
+  option_map_or (λ parser. only_parser parsed parser >>= λ only. Ok (by_parser only, left, first.1)) (parser_of first.0.token) (tested_at depth left lexemes)
 
 -- a stage, where one comes, and how many label tests may still come behind it
-unfoldable pub stage_at : (parsed : Bool) (left : ℕ) → List Lexeme → Result (StageForm × ℕ × List Lexeme) QueryFault
-stage_at parsed left lexemes = do
+unfoldable pub stage_at : (parsed : Bool) (depth left : ℕ) → List Lexeme → Result (StageForm × ℕ × List Lexeme) QueryFault
+stage_at parsed depth left lexemes = do
   sign ← next lexemes
-  option_map_or (λ op. filter_at op sign.1 >>= λ filter. Ok (by_filter filter.0, left, filter.1)) (filter_op sign.0.token) (piped_at parsed left sign.1)
+  option_map_or (λ op. filter_at op sign.1 >>= λ filter. Ok (by_filter filter.0, left, filter.1)) (filter_op sign.0.token) (piped_at parsed depth left sign.1)
 
 -- stages, at most so many, where a parser was read before or not, and so many label tests may come
-unfoldable pub stages_at : (parsed : Bool) (left most : ℕ) → List Lexeme → Result (List StageForm × List Lexeme) QueryFault
-stages_at parsed left zero lexemes = do
+unfoldable pub stages_at : (parsed : Bool) (depth left most : ℕ) → List Lexeme → Result (List StageForm × List Lexeme) QueryFault
+stages_at parsed depth left zero lexemes = do
   more ← stage_comes lexemes
   if more then Err faults.TooDeep else Ok ([], lexemes)
-stages_at parsed left (suc most) lexemes = do
+stages_at parsed depth left (suc most) lexemes = do
   more ← stage_comes lexemes
-  if more then (stage_at parsed left lexemes >>= λ stage. stages_at (parsed || parses stage.0) stage.1 most stage.2 >>= λ others. Ok (stage.0 ∷ others.0, others.1)) else Ok ([], lexemes)
+  if more then (stage_at parsed depth left lexemes >>= λ stage. stages_at (parsed || parses stage.0) depth stage.1 most stage.2 >>= λ others. Ok (stage.0 ∷ others.0, others.1)) else Ok ([], lexemes)
 
 -- where it is cramped no pattern has room, and each is refused
 abbrev pub roomy_stages : (cramped : Bool) → List StageForm → Result (List StageForm) QueryFault
 roomy_stages cramped stages = if cramped && stages_have_pattern stages then Err faults.BadRegex else Ok stages
 
 -- stages, each of whose patterns has room
-unfoldable pub stages_in : (cramped : Bool) → List Lexeme → Result (List StageForm × List Lexeme) QueryFault
-stages_in cramped lexemes = do
-  found ← stages_at false most_tests most_stages lexemes
+unfoldable pub stages_in : (cramped : Bool) → Room → List Lexeme → Result (List StageForm × List Lexeme) QueryFault
+stages_in cramped room lexemes = do
+  found ← stages_at false room.depth room.tests room.stages lexemes
   stages ← roomy_stages cramped found.0
   Ok (stages, found.1)
 
@@ -232,14 +237,6 @@ abbrev pub range_of : ℕ → Token → Result ℕ QueryFault
 range_of place (tokens.Number number) = seconds_of (duration_of number) place number
 range_of place token = Err (refusal positions.Elsewhere place token)
 
--- the range aggregation that a word names
-abbrev pub named_function : ℕ → List ℕ → Result RangeFunction QueryFault
-named_function place word = option_map_or Ok (function_with_text word) (Err (if is_later_word word then faults.Unsupported place else faults.Syntax place))
-
-abbrev pub function_of : ℕ → Token → Result RangeFunction QueryFault
-function_of place (tokens.Word word) = named_function place word
-function_of place token = Err (refusal positions.Start place token)
-
 -- a range in brackets
 unfoldable pub seconds_at : Position → List Lexeme → Result (ℕ × List Lexeme) QueryFault
 seconds_at position lexemes = do
@@ -250,58 +247,45 @@ seconds_at position lexemes = do
   Ok (seconds, closed)
 
 -- the parenthesis behind a range, and the stages before it, if none stand before the range
-unfoldable pub closed_at : (cramped : Bool) → List StageForm → List Lexeme → Result (List StageForm × List Lexeme) QueryFault
-closed_at cramped [] lexemes = do
-  stages ← stages_in cramped lexemes
+unfoldable pub closed_at : (cramped : Bool) → Room → List StageForm → List Lexeme → Result (List StageForm × List Lexeme) QueryFault
+closed_at cramped room [] lexemes = do
+  stages ← stages_in cramped room lexemes
   closed ← expected signs.CloseParenthesis (behind_stages positions.BehindRange stages.0) stages.1
   Ok (stages.0, closed)
-closed_at cramped (stage ∷ stages) lexemes = do
+closed_at cramped room (stage ∷ stages) lexemes = do
   closed ← expected signs.CloseParenthesis positions.BehindFilteredRange lexemes
   Ok (stage ∷ stages, closed)
 
 -- a range in brackets behind stages or none, and what closes it
-unfoldable pub timed_at : (cramped : Bool) → List StageForm → List Lexeme → Result (List StageForm × ℕ × List Lexeme) QueryFault
-timed_at cramped front lexemes = do
+unfoldable pub timed_at : (cramped : Bool) → Room → List StageForm → List Lexeme → Result (List StageForm × ℕ × List Lexeme) QueryFault
+timed_at cramped room front lexemes = do
   seconds ← seconds_at (behind_stages positions.BehindSelector front) lexemes
-  closed ← closed_at cramped front seconds.1
+  closed ← closed_at cramped room front seconds.1
   Ok (closed.0, seconds.0, closed.1)
 
 -- behind a selector: stages and a range in brackets, whichever stand first, and the parenthesis
-unfoldable pub closing_at : (cramped : Bool) → List Lexeme → Result (List StageForm × ℕ × List Lexeme) QueryFault
-closing_at cramped lexemes = do
-  front ← stages_in cramped lexemes
-  timed_at cramped front.0 front.1
+unfoldable pub closing_at : (cramped : Bool) → Room → List Lexeme → Result (List StageForm × ℕ × List Lexeme) QueryFault
+closing_at cramped room lexemes = do
+  front ← stages_in cramped room lexemes
+  timed_at cramped room front.0 front.1
+
+-- the room inside one parenthesis more
+abbrev pub deeper : ℕ → Room → Result Room QueryFault
+deeper zero room = Err faults.TooDeep
+deeper (suc depth) room = Ok (record { depth = depth; stages = room.stages; tests = room.tests })
+
+-- an opening parenthesis, and the room inside it
+unfoldable pub opened_at : Position → Room → List Lexeme → Result (Room × List Lexeme) QueryFault
+opened_at position room lexemes = do
+  behind ← expected signs.OpenParenthesis position lexemes
+  inside ← deeper room.depth room
+  Ok (inside, behind)
 
 -- a selector, stages and a range in parentheses
-unfoldable pub range_at : (cramped : Bool) → List Lexeme → Result (RangeForm × List Lexeme) QueryFault
-range_at cramped lexemes = do
-  opened ← expected signs.OpenParenthesis positions.Elsewhere lexemes
-  braced ← expected signs.OpenBrace positions.Elsewhere opened
+unfoldable pub range_at : (cramped : Bool) → Room → List Lexeme → Result (RangeForm × List Lexeme) QueryFault
+range_at cramped room lexemes = do
+  opened ← opened_at positions.Elsewhere room lexemes
+  braced ← expected signs.OpenBrace positions.Elsewhere opened.1
   matchers ← selector_at cramped braced
-  closing ← closing_at cramped matchers.1
+  closing ← closing_at cramped opened.0 matchers.1
   Ok (record { matchers = matchers.0; stages = closing.0; seconds = closing.1 }, closing.2)
-
--- a range aggregation
-unfoldable pub term_at : (cramped : Bool) → List Lexeme → Result (TermForm × List Lexeme) QueryFault
-term_at cramped lexemes = do
-  word ← next lexemes
-  function ← function_of word.0.place word.0.token
-  range ← range_at cramped word.1
-  Ok (record { function = function; range = range.0 }, range.1)
-
--- nothing follows a query
-abbrev pub ends : ℕ → Token → Result (Unit {0}) QueryFault
-ends place tokens.End = Ok tt
-ends place token = Err (refusal positions.BehindTerm place token)
-
--- a query is all of its tokens
-unfoldable pub query_in : (cramped : Bool) → List Lexeme → Result QueryForm QueryFault
-query_in cramped lexemes = do
-  term ← term_at cramped lexemes
-  lexeme ← next term.1
-  nothing ← ends lexeme.0.place lexeme.0.token
-  Ok (record { left = term.0 })
-
--- the query that a text is, or its first fault from the left
-abbrev pub query_of : (cramped : Bool) → List ℕ → Result QueryForm QueryFault
-query_of cramped text = query_in cramped (lexemes_of text)

@@ -3,7 +3,9 @@ use Rattle.rl_query.specs.TestTree.{count_tests}
 use Rattle.rl_query.specs.TestDepth.{text_depth}
 use Rattle.rl_query.specs.Limits.{most_depth}
 use Rattle.std.specs.List.{sum_by, list_all, count_by}
-use Rattle.std.specs.Prelude.{nat_le, ℕ, Bool, true, false, List}
+use Rattle.std.specs.Option.{option_map_or}
+use Rattle.std.specs.Prelude.{nat_le, ℕ, ◌+◌, ◌-◌, Bool, true, false, List, length, Option}
+use Rattle.rl_query.specs.declared.aggregation.Aggregation.{Aggregation}
 use Rattle.rl_query.specs.declared.stages.Stage.{Stage}
 use Rattle.rl_query.specs.declared.stages.Stage.TheVariants as kinds
 
@@ -24,11 +26,19 @@ tests_in (kinds.Tests tests) = count_tests tests
 abbrev pub count_label_tests : List Stage → ℕ
 count_label_tests stages = sum_by tests_in stages
 
--- not too many of its parentheses are open at once
-abbrev pub is_shallow : Stage → Bool
-is_shallow (kinds.Filter filter) = true
-is_shallow (kinds.Parser parser) = true
-is_shallow (kinds.Tests tests) = nat_le (text_depth tests) most_depth
+-- at most so many of its parentheses are open at once
+abbrev pub is_shallow : (depth : ℕ) → Stage → Bool
+is_shallow depth (kinds.Filter filter) = true
+is_shallow depth (kinds.Parser parser) = true
+is_shallow depth (kinds.Tests tests) = nat_le (text_depth tests) depth
 
-abbrev pub are_shallow : List Stage → Bool
-are_shallow stages = list_all is_shallow stages
+abbrev pub are_shallow : (depth : ℕ) → List Stage → Bool
+are_shallow depth stages = list_all (is_shallow depth) stages
+
+-- each vector aggregation opens a parenthesis around them
+abbrev pub are_shallow_in : List Aggregation → List Stage → Bool
+are_shallow_in aggregations stages = are_shallow (most_depth - length aggregations) stages
+
+-- how many there are in a term and in a second one, if there is one
+abbrev pub in_both : {A : Type 0} → (A → ℕ) → A → Option A → ℕ
+in_both count left over = count left + option_map_or count over 0

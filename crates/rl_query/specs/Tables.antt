@@ -1,4 +1,4 @@
--- The tables of query texts: signs, comparisons, range aggregations, escapes and units.
+-- The tables of query texts: signs, comparisons, aggregations, escapes and units.
 use Rattle.std.specs.Prelude.{ℕ, ◌==◌, List, [], ◌∷◌, Option, Some, None, if◌then◌else◌, codes}
 use Rattle.std.specs.List.{find}
 use Rattle.rl_labels.specs.Name.{is_text}
@@ -7,6 +7,8 @@ use Rattle.rl_query.specs.declared.quantity_test.Comparison.{Comparison}
 use Rattle.rl_query.specs.declared.quantity_test.Comparison.TheVariants as comparisons
 use Rattle.rl_query.specs.declared.query.RangeFunction.{RangeFunction}
 use Rattle.rl_query.specs.declared.query.RangeFunction.TheVariants as functions
+use Rattle.rl_query.specs.declared.aggregation.VectorOperator.{VectorOperator}
+use Rattle.rl_query.specs.declared.aggregation.VectorOperator.TheVariants as vectors
 use Rattle.rl_query.specs.declared.token.Sign.{Sign}
 use Rattle.rl_query.specs.declared.token.Sign.TheVariants as signs
 
@@ -96,6 +98,22 @@ all_functions = functions.CountOverTime ∷ functions.Rate ∷ functions.BytesOv
 -- the range aggregation whose word it is
 abbrev pub function_with_text : List ℕ → Option RangeFunction
 function_with_text word = find (λ function. is_text word (function_text function)) all_functions
+
+-- the word of a vector aggregation
+abbrev pub operator_word : VectorOperator → List ℕ
+operator_word vectors.Sum = codes "sum"
+operator_word vectors.Count = codes "count"
+operator_word vectors.Min = codes "min"
+operator_word vectors.Max = codes "max"
+operator_word (vectors.Topk k) = codes "topk"
+
+-- those without a number of elements
+abbrev pub plain_operators : List VectorOperator
+plain_operators = vectors.Sum ∷ vectors.Count ∷ vectors.Min ∷ vectors.Max ∷ []
+
+-- the one of them whose word it is
+abbrev pub plain_operator : List ℕ → Option VectorOperator
+plain_operator word = find (λ operator. is_text word (operator_word operator)) plain_operators
 
 -- what is escaped between quotes: a backslash, a quote, a newline, a carriage return and a tab
 abbrev pub escapes : Escapes

@@ -7,11 +7,17 @@
 //! - `fault`: why a text is refused.
 //! - `token` and `lexer`: the tokens of a text.
 //! - `duration`: the seconds of a range.
+//! - `aggregation`: `Aggregation`, `Grouping`, `VectorOperator` and `Threshold`.
+//! - `room`, `draft`: what a text may still have at a place, and what was read before it is known that it keeps its limits.
+//! - `aggregation_reading`, `term_reading`, `query_reading`: groupings, operators and thresholds, terms, and queries from their tokens.
 //! - `stage`: line filters and stages from their tokens. `parser`: `parse`. `printer`: `print` and `print_term`.
 //! - `sieve`: `parse_delete` and `print_sieve`.
 //! - `label_test`, `matcher_test` and `quantity_test`: `LabelTests`, trees of tests of texts and of quantities. `testing`: tests from their tokens. `test_printer`: `print_tests`.
 #![tactic(auto)]
 
+pub mod aggregation;
+pub mod aggregation_reading;
+pub mod draft;
 pub mod duration;
 pub mod fault;
 pub mod filter;
@@ -22,13 +28,17 @@ pub mod parser;
 pub mod printer;
 pub mod quantity_test;
 pub mod query;
+pub mod query_reading;
+pub mod room;
 pub mod sieve;
 pub mod stage;
 pub mod stages;
+pub mod term_reading;
 pub mod test_printer;
 pub mod testing;
 pub mod token;
 
+pub use aggregation::{Aggregation, Grouping, Threshold, VectorOperator};
 pub use fault::{QueryError, QueryFault};
 pub use filter::{LineFilter, LineOp, Sieve};
 pub use label_test::{Join, LabelTest, LabelTests, TestParts};

@@ -4,13 +4,16 @@ ghost use Rattle.std.specs.List.{list_all, list_any};
 ghost use Rattle.std.specs.Result.{result_map_both};
 ghost use Rattle.rl_labels.specs.Name.{is_text};
 ghost use Rattle.rl_query.specs.Answering.{Reads, IsForRoom};
-ghost use Rattle.rl_query.specs.Form.{QueryForm, query_has_pattern, matcher_form, stage_form, range_form, term_form, query_form};
-ghost use Rattle.rl_query.specs.Grammar.{Derives};
+ghost use Rattle.rl_query.specs.Form.{QueryForm, query_has_pattern, matcher_form, stage_form, query_form};
+ghost use Rattle.rl_query.specs.TermGrammar.{Derives};
 ghost use Rattle.rl_query.specs.Printing.{query_text};
 ghost use Rattle.rl_plain.specs.Answers.{Gives, Answers};
 ghost use Rattle.rl_query.specs.declared.query.Query.{Query};
-ghost use Rattle.rl_query.specs.Fronts.{is_unsupported, is_unsupported_word, is_unsupported_sign, is_later_stage, is_pipe, is_minus, is_operator, is_in_any_case, is_later_word, refusal, next, expected, is_sign, name_of, content_of, match_of, is_match, operator_of, checked_matcher, matcher_at};
-ghost use Rattle.rl_query.specs.Parsing.{goes_on, element_at, matchers_at, some_matcher, real_matchers, selector_at, is_unit_letter, is_duration_byte, looks_like_duration, range_of, seconds_of, checked_range, function_of, named_function, seconds_at, closed_at, timed_at, closing_at, range_at, term_at, query_in, query_of, ends};
+ghost use Rattle.rl_query.specs.Fronts.{is_unsupported, is_unsupported_word, is_unsupported_sign, is_later_stage, is_pipe, is_minus, is_operator, is_in_any_case, is_later_word, is_matching_word, refusal, next, expected, is_sign, name_of, content_of, match_of, is_match, operator_of, checked_matcher, matcher_at};
+ghost use Rattle.rl_query.specs.Drafts.{range_draft};
+ghost use Rattle.rl_query.specs.Parsing.{goes_on, element_at, matchers_at, some_matcher, real_matchers, selector_at, is_unit_letter, is_duration_byte, looks_like_duration, range_of, seconds_of, checked_range, seconds_at, closed_at, timed_at, closing_at, deeper, opened_at, range_at};
+ghost use Rattle.rl_query.specs.QueryReading.{query_of};
+ghost use Rattle.rl_query.specs.declared.token.Token.TheVariants as tokens;
 ghost use Rattle.rl_query.specs.Durations.{duration_of};
 ghost use Rattle.rl_query.specs.Tables.{function_text};
 ghost use Rattle.rl_query.specs.Limits.{has_real_matcher, longest_range, most_stages};
@@ -18,10 +21,13 @@ ghost use Rattle.rl_labels.specs.Operators.{is_by_pattern};
 ghost use Rattle.rl_labels.specs.Selects.{are_by_text};
 ghost use Rattle.std.specs.Char.{is_ascii_digit};
 
+use crate::draft::DraftRange;
 use crate::duration::{LONGEST_RANGE, duration_of};
 use crate::fault::{QueryError, QueryFault};
 use crate::lexer::lexemes_of;
-use crate::query::{ALL_FUNCTIONS, LogRange, Query, RangeFunction, Selector, Term};
+use crate::query::{ALL_FUNCTIONS, Query, RangeFunction, Selector};
+use crate::query_reading::query_in;
+use crate::room::Room;
 use crate::stage::{behind_stages, stages_in};
 use crate::stages::Stage;
 use crate::token::{Lexeme, Sign, Token};
@@ -29,7 +35,7 @@ use rl_labels::{Labels, MatchOp, Matcher, MatcherFault, SelectorCode};
 use rl_plain::{OrMemory, PlainList, PlainText, TryCopy};
 use std::alloc::Global;
 
-/// The words that begin a query in LogQL, and in the ruler none.
+/// The words that begin a query in LogQL, beside those of range aggregations. The ruler reads the first five, in lower case.
 pub const LATER_WORDS: [&str; 24] = [
     "sum",
     "count",
@@ -60,8 +66,16 @@ pub const LATER_WORDS: [&str; 24] = [
 /// Where in a query a token was looked for.
 #[derive(Clone, Copy, Debug, PartialEq, Eq)]
 pub enum Position {
-    /// At the start of a query.
+    /// At the start of a query, also in parentheses.
     Start,
+    /// Inside a vector aggregation or a term's parentheses.
+    InTerm,
+    /// Behind the slash of a ratio.
+    Divisor,
+    /// Behind the comparison of a threshold.
+    InThreshold,
+    /// Behind the word of a vector aggregation.
+    BehindOperator,
     /// Behind the selector of a range.
     BehindSelector,
     /// Behind the sign of a line filter.
@@ -84,7 +98,7 @@ pub enum Position {
     BehindRange,
     /// The same where stages stand before the duration.
     BehindFilteredRange,
-    /// Behind a range aggregation.
+    /// Behind a term or a threshold.
     BehindTerm,
     Elsewhere,
 }
@@ -94,6 +108,17 @@ pub(crate) fn refusal(position: Position, place: usize, token: &Token) -> QueryF
     ensures { result ≡ refusal position place token.now }
 {
     if is_unsupported(position, token) {
+        QueryFault::Unsupported(place)
+    } else {
+        QueryFault::Syntax(place)
+    }
+}
+
+// The same of a word.
+pub(crate) fn refused_word(position: Position, place: usize, word: &str) -> QueryFault
+    ensures { result ≡ refusal position place (tokens.Word word.now) }
+{
+    if is_unsupported_word(position, word) {
         QueryFault::Unsupported(place)
     } else {
         QueryFault::Syntax(place)
@@ -115,7 +140,11 @@ fn is_unsupported_word(position: Position, word: &str) -> bool
     ensures { result ≡ is_unsupported_word position word.now }
 {
     match position {
-        Position::Start => is_later_word(word),
+        Position::Start | Position::InTerm => is_later_word(word),
+        Position::Divisor | Position::InThreshold => is_later_word(word) || is_matching_word(word),
+        Position::BehindOperator => {
+            word.eq_ignore_ascii_case("by") || word.eq_ignore_ascii_case("without")
+        }
         Position::BehindRange | Position::BehindFilteredRange => {
             word.eq_ignore_ascii_case("offset")
         }
@@ -129,6 +158,15 @@ fn is_unsupported_word(position: Position, word: &str) -> bool
         Position::BehindFilter | Position::BehindSieveFilter => word.eq_ignore_ascii_case("or"),
         _ => false,
     }
+}
+
+// A word that LogQL has behind an operator.
+fn is_matching_word(word: &str) -> bool
+    ensures { result ≡ is_matching_word word.now }
+{
+    word.eq_ignore_ascii_case("bool")
+        || word.eq_ignore_ascii_case("on")
+        || word.eq_ignore_ascii_case("ignoring")
 }
 
 // Such a word, or that of a range aggregation in any case.
@@ -160,10 +198,9 @@ fn is_unsupported_sign(position: Position, sign: Sign) -> bool
     ensures { result ≡ is_unsupported_sign position sign }
 {
     match position {
-        Position::Start => matches!(
-            sign,
-            Sign::OpenBrace | Sign::OpenParenthesis | Sign::Minus | Sign::Plus
-        ),
+        Position::Start => matches!(sign, Sign::OpenBrace | Sign::Minus | Sign::Plus),
+        Position::Divisor => matches!(sign, Sign::Minus),
+        Position::InThreshold => matches!(sign, Sign::Minus | Sign::OpenParenthesis),
         Position::BehindSelector | Position::BehindFilter | Position::BehindTests => {
             is_later_stage(sign)
         }
@@ -176,7 +213,8 @@ fn is_unsupported_sign(position: Position, sign: Sign) -> bool
         Position::BehindRange => is_later_stage(sign) || matches!(sign, Sign::At),
         Position::BehindFilteredRange => matches!(sign, Sign::At),
         Position::BehindTerm => is_operator(sign),
-        Position::InFilter | Position::Elsewhere => false,
+        Position::InTerm | Position::BehindOperator | Position::InFilter | Position::Elsewhere =>
+            false,
     }
 }
 
@@ -484,29 +522,6 @@ fn checked_range(seconds: u64) -> Result<u64, QueryFault>
     Err(QueryFault::BadRange)
 }
 
-// The range aggregation that a token names.
-fn function_of(lexeme: &Lexeme) -> Result<RangeFunction, QueryFault>
-    ensures { result ≡ function_of lexeme.now.place lexeme.now.token }
-{
-    match &lexeme.token {
-        Token::Word(word) => named_function(lexeme.place, word.as_str()),
-        token => Err(refusal(Position::Start, lexeme.place, token)),
-    }
-}
-
-fn named_function(place: usize, word: &str) -> Result<RangeFunction, QueryFault>
-    ensures { result ≡ named_function place word.now }
-{
-    match RangeFunction::with_text(word) {
-        Some(function) => Ok(function),
-        None => Err(if is_later_word(word) {
-            QueryFault::Unsupported(place)
-        } else {
-            QueryFault::Syntax(place)
-        }),
-    }
-}
-
 // The seconds of a range between its brackets.
 #[tactic(auto, unfolding(crate::specs::Parsing::seconds_at))]
 fn seconds_at(position: Position, lexemes: &[Lexeme]) -> Result<(u64, &[Lexeme]), QueryFault>
@@ -524,13 +539,14 @@ fn seconds_at(position: Position, lexemes: &[Lexeme]) -> Result<(u64, &[Lexeme])
 #[tactic(auto, unfolding(crate::specs::Parsing::closed_at))]
 fn closed_at(
     alloc: Global,
+    room: Room,
     front: Vec<Stage>,
     lexemes: &[Lexeme],
 ) -> Result<(Vec<Stage>, &[Lexeme]), QueryError>
-    ensures { Reads (λ x. (map stage_form x.0.items, x.1.now)) result (λ cramped. closed_at cramped (map stage_form front.items) lexemes.now) }
+    ensures { Reads (λ x. (map stage_form x.0.items, x.1.now)) result (λ cramped. closed_at cramped room (map stage_form front.items) lexemes.now) }
 {
     if front.is_empty() {
-        return staged_at(alloc, lexemes);
+        return staged_at(alloc, room, lexemes);
     }
     let rest = expected(
         Sign::CloseParenthesis,
@@ -542,10 +558,14 @@ fn closed_at(
 
 // Stages behind a range, and the parenthesis.
 #[tactic(auto, using(crate::proofs::Cramped::closed_late), unfolding(crate::specs::Parsing::closed_at))]
-fn staged_at(alloc: Global, lexemes: &[Lexeme]) -> Result<(Vec<Stage>, &[Lexeme]), QueryError>
-    ensures { Reads (λ x. (map stage_form x.0.items, x.1.now)) result (λ cramped. closed_at cramped [] lexemes.now) }
+fn staged_at(
+    alloc: Global,
+    room: Room,
+    lexemes: &[Lexeme],
+) -> Result<(Vec<Stage>, &[Lexeme]), QueryError>
+    ensures { Reads (λ x. (map stage_form x.0.items, x.1.now)) result (λ cramped. closed_at cramped room [] lexemes.now) }
 {
-    let (stages, rest) = stages_in(alloc, lexemes)?;
+    let (stages, rest) = stages_in(alloc, room, lexemes)?;
     let position = behind_stages(Position::BehindRange, &stages);
     let rest = expected(Sign::CloseParenthesis, position, rest)?;
     Ok((stages, rest))
@@ -555,53 +575,78 @@ fn staged_at(alloc: Global, lexemes: &[Lexeme]) -> Result<(Vec<Stage>, &[Lexeme]
 #[tactic(auto, unfolding(crate::specs::Parsing::timed_at))]
 fn timed_at(
     alloc: Global,
+    room: Room,
     front: Vec<Stage>,
     lexemes: &[Lexeme],
 ) -> Result<(Vec<Stage>, u64, &[Lexeme]), QueryError>
-    ensures { Reads (λ x. (map stage_form x.0.items, x.1, x.2.now)) result (λ cramped. timed_at cramped (map stage_form front.items) lexemes.now) }
+    ensures { Reads (λ x. (map stage_form x.0.items, x.1, x.2.now)) result (λ cramped. timed_at cramped room (map stage_form front.items) lexemes.now) }
 {
     let position = behind_stages(Position::BehindSelector, &front);
     let (seconds, rest) = seconds_at(position, lexemes)?;
-    let (stages, rest) = closed_at(alloc, front, rest)?;
+    let (stages, rest) = closed_at(alloc, room, front, rest)?;
     Ok((stages, seconds, rest))
 }
 
 // Behind a selector: stages and a range in brackets, whichever stand first, and the parenthesis.
 #[tactic(auto, using(crate::proofs::Cramped::closing_late), unfolding(crate::specs::Parsing::closing_at))]
-fn closing_at(alloc: Global, lexemes: &[Lexeme]) -> Result<(Vec<Stage>, u64, &[Lexeme]), QueryError>
-    ensures { Reads (λ x. (map stage_form x.0.items, x.1, x.2.now)) result (λ cramped. closing_at cramped lexemes.now) }
+fn closing_at(
+    alloc: Global,
+    room: Room,
+    lexemes: &[Lexeme],
+) -> Result<(Vec<Stage>, u64, &[Lexeme]), QueryError>
+    ensures { Reads (λ x. (map stage_form x.0.items, x.1, x.2.now)) result (λ cramped. closing_at cramped room lexemes.now) }
 {
-    let (front, rest) = stages_in(alloc, lexemes)?;
-    timed_at(alloc, front, rest)
+    let (front, rest) = stages_in(alloc, room, lexemes)?;
+    timed_at(alloc, room, front, rest)
+}
+
+// The room inside one parenthesis more.
+fn deeper(room: Room) -> Result<Room, QueryFault>
+    ensures { result ≡ deeper room.depth room }
+{
+    if room.depth == 0 {
+        return Err(QueryFault::TooDeep);
+    }
+    Ok(Room {
+        depth: room.depth - 1,
+        stages: room.stages,
+        tests: room.tests,
+    })
+}
+
+// An opening parenthesis, and the room inside it.
+#[tactic(auto, unfolding(crate::specs::Parsing::opened_at))]
+pub(crate) fn opened_at(
+    position: Position,
+    room: Room,
+    lexemes: &[Lexeme],
+) -> Result<(Room, &[Lexeme]), QueryFault>
+    ensures { Answers (λ x. (x.0, x.1.now)) result (opened_at position room lexemes.now) }
+{
+    let behind = expected(Sign::OpenParenthesis, position, lexemes)?;
+    let inside = deeper(room)?;
+    Ok((inside, behind))
 }
 
 // The selector, the stages and the range in parentheses, behind the name of the aggregation.
 #[tactic(auto, using(crate::proofs::Cramped::range_late), unfolding(crate::specs::Parsing::range_at))]
-fn range_at(alloc: Global, lexemes: &[Lexeme]) -> Result<(LogRange, &[Lexeme]), QueryError>
-    ensures { Reads (λ x. (range_form x.0, x.1.now)) result (λ cramped. range_at cramped lexemes.now) }
+pub(crate) fn range_at(
+    alloc: Global,
+    room: Room,
+    lexemes: &[Lexeme],
+) -> Result<(DraftRange, &[Lexeme]), QueryError>
+    ensures { Reads (λ x. (range_draft x.0, x.1.now)) result (λ cramped. range_at cramped room lexemes.now) }
 {
-    let rest = expected(Sign::OpenParenthesis, Position::Elsewhere, lexemes)?;
+    let (inside, rest) = opened_at(Position::Elsewhere, room, lexemes)?;
     let rest = expected(Sign::OpenBrace, Position::Elsewhere, rest)?;
     let (selector, rest) = selector_at(alloc, rest)?;
-    let (stages, seconds, rest) = closing_at(alloc, rest)?;
-    let stages = PlainList::from_vec(stages);
-    let range = LogRange {
+    let (stages, seconds, rest) = closing_at(alloc, inside, rest)?;
+    let range = DraftRange {
         selector,
         stages,
         seconds,
     };
     Ok((range, rest))
-}
-
-// A range aggregation.
-#[tactic(auto, unfolding(crate::specs::Parsing::term_at))]
-fn term_at(alloc: Global, lexemes: &[Lexeme]) -> Result<(Term, &[Lexeme]), QueryError>
-    ensures { Reads (λ x. (term_form x.0, x.1.now)) result (λ cramped. term_at cramped lexemes.now) }
-{
-    let (lexeme, rest) = next(lexemes)?;
-    let function = function_of(lexeme)?;
-    let (range, rest) = range_at(alloc, rest)?;
-    Ok((Term { function, range }, rest))
 }
 
 /// The query that a whole text is, or the first fault from the left (LogQL).
@@ -619,24 +664,4 @@ fn read(alloc: Global, text: &str) -> Result<Query, QueryError>
 {
     let lexemes = lexemes_of(alloc, text)?;
     query_in(alloc, &lexemes)
-}
-
-// The query that all tokens are.
-#[tactic(auto, using(crate::proofs::Cramped::query_late), unfolding(crate::specs::Parsing::query_in))]
-fn query_in(alloc: Global, lexemes: &[Lexeme]) -> Result<Query, QueryError>
-    ensures { Reads query_form result (λ cramped. query_in cramped lexemes.now) }
-{
-    let (left, rest) = term_at(alloc, lexemes)?;
-    let (lexeme, _) = next(rest)?;
-    ends(lexeme)?;
-    Ok(Query { left })
-}
-
-fn ends(lexeme: &Lexeme) -> Result<(), QueryFault>
-    ensures { result ≡ ends lexeme.now.place lexeme.now.token }
-{
-    match &lexeme.token {
-        Token::End => Ok(()),
-        token => Err(refusal(Position::BehindTerm, lexeme.place, token)),
-    }
 }

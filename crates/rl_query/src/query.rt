@@ -1,25 +1,35 @@
 //! Queries as values. Their limits are facts of the types, so a query always has a text that is read again.
 ghost use Rattle.std.specs.Prelude.{◌≡◌, ◌≤◌, IsTrue, length};
-ghost use Rattle.rl_query.specs.Limits.{has_real_matcher, longest_range, most_stages, most_tests};
-ghost use Rattle.rl_query.specs.Stages.{count_parsers, count_label_tests, are_shallow};
+ghost use Rattle.rl_query.specs.Limits.{has_real_matcher, longest_range, most_aggregations, most_stages, most_tests};
+ghost use Rattle.rl_query.specs.Stages.{count_parsers, count_label_tests, are_shallow_in, in_both};
 ghost use Rattle.rl_query.specs.Tables.{function_text, function_with_text};
 
+use crate::aggregation::{Aggregation, Threshold};
 use crate::stages::Stage;
 use rl_labels::Matcher;
 use rl_plain::{PlainList, Same, TryCopy};
 use std::alloc::AllocError;
 
-/// A metric query.
+/// A metric query: a term, or the ratio of two, whose elements are perhaps compared with a number. Both terms together have at most 256 stages and 256 label tests.
 #[derive(Debug, Drop, PartialEq, Eq)]
 pub struct Query {
     pub left: Term,
+    /// What it is divided by.
+    pub over: Option<Term>,
+    pub test: Option<Threshold>,
+    ghost few: { in_both (λ term. length term.range.stages) left over ≤ most_stages },
+    ghost few_tests: { in_both (λ term. count_label_tests term.range.stages) left over ≤ most_tests },
 }
 
-/// A range aggregation over a log range.
+/// At most 8 vector aggregations around a range aggregation. Its tests keep to the parentheses that these leave: at most 64 are open at once.
 #[derive(Debug, Drop, PartialEq, Eq)]
 pub struct Term {
+    /// The outermost first.
+    pub aggregations: PlainList<Aggregation>,
     pub function: RangeFunction,
     pub range: LogRange,
+    ghost nested: { length aggregations ≤ most_aggregations },
+    ghost shallow: { IsTrue (are_shallow_in aggregations range.stages) },
 }
 
 /// What a range aggregation computes of the lines in its range (LogQL).
@@ -75,7 +85,7 @@ impl RangeFunction {
     }
 }
 
-/// The lines of a selector's streams that go through each stage, over a range. There are at most 256 stages, one parser, 256 label tests, and 63 parentheses open at once in tests.
+/// The lines of a selector's streams that go through each stage, over a range. There are at most 256 stages, one parser and 256 label tests.
 #[derive(Debug, Drop, PartialEq, Eq)]
 pub struct LogRange {
     pub selector: Selector,
@@ -85,7 +95,6 @@ pub struct LogRange {
     ghost few: { length stages ≤ most_stages },
     ghost one_parser: { count_parsers stages ≤ 1 },
     ghost few_tests: { count_label_tests stages ≤ most_tests },
-    ghost shallow: { IsTrue (are_shallow stages) },
     ghost in_range: { (1 ≤ seconds) × (seconds ≤ longest_range) },
 }
 
@@ -131,8 +140,10 @@ impl Same for LogRange {
 
 impl TryCopy for Term {
     fn try_copy(&self) -> Result<Self, AllocError> {
+        let aggregations = self.aggregations.try_copy()?;
         let range = self.range.try_copy()?;
         Ok(Term {
+            aggregations,
             function: self.function,
             range,
         })
@@ -141,19 +152,25 @@ impl TryCopy for Term {
 
 impl Same for Term {
     fn is_same(&self, other: &Self) -> bool {
-        self.function == other.function && self.range.is_same(&other.range)
+        self.function == other.function
+            && self.aggregations.is_same(&other.aggregations)
+            && self.range.is_same(&other.range)
     }
 }
 
 impl TryCopy for Query {
     fn try_copy(&self) -> Result<Self, AllocError> {
         let left = self.left.try_copy()?;
-        Ok(Query { left })
+        let over = self.over.try_copy()?;
+        let test = self.test.try_copy()?;
+        Ok(Query { left, over, test })
     }
 }
 
 impl Same for Query {
     fn is_same(&self, other: &Self) -> bool {
         self.left.is_same(&other.left)
+            && self.over.is_same(&other.over)
+            && self.test.is_same(&other.test)
     }
 }

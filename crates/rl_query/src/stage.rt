@@ -5,13 +5,14 @@ ghost use Rattle.rl_query.specs.Answering.{Reads, IsForRoom};
 ghost use Rattle.rl_labels.specs.Operators.{is_by_pattern};
 ghost use Rattle.rl_query.specs.TestTree.{any_test};
 ghost use Rattle.rl_query.specs.Form.{test_form, tests_form, test_has_pattern, filter_form, filters_have_pattern, stage_form, stage_has_pattern, stages_have_pattern, parses};
-ghost use Rattle.rl_query.specs.Limits.{is_line_pattern, most_stages, most_tests, most_depth};
+ghost use Rattle.rl_query.specs.Limits.{is_line_pattern, most_stages};
 ghost use Rattle.rl_query.specs.Parsing.{filter_op, filter_text, checked_filter, filter_at, filters_at, roomy_filters, filters_in, begins_stage, stage_comes, named_parser, parser_of, only_parser, is_later_stage_word, operator_comes, word_begins, parenthesis_begins, tests_begin, tested_at, piped_at, stage_at, stages_at, roomy_stages, stages_in, behind_stage, behind_stages};
 
 use crate::fault::{QueryError, QueryFault};
 use crate::filter::{LineFilter, LineOp};
 use crate::label_test::{LabelTest, LabelTests, TestParts};
 use crate::parser::{Position, is_match, is_one_of, is_sign, next, refusal};
+use crate::room::Room;
 use crate::stages::{Parser, Stage};
 use crate::testing::{compares, tests_at};
 use crate::token::{Lexeme, Sign, Token};
@@ -21,13 +22,7 @@ use rl_plain::{OrMemory, PlainText, TryCopy};
 use std::alloc::Global;
 
 // The most stages of a text.
-const MOST_STAGES: usize = 256;
-
-// The most label tests of a range.
-const MOST_TESTS: usize = 256;
-
-// The most parentheses that label tests have open at once, beside the one of the range.
-const MOST_DEPTH: usize = 63;
+pub(crate) const MOST_STAGES: usize = 256;
 
 /// The words that begin a stage in LogQL. `json` and `logfmt` are supported in lower case, the others in no case.
 pub const LATER_STAGES: [&str; 12] = [
@@ -260,14 +255,15 @@ fn parenthesis_begins(place: usize, token: &Token) -> Result<(), QueryFault>
 #[tactic(auto, unfolding(crate::specs::Parsing::tested_at))]
 fn tested_at(
     alloc: Global,
+    depth: usize,
     left: usize,
     lexemes: &[Lexeme],
 ) -> Result<(Stage, usize, &[Lexeme]), QueryError>
-    ensures { Gives (λ x. (stage_form x.0, x.1, x.2.now)) result (tested_at left lexemes.now) }
+    ensures { Gives (λ x. (stage_form x.0, x.1, x.2.now)) result (tested_at depth left lexemes.now) }
 {
     let (first, rest) = next(lexemes)?;
     tests_begin(first, rest)?;
-    let (tests, left, rest) = tests_at(alloc, MOST_DEPTH, left, lexemes)?;
+    let (tests, left, rest) = tests_at(alloc, depth, left, lexemes)?;
     Ok((Stage::Tests(tests), left, rest))
 }
 
@@ -276,17 +272,18 @@ fn tested_at(
 fn piped_at(
     alloc: Global,
     parsed: bool,
+    depth: usize,
     left: usize,
     lexemes: &[Lexeme],
 ) -> Result<(Stage, usize, &[Lexeme]), QueryError>
-    ensures { Gives (λ x. (stage_form x.0, x.1, x.2.now)) result (piped_at parsed left lexemes.now) }
+    ensures { Gives (λ x. (stage_form x.0, x.1, x.2.now)) result (piped_at parsed depth left lexemes.now) }
 {
     let (first, rest) = next(lexemes)?;
     if let Some(parser) = parser_of(&first.token) {
         let parser = only_parser(parsed, parser)?;
         return Ok((Stage::Parser(parser), left, rest));
     }
-    tested_at(alloc, left, lexemes)
+    tested_at(alloc, depth, left, lexemes)
 }
 
 // A stage, where one comes.
@@ -294,17 +291,18 @@ fn piped_at(
 fn stage_at(
     alloc: Global,
     parsed: bool,
+    depth: usize,
     left: usize,
     lexemes: &[Lexeme],
 ) -> Result<(Stage, usize, &[Lexeme]), QueryError>
-    ensures { Gives (λ x. (stage_form x.0, x.1, x.2.now)) result (stage_at parsed left lexemes.now) }
+    ensures { Gives (λ x. (stage_form x.0, x.1, x.2.now)) result (stage_at parsed depth left lexemes.now) }
 {
     let (sign, rest) = next(lexemes)?;
     if let Some(op) = filter_op(&sign.token) {
         let (filter, rest) = filter_at(op, rest)?;
         return Ok((Stage::Filter(filter), left, rest));
     }
-    piped_at(alloc, parsed, left, rest)
+    piped_at(alloc, parsed, depth, left, rest)
 }
 
 // Whether a parser was read, before a stage or with it.
@@ -315,18 +313,22 @@ fn is_parsed(before: bool, stage: &Stage) -> bool
 }
 
 // Stages, as many as there are.
-fn stages_at(alloc: Global, lexemes: &[Lexeme]) -> Result<(Vec<Stage>, &[Lexeme]), QueryError>
-    ensures { Gives (λ x. (map stage_form x.0.items, x.1.now)) result (stages_at false most_tests most_stages lexemes.now) }
+fn stages_at(
+    alloc: Global,
+    room: Room,
+    lexemes: &[Lexeme],
+) -> Result<(Vec<Stage>, &[Lexeme]), QueryError>
+    ensures { Gives (λ x. (map stage_form x.0.items, x.1.now)) result (stages_at false room.depth room.tests room.stages lexemes.now) }
 {
     let mut stages = Vec::new(alloc);
     let mut parsed = false;
-    let mut left = MOST_TESTS;
+    let mut left = room.tests;
     let mut rest = lexemes;
-    for _turn in 0..MOST_STAGES {
+    for _turn in 0..room.stages {
         if !stage_comes(rest)? {
             return Ok((stages, rest));
         }
-        let (stage, fewer, behind) = stage_at(alloc, parsed, left, rest)?;
+        let (stage, fewer, behind) = stage_at(alloc, parsed, room.depth, left, rest)?;
         parsed = is_parsed(parsed, &stage);
         left = fewer;
         stages.push(stage)?;
@@ -339,7 +341,7 @@ fn stages_at(alloc: Global, lexemes: &[Lexeme]) -> Result<(Vec<Stage>, &[Lexeme]
 // No stage comes where there may be no more.
 #[tactic(auto, unfolding(crate::specs::Parsing::stages_at))]
 fn no_stage(lexemes: &[Lexeme]) -> Result<(), QueryFault>
-    ensures { (parsed : Bool) (left : ℕ) → Answers (λ _. ([], lexemes.now)) result (stages_at parsed left 0 lexemes.now) }
+    ensures { (parsed : Bool) (depth left : ℕ) → Answers (λ _. ([], lexemes.now)) result (stages_at parsed depth left 0 lexemes.now) }
 {
     if stage_comes(lexemes)? {
         return Err(QueryFault::TooDeep);
@@ -406,11 +408,12 @@ fn matcher_has_room(matcher: &Matcher) -> Result<(), QueryError>
 #[tactic(auto, unfolding(crate::specs::Parsing::stages_in))]
 pub(crate) fn stages_in(
     alloc: Global,
+    room: Room,
     lexemes: &[Lexeme],
 ) -> Result<(Vec<Stage>, &[Lexeme]), QueryError>
-    ensures { Reads (λ x. (map stage_form x.0.items, x.1.now)) result (λ cramped. stages_in cramped lexemes.now) }
+    ensures { Reads (λ x. (map stage_form x.0.items, x.1.now)) result (λ cramped. stages_in cramped room lexemes.now) }
 {
-    let (stages, rest) = stages_at(alloc, lexemes)?;
+    let (stages, rest) = stages_at(alloc, room, lexemes)?;
     stages_have_room(alloc, &stages)?;
     Ok((stages, rest))
 }

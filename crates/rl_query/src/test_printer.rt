@@ -46,7 +46,7 @@ fn tests_text(alloc: Global, tests: &LabelTests) -> Result<String, AllocError>
 }
 
 // The sign that is printed of a comparison.
-fn comparison_sign(comparison: Comparison) -> Sign
+pub(crate) fn comparison_sign(comparison: Comparison) -> Sign
     ensures { result ≡ comparison_sign comparison }
 {
     match comparison {

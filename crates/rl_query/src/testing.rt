@@ -21,7 +21,7 @@ use rl_labels::{Decimal, Duration, Size};
 use rl_plain::{PlainText, TryCopy};
 use std::alloc::Global;
 
-fn is_word(word: &str, token: &Token) -> bool
+pub(crate) fn is_word(word: &str, token: &Token) -> bool
     ensures { result ≡ is_word word.now token.now }
 {
     match token {
@@ -66,7 +66,7 @@ fn one_fewer(most: usize) -> Result<usize, QueryFault>
 }
 
 // The comparison that a sign is.
-fn comparison_of(sign: Sign) -> Option<Comparison>
+pub(crate) fn comparison_of(sign: Sign) -> Option<Comparison>
     ensures { result ≡ comparison_of sign }
 {
     match sign {
