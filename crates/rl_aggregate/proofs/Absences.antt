@@ -1,11 +1,15 @@
 -- Labels that are told one matcher after another, from the last to the first; and an absence that is found of a partial.
-use Rattle.std.proofs.Common.{◌≡◌, cond, true, false, List, [], ◌∷◌, ◌++◌, map, get_or, Result, Ok, Err, IfOk, refl, ap, ◌∙◌}
+use Rattle.std.proofs.Common.{◌≡◌, nat_lt, ◌||◌, cond, true, false, List, [], ◌∷◌, ◌++◌, map, refl, ap, ◌∙◌}
+use Rattle.std.specs.Prelude.{option_to_list}
 use Rattle.std.specs.List.{filter}
 use Rattle.rl_labels.specs.LabelSet.{LabelSet, no_labels, with_label, label_set_of}
 use Rattle.rl_labels.specs.declared.matcher.Matcher.{Matcher}
 use Rattle.rl_query.specs.declared.query.Query.{Query}
 use Rattle.rl_aggregate.specs.Absence.{tells_label}
-use Rattle.rl_aggregate.specs.Evaluated.{range_value, IsAbsent}
+use Rattle.rl_aggregate.specs.Evaluated.{finished, over_vector, range_value, samples_by, tested_by, terms_of, IsAbsence, IsAbsent}
+use Rattle.rl_aggregate.specs.Grouping.{aggregated_by}
+use Rattle.rl_aggregate.specs.Partials.{partial}
+use Rattle.rl_aggregate.specs.declared.outcome.Outcome.TheVariants as outcomes
 use Rattle.rl_aggregate.specs.laws.Absences.{absent-elements}
 use Rattle.rl_aggregate.specs.declared.partial.Partial.{Partial}
 use Rattle.rl_aggregate.specs.declared.outcome.Outcome.{Outcome}
@@ -33,7 +37,14 @@ pub told-last : (all matchers : List Matcher) (last : Matcher) (labels : LabelSe
 told-last all [] last labels = refl
 told-last all (m ∷ ms) last labels = ap (λ told. told_one all told m) (told-last all ms last labels)
 
--- the value of the first partial is the absence of the elements that it is of
-pub absent-found : {E : Type 0} (query : Query) (partials : List Partial) (first : Partial) (found : Result Outcome E) → first ≡ get_or partials 0 first → IfOk found (λ outcome. outcome ≡ range_value query.left first) → IfOk found (IsAbsent query partials)
-absent-found query partials first (Ok outcome) item value = λ entries t is same. value ∙ ap (range_value query.left) (item ∙ ap (λ ps. get_or ps 0 first) same) ∙ absent-elements query.left entries t is
-absent-found query partials first (Err e) item value = value
+-- absent_over_time alone is its range aggregation
+absence-value : (query : Query) (first : Partial) → IsAbsence query → finished query (first ∷ []) ≡ range_value query.left first
+absence-value query first is =
+    let alone : (nat_lt 0 first.errors || false) ≡ nat_lt 0 first.errors = elim (nat_lt 0 first.errors) as (λ b. (b || false) ≡ b) [ true ↦ refl | false ↦ refl ] in
+    λ i. cond (alone i) outcomes.Failed (outcomes.Vector (tested_by (is.1.1.1 i) (over_vector (is.1.1.0 i) (aggregated_by (is.1.0 i) (samples_by query.left.function query.left first.totals)) [])))
+
+-- so its outcome is the absence of the elements that its partial is of
+pub absent-found : (query : Query) (partials : List Partial) (outcome : Outcome) → outcome ≡ finished query partials → IsAbsent query partials outcome
+absent-found query partials outcome value = λ entries t is same.
+    let terms : terms_of query ≡ query.left ∷ [] = ap (λ over. query.left ∷ option_to_list over) is.1.1.0 in
+    value ∙ ap (finished query) (same ∙ ap (map (λ term. partial entries term t)) terms) ∙ absence-value query (partial entries query.left t) is ∙ absent-elements query.left entries t is.0

@@ -20,7 +20,7 @@ abbrev pub totals_in : Entries → TotalsMap
 totals_in es = from_entries {R = label_set_cmp} es
 
 -- the total that the tree has at a label set
-total_at-totals_in : (es : Entries) (q : LabelSet) → total_at (totals_in es) q ≡ unwrap_or (lookup (is_at (label_set_cmp q)) es) no_total
+pub total_at-totals_in : (es : Entries) (q : LabelSet) → total_at (totals_in es) q ≡ unwrap_or (lookup (is_at (label_set_cmp q)) es) no_total
 total_at-totals_in es q = ap (λ t. unwrap_or t no_total) (get-of_tree label_set_cmp_total es q)
 
 -- where the tree has one

@@ -1,7 +1,12 @@
 pub mod Absence
 pub mod Evaluated
+pub mod Grouping
+pub mod GroupsMap
 pub mod InRange
+pub mod Limited
 pub mod Partials
+pub mod Ratios
 pub mod Runs
 pub mod TotalsMap
+pub mod Vectors
 pub mod laws

@@ -1,3 +1,6 @@
 -- Laws and lemmas that the crates above rest on.
 pub mod Absences
+pub mod Bounds
+pub mod Groups
+pub mod Sums
 pub mod Totals

@@ -4,13 +4,20 @@
 //! one list of entries followed by another is the merge of their partials, and the order of entries does not matter.
 //!
 //! - `total`, `totals`: counts and bytes, by label set. `partial`: `Partial`, `merge`. `range`: `scratch`.
+//! - `aggregation`: what vector aggregations make of a vector, with `group_labels` and `groups`, and `topk`. `ratio` and `threshold`: ratios of vectors, and what is left of them.
 //! - `outcome`: `Outcome`, `Sample`, `Fraction`. `absence`: what `absent_over_time` gives. `vector`: `finish`.
 #![tactic(auto)]
 
 pub mod absence;
+mod aggregation;
+mod group_labels;
+mod groups;
 pub mod outcome;
 pub mod partial;
 pub mod range;
+mod ratio;
+mod threshold;
+mod topk;
 pub mod total;
 pub mod totals;
 pub mod vector;

@@ -1,6 +1,8 @@
 //! What the elements of a range add up to, on one shard or on several.
 ghost use Rattle.std.specs.Prelude.{◌≡◌, IfOk, IsOk};
+ghost use Rattle.std.specs.Bool.{Decides};
 ghost use Rattle.std.specs.FinMap as map;
+ghost use Rattle.rl_aggregate.specs.Limited.{IsLimited};
 ghost use Rattle.rl_aggregate.specs.TotalsMap.{HasAll};
 ghost use Rattle.rl_aggregate.specs.Partials.{merge, Fits, IsOfBoth};
 
@@ -26,6 +28,14 @@ impl Partial {
             errors: 0,
             totals: Totals::new(alloc),
         }
+    }
+
+    /// Whether it is within the limits of one term: at most 2^30 lines and as many label sets, and less than 2^46 bytes.
+    pub fn is_limited(&self) -> bool
+        ensures { Decides result (IsLimited self.now) }
+    {
+        let sum = self.totals.sum();
+        self.totals.len() <= 1 << 30 && sum.count <= 1 << 30 && sum.bytes < 1 << 46
     }
 }
 

@@ -211,7 +211,7 @@ fn count_one(
         return Ok(());
     }
     let bytes = entry.line.len() as u64;
-    found.totals.add(&labels, Total { count: 1, bytes })
+    found.totals.add_owned(labels, Total { count: 1, bytes })
 }
 
 // Whether a pipeline could not make sense of the line.

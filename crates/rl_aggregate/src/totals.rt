@@ -1,10 +1,15 @@
 //! Totals by label set.
-ghost use Rattle.std.specs.Prelude.{◌≡◌, ◌==◌, IfOk, IsOk, OnOk, OnErr, IsTrue};
+ghost use Rattle.std.specs.Prelude.{◌≡◌, ◌==◌, ◌-◌, ◌^◌, min, IfOk, IsOk, OnOk, OnErr, IsTrue, Some, if◌then◌else◌};
+ghost use Rattle.std.specs.BTreeMap as tree;
+ghost use Rattle.std.specs.BTreeMap.{is_at};
 ghost use Rattle.std.specs.FinMap as map;
-ghost use Rattle.rl_aggregate.specs.TotalsMap.{added, plus, total_at, HasAll};
+ghost use Rattle.std.specs.Option.{unwrap_or};
+ghost use Rattle.rl_aggregate.specs.TotalsMap.{added, no_total, plus, total_at, HasAll};
 ghost use Rattle.rl_aggregate.specs.Partials.{TotalFits, both_totals};
 ghost use Rattle.rl_aggregate.specs.Evaluated.{samples};
+ghost use Rattle.rl_aggregate.specs.Limited.{sum_of};
 ghost use Rattle.rl_labels.specs.LabelSet.{LabelSet};
+ghost use Rattle.rl_labels.specs.LabelText.{label_set_cmp};
 
 use crate::outcome::{Fraction, Sample};
 use crate::total::Total;
@@ -14,6 +19,9 @@ use rl_query::Term;
 use std::alloc::{AllocError, Global};
 use std::collections::BTreeMap;
 use std::marker::Model;
+
+// What nothing adds up to.
+const NOTHING: Total = Total { count: 0, bytes: 0 };
 
 /// Totals by label set. Contracts see a finite map.
 #[derive(Debug, Drop)]
@@ -80,6 +88,14 @@ impl Totals {
         Ok(())
     }
 
+    // The same with a label set that is owned, which is sought once.
+    pub(crate) fn add_owned(&mut self, labels: Labels, total: Total) -> Result<(), AllocError>
+        requires { TotalFits (plus (total_at self.old labels) total) }
+        ensures { OnOk result (self.new ≡ added self.old labels total) }
+    {
+        add_at(&mut self.by_labels, labels, total)
+    }
+
     // Adds each total of the others at its label set.
     pub(crate) fn add_all(&mut self, others: &Totals) -> Result<(), AllocError>
         requires { (labels : LabelSet) → TotalFits (plus (total_at self.old labels) (total_at others.now labels)) }
@@ -90,6 +106,20 @@ impl Totals {
             self.add(labels, *total)?;
         }
         Ok(())
+    }
+
+    // The sum of all totals, as far as 64 bits hold it.
+    pub(crate) fn sum(&self) -> Total
+        ensures count { result.count ≡ min (sum_of (λ total. total.count) self.now) (2 ^ 64 - 1) }
+        ensures bytes { result.bytes ≡ min (sum_of (λ total. total.bytes) self.now) (2 ^ 64 - 1) }
+    {
+        let mut count = 0u64;
+        let mut bytes = 0u64;
+        for (_, total) in self.by_labels.iter() {
+            count = count.saturating_add(total.count);
+            bytes = bytes.saturating_add(total.bytes);
+        }
+        Total { count, bytes }
     }
 
     // An element of a vector for each label set, in their order.
@@ -104,6 +134,21 @@ impl Totals {
         }
         Ok(samples)
     }
+}
+
+// Adds a total at a label set, which is sought once.
+fn add_at(
+    by_labels: &mut BTreeMap<Labels, Total>,
+    labels: Labels,
+    total: Total,
+) -> Result<(), AllocError>
+    requires { TotalFits (plus (unwrap_or (tree.get label_set_cmp by_labels.old labels) no_total) total) }
+    ensures { OnOk result ((q : LabelSet) → tree.get label_set_cmp by_labels.new q ≡ (if is_at (label_set_cmp labels) q then Some (plus (unwrap_or (tree.get label_set_cmp by_labels.old labels) no_total) total) else tree.get label_set_cmp by_labels.old q)) }
+{
+    let there = by_labels.entry(labels)?.or_insert(NOTHING);
+    there.count += total.count;
+    there.bytes += total.bytes;
+    Ok(())
 }
 
 impl TryCopy for Totals {

@@ -1,40 +1,104 @@
 //! What a query gives, of what its terms add up to.
-ghost use Rattle.std.specs.Prelude.{◌≡◌, length, IfOk, IsOk};
-ghost use Rattle.rl_aggregate.specs.Evaluated.{finished, range_value, samples_by, terms_of, IsEvaluated, IsAbsent};
+ghost use Rattle.std.specs.Prelude.{◌≡◌, ◌<◌, ◌^◌, length, IfOk, IsOk};
+ghost use Rattle.std.specs.List.{AllByRecursion};
+ghost use Rattle.rl_aggregate.specs.Evaluated.{finished, have_errors, over_vector, query_vector, samples_by, term_vector, tested_by, terms_of, IsEvaluated, IsAbsent};
+ghost use Rattle.rl_aggregate.specs.Limited.{IsLimited};
+ghost use Rattle.rl_aggregate.specs.Vectors.{IsOfQuery};
 ghost use Rattle.rl_aggregate.specs.declared.outcome.Outcome.TheVariants as outcomes;
 
 use crate::absence::absence;
+use crate::aggregation::aggregate_all;
 use crate::outcome::{Outcome, Sample};
 use crate::partial::Partial;
+use crate::ratio::divide;
+use crate::threshold::compare;
 use crate::totals::Totals;
 use rl_plain::PlainList;
-use rl_query::{Query, RangeFunction, Term};
+use rl_query::{Query, RangeFunction, Term, Threshold};
 use std::alloc::{AllocError, Global};
 
 /// The outcome of a query, with one partial for each of its terms. A query that fails takes no memory.
 pub fn finish(alloc: Global, query: &Query, partials: &[Partial]) -> Result<Outcome, AllocError>
-    requires { length partials.now ≡ length (terms_of query.now) }
+    requires partials { length partials.now ≡ length (terms_of query.now) }
+    requires limited { AllByRecursion IsLimited partials.now }
     ensures finished { IfOk result (λ outcome. outcome ≡ finished query.now partials.now) }
     ensures failed { finished query.now partials.now ≡ outcomes.Failed → IsOk result }
     ensures evaluated { IfOk result (IsEvaluated query.now partials.now) }
     ensures absent { IfOk result (IsAbsent query.now partials.now) }
 {
+    if have_errors(partials) {
+        return Ok(Outcome::Failed);
+    }
+    let samples = query_vector(alloc, query, partials)?;
+    Ok(Outcome::Vector(PlainList::from_vec(samples)))
+}
+
+// Whether a line of some term has an error.
+fn have_errors(partials: &[Partial]) -> bool
+    ensures { result ≡ have_errors partials.now }
+{
+    partials.iter().any(|partial| partial.errors > 0)
+}
+
+// The vector of a query.
+fn query_vector(
+    alloc: Global,
+    query: &Query,
+    partials: &[Partial],
+) -> Result<Vec<Sample>, AllocError>
+    requires partials { length partials.now ≡ length (terms_of query.now) }
+    requires limited { AllByRecursion IsLimited partials.now }
+    ensures { IfOk result (λ samples. samples.items ≡ query_vector query.now partials.now) }
+{
     match partials {
-        [] => Ok(Outcome::Vector(PlainList::new(alloc))),
-        [partial, ..] => range_value(alloc, &query.left, partial),
+        [] => Ok(Vec::new(alloc)),
+        [partial, rest @ ..] => {
+            let samples = quotient(alloc, query, partial, rest)?;
+            Ok(tested_by(&query.test, samples))
+        }
     }
 }
 
-// What a range aggregation gives.
-fn range_value(alloc: Global, term: &Term, partial: &Partial) -> Result<Outcome, AllocError>
-    ensures value { IfOk result (λ outcome. outcome ≡ range_value term.now partial.now) }
-    ensures failed { range_value term.now partial.now ≡ outcomes.Failed → IsOk result }
+// The vector of a query's term, over that of its divisor, if it has one.
+fn quotient(
+    alloc: Global,
+    query: &Query,
+    partial: &Partial,
+    rest: &[Partial],
+) -> Result<Vec<Sample>, AllocError>
+    requires limited { IsLimited partial.now }
+    requires rest_limited { AllByRecursion IsLimited rest.now }
+    ensures quotient { IfOk result (λ samples. samples.items ≡ over_vector query.now.over (term_vector query.now.left partial.now.totals) rest.now) }
+    ensures small { IfOk result (λ samples. AllByRecursion IsOfQuery samples.items) }
 {
-    if partial.errors > 0 {
-        return Ok(Outcome::Failed);
+    let samples = term_vector(alloc, &query.left, partial)?;
+    match (&query.over, rest) {
+        (Some(term), [divisor, ..]) => {
+            let divisors = term_vector(alloc, term, divisor)?;
+            divide(alloc, samples, &divisors)
+        }
+        _ => Ok(samples),
     }
+}
+
+// The vector of a term without errors.
+fn term_vector(alloc: Global, term: &Term, partial: &Partial) -> Result<Vec<Sample>, AllocError>
+    requires { IsLimited partial.now }
+    ensures { IfOk result (λ samples. samples.items ≡ term_vector term.now partial.now.totals) }
+{
     let samples = samples_of(alloc, term, &partial.totals)?;
-    Ok(Outcome::Vector(PlainList::from_vec(samples)))
+    aggregate_all(alloc, term.aggregations.as_slice(), samples)
+}
+
+// What a threshold leaves of a vector, if there is one.
+fn tested_by(test: &Option<Threshold>, samples: Vec<Sample>) -> Vec<Sample>
+    requires { AllByRecursion IsOfQuery samples.items }
+    ensures { result.items ≡ tested_by test.now samples.items }
+{
+    match test {
+        Some(test) => compare(samples, test),
+        None => samples,
+    }
 }
 
 // The elements that a range aggregation gives of totals.

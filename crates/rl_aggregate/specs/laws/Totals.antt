@@ -185,7 +185,7 @@ partial-permuted entries others term t moved =
     λ i. record { errors = sum_by-permuted (λ e. cond (has_error e.labels) 1 0) entries others term t moved i; totals = same i }
 
 -- a sum over the elements of a range, each of them within a bound
-sum_by-within : (f : Element → ℕ) (m : ℕ) (entries : List Entry) (term : Term) (t : ℕ) → ((e : Entry) → f (element term.range.stages e) ≤ m) → sum_by f (in_range entries term t) ≤ length entries * m
+pub sum_by-within : (f : Element → ℕ) (m : ℕ) (entries : List Entry) (term : Term) (t : ℕ) → ((e : Entry) → f (element term.range.stages e) ≤ m) → sum_by f (in_range entries term t) ≤ length entries * m
 sum_by-within f m [] term t within = omega arith
 sum_by-within f m (e ∷ es) term t within =
     elim (is_in_range term t e) as (λ b. sum_by f (map (element term.range.stages) (cond b (e ∷ filter (is_in_range term t) es) (filter (is_in_range term t) es))) ≤ length (e ∷ es) * m) [

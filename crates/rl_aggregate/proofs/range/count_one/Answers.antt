@@ -16,5 +16,5 @@ returns-then-has_error-clause-counted c = one_error c.in-Some.labels c.args.runn
 pub returns-clause-counted : goal.returns-clause-counted
 returns-clause-counted c =
     let found = c.args.found.now in
-    on_ok_weaker c.add.result (λ ok. ap (λ totals. record { errors = found.errors; totals = totals }) ok ∙ one_counted c.in-Some.labels c.args.running.now found c.args.entry.now c.len-bytes.result
-    (sym c.in-Some.is ∙ c.in_ok-labels.ensures.run ∙ ap (λ line. run c.args.running.now line c.args.entry.now.labels) c.as_str.ensures) (sym c.if-has_error.ensures) c.len-bytes.ensures) c.add.ensures.ok
+    on_ok_weaker c.add_owned.result (λ ok. ap (λ totals. record { errors = found.errors; totals = totals }) ok ∙ one_counted c.in-Some.labels c.args.running.now found c.args.entry.now c.len-bytes.result
+    (sym c.in-Some.is ∙ c.in_ok-labels.ensures.run ∙ ap (λ line. run c.args.running.now line c.args.entry.now.labels) c.as_str.ensures) (sym c.if-has_error.ensures) c.len-bytes.ensures) c.add_owned.ensures

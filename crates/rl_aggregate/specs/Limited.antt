@@ -1,0 +1,17 @@
+-- How much one term of a query may add up to, over all shards.
+use Rattle.std.specs.Prelude.{ℕ, ◌<◌, ◌≤◌, ◌^◌}
+use Rattle.std.specs.List.{sum_by}
+use Rattle.std.specs.FinMap.{entries, len}
+use Rattle.rl_aggregate.specs.TotalsMap.{TotalsMap}
+use Rattle.rl_aggregate.specs.declared.total.Total.{Total}
+use Rattle.rl_aggregate.specs.declared.partial.Partial.{Partial}
+
+-- a number of each total, of all label sets together
+abbrev pub sum_of : (Total → ℕ) → TotalsMap → ℕ
+sum_of number totals = sum_by (λ entry. number entry.1) (entries totals)
+
+-- at most as many lines and label sets as all shards may hold, and less bytes than that many lines may have
+pub record IsLimited (partial : Partial) : Type 0 where
+  pub sets : len partial.totals ≤ 2 ^ 30
+  pub counts : sum_of (λ total. total.count) partial.totals ≤ 2 ^ 30
+  pub bytes : sum_of (λ total. total.bytes) partial.totals < 2 ^ 46
