@@ -1,3 +1,5 @@
+mod Alerted
+pub mod Edited
 mod Named
 mod Places
 mod Recorded

@@ -5,19 +5,18 @@ use Rattle.toml.specs.Data.{Members}
 use Rattle.rl_plain.specs.Answers.{◌>>=◌}
 use Rattle.rl_query.specs.Answering.{is_bad_regex}
 use Rattle.rl_query.specs.Form.{QueryForm}
-use Rattle.rl_query.specs.Parsing.{query_of}
+use Rattle.rl_query.specs.QueryReading.{query_of}
 use Rattle.rl_query.specs.declared.fault.QueryFault.{QueryFault}
 use Rattle.rl_rules.specs.Answering.{Cramped, nowhere, cramped_by}
-use Rattle.rl_rules.specs.Document.{interval_of, limit_of, query_at, rule_at, group_at, each_from, tables_at, groups_are_named_well, has_same_group, has_too_many, checked, check_keys, document_groups}
+use Rattle.rl_rules.specs.Document.{interval_of, limit_of, hold_of, query_at, rule_at, group_at, each_from, tables_at, groups_are_named_well, has_same_group, has_too_many, checked, check_keys, document_groups}
 use Rattle.rl_rules.specs.Forms.{RuleForm, GroupForm}
-use Rattle.rl_rules.specs.Values.{text_at, texts_at}
-use Rattle.rl_rules.specs.declared.rule.RuleKind.TheVariants as rules
+use Rattle.rl_rules.specs.Values.{text_at, texts_at, labels_at, kind_of, name_of}
 use Rattle.rl_rules.specs.declared.fault.RulesFault.{RulesFault}
 use Rattle.rl_rules.specs.declared.fault.RulesFault.TheVariants as faults
 
 -- the rule of a table and its query
 abbrev made : Members → QueryForm → Result RuleForm RulesFault
-made t query = Ok (record { kind = rules.Recording; name = text_at (codes "record") t; query = query; labels = texts_at (codes "labels") t })
+made t query = Ok (record { kind = kind_of t; name = name_of t; query = query; labels = texts_at (codes "labels") t; hold = hold_of t; annotations = labels_at (codes "annotations") t })
 
 -- the group of a table and its rules
 abbrev gathered : Members → List RuleForm → Result GroupForm RulesFault

@@ -1,5 +1,5 @@
--- Samples that are named, sorted and compared with their neighbours are what a recording rule makes.
-use Rattle.std.proofs.Common.{◌≡◌, ℕ, zero, suc, ◌+◌, ◌<◌, ◌≤◌, Bool, true, false, cond, List, [], ◌∷◌, ◌++◌, map, length, get_or, take, drop, codes, Option, None, Some, refl, sym, ap, subst, ◌∙◌, arith, add-one}
+-- Samples that are named, sorted and compared with their neighbours are those of which a rule makes its outcome.
+use Rattle.std.proofs.Common.{◌≡◌, ℕ, zero, suc, ◌+◌, ◌<◌, ◌≤◌, Bool, true, false, cond, List, [], ◌∷◌, ◌++◌, map, length, get_or, take, drop, Option, None, Some, refl, sym, ap, subst, ◌∙◌, arith, add-one}
 use Rattle.std.proofs.Math.ListN.{set}
 use Rattle.std.specs.List.{list_any, dedup_from, AllByRecursion, IsDistinct}
 use Rattle.std.specs.List.Sorted.{IsPermutation, IsSorted, IsStrictlySortedBy}
@@ -21,9 +21,10 @@ use Rattle.rl_labels.specs.laws.TextLaws.{label_set_cmp_total, label_set_cmp-IsA
 use Rattle.rl_aggregate.specs.declared.outcome.Fraction.{Fraction}
 use Rattle.rl_aggregate.specs.declared.outcome.Sample.{Sample}
 use Rattle.rl_rules.specs.declared.rule.Rule.{Rule}
+use Rattle.rl_rules.specs.declared.evaluation.RuleOutcome.{RuleOutcome}
 use Rattle.rl_rules.specs.declared.evaluation.RuleOutcome.TheVariants as made
 use Rattle.rl_rules.specs.declared.evaluation.Cause.TheVariants as causes
-use Rattle.rl_rules.specs.Outcomes.{recorded_labels, recorded, has_same_labels, is_exceeded, in_order, samples_of}
+use Rattle.rl_rules.specs.Outcomes.{final_labels, final_elements, has_same_labels, is_exceeded, in_order, outcome_of}
 use Rattle.rl_rules.specs.Recording.{named, sample_cmp, has_same_neighbours}
 
 -- the first of some elements are changed, and then the next one
@@ -38,13 +39,19 @@ next_kept f (x ∷ xs) zero d h = refl
 next_kept f (x ∷ xs) (suc i) d h = next_kept f xs i d (omega arith)
 
 -- one sample more is named
-pub named_more : (rule : Rule) (old now : List Sample) (i : ℕ) (x : Sample) (labels : LabelSet) → i < length old → now ≡ map (named rule) (take i old) ++ drop i old → labels ≡ recorded_labels rule (get_or now i x).labels
+pub named_more : (rule : Rule) (old now : List Sample) (i : ℕ) (x : Sample) (labels : LabelSet) → i < length old → now ≡ map (named rule) (take i old) ++ drop i old → labels ≡ final_labels rule (get_or now i x).labels
     → set now i (record { labels = labels; value = (get_or now i x).value }) ≡ map (named rule) (take (i + 1) old) ++ drop (i + 1) old
 named_more rule old now i x labels within so_far set_to =
     let there : get_or now i x ≡ get_or old i x = ap (λ xs. get_or xs i x) so_far ∙ next_kept (named rule) old i x within in
     let made : ◌≡◌ {A = Sample} (record { labels = labels; value = (get_or now i x).value }) (named rule (get_or old i x)) =
-    λ j. record { labels = (set_to ∙ ap (λ (s : Sample). recorded_labels rule s.labels) there) j; value = (there j).value } in
+    λ j. record { labels = (set_to ∙ ap (λ (s : Sample). final_labels rule s.labels) there) j; value = (there j).value } in
     (λ j. set (so_far j) i (made j)) ∙ set_next (named rule) old i x within ∙ ap (λ n. map (named rule) (take n old) ++ drop n old) (sym (add-one i))
+
+-- all of a list, written over as many
+pub take_whole : (n : ℕ) (xs ys : List Sample) → n ≡ length xs → take n (xs ++ ys) ≡ xs
+take_whole n [] ys h = ap (λ m. take m ys) h
+take_whole zero (x ∷ xs) ys h = absurd (omega arith)
+take_whole (suc n) (x ∷ xs) ys h = ap (λ zs. x ∷ zs) (take_whole n xs ys (omega arith))
 
 -- at most one sample has no neighbour
 pub no_neighbours : (samples : List Sample) → length samples ≤ 1 → has_same_neighbours samples ≡ false
@@ -59,9 +66,9 @@ Element = LabelSet × Fraction
 abbrev pairs : List Sample → List Element
 pairs = map (λ sample. (sample.labels, sample.value))
 
-recorded-pairs : (rule : Rule) (samples : List Sample) → recorded rule samples ≡ pairs (map (named rule) samples)
-recorded-pairs rule [] = refl
-recorded-pairs rule (sample ∷ samples) = ap (λ es. (recorded_labels rule sample.labels, sample.value) ∷ es) (recorded-pairs rule samples)
+final-pairs : (rule : Rule) (samples : List Sample) → final_elements rule samples ≡ pairs (map (named rule) samples)
+final-pairs rule [] = refl
+final-pairs rule (sample ∷ samples) = ap (λ es. (final_labels rule sample.labels, sample.value) ∷ es) (final-pairs rule samples)
 
 back_again : (samples : List Sample) → map (λ (element : Element). record { labels = element.0; value = element.1 }) (pairs samples) ≡ samples
 back_again [] = refl
@@ -151,27 +158,27 @@ in_map es fs moved differ up =
 still_differ : (samples others : List Sample) → IsPermutation samples others → IsDistinct ties (keys_of (pairs samples)) → IsDistinct ties (keys_of (pairs others))
 still_differ samples others moved = IsDistinct-IsPermutation ties flips _ _ (IsPermutation-map (λ (e : Element). e.0) _ _ (IsPermutation-map (λ (s : Sample). (s.labels, s.value)) samples others moved))
 
--- which of the three a rule makes of elements is told by two tests
-module _ (rule : Rule) (limit : ℕ) (samples : List Sample) (exceeded : Bool) (count : is_exceeded limit (length samples) ≡ exceeded) where
+-- which of the three is made of elements is told by two tests
+module _ (rule : Rule) (limit : ℕ) (make : List Sample → RuleOutcome) (samples : List Sample) (exceeded : Bool) (count : is_exceeded limit (length samples) ≡ exceeded) where
   chosen : (b : Bool) → has_same_labels (pairs (map (named rule) samples)) ≡ b
-      → samples_of limit (recorded rule samples) ≡ cond b (made.Failed causes.SameLabels) (cond exceeded (made.Failed causes.LimitExceeded) (made.Samples (in_order (pairs (map (named rule) samples)))))
+      → outcome_of limit make (final_elements rule samples) ≡ cond b (made.Failed causes.SameLabels) (cond exceeded (made.Failed causes.LimitExceeded) (make (in_order (pairs (map (named rule) samples)))))
   chosen b is =
-      (λ i. cond (has_same_labels (recorded-pairs rule samples i)) (made.Failed causes.SameLabels) (cond (is_exceeded limit (length-map {B = Element} samples (λ sample. (recorded_labels rule sample.labels, sample.value)) i)) (made.Failed causes.LimitExceeded) (made.Samples (in_order (recorded-pairs rule samples i)))))
-      ∙ (λ i. cond (is i) (made.Failed causes.SameLabels) (cond (count i) (made.Failed causes.LimitExceeded) (made.Samples (in_order (pairs (map (named rule) samples))))))
+      (λ i. cond (has_same_labels (final-pairs rule samples i)) (made.Failed causes.SameLabels) (cond (is_exceeded limit (length-map {B = Element} samples (λ sample. (final_labels rule sample.labels, sample.value)) i)) (made.Failed causes.LimitExceeded) (make (in_order (final-pairs rule samples i)))))
+      ∙ (λ i. cond (is i) (made.Failed causes.SameLabels) (cond (count i) (made.Failed causes.LimitExceeded) (make (in_order (pairs (map (named rule) samples))))))
 
   -- two neighbours with one label set: the rule fails
-  pub same_recorded : (sorted : List Sample) → IsPermutation (map (named rule) samples) sorted → has_same_neighbours sorted ≡ true → made.Failed causes.SameLabels ≡ samples_of limit (recorded rule samples)
+  pub same_recorded : (sorted : List Sample) → IsPermutation (map (named rule) samples) sorted → has_same_neighbours sorted ≡ true → made.Failed causes.SameLabels ≡ outcome_of limit make (final_elements rule samples)
   same_recorded sorted moved neighbours =
       let ours = map (named rule) samples in
       let found : has_same_labels (pairs ours) ≡ true = true_from_ne_false _ (λ none. false≢true (sym (apart sorted (still_differ ours sorted moved (all_differ (pairs ours) none))) ∙ neighbours)) in
       sym (chosen true found)
 
-  -- none: it fails for its limit, or the samples are those of the map
+  -- none: it fails for its limit, or what is made is made of the samples of the map
   pub order_recorded : (sorted : List Sample) → IsPermutation (map (named rule) samples) sorted → IsSorted sample_cmp sorted → has_same_neighbours sorted ≡ false
-      → cond exceeded (made.Failed causes.LimitExceeded) (made.Samples sorted) ≡ samples_of limit (recorded rule samples)
+      → cond exceeded (made.Failed causes.LimitExceeded) (make sorted) ≡ outcome_of limit make (final_elements rule samples)
   order_recorded sorted moved up neighbours =
       let ours = map (named rule) samples in
       let higher = rise sorted up neighbours in
       let differ = still_differ sorted ours (IsPermutation-sym ours sorted moved) (IsDistinct-from_sorted label_set_cmp _ higher) in
       let listed : in_order (pairs ours) ≡ sorted = ap (map (λ (element : Element). record { labels = element.0; value = element.1 })) (in_map (pairs ours) (pairs sorted) (IsPermutation-map (λ (s : Sample). (s.labels, s.value)) ours sorted moved) differ higher) ∙ back_again sorted in
-      sym (chosen false (none_same (pairs ours) differ) ∙ ap (λ ss. cond exceeded (made.Failed causes.LimitExceeded) (made.Samples ss)) listed)
+      sym (chosen false (none_same (pairs ours) differ) ∙ ap (λ ss. cond exceeded (made.Failed causes.LimitExceeded) (make ss)) listed)

@@ -9,12 +9,13 @@ use Rattle.rl_labels.specs.LabelSet.{Pair}
 use Rattle.rl_labels.specs.Name.{is_text}
 use Rattle.rl_labels.specs.Pairs.{labels_from}
 use Rattle.rl_query.specs.Form.{QueryForm}
-use Rattle.rl_query.specs.Parsing.{query_of}
+use Rattle.rl_query.specs.QueryReading.{query_of}
 use Rattle.rl_query.specs.declared.fault.QueryFault.{QueryFault}
 use Rattle.rl_rules.specs.Answering.{Cramped}
 use Rattle.rl_rules.specs.Forms.{KeyForm, RuleForm, GroupForm}
 use Rattle.rl_rules.specs.RuleNames.{is_metric_name, is_group_name}
-use Rattle.rl_rules.specs.Values.{seconds_in, number_in, are_texts, text_at, texts_at}
+use Rattle.rl_rules.specs.Values.{seconds_in, number_in, are_texts, text_at, texts_at, labels_at, kind_of, name_of}
+use Rattle.rl_rules.specs.declared.rule.RuleKind.{RuleKind}
 use Rattle.rl_rules.specs.declared.rule.RuleKind.TheVariants as rules
 use Rattle.rl_rules.specs.declared.shape.Kind.{Kind}
 use Rattle.rl_rules.specs.declared.shape.Kind.TheVariants as kinds
@@ -50,13 +51,27 @@ group_keys =
     ∷ record { name = codes "limit"; kind = kinds.Number greatest_limit; need = needs.Optional }
     ∷ []
 
--- the keys of a rule
-abbrev pub rule_keys : List KeyForm
-rule_keys =
+-- the keys of a recording rule
+abbrev pub recording_keys : List KeyForm
+recording_keys =
     record { name = codes "record"; kind = kinds.Text; need = needs.Required }
     ∷ record { name = codes "expr"; kind = kinds.Text; need = needs.Required }
     ∷ record { name = codes "labels"; kind = kinds.Texts; need = needs.Optional }
     ∷ []
+
+-- the keys of an alerting rule
+abbrev pub alerting_keys : List KeyForm
+alerting_keys =
+    record { name = codes "alert"; kind = kinds.Text; need = needs.Required }
+    ∷ record { name = codes "expr"; kind = kinds.Text; need = needs.Required }
+    ∷ record { name = codes "for"; kind = kinds.Seconds 0; need = needs.Optional }
+    ∷ record { name = codes "labels"; kind = kinds.Texts; need = needs.Optional }
+    ∷ record { name = codes "annotations"; kind = kinds.Texts; need = needs.Optional }
+    ∷ []
+
+abbrev pub rule_keys : RuleKind → List KeyForm
+rule_keys rules.Recording = recording_keys
+rule_keys rules.Alerting = alerting_keys
 
 -- the items of an array, none where there is none
 abbrev pub items_in : Option Data → Items
@@ -115,9 +130,13 @@ passes tests.Typed = is_typed
 passes tests.Known = is_known
 passes tests.Whole = is_whole
 
--- a test of a table by the keys that it may have holds of a group and of each of its rules
+-- a test of a table by the keys that it may have holds of a rule, by those of its kind
+abbrev pub rule_passes : (List KeyForm → Members → Bool) → Members → Bool
+rule_passes test rule = test (rule_keys (kind_of rule)) rule
+
+-- it holds of a group and of each of its rules
 abbrev pub group_passes : (List KeyForm → Members → Bool) → Members → Bool
-group_passes test group = test group_keys group && list_all (test rule_keys) (tables_at (codes "rules") group)
+group_passes test group = test group_keys group && list_all (rule_passes test) (tables_at (codes "rules") group)
 
 -- it holds of a document, of each of its groups and of each of their rules
 abbrev pub document_passes : (List KeyForm → Members → Bool) → Members → Bool
@@ -128,10 +147,14 @@ abbrev pub query_at : ℕ → ℕ → Result QueryForm QueryFault → Result Que
 query_at group rule (Ok query) = Ok query
 query_at group rule (Err fault) = Err (faults.BadQuery group rule fault)
 
+-- for how long an element has to be there, in seconds: not at all where no time is named
+abbrev pub hold_of : Members → ℕ
+hold_of members = unwrap_or (option_and_then (seconds_in 0) (get_member (codes "for") members)) 0
+
 abbrev pub rule_at : Cramped → ℕ → ℕ → Members → Result RuleForm RulesFault
 rule_at cramped group rule members = do
   query ← query_at group rule (query_of (cramped group rule) (text_at (codes "expr") members))
-  Ok (record { kind = rules.Recording; name = text_at (codes "record") members; query = query; labels = texts_at (codes "labels") members })
+  Ok (record { kind = kind_of members; name = name_of members; query = query; labels = texts_at (codes "labels") members; hold = hold_of members; annotations = labels_at (codes "annotations") members })
 
 -- what is read of tables one after the other, each with its place
 abbrev pub each_from : {A : Type 0} → (ℕ → Members → Result A RulesFault) → ℕ → List Members → Result (List A) RulesFault
@@ -157,9 +180,14 @@ group_at cramped group members = do
 abbrev pub make_labels : List Pair → Bool
 make_labels texts = is_ok (labels_from texts)
 
--- the name of a rule is one that a recorded metric may have, and its labels make a set
+-- a name that a metric may have, or alerts
+abbrev pub is_rule_name : RuleKind → List ℕ → Bool
+is_rule_name rules.Recording = is_metric_name
+is_rule_name rules.Alerting = is_group_name
+
+-- the name of a rule is one of its kind, and its labels and its annotations make sets
 abbrev pub rule_is_named_well : Members → Bool
-rule_is_named_well rule = is_metric_name (text_at (codes "record") rule) && make_labels (texts_at (codes "labels") rule)
+rule_is_named_well rule = is_rule_name (kind_of rule) (name_of rule) && (make_labels (texts_at (codes "labels") rule) && make_labels (texts_at (codes "annotations") rule))
 
 -- the name of a group is one that a group may have, and each of its rules is named well
 abbrev pub group_is_named_well : Members → Bool

@@ -1,6 +1,6 @@
 -- Keys, rules and groups as definitions speak of them, without the facts that their types keep.
 use Rattle.std.specs.Prelude.{ℕ, List, map}
-use Rattle.rl_labels.specs.LabelSet.{Pair}
+use Rattle.rl_labels.specs.LabelSet.{Pair, LabelSet}
 use Rattle.rl_query.specs.Form.{QueryForm, query_form}
 use Rattle.rl_rules.specs.declared.rule.Group.{Group}
 use Rattle.rl_rules.specs.declared.rule.Rule.{Rule}
@@ -20,6 +20,8 @@ pub record RuleForm : Type 0 where
   pub name : List ℕ
   pub query : QueryForm
   pub labels : List Pair
+  pub hold : ℕ
+  pub annotations : LabelSet
 
 pub record GroupForm : Type 0 where
   pub name : List ℕ
@@ -31,7 +33,7 @@ abbrev pub key_form : Key → KeyForm
 key_form key = record { name = key.0.now; kind = key.1; need = key.2 }
 
 abbrev pub rule_form : Rule → RuleForm
-rule_form rule = record { kind = rule.kind; name = rule.name; query = query_form rule.query; labels = rule.labels }
+rule_form rule = record { kind = rule.kind; name = rule.name; query = query_form rule.query; labels = rule.labels; hold = rule.hold; annotations = rule.annotations }
 
 abbrev pub group_form : Group → GroupForm
 group_form group = record { name = group.name; interval = group.interval; limit = group.limit; rules = map rule_form group.rules }

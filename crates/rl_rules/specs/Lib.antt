@@ -1,7 +1,10 @@
+pub mod Alerts
 pub mod Answering
 pub mod Document
+pub mod Editing
 pub mod Forms
 pub mod Outcomes
 pub mod Recording
 pub mod RuleNames
+pub mod SameRule
 pub mod Values

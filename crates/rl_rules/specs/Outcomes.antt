@@ -10,9 +10,14 @@ use Rattle.rl_aggregate.specs.declared.outcome.Sample.{Sample}
 use Rattle.rl_aggregate.specs.declared.outcome.Outcome.{Outcome}
 use Rattle.rl_aggregate.specs.declared.outcome.Outcome.TheVariants as outcomes
 use Rattle.rl_rules.specs.declared.rule.Rule.{Rule}
+use Rattle.rl_rules.specs.declared.rule.RuleKind.{RuleKind}
+use Rattle.rl_rules.specs.declared.rule.RuleKind.TheVariants as kinds
 use Rattle.rl_rules.specs.declared.evaluation.RuleOutcome.{RuleOutcome}
 use Rattle.rl_rules.specs.declared.evaluation.RuleOutcome.TheVariants as made
+use Rattle.rl_rules.specs.declared.evaluation.Cause.{Cause}
 use Rattle.rl_rules.specs.declared.evaluation.Cause.TheVariants as causes
+use Rattle.rl_rules.specs.declared.alert.Alert.{Alert}
+use Rattle.rl_rules.specs.Alerts.{alerts_after}
 
 -- the labels with a pair in its place, and without its name where its value is empty; what is no name names none
 abbrev pub with_pair : LabelSet → Pair → LabelSet
@@ -23,13 +28,18 @@ abbrev pub with_pairs : LabelSet → List Pair → LabelSet
 with_pairs labels [] = labels
 with_pairs labels (pair ∷ pairs) = with_pairs (with_pair labels pair) pairs
 
--- the labels of an element, the rule's over them, and the name of what the rule records over all
-abbrev pub recorded_labels : Rule → LabelSet → LabelSet
-recorded_labels rule labels = with_label (with_pairs labels rule.labels) (codes "__name__") rule.name
+-- the label that has the name of what a rule makes
+abbrev pub name_label : RuleKind → List ℕ
+name_label kinds.Recording = codes "__name__"
+name_label kinds.Alerting = codes "alertname"
+
+-- the labels of an element, the rule's over them, and its name over all
+abbrev pub final_labels : Rule → LabelSet → LabelSet
+final_labels rule labels = with_label (with_pairs labels rule.labels) (name_label rule.kind) rule.name
 
 -- the elements under their final label sets
-abbrev pub recorded : Rule → List Sample → List (LabelSet × Fraction)
-recorded rule samples = map (λ sample. (recorded_labels rule sample.labels, sample.value)) samples
+abbrev pub final_elements : Rule → List Sample → List (LabelSet × Fraction)
+final_elements rule samples = map (λ sample. (final_labels rule sample.labels, sample.value)) samples
 
 -- two of the elements have one label set
 abbrev pub has_same_labels : List (LabelSet × Fraction) → Bool
@@ -44,12 +54,34 @@ in_order elements = map (λ element. record { labels = element.0; value = elemen
 abbrev pub is_exceeded : ℕ → ℕ → Bool
 is_exceeded limit count = nat_lt 0 limit && nat_lt limit count
 
-abbrev pub samples_of : ℕ → List (LabelSet × Fraction) → RuleOutcome
-samples_of limit elements =
-    if has_same_labels elements then made.Failed causes.SameLabels
-    else (if is_exceeded limit (length elements) then made.Failed causes.LimitExceeded else made.Samples (in_order elements))
+-- what a rule makes of elements with different label sets, in order
+abbrev pub made_by : RuleKind → ℕ → List Alert → ℕ → List Sample → RuleOutcome
+made_by kinds.Recording hold alerts t samples = made.Samples samples
+made_by kinds.Alerting hold alerts t samples = made.Alerts (alerts_after hold t samples alerts)
 
--- what a recording rule of a group with this limit makes of an outcome
-abbrev pub rule_outcome : Rule → ℕ → Outcome → RuleOutcome
-rule_outcome rule limit (outcomes.Vector samples) = samples_of limit (recorded rule samples)
-rule_outcome rule limit outcomes.Failed = made.Failed causes.PipelineError
+-- what is made of elements, if they are not too many and no two have one label set
+abbrev pub outcome_of : ℕ → (List Sample → RuleOutcome) → List (LabelSet × Fraction) → RuleOutcome
+outcome_of limit make elements =
+    if has_same_labels elements then made.Failed causes.SameLabels
+    else (if is_exceeded limit (length elements) then made.Failed causes.LimitExceeded else make (in_order elements))
+
+-- what a rule of a group with this limit, which has these alerts, makes of an outcome at a moment
+abbrev pub rule_outcome : Rule → ℕ → List Alert → Outcome → ℕ → RuleOutcome
+rule_outcome rule limit alerts (outcomes.Vector samples) t = outcome_of limit (made_by rule.kind rule.hold alerts t) (final_elements rule samples)
+rule_outcome rule limit alerts outcomes.Failed t = made.Failed causes.PipelineError
+
+-- the alerts that a rule keeps where it failed: none where its elements were too many
+abbrev pub kept_at : Cause → List Alert → List Alert
+kept_at causes.PipelineError alerts = alerts
+kept_at causes.SameLabels alerts = alerts
+kept_at causes.LimitExceeded alerts = []
+
+-- the alerts that an outcome leaves to a rule that had these
+abbrev pub alerts_left : List Alert → RuleOutcome → List Alert
+alerts_left alerts (made.Samples samples) = []
+alerts_left alerts (made.Alerts now) = now
+alerts_left alerts (made.Failed cause) = kept_at cause alerts
+
+-- the step of a rule: its alerts from then on, and what it made
+abbrev pub rule_step : Rule → ℕ → List Alert → Outcome → ℕ → List Alert × RuleOutcome
+rule_step rule limit alerts outcome t = (alerts_left alerts (rule_outcome rule limit alerts outcome t), rule_outcome rule limit alerts outcome t)

@@ -1,4 +1,4 @@
--- Names of groups and of recorded metrics.
+-- Names of groups, of recorded metrics and of alerts.
 use Rattle.std.specs.Prelude.{ℕ, ◌==◌, nat_le, nat_lt, Bool, false, not, ◌&&◌, ◌||◌, List, [], ◌∷◌, length}
 use Rattle.std.specs.List.{list_all}
 use Rattle.std.specs.Char.{is_ascii_digit}
@@ -17,7 +17,7 @@ abbrev pub is_metric_name : List ℕ → Bool
 is_metric_name [] = false
 is_metric_name (byte ∷ bytes) = is_metric_start byte && list_all is_metric_byte bytes
 
--- the longest name of a group, in bytes
+-- the longest name of a group or of alerts, in bytes
 abbrev pub longest_group_name : ℕ
 longest_group_name = 256
 

@@ -1,10 +1,14 @@
--- What stands at the keys of a rule file: durations, whole numbers and tables of texts.
+-- What stands at the keys of a rule file: durations, whole numbers, tables of texts, and the name of a rule.
+use Rattle.std.specs.Result.{result_unwrap_or}
 use Rattle.std.specs.Prelude.{ℕ, ◌==◌, nat_le, Bool, true, ◌&&◌, List, [], ◌∷◌, length, Option, None, Some, is_some, option_and_then, pos, codes, if◌then◌else◌}
 use Rattle.toml.specs.Data.{Data, string, integer, table, as_str, get_member, Members, no_members, member}
-use Rattle.rl_labels.specs.LabelSet.{Pair}
+use Rattle.rl_labels.specs.LabelSet.{Pair, LabelSet, no_labels}
 use Rattle.rl_labels.specs.Name.{is_text}
+use Rattle.rl_labels.specs.Pairs.{labels_from}
 use Rattle.rl_query.specs.Durations.{duration_of}
 use Rattle.rl_query.specs.Limits.{longest_range}
+use Rattle.rl_rules.specs.declared.rule.RuleKind.{RuleKind}
+use Rattle.rl_rules.specs.declared.rule.RuleKind.TheVariants as kinds
 
 -- the number, if it is one of those from the least to the most
 abbrev pub within : ℕ → ℕ → ℕ → Option ℕ
@@ -51,3 +55,19 @@ text_at key members = text_in (get_member key members)
 
 abbrev pub texts_at : List ℕ → Members → List Pair
 texts_at key members = texts_of (members_in (get_member key members))
+
+-- the label set that the texts at a key make, the empty one where they make none
+abbrev pub labels_at : List ℕ → Members → LabelSet
+labels_at key members = result_unwrap_or (labels_from (texts_at key members)) no_labels
+
+-- a rule with the key record is a recording rule
+abbrev pub kind_of : Members → RuleKind
+kind_of rule = if is_some (get_member (codes "record") rule) then kinds.Recording else kinds.Alerting
+
+-- the key at which its name stands
+abbrev pub name_key : RuleKind → List ℕ
+name_key kinds.Recording = codes "record"
+name_key kinds.Alerting = codes "alert"
+
+abbrev pub name_of : Members → List ℕ
+name_of rule = text_at (name_key (kind_of rule)) rule

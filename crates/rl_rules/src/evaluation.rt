@@ -1,6 +1,7 @@
 //! Evaluations of a group: what each of its rules made of its query's outcome at a moment.
 ghost use Rattle.std.specs.Prelude.{◌≡◌, IfOk, IsOk};
 
+use crate::alert::Alert;
 use crate::rule::RuleKind;
 use rl_aggregate::Sample;
 use rl_labels::{Labels, Ns};
@@ -33,6 +34,8 @@ pub struct RuleResult {
 pub enum RuleOutcome {
     /// The recorded samples, in the order of their label sets.
     Samples(PlainList<Sample>),
+    /// The alerts, in the order of their label sets. Those that are resolved are told of once.
+    Alerts(PlainList<Alert>),
     Failed(Cause),
 }
 
@@ -67,6 +70,7 @@ impl TryCopy for RuleOutcome {
     fn try_copy(&self) -> Result<Self, AllocError> {
         match self {
             RuleOutcome::Samples(samples) => Ok(RuleOutcome::Samples(samples.try_copy()?)),
+            RuleOutcome::Alerts(alerts) => Ok(RuleOutcome::Alerts(alerts.try_copy()?)),
             RuleOutcome::Failed(cause) => Ok(RuleOutcome::Failed(*cause)),
         }
     }
@@ -78,6 +82,7 @@ impl Same for RuleOutcome {
             (RuleOutcome::Samples(samples), RuleOutcome::Samples(others)) => samples.is_same(
                 others,
             ),
+            (RuleOutcome::Alerts(alerts), RuleOutcome::Alerts(others)) => alerts.is_same(others),
             (RuleOutcome::Failed(cause), RuleOutcome::Failed(other)) => cause.is_same(other),
             _ => false,
         }

@@ -13,7 +13,7 @@ pub enum RulesFault {
     BadToml,
     #[error("a key that no group and no rule has")]
     UnknownKey,
-    #[error("a key is missing: groups, name, rules, record or expr")]
+    #[error("a key is missing: groups, name, rules, record or alert, or expr")]
     MissingKey,
     /// The first query that is refused. Groups and rules are counted from 0.
     #[error("group {group}, rule {rule}: {fault}")]
@@ -22,7 +22,7 @@ pub enum RulesFault {
         rule: usize,
         fault: QueryFault,
     },
-    #[error("a name that no group or no metric has, or labels that no stream has")]
+    #[error("a name that no group, no metric or no alert has, or labels that no stream has")]
     BadName,
     #[error("two groups have one name")]
     SameGroup,

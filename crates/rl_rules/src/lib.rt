@@ -1,12 +1,16 @@
 //! Rules: groups read from TOML, and what a rule makes of the outcome of its query.
 //!
 //! `read_rules` gives exactly the groups that the document has, or its lowest fault. `step_rule` gives the samples of a
-//! recording rule, or why it failed.
+//! recording rule or the alerts of an alerting one, or why it failed. `hand_on` gives the rules of an edited group the
+//! alerts of those before that are the same.
 //!
-//! - `rule`: `Group`, `Rule`. `evaluation`: `Evaluation`, `RuleResult`, `RuleOutcome`, `Cause`.
-//! - `fault`: why a rule file is refused. `reading`: `read_rules`. `stepping`: `step_rule`.
+//! - `rule`: `Group`, `Rule`. `alert`: `Alert`, `Phase`. `evaluation`: `Evaluation`, `RuleResult`, `RuleOutcome`, `Cause`.
+//! - `fault`: why a rule file is refused. `reading`: `read_rules`. `stepping`: `step_rule`. `editing`: `hand_on`.
 #![tactic(auto)]
 
+pub mod alert;
+mod alerting;
+pub mod editing;
 pub mod evaluation;
 pub mod fault;
 mod names;
@@ -16,6 +20,8 @@ mod shape;
 pub mod stepping;
 mod values;
 
+pub use alert::{Alert, Phase};
+pub use editing::hand_on;
 pub use evaluation::{Cause, Evaluation, RuleOutcome, RuleResult};
 pub use fault::{RulesError, RulesFault};
 pub use reading::read_rules;

@@ -1,20 +1,21 @@
-//! Names of groups and of recorded metrics, and labels of rules.
+//! Names of groups, of recorded metrics and of alerts, and labels of rules.
 ghost use Rattle.std.specs.Prelude.{◌≡◌, true, not, IfOk};
 ghost use Rattle.std.specs.List.{list_all};
 ghost use Rattle.std.specs.Option.{option_map_or};
 ghost use Rattle.toml.specs.Data.{as_table};
 ghost use Rattle.toml.specs.View.{view, table_view, items_view};
-ghost use Rattle.rl_rules.specs.Document.{tables_of, make_labels, rule_is_named_well, group_is_named_well, groups_are_named_well};
+ghost use Rattle.rl_rules.specs.Document.{tables_of, make_labels, is_rule_name, rule_is_named_well, group_is_named_well, groups_are_named_well};
 ghost use Rattle.rl_rules.specs.Values.{texts_at};
 ghost use Rattle.rl_rules.specs.RuleNames.{is_metric_name, is_metric_start, is_metric_byte, is_control, is_group_name};
 
-use crate::values::{items_at, text_at, texts_at};
+use crate::rule::RuleKind;
+use crate::values::{items_at, kind_of, name_of, text_at, texts_at};
 use rl_labels::Labels;
 use rl_plain::OrMemory;
 use std::alloc::{AllocError, Global};
 use toml::{Table, Value};
 
-/// The longest name of a group, in bytes.
+/// The longest name of a group or of alerts, in bytes.
 pub const LONGEST_GROUP_NAME: usize = 256;
 
 // Whether the names of the groups of an array's tables, and of their rules, are good, and their labels make sets.
@@ -58,9 +59,21 @@ fn rule_is_named_well(alloc: Global, item: &Value) -> Result<bool, AllocError>
     ensures { IfOk result (λ good. good ≡ option_map_or rule_is_named_well (as_table (view item.now)) true) }
 {
     match item.as_table() {
-        Some(rule) if is_metric_name(text_at(rule, "record")) => make_labels(alloc, rule, "labels"),
+        Some(rule) if is_rule_name(kind_of(rule), name_of(rule)) => {
+            Ok(make_labels(alloc, rule, "labels")? && make_labels(alloc, rule, "annotations")?)
+        }
         Some(_) => Ok(false),
         None => Ok(true),
+    }
+}
+
+// Whether the text is a name that a metric may have, or alerts.
+fn is_rule_name(kind: RuleKind, name: &str) -> bool
+    ensures { result ≡ is_rule_name kind name.now }
+{
+    match kind {
+        RuleKind::Recording => is_metric_name(name),
+        RuleKind::Alerting => is_group_name(name),
     }
 }
 

@@ -5,16 +5,18 @@ ghost use Rattle.toml.specs.View.{table_view, items_view};
 ghost use Rattle.rl_plain.specs.Answers.{Answers};
 ghost use Rattle.rl_labels.specs.Name.{is_text};
 ghost use Rattle.rl_query.specs.Form.{query_form};
-ghost use Rattle.rl_query.specs.Parsing.{query_of};
+ghost use Rattle.rl_query.specs.QueryReading.{query_of};
 ghost use Rattle.rl_rules.specs.Answering.{Reads};
 ghost use Rattle.rl_rules.specs.Forms.{group_form, rule_form};
 ghost use Rattle.rl_rules.specs.Document.{groups_of, document_groups, tables_of, query_at, rule_at, group_at, each_from, most_rules, has_same_group, has_too_many, checked, check_keys};
 
 use crate::fault::{RulesError, RulesFault};
 use crate::names::groups_are_named_well;
-use crate::rule::{Group, Rule, RuleKind};
-use crate::shape::{GREATEST_LIMIT, SHORTEST_INTERVAL, Test, document_passes};
-use crate::values::{items_at, number_at, seconds_at, text_at, texts_at};
+use crate::rule::{Group, Rule};
+use crate::shape::{GREATEST_LIMIT, SHORTEST_HOLD, SHORTEST_INTERVAL, Test, document_passes};
+use crate::values::{
+    items_at, kind_of, labels_at, name_of, number_at, seconds_at, text_at, texts_at,
+};
 use rl_plain::{PlainList, PlainText};
 use rl_query::{Query, QueryError, parse};
 use std::alloc::Global;
@@ -113,13 +115,16 @@ fn rule_at(alloc: Global, group: usize, rule: usize, table: &Table) -> Result<Ru
     ensures { Reads rule_form result (λ cramped. rule_at cramped group rule (table_view table.now)) }
 {
     let query = query_at(alloc, group, rule, text_at(table, "expr"))?;
-    let name = PlainText::from_str(alloc, text_at(table, "record"))?;
+    let name = PlainText::from_str(alloc, name_of(table))?;
     let labels = texts_at(alloc, table, "labels")?;
+    let annotations = labels_at(alloc, table, "annotations")?;
     Ok(Rule {
-        kind: RuleKind::Recording,
+        kind: kind_of(table),
         name,
         query,
         labels: PlainList::from_vec(labels),
+        hold: seconds_at(table, "for", SHORTEST_HOLD, 0),
+        annotations,
     })
 }
 

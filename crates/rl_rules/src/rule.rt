@@ -1,6 +1,7 @@
 //! Rules and groups of rules, as in Prometheus' rule files.
 ghost use Rattle.std.specs.Prelude.{◌≡◌, IfOk, IsOk};
 
+use rl_labels::Labels;
 use rl_plain::{PlainList, PlainText, Same, TryCopy};
 use rl_query::Query;
 use std::alloc::AllocError;
@@ -20,11 +21,15 @@ pub struct Group {
 #[derive(Debug, Drop, PartialEq, Eq)]
 pub struct Rule {
     pub kind: RuleKind,
-    /// The name of the metric that is recorded.
+    /// The name of the metric that is recorded, or of the alerts.
     pub name: PlainText,
     pub query: Query,
     /// Names and values that stand over the labels of each element, by rising name. An empty value removes a label.
     pub labels: PlainList<(PlainText, PlainText)>,
+    /// How long an element has to be there until its alert fires, in seconds.
+    pub hold: u64,
+    /// What is told of each alert besides.
+    pub annotations: Labels,
 }
 
 /// What a rule is for.
@@ -32,6 +37,8 @@ pub struct Rule {
 pub enum RuleKind {
     /// Its vector is recorded under a new name.
     Recording,
+    /// Each element of its vector is an alert.
+    Alerting,
 }
 
 impl TryCopy for RuleKind {
@@ -55,11 +62,14 @@ impl TryCopy for Rule {
         let name = self.name.try_copy()?;
         let query = self.query.try_copy()?;
         let labels = self.labels.try_copy()?;
+        let annotations = self.annotations.try_copy()?;
         Ok(Rule {
             kind: self.kind,
             name,
             query,
             labels,
+            hold: self.hold,
+            annotations,
         })
     }
 }
@@ -70,6 +80,8 @@ impl Same for Rule {
             && self.name.is_same(&other.name)
             && self.query.is_same(&other.query)
             && self.labels.is_same(&other.labels)
+            && self.hold == other.hold
+            && self.annotations.is_same(&other.annotations)
     }
 }
 

@@ -6,9 +6,10 @@ ghost use Rattle.toml.specs.Data.{as_table};
 ghost use Rattle.toml.specs.View.{view, table_view, items_view};
 ghost use Rattle.rl_labels.specs.Name.{is_text};
 ghost use Rattle.rl_rules.specs.Forms.{key_form};
-ghost use Rattle.rl_rules.specs.Document.{rule_keys, tables_of, are_tables, is_of, has_kind, has_needed, is_typed, is_known, is_whole, passes, group_passes, document_passes};
+ghost use Rattle.rl_rules.specs.Document.{rule_keys, tables_of, are_tables, is_of, has_kind, has_needed, is_typed, is_known, is_whole, passes, rule_passes, group_passes, document_passes};
 
-use crate::values::{are_texts, items_at, number_in, seconds_in, value_at};
+use crate::rule::RuleKind;
+use crate::values::{are_texts, items_at, kind_of, number_in, seconds_in, value_at};
 use toml::{Table, Value};
 
 /// A key that a table may have: its name, what stands there, and whether it has to be there.
@@ -50,10 +51,13 @@ pub(crate) enum Test {
 /// The shortest interval of a group, in seconds.
 pub(crate) const SHORTEST_INTERVAL: u64 = 1;
 
+/// The shortest time until an alert fires, in seconds.
+pub(crate) const SHORTEST_HOLD: u64 = 0;
+
 /// The greatest limit of a group.
 pub(crate) const GREATEST_LIMIT: u64 = 1_000_000;
 
-// The keys of a document, of a group and of a rule.
+// The keys of a document, of a group, and of a rule of each kind.
 const DOCUMENT_KEYS: &[Key] = &[Key("groups", Kind::Tables, Need::Required)];
 
 const GROUP_KEYS: &[Key] = &[
@@ -63,10 +67,18 @@ const GROUP_KEYS: &[Key] = &[
     Key("limit", Kind::Number(GREATEST_LIMIT), Need::Optional),
 ];
 
-const RULE_KEYS: &[Key] = &[
+const RECORDING_KEYS: &[Key] = &[
     Key("record", Kind::Text, Need::Required),
     Key("expr", Kind::Text, Need::Required),
     Key("labels", Kind::Texts, Need::Optional),
+];
+
+const ALERTING_KEYS: &[Key] = &[
+    Key("alert", Kind::Text, Need::Required),
+    Key("expr", Kind::Text, Need::Required),
+    Key("for", Kind::Seconds(SHORTEST_HOLD), Need::Optional),
+    Key("labels", Kind::Texts, Need::Optional),
+    Key("annotations", Kind::Texts, Need::Optional),
 ];
 
 // Whether a value is of the kind.
@@ -145,16 +157,27 @@ fn passes(test: Test, table: &Table, keys: &[Key]) -> bool
     }
 }
 
+fn rule_keys(kind: RuleKind) -> &'static [Key]
+    ensures { map key_form result.now ≡ rule_keys kind }
+{
+    match kind {
+        RuleKind::Recording => RECORDING_KEYS,
+        RuleKind::Alerting => ALERTING_KEYS,
+    }
+}
+
 // Whether an item passes it, if it is the table of a rule.
 fn rule_passes(test: Test, item: &Value) -> bool
-    ensures { result ≡ option_map_or (passes test rule_keys) (as_table (view item.now)) true }
+    ensures { result ≡ option_map_or (rule_passes (passes test)) (as_table (view item.now)) true }
 {
-    item.as_table()
-        .is_none_or(|rule| passes(test, rule, RULE_KEYS))
+    match item.as_table() {
+        Some(rule) => passes(test, rule, rule_keys(kind_of(rule))),
+        None => true,
+    }
 }
 
 fn rules_pass(test: Test, items: &[Value]) -> bool
-    ensures { result ≡ list_all (passes test rule_keys) (tables_of (items_view items.now)) }
+    ensures { result ≡ list_all (rule_passes (passes test)) (tables_of (items_view items.now)) }
 {
     items.iter().all(|item| rule_passes(test, item))
 }

@@ -1,12 +1,14 @@
-//! What stands at the keys of a rule file: texts, arrays, durations, whole numbers and tables of texts.
+//! What stands at the keys of a rule file: texts, arrays, durations, whole numbers, tables of texts, and the name of a rule.
 ghost use Rattle.std.specs.Prelude.{◌≡◌, Some, unwrap_or, option_and_then, option_map, IfOk};
 ghost use Rattle.toml.specs.Data.{get_member};
 ghost use Rattle.toml.specs.View.{view, table_view, items_view};
 ghost use Rattle.rl_rules.specs.Document.{items_in};
 ghost use Rattle.rl_query.specs.Limits.{capped, longest_range};
-ghost use Rattle.rl_rules.specs.Values.{within, seconds_of, seconds_in, number_in, are_texts, texts_of, members_in, text_at, texts_at};
+ghost use Rattle.rl_rules.specs.Values.{within, seconds_of, seconds_in, number_in, are_texts, texts_of, members_in, text_at, texts_at, labels_at, kind_of, name_key, name_of};
 
-use rl_plain::PlainText;
+use crate::rule::RuleKind;
+use rl_labels::Labels;
+use rl_plain::{OrMemory, PlainText};
 use rl_query::duration::{LONGEST_RANGE, duration_of};
 use std::alloc::{AllocError, Global};
 use toml::{Table, Value};
@@ -157,4 +159,42 @@ fn texts_of(alloc: Global, table: &Table) -> Result<Vec<(PlainText, PlainText)>,
         texts.push((name, text))?;
     }
     Ok(texts)
+}
+
+// The label set that the texts of the table at a key make, the empty one where they make none.
+pub(crate) fn labels_at(alloc: Global, table: &Table, key: &str) -> Result<Labels, AllocError>
+    ensures { IfOk result (λ labels. labels ≡ labels_at key.now (table_view table.now)) }
+{
+    match Labels::from_pairs(alloc, texts_at(alloc, table, key)?) {
+        Ok(labels) => Ok(labels),
+        Err(OrMemory::Fault(_)) => Labels::empty(alloc),
+        Err(OrMemory::Memory) => Err(AllocError),
+    }
+}
+
+// The kind of the rule that a table is: with the key `record` a recording one.
+pub(crate) fn kind_of(rule: &Table) -> RuleKind
+    ensures { result ≡ kind_of (table_view rule.now) }
+{
+    if value_at(rule, "record").is_some() {
+        RuleKind::Recording
+    } else {
+        RuleKind::Alerting
+    }
+}
+
+// The name of the rule that a table is.
+pub(crate) fn name_of(rule: &Table) -> &str
+    ensures { result.now ≡ name_of (table_view rule.now) }
+{
+    text_at(rule, name_key(kind_of(rule)))
+}
+
+fn name_key(kind: RuleKind) -> &'static str
+    ensures { result.now ≡ name_key kind }
+{
+    match kind {
+        RuleKind::Recording => "record",
+        RuleKind::Alerting => "alert",
+    }
 }

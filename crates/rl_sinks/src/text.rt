@@ -2,14 +2,14 @@
 ghost use Rattle.std.specs.Prelude.{◌≡◌, IfOk, OnOk, string_bytes};
 ghost use Rattle.std.specs.List.{flat_map};
 ghost use Rattle.std.specs.Io.KnownBytes.{Appends};
-ghost use Rattle.rl_sinks.specs.Texts.{evaluation_text, recorder_text, tail_text, recorded_lines, tail_lines, recorded_line, tail_line, failed_line, sample_text, value_text, cause_text};
+ghost use Rattle.rl_sinks.specs.Texts.{evaluation_text, recorder_text, notifier_text, tail_text, recorded_lines, notified_lines, tail_lines, recorded_line, notified_line, tail_line, alert_line, failed_line, sample_text, alert_text, is_notified, phase_text, value_text, cause_text};
 
 use crate::sink::SinkKind;
 use crate::target::{InMemory, TextTarget};
 use rl_aggregate::{Fraction, Sample};
-use rl_labels::Ns;
+use rl_labels::{Labels, Ns};
 use rl_plain::PlainText;
-use rl_rules::{Cause, Evaluation, RuleKind, RuleOutcome, RuleResult};
+use rl_rules::{Alert, Cause, Evaluation, Phase, RuleKind, RuleOutcome, RuleResult};
 use std::alloc::{AllocError, Global};
 use std::io;
 use std::io::Write;
@@ -27,7 +27,7 @@ pub fn evaluation_text(
     };
     match kind {
         SinkKind::Recorder => put_recorded(&mut target, evaluation)?,
-        SinkKind::Notifier => {}
+        SinkKind::Notifier => put_notified(&mut target, evaluation)?,
         SinkKind::Tail => put_tail(&mut target, evaluation)?,
     }
     Ok(target.text)
@@ -58,6 +58,7 @@ fn put_recorded_lines<T: TextTarget>(
 {
     match &rule.outcome {
         RuleOutcome::Samples(samples) => put_recorded_samples(target, t, samples.as_slice()),
+        RuleOutcome::Alerts(_) => Ok(()),
         RuleOutcome::Failed(cause) => put_failed(target, rule.kind, t, *cause, rule.name.as_str()),
     }
 }
@@ -98,6 +99,7 @@ fn put_failed<T: TextTarget>(
             let cause = cause_text(cause);
             write!(target, "# failed {t} {cause} {name}\n")
         }
+        RuleKind::Alerting => Ok(()),
     }
 }
 
@@ -108,6 +110,73 @@ fn cause_text(cause: Cause) -> &'static str
         Cause::PipelineError => "PipelineError",
         Cause::SameLabels => "SameLabels",
         Cause::LimitExceeded => "LimitExceeded",
+    }
+}
+
+fn put_notified<T: TextTarget>(target: &mut T, evaluation: &Evaluation) -> Result<(), T::Error>
+    ensures { OnOk result (Appends (T.contents target.old) (T.contents target.new) (notifier_text evaluation.now)) }
+{
+    for rule in evaluation.outcomes.as_slice() {
+        put_notified_lines(target, evaluation.t, rule)?;
+    }
+    Ok(())
+}
+
+fn put_notified_lines<T: TextTarget>(
+    target: &mut T,
+    t: Ns,
+    rule: &RuleResult,
+) -> Result<(), T::Error>
+    ensures { OnOk result (Appends (T.contents target.old) (T.contents target.new) (notified_lines t rule.now.annotations rule.now.outcome)) }
+{
+    match &rule.outcome {
+        RuleOutcome::Alerts(alerts) => {
+            put_notified_alerts(target, t, &rule.annotations, alerts.as_slice())
+        }
+        RuleOutcome::Samples(_) | RuleOutcome::Failed(_) => Ok(()),
+    }
+}
+
+fn put_notified_alerts<T: TextTarget>(
+    target: &mut T,
+    t: Ns,
+    annotations: &Labels,
+    alerts: &[Alert],
+) -> Result<(), T::Error>
+    ensures { OnOk result (Appends (T.contents target.old) (T.contents target.new) (flat_map (λ alert. notified_line t annotations.now alert) alerts.now)) }
+{
+    for alert in alerts {
+        put_notified_line(target, t, annotations, alert)?;
+    }
+    Ok(())
+}
+
+#[tactic(auto, unfolding(crate::specs::Texts::notified_line))]
+fn put_notified_line<T: TextTarget>(
+    target: &mut T,
+    t: Ns,
+    annotations: &Labels,
+    alert: &Alert,
+) -> Result<(), T::Error>
+    ensures { OnOk result (Appends (T.contents target.old) (T.contents target.new) (notified_line t annotations.now alert.now)) }
+{
+    if !is_notified(t, alert.phase, alert.fired) {
+        return Ok(());
+    }
+    put_alert(target, alert)?;
+    let t = t.get();
+    let annotations = annotations.as_text();
+    write!(target, " {t} {annotations}\n")
+}
+
+// Whether an alert became firing at the moment, or is resolved.
+fn is_notified(t: Ns, phase: Phase, fired: Option<Ns>) -> bool
+    ensures { result ≡ is_notified t phase fired }
+{
+    match (phase, fired) {
+        (Phase::Firing, Some(fired)) => fired == t,
+        (Phase::Firing, None) | (Phase::Pending, _) => false,
+        (Phase::Resolved, _) => true,
     }
 }
 
@@ -128,6 +197,7 @@ fn put_tail_lines<T: TextTarget>(target: &mut T, rule: &RuleResult) -> Result<()
 {
     match &rule.outcome {
         RuleOutcome::Samples(samples) => put_tail_samples(target, samples.as_slice()),
+        RuleOutcome::Alerts(alerts) => put_tail_alerts(target, alerts.as_slice()),
         RuleOutcome::Failed(cause) => {
             let cause = cause_text(*cause);
             let name = rule.name.as_str();
@@ -150,6 +220,45 @@ fn put_tail_line<T: TextTarget>(target: &mut T, sample: &Sample) -> Result<(), T
 {
     put_sample(target, sample)?;
     write!(target, "\n")
+}
+
+fn put_tail_alerts<T: TextTarget>(target: &mut T, alerts: &[Alert]) -> Result<(), T::Error>
+    ensures { OnOk result (Appends (T.contents target.old) (T.contents target.new) (flat_map (λ alert. alert_line alert) alerts.now)) }
+{
+    for alert in alerts {
+        put_alert_line(target, alert)?;
+    }
+    Ok(())
+}
+
+#[tactic(auto, unfolding(crate::specs::Texts::alert_line))]
+fn put_alert_line<T: TextTarget>(target: &mut T, alert: &Alert) -> Result<(), T::Error>
+    ensures { OnOk result (Appends (T.contents target.old) (T.contents target.new) (alert_line alert.now)) }
+{
+    put_alert(target, alert)?;
+    write!(target, "\n")
+}
+
+#[tactic(auto, unfolding(crate::specs::Texts::alert_text))]
+fn put_alert<T: TextTarget>(target: &mut T, alert: &Alert) -> Result<(), T::Error>
+    ensures { OnOk result (Appends (T.contents target.old) (T.contents target.new) (alert_text alert.now)) }
+{
+    let phase = phase_text(alert.phase);
+    let labels = alert.labels.as_text();
+    write!(target, "{phase} {labels} ")?;
+    put_value(target, alert.value)?;
+    let since = alert.since.get();
+    write!(target, " {since}")
+}
+
+fn phase_text(phase: Phase) -> &'static str
+    ensures { result.now ≡ phase_text phase }
+{
+    match phase {
+        Phase::Pending => "pending",
+        Phase::Firing => "firing",
+        Phase::Resolved => "resolved",
+    }
 }
 
 fn put_sample<T: TextTarget>(target: &mut T, sample: &Sample) -> Result<(), T::Error>

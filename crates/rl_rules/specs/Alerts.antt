@@ -1,0 +1,70 @@
+-- Alerts: what becomes of an alert at a moment, by the element with its label set and by what it was before.
+use Rattle.std.specs.Prelude.{ℕ, ◌*◌, ◌-◌, ◌^◌, nat_le, Bool, true, false, List, ◌++◌, map, flat_map, option_to_list, Option, None, Some, if◌then◌else◌}
+use Rattle.std.specs.FinMap.{entries, from_entries}
+use Rattle.std.specs.FinMap.Entries.{find}
+use Rattle.rl_labels.specs.LabelSet.{LabelSet}
+use Rattle.rl_labels.specs.LabelText.{label_set_cmp}
+use Rattle.rl_aggregate.specs.declared.outcome.Fraction.{Fraction}
+use Rattle.rl_aggregate.specs.declared.outcome.Sample.{Sample}
+use Rattle.rl_rules.specs.declared.alert.Alert.{Alert}
+use Rattle.rl_rules.specs.declared.alert.Phase.{Phase}
+use Rattle.rl_rules.specs.declared.alert.Phase.TheVariants as phases
+
+-- alerts by their label sets
+abbrev pub keyed : List Alert → List (LabelSet × Alert)
+keyed alerts = map (λ alert. (alert.labels, alert)) alerts
+
+-- pending or firing
+abbrev pub is_active : Phase → Bool
+is_active phases.Pending = true
+is_active phases.Firing = true
+is_active phases.Resolved = false
+
+-- since when its element is there: of an alert that is active this stays
+abbrev pub since_of : ℕ → Option Alert → ℕ
+since_of t None = t
+since_of t (Some alert) = if is_active alert.phase then alert.since else t
+
+-- when an alert that fires now became firing: of one that was firing this stays
+abbrev pub fired_from : ℕ → Phase → Option ℕ → Option ℕ
+fired_from t phases.Firing fired = fired
+fired_from t _ fired = Some t
+
+abbrev pub fired_of : ℕ → Option Alert → Option ℕ
+fired_of t None = Some t
+fired_of t (Some alert) = fired_from t alert.phase alert.fired
+
+-- its element has been there for so many seconds
+abbrev pub is_due : ℕ → ℕ → ℕ → Bool
+is_due hold since t = nat_le (hold * 10 ^ 9) (t - since)
+
+-- an alert whose element is there, with the value that this has now: it fires once the rule's time has passed
+abbrev pub standing : ℕ → ℕ → LabelSet → Fraction → Option Alert → Alert
+standing hold t labels value before =
+    if is_due hold (since_of t before) t
+    then record { labels = labels; value = value; since = since_of t before; fired = fired_of t before; phase = phases.Firing }
+    else record { labels = labels; value = value; since = since_of t before; fired = None; phase = phases.Pending }
+
+-- an alert whose element is gone: one that was firing is resolved, with its last value; any other is forgotten
+abbrev pub gone_from : Phase → Alert → Option Alert
+gone_from phases.Firing alert = Some (record { labels = alert.labels; value = alert.value; since = alert.since; fired = alert.fired; phase = phases.Resolved })
+gone_from _ alert = None
+
+abbrev pub gone : Alert → Option Alert
+gone alert = gone_from alert.phase alert
+
+-- those whose elements are there, by the first alert before with the label set
+abbrev pub all_standing : ℕ → ℕ → List Sample → List Alert → List Alert
+all_standing hold t samples before = map (λ sample. standing hold t sample.labels sample.value (find label_set_cmp sample.labels (keyed before))) samples
+
+-- those that are resolved where their elements are gone
+abbrev pub all_gone : List Alert → List Alert
+all_gone before = flat_map (λ alert. option_to_list (gone alert)) before
+
+-- in the order of their label sets, of which the first with one counts
+abbrev pub in_label_order : List Alert → List Alert
+in_label_order alerts = map (λ entry. entry.1) (entries (from_entries {R = label_set_cmp} (keyed alerts)))
+
+-- the alerts after the moment: an element that is there counts before an alert that was
+abbrev pub alerts_after : ℕ → ℕ → List Sample → List Alert → List Alert
+alerts_after hold t samples before = in_label_order (all_standing hold t samples before ++ all_gone before)

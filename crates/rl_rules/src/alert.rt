@@ -1,0 +1,71 @@
+//! Alerts: elements of an alerting rule, from one evaluation to the next.
+ghost use Rattle.std.specs.Prelude.{◌≡◌, IfOk, IsOk};
+
+use rl_aggregate::Fraction;
+use rl_labels::{Labels, Ns};
+use rl_plain::{Same, TryCopy};
+use std::alloc::AllocError;
+
+/// An alert of a rule: an element that its vector has, or had.
+#[derive(Debug, Drop, PartialEq, Eq)]
+pub struct Alert {
+    /// The element's labels, the rule's over them, and the rule's name as `alertname`.
+    pub labels: Labels,
+    /// The value that the element has, or had last.
+    pub value: Fraction,
+    /// Since when the element is there without a break.
+    pub since: Ns,
+    /// When the alert became firing, if it has.
+    pub fired: Option<Ns>,
+    pub phase: Phase,
+}
+
+/// Where an alert stands.
+#[derive(Clone, Copy, Debug, PartialEq, Eq)]
+pub enum Phase {
+    /// The element is not there for long enough.
+    Pending,
+    Firing,
+    /// It was firing at the evaluation before, and its element is gone.
+    Resolved,
+}
+
+impl TryCopy for Phase {
+    /// Takes no memory, and is never refused.
+    fn try_copy(&self) -> Result<Self, AllocError>
+        ensures copy { IfOk result (λ copy. copy ≡ self.now) }
+        ensures made { IsOk result }
+    {
+        Ok(*self)
+    }
+}
+
+impl Same for Phase {
+    fn is_same(&self, other: &Self) -> bool {
+        self == other
+    }
+}
+
+impl TryCopy for Alert {
+    /// Shares the labels, without memory, as `Labels` does.
+    fn try_copy(&self) -> Result<Self, AllocError> {
+        let labels = self.labels.try_copy()?;
+        Ok(Alert {
+            labels,
+            value: self.value,
+            since: self.since,
+            fired: self.fired,
+            phase: self.phase,
+        })
+    }
+}
+
+impl Same for Alert {
+    fn is_same(&self, other: &Self) -> bool {
+        self.labels.is_same(&other.labels)
+            && self.value.is_same(&other.value)
+            && self.since.is_same(&other.since)
+            && self.fired.is_same(&other.fired)
+            && self.phase.is_same(&other.phase)
+    }
+}
