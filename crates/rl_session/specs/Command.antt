@@ -10,13 +10,17 @@ use Rattle.rl_session.specs.declared.command.Command.TheVariants as commands
 -- a command, with its texts as bytes and its moment as a number
 pub data Asked : Type 0 where
   pushes : (json : List ℕ) → Asked
+  edits : (document : List ℕ) → Asked
   evaluates : (t : ℕ) (group : List ℕ) → Asked
+  ticks : (now : ℕ) → Asked
   shows : (sink : ℕ) (group : List ℕ) → Asked
   ends : Asked
 
 abbrev pub asked : Command → Asked
 asked (commands.Push json) = pushes json.now
+asked (commands.Edit document) = edits document.now
 asked (commands.Eval t group) = evaluates t group.now
+asked (commands.Tick now) = ticks now
 asked (commands.Show sink group) = shows sink group.now
 asked commands.End = ends
 
@@ -40,9 +44,11 @@ show_of words = option_map (λ sink. shows sink words.1) (number_of 19 words.0)
 abbrev pub command_of_words : List ℕ × List ℕ → Option Asked
 command_of_words words =
     if is_text words.0 (codes "push") then Some (pushes words.1)
+    else (if is_text words.0 (codes "edit") then Some (edits words.1)
     else (if is_text words.0 (codes "eval") then option_and_then eval_of (cut_at 32 words.1)
+    else (if is_text words.0 (codes "tick") then option_map ticks (time_of words.1)
     else (if is_text words.0 (codes "show") then option_and_then show_of (cut_at 32 words.1)
-    else None))
+    else None))))
 
 -- the command of a line, if it is one
 abbrev pub command_of : List ℕ → Option Asked

@@ -1,5 +1,6 @@
 pub mod Names
 pub mod Command
+pub mod Edits
 pub mod Printed
 pub mod Session
 pub mod PushBody

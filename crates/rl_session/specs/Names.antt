@@ -14,6 +14,8 @@ use Rattle.rl_world.specs.declared.step.Reply.{Reply}
 use Rattle.rl_world.specs.declared.step.Reply.TheVariants as world
 use Rattle.rl_session.specs.declared.front.fault.FrontFault.{FrontFault}
 use Rattle.rl_session.specs.declared.front.fault.FrontFault.TheVariants as fronts
+use Rattle.rl_session.specs.declared.edit.EditRefusal.{EditRefusal}
+use Rattle.rl_session.specs.declared.edit.EditRefusal.TheVariants as edits
 use Rattle.rl_session.specs.declared.push.PushFault.{PushFault}
 use Rattle.rl_session.specs.declared.push.PushFault.TheVariants as pushes
 
@@ -60,6 +62,18 @@ refusal_name refusals.NoSuch = codes "NoSuch"
 refusal_name (refusals.Book fault) = book_fault_name fault
 refusal_name refusals.JournalFull = codes "JournalFull"
 refusal_name refusals.Memory = codes "Memory"
+
+-- a rule file's fault, or want of memory
+abbrev pub rules_error_name : OrMemory RulesFault → List ℕ
+rules_error_name (errors.Fault fault) = rules_fault_name fault
+rules_error_name errors.Memory = codes "Memory"
+
+-- why a group was not edited
+abbrev pub edit_refusal_name : EditRefusal → List ℕ
+edit_refusal_name (edits.Rules error) = rules_error_name error
+edit_refusal_name edits.NotOneGroup = codes "NotOneGroup"
+edit_refusal_name edits.NoSuchGroup = codes "NoSuchGroup"
+edit_refusal_name (edits.World refusal) = refusal_name refusal
 
 -- why a shard did not take an entry
 abbrev pub shard_refusal : ShardReply → Option (List ℕ)

@@ -1,14 +1,16 @@
 -- What a session prints, where the bytes that its writer holds are known.
-use Rattle.std.specs.Prelude.{ℕ, suc, ◌-◌, ◌==◌, nat_lt, is_err, Bool, List, [], ◌∷◌, ◌++◌, length, replicate, count_by, flat_map, Option, None, Some, is_some, Ok, Err, codes, if◌then◌else◌}
+use Rattle.std.specs.Prelude.{ℕ, suc, ◌-◌, ◌==◌, nat_lt, is_err, ⊤, Bool, List, [], ◌∷◌, ◌++◌, length, replicate, count_by, flat_map, Option, None, Some, is_some, Result, Ok, Err, codes, if◌then◌else◌}
 use Rattle.std.specs.List.{concat, list_any}
 use Rattle.std.specs.Fmt.{decimal}
 use Rattle.rl_sinks.specs.SinkState.{SinkState}
 use Rattle.rl_sinks.specs.Texts.{tail_text}
+use Rattle.rl_world.specs.declared.fault.Refusal.{Refusal}
 use Rattle.rl_world.specs.declared.fault.Refusal.TheVariants as refusals
 use Rattle.rl_world.specs.declared.step.Committed.{Committed}
 use Rattle.rl_world.specs.declared.step.Reply.{Reply}
 use Rattle.rl_world.specs.declared.step.Reply.TheVariants as replies
-use Rattle.rl_session.specs.Names.{push_error_name, push_refusal, refusal_name}
+use Rattle.rl_session.specs.Names.{push_error_name, push_refusal, refusal_name, edit_refusal_name}
+use Rattle.rl_session.specs.declared.edit.EditRefusal.{EditRefusal}
 use Rattle.rl_session.specs.declared.session.Answer.{Answer}
 use Rattle.rl_session.specs.declared.session.Answer.TheVariants.{Taken, Refused}
 use Rattle.rl_session.specs.declared.session.Got.{Got}
@@ -62,6 +64,21 @@ behind_line (sink ∷ sinks) = codes "behind" ++ flat_map number_text (sink ∷ 
 abbrev pub committed_text : Committed → List ℕ
 committed_text committed = tail_text committed.evaluation ++ behind_line committed.behind
 
+-- what an evaluation or its refusal prints
+abbrev pub evaluated_text : Result Committed Refusal → List ℕ
+evaluated_text (Ok committed) = committed_text committed
+evaluated_text (Err refusal) = refusal_line (refusal_name refusal)
+
+-- what those of the groups that are due print, one behind the other
+abbrev pub ticked_text : List (Result Committed Refusal) → List ℕ
+ticked_text [] = codes "ok\n"
+ticked_text (result ∷ results) = flat_map evaluated_text (result ∷ results)
+
+-- what an edit prints
+abbrev pub edited_text : Result ⊤ EditRefusal → List ℕ
+edited_text (Ok done) = codes "ok\n"
+edited_text (Err refusal) = refusal_line (edit_refusal_name refusal)
+
 -- what a sink that is shown prints: how many texts it has taken, and those that it keeps
 abbrev pub shown_text : Option SinkState → List ℕ
 shown_text None = refusal_line (codes "BadCommand")
@@ -77,8 +94,9 @@ printed gots.Refused = refusal_line (codes "BadCommand")
 printed (gots.Unread error) = bad_push_line (push_error_name error)
 printed (gots.Pushed replies) = pushed_text replies.items
 printed (gots.Unpushed count) = pushed_text (none_pushed count)
-printed (gots.Evaluated (Ok committed)) = committed_text committed
-printed (gots.Evaluated (Err refusal)) = refusal_line (refusal_name refusal)
+printed (gots.Edited result) = edited_text result
+printed (gots.Evaluated result) = evaluated_text result
+printed (gots.Ticked results) = ticked_text results.items
 
 -- taken, unless some of it was refused
 abbrev pub answer_of : Bool → Answer
@@ -88,5 +106,7 @@ answer_of refused = if refused then Refused else Taken
 abbrev pub answer_to : Got → Answer
 answer_to (gots.Pushed replies) = answer_of (list_any is_refused replies.items)
 answer_to (gots.Unpushed count) = answer_of (nat_lt 0 count)
+answer_to (gots.Edited result) = answer_of (is_err result)
 answer_to (gots.Evaluated result) = answer_of (is_err result)
+answer_to (gots.Ticked results) = answer_of (list_any is_err results.items)
 answer_to _ = Refused

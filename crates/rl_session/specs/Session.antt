@@ -8,15 +8,20 @@ use Rattle.rl_sinks.specs.SinkState.{SinkState}
 use Rattle.rl_sinks.specs.declared.sink.SinkFault.{SinkFault}
 use Rattle.rl_world.specs.Closed.{BooksClosed, sinks_of}
 use Rattle.rl_world.specs.WorldState.{BookState, WorldBooks, with_sinks_closed}
+use Rattle.rl_world.specs.History.{is_due}
 use Rattle.rl_world.specs.declared.fault.Refusal.{Refusal}
+use Rattle.rl_world.specs.declared.fault.Refusal.TheVariants as refusals
 use Rattle.rl_world.specs.declared.step.Committed.{Committed}
 use Rattle.rl_world.specs.declared.step.Reply.{Reply}
 use Rattle.rl_world.specs.declared.step.Reply.TheVariants as replies
-use Rattle.rl_session.specs.Command.{Asked, pushes, evaluates, shows, ends, command_of, is_blank_byte}
+use Rattle.rl_session.specs.Command.{Asked, pushes, edits, evaluates, ticks, shows, ends, command_of, is_blank_byte}
 use Rattle.rl_session.specs.Front.{lines_of}
 use Rattle.rl_session.specs.Printed.{shown_text, shown_answer, printed, answer_to}
 use Rattle.rl_session.specs.PushBody.{entries_of}
 use Rattle.rl_session.specs.PushForms.{EntryForm}
+use Rattle.rl_session.specs.Edits.{HasOneGroup, IsEditRefusal}
+use Rattle.rl_session.specs.declared.edit.EditRefusal.{EditRefusal}
+use Rattle.rl_session.specs.declared.edit.EditRefusal.TheVariants as causes
 use Rattle.rl_session.specs.declared.push.PushFault.{PushFault}
 use Rattle.rl_session.specs.declared.session.Answer.{Answer}
 use Rattle.rl_session.specs.declared.session.Answer.TheVariants.{Taken, Refused, Ended}
@@ -42,6 +47,28 @@ IsForPush (Ok entries) (gots.Unpushed count) = count ≡ length entries
 IsForPush (Err fault) (gots.Unread (errors.Fault other)) = other ≡ fault
 IsForPush read got = ⊥
 
+-- what an edit was answered, if it was refused
+abbrev pub edited_of : List Reply → Result ⊤ EditRefusal
+edited_of (replies.Refused refusal ∷ others) = Err (causes.World refusal)
+edited_of _ = Ok tt
+
+-- whether the book is there, and an evaluation of it is due
+abbrev pub is_due_at : Option BookState → ℕ → Bool
+is_due_at None now = false
+is_due_at (Some book) now = is_due book.history now
+
+-- what an edit gets by its document: it is taken, or refused for what comes first
+abbrev pub IsForEdit : List ℕ → Got → Type 0
+IsForEdit document (gots.Edited (Ok done)) = HasOneGroup document
+IsForEdit document (gots.Edited (Err refusal)) = IsEditRefusal document refusal
+IsForEdit document got = ⊥
+
+-- what groups get that are due: each a commit or a refusal, or none for want of memory
+abbrev pub IsForTick : Got → Type 0
+IsForTick (gots.Ticked results) = Unit {0}
+IsForTick (gots.Evaluated (Err refusal)) = refusal ≡ refusals.Memory
+IsForTick got = ⊥
+
 -- what an evaluation gets: a commit or a refusal, or there is no such group
 abbrev pub IsForEvaluation : Got → Type 0
 IsForEvaluation (gots.Evaluated result) = Unit {0}
@@ -55,6 +82,8 @@ IsPrinted got text answer = (text ≡ printed got) × (answer ≡ answer_to got)
 abbrev pub IsTold : Option Asked → List ℕ → Answer → Type 0
 IsTold None text answer = IsPrinted gots.Refused text answer
 IsTold (Some (pushes json)) text answer = (got : Got) × IsForPush (entries_of json) got × IsPrinted got text answer
+IsTold (Some (edits document)) text answer = (got : Got) × IsForEdit document got × IsPrinted got text answer
+IsTold (Some (ticks now)) text answer = (got : Got) × IsForTick got × IsPrinted got text answer
 IsTold (Some (evaluates t group)) text answer = (got : Got) × IsForEvaluation got × IsPrinted got text answer
 IsTold (Some (shows number group)) text answer = (sink : Option SinkState) × (text ≡ shown_text sink) × (answer ≡ shown_answer sink)
 IsTold (Some ends) text answer = (text ≡ []) × (answer ≡ Ended)

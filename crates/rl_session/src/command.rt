@@ -2,7 +2,7 @@
 ghost use Rattle.std.specs.Prelude.{◌≡◌, ◌<◌};
 ghost use Rattle.std.specs.List.{list_all};
 ghost use Rattle.std.specs.Option.{option_map, option_and_then};
-ghost use Rattle.rl_session.specs.Command.{Asked, asked, cut_at, time_of, eval_of, show_of, command_of_words, command_of, is_blank_byte};
+ghost use Rattle.rl_session.specs.Command.{Asked, asked, ticks, cut_at, time_of, eval_of, show_of, command_of_words, command_of, is_blank_byte};
 
 use rl_labels::{Decimal, Ns, number_of};
 
@@ -11,8 +11,12 @@ use rl_labels::{Decimal, Ns, number_of};
 pub enum Command<'a> {
     /// To take the entries of a JSON body.
     Push(&'a str),
+    /// To put the one group of a TOML document in the place of the group with its name.
+    Edit(&'a str),
     /// To evaluate a group at a moment.
     Eval { t: Ns, group: &'a str },
+    /// To evaluate each group that is due at a moment.
+    Tick { now: Ns },
     /// To show the texts that a sink of a group keeps.
     Show { sink: usize, group: &'a str },
     /// To end the session.
@@ -49,8 +53,12 @@ fn read_words<'a>(word: &str, rest: &'a str) -> Option<Command<'a>>
 {
     if word == "push" {
         Some(Command::Push(rest))
+    } else if word == "edit" {
+        Some(Command::Edit(rest))
     } else if word == "eval" {
         read_eval(rest)
+    } else if word == "tick" {
+        read_tick(rest)
     } else if word == "show" {
         read_show(rest)
     } else {
@@ -64,6 +72,13 @@ fn read_eval(words: &str) -> Option<Command<'_>>
     let (time, group) = cut_at(words, ' ')?;
     let t = time_of(time)?;
     Some(Command::Eval { t, group })
+}
+
+fn read_tick(word: &str) -> Option<Command<'_>>
+    ensures { option_map asked result ≡ option_map ticks (time_of word.now) }
+{
+    let now = time_of(word)?;
+    Some(Command::Tick { now })
 }
 
 fn read_show(words: &str) -> Option<Command<'_>>

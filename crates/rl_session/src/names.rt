@@ -1,11 +1,12 @@
 //! The names under which faults and refusals are printed.
 ghost use Rattle.std.specs.Prelude.{◌≡◌};
 ghost use Rattle.std.specs.Option.{option_map};
-ghost use Rattle.rl_session.specs.Names.{push_error_name, front_fault_name, rules_fault_name, book_fault_name, refusal_name, shard_refusal, push_refusal};
+ghost use Rattle.rl_session.specs.Names.{push_error_name, front_fault_name, rules_fault_name, rules_error_name, edit_refusal_name, book_fault_name, refusal_name, shard_refusal, push_refusal};
 
+use crate::edit::EditRefusal;
 use crate::front::FrontFault;
 use crate::push::{PushError, PushFault};
-use rl_rules::RulesFault;
+use rl_rules::{RulesError, RulesFault};
 use rl_shard::ShardReply;
 use rl_world::{BookFault, Refusal, Reply};
 
@@ -48,6 +49,27 @@ fn rules_fault_name(fault: RulesFault) -> &'static str
         RulesFault::BadName => "BadName",
         RulesFault::SameGroup => "SameGroup",
         RulesFault::TooMany => "TooMany",
+    }
+}
+
+// The name under which an edit was refused.
+pub(crate) fn edit_refusal_name(refusal: EditRefusal) -> &'static str
+    ensures { result.now ≡ edit_refusal_name refusal }
+{
+    match refusal {
+        EditRefusal::Rules(error) => rules_error_name(error),
+        EditRefusal::NotOneGroup => "NotOneGroup",
+        EditRefusal::NoSuchGroup => "NoSuchGroup",
+        EditRefusal::World(refusal) => refusal_name(refusal),
+    }
+}
+
+fn rules_error_name(error: RulesError) -> &'static str
+    ensures { result.now ≡ rules_error_name error }
+{
+    match error {
+        RulesError::Fault(fault) => rules_fault_name(fault),
+        RulesError::Memory => "Memory",
     }
 }
 

@@ -1,18 +1,20 @@
 //! A session: commands in their order over a world of one shard, and what they print.
-ghost use Rattle.std.specs.Prelude.{◌≡◌, ◌+◌, ◌≤◌, ◌<◌, length, map, flat_map, codes, None, Some, Ok, IfSome, OnOk, OnErr, IfOk, slice_get};
+ghost use Rattle.std.specs.Prelude.{◌≡◌, ◌+◌, ◌≤◌, ◌<◌, length, map, flat_map, codes, None, Some, Ok, IfSome, OnOk, OnErr, IfOk, IfErr, is_err, slice_get, vec_len, vec_capacity};
 ghost use Rattle.std.specs.List.{AllByRecursion, concat, list_any};
 ghost use Rattle.std.specs.Io.KnownBytes.{Appends};
 ghost use Rattle.rl_world.specs.BookCalls.{IsFresh};
 ghost use Rattle.rl_world.specs.Closed.{sinks_of};
+ghost use Rattle.rl_session.specs.Edits.{IsBehindDocument};
 ghost use Rattle.rl_session.specs.Command.{asked, shows, ends, command_of};
-ghost use Rattle.rl_session.specs.Printed.{refusal_line, bad_push_line, counts_line, entry_line, entry_lines, is_refused, pushed_text, none_pushed, number_text, behind_line, committed_text, shown_text, shown_answer, printed, answer_of, answer_to};
+ghost use Rattle.rl_session.specs.Printed.{refusal_line, bad_push_line, counts_line, entry_line, entry_lines, is_refused, evaluated_text, ticked_text, pushed_text, none_pushed, number_text, behind_line, committed_text, shown_text, shown_answer, printed, answer_of, answer_to};
 ghost use Rattle.rl_session.specs.PushBody.{entries_of};
-ghost use Rattle.rl_session.specs.Session.{IsForPush, IsForEvaluation, KeepsSinks, Tells, TellsLine, TellsText, TellsSession, is_end, is_refusal, ended_by, committed_of};
+ghost use Rattle.rl_session.specs.Session.{IsForPush, IsForEdit, IsForTick, IsForEvaluation, is_due_at, edited_of, KeepsSinks, Tells, TellsLine, TellsText, TellsSession, is_end, is_refusal, ended_by, committed_of};
 ghost use Rattle.rl_session.specs.declared.session.RunError.TheVariants.{WriteFault, Memory};
 
 use crate::command::{Command, is_blank, read_command};
+use crate::edit::{EditRefusal, read_group};
 use crate::front::first_line;
-use crate::names::{push_error_name, push_refusal, refusal_name};
+use crate::names::{edit_refusal_name, push_error_name, push_refusal, refusal_name};
 use crate::push::{PushError, read_push};
 use rl_labels::{Entry, Limits, Ns};
 use rl_rules::Group;
@@ -89,8 +91,12 @@ enum Got {
     Pushed(Vec<Reply>),
     // No memory for the replies to so many entries, of which none was taken.
     Unpushed(usize),
+    // Whether a group was edited.
+    Edited(Result<(), EditRefusal>),
     // The evaluation that was committed, or the first refusal.
     Evaluated(Result<Committed, Refusal>),
+    // The same of each group that was due.
+    Ticked(Vec<Result<Committed, Refusal>>),
 }
 
 /// A world of one shard, with a book for each group.
@@ -220,7 +226,9 @@ impl<S: Sink> Session<S> {
     {
         match command {
             Command::Push(json) => tell(&self.push(json), out),
+            Command::Edit(document) => tell(&self.edit(document), out),
             Command::Eval { t, group } => tell(&self.eval(t, group), out),
+            Command::Tick { now } => tell(&self.tick(now), out),
             Command::Show { sink, group } => self.show(sink, group, out),
             Command::End => Ok(Answer::Ended),
         }
@@ -270,18 +278,96 @@ impl<S: Sink> Session<S> {
         ensures got { IsForEvaluation result }
         ensures sinks { KeepsSinks self.old.world self.new.world }
     {
-        match self.evaluate(t, group) {
+        let Some(number) = self.group_number(group) else {
+            return Got::Refused;
+        };
+        match self.evaluate(t, number) {
             Some(result) => Got::Evaluated(result),
             None => Got::Refused,
         }
     }
 
-    // An evaluation of a group, or the first refusal, which leaves no evaluation open. None where there is no such group.
-    fn evaluate(&mut self, t: Ns, group: &str) -> Option<Result<Committed, Refusal>>
+    // Evaluates each group that is due, in their order. With no room for what they may give it evaluates none.
+    fn tick(&mut self, now: Ns) -> Got
+        ensures got { IsForTick result }
+        ensures sinks { KeepsSinks self.old.world self.new.world }
+    {
+        match Vec::with_capacity(self.alloc, self.world.groups()) {
+            Ok(results) => Got::Ticked(self.evaluate_due(now, results)),
+            Err(AllocError) => Got::Evaluated(Err(Refusal::Memory)),
+        }
+    }
+
+    // Adds for each group that is due its evaluation, or the first refusal.
+    fn evaluate_due(
+        &mut self,
+        now: Ns,
+        mut results: Vec<Result<Committed, Refusal>>,
+    ) -> Vec<Result<Committed, Refusal>>
+        requires { vec_len results + length self.old.world.books ≤ vec_capacity results }
         ensures { KeepsSinks self.old.world self.new.world }
     {
-        let number = self.group_number(group)?;
-        match self.run_evaluation(number, t) {
+        for group in 0..self.world.groups() {
+            if self.is_due(group, now) {
+                if let Some(result) = self.evaluate(now, group) {
+                    results.push_reserved(result);
+                }
+            }
+        }
+        results
+    }
+
+    // Whether an evaluation of the group is due.
+    fn is_due(&self, group: usize, now: Ns) -> bool
+        ensures { result ≡ is_due_at (slice_get self.now.world.books group) now }
+    {
+        match self.world.book(group) {
+            Some(book) => book.due(now),
+            None => false,
+        }
+    }
+
+    // Puts the one group of a document in the place of the group with its name.
+    fn edit(&mut self, document: &str) -> Got
+        ensures got { IsForEdit document.now result }
+        ensures sinks { KeepsSinks self.old.world self.new.world }
+    {
+        match read_group(self.alloc, document) {
+            Ok(to) => Got::Edited(self.put_group(to)),
+            Err(refusal) => Got::Edited(Err(refusal)),
+        }
+    }
+
+    // Puts a group in the place of the group with its name, or tells why not.
+    fn put_group(&mut self, to: Group) -> Result<(), EditRefusal>
+        ensures refused { IfErr result IsBehindDocument }
+        ensures sinks { KeepsSinks self.old.world self.new.world }
+    {
+        let Some(group) = self.group_number(to.name.as_str()) else {
+            return Err(EditRefusal::NoSuchGroup);
+        };
+        match self.run_edit(group, to) {
+            Ok(replies) => edited_of(&replies),
+            Err(AllocError) => Err(EditRefusal::World(Refusal::Memory)),
+        }
+    }
+
+    // What the world replied to the edit.
+    fn run_edit(&mut self, group: usize, to: Group) -> Result<Vec<Reply>, AllocError>
+        ensures { KeepsSinks self.old.world self.new.world }
+    {
+        let mut steps = Vec::with_capacity(self.alloc, 1)?;
+        steps.push(Step::Edit { group, to })?;
+        let mut replies = Vec::with_capacity(self.alloc, 1)?;
+        self.run(steps, &mut replies)?;
+        Ok(replies)
+    }
+
+    // An evaluation of a group, or the first refusal, which leaves no evaluation open.
+    fn evaluate(&mut self, t: Ns, group: usize) -> Option<Result<Committed, Refusal>>
+        ensures { KeepsSinks self.old.world self.new.world }
+    {
+        match self.run_evaluation(group, t) {
             Ok(replies) => committed_of(replies),
             Err(AllocError) => Some(Err(Refusal::Memory)),
         }
@@ -334,6 +420,16 @@ fn is_left_open(replies: &[Reply]) -> bool {
         && !matches!(replies.last(), Some(Reply::Committed(_)))
 }
 
+// Whether the first reply is no refusal, or which it is.
+fn edited_of(replies: &[Reply]) -> Result<(), EditRefusal>
+    ensures { result ≡ edited_of replies.now }
+{
+    match replies.first() {
+        Some(Reply::Refused(refusal)) => Err(EditRefusal::World(*refusal)),
+        _ => Ok(()),
+    }
+}
+
 // The first evaluation that was committed, or the first refusal, whichever a reply has first.
 fn committed_of(replies: Vec<Reply>) -> Option<Result<Committed, Refusal>>
     ensures { result ≡ committed_of replies.items }
@@ -355,7 +451,9 @@ fn answer_to(got: &Got) -> Answer
     match got {
         Got::Pushed(replies) => answer_of(has_refused(replies)),
         Got::Unpushed(count) => answer_of(*count > 0),
+        Got::Edited(result) => answer_of(result.is_err()),
         Got::Evaluated(result) => answer_of(result.is_err()),
+        Got::Ticked(results) => answer_of(has_failed(results)),
         Got::Refused | Got::Unread(_) => Answer::Refused,
     }
 }
@@ -364,6 +462,12 @@ fn has_refused(replies: &[Reply]) -> bool
     ensures { result ≡ list_any is_refused replies.now }
 {
     replies.iter().any(|reply| is_refused(reply))
+}
+
+fn has_failed(results: &[Result<Committed, Refusal>]) -> bool
+    ensures { result ≡ list_any is_err results.now }
+{
+    results.iter().any(|evaluated| evaluated.is_err())
 }
 
 fn answer_of(refused: bool) -> Answer
@@ -394,8 +498,10 @@ fn print<W: Write>(got: &Got, out: &mut W) -> io::Result<()>
         Got::Unread(error) => refuse_push(out, push_error_name(*error)),
         Got::Pushed(replies) => tell_pushed(replies, out),
         Got::Unpushed(count) => tell_none_pushed(*count, out),
-        Got::Evaluated(Ok(committed)) => tell_committed(committed, out),
-        Got::Evaluated(Err(refusal)) => refuse(out, refusal_name(*refusal)),
+        Got::Edited(Ok(())) => out.write_all(b"ok\n"),
+        Got::Edited(Err(refusal)) => refuse(out, edit_refusal_name(*refusal)),
+        Got::Evaluated(result) => tell_evaluated(result, out),
+        Got::Ticked(results) => tell_ticked(results, out),
     }
 }
 
@@ -471,6 +577,29 @@ fn tell_each_refused<W: Write>(count: usize, out: &mut W) -> io::Result<()>
         tell_refusal(number, "Memory", out)?;
     }
     Ok(())
+}
+
+// Tells what the groups that were due gave, if some were.
+fn tell_ticked<W: Write>(results: &[Result<Committed, Refusal>], out: &mut W) -> io::Result<()>
+    ensures { OnOk result (Appends (W.contents out.old) (W.contents out.new) (ticked_text results.now)) }
+{
+    if results.is_empty() {
+        return out.write_all(b"ok\n");
+    }
+    for evaluated in results {
+        tell_evaluated(evaluated, out)?;
+    }
+    Ok(())
+}
+
+// Tells what an evaluation found, or why it was refused.
+fn tell_evaluated<W: Write>(evaluated: &Result<Committed, Refusal>, out: &mut W) -> io::Result<()>
+    ensures { OnOk result (Appends (W.contents out.old) (W.contents out.new) (evaluated_text evaluated.now)) }
+{
+    match evaluated {
+        Ok(committed) => tell_committed(committed, out),
+        Err(refusal) => refuse(out, refusal_name(*refusal)),
+    }
 }
 
 // Tells what an evaluation found, and which sinks are behind.

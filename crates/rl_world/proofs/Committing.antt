@@ -1,5 +1,5 @@
 -- What a commit makes of a book's sinks.
-use Rattle.std.proofs.Common.{◌≡◌, ℕ, suc, Bool, List, [], ◌∷◌, ◌++◌, map, length, take, Option, None, Some, IfSome, Result, Ok, Err, OnOk, OnErr, option_map, slice_get, slice_set, refl, sym, ap, subst, ◌∙◌, arith, length-append}
+use Rattle.std.proofs.Common.{◌≡◌, ℕ, suc, Bool, false, List, [], ◌∷◌, ◌++◌, map, length, take, Option, None, Some, is_some, IfSome, Result, Ok, Err, OnOk, OnErr, option_map, slice_get, slice_set, refl, sym, ap, subst, ◌∙◌, arith, length-append}
 use Rattle.std.specs.List.{AllByRecursion}
 use Rattle.std.proofs.lemmas.List.{take-append-le}
 use Rattle.rl_rules.specs.declared.evaluation.Evaluation.{Evaluation}
@@ -9,7 +9,7 @@ use Rattle.rl_shard.specs.ShardState.{Journalled}
 use Rattle.rl_world.specs.BookCalls.{Answers}
 use Rattle.rl_world.specs.Evaluating.{group_terms, evaluation_of}
 use Rattle.rl_world.specs.Kept.{evaluation_from}
-use Rattle.rl_world.specs.History.{History, closing_fault, commit_fault, committed, is_session_full}
+use Rattle.rl_world.specs.History.{History, alerts_of, closing_fault, commit_fault, committed, is_session_full}
 use Rattle.rl_world.specs.Offering.{TookPrefix, Offered, AllOffered, texts_of}
 use Rattle.rl_world.specs.WorldState.{BookState, IsBookOf, kept_open, world_of}
 use Rattle.rl_labels.specs.declared.entry.Entry.{Entry}
@@ -36,9 +36,9 @@ pub each_took_more : (evaluations : List Evaluation) (evaluation : Evaluation) (
 each_took_more evaluations evaluation [] took = tt
 each_took_more evaluations evaluation (sink ∷ sinks) took = (took_more evaluations evaluation sink took.0, each_took_more evaluations evaluation sinks took.1)
 
--- what was committed is one more than before
-pub one_more : (evaluations now : List Evaluation) (evaluation : Evaluation) → now ≡ evaluations ++ evaluation ∷ [] → length now ≡ suc (length evaluations)
-one_more evaluations now evaluation is = omega (arith, ap length {x = now} {y = evaluations ++ evaluation ∷ []} is, length-append evaluations (evaluation ∷ []))
+-- with one at its end a list has one more than before
+pub one_more : {X : Type 0} (before now : List X) (x : X) → now ≡ before ++ x ∷ [] → length now ≡ suc (length before)
+one_more before now x is = omega (arith, ap length {x = now} {y = before ++ x ∷ []} is, length-append before (x ∷ []))
 
 -- of what is not there anything holds
 pub holds_of_none : {X : Type 0} (P : X → Type 0) (slot : Option X) → slot ≡ None → IfSome slot P
@@ -47,6 +47,11 @@ holds_of_none P (Some x) none = absurd (some_none x none)
   where
     some_none : {X : Type 0} (x : X) → Some x ≡ None → ⊥
     some_none x h = cc
+
+-- what is not there is nothing
+pub none_there : {X : Type 0} (slot : Option X) → is_some slot ≡ false → slot ≡ None
+none_there None none = refl
+none_there (Some x) none = cc
 
 -- what took prefixes before one more was committed takes prefixes of all
 pub each_took_now : (evaluations now : List Evaluation) (evaluation : Evaluation) (sinks same : List SinkState) → now ≡ evaluations ++ evaluation ∷ [] → same ≡ sinks → AllByRecursion (TookPrefix evaluations) sinks → AllByRecursion (TookPrefix now) same
@@ -84,9 +89,9 @@ open_with P None full free holds = absurd (some_none free)
 open_with P (Some opened) full free holds = record { opened = opened; is = refl; holds = holds }
 
 -- an evaluation on what is kept is the one from scratch on what was shown
-pub from_scratch : (history : History (List Partial)) (evaluation : Evaluation) (opened : OpenEvaluation (List Partial)) (shown : OpenEvaluation (List Entry)) → evaluation ≡ evaluation_from history.group opened → history.opened ≡ Some opened
-    → history.opened ≡ Some (kept_open (group_terms history.group) shown) → evaluation ≡ evaluation_of history.group shown
-from_scratch history evaluation opened shown made is kept = made ∙ ap (evaluation_from history.group) (some_is opened (kept_open (group_terms history.group) shown) (sym is ∙ kept)) ∙ kept_evaluation history.group shown
+pub from_scratch : (history : History (List Partial)) (evaluation : Evaluation) (opened : OpenEvaluation (List Partial)) (shown : OpenEvaluation (List Entry)) → evaluation ≡ evaluation_from history.group (alerts_of history) opened → history.opened ≡ Some opened
+    → history.opened ≡ Some (kept_open (group_terms history.group) shown) → evaluation ≡ evaluation_of history.group (alerts_of history) shown
+from_scratch history evaluation opened shown made is kept = made ∙ ap (evaluation_from history.group (alerts_of history)) (some_is opened (kept_open (group_terms history.group) shown) (sym is ∙ kept)) ∙ kept_evaluation history.group (alerts_of history) shown
   where
     some_is : {X : Type 0} (a b : X) → Some a ≡ Some b → a ≡ b
     some_is a b h = cc
@@ -97,12 +102,12 @@ fits_commit n (Ok answer) book after fits rest offered err = (rest.0 ∙ fits.0,
 fits_commit n (Err error) book after fits rest offered err = subst (IsBookOf n) (sym err) fits
 
 module _ (shards : List Journalled) (books : List BookState) (group : ℕ) (book after : BookState) (there : slice_get books group ≡ Some book) where
-  pub commit_turn : (answer : Committed) → Answers (commit_fault book.history) (Ok answer) → answer.number ≡ length book.history.evaluations → IfSome book.history.opened (λ opened. answer.evaluation ≡ evaluation_from book.history.group opened)
+  pub commit_turn : (answer : Committed) → Answers (commit_fault book.history) (Ok answer) → answer.number ≡ length book.history.evaluations → IfSome book.history.opened (λ opened. answer.evaluation ≡ evaluation_from book.history.group (alerts_of book.history) opened)
       → after.history ≡ committed book.history answer.evaluation
       → WorldStep partials (world_of shards books) (steps.Commit group) (replies.Committed answer) (world_of shards (slice_set books group after))
   commit_turn answer free number evaluation history =
       let none = answered_ok (commit_fault book.history) answer free in
-      let here = open_with (λ opened. answer.evaluation ≡ evaluation_from book.history.group opened) book.history.opened (is_session_full book.history) none evaluation in (
+      let here = open_with (λ opened. answer.evaluation ≡ evaluation_from book.history.group (alerts_of book.history) opened) book.history.opened (is_session_full book.history) none evaluation in (
         commit_refusal shards books group book there ∙ ap (option_map refusals.Book) none,
         record {
           history = book.history;

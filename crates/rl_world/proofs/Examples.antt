@@ -14,7 +14,7 @@ use Rattle.rl_world.specs.declared.step.Reply.{Reply}
 use Rattle.rl_world.specs.declared.step.Reply.TheVariants as replies
 
 not_within_less : IsWithin 1 (record { errors = 2; totals = empty }) → ⊥
-not_within_less within = omega (arith, within.errors)
+not_within_less within = omega (arith, within.counts)
 
 not_of_two_terms : (partial : Partial) → AreOfOneShard 2 (partial ∷ []) → ⊥
 not_of_two_terms partial are = omega (arith, are.each)

@@ -2,6 +2,7 @@ pub mod Closing
 pub mod Committing
 pub mod Counting
 pub mod Gathering
+pub mod Items
 pub mod Lifting
 pub mod Merging
 pub mod Offers

@@ -3,6 +3,7 @@ use Rattle.std.proofs.Common.{◌≡◌, inl, inr, ℕ, zero, suc, cond, ◌&&�
 use Rattle.std.specs.List.{list_all}
 use Rattle.std.proofs.lemmas.List.{map-set}
 use Rattle.std.proofs.lemmas.Option.{slice_get-map}
+use Rattle.rl_labels.specs.Name.{is_text}
 use Rattle.rl_labels.specs.declared.entry.Entry.{Entry}
 use Rattle.rl_query.specs.declared.query.Term.{Term}
 use Rattle.rl_aggregate.specs.declared.partial.Partial.{Partial}
@@ -11,12 +12,13 @@ use Rattle.rl_shard.specs.ShardStep.{recorded}
 use Rattle.rl_shard.specs.declared.step.ShardStep.{ShardStep}
 use Rattle.rl_shard.specs.declared.step.ShardStep.TheVariants as shard_steps
 use Rattle.rl_shard.specs.declared.step.ShardReply.{ShardReply}
+use Rattle.rl_rules.specs.declared.rule.Group.{Group}
 use Rattle.rl_world.specs.Evaluating.{group_terms}
 use Rattle.rl_world.specs.Kept.{partials_of}
-use Rattle.rl_world.specs.History.{History, begin_fault, gather_fault, commit_fault, abandon_fault, asked_fault, closing_fault, is_session_full, last_moment, not_later, is_gathered, is_complete, begun, gathered, with_shown, committed, abandoned}
+use Rattle.rl_world.specs.History.{History, alerts_of, begin_fault, gather_fault, commit_fault, abandon_fault, asked_fault, closing_fault, is_session_full, last_moment, not_later, is_gathered, is_complete, begun, edited, gathered, with_shown, committed, abandoned}
 use Rattle.rl_world.specs.laws.ShownLaws.{kept_evaluation}
 use Rattle.rl_world.specs.WorldState.{WorldState, Stands, kept_answer, kept_open, kept_history, kept_world}
-use Rattle.rl_world.specs.WorldStep.{WorldStep, Turn, MayRefuse, ShardTurn, HistoryTurn, GatherTurn, CommitTurn, lists, partials, known, or_else, journal_refusal, refusal_of, with_shard, with_history}
+use Rattle.rl_world.specs.WorldStep.{WorldStep, Turn, MayRefuse, ShardTurn, HistoryTurn, EditTurn, GatherTurn, CommitTurn, lists, partials, known, or_else, edit_refusal, journal_refusal, refusal_of, with_shard, with_history}
 use Rattle.rl_world.specs.declared.fault.BookFault.TheVariants as faults
 use Rattle.rl_world.specs.declared.fault.Refusal.{Refusal}
 use Rattle.rl_world.specs.declared.fault.Refusal.TheVariants as refusals
@@ -94,6 +96,9 @@ commit-kept history = within history.opened
 abandon-kept : (history : History (List Entry)) → abandon_fault (kept_history history) ≡ abandon_fault history
 abandon-kept history = ap (λ b. cond b None (Some faults.NotOpen)) (is_some-option_map (kept_open (group_terms history.group)) history.opened)
 
+edit-kept : (to : Group) (history : History (List Entry)) → edit_refusal to (kept_history history) ≡ edit_refusal to history
+edit-kept to history = ap (λ b. cond (is_text to.name history.group.name) (option_map refusals.Book (cond b (Some faults.Busy) (cond (is_session_full history) (Some faults.SessionFull) None))) (Some refusals.NoSuch)) (is_some-option_map (kept_open (group_terms history.group)) history.opened)
+
 known-kept : (o : Option (History (List Entry))) (f : History (List Partial) → Option Refusal) (h : History (List Entry) → Option Refusal) → ((history : History (List Entry)) → f (kept_history history) ≡ h history) → known (option_map kept_history o) f ≡ known o h
 known-kept None f h same = refl
 known-kept (Some history) f h same = same history
@@ -105,6 +110,7 @@ module _ (world : Lists) where
 
   refusal-kept : (step : Step) → refusal_of (kept_world world) step ≡ refusal_of world step
   refusal-kept (steps.Shard number step) = refl
+  refusal-kept (steps.Edit group to) = at_group group (edit_refusal to) (edit_refusal to) (edit-kept to)
   refusal-kept (steps.Begin group t) = at_group group (λ history. option_map refusals.Book (begin_fault history t)) (λ history. option_map refusals.Book (begin_fault history t)) (λ history. ap (option_map refusals.Book) (begin-kept history t))
   refusal-kept (steps.Gather group number) =
       at_group group (λ history. known (slice_get world.shards number) (λ shard. or_else (option_map refusals.Book (gather_fault history number)) (journal_refusal shard)))
@@ -129,8 +135,10 @@ replicate_none f none (suc n) = λ i. sym none i ∷ replicate_none f none n i
 
 begun-kept : (shards : ℕ) (history : History (List Entry)) (t : ℕ) → begun shards (kept_history history) t ≡ kept_history (begun shards history t)
 begun-kept shards history t = λ i. record {
-  group = history.group;
+  first = history.first;
   records = history.records;
+  items = history.items;
+  group = history.group;
   evaluations = history.evaluations;
   opened = Some (record { t = t; gathered = replicate_none (option_map (kept_answer (group_terms history.group) t)) refl shards i });
 }
@@ -146,8 +154,10 @@ gathered-kept : (history : History (List Entry)) (opened : OpenEvaluation (List 
 gathered-kept history opened number place entries is =
     let terms = group_terms history.group in
     λ i. record {
-      group = history.group;
+      first = history.first;
       records = history.records;
+      items = history.items;
+      group = history.group;
       evaluations = history.evaluations;
       opened = (ap (λ o. option_map (with_shown number place (partials_of entries terms opened.t)) (option_map (kept_open terms) o)) is
           ∙ ap (λ o. Some o) (shown-kept terms opened number place entries)
@@ -171,6 +181,15 @@ lift_history world group step reply kept_change change new commutes is_turn turn
       after = with_history world group (change found.item);
       stands = turn.after ∙ ap (λ h. with_history (kept_world world) group (kept_change h)) (sym found.value) ∙ ap (with_history (kept_world world) group) (commutes found.item) ∙ set-kept world group (change found.item);
       turn = is_turn (with_history world group (change found.item)) (record { history = found.item; there = found.is; after = refl });
+    }
+
+lift_edit : (world : Lists) (group : ℕ) (to : Group) (place : ℕ) (new : Parts) → EditTurn (kept_world world) group to place new → LiftedTurn world (steps.Edit group to) (replies.Edited place) new
+lift_edit world group to place new turn =
+    let found = history_in world.histories group turn.history turn.there in
+    record {
+      after = with_history world group (edited found.item to);
+      stands = turn.after ∙ ap (λ h. with_history (kept_world world) group (edited h to)) (sym found.value) ∙ set-kept world group (edited found.item to);
+      turn = record { history = found.item; there = found.is; place_is = turn.place_is ∙ ap (λ (h : History (List Partial)). length h.items) (sym found.value); after = refl };
     }
 
 lift_gather : (world : Lists) (group number place : ℕ) (new : Parts) → GatherTurn partials (kept_world world) group number place new → LiftedTurn world (steps.Gather group number) (replies.Gathered place) new
@@ -204,13 +223,14 @@ lift_commit world group answer new turn =
         opened = open_found.item;
         open_is = open_found.is;
         number_is = turn.number_is ∙ ap (λ (h : History (List Partial)). length h.evaluations) (sym found.value);
-        evaluation_is = turn.evaluation_is ∙ (λ i. partials.evaluate (sym found.value i).group (sym open_found.value i)) ∙ kept_evaluation history.group open_found.item;
+        evaluation_is = turn.evaluation_is ∙ (λ i. partials.evaluate (sym found.value i).group (alerts_of (sym found.value i)) (sym open_found.value i)) ∙ kept_evaluation history.group (alerts_of history) open_found.item;
         after = refl;
       };
     }
 
 lift_turn : (world : Lists) (step : Step) (reply : Reply) (new : Parts) → Turn partials (kept_world world) step reply new → LiftedTurn world step reply new
 lift_turn world (steps.Shard number step) (replies.Decided place reply) new turn = lift_shard world number step place reply new turn
+lift_turn world (steps.Edit group to) (replies.Edited place) new turn = lift_edit world group to place new turn
 lift_turn world (steps.Begin group t) replies.Begun new turn =
     lift_history world group (steps.Begin group t) replies.Begun (λ history. begun (length world.shards) history t) (λ history. begun (length world.shards) history t) new (λ history. begun-kept (length world.shards) history t) (λ after turn. turn) turn
 lift_turn world (steps.Gather group number) (replies.Gathered place) new turn = lift_gather world group number place new turn

@@ -2,23 +2,20 @@
 use Rattle.std.proofs.Common.{◌≡◌, ℕ, zero, suc, ◌+◌, ◌-◌, ◌*◌, ◌<◌, ◌≤◌, List, [], ◌∷◌, ◌++◌, length, get_or, drop, flat_map, cond, ◌||◌, Option, None, Some, is_some, option_to_list, refl, sym, ap, subst, ◌∙◌, append_assoc, add-one, arith}
 use Rattle.std.specs.List.{AllByRecursion}
 use Rattle.std.specs.Option.{unwrap_or}
-use Rattle.std.specs.FinMap.{get, empty, get-empty}
+use Rattle.std.specs.FinMap.{get, empty, get-empty, len-empty}
 use Rattle.std.proofs.lemmas.List.{at_drop_more, get_or_default}
 use Rattle.std.proofs.lemmas.List.Elements.{All-from_recursion}
-use Rattle.rl_labels.specs.LabelSet.{LabelSet}
 use Rattle.rl_labels.specs.LabelText.{label_set_cmp}
-use Rattle.rl_aggregate.specs.laws.Totals.{same_totals, get-both_totals, total_at-both_totals}
+use Rattle.rl_aggregate.specs.laws.Sums.{len-both_totals, counts-both_totals, bytes-both_totals, sum_of-empty, total_at-sum_of}
+use Rattle.rl_aggregate.specs.laws.Totals.{same_totals, get-both_totals}
+use Rattle.rl_aggregate.specs.Limited.{IsLimited}
 use Rattle.rl_aggregate.specs.Partials.{both_totals, merge, most_entries, Fits}
 use Rattle.rl_aggregate.specs.TotalsMap.{no_total, plus, total_at}
 use Rattle.rl_aggregate.specs.declared.total.Total.{Total}
 use Rattle.rl_aggregate.specs.declared.partial.Partial.{Partial}
 use Rattle.rl_world.specs.Kept.{no_partial, merged_from, merged_terms}
-use Rattle.rl_world.specs.Slots.{IsWithin, HasTerm, most_in_shard, most_shards}
+use Rattle.rl_world.specs.Slots.{IsWithin, IsKept, HasTerm, most_in_shard, most_shards}
 use Rattle.rl_world.specs.declared.opened.Gathered.{Gathered}
-
--- nothing is at a label set of no partial
-total_at-none : (labels : LabelSet) → total_at no_partial.totals labels ≡ no_total
-total_at-none labels = ap (λ found. unwrap_or found no_total) (get-empty label_set_cmp labels)
 
 -- what is merged into no partial is itself
 pub merge-into_nothing : (partial : Partial) → merge no_partial partial ≡ partial
@@ -40,29 +37,43 @@ merge-into_nothing partial =
 -- no entry gives the numbers of no partial
 pub within-none : IsWithin 0 no_partial
 within-none = record {
-  errors = omega arith;
-  counts = λ labels. omega (arith, ap (λ total. total.count) (total_at-none labels));
-  bytes = λ labels. omega (arith, ap (λ total. total.bytes) (total_at-none labels));
+  sets = omega (arith, len-empty label_set_cmp Total);
+  counts = omega (arith, sum_of-empty (λ total. total.count));
+  bytes = omega (arith, sum_of-empty (λ total. total.bytes));
 }
 
 -- the numbers of a merge are within what both may hold
 pub within-merge : (m n : ℕ) (a b : Partial) → IsWithin m a → IsWithin n b → IsWithin (m + n) (merge a b)
 within-merge m n a b here there = record {
-  errors = omega (arith, here.errors, there.errors);
-  counts = λ labels. omega (arith, ap (λ total. total.count) (total_at-both_totals a.totals b.totals labels), here.counts labels, there.counts labels);
-  bytes = λ labels. omega (arith, ap (λ total. total.bytes) (total_at-both_totals a.totals b.totals labels), here.bytes labels, there.bytes labels);
+  sets = omega (arith, len-both_totals a.totals b.totals, here.sets, there.sets);
+  counts = omega (arith, counts-both_totals a.totals b.totals, here.counts, there.counts);
+  bytes = omega (arith, bytes-both_totals a.totals b.totals, here.bytes, there.bytes);
 }
 
 -- numbers within what all shards hold fit
 pub within-fits : (n : ℕ) (partial : Partial) → IsWithin n partial → n ≤ most_entries → Fits partial
-within-fits n partial within few = (omega (arith, within.errors), λ labels. (omega (arith, within.counts labels), omega (arith, within.bytes labels)))
+within-fits n partial within few = (
+  omega (arith, within.counts),
+  λ labels. (
+    omega (arith, within.counts, total_at-sum_of (λ total. total.count) refl partial.totals labels),
+    omega (arith, within.bytes, total_at-sum_of (λ total. total.bytes) refl partial.totals labels),
+  ),
+)
+
+-- and are within the limits of one term
+pub within-limited : (n : ℕ) (partial : Partial) → IsWithin n partial → n ≤ most_shards * most_in_shard → IsLimited partial
+within-limited n partial within few = record {
+  sets = omega (arith, within.sets);
+  counts = omega (arith, within.counts);
+  bytes = omega (arith, within.bytes);
+}
 
 -- what is within is so for more entries
 pub within-more : (m n : ℕ) (partial : Partial) → m ≤ n → IsWithin m partial → IsWithin n partial
 within-more m n partial more within = record {
-  errors = omega (arith, within.errors);
-  counts = λ labels. omega (arith, within.counts labels);
-  bytes = λ labels. omega (arith, within.bytes labels);
+  sets = omega (arith, within.sets);
+  counts = omega (arith, within.counts);
+  bytes = omega (arith, within.bytes);
 }
 
 abbrev Slot : Type 0
@@ -124,3 +135,26 @@ merged_terms-more done term terms answers inside =
 pub length-merged_terms : (term terms : ℕ) (answers : List (Gathered (List Partial))) → length (merged_terms term terms answers) ≡ terms
 length-merged_terms term zero answers = refl
 length-merged_terms term (suc more) answers = ap suc (length-merged_terms (suc term) more answers)
+
+-- what all slots merge to is within what all shards may hold
+merged-within : (term n : ℕ) (slots : Slots) (sum : Partial) → IsWithin n sum → AllByRecursion (HasTerm term) slots → IsWithin (n + length slots * most_in_shard) (merged_from sum term (flat_map option_to_list slots))
+merged-within term n [] sum within each = within-more n _ sum (omega arith) within
+merged-within term n (None ∷ slots) sum within each = within-more (n + length slots * most_in_shard) _ _ (omega arith) (merged-within term n slots sum within each.1)
+merged-within term n (Some answer ∷ slots) sum within each =
+    let own = get_or answer.shown term no_partial in
+    let own_within : IsWithin most_in_shard own = All-from_recursion _ answer.shown each.0.1 term no_partial each.0.0 in
+    within-more (n + most_in_shard + length slots * most_in_shard) _ _ (omega arith) (merged-within term (n + most_in_shard) slots (merge sum own) (within-merge n most_in_shard sum own within own_within) each.1)
+
+-- a slot that has a partial for each term has one for this
+has_term : (term terms : ℕ) (slots : Slots) → term < terms → AllByRecursion (IsKept terms) slots → AllByRecursion (HasTerm term) slots
+has_term term terms [] inside kept = tt
+has_term term terms (None ∷ slots) inside kept = (kept.0, has_term term terms slots inside kept.1)
+has_term term terms (Some answer ∷ slots) inside kept = ((omega (arith, inside, kept.0.each), kept.0.within), has_term term terms slots inside kept.1)
+
+-- so the merge of each term is within the limits of one
+pub merged_terms-limited : (term more terms : ℕ) (slots : Slots) → length slots ≤ most_shards → term + more ≤ terms → AllByRecursion (IsKept terms) slots → AllByRecursion IsLimited (merged_terms term more (flat_map option_to_list slots))
+merged_terms-limited term zero terms slots few inside kept = tt
+merged_terms-limited term (suc more) terms slots few inside kept = (
+  within-limited (0 + length slots * most_in_shard) _ (merged-within term 0 slots no_partial within-none (has_term term terms slots (omega arith) kept)) (omega arith),
+  merged_terms-limited (suc term) more terms slots few (omega arith) kept,
+)

@@ -81,8 +81,8 @@ histories_shown : (books : List BookState) → AllByRecursion IsUnopened books �
 histories_shown [] all = ([], refl)
 histories_shown (book ∷ books) all =
     let rest = histories_shown books all.1 in (
-      record { group = book.history.group; records = book.history.records; evaluations = book.history.evaluations; opened = None } ∷ rest.0,
-      λ i. record { group = book.history.group; records = book.history.records; evaluations = book.history.evaluations; opened = all.0 i } ∷ rest.1 i,
+      record { first = book.history.first; records = book.history.records; items = book.history.items; group = book.history.group; evaluations = book.history.evaluations; opened = None } ∷ rest.0,
+      λ i. record { first = book.history.first; records = book.history.records; items = book.history.items; group = book.history.group; evaluations = book.history.evaluations; opened = all.0 i } ∷ rest.1 i,
     )
 
 -- and a new world stands for worlds in which nothing was shown

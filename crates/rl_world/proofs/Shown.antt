@@ -4,7 +4,7 @@ use Rattle.std.specs.List.{AllByRecursion}
 use Rattle.std.proofs.lemmas.List.{length-map}
 use Rattle.rl_labels.specs.declared.entry.Entry.{Entry}
 use Rattle.rl_query.specs.declared.query.Term.{Term}
-use Rattle.rl_aggregate.specs.laws.Totals.{errors-within, count-within, bytes-within}
+use Rattle.rl_aggregate.specs.laws.Sums.{len-partial, counts-partial, bytes-partial}
 use Rattle.rl_aggregate.specs.Partials.{partial}
 use Rattle.rl_aggregate.specs.declared.partial.Partial.{Partial}
 use Rattle.rl_shard.specs.declared.step.ShardReply.{ShardReply}
@@ -16,9 +16,9 @@ each_within : (entries : List Entry) (terms : List Term) (t : ℕ) → length en
 each_within entries [] t few = tt
 each_within entries (term ∷ terms) t few = (
   record {
-    errors = omega (arith, errors-within entries term t, few);
-    counts = λ q. omega (arith, count-within entries term t q, few);
-    bytes = λ q. omega (arith, bytes-within entries term t q, few);
+    sets = omega (arith, len-partial entries term t, few);
+    counts = omega (arith, counts-partial entries term t, few);
+    bytes = omega (arith, bytes-partial entries term t, few);
   },
   each_within entries terms t few,
 )

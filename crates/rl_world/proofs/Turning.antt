@@ -5,6 +5,8 @@ use Rattle.std.proofs.lemmas.List.{map-set, set-get_or}
 use Rattle.std.proofs.lemmas.Option.{slice_get-map, get_or_from_slice_get}
 use Rattle.std.proofs.lemmas.Bool.{and_from, true≢false}
 use Rattle.std.proofs.Math.Seq.{map-set_same}
+use Rattle.rl_labels.specs.Name.{is_text}
+use Rattle.rl_rules.specs.declared.rule.Group.{Group}
 use Rattle.rl_shard.specs.ShardState.{Journalled}
 use Rattle.rl_shard.specs.ShardStep.{step_reply, recorded, is_journal_full, needs_no_memory}
 use Rattle.rl_shard.specs.declared.step.ShardStep.{ShardStep}
@@ -12,10 +14,10 @@ use Rattle.rl_shard.specs.declared.step.ShardReply.{ShardReply}
 use Rattle.rl_shard.specs.declared.step.ShardFault.{ShardFault}
 use Rattle.rl_shard.specs.declared.step.ShardFault.TheVariants as shard_faults
 use Rattle.rl_world.specs.BookCalls.{Answers, Refuses, with_history}
-use Rattle.rl_world.specs.History.{begin_fault, commit_fault, abandon_fault, begun, abandoned}
+use Rattle.rl_world.specs.History.{begin_fault, commit_fault, abandon_fault, edit_fault, begun, abandoned, edited}
 use Rattle.rl_world.specs.WorldRun.{told}
 use Rattle.rl_world.specs.WorldState.{BookState, world_of}
-use Rattle.rl_world.specs.WorldStep.{WorldStep, MayRefuse, partials, known, journal_refusal, refusal_of, may_want, shard_may_want, told_of_shard, told_of_book}
+use Rattle.rl_world.specs.WorldStep.{WorldStep, MayRefuse, partials, known, edit_refusal, journal_refusal, refusal_of, may_want, shard_may_want, told_of_shard, told_of_book}
 use Rattle.rl_world.specs.declared.fault.BookFault.{BookFault}
 use Rattle.rl_plain.specs.declared.refusal.OrMemory.{OrMemory}
 use Rattle.rl_plain.specs.declared.refusal.OrMemory.TheVariants as errors
@@ -166,6 +168,30 @@ module _ (shards : List Journalled) (books : List BookState) where
       → Answers {A = Unit {0}} (begin_fault book.history t) (Err error) → refusal ≡ told_of_book error → after ≡ book
       → WorldStep partials (world_of shards books) (steps.Begin group t) (replies.Refused refusal) (world_of shards (slice_set books group after))
   begin_refused group t book after error refusal there answer refusal_is after_is = book_refused (Unit {0}) group (steps.Begin group t) (begin_fault book.history t) error refusal book after there (begin_refusal group t book there) refl answer refusal_is after_is
+
+  edit_told : (group : ℕ) (to : Group) (book : BookState) → slice_get books group ≡ Some book → refusal_of (world_of shards books) (steps.Edit group to) ≡ edit_refusal to book.history
+  edit_told group to book there = ap (λ h. known h (edit_refusal to)) (history_at group book there)
+
+  edit_named : (group : ℕ) (to : Group) (book : BookState) → slice_get books group ≡ Some book → is_text to.name book.history.group.name ≡ true → refusal_of (world_of shards books) (steps.Edit group to) ≡ option_map refusals.Book (edit_fault book.history)
+  edit_named group to book there named = edit_told group to book there ∙ ap (λ b. cond b (option_map refusals.Book (edit_fault book.history)) (Some refusals.NoSuch)) named
+
+  pub edit_turn : (group place : ℕ) (to : Group) (book after : BookState) → slice_get books group ≡ Some book → is_text to.name book.history.group.name ≡ true
+      → Answers (edit_fault book.history) (Ok place) → place ≡ length book.history.items → after ≡ with_history book (edited book.history to)
+      → WorldStep partials (world_of shards books) (steps.Edit group to) (replies.Edited place) (world_of shards (slice_set books group after))
+  edit_turn group place to book after there named answer place_is after_is = (
+    edit_named group to book there named ∙ ap (option_map refusals.Book) (answered_ok (edit_fault book.history) place answer),
+    record {
+      history = book.history;
+      there = history_at group book there;
+      place_is = place_is;
+      after = world_with group after ∙ (λ i. record { shards = shards; histories = slice_set (map (λ (b : BookState). b.history) books) group (after_is i).history });
+    },
+  )
+
+  pub edit_refused : (group : ℕ) (to : Group) (book after : BookState) (error : OrMemory BookFault) (refusal : Refusal) → slice_get books group ≡ Some book → is_text to.name book.history.group.name ≡ true
+      → Answers {A = ℕ} (edit_fault book.history) (Err error) → refusal ≡ told_of_book error → after ≡ book
+      → WorldStep partials (world_of shards books) (steps.Edit group to) (replies.Refused refusal) (world_of shards (slice_set books group after))
+  edit_refused group to book after error refusal there named answer refusal_is after_is = book_refused ℕ group (steps.Edit group to) (edit_fault book.history) error refusal book after there (edit_named group to book there named) refl answer refusal_is after_is
 
   pub abandon_turn : (group : ℕ) (book after : BookState) → slice_get books group ≡ Some book → Refuses (abandon_fault book.history) (Ok (tt {0})) → after ≡ with_history book (abandoned book.history)
       → WorldStep partials (world_of shards books) (steps.Abandon group) replies.Abandoned (world_of shards (slice_set books group after))

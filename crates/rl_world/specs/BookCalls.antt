@@ -14,7 +14,7 @@ abbrev pub IsFresh : SinkState → Type 0
 IsFresh sink = (sink.count ≡ 0) × (sink.kept ≡ [])
 
 abbrev pub new_history : ℕ → Group → History (List Partial)
-new_history records group = record { group = group; records = records; evaluations = []; opened = None }
+new_history records group = record { first = group; records = records; items = []; group = group; evaluations = []; opened = None }
 
 abbrev pub new_book : ℕ → ℕ → ℕ → Group → List SinkState → BookState
 new_book slot records shards group sinks = record { history = new_history records group; shards = shards; slot = slot; sinks = sinks }

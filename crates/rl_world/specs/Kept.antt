@@ -6,13 +6,14 @@ use Rattle.rl_query.specs.declared.query.Term.{Term}
 use Rattle.rl_aggregate.specs.Evaluated.{terms_of, finished}
 use Rattle.rl_aggregate.specs.Partials.{partial, merge}
 use Rattle.rl_aggregate.specs.declared.partial.Partial.{Partial}
+use Rattle.rl_rules.specs.declared.alert.Alert.{Alert}
 use Rattle.rl_rules.specs.declared.rule.Rule.{Rule}
 use Rattle.rl_rules.specs.declared.rule.Group.{Group}
 use Rattle.rl_rules.specs.declared.evaluation.RuleResult.{RuleResult}
 use Rattle.rl_rules.specs.declared.evaluation.Evaluation.{Evaluation}
 use Rattle.rl_world.specs.declared.opened.Gathered.{Gathered}
 use Rattle.rl_world.specs.declared.opened.OpenEvaluation.{OpenEvaluation}
-use Rattle.rl_world.specs.Evaluating.{group_terms, answers, result_of, evaluation_with}
+use Rattle.rl_world.specs.Evaluating.{group_terms, answers, result_of, first_alerts, evaluation_with}
 
 -- what is kept of a list: its partial for each term
 abbrev pub partials_of : List Entry → List Term → ℕ → List Partial
@@ -31,11 +32,11 @@ abbrev pub merged_terms : ℕ → ℕ → List (Gathered (List Partial)) → Lis
 merged_terms term zero answers = []
 merged_terms term (suc more) answers = merged_from no_partial term answers ∷ merged_terms (suc term) more answers
 
--- each rule on the partials of its own terms, under the limit of the group
-abbrev pub results_from : ℕ → List Rule → List Partial → List RuleResult
-results_from limit [] partials = []
-results_from limit (rule ∷ rules) partials = result_of limit rule (finished rule.query (take (length (terms_of rule.query)) partials)) ∷ results_from limit rules (drop (length (terms_of rule.query)) partials)
+-- each rule with its own alerts on the partials of its own terms, under the limit of the group
+abbrev pub results_from : ℕ → ℕ → List Rule → List (List Alert) → List Partial → List RuleResult
+results_from limit t [] alerts partials = []
+results_from limit t (rule ∷ rules) alerts partials = result_of limit t rule (first_alerts alerts) (finished rule.query (take (length (terms_of rule.query)) partials)) ∷ results_from limit t rules (drop 1 alerts) (drop (length (terms_of rule.query)) partials)
 
 -- the evaluation, on the partials that are kept
-abbrev pub evaluation_from : Group → OpenEvaluation (List Partial) → Evaluation
-evaluation_from group opened = evaluation_with group opened (results_from group.limit group.rules (merged_terms 0 (length (group_terms group)) (answers opened)))
+abbrev pub evaluation_from : Group → List (List Alert) → OpenEvaluation (List Partial) → Evaluation
+evaluation_from group alerts opened = evaluation_with group opened (results_from group.limit opened.t group.rules alerts (merged_terms 0 (length (group_terms group)) (answers opened)))

@@ -5,10 +5,11 @@ use Rattle.rl_labels.specs.declared.entry.Entry.{Entry}
 use Rattle.rl_query.specs.declared.query.Term.{Term}
 use Rattle.rl_aggregate.specs.declared.partial.Partial.{Partial}
 use Rattle.rl_shard.specs.ShardState.{Journalled}
+use Rattle.rl_rules.specs.declared.alert.Alert.{Alert}
 use Rattle.rl_sinks.specs.SinkState.{SinkState, closed}
 use Rattle.rl_world.specs.Evaluating.{group_terms}
 use Rattle.rl_world.specs.Kept.{partials_of}
-use Rattle.rl_world.specs.History.{History}
+use Rattle.rl_world.specs.History.{History, alerts_of, group_behind, evaluations_in}
 use Rattle.rl_world.specs.Offering.{TookPrefix}
 use Rattle.rl_world.specs.Slots.{IsKept, most_shards}
 use Rattle.rl_world.specs.declared.opened.Gathered.{Gathered}
@@ -49,7 +50,7 @@ abbrev pub kept_open : List Term → OpenEvaluation (List Entry) → OpenEvaluat
 kept_open terms opened = record { t = opened.t; gathered = map (option_map (kept_answer terms opened.t)) opened.gathered }
 
 abbrev pub kept_history : History (List Entry) → History (List Partial)
-kept_history history = record { group = history.group; records = history.records; evaluations = history.evaluations; opened = option_map (kept_open (group_terms history.group)) history.opened }
+kept_history history = record { first = history.first; records = history.records; items = history.items; group = history.group; evaluations = history.evaluations; opened = option_map (kept_open (group_terms history.group)) history.opened }
 
 abbrev pub kept_world : WorldState (List Entry) → WorldState (List Partial)
 kept_world world = record { shards = world.shards; histories = map kept_history world.histories }
@@ -62,12 +63,15 @@ Stands kept world = kept ≡ kept_world world
 abbrev pub StandsForSome : WorldState (List Partial) → Type 0
 StandsForSome kept = (shown : WorldState (List Entry)) × Stands kept shown
 
--- what holds of every book: its terms are the group's, an open evaluation has a slot for each shard, and its sinks took prefixes
-pub record IsBook (terms : List Term) (book : BookState) : Type 0 where
+-- what holds of every book: its terms are the group's, its alerts are what its history left, the group and the evaluations are those of its items, an open evaluation has a slot for each shard, and its sinks took prefixes
+pub record IsBook (terms : List Term) (alerts : List (List Alert)) (book : BookState) : Type 0 where
   pub terms_are : terms ≡ group_terms book.history.group
+  pub alerts_are : alerts ≡ alerts_of book.history
   pub few_shards : book.shards ≤ most_shards
   pub few_records : book.history.records ≤ 1048576
-  pub few : length book.history.evaluations ≤ book.history.records
+  pub few : length book.history.items ≤ book.history.records
+  pub group_is : book.history.group ≡ group_behind book.history.first book.history.items
+  pub evaluations_are : book.history.evaluations ≡ evaluations_in book.history.items
   pub slots : IfSome book.history.opened (λ opened. (length opened.gathered ≡ book.shards) × AllByRecursion (IsKept (length terms)) opened.gathered)
   pub prefixes : AllByRecursion (TookPrefix book.history.evaluations) book.sinks
 

@@ -1,5 +1,6 @@
 -- What a world answers to a step, and what it is afterwards.
 use Rattle.std.specs.Prelude.{◌≡◌, ◌⊎◌, ℕ, Bool, true, false, not, IsTrue, List, [], ◌∷◌, length, Option, None, Some, option_map, slice_get, slice_set, if◌then◌else◌}
+use Rattle.rl_labels.specs.Name.{is_text}
 use Rattle.rl_labels.specs.declared.entry.Entry.{Entry}
 use Rattle.rl_query.specs.declared.query.Term.{Term}
 use Rattle.rl_aggregate.specs.declared.partial.Partial.{Partial}
@@ -10,11 +11,12 @@ use Rattle.rl_shard.specs.declared.step.ShardStep.TheVariants as shard_steps
 use Rattle.rl_shard.specs.declared.step.ShardReply.{ShardReply}
 use Rattle.rl_shard.specs.declared.step.ShardFault.{ShardFault}
 use Rattle.rl_shard.specs.declared.step.ShardFault.TheVariants as shard_faults
+use Rattle.rl_rules.specs.declared.alert.Alert.{Alert}
 use Rattle.rl_rules.specs.declared.rule.Group.{Group}
 use Rattle.rl_rules.specs.declared.evaluation.Evaluation.{Evaluation}
 use Rattle.rl_world.specs.Evaluating.{group_terms, evaluation_of}
 use Rattle.rl_world.specs.Kept.{evaluation_from, partials_of}
-use Rattle.rl_world.specs.History.{History, begin_fault, gather_fault, commit_fault, abandon_fault, begun, gathered, committed, abandoned}
+use Rattle.rl_world.specs.History.{History, alerts_of, begin_fault, gather_fault, commit_fault, abandon_fault, edit_fault, begun, gathered, committed, abandoned, edited}
 use Rattle.rl_world.specs.WorldState.{WorldState}
 use Rattle.rl_world.specs.declared.opened.OpenEvaluation.{OpenEvaluation}
 use Rattle.rl_plain.specs.declared.refusal.OrMemory.{OrMemory}
@@ -31,7 +33,7 @@ use Rattle.rl_world.specs.declared.step.Reply.TheVariants as replies
 -- what an open evaluation keeps of the entries that a shard shows, and what it makes of all that it kept
 pub record Keeping (X : Type 0) : Type 0 where
   pub keep : List Entry → List Term → ℕ → X
-  pub evaluate : Group → OpenEvaluation X → Evaluation
+  pub evaluate : Group → List (List Alert) → OpenEvaluation X → Evaluation
 
 -- the lists themselves, and LogQL from scratch on them
 abbrev pub lists : Keeping (List Entry)
@@ -71,14 +73,20 @@ shard_may_want (Some shard) step = not (needs_no_memory shard.limits shard.state
 abbrev pub may_want : List Journalled → Step → Bool
 may_want shards (steps.Shard number step) = shard_may_want (slice_get shards number) step
 may_want shards (steps.Abandon group) = false
+may_want shards (steps.Edit group to) = true
 may_want shards (steps.Begin group t) = true
 may_want shards (steps.Gather group number) = true
 may_want shards (steps.Commit group) = true
 
 module _ {X : Type 0} where
+  -- a group is edited under its own name; another is no such group
+  abbrev pub edit_refusal : Group → History X → Option Refusal
+  edit_refusal to history = if is_text to.name history.group.name then option_map refusals.Book (edit_fault history) else Some refusals.NoSuch
+
   -- the refusal of a step that comes before its work, if one does: the first that applies
   abbrev pub refusal_of : WorldState X → Step → Option Refusal
   refusal_of world (steps.Shard number step) = known (slice_get world.shards number) journal_refusal
+  refusal_of world (steps.Edit group to) = known (slice_get world.histories group) (edit_refusal to)
   refusal_of world (steps.Begin group t) = known (slice_get world.histories group) (λ history. option_map refusals.Book (begin_fault history t))
   refusal_of world (steps.Gather group number) = known (slice_get world.histories group) (λ history. known (slice_get world.shards number) (λ shard. or_else (option_map refusals.Book (gather_fault history number)) (journal_refusal shard)))
   refusal_of world (steps.Commit group) = known (slice_get world.histories group) (λ history. option_map refusals.Book (commit_fault history))
@@ -108,6 +116,13 @@ module _ {X : Type 0} where
     pub there : slice_get old.histories group ≡ Some history
     pub after : new ≡ with_history old group (change history)
 
+  -- a group is edited; the place is the number of items before
+  pub record EditTurn (old : WorldState X) (group : ℕ) (to : Group) (place : ℕ) (new : WorldState X) : Type 0 where
+    pub history : History X
+    pub there : slice_get old.histories group ≡ Some history
+    pub place_is : place ≡ length history.items
+    pub after : new ≡ with_history old group (edited history to)
+
   -- a shard is asked for an open evaluation: its journal has the question, and the evaluation keeps what the shard shows now
   pub record GatherTurn (keeping : Keeping X) (old : WorldState X) (group number place : ℕ) (new : WorldState X) : Type 0 where
     pub history : History X
@@ -126,12 +141,13 @@ module _ {X : Type 0} where
     pub opened : OpenEvaluation X
     pub open_is : history.opened ≡ Some opened
     pub number_is : answer.number ≡ length history.evaluations
-    pub evaluation_is : answer.evaluation ≡ keeping.evaluate history.group opened
+    pub evaluation_is : answer.evaluation ≡ keeping.evaluate history.group (alerts_of history) opened
     pub after : new ≡ with_history old group (committed history answer.evaluation)
 
   -- a step that is not refused; no other reply comes
   abbrev pub Turn : Keeping X → WorldState X → Step → Reply → WorldState X → Type 0
   Turn keeping old (steps.Shard number step) (replies.Decided place reply) new = ShardTurn old number step place reply new
+  Turn keeping old (steps.Edit group to) (replies.Edited place) new = EditTurn old group to place new
   Turn keeping old (steps.Begin group t) replies.Begun new = HistoryTurn (λ history. begun (length old.shards) history t) old group new
   Turn keeping old (steps.Gather group number) (replies.Gathered place) new = GatherTurn keeping old group number place new
   Turn keeping old (steps.Commit group) (replies.Committed answer) new = CommitTurn keeping old group answer new

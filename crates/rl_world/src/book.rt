@@ -1,14 +1,16 @@
-//! A book: one rule group, its evaluations, and its sinks.
+//! A book: one rule group, its history, and its sinks.
 ghost use Rattle.std.specs.Prelude.{◌≡◌, ◌≤◌, ◌<◌, ◌^◌, List, [], map, length, replicate, slice_get, option_map, option_and_then, IfOk, IfErr, OnOk, OnErr, IfSome, None, Some, is_some, false};
 ghost use Rattle.rl_sinks.specs.SinkState.{closed};
 ghost use Rattle.rl_world.specs.BookCalls.{Refuses};
 ghost use Rattle.rl_world.specs.Closed.{SinksClosed};
-ghost use Rattle.rl_world.specs.History.{asked_fault, closing_fault, with_shown};
+ghost use Rattle.rl_world.specs.History.{asked_fault, closing_fault, has_passed, with_shown};
 ghost use Rattle.std.specs.List.{AllByRecursion, list_all};
 ghost use Rattle.std.specs.Option.{option_copied};
 
+use crate::editing::alerts_edited;
 use crate::evaluating::{Slot, evaluate, terms_of_group};
 use crate::fault::{BookError, BookFault};
+use crate::item::Item;
 use crate::offering::offer_all;
 use crate::opened::{Gathered, OpenEvaluation};
 use crate::step::Committed;
@@ -16,21 +18,27 @@ use rl_aggregate::Partial;
 use rl_labels::Ns;
 use rl_plain::{PlainList, Shared, TryCopy};
 use rl_query::Term;
-use rl_rules::{Evaluation, Group};
+use rl_rules::{Alert, Evaluation, Group};
 use rl_sinks::Sink;
 use std::alloc::{AllocError, Global};
 use std::marker::Model;
 
-/// A rule group with its evaluations and its sinks. Contracts see a `BookState`.
+/// A rule group with its history and its sinks. Contracts see a `BookState`.
 #[derive(Drop)]
 pub struct Book<S: Sink> {
     alloc: Global,
-    group: Group,
+    // As it began, and as it is now.
+    first: Shared<Group>,
+    group: Shared<Group>,
     // Of the group's rules, in their order.
     terms: Shared<PlainList<Term>>,
     slot: u64,
     shards: usize,
     records: u64,
+    // What the history left to each rule.
+    alerts: Vec<PlainList<Alert>>,
+    // Edits and evaluations in order, and the evaluations alone.
+    items: Vec<Item>,
     evaluations: Vec<Shared<Evaluation>>,
     opened: Option<OpenEvaluation<PlainList<Partial>>>,
     sinks: Vec<S>,
@@ -49,9 +57,9 @@ impl<S: Sink> Model for Book<S> {
 
     ghost coded = { Prim.hlevel (codes, label_set_code, totals_type.the_row.coded, tests_type.the_row.coded) };
 
-    ghost view = { λ a. record { history = record { group = a.group; records = a.records; evaluations = a.evaluations.items; opened = a.opened }; shards = a.shards; slot = a.slot; sinks = map S.state a.sinks.items } };
+    ghost view = { λ a. record { history = record { first = a.first; records = a.records; items = a.items.items; group = a.group; evaluations = a.evaluations.items; opened = a.opened }; shards = a.shards; slot = a.slot; sinks = map S.state a.sinks.items } };
 
-    ghost invariant = { λ a. IsBook a.terms (record { history = record { group = a.group; records = a.records; evaluations = a.evaluations.items; opened = a.opened }; shards = a.shards; slot = a.slot; sinks = map S.state a.sinks.items }) };
+    ghost invariant = { λ a. IsBook a.terms a.alerts.items (record { history = record { first = a.first; records = a.records; items = a.items.items; group = a.group; evaluations = a.evaluations.items; opened = a.opened }; shards = a.shards; slot = a.slot; sinks = map S.state a.sinks.items }) };
 }
 
 impl<S: Sink> Book<S> {
@@ -61,12 +69,12 @@ impl<S: Sink> Book<S> {
     ghost use Rattle.rl_world.specs.WorldState.{kept_open};
     ghost use Rattle.rl_world.specs.Evaluating.{group_terms, evaluation_of};
     ghost use Rattle.rl_world.specs.Kept.{evaluation_from};
-    ghost use Rattle.rl_world.specs.History.{begin_fault, gather_fault, commit_fault, abandon_fault, begun, gathered, committed, abandoned};
+    ghost use Rattle.rl_world.specs.History.{alerts_of, alerts_then, group_behind, evaluations_in, is_due, begin_fault, edit_fault, gather_fault, commit_fault, abandon_fault, begun, edited, gathered, committed, abandoned};
     ghost use Rattle.rl_world.specs.Offering.{AllOffered, behind_of};
     ghost use Rattle.rl_world.specs.Slots.{AreOfOneShard, most_shards};
 
-    /// A book with no evaluation. It asks so many shards, under the number `slot`, and keeps at most `records` evaluations,
-    /// up to 1,048,576. The sinks have taken nothing.
+    /// A book with no evaluation. It asks so many shards, under the number `slot`, and keeps at most `records` edits and
+    /// evaluations, up to 1,048,576. The sinks have taken nothing.
     pub fn open(
         alloc: Global,
         group: Group,
@@ -81,17 +89,50 @@ impl<S: Sink> Book<S> {
         ensures { IfOk result (λ book. book ≡ new_book slot records shards group (map S.state sinks.items)) }
     {
         let terms = terms_of_group(alloc, &group)?;
+        let first = Shared::new(alloc, group)?;
+        let now = first.try_copy()?;
         Ok(Book {
             alloc,
-            group,
+            first,
+            group: now,
             terms,
             slot,
             shards,
             records,
+            alerts: Vec::new(alloc),
+            items: Vec::new(alloc),
             evaluations: Vec::new(alloc),
             opened: None,
             sinks,
         })
+    }
+
+    /// Puts another group under the same name in the place of the group. Each of its rules, in order, takes the alerts of the
+    /// first rule before that is equal in all fields and was not yet taken. The place of the edit in the history.
+    pub fn edit(&mut self, group: Group) -> Result<u64, BookError>
+        requires name { group.name ≡ self.old.history.group.name }
+        ensures answer { Answers (edit_fault self.old.history) result }
+        ensures place { IfOk result (λ place. place ≡ length self.old.history.items) }
+        ensures ok { OnOk result (self.new ≡ with_history self.old (edited self.old.history group)) }
+        ensures err { OnErr result (self.new ≡ self.old) }
+    {
+        let busy = self.opened.is_some();
+        if busy {
+            return Err(BookError::Fault(BookFault::Busy));
+        }
+        let place = self.items.len() as u64;
+        if place >= self.records {
+            return Err(BookError::Fault(BookFault::SessionFull));
+        }
+        let terms = terms_of_group(self.alloc, &group)?;
+        let handed = alerts_edited(self.alloc, self.group.get(), &self.alerts, &group)?;
+        let group = Shared::new(self.alloc, group)?;
+        let item = Item::Edited(group.try_copy()?);
+        self.items.push(item)?;
+        self.group = group;
+        self.terms = terms;
+        self.alerts = handed;
+        Ok(place)
     }
 
     /// Opens an evaluation at the moment.
@@ -149,8 +190,8 @@ impl<S: Sink> Book<S> {
     pub fn commit(&mut self) -> Result<Committed, BookError>
         ensures answer { Answers (commit_fault self.old.history) result }
         ensures number { IfOk result (λ answer. answer.number ≡ length self.old.history.evaluations) }
-        ensures evaluation { IfOk result (λ answer. IfSome self.old.history.opened (λ opened. answer.evaluation ≡ evaluation_from self.old.history.group opened)) }
-        ensures from_scratch { IfOk result (λ answer. (shown : OpenEvaluation (List Entry)) → self.old.history.opened ≡ Some (kept_open (group_terms self.old.history.group) shown) → answer.evaluation ≡ evaluation_of self.old.history.group shown) }
+        ensures evaluation { IfOk result (λ answer. IfSome self.old.history.opened (λ opened. answer.evaluation ≡ evaluation_from self.old.history.group (alerts_of self.old.history) opened)) }
+        ensures from_scratch { IfOk result (λ answer. (shown : OpenEvaluation (List Entry)) → self.old.history.opened ≡ Some (kept_open (group_terms self.old.history.group) shown) → answer.evaluation ≡ evaluation_of self.old.history.group (alerts_of self.old.history) shown) }
         ensures history { IfOk result (λ answer. self.new.history ≡ committed self.old.history answer.evaluation) }
         ensures rest { OnOk result ((self.new.shards ≡ self.old.shards) × (self.new.slot ≡ self.old.slot)) }
         ensures offered { OnOk result (AllOffered self.new.history.evaluations self.old.sinks self.new.sinks) }
@@ -158,9 +199,13 @@ impl<S: Sink> Book<S> {
         ensures err { OnErr result (self.new ≡ self.old) }
     {
         let number = self.evaluations.len() as u64;
-        let (evaluation, told) = self.evaluated()?;
+        let (evaluation, told, alerts) = self.evaluated()?;
+        let item = Item::Evaluated(evaluation.try_copy()?);
         let mut behind = Vec::with_capacity(self.alloc, self.sinks.len())?;
+        self.items.reserve(1)?;
         self.evaluations.push(evaluation)?;
+        self.items.push_reserved(item);
+        self.alerts = alerts;
         close(&mut self.opened);
         offer_all(&mut self.sinks, &self.evaluations, &mut behind);
         Ok(Committed {
@@ -170,22 +215,39 @@ impl<S: Sink> Book<S> {
         })
     }
 
-    // The evaluation that a commit adds, and its copy for the caller.
-    fn evaluated(&self) -> Result<(Shared<Evaluation>, Shared<Evaluation>), BookError>
+    // The evaluation that a commit adds, its copy for the caller, and the alerts that it leaves to the rules.
+    fn evaluated(
+        &self,
+    ) -> Result<
+        (
+            Shared<Evaluation>,
+            Shared<Evaluation>,
+            Vec<PlainList<Alert>>,
+        ),
+        BookError,
+    >
         ensures answer { Answers (commit_fault self.now.history) result }
-        ensures room { OnOk result (length self.now.history.evaluations < self.now.history.records) }
-        ensures evaluation { IfOk result (λ both. IfSome self.now.history.opened (λ opened. both.0 ≡ evaluation_from self.now.history.group opened)) }
-        ensures from_scratch { IfOk result (λ both. (shown : OpenEvaluation (List Entry)) → self.now.history.opened ≡ Some (kept_open (group_terms self.now.history.group) shown) → both.0 ≡ evaluation_of self.now.history.group shown) }
-        ensures copy { IfOk result (λ both. both.1 ≡ both.0) }
+        ensures room { OnOk result (length self.now.history.items < self.now.history.records) }
+        ensures evaluation { IfOk result (λ made. IfSome self.now.history.opened (λ opened. made.0 ≡ evaluation_from self.now.history.group (alerts_of self.now.history) opened)) }
+        ensures from_scratch { IfOk result (λ made. (shown : OpenEvaluation (List Entry)) → self.now.history.opened ≡ Some (kept_open (group_terms self.now.history.group) shown) → made.0 ≡ evaluation_of self.now.history.group (alerts_of self.now.history) shown) }
+        ensures copy { IfOk result (λ made. made.1 ≡ made.0) }
+        ensures alerts { IfOk result (λ made. made.2.items ≡ alerts_then (alerts_of self.now.history) made.0.outcomes) }
     {
-        let full = self.evaluations.len() as u64 >= self.records;
+        let full = self.items.len() as u64 >= self.records;
         let opened = match complete(&self.opened, full) {
             Ok(opened) => opened,
             Err(fault) => return Err(BookError::Fault(fault)),
         };
-        let evaluation = evaluate(self.alloc, &self.group, self.terms.get().len(), opened)?;
+        let terms = self.terms.get().len();
+        let (evaluation, alerts) = evaluate(
+            self.alloc,
+            self.group.get(),
+            terms,
+            &self.alerts,
+            opened,
+        )?;
         let told = evaluation.try_copy()?;
-        Ok((evaluation, told))
+        Ok((evaluation, told, alerts))
     }
 
     /// Closes the open evaluation, of which nothing is left.
@@ -201,11 +263,39 @@ impl<S: Sink> Book<S> {
         Ok(())
     }
 
-    /// The group as it was handed in.
+    /// The group as it is now: that of the last edit, or as it began.
     pub fn group(&self) -> &Group
-        ensures { result.now ≡ self.now.history.group }
+        ensures now { result.now ≡ self.now.history.group }
+        ensures last { result.now ≡ group_behind self.now.history.first self.now.history.items }
     {
-        &self.group
+        self.group.get()
+    }
+
+    /// The group as it began.
+    pub fn first_group(&self) -> &Group
+        ensures { result.now ≡ self.now.history.first }
+    {
+        self.first.get()
+    }
+
+    /// An edit or an evaluation by its place in the history, counted from 0.
+    pub fn item(&self, index: u64) -> Option<&Item>
+        ensures { option_copied result ≡ slice_get self.now.history.items index }
+    {
+        self.items.get(index as usize)
+    }
+
+    /// Whether an evaluation is due: none is open, and there was none, or the group's interval has passed since the last.
+    pub fn due(&self, now: Ns) -> bool
+        ensures { result ≡ is_due self.now.history now }
+    {
+        if self.opened.is_some() {
+            return false;
+        }
+        match self.evaluations.last() {
+            Some(last) => has_passed(self.group.get().interval, last.get().t, now),
+            None => true,
+        }
     }
 
     /// The number under which the book asks its shards.
@@ -222,9 +312,17 @@ impl<S: Sink> Book<S> {
         &self.terms
     }
 
-    /// A committed evaluation by its number, counted from 0.
+    /// What each rule has of alerts, in the order of the rules. None are listed before the first edit or evaluation.
+    pub fn alerts(&self) -> &[PlainList<Alert>]
+        ensures { result.now ≡ alerts_of self.now.history }
+    {
+        &self.alerts
+    }
+
+    /// A committed evaluation by its number, counted from 0 among the evaluations of the history.
     pub fn evaluation(&self, number: u64) -> Option<&Evaluation>
-        ensures { option_copied result ≡ slice_get self.now.history.evaluations number }
+        ensures numbered { option_copied result ≡ slice_get self.now.history.evaluations number }
+        ensures listed { option_copied result ≡ slice_get (evaluations_in self.now.history.items) number }
     {
         let evaluation = self.evaluations.get(number as usize)?;
         Some(evaluation.get())
@@ -254,6 +352,13 @@ impl<S: Sink> Book<S> {
     {
         close_all(&mut self.sinks)
     }
+}
+
+// Whether so many seconds have passed since a moment.
+fn has_passed(seconds: u64, last: Ns, now: Ns) -> bool
+    ensures { result ≡ has_passed seconds (Some last) now }
+{
+    u128::from(last.get()) + u128::from(seconds) * 1_000_000_000 <= u128::from(now.get())
 }
 
 // The moment at which the shard is to be asked.

@@ -1,19 +1,22 @@
 //! The evaluation of a group, on the partials that its shards gave.
-ghost use Rattle.std.specs.Prelude.{◌≡◌, ◌≤◌, ◌<◌, map, length, option_to_list, flat_map, IfOk, IfSome};
+ghost use Rattle.std.specs.Prelude.{◌≡◌, ◌≤◌, ◌<◌, [], map, length, drop, option_to_list, flat_map, IfOk, IfSome};
 ghost use Rattle.std.specs.List.{AllByRecursion};
 ghost use Rattle.std.specs.Option.{unwrap_or};
 ghost use Rattle.rl_aggregate.specs.Evaluated.{terms_of, finished};
+ghost use Rattle.rl_aggregate.specs.Limited.{IsLimited};
 ghost use Rattle.rl_aggregate.specs.Partials.{merge, Fits};
-ghost use Rattle.rl_world.specs.Evaluating.{group_terms, result_of};
+ghost use Rattle.rl_world.specs.Evaluating.{group_terms, result_of, first_alerts};
+ghost use Rattle.rl_rules.specs.Outcomes.{alerts_left};
+ghost use Rattle.rl_world.specs.History.{alerts_then};
 ghost use Rattle.rl_world.specs.Kept.{evaluation_from, merged_from, merged_terms, results_from, no_partial};
 ghost use Rattle.rl_world.specs.Slots.{IsKept, HasTerm, most_shards};
 
 use crate::opened::{Gathered, OpenEvaluation};
 use rl_aggregate::{Partial, finish, merge};
-use rl_labels::Labels;
+use rl_labels::Ns;
 use rl_plain::{PlainList, Shared, TryCopy};
 use rl_query::{Query, Term};
-use rl_rules::{Evaluation, Group, Rule, RuleResult, step_rule};
+use rl_rules::{Alert, Evaluation, Group, Rule, RuleResult, step_rule};
 use std::alloc::{AllocError, Global};
 
 /// What a book has of each shard: the partials of the group's terms, once the shard was asked.
@@ -29,26 +32,32 @@ pub(crate) fn terms_of_group(
     let mut terms = Vec::new(alloc);
     for rule in group.rules.as_slice() {
         terms.push(rule.query.left.try_copy()?)?;
+        if let Some(over) = &rule.query.over {
+            terms.push(over.try_copy()?)?;
+        }
     }
     let terms = Shared::new(alloc, PlainList::from_vec(terms))?;
     Ok(terms)
 }
 
-/// The evaluation of the group, which has so many terms.
+/// The evaluation of the group, which has so many terms and whose rules have these alerts, and the alerts that it leaves.
 pub(crate) fn evaluate(
     alloc: Global,
     group: &Group,
     terms: usize,
+    alerts: &[PlainList<Alert>],
     opened: &OpenEvaluation<PlainList<Partial>>,
-) -> Result<Shared<Evaluation>, AllocError>
+) -> Result<(Shared<Evaluation>, Vec<PlainList<Alert>>), AllocError>
     requires terms { terms ≡ length (group_terms group.now) }
     requires shards { length opened.now.gathered ≤ most_shards }
     requires slots { AllByRecursion (IsKept terms) opened.now.gathered }
-    ensures { IfOk result (λ evaluation. evaluation ≡ evaluation_from group.now opened.now) }
+    ensures evaluation { IfOk result (λ made. made.0 ≡ evaluation_from group.now alerts.now opened.now) }
+    ensures alerts { IfOk result (λ made. made.1.items ≡ alerts_then alerts.now made.0.outcomes) }
 {
     let slots = opened.gathered.as_slice();
     let partials = merged_terms(alloc, slots, terms)?;
-    let outcomes = results(alloc, group.limit, group.rules.as_slice(), &partials)?;
+    let rules = group.rules.as_slice();
+    let (outcomes, left) = results(alloc, group.limit, opened.t, rules, alerts, &partials)?;
     let places = places(alloc, slots)?;
     let name = group.name.try_copy()?;
     let evaluation = Evaluation {
@@ -58,7 +67,7 @@ pub(crate) fn evaluate(
         outcomes: PlainList::from_vec(outcomes),
     };
     let shared = Shared::new(alloc, evaluation)?;
-    Ok(shared)
+    Ok((shared, left))
 }
 
 // Where the journals of the shards that were asked have the question.
@@ -118,53 +127,84 @@ fn merge_first(sum: Option<Partial>, own: &Partial) -> Result<Partial, AllocErro
     }
 }
 
-// Each rule on the partials of its own terms, under the limit of the group.
+// Each rule with its own alerts on the partials of its own terms, under the limit of the group, and the alerts that are
+// left to each.
 fn results(
     alloc: Global,
     limit: u64,
+    t: Ns,
     rules: &[Rule],
+    alerts: &[PlainList<Alert>],
     partials: &[Partial],
-) -> Result<Vec<RuleResult>, AllocError>
-    requires { length partials.now ≡ length (flat_map (λ rule. terms_of rule.query) rules.now) }
-    ensures { IfOk result (λ results. results.items ≡ results_from limit rules.now partials.now) }
+) -> Result<(Vec<RuleResult>, Vec<PlainList<Alert>>), AllocError>
+    requires terms { length partials.now ≡ length (flat_map (λ rule. terms_of rule.query) rules.now) }
+    requires limited { AllByRecursion IsLimited partials.now }
+    ensures results { IfOk result (λ made. made.0.items ≡ results_from limit t rules.now alerts.now partials.now) }
+    ensures alerts { IfOk result (λ made. made.1.items ≡ alerts_then alerts.now (results_from limit t rules.now alerts.now partials.now)) }
 {
     let mut results = Vec::with_capacity(alloc, rules.len())?;
+    let mut left = Vec::with_capacity(alloc, rules.len())?;
+    let none = PlainList::new(alloc);
     let mut rest = partials;
+    let mut known = alerts;
     for rule in rules {
         let (own, others) = rest.split_at(count_terms(&rule.query));
-        let result = result_of(alloc, limit, rule, own)?;
+        let (had, behind) = first_alerts(known, &none);
+        let (result, kept) = result_of(alloc, limit, t, rule, had, own)?;
         results.push(result)?;
+        left.push(kept)?;
         rest = others;
+        known = behind;
     }
-    Ok(results)
+    Ok((results, left))
+}
+
+// The alerts of the first rule, none where none are known, and those of the others.
+fn first_alerts<'a>(
+    known: &'a [PlainList<Alert>],
+    none: &'a PlainList<Alert>,
+) -> (&'a PlainList<Alert>, &'a [PlainList<Alert>])
+    requires { none.now ≡ [] }
+    ensures first { result.0.now ≡ first_alerts known.now }
+    ensures others { result.1.now ≡ drop 1 known.now }
+{
+    match known {
+        [first, others @ ..] => (first, others),
+        [] => (none, &[]),
+    }
 }
 
 // How many terms the query has.
 fn count_terms(query: &Query) -> usize
     ensures { result ≡ length (terms_of query.now) }
 {
-    let Query { left: _ } = query;
-    1
+    1 + usize::from(query.over.is_some())
 }
 
-// What the rule makes of what its terms add up to, under the limit of the group.
+// What the rule, which has these alerts, makes of what its terms add up to, and the alerts that are left to it.
 fn result_of(
     alloc: Global,
     limit: u64,
+    t: Ns,
     rule: &Rule,
+    alerts: &PlainList<Alert>,
     partials: &[Partial],
-) -> Result<RuleResult, AllocError>
-    requires { length partials.now ≡ length (terms_of rule.now.query) }
-    ensures { IfOk result (λ made. made ≡ result_of limit rule.now (finished rule.now.query partials.now)) }
+) -> Result<(RuleResult, PlainList<Alert>), AllocError>
+    requires terms { length partials.now ≡ length (terms_of rule.now.query) }
+    requires limited { AllByRecursion IsLimited partials.now }
+    ensures result { IfOk result (λ made. made.0 ≡ result_of limit t rule.now alerts.now (finished rule.now.query partials.now)) }
+    ensures left { IfOk result (λ made. made.1 ≡ alerts_left alerts.now made.0.outcome) }
 {
     let outcome = finish(alloc, &rule.query, partials)?;
-    let outcome = step_rule(rule, limit, outcome)?;
+    let had = alerts.try_copy()?;
+    let (left, outcome) = step_rule(rule, limit, had, outcome, t)?;
     let name = rule.name.try_copy()?;
-    let annotations = Labels::empty(alloc)?;
-    Ok(RuleResult {
+    let annotations = rule.annotations.try_copy()?;
+    let result = RuleResult {
         kind: rule.kind,
         name,
         annotations,
         outcome,
-    })
+    };
+    Ok((result, left))
 }

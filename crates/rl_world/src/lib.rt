@@ -5,13 +5,16 @@
 //! exactly the texts of the first evaluations of its group.
 //!
 //! - `step`: `Step`, `Reply`, `Committed`. `fault`: `BookFault`, `BookError`, `Refusal`. `opened`: an evaluation that is open.
+//! - `item`: `Item`, an edit or an evaluation in the history of a group.
 //! - `book`: `Book`, one group with its sinks. `world`: `World`.
 //! - `aggregate`, `shard`, `rules`, `sinks`: the crates below, passed on.
 #![tactic(auto)]
 
 pub mod book;
+mod editing;
 mod evaluating;
 pub mod fault;
+pub mod item;
 mod offering;
 pub mod opened;
 mod parts;
@@ -21,6 +24,7 @@ pub mod world;
 
 pub use book::Book;
 pub use fault::{BookError, BookFault, Refusal};
+pub use item::Item;
 pub use rl_aggregate as aggregate;
 pub use rl_rules as rules;
 pub use rl_shard as shard;

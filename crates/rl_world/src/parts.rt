@@ -28,6 +28,7 @@ impl<S: Sink> WorldParts<S> {
     {
         match step {
             Step::Shard { number, step } => self.shard(number, step),
+            Step::Edit { group, to } => self.edit(group, to),
             Step::Begin { group, t } => self.begin(group, t),
             Step::Gather { group, number } => self.gather(group, number),
             Step::Commit { group } => self.commit(group),

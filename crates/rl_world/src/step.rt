@@ -2,7 +2,7 @@
 use crate::fault::Refusal;
 use rl_labels::Ns;
 use rl_plain::{PlainList, Shared};
-use rl_rules::Evaluation;
+use rl_rules::{Evaluation, Group};
 use rl_shard::{ShardReply, ShardStep};
 
 /// A step of a world.
@@ -10,6 +10,8 @@ use rl_shard::{ShardReply, ShardStep};
 pub enum Step {
     /// A step of one shard.
     Shard { number: usize, step: ShardStep },
+    /// Puts a group of the same name in the place of the group. Rules that stay keep their alerts.
+    Edit { group: usize, to: Group },
     /// Opens an evaluation of the group at a moment.
     Begin { group: usize, t: Ns },
     /// Asks a shard, for the open evaluation of the group.
@@ -25,6 +27,8 @@ pub enum Step {
 pub enum Reply {
     /// The shard decided the step; its journal has it at the place.
     Decided { place: u64, reply: ShardReply },
+    /// The group was edited; its history has the edit at the place.
+    Edited { place: u64 },
     Begun,
     /// The shard was asked; its journal has the question at the place.
     Gathered { place: u64 },

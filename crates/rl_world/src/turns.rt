@@ -1,5 +1,6 @@
 //! What a world does at each kind of step.
 ghost use Rattle.std.specs.Prelude.{◌≡◌, length, Err, IsTrue, IsErrOf, IfOk, OnOk, OnErr};
+ghost use Rattle.rl_labels.specs.Name.{is_text};
 ghost use Rattle.rl_shard.specs.ShardState.{visible};
 ghost use Rattle.rl_shard.specs.ShardStep.{recorded, is_journal_full};
 ghost use Rattle.rl_shard.specs.declared.step.ShardStep.TheVariants as shard_steps;
@@ -18,6 +19,7 @@ use rl_aggregate::Partial;
 use rl_labels::Ns;
 use rl_plain::{PlainList, Shared, TryCopy};
 use rl_query::Term;
+use rl_rules::Group;
 use rl_shard::{Shard, ShardFault, ShardReply, ShardStep};
 use rl_sinks::Sink;
 
@@ -34,6 +36,24 @@ impl<S: Sink> WorldParts<S> {
         match shard.apply(step) {
             Ok((place, reply)) => Reply::Decided { place, reply },
             Err(fault) => Reply::Refused(refusal_of_shard(fault)),
+        }
+    }
+
+    // A group is edited under its own name.
+    pub(crate) fn edit(&mut self, group: usize, to: Group) -> Reply
+        ensures step { WorldStep partials (world_of self.old.shards.items self.old.books.items) (steps.Edit group to) result (world_of self.new.shards.items self.new.books.items) }
+        ensures sinks { SinkStep self.old.books.items (steps.Edit group to) result self.new.books.items }
+    {
+        if group >= self.books.len() {
+            return Reply::Refused(Refusal::NoSuch);
+        }
+        if !is_same_name(&to, self.books[group].group()) {
+            return Reply::Refused(Refusal::NoSuch);
+        }
+        let book = &mut self.books[group];
+        match book.edit(to) {
+            Ok(place) => Reply::Edited { place },
+            Err(error) => Reply::Refused(refusal_of_book(error)),
         }
     }
 
@@ -132,6 +152,13 @@ fn ask(
         ShardReply::Collected(partials) => Ok((place, partials)),
         _ => unreachable!(),
     }
+}
+
+// Whether two groups have one name.
+fn is_same_name(one: &Group, other: &Group) -> bool
+    ensures { result ≡ is_text one.now.name other.now.name }
+{
+    one.name.as_str() == other.name.as_str()
 }
 
 // A fault of a shard, as a world tells it.

@@ -7,9 +7,10 @@ use Rattle.rl_aggregate.specs.Evaluated.{terms_of, finished}
 use Rattle.rl_aggregate.specs.laws.Totals.{partial-append}
 use Rattle.rl_aggregate.specs.Partials.{partial, merge}
 use Rattle.rl_aggregate.specs.declared.partial.Partial.{Partial}
+use Rattle.rl_rules.specs.declared.alert.Alert.{Alert}
 use Rattle.rl_rules.specs.declared.rule.Rule.{Rule}
 use Rattle.rl_rules.specs.declared.rule.Group.{Group}
-use Rattle.rl_world.specs.Evaluating.{group_terms, answers, result_of, shown_entries, evaluation_of}
+use Rattle.rl_world.specs.Evaluating.{group_terms, answers, result_of, results_of, first_alerts, shown_entries, evaluation_of}
 use Rattle.rl_world.specs.Kept.{partials_of, no_partial, merged_from, merged_terms, results_from, evaluation_from}
 use Rattle.rl_world.specs.WorldState.{kept_answer, kept_open}
 use Rattle.rl_world.specs.declared.opened.Gathered.{Gathered}
@@ -68,19 +69,19 @@ others_behind f [] others = refl
 others_behind f (term ∷ own) others = others_behind f own others
 
 -- so each rule is evaluated on the partials of its own terms
-pub results_from-each : (limit : ℕ) (f : Term → Partial) (rules : List Rule) → results_from limit rules (map f (flat_map (λ rule. terms_of rule.query) rules)) ≡ map (λ rule. result_of limit rule (finished rule.query (map f (terms_of rule.query)))) rules
-results_from-each limit f [] = refl
-results_from-each limit f (rule ∷ rules) =
+pub results_from-each : (limit t : ℕ) (f : Term → Partial) (rules : List Rule) (alerts : List (List Alert)) → results_from limit t rules alerts (map f (flat_map (λ rule. terms_of rule.query) rules)) ≡ results_of limit t (λ rule. finished rule.query (map f (terms_of rule.query))) rules alerts
+results_from-each limit t f [] alerts = refl
+results_from-each limit t f (rule ∷ rules) alerts =
     let own = terms_of rule.query in
     let others = flat_map (λ other. terms_of other.query) rules in
-    λ k. result_of limit rule (finished rule.query (own_first f own others k)) ∷ (ap (results_from limit rules) (others_behind f own others) ∙ results_from-each limit f rules) k
+    λ k. result_of limit t rule (first_alerts alerts) (finished rule.query (own_first f own others k)) ∷ (ap (results_from limit t rules (drop 1 alerts)) (others_behind f own others) ∙ results_from-each limit t f rules (drop 1 alerts)) k
 
 -- the evaluation on kept partials is the one from scratch
-pub kept_evaluation : (group : Group) (opened : OpenEvaluation (List Entry)) → evaluation_from group (kept_open (group_terms group) opened) ≡ evaluation_of group opened
-kept_evaluation group opened =
+pub kept_evaluation : (group : Group) (alerts : List (List Alert)) (opened : OpenEvaluation (List Entry)) → evaluation_from group alerts (kept_open (group_terms group) opened) ≡ evaluation_of group alerts opened
+kept_evaluation group alerts opened =
     let terms = group_terms group in
     let same = answers-kept terms opened in
     let places = ap (λ shown. map (λ answer. answer.place) shown) same ∙ places-kept terms opened.t (answers opened) in
     let partials = ap (merged_terms 0 (length terms)) same ∙ merged_terms-kept terms 0 terms opened.t (answers opened) refl in
-    let outcomes = ap (results_from group.limit group.rules) partials ∙ results_from-each group.limit (λ term. partial (shown_entries opened) term opened.t) group.rules in
+    let outcomes = ap (results_from group.limit opened.t group.rules alerts) partials ∙ results_from-each group.limit opened.t (λ term. partial (shown_entries opened) term opened.t) group.rules alerts in
     λ k. record { group = group.name; t = opened.t; places = places k; outcomes = outcomes k }

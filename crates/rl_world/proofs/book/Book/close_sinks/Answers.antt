@@ -12,9 +12,12 @@ invariant_of-self g c =
     let is_closed = c.close_all.ensures.closed ∙ ap (λ sinks. map closed (map g.S.Sink.state sinks)) c.deref_mut.ensures.value in
     record {
       terms_are = c.self.invariant.terms_are;
+      alerts_are = c.self.invariant.alerts_are;
       few_shards = c.self.invariant.few_shards;
       few_records = c.self.invariant.few_records;
       few = c.self.invariant.few;
+      group_is = c.self.invariant.group_is;
+      evaluations_are = c.self.invariant.evaluations_are;
       slots = c.self.invariant.slots;
       prefixes = took_prefix-put g.S.Sink.state book.evaluations.items book.sinks.items c.close_all.new.sinks book.sinks.len (omega (arith, book.sinks.ok.0)) is_closed c.self.invariant.prefixes;
     }

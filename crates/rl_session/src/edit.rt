@@ -1,0 +1,43 @@
+//! The document of an edit: one group.
+ghost use Rattle.std.specs.Prelude.{◌≡◌};
+ghost use Rattle.rl_session.specs.Edits.{only, GivesOneGroup};
+
+use rl_rules::{Group, RulesError, read_rules};
+use rl_world::Refusal;
+use std::alloc::Global;
+
+/// Why a group was not edited.
+#[derive(Clone, Copy, Debug, Drop)]
+pub(crate) enum EditRefusal {
+    // The document gave no groups.
+    Rules(RulesError),
+    // It has none, or more than one.
+    NotOneGroup,
+    // No group has its name.
+    NoSuchGroup,
+    World(Refusal),
+}
+
+/// The one group of a document.
+pub(crate) fn read_group(alloc: Global, document: &str) -> Result<Group, EditRefusal>
+    ensures { GivesOneGroup document.now result }
+{
+    match read_rules(alloc, document) {
+        Ok(groups) => match only(groups) {
+            Some(group) => Ok(group),
+            None => Err(EditRefusal::NotOneGroup),
+        },
+        Err(error) => Err(EditRefusal::Rules(error)),
+    }
+}
+
+// The group, if there is one and no other.
+fn only(mut groups: Vec<Group>) -> Option<Group>
+    ensures { result ≡ only groups.items }
+{
+    if groups.len() == 1 {
+        groups.pop()
+    } else {
+        None
+    }
+}

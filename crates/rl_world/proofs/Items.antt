@@ -1,0 +1,81 @@
+-- What one item more makes of the group, its alerts and its evaluations.
+use Rattle.std.proofs.Common.{◌≡◌, ℕ, zero, suc, ◌+◌, ◌<◌, ◌≤◌, List, [], ◌∷◌, ◌++◌, length, zip, drop, get_or, refl, sym, ap, ◌∙◌, arith, append_assoc, append-nil, add-one}
+use Rattle.rl_rules.specs.declared.alert.Alert.{Alert}
+use Rattle.rl_rules.specs.declared.rule.Group.{Group}
+use Rattle.rl_rules.specs.declared.evaluation.Evaluation.{Evaluation}
+use Rattle.rl_world.specs.History.{alerts_then, alerts_edited, alerts_behind, group_behind, evaluations_in}
+use Rattle.rl_world.specs.declared.item.Item.{Item}
+use Rattle.rl_world.specs.declared.item.Item.TheVariants as kinds
+
+module _ (evaluation : Evaluation) where
+  pub alerts-evaluated : (group : Group) (alerts : List (List Alert)) (items : List Item) → alerts_behind group alerts (items ++ kinds.Evaluated evaluation ∷ []) ≡ alerts_then (alerts_behind group alerts items) evaluation.outcomes
+  alerts-evaluated group alerts [] = refl
+  alerts-evaluated group alerts (kinds.Edited next ∷ items) = alerts-evaluated next (alerts_edited group alerts next) items
+  alerts-evaluated group alerts (kinds.Evaluated first ∷ items) = alerts-evaluated group (alerts_then alerts first.outcomes) items
+
+  pub group-evaluated : (group : Group) (items : List Item) → group_behind group (items ++ kinds.Evaluated evaluation ∷ []) ≡ group_behind group items
+  group-evaluated group [] = refl
+  group-evaluated group (kinds.Edited next ∷ items) = group-evaluated next items
+  group-evaluated group (kinds.Evaluated first ∷ items) = group-evaluated group items
+
+  pub evaluations-evaluated : (items : List Item) → evaluations_in (items ++ kinds.Evaluated evaluation ∷ []) ≡ evaluations_in items ++ evaluation ∷ []
+  evaluations-evaluated [] = refl
+  evaluations-evaluated (kinds.Edited next ∷ items) = evaluations-evaluated items
+  evaluations-evaluated (kinds.Evaluated first ∷ items) = ap (λ (rest : List Evaluation). first ∷ rest) (evaluations-evaluated items)
+
+module _ (to : Group) where
+  pub alerts-edited : (group : Group) (alerts : List (List Alert)) (items : List Item) → alerts_behind group alerts (items ++ kinds.Edited to ∷ []) ≡ alerts_edited (group_behind group items) (alerts_behind group alerts items) to
+  alerts-edited group alerts [] = refl
+  alerts-edited group alerts (kinds.Edited next ∷ items) = alerts-edited next (alerts_edited group alerts next) items
+  alerts-edited group alerts (kinds.Evaluated first ∷ items) = alerts-edited group (alerts_then alerts first.outcomes) items
+
+  pub group-edited : (group : Group) (items : List Item) → group_behind group (items ++ kinds.Edited to ∷ []) ≡ to
+  group-edited group [] = refl
+  group-edited group (kinds.Edited next ∷ items) = group-edited next items
+  group-edited group (kinds.Evaluated first ∷ items) = group-edited group items
+
+  pub evaluations-edited : (items : List Item) → evaluations_in (items ++ kinds.Edited to ∷ []) ≡ evaluations_in items
+  evaluations-edited [] = refl
+  evaluations-edited (kinds.Edited next ∷ items) = evaluations-edited items
+  evaluations-edited (kinds.Evaluated first ∷ items) = ap (λ (rest : List Evaluation). first ∷ rest) (evaluations-edited items)
+
+-- there are no more evaluations than items
+pub few_evaluations : (items : List Item) → length (evaluations_in items) ≤ length items
+few_evaluations [] = omega arith
+few_evaluations (kinds.Edited group ∷ items) = let rest = few_evaluations items in omega arith
+few_evaluations (kinds.Evaluated evaluation ∷ items) = let rest = few_evaluations items in omega arith
+
+-- two lists side by side from a place on
+zip-drop : {X Y : Type 0} (xs : List X) (ys : List Y) (i : ℕ) (x : X) (y : Y) → i < length xs → i < length ys → zip (drop i xs) (drop i ys) ≡ (get_or xs i x, get_or ys i y) ∷ zip (drop (suc i) xs) (drop (suc i) ys)
+zip-drop [] ys i x y low high = absurd (omega arith)
+zip-drop (a ∷ xs) [] i x y low high = absurd (omega arith)
+zip-drop (a ∷ xs) (b ∷ ys) zero x y low high = refl
+zip-drop (a ∷ xs) (b ∷ ys) (suc i) x y low high = zip-drop xs ys i x y (omega arith) (omega arith)
+
+zip-end : {X Y : Type 0} (xs : List X) (ys : List Y) (i : ℕ) → (i < length xs → i < length ys → ⊥) → zip (drop i xs) (drop i ys) ≡ []
+zip-end [] ys zero none = refl
+zip-end [] ys (suc i) none = refl
+zip-end (a ∷ xs) [] zero none = refl
+zip-end (a ∷ xs) [] (suc i) none = nothing (drop i xs) [] refl
+  where
+    nothing : {X Y : Type 0} (xs : List X) (ys : List Y) → ys ≡ [] → zip xs ys ≡ []
+    nothing [] ys e = refl
+    nothing (a ∷ xs) [] e = refl
+    nothing (a ∷ xs) (b ∷ ys) e = cc
+zip-end (a ∷ xs) (b ∷ ys) zero none = absurd (none (omega arith) (omega arith))
+zip-end (a ∷ xs) (b ∷ ys) (suc i) none = zip-end xs ys i (λ low high. none (omega (arith, low)) (omega (arith, high)))
+
+-- one pair more
+pub paired_more : {X Y : Type 0} (xs : List X) (ys : List Y) (i : ℕ) (x : X) (y : Y) (done more : List (X × Y)) → i < length xs → i < length ys → x ≡ get_or xs i x → y ≡ get_or ys i y → more ≡ done ++ (x, y) ∷ []
+    → done ++ zip (drop i xs) (drop i ys) ≡ zip xs ys → more ++ zip (drop (i + 1) xs) (drop (i + 1) ys) ≡ zip xs ys
+paired_more {X} {Y} xs ys i x y done more low high x_is y_is more_is so_far =
+    let rest : List (X × Y) = zip (drop (suc i) xs) (drop (suc i) ys) in
+    (λ k. more_is k ++ zip (drop (add-one i k) xs) (drop (add-one i k) ys))
+    ∙ append_assoc done ((x, y) ∷ []) rest
+    ∙ (λ k. done ++ (x_is k, y_is k) ∷ rest)
+    ∙ sym (ap (λ (pairs : List (X × Y)). done ++ pairs) (zip-drop xs ys i x y low high))
+    ∙ so_far
+
+-- none is left
+pub paired_all : {X Y : Type 0} (xs : List X) (ys : List Y) (i : ℕ) (done : List (X × Y)) → (i < length xs → i < length ys → ⊥) → done ++ zip (drop i xs) (drop i ys) ≡ zip xs ys → done ≡ zip xs ys
+paired_all {X} {Y} xs ys i done none so_far = sym (append-nil done) ∙ sym (ap (λ (pairs : List (X × Y)). done ++ pairs) (zip-end xs ys i none)) ∙ so_far
