@@ -16,6 +16,7 @@ const NOTHING: Total = Total { count: 0, bytes: 0 };
 pub(crate) fn answer(alloc: Global, directive: &str, input: &str) -> Result<String, Trouble> {
     match directive {
         "range" => range(alloc, input),
+        "vector" => vector(alloc, input),
         "partial" => partial(alloc, input),
         _ => Err(Trouble::NoSuchDirective),
     }
@@ -31,7 +32,7 @@ pub(crate) fn push_partial(
 ) -> Result<(), Trouble> {
     let (errors, many) = (partial.errors, partial.totals.len());
     write!(text, "{errors} errors, {many} label sets")?;
-    match finish(alloc, query, &[partial.try_copy()?])? {
+    match finished(alloc, query, &[partial.try_copy()?])? {
         Outcome::Failed => write!(text, "{between}failed")?,
         Outcome::Vector(samples) => {
             for sample in samples.as_slice() {
@@ -62,6 +63,45 @@ fn range(alloc: Global, input: &str) -> Result<String, Trouble> {
     let mut text = String::new(alloc);
     push_partial(&mut text, alloc, &query, &partial, "\n")?;
     Ok(text)
+}
+
+// What a query gives at a moment of the entries of a list, or of two lists whose partials are merged.
+fn vector(alloc: Global, input: &str) -> Result<String, Trouble> {
+    let (query, rest) = input.split_once('\n').ok_or(Trouble::BadInput)?;
+    let (moment, entries) = rest.split_once('\n').unwrap_or((rest, ""));
+    let (first, second) = entries.split_once("\n--\n").unwrap_or((entries, ""));
+    let query = parse(alloc, query).ok().ok_or(Trouble::BadInput)?;
+    let moment = moment_in(moment)?;
+    let mut partials = Vec::new(alloc);
+    partials.push(merged(alloc, first, second, &query.left, moment)?)?;
+    if let Some(over) = &query.over {
+        partials.push(merged(alloc, first, second, over, moment)?)?;
+    }
+    let mut text = String::new(alloc);
+    match finished(alloc, &query, &partials)? {
+        Outcome::Failed => text.push_str("failed")?,
+        Outcome::Vector(samples) => push_vector(&mut text, samples.as_slice())?,
+    }
+    Ok(text)
+}
+
+fn push_vector(text: &mut String, samples: &[Sample]) -> Result<(), Trouble> {
+    for sample in samples {
+        let (labels, value) = (&sample.labels, sample.value);
+        let (numerator, denominator) = (value.numerator, value.denominator);
+        writeln!(text, "{labels} {numerator}/{denominator}")?;
+    }
+    Ok(())
+}
+
+// The outcome of a query, of partials that are as many as its terms and within the limits of one.
+fn finished(alloc: Global, query: &Query, partials: &[Partial]) -> Result<Outcome, Trouble> {
+    match (&query.over, partials) {
+        (None, [left]) if left.is_limited() => {}
+        (Some(_), [left, over]) if left.is_limited() && over.is_limited() => {}
+        _ => return Err(Trouble::BadInput),
+    }
+    Ok(finish(alloc, query, partials)?)
 }
 
 // What two lists of entries add up to.
@@ -158,8 +198,8 @@ fn push_same(
     here: &Partial,
     copy: &Partial,
 ) -> Result<(), Trouble> {
-    let here = finish(alloc, query, &[here.try_copy()?])?;
-    let copy = finish(alloc, query, &[copy.try_copy()?])?;
+    let here = finished(alloc, query, &[here.try_copy()?])?;
+    let copy = finished(alloc, query, &[copy.try_copy()?])?;
     let outcomes = compared(&here, &copy)?;
     writeln!(text, "{outcomes}")?;
     Ok(())

@@ -1,10 +1,10 @@
 //! Rule files, and what a rule makes of an outcome.
-use crate::given::{labels_in, number_in};
+use crate::given::{labels_in, moment_in, number_in};
 use crate::trouble::Trouble;
 use rl_aggregate::{Fraction, Outcome, Sample};
 use rl_plain::{PlainList, Same, TryCopy};
 use rl_query::print;
-use rl_rules::{Group, Rule, RuleOutcome, RulesError, read_rules, step_rule};
+use rl_rules::{Alert, Group, Rule, RuleKind, RuleOutcome, RulesError, read_rules, step_rule};
 use std::alloc::{AllocError, AllocFailed, Global};
 
 pub(crate) fn answer(alloc: Global, directive: &str, input: &str) -> Result<String, Trouble> {
@@ -13,6 +13,7 @@ pub(crate) fn answer(alloc: Global, directive: &str, input: &str) -> Result<Stri
         "each" => each(alloc, input),
         "fault" => fault(alloc, input),
         "step" => step(alloc, input),
+        "life" => life(alloc, input),
         "groups" => groups(alloc, input),
         _ => Err(Trouble::NoSuchDirective),
     }
@@ -48,6 +49,10 @@ fn push_rule(text: &mut String, rule: &Rule) -> Result<(), Trouble> {
         let (name, value) = (label.0.as_str(), label.1.as_str());
         write!(text, "  {name} = {value:?}\n")?;
     }
+    if matches!(rule.kind, RuleKind::Alerting) {
+        let (hold, annotations) = (rule.hold, rule.annotations.as_text());
+        write!(text, "  for {hold} s, {annotations}\n")?;
+    }
     Ok(())
 }
 
@@ -74,19 +79,50 @@ fn fault(alloc: Global, input: &str) -> Result<String, Trouble> {
     Ok(text)
 }
 
-// A rule file of one group, and behind it the outcome of the query of each of its rules: samples, one a line, or `failed`.
+// A rule file of one group, and behind it the outcome of the query of each of its rules at the moment 0: samples, one a
+// line, or `failed`.
 fn step(alloc: Global, input: &str) -> Result<String, Trouble> {
     let (file, outcome) = input.split_once('\n').unwrap_or((input, ""));
     let group = group_in(alloc, file)?;
     let mut text = String::new(alloc);
     for rule in group.rules.as_slice() {
-        let outcome = match outcome {
-            "failed" => Outcome::Failed,
-            _ => Outcome::Vector(samples_in(alloc, outcome)?),
-        };
-        push_made(&mut text, &step_rule(rule, group.limit, outcome)?)?;
+        let outcome = outcome_in(alloc, outcome)?;
+        let (_left, made) = step_rule(
+            rule,
+            group.limit,
+            PlainList::new(alloc),
+            outcome,
+            moment_in("0")?,
+        )?;
+        push_made(&mut text, &made)?;
     }
     Ok(text)
+}
+
+// A rule file of one rule, and behind it in each line a moment and the outcome of its query. What the rule makes of each,
+// with the alerts that the lines before left to it.
+fn life(alloc: Global, input: &str) -> Result<String, Trouble> {
+    let (file, lines) = input.split_once('\n').unwrap_or((input, ""));
+    let group = group_in(alloc, file)?;
+    let rule = group.rules.as_slice().first().ok_or(Trouble::BadInput)?;
+    let mut text = String::new(alloc);
+    let mut alerts = PlainList::new(alloc);
+    for line in lines.split('\n') {
+        let (moment, outcome) = line.split_once(' ').unwrap_or((line, ""));
+        let outcome = outcome_in(alloc, outcome)?;
+        let (left, made) = step_rule(rule, group.limit, alerts, outcome, moment_in(moment)?)?;
+        write!(text, "{moment}, {} left\n", left.len())?;
+        push_made(&mut text, &made)?;
+        alerts = left;
+    }
+    Ok(text)
+}
+
+fn outcome_in(alloc: Global, text: &str) -> Result<Outcome, Trouble> {
+    match text {
+        "failed" => Ok(Outcome::Failed),
+        _ => Ok(Outcome::Vector(samples_in(alloc, text)?)),
+    }
 }
 
 fn push_made(text: &mut String, made: &RuleOutcome) -> Result<(), Trouble> {
@@ -98,8 +134,29 @@ fn push_made(text: &mut String, made: &RuleOutcome) -> Result<(), Trouble> {
                 write!(text, "{labels} {numerator}/{denominator}\n")?;
             }
         }
+        RuleOutcome::Alerts(alerts) => {
+            for alert in alerts.as_slice() {
+                push_alert(text, alert)?;
+            }
+        }
         RuleOutcome::Failed(cause) => write!(text, "{cause:?}\n")?,
     }
+    Ok(())
+}
+
+/// Adds an alert as it is.
+pub(crate) fn push_alert(text: &mut String, alert: &Alert) -> Result<(), Trouble> {
+    let labels = alert.labels.as_text();
+    let (numerator, denominator) = (alert.value.numerator, alert.value.denominator);
+    let (phase, since) = (alert.phase, alert.since.get());
+    write!(
+        text,
+        "{phase:?} {labels} {numerator}/{denominator} since {since}"
+    )?;
+    if let Some(fired) = alert.fired {
+        write!(text, " fired {}", fired.get())?;
+    }
+    text.push('\n')?;
     Ok(())
 }
 
@@ -137,8 +194,8 @@ pub(crate) fn push_compared<T: TryCopy + Same + PartialEq>(
     Ok(())
 }
 
-// The group of a rule file of one.
-fn group_in(alloc: Global, file: &str) -> Result<Group, Trouble> {
+/// The group of a rule file of one.
+pub(crate) fn group_in(alloc: Global, file: &str) -> Result<Group, Trouble> {
     let mut groups = read_rules(alloc, file).or(Err(Trouble::BadInput))?;
     groups.pop().ok_or(Trouble::BadInput)
 }

@@ -6,7 +6,7 @@ use crate::given::{labels_in, moment_in, number_in};
 use crate::rules::{push_compared, samples_in};
 use crate::trouble::Trouble;
 use rl_plain::{PlainList, PlainText};
-use rl_rules::{Cause, Evaluation, RuleKind, RuleOutcome, RuleResult};
+use rl_rules::{Alert, Cause, Evaluation, Phase, RuleKind, RuleOutcome, RuleResult};
 use rl_sinks::{Recorder, Sink, SinkFault, SinkKind, evaluation_text};
 use std::alloc::{AllocError, AllocFailed, Global};
 
@@ -44,6 +44,12 @@ fn push_results(text: &mut String, one: &RuleResult, other: &RuleResult) -> Resu
     let outcomes = (&one.outcome, &other.outcome);
     if let (RuleOutcome::Failed(cause), RuleOutcome::Failed(other)) = outcomes {
         push_compared(text, ", Cause", cause, other)?;
+    }
+    if let (RuleOutcome::Alerts(alerts), RuleOutcome::Alerts(others)) = outcomes {
+        for (alert, other) in alerts.as_slice().iter().zip(others.as_slice()) {
+            push_compared(text, ", Alert", alert, other)?;
+            push_compared(text, ", Phase", &alert.phase, &other.phase)?;
+        }
     }
     Ok(())
 }
@@ -139,16 +145,59 @@ fn evaluation_in(alloc: Global, line: &str) -> Result<Evaluation, Trouble> {
 fn result_in(alloc: Global, text: &str) -> Result<RuleResult, Trouble> {
     let (name, rest) = text.split_once(' ').ok_or(Trouble::BadInput)?;
     let (annotations, outcome) = rest.split_once(' ').unwrap_or((rest, ""));
-    let outcome = match outcome {
+    let (kind, outcome) = match outcome.strip_prefix("alerts") {
+        Some(alerts) => (RuleKind::Alerting, alerts),
+        None => (RuleKind::Recording, outcome),
+    };
+    let outcome = match outcome.trim_start() {
         "PipelineError" => RuleOutcome::Failed(Cause::PipelineError),
         "SameLabels" => RuleOutcome::Failed(Cause::SameLabels),
         "LimitExceeded" => RuleOutcome::Failed(Cause::LimitExceeded),
-        _ => RuleOutcome::Samples(samples_in(alloc, outcome)?),
+        samples if matches!(kind, RuleKind::Recording) => RuleOutcome::Samples(samples_in(
+            alloc, samples,
+        )?),
+        alerts => RuleOutcome::Alerts(alerts_in(alloc, alerts)?),
     };
     Ok(RuleResult {
-        kind: RuleKind::Recording,
+        kind,
         name: PlainText::from_str(alloc, name)?,
         annotations: labels_in(alloc, annotations)?,
         outcome,
     })
+}
+
+// The alerts of words `phase@since@fired@labels:value`, of which the third may be `-`.
+fn alerts_in(alloc: Global, text: &str) -> Result<PlainList<Alert>, Trouble> {
+    let mut alerts = Vec::new(alloc);
+    for word in text.split_whitespace() {
+        alerts.push(alert_in(alloc, word)?)?;
+    }
+    Ok(PlainList::from_vec(alerts))
+}
+
+fn alert_in(alloc: Global, word: &str) -> Result<Alert, Trouble> {
+    let (phase, rest) = word.split_once('@').ok_or(Trouble::BadInput)?;
+    let (since, rest) = rest.split_once('@').ok_or(Trouble::BadInput)?;
+    let (fired, sample) = rest.split_once('@').ok_or(Trouble::BadInput)?;
+    let mut samples = samples_in(alloc, sample)?.into_vec();
+    let sample = samples.pop().ok_or(Trouble::BadInput)?;
+    Ok(Alert {
+        labels: sample.labels,
+        value: sample.value,
+        since: moment_in(since)?,
+        fired: match fired {
+            "-" => None,
+            _ => Some(moment_in(fired)?),
+        },
+        phase: phase_in(phase)?,
+    })
+}
+
+fn phase_in(word: &str) -> Result<Phase, Trouble> {
+    match word {
+        "pending" => Ok(Phase::Pending),
+        "firing" => Ok(Phase::Firing),
+        "resolved" => Ok(Phase::Resolved),
+        _ => Err(Trouble::BadInput),
+    }
 }

@@ -2,13 +2,14 @@
 ghost use Rattle.std.specs.Prelude.{◌≡◌};
 
 use crate::given::{entry_in, moment_in, number_in};
+use crate::rules::{group_in, push_alert};
 use crate::trouble::Trouble;
 use crate::world::Sunk;
-use rl_plain::PlainList;
+use rl_plain::{PlainList, Same};
 use rl_query::print_term;
 use rl_shard::ShardStep;
 use rl_sinks::{SinkKind, evaluation_text};
-use rl_world::{Book, Committed, Reply, Step, World};
+use rl_world::{Book, Committed, Item, Reply, Step, World};
 use std::alloc::Global;
 use std::fmt::{Debug, Display};
 use std::mem;
@@ -62,6 +63,10 @@ fn step_in(alloc: Global, line: &str) -> Result<Option<Step>, Trouble> {
             let number = group;
             Step::Shard { number, step }
         }
+        "edit" => {
+            let to = group_in(alloc, rest)?;
+            Step::Edit { group, to }
+        }
         "begin" => {
             let t = moment_in(rest)?;
             Step::Begin { group, t }
@@ -88,6 +93,7 @@ fn index_in(text: &str) -> Result<usize, Trouble> {
 fn told_of_reply(alloc: Global, reply: &Reply) -> Result<String, Trouble> {
     Ok(match reply {
         Reply::Decided { place, reply } => format!(in alloc; "{place} {reply:?}\n")?,
+        Reply::Edited { place } => format!(in alloc; "{place} edited\n")?,
         Reply::Begun => format!(in alloc; "begun\n")?,
         Reply::Gathered { place } => format!(in alloc; "{place} gathered\n")?,
         Reply::Committed(answer) => told_of_commit(alloc, answer)?,
@@ -134,12 +140,16 @@ fn look_at(alloc: Global, world: &mut World<Sunk>, line: &str) -> Result<String,
     })
 }
 
-// What a look-up finds in a book: its group, what a tail says of an evaluation, or how many texts a sink has taken and one
-// that it keeps.
+// What a look-up finds in a book: its group, the group as it began, the alerts of each rule, whether it is due, an item of
+// its history, what a tail says of an evaluation, or how many texts a sink has taken and one that it keeps.
 fn look(alloc: Global, book: &Book<Sunk>, word: &str, rest: &str) -> Result<String, Trouble> {
     let (first, second) = words_of(rest);
     Ok(match word {
         "group" => told_of_group(alloc, book)?,
+        "first" => format!(in alloc; "{} rules\n", book.first_group().rules.len())?,
+        "alerts" => told_of_alerts(alloc, book)?,
+        "due" => format!(in alloc; "{}\n", book.due(moment_in(first)?))?,
+        "item" => told_of_item(alloc, book.item(number_in(first)?))?,
         "evaluation" => match book.evaluation(number_in(first)?) {
             Some(evaluation) => evaluation_text(alloc, SinkKind::Tail, evaluation)?,
             None => format!(in alloc; "None\n")?,
@@ -150,6 +160,33 @@ fn look(alloc: Global, book: &Book<Sunk>, word: &str, rest: &str) -> Result<Stri
             format!(in alloc; "{count:?} {text:?}\n")?
         }
         _ => return Err(Trouble::BadInput),
+    })
+}
+
+// The alerts of each rule, each behind the number of the rule.
+fn told_of_alerts(alloc: Global, book: &Book<Sunk>) -> Result<String, Trouble> {
+    let mut told = format!(in alloc; "of {} rules\n", book.alerts().len())?;
+    for (number, alerts) in book.alerts().iter().enumerate() {
+        for alert in alerts.as_slice() {
+            write!(told, "{number} ")?;
+            push_alert(&mut told, alert)?;
+        }
+    }
+    Ok(told)
+}
+
+fn told_of_item(alloc: Global, item: Option<&Item>) -> Result<String, Trouble> {
+    Ok(match item {
+        Some(Item::Edited(group)) => format!(in alloc;
+            "edited to {} rules\n",
+            group.get().rules.len()
+        )?,
+        Some(Item::Evaluated(evaluation)) => evaluation_text(
+            alloc,
+            SinkKind::Tail,
+            evaluation.get(),
+        )?,
+        None => format!(in alloc; "None\n")?,
     })
 }
 
@@ -178,6 +215,7 @@ impl Asking {
         let (word, rest) = words_of(line);
         match word {
             "begin" => told_of_call(alloc, self.book.begin(moment_in(rest)?)),
+            "edit" => self.edit(alloc, rest),
             "asks" => self.told_of_moment(alloc, index_in(rest)?),
             "put" => self.put_nothing(alloc, rest),
             "commit" => match self.book.commit() {
@@ -196,6 +234,15 @@ impl Asking {
             return Err(Trouble::BadInput);
         }
         told_of_call(alloc, self.book.asks(shard))
+    }
+
+    // Edits the group under its name.
+    fn edit(&mut self, alloc: Global, file: &str) -> Result<String, Trouble> {
+        let to = group_in(alloc, file)?;
+        if !to.name.is_same(&self.book.group().name) {
+            return Err(Trouble::BadInput);
+        }
+        told_of_call(alloc, self.book.edit(to))
     }
 
     // Hands in what a shard shows of no term, at a place.
