@@ -15,7 +15,7 @@ use crate::decision::Decision;
 use crate::step::ShardReply;
 use rl_aggregate::{Partial, scratch};
 use rl_labels::{Entry, Labels, Limits, Ns};
-use rl_plain::{PlainList, TryCopy};
+use rl_plain::{PlainList, Same, TryCopy};
 use rl_query::Term;
 use std::alloc::{AllocError, Global};
 use std::collections::BTreeMap;
@@ -137,7 +137,7 @@ fn raise(
     Ok(())
 }
 
-// What the entries in each term's range add up to.
+// What the entries in each term's range add up to. A range that stands twice is added up once.
 pub(crate) fn collect(
     alloc: Global,
     held: &[Entry],
@@ -148,8 +148,30 @@ pub(crate) fn collect(
     ensures { IfOk result (λ partials. partials ≡ map_list (λ term. partial held.now term t) terms.now) }
 {
     let mut partials = Vec::with_capacity(alloc, terms.len())?;
-    for term in terms {
-        partials.push(scratch(alloc, held, term, t)?)?;
+    for (index, term) in terms.iter().enumerate() {
+        let partial = next_partial(alloc, held, &terms[..index], &partials, term, t)?;
+        partials.push(partial)?;
     }
     Ok(PlainList::from_vec(partials))
+}
+
+// What the entries in the term's range add up to, copied where a term before has the range.
+fn next_partial(
+    alloc: Global,
+    held: &[Entry],
+    before: &[Term],
+    known: &[Partial],
+    term: &Term,
+    t: Ns,
+) -> Result<Partial, AllocError>
+    requires held { length held.now ≤ most_entries }
+    requires known { known.now ≡ map_list (λ term. partial held.now term t) before.now }
+    ensures { IfOk result (λ found. found ≡ partial held.now term.now t) }
+{
+    for (index, other) in before.iter().enumerate() {
+        if other.range.is_same(&term.range) {
+            return known[index].try_copy();
+        }
+    }
+    scratch(alloc, held, term, t)
 }

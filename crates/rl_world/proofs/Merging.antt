@@ -3,7 +3,7 @@ use Rattle.std.proofs.Common.{◌≡◌, ℕ, zero, suc, ◌+◌, ◌-◌, ◌*�
 use Rattle.std.specs.List.{AllByRecursion}
 use Rattle.std.specs.Option.{unwrap_or}
 use Rattle.std.specs.FinMap.{get, empty, get-empty, len-empty}
-use Rattle.std.proofs.lemmas.List.{at_drop_more, get_or_default}
+use Rattle.std.proofs.lemmas.List.{at_drop_more, drop_all, get_or_default}
 use Rattle.std.proofs.lemmas.List.Elements.{All-from_recursion}
 use Rattle.rl_labels.specs.LabelText.{label_set_cmp}
 use Rattle.rl_aggregate.specs.laws.Sums.{len-both_totals, counts-both_totals, bytes-both_totals, sum_of-empty, total_at-sum_of}
@@ -158,3 +158,22 @@ merged_terms-limited term (suc more) terms slots few inside kept = (
   within-limited (0 + length slots * most_in_shard) _ (merged-within term 0 slots no_partial within-none (has_term term terms slots (omega arith) kept)) (omega arith),
   merged_terms-limited (suc term) more terms slots few (omega arith) kept,
 )
+
+-- one shard alone gives what it has
+pub merged_terms-alone : (term more : ℕ) (answer : Gathered (List Partial)) → term + more ≡ length answer.shown → merged_terms term more (answer ∷ []) ≡ drop term answer.shown
+merged_terms-alone term zero answer all = sym (drop_all term answer.shown (omega (arith, all)))
+merged_terms-alone term (suc more) answer all =
+    let own = get_or answer.shown term no_partial in
+    ap (λ first. first ∷ merged_terms (suc term) more (answer ∷ [])) (merge-into_nothing own)
+    ∙ ap (λ others. own ∷ others) (merged_terms-alone (suc term) more answer (omega (arith, all)) ∙ ap (λ n. drop n answer.shown) (sym (add-one term)))
+    ∙ sym (at_drop_more (λ left. left) answer.shown term no_partial (omega (arith, all)))
+
+-- so the merges of all slots are what the only one has
+pub merged_terms-lone : (terms : ℕ) (slots : Slots) (slot : Slot) (answer : Gathered (List Partial)) → length slots < 2 → 1 ≤ length slots → slot ≡ get_or slots 0 slot → slot ≡ Some answer → AllByRecursion (IsKept terms) slots → answer.shown ≡ merged_terms 0 terms (flat_map option_to_list slots)
+merged_terms-lone terms (first ∷ []) slot answer one some is asked kept =
+    let own : Some answer ≡ first = sym asked ∙ is in
+    let has : IsKept terms (Some answer) = subst (IsKept terms) (sym own) kept.0 in
+    let all : 0 + terms ≡ length answer.shown = omega (arith, has.each) in
+    subst (λ first. answer.shown ≡ merged_terms 0 terms (flat_map option_to_list (first ∷ []))) own (sym (merged_terms-alone 0 terms answer all))
+merged_terms-lone terms [] slot answer one some is asked kept = absurd (omega (arith, some))
+merged_terms-lone terms (first ∷ other ∷ slots) slot answer one some is asked kept = absurd (omega (arith, one))

@@ -55,9 +55,7 @@ pub(crate) fn evaluate(
     ensures alerts { IfOk result (λ made. made.1.items ≡ alerts_then alerts.now made.0.outcomes) }
 {
     let slots = opened.gathered.as_slice();
-    let partials = merged_terms(alloc, slots, terms)?;
-    let rules = group.rules.as_slice();
-    let (outcomes, left) = results(alloc, group.limit, opened.t, rules, alerts, &partials)?;
+    let (outcomes, left) = group_results(alloc, group, terms, opened.t, alerts, slots)?;
     let places = places(alloc, slots)?;
     let name = group.name.try_copy()?;
     let evaluation = Evaluation {
@@ -68,6 +66,32 @@ pub(crate) fn evaluate(
     };
     let shared = Shared::new(alloc, evaluation)?;
     Ok((shared, left))
+}
+
+// The results of the group's rules on what all shards have, and the alerts that are left. What a lone shard has is lent.
+fn group_results(
+    alloc: Global,
+    group: &Group,
+    terms: usize,
+    t: Ns,
+    alerts: &[PlainList<Alert>],
+    slots: &[Slot],
+) -> Result<(Vec<RuleResult>, Vec<PlainList<Alert>>), AllocError>
+    requires terms { terms ≡ length (group_terms group.now) }
+    requires shards { length slots.now ≤ most_shards }
+    requires slots { AllByRecursion (IsKept terms) slots.now }
+    ensures results { IfOk result (λ made. made.0.items ≡ results_from group.now.limit t group.now.rules alerts.now (merged_terms 0 terms (flat_map option_to_list slots.now))) }
+    ensures alerts { IfOk result (λ made. made.1.items ≡ alerts_then alerts.now made.0.items) }
+{
+    let rules = group.rules.as_slice();
+    if let [slot] = slots {
+        if let Some(answer) = slot {
+            let partials = answer.shown.as_slice();
+            return results(alloc, group.limit, t, rules, alerts, partials);
+        }
+    }
+    let partials = merged_terms(alloc, slots, terms)?;
+    results(alloc, group.limit, t, rules, alerts, &partials)
 }
 
 // Where the journals of the shards that were asked have the question.
