@@ -1,5 +1,5 @@
 //! Runs of a pipeline over many lines.
-ghost use Rattle.std.specs.Prelude.{◌≡◌, true, IfOk, map};
+ghost use Rattle.std.specs.Prelude.{◌≡◌, true, false, IfOk, IsOk, map};
 ghost use Rattle.std.specs.List.{list_all};
 ghost use Rattle.rl_pipeline.specs.Metering.{with_run};
 ghost use Rattle.rl_pipeline.specs.Running.{where_true, run, keeps, lets_pass, kept_run, labels_behind, is_filter, IsPlain};
@@ -83,6 +83,7 @@ impl<'a> Running<'a> {
     ) -> Result<Option<Labels>, AllocError>
         ensures run { IfOk result (λ found. found ≡ run self.old line.now labels.now) }
         ensures counted { meter.new ≡ with_run meter.old }
+        ensures left_out { keeps self.old line.now ≡ false → IsOk result }
         ensures same { self.new ≡ self.old }
     {
         meter.count_run();
