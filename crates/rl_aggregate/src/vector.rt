@@ -13,12 +13,16 @@ use crate::partial::Partial;
 use crate::ratio::divide;
 use crate::threshold::compare;
 use crate::totals::Totals;
-use rl_plain::PlainList;
+use rl_plain::{PlainList, Shared};
 use rl_query::{Query, RangeFunction, Term, Threshold};
 use std::alloc::{AllocError, Global};
 
 /// The outcome of a query, with one partial for each of its terms. A query that fails takes no memory.
-pub fn finish(alloc: Global, query: &Query, partials: &[Partial]) -> Result<Outcome, AllocError>
+pub fn finish(
+    alloc: Global,
+    query: &Query,
+    partials: &[Shared<Partial>],
+) -> Result<Outcome, AllocError>
     requires partials { length partials.now ≡ length (terms_of query.now) }
     requires limited { AllByRecursion IsLimited partials.now }
     ensures finished { IfOk result (λ outcome. outcome ≡ finished query.now partials.now) }
@@ -34,17 +38,17 @@ pub fn finish(alloc: Global, query: &Query, partials: &[Partial]) -> Result<Outc
 }
 
 // Whether a line of some term has an error.
-fn have_errors(partials: &[Partial]) -> bool
+fn have_errors(partials: &[Shared<Partial>]) -> bool
     ensures { result ≡ have_errors partials.now }
 {
-    partials.iter().any(|partial| partial.errors > 0)
+    partials.iter().any(|partial| partial.get().errors > 0)
 }
 
 // The vector of a query.
 fn query_vector(
     alloc: Global,
     query: &Query,
-    partials: &[Partial],
+    partials: &[Shared<Partial>],
 ) -> Result<Vec<Sample>, AllocError>
     requires partials { length partials.now ≡ length (terms_of query.now) }
     requires limited { AllByRecursion IsLimited partials.now }
@@ -53,7 +57,7 @@ fn query_vector(
     match partials {
         [] => Ok(Vec::new(alloc)),
         [partial, rest @ ..] => {
-            let samples = quotient(alloc, query, partial, rest)?;
+            let samples = quotient(alloc, query, partial.get(), rest)?;
             Ok(tested_by(&query.test, samples))
         }
     }
@@ -64,7 +68,7 @@ fn quotient(
     alloc: Global,
     query: &Query,
     partial: &Partial,
-    rest: &[Partial],
+    rest: &[Shared<Partial>],
 ) -> Result<Vec<Sample>, AllocError>
     requires limited { IsLimited partial.now }
     requires rest_limited { AllByRecursion IsLimited rest.now }
@@ -74,7 +78,7 @@ fn quotient(
     let samples = term_vector(alloc, &query.left, partial)?;
     match (&query.over, rest) {
         (Some(term), [divisor, ..]) => {
-            let divisors = term_vector(alloc, term, divisor)?;
+            let divisors = term_vector(alloc, term, divisor.get())?;
             divide(alloc, samples, &divisors)
         }
         _ => Ok(samples),

@@ -117,7 +117,11 @@ impl Shard {
     }
 
     // What the shard shows of each term's range.
-    fn show(&self, terms: &Shared<PlainList<Term>>, t: Ns) -> Result<PlainList<Partial>, AllocError>
+    fn show(
+        &self,
+        terms: &Shared<PlainList<Term>>,
+        t: Ns,
+    ) -> Result<PlainList<Shared<Partial>>, AllocError>
         ensures { IfOk result (λ partials. partials ≡ map_list (λ term. partial (visible self.now.state) term t) terms.now) }
     {
         collect(

@@ -36,7 +36,7 @@ pub enum ShardReply {
     /// The shard holds as many entries as it may.
     Full,
     /// One partial for each term.
-    Collected(PlainList<Partial>),
+    Collected(PlainList<Shared<Partial>>),
 }
 
 /// Why a step was not decided. It made no record.

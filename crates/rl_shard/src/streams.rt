@@ -15,7 +15,7 @@ use crate::decision::Decision;
 use crate::step::ShardReply;
 use rl_aggregate::{Partial, scratch};
 use rl_labels::{Entry, Labels, Limits, Ns};
-use rl_plain::{PlainList, Same, TryCopy};
+use rl_plain::{PlainList, Same, Shared, TryCopy};
 use rl_query::Term;
 use std::alloc::{AllocError, Global};
 use std::collections::BTreeMap;
@@ -143,7 +143,7 @@ pub(crate) fn collect(
     held: &[Entry],
     terms: &[Term],
     t: Ns,
-) -> Result<PlainList<Partial>, AllocError>
+) -> Result<PlainList<Shared<Partial>>, AllocError>
     requires { length held.now ≤ most_entries }
     ensures { IfOk result (λ partials. partials ≡ map_list (λ term. partial held.now term t) terms.now) }
 {
@@ -155,15 +155,15 @@ pub(crate) fn collect(
     Ok(PlainList::from_vec(partials))
 }
 
-// What the entries in the term's range add up to, copied where a term before has the range.
+// What the entries in the term's range add up to, shared with a term before that has the range.
 fn next_partial(
     alloc: Global,
     held: &[Entry],
     before: &[Term],
-    known: &[Partial],
+    known: &[Shared<Partial>],
     term: &Term,
     t: Ns,
-) -> Result<Partial, AllocError>
+) -> Result<Shared<Partial>, AllocError>
     requires held { length held.now ≤ most_entries }
     requires known { known.now ≡ map_list (λ term. partial held.now term t) before.now }
     ensures { IfOk result (λ found. found ≡ partial held.now term.now t) }
@@ -173,5 +173,7 @@ fn next_partial(
             return known[index].try_copy();
         }
     }
-    scratch(alloc, held, term, t)
+    let found = scratch(alloc, held, term, t)?;
+    let shared = Shared::new(alloc, found)?;
+    Ok(shared)
 }

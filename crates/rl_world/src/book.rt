@@ -40,7 +40,7 @@ pub struct Book<S: Sink> {
     // Edits and evaluations in order, and the evaluations alone.
     items: Vec<Item>,
     evaluations: Vec<Shared<Evaluation>>,
-    opened: Option<OpenEvaluation<PlainList<Partial>>>,
+    opened: Option<OpenEvaluation<PlainList<Shared<Partial>>>>,
     sinks: Vec<S>,
 }
 
@@ -169,7 +169,7 @@ impl<S: Sink> Book<S> {
         &mut self,
         shard: usize,
         place: u64,
-        partials: PlainList<Partial>,
+        partials: PlainList<Shared<Partial>>,
     ) -> Result<(), BookFault>
         requires shard { shard < self.old.shards }
         requires partials { AreOfOneShard (length (group_terms self.old.history.group)) partials }
@@ -362,7 +362,10 @@ fn has_passed(seconds: u64, last: Ns, now: Ns) -> bool
 }
 
 // The moment at which the shard is to be asked.
-fn asked(opened: &Option<OpenEvaluation<PlainList<Partial>>>, shard: usize) -> Result<Ns, BookFault>
+fn asked(
+    opened: &Option<OpenEvaluation<PlainList<Shared<Partial>>>>,
+    shard: usize,
+) -> Result<Ns, BookFault>
     requires { IfSome opened.now (λ opened. shard < length opened.gathered) }
     ensures answer { Refuses (asked_fault opened.now shard) result }
     ensures moment { IfOk result (λ t. option_map (λ opened. opened.t) opened.now ≡ Some t) }
@@ -378,9 +381,9 @@ fn asked(opened: &Option<OpenEvaluation<PlainList<Partial>>>, shard: usize) -> R
 
 // The open evaluation, if it can be committed to a book that is full or not.
 fn complete(
-    opened: &Option<OpenEvaluation<PlainList<Partial>>>,
+    opened: &Option<OpenEvaluation<PlainList<Shared<Partial>>>>,
     full: bool,
-) -> Result<&OpenEvaluation<PlainList<Partial>>, BookFault>
+) -> Result<&OpenEvaluation<PlainList<Shared<Partial>>>, BookFault>
     ensures refused { IfErr result (λ fault. closing_fault opened.now full ≡ Some fault) }
     ensures free { OnOk result (closing_fault opened.now full ≡ None) }
     ensures room { OnOk result (full ≡ false) }
@@ -407,9 +410,9 @@ fn all_asked(slots: &[Slot]) -> bool
 
 // Puts what a shard showed into its slot.
 fn put(
-    opened: &mut Option<OpenEvaluation<PlainList<Partial>>>,
+    opened: &mut Option<OpenEvaluation<PlainList<Shared<Partial>>>>,
     shard: usize,
-    answer: Gathered<PlainList<Partial>>,
+    answer: Gathered<PlainList<Shared<Partial>>>,
 )
     requires { IfSome opened.old (λ opened. shard < length opened.gathered) }
     ensures { opened.new ≡ option_map (with_shown shard answer.place answer.shown) opened.old }
@@ -420,7 +423,7 @@ fn put(
 }
 
 // Nothing is open afterwards.
-fn close(opened: &mut Option<OpenEvaluation<PlainList<Partial>>>)
+fn close(opened: &mut Option<OpenEvaluation<PlainList<Shared<Partial>>>>)
     ensures { opened.new ≡ None }
 {
     *opened = None;

@@ -20,7 +20,7 @@ use rl_rules::{Alert, Evaluation, Group, Rule, RuleResult, step_rule};
 use std::alloc::{AllocError, Global};
 
 /// What a book has of each shard: the partials of the group's terms, once the shard was asked.
-pub(crate) type Slot = Option<Gathered<PlainList<Partial>>>;
+pub(crate) type Slot = Option<Gathered<PlainList<Shared<Partial>>>>;
 
 /// The terms of the group's rules, in their order.
 pub(crate) fn terms_of_group(
@@ -46,7 +46,7 @@ pub(crate) fn evaluate(
     group: &Group,
     terms: usize,
     alerts: &[PlainList<Alert>],
-    opened: &OpenEvaluation<PlainList<Partial>>,
+    opened: &OpenEvaluation<PlainList<Shared<Partial>>>,
 ) -> Result<(Shared<Evaluation>, Vec<PlainList<Alert>>), AllocError>
     requires terms { terms ≡ length (group_terms group.now) }
     requires shards { length opened.now.gathered ≤ most_shards }
@@ -108,7 +108,11 @@ fn places(alloc: Global, slots: &[Slot]) -> Result<Vec<u64>, AllocError>
 }
 
 // For each term, the merge of what the shards have of it.
-fn merged_terms(alloc: Global, slots: &[Slot], terms: usize) -> Result<Vec<Partial>, AllocError>
+fn merged_terms(
+    alloc: Global,
+    slots: &[Slot],
+    terms: usize,
+) -> Result<Vec<Shared<Partial>>, AllocError>
     requires shards { length slots.now ≤ most_shards }
     requires slots { AllByRecursion (IsKept terms) slots.now }
     ensures { IfOk result (λ partials. partials.items ≡ merged_terms 0 terms (flat_map option_to_list slots.now)) }
@@ -116,7 +120,8 @@ fn merged_terms(alloc: Global, slots: &[Slot], terms: usize) -> Result<Vec<Parti
     let mut partials = Vec::with_capacity(alloc, terms)?;
     for term in 0..terms {
         let partial = merged(alloc, slots, term)?;
-        partials.push(partial)?;
+        let shared = Shared::new(alloc, partial)?;
+        partials.push(shared)?;
     }
     Ok(partials)
 }
@@ -130,7 +135,7 @@ fn merged(alloc: Global, slots: &[Slot], term: usize) -> Result<Partial, AllocEr
     let mut sum = None;
     for slot in slots {
         if let Some(answer) = slot {
-            let both = merge_first(sum, &answer.shown.as_slice()[term])?;
+            let both = merge_first(sum, answer.shown.as_slice()[term].get())?;
             sum = Some(both);
         }
     }
@@ -159,7 +164,7 @@ fn results(
     t: Ns,
     rules: &[Rule],
     alerts: &[PlainList<Alert>],
-    partials: &[Partial],
+    partials: &[Shared<Partial>],
 ) -> Result<(Vec<RuleResult>, Vec<PlainList<Alert>>), AllocError>
     requires terms { length partials.now ≡ length (flat_map (λ rule. terms_of rule.query) rules.now) }
     requires limited { AllByRecursion IsLimited partials.now }
@@ -212,7 +217,7 @@ fn result_of(
     t: Ns,
     rule: &Rule,
     alerts: &PlainList<Alert>,
-    partials: &[Partial],
+    partials: &[Shared<Partial>],
 ) -> Result<(RuleResult, PlainList<Alert>), AllocError>
     requires terms { length partials.now ≡ length (terms_of rule.now.query) }
     requires limited { AllByRecursion IsLimited partials.now }

@@ -139,7 +139,7 @@ fn ask(
     slot: u64,
     terms: Shared<PlainList<Term>>,
     t: Ns,
-) -> Result<(u64, PlainList<Partial>), ShardFault>
+) -> Result<(u64, PlainList<Shared<Partial>>), ShardFault>
     ensures room { IsErrOf result faults.JournalFull → IsTrue (is_journal_full shard.old) }
     ensures journal_full { IsTrue (is_journal_full shard.old) → result ≡ Err faults.JournalFull }
     ensures shown { IfOk result (λ answer. (answer.0 ≡ shard.old.records) × (answer.1 ≡ partials_of (visible shard.old.state) terms t)) }

@@ -5,7 +5,7 @@ use crate::given::{entry_in, labels_in, moment_in, number_in};
 use crate::trouble::Trouble;
 use rl_aggregate::{Fraction, Outcome, Partial, Sample, Total, Totals, finish, merge, scratch};
 use rl_labels::{Entry, Labels, Ns};
-use rl_plain::{Same, TryCopy};
+use rl_plain::{Same, Shared, TryCopy};
 use rl_query::{Query, RangeFunction, Term, parse};
 use std::alloc::Global;
 use std::mem;
@@ -32,7 +32,8 @@ pub(crate) fn push_partial(
 ) -> Result<(), Trouble> {
     let (errors, many) = (partial.errors, partial.totals.len());
     write!(text, "{errors} errors, {many} label sets")?;
-    match finished(alloc, query, &[partial.try_copy()?])? {
+    let shared = Shared::new(alloc, partial.try_copy()?)?;
+    match finished(alloc, query, &[shared])? {
         Outcome::Failed => write!(text, "{between}failed")?,
         Outcome::Vector(samples) => {
             for sample in samples.as_slice() {
@@ -73,9 +74,11 @@ fn vector(alloc: Global, input: &str) -> Result<String, Trouble> {
     let query = parse(alloc, query).ok().ok_or(Trouble::BadInput)?;
     let moment = moment_in(moment)?;
     let mut partials = Vec::new(alloc);
-    partials.push(merged(alloc, first, second, &query.left, moment)?)?;
+    let left = merged(alloc, first, second, &query.left, moment)?;
+    partials.push(Shared::new(alloc, left)?)?;
     if let Some(over) = &query.over {
-        partials.push(merged(alloc, first, second, over, moment)?)?;
+        let over = merged(alloc, first, second, over, moment)?;
+        partials.push(Shared::new(alloc, over)?)?;
     }
     let mut text = String::new(alloc);
     match finished(alloc, &query, &partials)? {
@@ -95,10 +98,14 @@ fn push_vector(text: &mut String, samples: &[Sample]) -> Result<(), Trouble> {
 }
 
 // The outcome of a query, of partials that are as many as its terms and within the limits of one.
-fn finished(alloc: Global, query: &Query, partials: &[Partial]) -> Result<Outcome, Trouble> {
+fn finished(
+    alloc: Global,
+    query: &Query,
+    partials: &[Shared<Partial>],
+) -> Result<Outcome, Trouble> {
     match (&query.over, partials) {
-        (None, [left]) if left.is_limited() => {}
-        (Some(_), [left, over]) if left.is_limited() && over.is_limited() => {}
+        (None, [left]) if left.get().is_limited() => {}
+        (Some(_), [left, over]) if left.get().is_limited() && over.get().is_limited() => {}
         _ => return Err(Trouble::BadInput),
     }
     Ok(finish(alloc, query, partials)?)
@@ -198,8 +205,10 @@ fn push_same(
     here: &Partial,
     copy: &Partial,
 ) -> Result<(), Trouble> {
-    let here = finished(alloc, query, &[here.try_copy()?])?;
-    let copy = finished(alloc, query, &[copy.try_copy()?])?;
+    let here = Shared::new(alloc, here.try_copy()?)?;
+    let copy = Shared::new(alloc, copy.try_copy()?)?;
+    let here = finished(alloc, query, &[here])?;
+    let copy = finished(alloc, query, &[copy])?;
     let outcomes = compared(&here, &copy)?;
     writeln!(text, "{outcomes}")?;
     Ok(())

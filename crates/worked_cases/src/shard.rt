@@ -107,7 +107,7 @@ fn push_applied(
             write!(text, "{place} Collected {many}")?;
             for (partial, query) in partials.as_slice().iter().zip(queries) {
                 text.push_str(" | ")?;
-                push_partial(text, alloc, query, partial, ", ")?;
+                push_partial(text, alloc, query, partial.get(), ", ")?;
             }
         }
         Ok((place, reply)) => write!(text, "{place} {reply:?}")?,

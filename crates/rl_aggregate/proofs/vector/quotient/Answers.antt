@@ -35,15 +35,15 @@ limited : (rest : List Partial) (divisor : Partial) → AllByRecursion IsLimited
 limited rest divisor all some is = subst IsLimited (sym is) (All-from_recursion IsLimited rest all 0 divisor some)
 
 pub divide-requires-clause-divisors_order : goal.divide-requires-clause-divisors_order
-divide-requires-clause-divisors_order c = in_order c.in-Some-len1-up.term c.divisor-item.result _ (limited c.args.rest.now c.divisor-item.result c.requires.rest_limited c.in-Some-len1-up.len_at_least c.divisor-item.is) (c.deref.ensures.value ∙ c.in_ok-divisors-in-Some-len1-up.ensures)
+divide-requires-clause-divisors_order c = in_order c.in-Some-len1-up.term c.get.result.now _ (subst IsLimited (sym c.get.ensures) (limited c.args.rest.now c.divisor-item.result c.requires.rest_limited c.in-Some-len1-up.len_at_least c.divisor-item.is)) (c.deref.ensures.value ∙ c.in_ok-divisors-in-Some-len1-up.ensures)
 
 pub divide-requires-clause-divisors_small : goal.divide-requires-clause-divisors_small
-divide-requires-clause-divisors_small c = small c.in-Some-len1-up.term c.divisor-item.result _ (limited c.args.rest.now c.divisor-item.result c.requires.rest_limited c.in-Some-len1-up.len_at_least c.divisor-item.is) (c.deref.ensures.value ∙ c.in_ok-divisors-in-Some-len1-up.ensures)
+divide-requires-clause-divisors_small c = small c.in-Some-len1-up.term c.get.result.now _ (subst IsLimited (sym c.get.ensures) (limited c.args.rest.now c.divisor-item.result c.requires.rest_limited c.in-Some-len1-up.len_at_least c.divisor-item.is)) (c.deref.ensures.value ∙ c.in_ok-divisors-in-Some-len1-up.ensures)
 
 pub returns-in_ok-divisors-in-Some-len1-up-clause-small : goal.returns-in_ok-divisors-in-Some-len1-up-clause-small
 returns-in_ok-divisors-in-Some-len1-up-clause-small c =
     let samples = small c.args.query.now.left c.args.partial.now _ c.requires.limited c.in_ok-samples.ensures in
-    let divisors = small c.in-Some-len1-up.term c.divisor-item.result _ (limited c.args.rest.now c.divisor-item.result c.requires.rest_limited c.in-Some-len1-up.len_at_least c.divisor-item.is) (c.deref.ensures.value ∙ c.in_ok-divisors-in-Some-len1-up.ensures) in
+    let divisors = small c.in-Some-len1-up.term c.get.result.now _ (subst IsLimited (sym c.get.ensures) (limited c.args.rest.now c.divisor-item.result c.requires.rest_limited c.in-Some-len1-up.len_at_least c.divisor-item.is)) (c.deref.ensures.value ∙ c.in_ok-divisors-in-Some-len1-up.ensures) in
     all_small (λ made. made.items) c.divide.result _ (of_query-ratios _ _ samples divisors) c.divide.ensures
 
 pub returns-in_default-clause-small : goal.returns-in_default-clause-small

@@ -12,8 +12,9 @@ loop-slot-init c = nothing_merged c.args.term c.args.slots.now
 pub merge_first-requires : goal.merge_first-requires
 merge_first-requires c =
     let answer = c.in-Some.answer in
-    let own = c.index-as_slice-term.result in
-    let own_is : own ≡ get_or answer.shown c.args.term own = c.index-as_slice-term.is ∙ ap (λ shown. get_or shown c.args.term own) c.as_slice.ensures in
+    let found = c.index-as_slice-term.result in
+    let own = c.get.result.now in
+    let own_is : own ≡ get_or answer.shown c.args.term own = subst (λ own. own ≡ get_or answer.shown c.args.term own) (sym c.get.ensures) (c.index-as_slice-term.is ∙ ap (λ shown. get_or shown c.args.term found) c.as_slice.ensures) in
     sum_fits c.args.term c.args.slots.now c.loop-slot.slot-index c.slot-item.result (unwrap_or c.loop-slot.sum no_partial) c.loop-slot-test.true c.slot-item.is c.loop-slot.invariant answer own c.requires.slots c.in-Some.is own_is c.requires.shards
 
 pub loop-slot-preserved : goal.loop-slot-preserved
@@ -24,8 +25,9 @@ loop-slot-preserved c =
     elim c.match-slot.branch [
       | in-Some+in_ok-both w ↦
           let answer = w.in-Some.answer in
-          let own = w.index-as_slice-term.result in
-          let own_is : own ≡ get_or answer.shown term own = w.index-as_slice-term.is ∙ ap (λ shown. get_or shown term own) w.as_slice.ensures in
+          let found = w.index-as_slice-term.result in
+          let own = w.get.result.now in
+          let own_is : own ≡ get_or answer.shown term own = subst (λ own. own ≡ get_or answer.shown term own) (sym w.get.ensures) (w.index-as_slice-term.is ∙ ap (λ shown. get_or shown term found) w.as_slice.ensures) in
           subst (IsSumBefore term slots (i + 1)) (sym (ap (λ sum. unwrap_or sum no_partial) w.sum-is ∙ w.in_ok-both.ensures)) (asked term slots i c.slot-item.result (unwrap_or c.loop-slot.sum no_partial) c.loop-slot-test.true c.slot-item.is c.loop-slot.invariant answer own c.requires.slots w.in-Some.is own_is)
       | in_default w ↦
           subst (IsSumBefore term slots (i + 1)) (sym (ap (λ sum. unwrap_or sum no_partial) w.sum-is)) (not_asked term slots i c.slot-item.result (unwrap_or c.loop-slot.sum no_partial) c.loop-slot-test.true c.slot-item.is c.loop-slot.invariant w.in_default.is)
