@@ -1,6 +1,6 @@
 # run: proves, builds and runs the program on its example. try: the same without proof.
 # test: the whole gate. scripts: its last part, which plays the scripts to the programs that were built last.
-# check: proves and builds the rule checker, and runs it on its example.
+# check: proves and builds the rule checker, and runs it on a file that a ruler takes and on its example, which none takes.
 .PHONY: run try test scripts check
 
 PROGRAM = crates/rule_shell
@@ -20,4 +20,4 @@ scripts:
 	@scripts/run $(CHECKER)/out/rule_check scripts/check
 
 check:
-	@cd $(CHECKER) && rt run < stdin
+	@cd $(CHECKER) && rt run < ../../scripts/check/two_groups.in && { out/rule_check < stdin || [ $$? -eq 1 ]; }
