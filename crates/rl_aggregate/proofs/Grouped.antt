@@ -1,24 +1,15 @@
--- Groups of vectors: where no label tells a group, it has no labels; and the next element of a vector goes into its group.
-use Rattle.std.proofs.Common.{◌≡◌, ℕ, ◌+◌, ◌-◌, ◌<◌, ◌^◌, false, List, [], ◌∷◌, ◌++◌, length, get_or, take, refl, sym, ap, ◌∙◌, arith}
-use Rattle.std.specs.List.{filter}
+-- Groups of vectors: the next element of a vector goes into its group.
+use Rattle.std.proofs.Common.{◌≡◌, ℕ, ◌+◌, ◌-◌, ◌<◌, ◌^◌, List, [], ◌∷◌, ◌++◌, length, get_or, take, sym, ap, ◌∙◌, arith}
 use Rattle.std.specs.FinMap.{get, insert}
 use Rattle.std.proofs.lemmas.List.{take_more, length-take}
 use Rattle.std.proofs.lemmas.List.Sums.{sum_by-take-le}
-use Rattle.rl_labels.specs.LabelSet.{Pair, LabelSet, labels_of, label_set_of, no_labels}
+use Rattle.rl_labels.specs.LabelSet.{LabelSet}
 use Rattle.rl_query.specs.declared.aggregation.Grouping.{Grouping}
-use Rattle.rl_query.specs.declared.aggregation.Grouping.TheVariants.{All}
 use Rattle.rl_query.specs.declared.aggregation.VectorOperator.{VectorOperator}
 use Rattle.rl_aggregate.specs.GroupsMap.{GroupsMap, with_value}
 use Rattle.rl_aggregate.specs.Grouping.{group_of, groups, total}
 use Rattle.rl_aggregate.specs.laws.Groups.{groups-push, numerator-next, most_total, most_total-within}
 use Rattle.rl_aggregate.specs.declared.outcome.Sample.{Sample}
-
-nothing_kept : (pairs : List Pair) → filter (λ _. false) pairs ≡ []
-nothing_kept [] = refl
-nothing_kept (p ∷ pairs) = nothing_kept pairs
-
-pub group_of-All : (labels : LabelSet) → group_of All labels ≡ no_labels
-group_of-All labels = ap label_set_of (nothing_kept (labels_of labels))
 
 -- the elements up to the next are those before it, and it
 next : (samples : List Sample) (i : ℕ) (sample : Sample) → i < length samples → sample ≡ get_or samples i sample → take i samples ++ sample ∷ [] ≡ take (i + 1) samples

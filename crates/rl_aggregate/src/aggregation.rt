@@ -55,11 +55,11 @@ fn grouped(
     requires { total samples.now < 2 ^ 128 }
     ensures { IfOk result (λ made. made.items ≡ grouped operator grouping.now samples.now) }
 {
-    let none = Labels::empty(alloc)?;
+    let mut labels = Labels::empty(alloc)?;
     let mut groups = Groups::new(alloc);
     for sample in samples {
-        let labels = group_of(alloc, grouping, &none, &sample.labels)?;
-        groups.add(operator, labels, sample.value)?;
+        labels = group_of(alloc, grouping, &labels, &sample.labels)?;
+        groups.add(operator, &labels, sample.value)?;
     }
     groups.elements(alloc)
 }

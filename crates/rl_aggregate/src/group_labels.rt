@@ -1,8 +1,7 @@
 //! The labels that all elements of a group of a vector have.
-ghost use Rattle.std.specs.Prelude.{◌≡◌, IfOk};
-ghost use Rattle.std.specs.List.{list_any};
+ghost use Rattle.std.specs.Prelude.{◌≡◌, true, IfOk};
+ghost use Rattle.std.specs.List.{filter, list_any};
 ghost use Rattle.rl_labels.specs.Name.{is_text};
-ghost use Rattle.rl_labels.specs.LabelSet.{no_labels};
 ghost use Rattle.rl_aggregate.specs.Grouping.{tells_group, group_of};
 
 use rl_labels::{Labels, LabelsBuilder};
@@ -10,34 +9,59 @@ use rl_plain::{PlainText, TryCopy};
 use rl_query::Grouping;
 use std::alloc::{AllocError, Global};
 
-// The labels of the group that an element with these labels is in. Where all elements are in one group, no label set is
-// built: `none`, without labels, is shared.
+// The labels of the group that an element with these labels is in. They are shared with the group of another element
+// where they are its labels too, and else a label set is built.
 pub(crate) fn group_of(
     alloc: Global,
     grouping: &Grouping,
-    none: &Labels,
+    other: &Labels,
     labels: &Labels,
 ) -> Result<Labels, AllocError>
-    requires { none.now ≡ no_labels }
     ensures { IfOk result (λ made. made ≡ group_of grouping.now labels.now) }
 {
-    match grouping {
-        Grouping::All => none.try_copy(),
-        _ => kept_labels(alloc, grouping, none, labels),
+    if are_of_group(grouping, other.pairs(), labels.pairs()) {
+        other.try_copy()
+    } else {
+        kept_labels(alloc, grouping, labels)
     }
 }
 
-// The labels that tell the group, from the last to the first: each then goes to the front.
-fn kept_labels(
-    alloc: Global,
+// Whether these are the labels of the group that an element with those labels is in. Takes no memory.
+fn are_of_group(
     grouping: &Grouping,
-    none: &Labels,
-    labels: &Labels,
-) -> Result<Labels, AllocError>
-    requires { none.now ≡ no_labels }
+    group: &[(PlainText, PlainText)],
+    labels: &[(PlainText, PlainText)],
+) -> bool
+    ensures { result ≡ true → group.now ≡ filter (λ pair. tells_group grouping.now pair.0) labels.now }
+{
+    let mut rest = group;
+    for label in labels {
+        if tells_group(grouping, label.0.as_str()) {
+            let Some((first, others)) = rest.split_first() else {
+                return false;
+            };
+            if !is_label(first, label) {
+                return false;
+            }
+            rest = others;
+        }
+    }
+    rest.is_empty()
+}
+
+// Whether two labels are one.
+fn is_label(label: &(PlainText, PlainText), other: &(PlainText, PlainText)) -> bool
+    ensures { result ≡ true → label.now ≡ other.now }
+{
+    label.1.as_str() == other.1.as_str() && label.0.as_str() == other.0.as_str()
+}
+
+// The labels that tell the group, from the last to the first: each then goes to the front.
+fn kept_labels(alloc: Global, grouping: &Grouping, labels: &Labels) -> Result<Labels, AllocError>
     ensures { IfOk result (λ made. made ≡ group_of grouping.now labels.now) }
 {
-    let mut builder = LabelsBuilder::new(alloc, none)?;
+    let none = Labels::empty(alloc)?;
+    let mut builder = LabelsBuilder::new(alloc, &none)?;
     let mut rest = labels.pairs();
     while let Some((pair, before)) = rest.split_last() {
         let name = pair.0.as_str();

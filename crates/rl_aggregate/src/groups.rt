@@ -60,17 +60,18 @@ impl Groups {
     pub(crate) fn add(
         &mut self,
         operator: VectorOperator,
-        labels: Labels,
+        labels: &Labels,
         value: Fraction,
     ) -> Result<(), AllocError>
-        requires { (with_value operator (map.get self.old labels) value).numerator < 2 ^ 128 }
-        ensures { OnOk result (self.new ≡ map.insert self.old labels (with_value operator (map.get self.old labels) value)) }
+        requires { (with_value operator (map.get self.old labels.now) value).numerator < 2 ^ 128 }
+        ensures { OnOk result (self.new ≡ map.insert self.old labels.now (with_value operator (map.get self.old labels.now) value)) }
     {
-        if let Some(group) = self.by_labels.get_mut(&labels) {
+        if let Some(group) = self.by_labels.get_mut(labels) {
             *group = next_value(operator, *group, value);
             return Ok(());
         }
-        self.by_labels.insert(labels, first_value(operator, value))?;
+        self.by_labels
+            .insert(labels.try_copy()?, first_value(operator, value))?;
         Ok(())
     }
 

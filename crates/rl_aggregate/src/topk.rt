@@ -49,13 +49,13 @@ fn first_of_each(
     requires { IsStrictlySortedBy rank_cmp ranked.items }
     ensures { IfOk result (λ made. made.items ≡ filter (is_among_first k grouping.now ranked.items) ranked.items) }
 {
-    let none = Labels::empty(alloc)?;
+    let mut labels = Labels::empty(alloc)?;
     let mut counts = Groups::new(alloc);
     let mut kept = Vec::new(alloc);
     for sample in ranked {
-        let labels = group_of(alloc, grouping, &none, &sample.labels)?;
+        labels = group_of(alloc, grouping, &labels, &sample.labels)?;
         let before = counts.count(&labels);
-        counts.add(VectorOperator::Count, labels, sample.value)?;
+        counts.add(VectorOperator::Count, &labels, sample.value)?;
         if before < u128::from(k) {
             kept.push(sample)?;
         }

@@ -1,11 +1,14 @@
--- Where all elements are in one group, it has no labels.
+-- The labels of an element's group make its label set again.
 use Rattle.std.proofs.Common.{◌≡◌, IfOk, sym, ap, subst, ◌∙◌}
-use Rattle.rl_labels.specs.LabelSet.{no_labels}
-use Rattle.rl_aggregate.specs.Grouping.{group_of}
-use Rattle.rl_aggregate.proofs.Grouped.{group_of-All}
+use Rattle.std.specs.List.{filter}
+use Rattle.rl_labels.specs.LabelSet.{label_set_of}
+use Rattle.rl_labels.proofs.Building.{set_again}
+use Rattle.rl_aggregate.specs.Grouping.{tells_group}
 use Rattle.rl_aggregate.proofs.group_labels.group_of.Goals as goal
 
-pub returns-in-All : goal.returns-in-All
-returns-in-All c =
-    let same : no_labels ≡ group_of c.args.grouping.now c.args.labels.now = sym (group_of-All c.args.labels.now) ∙ ap (λ g. group_of g c.args.labels.now) (sym c.in-All.is) in
-    subst (λ s. IfOk c.try_copy.result (λ made. made ≡ s)) (c.requires ∙ same) c.try_copy.ensures
+pub returns-then-are_of_group : goal.returns-then-are_of_group
+returns-then-are_of_group c =
+    let kept = filter (λ pair. tells_group c.args.grouping.now pair.0) in
+    let same = sym c.pairs.ensures ∙ c.are_of_group.ensures c.if-are_of_group.true ∙ ap kept c.pairs-2.ensures in
+    let made = sym (set_again c.args.other.now) ∙ ap label_set_of same in
+    subst (λ set. IfOk c.try_copy.result (λ copy. copy ≡ set)) made c.try_copy.ensures

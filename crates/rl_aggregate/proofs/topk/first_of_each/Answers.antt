@@ -16,7 +16,7 @@ add-requires c =
     let all = ap (λ rest. loop.yielded ++ rest) (sym next) ∙ loop.invariant.split in
     omega (
       arith,
-      next_count_fits c.args.grouping.now loop.yielded c.in-Some.sample loop.counts c.in_ok-labels.labels loop.invariant.counts c.in_ok-labels.ensures,
+      next_count_fits c.args.grouping.now loop.yielded c.in-Some.sample loop.counts c.in_ok-labels-2.labels loop.invariant.counts c.in_ok-labels-2.ensures,
       ap length all,
       length-append loop.yielded (c.in-Some.sample ∷ c.next.new.self.rest.items),
       c.args.ranked.ok.0,
@@ -30,10 +30,10 @@ loop-sample-preserved-in-Continue-branch-4 c =
     let next : loop.sample-iterator.rest.items ≡ sample ∷ c.next.new.self.rest.items = c.in-Some.ensures.steps.0 in
     let all = ap (λ rest. loop.yielded ++ rest) (sym next) ∙ loop.invariant.split in
     let before : c.count-before.result ≡ numerator_at (get (groups Count g loop.yielded) (group_of g sample.labels)) =
-    c.count-before.ensures ∙ (λ i. numerator_at (get (loop.invariant.counts i) (c.in_ok-labels.ensures i))) in
+    c.count-before.ensures ∙ (λ i. numerator_at (get (loop.invariant.counts i) (c.in_ok-labels-2.ensures i))) in
     record {
       split = append_assoc loop.yielded (sample ∷ []) c.next.new.self.rest.items ∙ all;
-      counts = c.in_ok-add.ensures ∙ next_counted g loop.yielded sample loop.counts c.in_ok-labels.labels loop.invariant.counts c.in_ok-labels.ensures;
+      counts = c.in_ok-add.ensures ∙ next_counted g loop.yielded sample loop.counts c.in_ok-labels-2.labels loop.invariant.counts c.in_ok-labels-2.ensures;
       kept = c.in_ok-push.ensures.items ∙ ap (λ l. l ++ sample ∷ []) loop.invariant.kept
           ∙ kept_more c.args.k g c.args.ranked.items loop.yielded sample c.next.new.self.rest.items c.count-before.result true all c.requires before (lt-ltb c.count-before.result c.args.k (omega arith));
     }
@@ -46,10 +46,10 @@ loop-sample-preserved c =
     let next : loop.sample-iterator.rest.items ≡ sample ∷ c.next.new.self.rest.items = c.in-Some.ensures.steps.0 in
     let all = ap (λ rest. loop.yielded ++ rest) (sym next) ∙ loop.invariant.split in
     let before : c.count-before.result ≡ numerator_at (get (groups Count g loop.yielded) (group_of g sample.labels)) =
-    c.count-before.ensures ∙ (λ i. numerator_at (get (loop.invariant.counts i) (c.in_ok-labels.ensures i))) in
+    c.count-before.ensures ∙ (λ i. numerator_at (get (loop.invariant.counts i) (c.in_ok-labels-2.ensures i))) in
     record {
       split = append_assoc loop.yielded (sample ∷ []) c.next.new.self.rest.items ∙ all;
-      counts = c.in_ok-add.ensures ∙ next_counted g loop.yielded sample loop.counts c.in_ok-labels.labels loop.invariant.counts c.in_ok-labels.ensures;
+      counts = c.in_ok-add.ensures ∙ next_counted g loop.yielded sample loop.counts c.in_ok-labels-2.labels loop.invariant.counts c.in_ok-labels-2.ensures;
       kept = sym (append-nil c.loop-sample.kept.items) ∙ ap (λ l. l ++ []) loop.invariant.kept
           ∙ kept_more c.args.k g c.args.ranked.items loop.yielded sample c.next.new.self.rest.items c.count-before.result false all c.requires before (le-ltb c.count-before.result c.args.k (omega arith));
     }
