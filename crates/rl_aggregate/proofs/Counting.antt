@@ -307,7 +307,7 @@ module _ (term : Term) (t : ℕ) (first : Entry) where
       ] like
 
   -- so of a run the lines that are kept are in the range, or none is
-  in_range-run : (es : List Entry) → list_all (is_like term t first) es ≡ true → in_range es term t ≡ cond (is_selected term t first) (map (element term.range.stages) (kept term.range.stages es)) []
+  pub in_range-run : (es : List Entry) → list_all (is_like term t first) es ≡ true → in_range es term t ≡ cond (is_selected term t first) (map (element term.range.stages) (kept term.range.stages es)) []
   in_range-run [] like = elim (is_selected term t first) as (λ b. ◌≡◌ {A = List Element} [] (cond b [] [])) [ true ↦ refl | false ↦ refl ]
   in_range-run (e ∷ es) like =
       let parts = and_parts (is_like term t first e) (list_all (is_like term t first) es) like in
@@ -344,7 +344,7 @@ all_before (e ∷ es) before end = absurd (omega (arith, end))
 
 -- a run more, and there is room for it
 module _ {entries rest : List Entry} (run others : List Entry) {term : Term} {t : ℕ} {found : Partial} (few : length entries ≤ most_entries) (before : IsBefore entries rest term t found) (cut : rest ≡ run ++ others) where
-  pub run_before : (first : Entry) {more : Partial} (wanted : Bool) → list_all (is_like term t first) run ≡ true → is_selected term t first ≡ wanted → more ≡ partial_of (in_range before.done term t ++ cond wanted (map (element term.range.stages) (kept term.range.stages run)) []) → IsBefore entries others term t more
+  abbrev pub run_before : (first : Entry) {more : Partial} (wanted : Bool) → list_all (is_like term t first) run ≡ true → is_selected term t first ≡ wanted → more ≡ partial_of (in_range before.done term t ++ cond wanted (map (element term.range.stages) (kept term.range.stages run)) []) → IsBefore entries others term t more
   run_before first wanted like range is = record {
     done = before.done ++ run;
     all = append_assoc before.done run others ∙ ap (λ xs. before.done ++ xs) (sym cut) ∙ before.all;

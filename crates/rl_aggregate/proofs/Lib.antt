@@ -6,5 +6,6 @@ pub mod Kept
 pub mod Maps
 pub mod Merging
 pub mod Ranked
+pub mod Tallies
 pub mod Thresholds
 mod Examples

@@ -7,6 +7,7 @@ pub mod Limited
 pub mod Partials
 pub mod Ratios
 pub mod Runs
+pub mod Tallies
 pub mod TotalsMap
 pub mod Vectors
 pub mod laws

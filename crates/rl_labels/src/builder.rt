@@ -69,8 +69,8 @@ impl LabelsBuilder {
     }
 
     /// The set, with its text.
-    pub fn build(self) -> Result<Labels, AllocError>
-        ensures { IfOk result (λ labels. labels ≡ self) }
+    pub fn build(&self) -> Result<Labels, AllocError>
+        ensures { IfOk result (λ labels. labels ≡ self.now) }
     {
         let alloc = *self.labels.allocator();
         let labels = long_labels(alloc, &self.labels)?;

@@ -1,10 +1,12 @@
 pub mod Building
+pub mod Drafts
 pub mod Extracting
 pub mod Filtering
 pub mod JsonData
 pub mod JsonLeaves
 pub mod LabelTests
 pub mod Lent
+pub mod Lines
 pub mod LogfmtPairs
 pub mod Metering
 pub mod Parsed

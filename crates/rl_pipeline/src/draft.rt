@@ -12,22 +12,29 @@ use rl_plain::TryCopy;
 use std::alloc::{AllocError, Global};
 use std::marker::Model;
 
-/// The labels of a line: those of its stream until a stage changes them. Contracts see the set.
+/// The labels of a line: those of its stream, or those that a parser found for several pipelines, until a stage changes
+/// them. Contracts see the set.
 #[derive(Drop)]
 pub(crate) struct Draft<'a> {
-    stream: &'a Labels,
-    own: Option<LabelsBuilder>,
+    form: Form<'a>,
+}
+
+#[derive(Drop)]
+enum Form<'a> {
+    Stream(&'a Labels),
+    Parsed(&'a LabelsBuilder),
+    Own(LabelsBuilder),
 }
 
 impl<'a> Model for Draft<'a> {
-    ghost use Rattle.std.specs.Option.{unwrap_or};
     ghost use Rattle.rl_labels.specs.LabelSet.{LabelSet, label_set_code};
+    ghost use Rattle.rl_pipeline.specs.Drafts.{labels_in};
 
     ghost Value = { LabelSet };
 
     ghost coded = { label_set_code };
 
-    ghost view = { λ a. unwrap_or a.own a.stream.now };
+    ghost view = { λ a. labels_in a.form };
 }
 
 impl<'a> Draft<'a> {
@@ -35,16 +42,28 @@ impl<'a> Draft<'a> {
     pub(crate) fn of(stream: &'a Labels) -> Draft<'a>
         ensures { result ≡ stream.now }
     {
-        Draft { stream, own: None }
+        Draft {
+            form: Form::Stream(stream),
+        }
+    }
+
+    // What a parser found.
+    pub(crate) fn parsed(found: &'a LabelsBuilder) -> Draft<'a>
+        ensures { result ≡ found.now }
+    {
+        Draft {
+            form: Form::Parsed(found),
+        }
     }
 
     // The value of a label, if the set has it.
     pub(crate) fn get(&self, name: &str) -> Option<&str>
         ensures { option_copied result ≡ label self.now name.now }
     {
-        match &self.own {
-            Some(own) => own.get(name),
-            None => self.stream.get(name),
+        match &self.form {
+            Form::Stream(labels) => labels.get(name),
+            Form::Parsed(found) => found.get(name),
+            Form::Own(own) => own.get(name),
         }
     }
 
@@ -53,12 +72,10 @@ impl<'a> Draft<'a> {
         requires { is_empty error.now ≡ false }
         ensures { OnOk result (self.new ≡ with_error self.old error.now) }
     {
-        let mut own = match self.own.take() {
-            Some(own) => own,
-            None => LabelsBuilder::new(alloc, self.stream)?,
-        };
+        let labels = self.labels()?;
+        let mut own = LabelsBuilder::new(alloc, &labels)?;
         add_error(&mut own, error)?;
-        self.own = Some(own);
+        self.form = Form::Own(own);
         Ok(())
     }
 
@@ -72,21 +89,20 @@ impl<'a> Draft<'a> {
         ensures labels { OnOk result (self.new ≡ parsed parser.old self.old line.now) }
         ensures same { parser.new ≡ parser.old }
     {
-        let own = match self.own.take() {
-            Some(own) => parser.labels_behind(alloc, &own.build()?, line)?,
-            None => parser.labels_behind(alloc, self.stream, line)?,
-        };
-        self.own = Some(own);
+        let labels = self.labels()?;
+        let own = parser.labels_behind(alloc, &labels, line)?;
+        self.form = Form::Own(own);
         Ok(())
     }
 
     // The set. It is the stream's own, shared, where nothing changed it.
-    pub(crate) fn finish(self) -> Result<Labels, AllocError>
-        ensures { IfOk result (λ labels. labels ≡ self.entry) }
+    pub(crate) fn labels(&self) -> Result<Labels, AllocError>
+        ensures { IfOk result (λ labels. labels ≡ self.now) }
     {
-        match self.own {
-            Some(own) => own.build(),
-            None => self.stream.try_copy(),
+        match &self.form {
+            Form::Stream(labels) => labels.try_copy(),
+            Form::Parsed(found) => found.build(),
+            Form::Own(own) => own.build(),
         }
     }
 }

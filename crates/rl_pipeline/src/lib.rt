@@ -7,7 +7,7 @@
 //! - `json_labels`, `logfmt`: what the parsers find in a line. `lent`: texts that a line lends. `extracting`: the labels that it becomes. `parsing`: either of both.
 //! - `json_data`: lines that are JSON, with borrowed texts. `json_number`: the numbers in them.
 //! - `label_tests`: built label tests. `testing`: what asks many lines for them. `comparing`: tests by quantity, and `holds`, the comparison of numbers.
-//! - `draft`: the labels of a line on its way through the stages. `meter`: `Meter`, which counts the runs.
+//! - `line`: `Line`, which several pipelines have read once. `draft`: the labels of a line on its way through the stages. `meter`: `Meter`, which counts the runs.
 //! - `pipeline`: `Pipeline`, built stages. `running`: `Running`, which sends many lines through them with one set of caches.
 //! - `sieve`: `SieveCode`, a built sieve, and `Covers`.
 #![tactic(auto)]
@@ -21,6 +21,7 @@ pub mod json_labels;
 pub(crate) mod json_number;
 pub mod label_tests;
 pub(crate) mod lent;
+pub mod line;
 pub mod logfmt;
 pub mod meter;
 pub mod parsing;
@@ -32,6 +33,7 @@ pub(crate) mod testing;
 
 pub use comparing::holds;
 pub use filter::FilterCode;
+pub use line::Line;
 pub use meter::Meter;
 pub use parsing::parsed;
 pub use pipeline::Pipeline;

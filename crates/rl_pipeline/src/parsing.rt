@@ -58,6 +58,16 @@ impl ParserRunning {
         Ok(ParserRunning { reading })
     }
 
+    // Which parser it is.
+    pub(crate) fn parser(&self) -> Parser
+        ensures { result ≡ self.now }
+    {
+        match &self.reading {
+            Reading::Json(_) => Parser::Json,
+            Reading::Logfmt => Parser::Logfmt,
+        }
+    }
+
     // The labels that a line of a stream has, without their text.
     pub(crate) fn labels_behind(
         &mut self,

@@ -1,17 +1,20 @@
 //! Runs of a pipeline over many lines.
-ghost use Rattle.std.specs.Prelude.{◌≡◌, true, false, IfOk, IsOk, map};
+ghost use Rattle.std.specs.Prelude.{◌≡◌, ◌≤◌, ℕ, List, true, false, Some, IfOk, IfSome, IsOk, length, drop, map};
 ghost use Rattle.std.specs.List.{list_all};
+ghost use Rattle.rl_labels.specs.LabelSet.{LabelSet};
 ghost use Rattle.rl_pipeline.specs.Metering.{with_run};
 ghost use Rattle.rl_pipeline.specs.Running.{where_true, run, keeps, lets_pass, kept_run, labels_behind, is_filter, IsPlain};
 ghost use Rattle.rl_pipeline.specs.Steps.{code_stage, step_stage};
 
 use crate::draft::Draft;
+use crate::line::Line;
 use crate::meter::Meter;
 use crate::parsing::ParserRunning;
 use crate::pipeline::StageCode;
 use crate::search::Search;
 use crate::testing::TestsRunning;
-use rl_labels::Labels;
+use rl_labels::{Labels, LabelsBuilder};
+use rl_plain::TryCopy;
 use std::alloc::{AllocError, Global};
 use std::marker::Model;
 
@@ -73,7 +76,6 @@ impl<'a> Running<'a> {
     }
 
     /// The labels that a line of a stream has behind the stages, if it stays. All line filters are asked first.
-    #[tactic(auto, using(crate::proofs::Stages::filters_first))]
     /// The run is counted.
     pub fn run(
         &mut self,
@@ -86,16 +88,29 @@ impl<'a> Running<'a> {
         ensures left_out { keeps self.old line.now ≡ false → IsOk result }
         ensures same { self.new ≡ self.old }
     {
+        let mut line = Line::new(labels, line);
+        self.run_shared(meter, &mut line)
+    }
+
+    /// The same of a line that other pipelines have too: what its first parser finds is shared with them.
+    #[tactic(auto, using(crate::proofs::Stages::filters_first))]
+    pub fn run_shared(
+        &mut self,
+        meter: &mut Meter,
+        line: &mut Line<'_>,
+    ) -> Result<Option<Labels>, AllocError>
+        ensures run { IfOk result (λ found. found ≡ run self.old line.old.text line.old.labels) }
+        ensures counted { meter.new ≡ with_run meter.old }
+        ensures left_out { keeps self.old line.old.text ≡ false → IsOk result }
+        ensures same { self.new ≡ self.old }
+        ensures line { line.new ≡ line.old }
+    {
         meter.count_run();
-        if !self.keeps(line) {
+        if !self.keeps(line.text()) {
             return Ok(None);
         }
-        let mut draft = Draft::of(labels);
         let alloc = *self.steps.allocator();
-        if !send(alloc, &mut self.steps, &mut draft, line)? {
-            return Ok(None);
-        }
-        Ok(Some(draft.finish()?))
+        send(alloc, &mut self.steps, line)
     }
 }
 
@@ -152,22 +167,100 @@ fn lets_pass(step: &mut Step<'_>, line: &str) -> bool
     }
 }
 
-// Sends a line that each line filter lets pass through the other stages. Whether it stays.
+// The labels that a line which each line filter lets pass has behind the other stages, if it stays. What the first of them
+// finds is shared, if it is a parser.
 fn send(
     alloc: Global,
     steps: &mut [Step<'_>],
-    draft: &mut Draft<'_>,
-    line: &str,
-) -> Result<bool, AllocError>
-    ensures sent { IfOk result (λ stays. labels_behind (map step_stage steps.old) line.now draft.old ≡ where_true (stays, draft.new)) }
+    line: &mut Line<'_>,
+) -> Result<Option<Labels>, AllocError>
+    ensures sent { IfOk result (λ found. found ≡ labels_behind (map step_stage steps.old) line.old.text line.old.labels) }
     ensures same { steps.new ≡ steps.old }
+    ensures line { line.new ≡ line.old }
 {
-    for step in steps.iter_mut() {
-        if !send_on(alloc, step, draft, line)? {
-            return Ok(false);
+    let place = filters_in_front(steps);
+    send_behind(alloc, steps, place, line)
+}
+
+// The same behind the line filters in front.
+fn send_behind(
+    alloc: Global,
+    steps: &mut [Step<'_>],
+    place: usize,
+    line: &mut Line<'_>,
+) -> Result<Option<Labels>, AllocError>
+    ensures sent { IfOk result (λ found. found ≡ labels_behind (map step_stage (drop place steps.old)) line.old.text line.old.labels) }
+    ensures same { steps.new ≡ steps.old }
+    ensures line { line.new ≡ line.old }
+{
+    let (labels, text) = (line.labels(), line.text());
+    if place >= steps.len() {
+        return send_from(alloc, steps, place, Draft::of(labels), text);
+    }
+    read_by(alloc, &mut steps[place], line)?;
+    match found_by(&steps[place], line) {
+        Some(found) => send_from(alloc, steps, place + 1, Draft::parsed(found), text),
+        None => send_from(alloc, steps, place, Draft::of(labels), text),
+    }
+}
+
+// Reads the line by a stage that is a parser, unless one read it so before.
+fn read_by(alloc: Global, step: &mut Step<'_>, line: &mut Line<'_>) -> Result<(), AllocError>
+    ensures same { step.new ≡ step.old }
+    ensures line { line.new ≡ line.old }
+{
+    let Step::Parser(reading) = step else {
+        return Ok(());
+    };
+    let parser = reading.parser();
+    if line.found(parser).is_none() {
+        let found = reading.labels_behind(alloc, line.labels(), line.text())?;
+        line.keep(parser, found);
+    }
+    Ok(())
+}
+
+// What a stage that is a parser found in the line.
+fn found_by<'l>(step: &Step<'_>, line: &'l Line<'_>) -> Option<&'l LabelsBuilder>
+    ensures { IfSome result (λ found. kept_run (step_stage step.now) line.now.text line.now.labels ≡ Some found.now) }
+{
+    match step {
+        Step::Parser(reading) => line.found(reading.parser()),
+        Step::Filter(_) | Step::Tests(_) => None,
+    }
+}
+
+// How many line filters stand in front. They have let the line pass, so the stages behind them are left.
+fn filters_in_front(steps: &[Step<'_>]) -> usize
+    ensures within { result ≤ length steps.now }
+    ensures left { (line : List ℕ) (labels : LabelSet) → labels_behind (map step_stage steps.now) line labels ≡ labels_behind (map step_stage (drop result steps.now)) line labels }
+{
+    for (place, step) in steps.iter().enumerate() {
+        if !is_filter(step) {
+            return place;
         }
     }
-    Ok(true)
+    steps.len()
+}
+
+// The labels that such a line has behind the stages from a place on, if it stays.
+fn send_from(
+    alloc: Global,
+    steps: &mut [Step<'_>],
+    place: usize,
+    draft: Draft<'_>,
+    line: &str,
+) -> Result<Option<Labels>, AllocError>
+    ensures sent { IfOk result (λ found. found ≡ labels_behind (map step_stage (drop place steps.old)) line.now draft.entry) }
+    ensures same { steps.new ≡ steps.old }
+{
+    let mut draft = draft;
+    for index in place..steps.len() {
+        if !send_on(alloc, &mut steps[index], &mut draft, line)? {
+            return Ok(None);
+        }
+    }
+    Ok(Some(draft.labels()?))
 }
 
 // Sends a line through one stage that is no line filter. Whether it stays.

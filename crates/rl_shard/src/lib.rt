@@ -3,9 +3,10 @@
 //! `Shard::apply` answers a step exactly as the definition of the shard step says, and leaves exactly the state that it
 //! says. A step that is refused for a fault changes nothing.
 //!
-//! - `step`: `ShardStep`, `ShardReply`, `ShardFault`. `shard`: `Shard`.
+//! - `step`: `ShardStep`, `ShardReply`, `ShardFault`. `shard`: `Shard`. `streams`: what it holds. `collecting`: what it shows of the ranges of terms.
 #![tactic(auto)]
 
+mod collecting;
 mod decision;
 pub mod shard;
 pub mod step;

@@ -1,9 +1,10 @@
 //! A shard, by its steps.
 ghost use Rattle.std.specs.Prelude.{◌≡◌, IsTrue, not, ◌&&◌, Err, IsOk, IfOk, OnOk, OnErr, IsErrOf};
 
+use crate::collecting::collect;
 use crate::decision::Decision;
 use crate::step::{ShardFault, ShardReply, ShardStep};
-use crate::streams::{collect, decide, hold};
+use crate::streams::{decide, hold};
 use rl_aggregate::Partial;
 use rl_labels::{Entry, Labels, Limits, Ns};
 use rl_plain::{PlainList, Shared};

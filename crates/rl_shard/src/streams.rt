@@ -1,22 +1,19 @@
 //! The entries of a shard in one sorted list, and the newest timestamp of each stream.
-ghost use Rattle.std.specs.Prelude.{◌≡◌, ◌≤◌, nat_lt, true, length, IfOk, OnOk, OnErr, map as map_list, IfErr};
+ghost use Rattle.std.specs.Prelude.{◌≡◌, ◌≤◌, nat_lt, true, length, IfOk, OnOk, OnErr, IfErr};
 ghost use Rattle.std.specs.Option.{unwrap_or};
 ghost use Rattle.std.specs.List.{insert};
 ghost use Rattle.std.specs.List.Sorted.{IsStrictlySortedBy};
 ghost use Rattle.std.specs.FinMap as map;
 ghost use Rattle.std.specs.FinMap.{contains_key};
 ghost use Rattle.rl_labels.specs.EntryOrder.{entry_cmp};
-ghost use Rattle.rl_aggregate.specs.Partials.{partial, most_entries};
 ghost use Rattle.rl_shard.specs.Deciding.{BelongsAt, Decides, IsFoundIf, IsRaised};
 ghost use Rattle.rl_shard.specs.ShardState.{set_of, state_of, newest_map, newest_in};
 ghost use Rattle.rl_shard.specs.ShardStep.{is_far_behind};
 
 use crate::decision::Decision;
 use crate::step::ShardReply;
-use rl_aggregate::{Partial, scratch};
 use rl_labels::{Entry, Labels, Limits, Ns};
-use rl_plain::{PlainList, Same, Shared, TryCopy};
-use rl_query::Term;
+use rl_plain::TryCopy;
 use std::alloc::{AllocError, Global};
 use std::collections::BTreeMap;
 
@@ -135,45 +132,4 @@ fn raise(
     }
     newest.insert(labels.try_copy()?, timestamp)?;
     Ok(())
-}
-
-// What the entries in each term's range add up to. A range that stands twice is added up once.
-pub(crate) fn collect(
-    alloc: Global,
-    held: &[Entry],
-    terms: &[Term],
-    t: Ns,
-) -> Result<PlainList<Shared<Partial>>, AllocError>
-    requires { length held.now ≤ most_entries }
-    ensures { IfOk result (λ partials. partials ≡ map_list (λ term. partial held.now term t) terms.now) }
-{
-    let mut partials = Vec::with_capacity(alloc, terms.len())?;
-    for (index, term) in terms.iter().enumerate() {
-        let partial = next_partial(alloc, held, &terms[..index], &partials, term, t)?;
-        partials.push(partial)?;
-    }
-    Ok(PlainList::from_vec(partials))
-}
-
-// What the entries in the term's range add up to, shared with a term before that has the range.
-fn next_partial(
-    alloc: Global,
-    held: &[Entry],
-    before: &[Term],
-    known: &[Shared<Partial>],
-    term: &Term,
-    t: Ns,
-) -> Result<Shared<Partial>, AllocError>
-    requires held { length held.now ≤ most_entries }
-    requires known { known.now ≡ map_list (λ term. partial held.now term t) before.now }
-    ensures { IfOk result (λ found. found ≡ partial held.now term.now t) }
-{
-    for (index, other) in before.iter().enumerate() {
-        if other.range.is_same(&term.range) {
-            return known[index].try_copy();
-        }
-    }
-    let found = scratch(alloc, held, term, t)?;
-    let shared = Shared::new(alloc, found)?;
-    Ok(shared)
 }
