@@ -7,6 +7,7 @@ use crate::groups::Groups;
 use crate::outcome::Sample;
 use crate::topk::topk;
 use rl_labels::Labels;
+use rl_plain::TryCopy;
 use rl_query::{Aggregation, Grouping, VectorOperator};
 use std::alloc::{AllocError, Global};
 
@@ -55,10 +56,11 @@ fn grouped(
     requires { total samples.now < 2 ^ 128 }
     ensures { IfOk result (λ made. made.items ≡ grouped operator grouping.now samples.now) }
 {
-    let mut labels = Labels::empty(alloc)?;
+    let none = Labels::empty(alloc)?;
+    let mut labels = none.try_copy()?;
     let mut groups = Groups::new(alloc);
     for sample in samples {
-        labels = group_of(alloc, grouping, &labels, &sample.labels)?;
+        labels = group_of(alloc, grouping, &none, &labels, &sample.labels)?;
         groups.add(operator, &labels, sample.value)?;
     }
     groups.elements(alloc)

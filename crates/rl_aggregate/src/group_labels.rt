@@ -1,6 +1,7 @@
 //! The labels that all elements of a group of a vector have.
 ghost use Rattle.std.specs.Prelude.{◌≡◌, true, IfOk};
 ghost use Rattle.std.specs.List.{filter, list_any};
+ghost use Rattle.rl_labels.specs.LabelSet.{no_labels};
 ghost use Rattle.rl_labels.specs.Name.{is_text};
 ghost use Rattle.rl_aggregate.specs.Grouping.{tells_group, group_of};
 
@@ -10,19 +11,21 @@ use rl_query::Grouping;
 use std::alloc::{AllocError, Global};
 
 // The labels of the group that an element with these labels is in. They are shared with the group of another element
-// where they are its labels too, and else a label set is built.
+// where they are its labels too, and else a label set is built, from none.
 pub(crate) fn group_of(
     alloc: Global,
     grouping: &Grouping,
+    none: &Labels,
     other: &Labels,
     labels: &Labels,
 ) -> Result<Labels, AllocError>
+    requires { none.now ≡ no_labels }
     ensures { IfOk result (λ made. made ≡ group_of grouping.now labels.now) }
 {
     if are_of_group(grouping, other.pairs(), labels.pairs()) {
         other.try_copy()
     } else {
-        kept_labels(alloc, grouping, labels)
+        kept_labels(alloc, grouping, none, labels)
     }
 }
 
@@ -57,11 +60,16 @@ fn is_label(label: &(PlainText, PlainText), other: &(PlainText, PlainText)) -> b
 }
 
 // The labels that tell the group, from the last to the first: each then goes to the front.
-fn kept_labels(alloc: Global, grouping: &Grouping, labels: &Labels) -> Result<Labels, AllocError>
+fn kept_labels(
+    alloc: Global,
+    grouping: &Grouping,
+    none: &Labels,
+    labels: &Labels,
+) -> Result<Labels, AllocError>
+    requires { none.now ≡ no_labels }
     ensures { IfOk result (λ made. made ≡ group_of grouping.now labels.now) }
 {
-    let none = Labels::empty(alloc)?;
-    let mut builder = LabelsBuilder::new(alloc, &none)?;
+    let mut builder = LabelsBuilder::new(alloc, none)?;
     let mut rest = labels.pairs();
     while let Some((pair, before)) = rest.split_last() {
         let name = pair.0.as_str();

@@ -8,6 +8,7 @@ use crate::group_labels::group_of;
 use crate::groups::Groups;
 use crate::outcome::Sample;
 use rl_labels::Labels;
+use rl_plain::TryCopy;
 use rl_query::{Grouping, VectorOperator};
 use std::alloc::{AllocError, Global};
 
@@ -49,11 +50,12 @@ fn first_of_each(
     requires { IsStrictlySortedBy rank_cmp ranked.items }
     ensures { IfOk result (λ made. made.items ≡ filter (is_among_first k grouping.now ranked.items) ranked.items) }
 {
-    let mut labels = Labels::empty(alloc)?;
+    let none = Labels::empty(alloc)?;
+    let mut labels = none.try_copy()?;
     let mut counts = Groups::new(alloc);
     let mut kept = Vec::new(alloc);
     for sample in ranked {
-        labels = group_of(alloc, grouping, &labels, &sample.labels)?;
+        labels = group_of(alloc, grouping, &none, &labels, &sample.labels)?;
         let before = counts.count(&labels);
         counts.add(VectorOperator::Count, &labels, sample.value)?;
         if before < u128::from(k) {

@@ -22,8 +22,8 @@ add-requires c =
       c.args.ranked.ok.0,
     )
 
-pub loop-sample-preserved-in-Continue-branch-4 : goal.loop-sample-preserved-in-Continue-branch-4
-loop-sample-preserved-in-Continue-branch-4 c =
+pub loop-sample-preserved-in-Continue-branch-5 : goal.loop-sample-preserved-in-Continue-branch-5
+loop-sample-preserved-in-Continue-branch-5 c =
     let loop = c.loop-sample in
     let g = c.args.grouping.now in
     let sample = c.in-Some.sample in
