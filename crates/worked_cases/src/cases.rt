@@ -66,13 +66,24 @@ pub(crate) fn cases_of<'a>(alloc: Global, text: &'a str) -> Result<Vec<Case<'a>>
     let mut number = 0u64;
     for line in text.split('\n') {
         number = number.saturating_add(1);
-        if let Some(words) = line.strip_prefix("== ") {
-            cases.push(Case::new(alloc, number, words))?;
-        } else if let Some(case) = cases.last_mut() {
-            case.add(line)?;
-        }
+        add_line(&mut cases, alloc, number, line)?;
     }
     Ok(cases)
+}
+
+// Begins a case with its line, or adds the line to the last one.
+fn add_line<'a>(
+    cases: &mut Vec<Case<'a>>,
+    alloc: Global,
+    number: u64,
+    line: &'a str,
+) -> Result<(), Trouble> {
+    if let Some(words) = line.strip_prefix("== ") {
+        cases.push(Case::new(alloc, number, words))?;
+    } else if let Some(case) = cases.last_mut() {
+        case.add(line)?;
+    }
+    Ok(())
 }
 
 // Adds what a line of a file means: pictures of control characters and rows for what they stand for.

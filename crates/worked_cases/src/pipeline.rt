@@ -42,37 +42,37 @@ fn behind(alloc: Global, parser: Parser, labels: &Labels, lines: &str) -> Result
 // The labels that each line has behind all stages, and what was counted.
 fn runs(alloc: Global, query: &str, rest: &str) -> Result<String, Trouble> {
     let (labels, lines) = rest.split_once('\n').ok_or(Trouble::BadInput)?;
+    let pipeline = pipeline_in(alloc, query)?;
     let labels = labels_in(alloc, labels)?;
-    let query = parse(alloc, query).ok().ok_or(Trouble::BadInput)?;
-    let stages = query.left.range.stages.as_slice();
-    let pipeline = Pipeline::build(alloc, stages)
-        .ok()
-        .ok_or(Trouble::BadInput)?;
-    let mut running = pipeline.running()?;
-    let mut meter = Meter::new();
     let mut answer = String::new(alloc);
-    for line in lines.split('\n') {
-        push_run(&mut answer, &mut running, &mut meter, &labels, line)?;
-    }
-    meter.count_visits(u64::MAX - 1);
-    meter.count_visits(meter.runs());
-    let (runs, visits) = (meter.runs(), meter.visits());
-    let is_plain = running.is_plain();
-    writeln!(answer, "{runs} runs, {visits} visits, plain {is_plain}")?;
+    push_runs(&mut answer, &mut pipeline.running()?, &labels, lines)?;
     Ok(answer)
 }
 
-fn push_run(
+// The built stages of the first term of a query.
+fn pipeline_in(alloc: Global, query: &str) -> Result<Pipeline, Trouble> {
+    let query = parse(alloc, query).ok().ok_or(Trouble::BadInput)?;
+    let stages = query.left.range.stages.as_slice();
+    Pipeline::build(alloc, stages).ok().ok_or(Trouble::BadInput)
+}
+
+fn push_runs(
     answer: &mut String,
     running: &mut Running<'_>,
-    meter: &mut Meter,
     labels: &Labels,
-    line: &str,
+    lines: &str,
 ) -> Result<(), Trouble> {
-    match running.run(meter, labels, line)? {
-        Some(labels) => writeln!(answer, "{labels}")?,
-        None => writeln!(answer, "left out")?,
+    let mut meter = Meter::new();
+    for line in lines.split('\n') {
+        match running.run(&mut meter, labels, line)? {
+            Some(labels) => writeln!(answer, "{labels}")?,
+            None => writeln!(answer, "left out")?,
+        }
     }
+    meter.count_visits(u64::MAX - 1);
+    meter.count_visits(meter.runs());
+    let (runs, visits, is_plain) = (meter.runs(), meter.visits(), running.is_plain());
+    writeln!(answer, "{runs} runs, {visits} visits, plain {is_plain}")?;
     Ok(())
 }
 
