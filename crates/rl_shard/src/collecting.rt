@@ -10,6 +10,9 @@ use rl_plain::{PlainList, Same, Shared, TryCopy};
 use rl_query::{LogRange, Stage, Term};
 use std::alloc::{AllocError, Global};
 
+// So many others go through the lines beside a term, so that what all of them add up stays near.
+const MOST_OTHERS: usize = 7;
+
 // What the entries in each term's range add up to. A range that stands twice is added up once.
 pub(crate) fn collect(
     alloc: Global,
@@ -62,13 +65,16 @@ fn next_partial<'a>(
     Ok(shared)
 }
 
-// The terms that read the same lines as a term with stages behind its line filters, each range once.
+// Some terms that read the same lines as a term with stages behind its line filters, each range once.
 fn alike<'a>(alloc: Global, term: &Term, behind: &'a [Term]) -> Result<Vec<&'a Term>, AllocError>
     ensures { IfOk result (λ others. AllByRecursion (λ other. IsAlike term.now other.now) others.items) }
 {
     let mut others = Vec::new(alloc);
     for other in behind {
-        if is_alike(term, other) && is_new(&others, term, &other.range) {
+        if others.len() < MOST_OTHERS
+            && is_alike(term, other)
+            && is_new(&others, term, &other.range)
+        {
             others.push(other)?;
         }
     }
