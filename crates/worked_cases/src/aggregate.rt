@@ -2,11 +2,12 @@
 ghost use Rattle.std.specs.Prelude.{◌≤◌, length, IfOk};
 
 use crate::given::{entry_in, labels_in, moment_in, number_in};
+use crate::query::query_in;
 use crate::trouble::Trouble;
 use rl_aggregate::{Fraction, Outcome, Partial, Sample, Total, Totals, finish, merge, scratch};
 use rl_labels::{Entry, Labels, Ns};
 use rl_plain::{Same, Shared, TryCopy};
-use rl_query::{Query, RangeFunction, Term, parse};
+use rl_query::{Query, RangeFunction, Term};
 use std::alloc::Global;
 use std::mem;
 
@@ -36,11 +37,21 @@ pub(crate) fn push_partial(
     match finished(alloc, query, &[shared])? {
         Outcome::Failed => write!(text, "{between}failed")?,
         Outcome::Vector(samples) => {
-            for sample in samples.as_slice() {
-                text.push_str(between)?;
-                push_sample(text, sample, partial.totals.get(&sample.labels))?;
-            }
+            push_samples(text, samples.as_slice(), &partial.totals, between)?;
         }
+    }
+    Ok(())
+}
+
+fn push_samples(
+    text: &mut String,
+    samples: &[Sample],
+    totals: &Totals,
+    between: &str,
+) -> Result<(), Trouble> {
+    for sample in samples {
+        text.push_str(between)?;
+        push_sample(text, sample, totals.get(&sample.labels))?;
     }
     Ok(())
 }
@@ -54,13 +65,19 @@ fn push_sample(text: &mut String, sample: &Sample, total: Option<Total>) -> Resu
     Ok(())
 }
 
-// A query, a moment, and the entries of a list, or of two lists that are merged.
-fn range(alloc: Global, input: &str) -> Result<String, Trouble> {
+// A query, a moment, and the entries of a list, or of two lists.
+fn parts_of<'a>(alloc: Global, input: &'a str) -> Result<(Query, Ns, &'a str, &'a str), Trouble> {
     let (query, rest) = input.split_once('\n').ok_or(Trouble::BadInput)?;
     let (moment, entries) = rest.split_once('\n').unwrap_or((rest, ""));
     let (first, second) = entries.split_once("\n--\n").unwrap_or((entries, ""));
-    let query = parse(alloc, query).ok().ok_or(Trouble::BadInput)?;
-    let partial = merged(alloc, first, second, &query.left, moment_in(moment)?)?;
+    let moment = moment_in(moment)?;
+    Ok((query_in(alloc, query)?, moment, first, second))
+}
+
+// What the entries add up to, also those of two lists that are merged, and what the query gives.
+fn range(alloc: Global, input: &str) -> Result<String, Trouble> {
+    let (query, moment, first, second) = parts_of(alloc, input)?;
+    let partial = merged(alloc, first, second, &query.left, moment)?;
     let mut text = String::new(alloc);
     push_partial(&mut text, alloc, &query, &partial, "\n")?;
     Ok(text)
@@ -68,20 +85,29 @@ fn range(alloc: Global, input: &str) -> Result<String, Trouble> {
 
 // What a query gives at a moment of the entries of a list, or of two lists whose partials are merged.
 fn vector(alloc: Global, input: &str) -> Result<String, Trouble> {
-    let (query, rest) = input.split_once('\n').ok_or(Trouble::BadInput)?;
-    let (moment, entries) = rest.split_once('\n').unwrap_or((rest, ""));
-    let (first, second) = entries.split_once("\n--\n").unwrap_or((entries, ""));
-    let query = parse(alloc, query).ok().ok_or(Trouble::BadInput)?;
-    let moment = moment_in(moment)?;
-    let mut partials = Vec::new(alloc);
+    let (query, moment, first, second) = parts_of(alloc, input)?;
+    told_of_query(alloc, &query, moment, first, second)
+}
+
+fn told_of_query(
+    alloc: Global,
+    query: &Query,
+    moment: Ns,
+    first: &str,
+    second: &str,
+) -> Result<String, Trouble> {
     let left = merged(alloc, first, second, &query.left, moment)?;
-    partials.push(Shared::new(alloc, left)?)?;
+    let mut partials = vec![in alloc; Shared::new(alloc, left)?]?;
     if let Some(over) = &query.over {
         let over = merged(alloc, first, second, over, moment)?;
         partials.push(Shared::new(alloc, over)?)?;
     }
+    told_of_outcome(alloc, &finished(alloc, query, &partials)?)
+}
+
+fn told_of_outcome(alloc: Global, outcome: &Outcome) -> Result<String, Trouble> {
     let mut text = String::new(alloc);
-    match finished(alloc, &query, &partials)? {
+    match outcome {
         Outcome::Failed => text.push_str("failed")?,
         Outcome::Vector(samples) => push_vector(&mut text, samples.as_slice())?,
     }
@@ -142,31 +168,68 @@ fn entries_in(alloc: Global, text: &str) -> Result<Vec<Entry>, Trouble>
     Ok(entries)
 }
 
-// Steps on a partial that has nothing at first, and on a copy of it.
+// A partial that has nothing at first, a copy of it, and a query that is asked of both.
+#[derive(Drop)]
+struct Bench {
+    here: Partial,
+    copy: Partial,
+    query: Query,
+}
+
+// Steps on such a partial.
 fn partial(alloc: Global, input: &str) -> Result<String, Trouble> {
-    let query = parse(alloc, "count_over_time({app=\"a\"}[5s])");
-    let query = query.ok().ok_or(Trouble::BadInput)?;
-    let mut here = Partial::empty(alloc);
-    let mut copy = Partial::empty(alloc);
+    let query = query_in(alloc, "count_over_time({app=\"a\"}[5s])")?;
+    let (here, copy) = (Partial::empty(alloc), Partial::empty(alloc));
+    let mut bench = Bench { here, copy, query };
     let mut text = String::new(alloc);
     for line in input.split('\n') {
+        bench.step(&mut text, alloc, line)?;
+    }
+    Ok(text)
+}
+
+impl Bench {
+    fn step(&mut self, text: &mut String, alloc: Global, line: &str) -> Result<(), Trouble> {
         let (step, rest) = line.split_once(' ').unwrap_or((line, ""));
         match step {
-            "add" => add(&mut here.totals, alloc, rest)?,
-            "errors" => here.errors = number_in(rest)?,
-            "copy" => copy = here.try_copy()?,
-            "swap" => mem::swap(&mut here, &mut copy),
-            "empty" => writeln!(text, "{}", here.totals.is_empty())?,
-            "get" => push_got(&mut text, &here, &copy, &labels_in(alloc, rest)?)?,
-            "same" => push_same(&mut text, alloc, &query, &here, &copy)?,
+            "add" => add(&mut self.here.totals, alloc, rest)?,
+            "errors" => self.here.errors = number_in(rest)?,
+            "copy" => self.copy = self.here.try_copy()?,
+            "swap" => mem::swap(&mut self.here, &mut self.copy),
+            "empty" => writeln!(text, "{}", self.here.totals.is_empty())?,
+            "get" => self.push_got(text, &labels_in(alloc, rest)?)?,
+            "same" => self.push_same(text, alloc)?,
             "show" => {
-                push_partial(&mut text, alloc, &query, &here, "\n")?;
+                push_partial(text, alloc, &self.query, &self.here, "\n")?;
                 text.push('\n')?;
             }
             _ => return Err(Trouble::BadInput),
         }
+        Ok(())
     }
-    Ok(text)
+
+    // Writes the totals at a label set, and whether they and their values are the copy's.
+    fn push_got(&self, text: &mut String, labels: &Labels) -> Result<(), Trouble> {
+        let (here, copy) = (self.here.totals.get(labels), self.copy.totals.get(labels));
+        let totals = compared(&here, &copy)?;
+        let values = compared(&value_of(here), &value_of(copy))?;
+        writeln!(text, "{here:?}, {copy:?}: {totals}, values {values}")?;
+        Ok(())
+    }
+
+    // Writes whether the query gives the same of both.
+    fn push_same(&self, text: &mut String, alloc: Global) -> Result<(), Trouble> {
+        let here = Shared::new(alloc, self.here.try_copy()?)?;
+        let copy = Shared::new(alloc, self.copy.try_copy()?)?;
+        let here = finished(alloc, &self.query, &[here])?;
+        let copy = finished(alloc, &self.query, &[copy])?;
+        writeln!(text, "{}", compared(&here, &copy)?)?;
+        Ok(())
+    }
+}
+
+fn value_of(total: Option<Total>) -> Option<Fraction> {
+    Some(Fraction::of(RangeFunction::CountOverTime, 5, total?))
 }
 
 // Adds a total, as `a=x 3 7`, if the sum fits.
@@ -180,38 +243,6 @@ fn add(totals: &mut Totals, alloc: Global, text: &str) -> Result<(), Trouble> {
         return Err(Trouble::BadInput);
     }
     Ok(totals.add(&labels, Total { count, bytes })?)
-}
-
-// Writes the totals at a label set, and whether they and their values are the copy's.
-fn push_got(
-    text: &mut String,
-    here: &Partial,
-    copy: &Partial,
-    labels: &Labels,
-) -> Result<(), Trouble> {
-    let (here, copy) = (here.totals.get(labels), copy.totals.get(labels));
-    let value = |total| Fraction::of(RangeFunction::CountOverTime, 5, total);
-    let totals = compared(&here, &copy)?;
-    let values = compared(&here.map(&value), &copy.map(&value))?;
-    writeln!(text, "{here:?}, {copy:?}: {totals}, values {values}")?;
-    Ok(())
-}
-
-// Writes whether the query gives the same of both.
-fn push_same(
-    text: &mut String,
-    alloc: Global,
-    query: &Query,
-    here: &Partial,
-    copy: &Partial,
-) -> Result<(), Trouble> {
-    let here = Shared::new(alloc, here.try_copy()?)?;
-    let copy = Shared::new(alloc, copy.try_copy()?)?;
-    let here = finished(alloc, query, &[here])?;
-    let copy = finished(alloc, query, &[copy])?;
-    let outcomes = compared(&here, &copy)?;
-    writeln!(text, "{outcomes}")?;
-    Ok(())
 }
 
 // Whether two values are one; a copy of a value has to be the value.

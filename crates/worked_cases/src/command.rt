@@ -5,21 +5,9 @@ use std::alloc::Global;
 
 pub(crate) fn answer(alloc: Global, directive: &str, input: &str) -> Result<String, Trouble> {
     match directive {
-        "read" => read(alloc, input),
+        "read" if is_blank(input) => Ok(String::from_str(alloc, "blank")?),
+        "read" => Ok(format!(in alloc; "{:?}", read_command(input))?),
         "blank" => Ok(format!(in alloc; "{}", is_blank(input))?),
         _ => Err(Trouble::NoSuchDirective),
     }
-}
-
-// The command of each line.
-fn read(alloc: Global, lines: &str) -> Result<String, Trouble> {
-    let mut text = String::new(alloc);
-    for line in lines.split('\n') {
-        if is_blank(line) {
-            text.push_str("blank\n")?;
-        } else {
-            writeln!(text, "{:?}", read_command(line))?;
-        }
-    }
-    Ok(text)
 }

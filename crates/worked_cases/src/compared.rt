@@ -1,27 +1,48 @@
-//! Two values that a case compares, written before and behind ` | `.
+//! Two values that a case compares, written before and behind ` ~ `.
 use crate::trouble::Trouble;
 use rl_plain::{Same, TryCopy};
 use std::alloc::Global;
 use std::hash::{DefaultHasher, Hash, Hasher};
 
-/// The texts before and behind the bar.
+/// The texts before and behind the sign.
 pub(crate) fn halves(input: &str) -> Result<(&str, &str), Trouble> {
-    input.split_once(" | ").ok_or(Trouble::BadInput)
+    input.split_once(" ~ ").ok_or(Trouble::BadInput)
 }
 
 /// How a copy of the left value stands to the right one: by its signs, by `cmp`, and whether they are the same.
-pub(crate) fn compared<T, F>(alloc: Global, input: &str, read: F) -> Result<String, Trouble>
+pub(crate) fn compared<T>(alloc: Global, left: &T, right: &T) -> Result<String, Trouble>
 where
     T: Ord + Hash + Same + TryCopy,
+{
+    let copy = left.try_copy()?;
+    let (sign, order) = (sign_of(&copy, right), left.cmp(right));
+    let word = word_of(&copy, right);
+    Ok(format!(in alloc; "{sign} {order:?} {word}")?)
+}
+
+/// How a copy of the left value stands to the right one, where there is no order.
+pub(crate) fn matched<T, F>(alloc: Global, input: &str, read: F) -> Result<String, Trouble>
+where
+    T: PartialEq + Same + TryCopy,
     F: Fn(&str) -> Result<T, Trouble>,
     requires { F.IsAlwaysCallable read }
 {
     let (left, right) = halves(input)?;
     let (left, right) = (read(left)?, read(right)?);
+    Ok(String::from_str(alloc, likeness(&left, &right)?)?)
+}
+
+/// Whether a copy of the left value is equal to the right one and the same, neither, or one alone.
+pub(crate) fn likeness<T>(left: &T, right: &T) -> Result<&'static str, Trouble>
+where
+    T: PartialEq + Same + TryCopy,
+{
     let copy = left.try_copy()?;
-    let (sign, order) = (sign_of(&copy, &right), left.cmp(&right));
-    let word = word_of(&copy, &right);
-    Ok(format!(in alloc; "{sign} {order:?} {word}")?)
+    Ok(match (copy == *right, copy.is_same(right)) {
+        (true, true) => "same",
+        (false, false) => "other",
+        _ => "unlike",
+    })
 }
 
 fn sign_of<T: Ord>(left: &T, right: &T) -> &'static str {

@@ -1,4 +1,4 @@
-//! Inputs of the program, one a line, in which `⏎` is a line feed and `�` a byte that is in no text.
+//! Inputs of the program, in which `⏎` is a line feed and `�` a byte that is in no text.
 use crate::given::bytes_in;
 use crate::trouble::Trouble;
 use rl_session::names::front_fault_name;
@@ -12,31 +12,29 @@ pub(crate) fn answer(alloc: Global, directive: &str, input: &str) -> Result<Stri
     }
 }
 
-// What each input has, or its fault as the program prints it, as it is, and as it reads.
-fn read(alloc: Global, inputs: &str) -> Result<String, Trouble> {
-    let mut text = String::new(alloc);
-    for input in inputs.split('\n') {
-        let bytes = bytes_in(alloc, input)?;
-        let mut reader = bytes.as_slice();
-        match read_front(alloc, &mut reader) {
-            Ok(front) => push_front(&mut text, &front)?,
-            Err(FrontError::Memory) => return Err(Trouble::Memory),
-            Err(FrontError::Fault(fault)) => {
-                writeln!(text, "{} {fault:?}: {fault}", front_fault_name(fault))?;
-            }
+// What an input has, or its fault as the program prints it, as it is, and as it reads.
+fn read(alloc: Global, input: &str) -> Result<String, Trouble> {
+    let bytes = bytes_in(alloc, input)?;
+    let mut reader = bytes.as_slice();
+    match read_front(alloc, &mut reader) {
+        Ok(front) => told_of_front(alloc, &front),
+        Err(FrontError::Memory) => Err(Trouble::Memory),
+        Err(FrontError::Fault(fault)) => {
+            let name = front_fault_name(fault);
+            Ok(format!(in alloc; "{name} {fault:?}: {fault}")?)
         }
     }
-    Ok(text)
 }
 
-// Adds a line with the groups and their rules, and the commands.
-fn push_front(text: &mut String, front: &Front) -> Result<(), Trouble> {
+// The groups and their rules, and the commands.
+fn told_of_front(alloc: Global, front: &Front) -> Result<String, Trouble> {
+    let mut text = String::new(alloc);
     for group in &front.groups {
         write!(text, "{} ", group.name)?;
         for rule in group.rules.as_slice() {
             write!(text, "({}) ", rule.name)?;
         }
     }
-    writeln!(text, "{:?}", front.commands.as_str())?;
-    Ok(())
+    write!(text, "{:?}", front.commands.as_str())?;
+    Ok(text)
 }

@@ -1,12 +1,12 @@
 //! Values that cases write in short.
 //!
 //! A label set is `a=x,b=y`, and `-` has no label. A moment is nanoseconds, or seconds as `5s`. An entry is a moment, a
-//! label set and the rest of its line, one space apart.
+//! label set and the rest of its line, one space apart. Limits are those that are not the default ones, as `keep=1 cache=2`.
 ghost use Rattle.std.specs.Prelude.{IsTrue, IfOk};
 ghost use Rattle.rl_labels.specs.EntryParts.{are_stream_labels};
 
 use crate::trouble::Trouble;
-use rl_labels::{Entry, Labels, Ns};
+use rl_labels::{DEFAULT_LIMITS, Entry, Labels, Limits, Ns, RawLimits};
 use rl_plain::{OrMemory, PlainText};
 use std::alloc::Global;
 
@@ -72,4 +72,35 @@ pub(crate) fn entry_in(alloc: Global, text: &str) -> Result<Entry, Trouble> {
         Ok(entry) => Ok(entry),
         Err(_) => Err(Trouble::BadInput),
     }
+}
+
+pub(crate) fn limits_in(text: &str) -> Result<Limits, Trouble> {
+    let raw = raw_limits_in(text)?;
+    Limits::check(raw).ok().ok_or(Trouble::BadInput)
+}
+
+/// Limits that may be out of their ranges.
+pub(crate) fn raw_limits_in(text: &str) -> Result<RawLimits, Trouble> {
+    let mut raw = DEFAULT_LIMITS;
+    for word in text.split_whitespace() {
+        let (name, number) = word.split_once('=').ok_or(Trouble::BadInput)?;
+        set_limit(&mut raw, name, number_in(number)?)?;
+    }
+    Ok(raw)
+}
+
+/// Sets the limit of a name.
+pub(crate) fn set_limit(raw: &mut RawLimits, name: &str, number: u64) -> Result<(), Trouble> {
+    match name {
+        "entries" => raw.entries = number,
+        "chunk_entries" => raw.chunk_entries = number,
+        "chunk_age" => raw.chunk_age = number,
+        "cancel" => raw.cancel = number,
+        "keep" => raw.keep = number,
+        "cache" => raw.cache = number,
+        "records" => raw.records = number,
+        "first_blob" => raw.first_blob = number,
+        _ => return Err(Trouble::BadInput),
+    }
+    Ok(())
 }

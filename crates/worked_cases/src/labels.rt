@@ -1,15 +1,14 @@
 //! Cases of names, label sets, moments, entries, matchers and limits.
 //!
-//! A matcher is written as `a=x` or with `!=`, `=~`, `!~`, more of them as `a=x & b!=y`, and limits by those that are not the
-//! default ones, as `keep=1,cache=2`.
+//! A matcher is written as `a=x` or with `!=`, `=~`, `!~`, more of them as `a=x & b!=y`.
 use crate::compared::{compared, halves};
-use crate::given::{entry_in, labels_in, moment_in, number_in, pairs_in};
+use crate::given::{entry_in, labels_in, moment_in, number_in, pairs_in, raw_limits_in};
 use crate::trouble::Trouble;
 use rl_labels::entry::MAX_LINE_LEN;
 use rl_labels::labels::{ERROR_LABEL, MAX_TEXT_LEN, is_label_name};
 use rl_labels::{
-    BadLimit, DEFAULT_LIMITS, Entry, Labels, LabelsError, LimitField, Limits, MatchOp, Matcher,
-    MatcherError, Ns, RawLimits, SelectorCode,
+    BadLimit, Entry, Labels, LabelsError, LimitField, Limits, MatchOp, Matcher, MatcherCode,
+    MatcherError, Ns, RefusedEntry, SelectorCode,
 };
 use rl_plain::{OrMemory, PlainText};
 use std::alloc::Global;
@@ -33,14 +32,16 @@ pub(crate) fn answer(alloc: Global, directive: &str, input: &str) -> Result<Stri
     }
 }
 
+// How two values stand to each other.
 fn comparison(alloc: Global, directive: &str, input: &str) -> Result<String, Trouble> {
+    let (left, right) = halves(input)?;
     match directive {
-        "sets" => compared(alloc, input, |text| labels_in(alloc, text)),
-        "values" => compared(alloc, input, |text| of_value(alloc, text)),
-        "moments" => compared(alloc, input, moment_in),
-        "entries" => compared(alloc, input, |text| entry_in(alloc, text)),
-        "matchers" => compared(alloc, input, |text| matcher_in(alloc, text)),
-        "operators" => compared(alloc, input, |text| Ok(parts_of(text)?.1)),
+        "sets" => compared(alloc, &labels_in(alloc, left)?, &labels_in(alloc, right)?),
+        "values" => compared(alloc, &of_value(alloc, left)?, &of_value(alloc, right)?),
+        "moments" => compared(alloc, &moment_in(left)?, &moment_in(right)?),
+        "entries" => compared(alloc, &entry_in(alloc, left)?, &entry_in(alloc, right)?),
+        "matchers" => compared(alloc, &matcher_in(alloc, left)?, &matcher_in(alloc, right)?),
+        "operators" => compared(alloc, &parts_of(left)?.1, &parts_of(right)?.1),
         _ => Err(Trouble::NoSuchDirective),
     }
 }
@@ -102,16 +103,21 @@ fn entry(alloc: Global, input: &str) -> Result<String, Trouble> {
     let (moment, rest) = input.split_once(' ').ok_or(Trouble::BadInput)?;
     let (labels, line) = rest.split_once(' ').ok_or(Trouble::BadInput)?;
     let (moment, line) = (moment_in(moment)?, PlainText::from_str(alloc, line)?);
-    Ok(match Entry::new(labels_in(alloc, labels)?, moment, line) {
-        Ok(made) => {
-            let (labels, line, moment) = (&made.labels, &made.line, made.timestamp.get());
-            format!(in alloc; "{moment} {labels} {line}")?
-        }
-        Err(refused) => {
-            let (labels, line, moment) = (&refused.labels, &refused.line, refused.timestamp.get());
-            format!(in alloc; "{:?}: {refused}\n{moment} {labels} {line}", refused.fault)?
-        }
-    })
+    match Entry::new(labels_in(alloc, labels)?, moment, line) {
+        Ok(made) => told_of_entry(alloc, &made),
+        Err(refused) => told_of_refused(alloc, &refused),
+    }
+}
+
+fn told_of_entry(alloc: Global, made: &Entry) -> Result<String, Trouble> {
+    let (labels, line, moment) = (&made.labels, &made.line, made.timestamp.get());
+    Ok(format!(in alloc; "{moment} {labels} {line}")?)
+}
+
+fn told_of_refused(alloc: Global, refused: &RefusedEntry) -> Result<String, Trouble> {
+    let (labels, line, moment) = (&refused.labels, &refused.line, refused.timestamp.get());
+    let fault = refused.fault;
+    Ok(format!(in alloc; "{fault:?}: {refused}\n{moment} {labels} {line}")?)
 }
 
 // The name, the operator and the value.
@@ -141,28 +147,36 @@ fn matcher_in(alloc: Global, text: &str) -> Result<Matcher, Trouble> {
 }
 
 fn matcher(alloc: Global, input: &str) -> Result<String, Trouble> {
-    Ok(match matcher_of(alloc, input)? {
-        Ok(made) => format!(in alloc; "{} {:?} {}", made.name, made.op, made.value)?,
-        Err(OrMemory::Fault(fault)) => format!(in alloc; "{fault:?}: {fault}")?,
-        Err(OrMemory::Memory) => return Err(Trouble::Memory),
-    })
+    match matcher_of(alloc, input)? {
+        Ok(made) => told_of_matcher(alloc, &made),
+        Err(OrMemory::Fault(fault)) => Ok(format!(in alloc; "{fault:?}: {fault}")?),
+        Err(OrMemory::Memory) => Err(Trouble::Memory),
+    }
+}
+
+fn told_of_matcher(alloc: Global, made: &Matcher) -> Result<String, Trouble> {
+    let (name, op, value) = (&made.name, made.op, &made.value);
+    Ok(format!(in alloc; "{name} {op:?} {value}")?)
 }
 
 // Whether the matcher accepts the label set.
 fn accepts(alloc: Global, input: &str) -> Result<String, Trouble> {
     let (matcher, labels) = halves(input)?;
-    let code = matcher_in(alloc, matcher)?
-        .build()
-        .or(Err(Trouble::BadInput))?;
-    let accepts = code.accepts(&labels_in(alloc, labels)?)?;
+    let labels = labels_in(alloc, labels)?;
+    let accepts = matcher_code_in(alloc, matcher)?.accepts(&labels)?;
     Ok(accepts.to_string(alloc)?)
+}
+
+fn matcher_code_in(alloc: Global, text: &str) -> Result<MatcherCode, Trouble> {
+    let matcher = matcher_in(alloc, text)?;
+    matcher.build().or(Err(Trouble::BadInput))
 }
 
 // Whether all matchers accept the label set.
 fn selects(alloc: Global, input: &str) -> Result<String, Trouble> {
     let (matchers, labels) = halves(input)?;
-    let code = selector_in(alloc, matchers)?;
-    let accepts = code.accepts(&labels_in(alloc, labels)?)?;
+    let labels = labels_in(alloc, labels)?;
+    let accepts = selector_in(alloc, matchers)?.accepts(&labels)?;
     Ok(accepts.to_string(alloc)?)
 }
 
@@ -179,30 +193,6 @@ fn limits(alloc: Global, input: &str) -> Result<String, Trouble> {
         Ok(limits) => format!(in alloc; "{limits:?}")?,
         Err(bad) => format!(in alloc; "{:?}: {bad}", bad.field)?,
     })
-}
-
-fn raw_limits_in(text: &str) -> Result<RawLimits, Trouble> {
-    let mut raw = DEFAULT_LIMITS;
-    for change in text.split_terminator(',') {
-        let (name, number) = change.split_once('=').ok_or(Trouble::BadInput)?;
-        set_limit(&mut raw, name, number_in(number)?)?;
-    }
-    Ok(raw)
-}
-
-fn set_limit(raw: &mut RawLimits, name: &str, number: u64) -> Result<(), Trouble> {
-    match name {
-        "entries" => raw.entries = number,
-        "chunk_entries" => raw.chunk_entries = number,
-        "chunk_age" => raw.chunk_age = number,
-        "cancel" => raw.cancel = number,
-        "keep" => raw.keep = number,
-        "cache" => raw.cache = number,
-        "records" => raw.records = number,
-        "first_blob" => raw.first_blob = number,
-        _ => return Err(Trouble::BadInput),
-    }
-    Ok(())
 }
 
 // The texts of the faults that no input has.

@@ -65,16 +65,21 @@ fn run(rt: &HostRuntime) -> Result<bool, Trouble> {
 fn has_its_answer(rt: &impl Print, name: &str, case: &Case<'_>) -> Result<bool, Trouble> {
     let alloc = case.alloc;
     let answered = answer(alloc, family_of(name), case.directive, case.input());
-    let answered = match answered {
-        Ok(text) => text,
-        Err(trouble) => format!(in alloc; "{trouble:?}")?,
-    };
-    let is_same = answered.as_str().trim_end_matches('\n') == case.want();
-    if !is_same {
-        let (line, directive, want) = (case.line, case.directive, case.want());
-        println!(rt; "{name}:{line}: {directive}: wanted\n{want}\nand not\n{answered}")?;
+    let answered = told_of(alloc, answered)?;
+    if answered.as_str().trim_end_matches('\n') == case.want() {
+        return Ok(true);
     }
-    Ok(is_same)
+    let (line, directive, want) = (case.line, case.directive, case.want());
+    println!(rt; "{name}:{line}: {directive}: wanted\n{want}\nand not\n{answered}")?;
+    Ok(false)
+}
+
+// An answer, or why there is none.
+fn told_of(alloc: Global, answered: Result<String, Trouble>) -> Result<String, Trouble> {
+    match answered {
+        Ok(text) => Ok(text),
+        Err(trouble) => Ok(format!(in alloc; "{trouble:?}")?),
+    }
 }
 
 // The module that knows a file's directives.
@@ -92,10 +97,8 @@ fn answer(alloc: Global, family: &str, directive: &str, input: &str) -> Result<S
     };
     let mut answers = String::new(alloc);
     for line in input.split('\n') {
-        match answer_once(alloc, family, directive, line) {
-            Ok(text) => writeln!(answers, "{text}")?,
-            Err(trouble) => writeln!(answers, "{trouble:?}")?,
-        }
+        let answered = told_of(alloc, answer_once(alloc, family, directive, line))?;
+        writeln!(answers, "{}", answered.as_str().trim_end_matches('\n'))?;
     }
     Ok(answers)
 }
@@ -108,15 +111,27 @@ fn answer_once(
 ) -> Result<String, Trouble> {
     match family {
         "aggregate" => aggregate::answer(alloc, directive, input),
-        "command" => command::answer(alloc, directive, input),
-        "front" => front::answer(alloc, directive, input),
         "labels" => labels::answer(alloc, directive, input),
         "patterns" => patterns::answer(alloc, directive, input),
         "pipeline" => pipeline::answer(alloc, directive, input),
         "plain" => plain::answer(alloc, directive, input),
-        "push" => push::answer(alloc, directive, input),
         "quantity" => quantity::answer(alloc, directive, input),
         "query" => query::answer(alloc, directive, input),
+        _ => answer_of_ruler(alloc, family, directive, input),
+    }
+}
+
+// The same of what stands above queries and aggregations.
+fn answer_of_ruler(
+    alloc: Global,
+    family: &str,
+    directive: &str,
+    input: &str,
+) -> Result<String, Trouble> {
+    match family {
+        "command" => command::answer(alloc, directive, input),
+        "front" => front::answer(alloc, directive, input),
+        "push" => push::answer(alloc, directive, input),
         "rules" => rules::answer(alloc, directive, input),
         "session" => session::answer(alloc, directive, input),
         "shard" => shard::answer(alloc, directive, input),

@@ -3,11 +3,12 @@
 //! With a parser the first line is the label set of the stream, and each other line a line of it; with `_error` the set has
 //! the error `E`. `runs` has a query before them. `covers` has a delete selector, and an entry in each other line.
 use crate::given::{entry_in, labels_in};
+use crate::query::{query_in, sieve_in};
 use crate::trouble::Trouble;
 use rl_labels::Labels;
 use rl_labels::labels::{ERROR_LABEL, is_label_name};
 use rl_pipeline::{Covers, Meter, Pipeline, Running, SieveCode, parsed};
-use rl_query::{Parser, parse, parse_delete};
+use rl_query::Parser;
 use std::alloc::Global;
 
 pub(crate) fn answer(alloc: Global, directive: &str, input: &str) -> Result<String, Trouble> {
@@ -51,7 +52,7 @@ fn runs(alloc: Global, query: &str, rest: &str) -> Result<String, Trouble> {
 
 // The built stages of the first term of a query.
 fn pipeline_in(alloc: Global, query: &str) -> Result<Pipeline, Trouble> {
-    let query = parse(alloc, query).ok().ok_or(Trouble::BadInput)?;
+    let query = query_in(alloc, query)?;
     let stages = query.left.range.stages.as_slice();
     Pipeline::build(alloc, stages).ok().ok_or(Trouble::BadInput)
 }
@@ -78,14 +79,26 @@ fn push_runs(
 
 // Whether a sieve covers each entry.
 fn covers(alloc: Global, selector: &str, entries: &str) -> Result<String, Trouble> {
-    let sieve = parse_delete(alloc, selector).ok().ok_or(Trouble::BadInput)?;
-    let code = SieveCode::build(alloc, &sieve)
-        .ok()
-        .ok_or(Trouble::BadInput)?;
+    let code = sieve_code_in(alloc, selector)?;
     let mut answer = String::new(alloc);
     for entry in entries.split('\n') {
-        let entry = entry_in(alloc, entry)?;
-        writeln!(answer, "{}", code.covers(&entry)?)?;
+        push_covers(&mut answer, alloc, &code, entry)?;
     }
     Ok(answer)
+}
+
+fn sieve_code_in(alloc: Global, selector: &str) -> Result<SieveCode, Trouble> {
+    let sieve = sieve_in(alloc, selector)?;
+    SieveCode::build(alloc, &sieve).or(Err(Trouble::BadInput))
+}
+
+fn push_covers(
+    answer: &mut String,
+    alloc: Global,
+    code: &SieveCode,
+    entry: &str,
+) -> Result<(), Trouble> {
+    let entry = entry_in(alloc, entry)?;
+    writeln!(answer, "{}", code.covers(&entry)?)?;
+    Ok(())
 }

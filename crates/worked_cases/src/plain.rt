@@ -1,7 +1,7 @@
 //! Cases of plain data: texts, lists, copies and comparisons.
 //!
 //! A list of numbers is `7,8`; `-` is an empty list, or no number. A pair has `=` between its halves.
-use crate::compared::compared;
+use crate::compared::{compared, halves};
 use crate::given::number_in;
 use crate::trouble::Trouble;
 use rl_plain::{PlainList, PlainText};
@@ -12,13 +12,21 @@ pub(crate) fn answer(alloc: Global, directive: &str, input: &str) -> Result<Stri
         "text" => text(alloc, input),
         "list" => list(alloc, input),
         "put" => put(alloc, input),
-        "bools" => compared(alloc, input, bool_in),
-        "numbers" => compared(alloc, input, number_in),
-        "texts" => compared(alloc, input, |text| text_in(alloc, text)),
-        "options" => compared(alloc, input, option_in),
-        "pairs" => compared(alloc, input, pair_in),
-        "lists" => compared(alloc, input, |text| list_in(alloc, text)),
-        "shelves" => compared(alloc, input, |text| shelves_in(alloc, text)),
+        _ => comparison(alloc, directive, input),
+    }
+}
+
+// How two values stand to each other.
+fn comparison(alloc: Global, directive: &str, input: &str) -> Result<String, Trouble> {
+    let (left, right) = halves(input)?;
+    match directive {
+        "bools" => compared(alloc, &bool_in(left)?, &bool_in(right)?),
+        "numbers" => compared(alloc, &number_in(left)?, &number_in(right)?),
+        "texts" => compared(alloc, &text_in(alloc, left)?, &text_in(alloc, right)?),
+        "options" => compared(alloc, &option_in(left)?, &option_in(right)?),
+        "pairs" => compared(alloc, &pair_in(left)?, &pair_in(right)?),
+        "lists" => compared(alloc, &list_in(alloc, left)?, &list_in(alloc, right)?),
+        "shelves" => compared(alloc, &shelves_in(alloc, left)?, &shelves_in(alloc, right)?),
         _ => Err(Trouble::NoSuchDirective),
     }
 }

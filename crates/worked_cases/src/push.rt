@@ -1,4 +1,4 @@
-//! Push bodies, one a line, in which `⏎` is a line feed and `�` a byte that is in no text.
+//! Push bodies, in which `⏎` is a line feed and `�` a byte that is in no text.
 use crate::given::bytes_in;
 use crate::trouble::Trouble;
 use rl_labels::Entry;
@@ -8,58 +8,42 @@ use std::alloc::Global;
 
 pub(crate) fn answer(alloc: Global, directive: &str, input: &str) -> Result<String, Trouble> {
     match directive {
-        "read" => read(alloc, input),
+        "read" => told_of(alloc, bytes_in(alloc, input)?.as_slice()),
         "fronts" => fronts(alloc, input.as_bytes()),
         "fault" => fault(alloc, input),
         _ => Err(Trouble::NoSuchDirective),
     }
 }
 
-// What each body has.
-fn read(alloc: Global, bodies: &str) -> Result<String, Trouble> {
-    let mut text = String::new(alloc);
-    for body in bodies.split('\n') {
-        let body = bytes_in(alloc, body)?;
-        push_answer(&mut text, alloc, &body)?;
-    }
-    Ok(text)
-}
-
 // What each front of a body has that is not the whole.
 fn fronts(alloc: Global, body: &[u8]) -> Result<String, Trouble> {
     let mut text = String::new(alloc);
     for end in 0..body.len() {
-        push_answer(&mut text, alloc, &body[..end])?;
+        writeln!(text, "{}", told_of(alloc, &body[..end])?)?;
     }
     Ok(text)
 }
 
-// Adds a line with the entries of a body, or with its fault.
-fn push_answer(text: &mut String, alloc: Global, body: &[u8]) -> Result<(), Trouble> {
+// The entries of a body, or its fault.
+fn told_of(alloc: Global, body: &[u8]) -> Result<String, Trouble> {
     match read_push(alloc, body) {
-        Ok(entries) => push_entries(text, &entries)?,
-        Err(error) => write!(text, "{error:?}")?,
+        Ok(entries) => told_of_entries(alloc, &entries),
+        Err(error) => Ok(format!(in alloc; "{error:?}")?),
     }
-    text.push('\n')?;
-    Ok(())
 }
 
-fn push_entries(text: &mut String, entries: &[Entry]) -> Result<(), Trouble> {
-    write!(text, "{}:", entries.len())?;
+fn told_of_entries(alloc: Global, entries: &[Entry]) -> Result<String, Trouble> {
+    let mut text = format!(in alloc; "{}:", entries.len())?;
     for entry in entries {
-        let labels = entry.labels.as_text();
-        write!(text, " {labels} {} {};", entry.timestamp.get(), entry.line)?;
-    }
-    Ok(())
-}
-
-// The fault of each body by its name, and as an operator reads it.
-fn fault(alloc: Global, bodies: &str) -> Result<String, Trouble> {
-    let mut text = String::new(alloc);
-    for body in bodies.split('\n') {
-        if let Err(error) = read_push(alloc, body.as_bytes()) {
-            writeln!(text, "{}: {error}", push_error_name(error))?;
-        }
+        let (labels, moment, line) = (&entry.labels, entry.timestamp.get(), &entry.line);
+        write!(text, " {labels} {moment} {line};")?;
     }
     Ok(text)
+}
+
+// The fault of a body by its name, and as an operator reads it.
+fn fault(alloc: Global, body: &str) -> Result<String, Trouble> {
+    let error = read_push(alloc, body.as_bytes()).err();
+    let error = error.ok_or(Trouble::BadInput)?;
+    Ok(format!(in alloc; "{}: {error}", push_error_name(error))?)
 }

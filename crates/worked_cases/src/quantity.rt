@@ -1,5 +1,6 @@
 //! Cases of quantities: what texts are as decimals, durations and sizes, in a query and in a label's value, with their
 //! values in billionths.
+use crate::compared::likeness;
 use crate::trouble::Trouble;
 use rl_labels::{Decimal, Duration, NotOne, Signed, Size};
 use rl_plain::{Same, TryCopy};
@@ -81,29 +82,48 @@ fn duration_of_query(text: &str) -> Result<Duration, Trouble> {
     Duration::read(text).ok().ok_or(Trouble::BadInput)
 }
 
-// The canonical text of the quantity that a text is, and whether that text is read as the same again.
+// The canonical text of the quantity that a text is, and how that stands to what this text is read as.
 fn printed(alloc: Global, input: &str) -> Result<String, Trouble> {
-    let mut text = String::new(alloc);
-    let again = if let Ok(decimal) = Decimal::read(input) {
-        decimal.push_to(&mut text)?;
-        is_again(&decimal, Decimal::read(text.as_str()))?
-    } else if let Ok(duration) = Duration::read(input) {
-        duration.push_to(&mut text)?;
-        is_again(&duration, Duration::read(text.as_str()))?
-    } else {
-        let size = Size::read(input).ok().ok_or(Trouble::BadInput)?;
-        size.push_to(&mut text)?;
-        is_again(&size, Size::read(text.as_str()))?
-    };
-    Ok(format!(in alloc; "{text} {again}")?)
+    if let Ok(decimal) = Decimal::read(input) {
+        return printed_decimal(alloc, &decimal);
+    }
+    if let Ok(duration) = Duration::read(input) {
+        return printed_duration(alloc, &duration);
+    }
+    match Size::read(input) {
+        Ok(size) => printed_size(alloc, &size),
+        Err(_) => Err(Trouble::BadInput),
+    }
 }
 
-// Whether a copy of a quantity and what its text was read as are equal and the same.
-fn is_again<T: TryCopy + Same + PartialEq + Drop>(
+fn printed_decimal(alloc: Global, decimal: &Decimal) -> Result<String, Trouble> {
+    let mut text = String::new(alloc);
+    decimal.push_to(&mut text)?;
+    let again = again_in(decimal, Decimal::read(text.as_str()))?;
+    write!(text, " {again}")?;
+    Ok(text)
+}
+
+fn printed_duration(alloc: Global, duration: &Duration) -> Result<String, Trouble> {
+    let mut text = String::new(alloc);
+    duration.push_to(&mut text)?;
+    let again = again_in(duration, Duration::read(text.as_str()))?;
+    write!(text, " {again}")?;
+    Ok(text)
+}
+
+fn printed_size(alloc: Global, size: &Size) -> Result<String, Trouble> {
+    let mut text = String::new(alloc);
+    size.push_to(&mut text)?;
+    let again = again_in(size, Size::read(text.as_str()))?;
+    write!(text, " {again}")?;
+    Ok(text)
+}
+
+// How a copy of a quantity stands to what its text was read as.
+fn again_in<T: TryCopy + Same + PartialEq + Drop>(
     quantity: &T,
     again: Result<T, NotOne>,
-) -> Result<bool, Trouble> {
-    let again = again.ok().ok_or(Trouble::BadInput)?;
-    let copy = quantity.try_copy()?;
-    Ok(copy == again && copy.is_same(&again))
+) -> Result<&'static str, Trouble> {
+    likeness(quantity, &again.ok().ok_or(Trouble::BadInput)?)
 }

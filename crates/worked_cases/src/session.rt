@@ -1,16 +1,16 @@
 //! Sessions over one group with two recorders.
 //!
-//! The first line of `run` has settings, as `entries=2 cap=1`: limits, and how many texts may wait in the first recorder.
-//! In the second it is two. Behind it stand a rule file, the mark and commands.
+//! The first line of `run` has limits, or how many texts may wait in the first recorder, as `cap=1`. In the second it is
+//! two. Behind it stand a rule file, the mark and commands.
 ghost use Rattle.std.specs.Prelude.{◌≡◌, length, map, IfOk};
 ghost use Rattle.std.specs.List.{AllByRecursion};
 ghost use Rattle.rl_world.specs.BookCalls.{IsFresh};
 
-use crate::given::number_in;
+use crate::given::{limits_in, number_in};
 use crate::trouble::Trouble;
-use rl_labels::{DEFAULT_LIMITS, Limits, RawLimits};
+use rl_labels::Limits;
 use rl_session::names::{front_fault_name, push_error_name};
-use rl_session::{Front, FrontError, FrontFault, PushError, RunError, Session, read_front};
+use rl_session::{Front, FrontError, FrontFault, PushError, RunError, Session, Status, read_front};
 use rl_sinks::{Recorder, Sink};
 use std::alloc::{AllocError, Global};
 
@@ -24,8 +24,8 @@ pub(crate) fn answer(alloc: Global, directive: &str, input: &str) -> Result<Stri
 
 fn run(alloc: Global, input: &str) -> Result<String, Trouble> {
     let (words, rest) = input.split_once('\n').ok_or(Trouble::BadInput)?;
-    let limits = limits_in(words)?;
-    let cap = setting(words, "cap", 1_024)? as usize;
+    let (limits, cap) = words.split_once("cap=").unwrap_or((words, "1024"));
+    let (limits, cap) = (limits_in(limits)?, number_in(cap)? as usize);
     let mut reader = rest.as_bytes();
     match read_front(alloc, &mut reader) {
         Ok(front) => play(alloc, limits, cap, front),
@@ -33,49 +33,51 @@ fn run(alloc: Global, input: &str) -> Result<String, Trouble> {
     }
 }
 
-fn limits_in(words: &str) -> Result<Limits, Trouble> {
-    let limits = RawLimits {
-        entries: setting(words, "entries", DEFAULT_LIMITS.entries)?,
-        records: setting(words, "records", DEFAULT_LIMITS.records)?,
-        chunk_age: setting(words, "chunk_age", DEFAULT_LIMITS.chunk_age)?,
-        ..DEFAULT_LIMITS
-    };
-    Limits::check(limits).ok().ok_or(Trouble::BadInput)
-}
-
-// The number that one of the words sets, or another where none does.
-fn setting(words: &str, name: &str, other: u64) -> Result<u64, Trouble> {
-    for word in words.split(' ') {
-        let (key, number) = word.split_once('=').ok_or(Trouble::BadInput)?;
-        if key == name {
-            return number_in(number);
-        }
-    }
-    Ok(other)
+// What a session prints, and what each recorder writes.
+#[derive(Drop)]
+struct Written {
+    printed: Vec<u8>,
+    first: Vec<u8>,
+    second: Vec<u8>,
 }
 
 // What the session prints, what each recorder writes, and how it ends.
 fn play(alloc: Global, limits: Limits, cap: usize, front: Front) -> Result<String, Trouble> {
+    let (printed, first, second) = (Vec::new(alloc), Vec::new(alloc), Vec::new(alloc));
+    let mut written = Written {
+        printed,
+        first,
+        second,
+    };
+    let ended = run_session(alloc, limits, cap, front, &mut written)?;
+    let (printed, first) = (text_of(&written.printed)?, text_of(&written.first)?);
+    let second = text_of(&written.second)?;
+    Ok(format!(in alloc; "{printed}recorded\n{first}recorded\n{second}{ended:?}")?)
+}
+
+fn text_of(bytes: &[u8]) -> Result<&str, Trouble> {
+    str::from_utf8(bytes).or(Err(Trouble::BadInput))
+}
+
+fn run_session(
+    alloc: Global,
+    limits: Limits,
+    cap: usize,
+    front: Front,
+    written: &mut Written,
+) -> Result<Result<Status, RunError>, Trouble> {
     let Front { groups, commands } = front;
     if groups.len() != 1 {
         return Err(Trouble::BadInput);
     }
-    let mut text = Vec::new(alloc);
-    let mut first = Vec::new(alloc);
-    let mut second = Vec::new(alloc);
-    let recorder = Recorder::new(alloc, &mut first, cap);
-    let sinks = of_one_group(alloc, recorder, Recorder::new(alloc, &mut second, 2))?;
-    let ended = {
-        let mut session = Session::open(alloc, limits, groups, sinks)?;
-        session.run_commands(commands.as_str(), &mut text)
-    };
-    for written in [first, second] {
-        text.extend_from_slice(b"recorded\n")?;
-        text.extend_from_slice(&written)?;
-    }
-    let mut text = String::from_utf8(text).ok().ok_or(Trouble::BadInput)?;
-    write!(text, "{ended:?}")?;
-    Ok(text)
+    let recorder = Recorder::new(alloc, &mut written.first, cap);
+    let sinks = of_one_group(
+        alloc,
+        recorder,
+        Recorder::new(alloc, &mut written.second, 2),
+    )?;
+    let mut session = Session::open(alloc, limits, groups, sinks)?;
+    Ok(session.run_commands(commands.as_str(), &mut written.printed))
 }
 
 // The sinks of one group, which has these two.

@@ -1,17 +1,18 @@
 //! Shards: the steps that they are asked, one after another.
 use crate::aggregate::push_partial;
-use crate::given::{entry_in, moment_in, number_in};
+use crate::given::{entry_in, limits_in, moment_in};
+use crate::query::query_in;
 use crate::trouble::Trouble;
-use rl_labels::{DEFAULT_LIMITS, Limits};
+use rl_aggregate::Partial;
 use rl_plain::{PlainList, Shared, TryCopy};
-use rl_query::{Query, parse};
+use rl_query::Query;
 use rl_shard::{Shard, ShardFault, ShardReply, ShardStep};
 use std::alloc::{AllocError, Global};
 
 pub(crate) fn answer(alloc: Global, directive: &str, input: &str) -> Result<String, Trouble> {
     match directive {
         "steps" => steps(alloc, input),
-        "fault" => faults(alloc, input),
+        "fault" => fault(alloc, input),
         _ => Err(Trouble::NoSuchDirective),
     }
 }
@@ -29,22 +30,6 @@ fn steps(alloc: Global, input: &str) -> Result<String, Trouble> {
     }
     writeln!(text, "{} records", shard.journal_len())?;
     Ok(text)
-}
-
-// The default limits, but those that are given, as `entries=2`.
-fn limits_in(text: &str) -> Result<Limits, Trouble> {
-    let mut raw = DEFAULT_LIMITS;
-    for limit in text.split_whitespace() {
-        let (name, number) = limit.split_once('=').ok_or(Trouble::BadInput)?;
-        let number = number_in(number)?;
-        match name {
-            "entries" => raw.entries = number,
-            "chunk_age" => raw.chunk_age = number,
-            "records" => raw.records = number,
-            _ => return Err(Trouble::BadInput),
-        }
-    }
-    Limits::check(raw).ok().ok_or(Trouble::BadInput)
 }
 
 // Applies a step, and writes its answer.
@@ -76,7 +61,7 @@ fn queries_in(alloc: Global, text: &str) -> Result<Vec<Query>, Trouble> {
     let mut queries = Vec::new(alloc);
     for query in text.split("; ") {
         if !query.is_empty() {
-            queries.push(parse(alloc, query).ok().ok_or(Trouble::BadInput)?)?;
+            queries.push(query_in(alloc, query)?)?;
         }
     }
     Ok(queries)
@@ -101,31 +86,37 @@ fn push_applied(
     queries: &[Query],
 ) -> Result<(), Trouble> {
     match shard.apply(step) {
-        Err(fault) => write!(text, "{fault:?}")?,
+        Err(fault) => writeln!(text, "{fault:?}")?,
         Ok((place, ShardReply::Collected(partials))) => {
-            let many = partials.len();
-            write!(text, "{place} Collected {many}")?;
-            for (partial, query) in partials.as_slice().iter().zip(queries) {
-                text.push_str(" | ")?;
-                push_partial(text, alloc, query, partial.get(), ", ")?;
-            }
+            push_collected(text, alloc, place, partials.as_slice(), queries)?;
         }
-        Ok((place, reply)) => write!(text, "{place} {reply:?}")?,
+        Ok((place, reply)) => writeln!(text, "{place} {reply:?}")?,
+    }
+    Ok(())
+}
+
+fn push_collected(
+    text: &mut String,
+    alloc: Global,
+    place: u64,
+    partials: &[Shared<Partial>],
+    queries: &[Query],
+) -> Result<(), Trouble> {
+    write!(text, "{place} Collected {}", partials.len())?;
+    for (partial, query) in partials.iter().zip(queries) {
+        text.push_str(" | ")?;
+        push_partial(text, alloc, query, partial.get(), ", ")?;
     }
     text.push('\n')?;
     Ok(())
 }
 
-// What faults are shown as.
-fn faults(alloc: Global, input: &str) -> Result<String, Trouble> {
-    let mut text = String::new(alloc);
-    for name in input.split('\n') {
-        let fault = match name {
-            "JournalFull" => ShardFault::JournalFull,
-            "Memory" => ShardFault::from(AllocError),
-            _ => return Err(Trouble::BadInput),
-        };
-        writeln!(text, "{fault}")?;
-    }
-    Ok(text)
+// What a fault is shown as.
+fn fault(alloc: Global, name: &str) -> Result<String, Trouble> {
+    let fault = match name {
+        "JournalFull" => ShardFault::JournalFull,
+        "Memory" => ShardFault::from(AllocError),
+        _ => return Err(Trouble::BadInput),
+    };
+    Ok(format!(in alloc; "{fault}")?)
 }

@@ -2,9 +2,11 @@
 //!
 //! An evaluation is `moment place group`, and behind it `; ` and `name annotations outcome` for each rule, where the
 //! outcome is samples, or the cause of its failure.
+use crate::compared::matched;
 use crate::given::{labels_in, moment_in, number_in};
-use crate::rules::{push_compared, samples_in};
+use crate::rules::{sample_in, samples_in};
 use crate::trouble::Trouble;
+use rl_aggregate::Sample;
 use rl_plain::{PlainList, PlainText};
 use rl_rules::{Alert, Cause, Evaluation, Phase, RuleKind, RuleOutcome, RuleResult};
 use rl_sinks::{Recorder, Sink, SinkFault, SinkKind, evaluation_text};
@@ -12,46 +14,13 @@ use std::alloc::{AllocError, AllocFailed, Global};
 
 pub(crate) fn answer(alloc: Global, directive: &str, input: &str) -> Result<String, Trouble> {
     match directive {
-        "evaluations" => evaluations(alloc, input),
+        "evaluations" => matched(alloc, input, |text| evaluation_in(alloc, text)),
         "text" => text(alloc, input),
         "recorder" => recorder(alloc, input),
         "boxed" => boxed(alloc, input),
         "fault" => fault(alloc),
         _ => Err(Trouble::NoSuchDirective),
     }
-}
-
-// The first line's evaluation beside that of each line, in whole and result by result.
-fn evaluations(alloc: Global, input: &str) -> Result<String, Trouble> {
-    let (first, _) = input.split_once('\n').unwrap_or((input, ""));
-    let one = evaluation_in(alloc, first)?;
-    let mut text = String::new(alloc);
-    for line in input.split('\n') {
-        let other = evaluation_in(alloc, line)?;
-        push_compared(&mut text, "Evaluation", &one, &other)?;
-        let (results, others) = (one.outcomes.as_slice(), other.outcomes.as_slice());
-        for (made, other) in results.iter().zip(others) {
-            push_results(&mut text, made, other)?;
-        }
-        text.push('\n')?;
-    }
-    Ok(text)
-}
-
-fn push_results(text: &mut String, one: &RuleResult, other: &RuleResult) -> Result<(), Trouble> {
-    push_compared(text, ", RuleResult", one, other)?;
-    push_compared(text, ", RuleOutcome", &one.outcome, &other.outcome)?;
-    let outcomes = (&one.outcome, &other.outcome);
-    if let (RuleOutcome::Failed(cause), RuleOutcome::Failed(other)) = outcomes {
-        push_compared(text, ", Cause", cause, other)?;
-    }
-    if let (RuleOutcome::Alerts(alerts), RuleOutcome::Alerts(others)) = outcomes {
-        for (alert, other) in alerts.as_slice().iter().zip(others.as_slice()) {
-            push_compared(text, ", Alert", alert, other)?;
-            push_compared(text, ", Phase", &alert.phase, &other.phase)?;
-        }
-    }
-    Ok(())
 }
 
 // What each kind of sink is told of an evaluation.
@@ -129,17 +98,23 @@ fn evaluation_in(alloc: Global, line: &str) -> Result<Evaluation, Trouble> {
     let (head, results) = line.split_once("; ").unwrap_or((line, ""));
     let (moment, head) = head.split_once(' ').ok_or(Trouble::BadInput)?;
     let (place, group) = head.split_once(' ').ok_or(Trouble::BadInput)?;
-    let places = vec![in alloc; number_in(place)?]?;
-    let mut outcomes = Vec::new(alloc);
-    for part in results.split("; ").filter(|part| !part.is_empty()) {
-        outcomes.push(result_in(alloc, part)?)?;
-    }
+    let (t, place) = (moment_in(moment)?, number_in(place)?);
+    let places = vec![in alloc; place]?;
+    let group = PlainText::from_str(alloc, group)?;
     Ok(Evaluation {
-        group: PlainText::from_str(alloc, group)?,
-        t: moment_in(moment)?,
+        group,
+        t,
         places: PlainList::from_vec(places),
-        outcomes: PlainList::from_vec(outcomes),
+        outcomes: results_in(alloc, results)?,
     })
+}
+
+fn results_in(alloc: Global, text: &str) -> Result<PlainList<RuleResult>, Trouble> {
+    let mut results = Vec::new(alloc);
+    for result in text.split_terminator("; ") {
+        results.push(result_in(alloc, result)?)?;
+    }
+    Ok(PlainList::from_vec(results))
 }
 
 fn result_in(alloc: Global, text: &str) -> Result<RuleResult, Trouble> {
@@ -149,20 +124,23 @@ fn result_in(alloc: Global, text: &str) -> Result<RuleResult, Trouble> {
         Some(alerts) => (RuleKind::Alerting, alerts),
         None => (RuleKind::Recording, outcome),
     };
-    let outcome = match outcome.trim_start() {
-        "PipelineError" => RuleOutcome::Failed(Cause::PipelineError),
-        "SameLabels" => RuleOutcome::Failed(Cause::SameLabels),
-        "LimitExceeded" => RuleOutcome::Failed(Cause::LimitExceeded),
-        samples if matches!(kind, RuleKind::Recording) => RuleOutcome::Samples(samples_in(
-            alloc, samples,
-        )?),
-        alerts => RuleOutcome::Alerts(alerts_in(alloc, alerts)?),
-    };
+    let name = PlainText::from_str(alloc, name)?;
+    let annotations = labels_in(alloc, annotations)?;
     Ok(RuleResult {
         kind,
-        name: PlainText::from_str(alloc, name)?,
-        annotations: labels_in(alloc, annotations)?,
-        outcome,
+        name,
+        annotations,
+        outcome: outcome_in(alloc, kind, outcome.trim_start())?,
+    })
+}
+
+fn outcome_in(alloc: Global, kind: RuleKind, text: &str) -> Result<RuleOutcome, Trouble> {
+    Ok(match (text, kind) {
+        ("PipelineError", _) => RuleOutcome::Failed(Cause::PipelineError),
+        ("SameLabels", _) => RuleOutcome::Failed(Cause::SameLabels),
+        ("LimitExceeded", _) => RuleOutcome::Failed(Cause::LimitExceeded),
+        (_, RuleKind::Recording) => RuleOutcome::Samples(samples_in(alloc, text)?),
+        (_, RuleKind::Alerting) => RuleOutcome::Alerts(alerts_in(alloc, text)?),
     })
 }
 
@@ -179,17 +157,18 @@ fn alert_in(alloc: Global, word: &str) -> Result<Alert, Trouble> {
     let (phase, rest) = word.split_once('@').ok_or(Trouble::BadInput)?;
     let (since, rest) = rest.split_once('@').ok_or(Trouble::BadInput)?;
     let (fired, sample) = rest.split_once('@').ok_or(Trouble::BadInput)?;
-    let mut samples = samples_in(alloc, sample)?.into_vec();
-    let sample = samples.pop().ok_or(Trouble::BadInput)?;
+    let (since, phase) = (moment_in(since)?, phase_in(phase)?);
+    let fired = match fired {
+        "-" => None,
+        _ => Some(moment_in(fired)?),
+    };
+    let Sample { labels, value } = sample_in(alloc, sample)?;
     Ok(Alert {
-        labels: sample.labels,
-        value: sample.value,
-        since: moment_in(since)?,
-        fired: match fired {
-            "-" => None,
-            _ => Some(moment_in(fired)?),
-        },
-        phase: phase_in(phase)?,
+        labels,
+        value,
+        since,
+        fired,
+        phase,
     })
 }
 

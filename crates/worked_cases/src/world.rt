@@ -10,7 +10,7 @@ ghost use Rattle.rl_sinks.specs.RecorderState.{recorder_state};
 ghost use Rattle.rl_world.specs.BookCalls.{IsFresh};
 ghost use Rattle.rl_world.specs.Slots.{most_shards};
 
-use crate::given::number_in;
+use crate::given::{number_in, set_limit};
 use crate::trouble::Trouble;
 use crate::world_steps::{Asking, tell_lines};
 use rl_labels::{DEFAULT_LIMITS, Limits};
@@ -83,10 +83,7 @@ fn settings_in<'a>(words: &'a str) -> Result<Settings<'a>, Trouble> {
         match name {
             "shards" => shards = number,
             "slot" => slot = number,
-            "entries" => raw.entries = number,
-            "chunk_age" => raw.chunk_age = number,
-            "records" => raw.records = number,
-            _ => return Err(Trouble::BadInput),
+            _ => set_limit(&mut raw, name, number)?,
         }
     }
     let limits = Limits::check(raw).ok().ok_or(Trouble::BadInput)?;
