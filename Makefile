@@ -1,16 +1,21 @@
-# run: proves, builds and runs the program on its example. try: the same without proof.
-# test: the whole gate. scripts: its last part, which plays the scripts to the programs that were built last.
+# try: runs the program on FILE without a proof, in a minute or two. run: proves, builds and runs it on its example.
 # check: proves and builds the rule checker, and runs it on a file that a ruler takes and on its example, which none takes.
-.PHONY: run try test scripts check
+# test: the whole gate. scripts: its last part, which plays the scripts to the programs that were built last.
+# wrong: tries the wrong bodies that the gate leaves out.
+.PHONY: try run check test scripts wrong
 
 PROGRAM = crates/rule_shell
 CHECKER = crates/rule_check
+FILE = $(PROGRAM)/stdin
+
+try:
+	@cd $(PROGRAM) && rt try < $(abspath $(FILE))
 
 run:
 	@cd $(PROGRAM) && rt run < stdin
 
-try:
-	@cd $(PROGRAM) && rt try < stdin
+check:
+	@cd $(CHECKER) && rt run < ../../scripts/check/two_groups.in && { out/rule_check < stdin || [ $$? -eq 1 ]; }
 
 test:
 	@scripts/gate $(PROGRAM)/out/rule_shell $(CHECKER)/out/rule_check
@@ -19,5 +24,5 @@ scripts:
 	@scripts/run $(PROGRAM)/out/rule_shell
 	@scripts/run $(CHECKER)/out/rule_check scripts/check
 
-check:
-	@cd $(CHECKER) && rt run < ../../scripts/check/two_groups.in && { out/rule_check < stdin || [ $$? -eq 1 ]; }
+wrong:
+	@scripts/wrong

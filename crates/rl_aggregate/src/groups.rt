@@ -13,7 +13,7 @@ use std::collections::BTreeMap;
 use std::marker::Model;
 
 // Values by the labels of groups. Contracts see a finite map.
-#[derive(Debug, Drop)]
+#[derive(Drop)]
 pub(crate) struct Groups {
     by_labels: BTreeMap<Labels, Fraction>,
 }

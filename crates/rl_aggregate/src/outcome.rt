@@ -8,21 +8,21 @@ use rl_query::RangeFunction;
 use std::alloc::AllocError;
 
 /// A value: a fraction as it was computed, never reduced.
-#[derive(Clone, Copy, Debug, PartialEq, Eq)]
+#[derive(Clone, Copy, PartialEq, Eq)]
 pub struct Fraction {
     pub numerator: u128,
     pub denominator: u128,
 }
 
 /// An element of a vector.
-#[derive(Debug, Drop, PartialEq, Eq)]
+#[derive(Drop, PartialEq, Eq)]
 pub struct Sample {
     pub labels: Labels,
     pub value: Fraction,
 }
 
 /// What a query gives at a moment.
-#[derive(Debug, Drop)]
+#[derive(Drop)]
 pub enum Outcome {
     /// The elements, in the order of their label sets.
     Vector(PlainList<Sample>),

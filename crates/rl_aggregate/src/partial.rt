@@ -11,7 +11,7 @@ use rl_plain::TryCopy;
 use std::alloc::{AllocError, Global};
 
 /// What the elements of a term's range add up to.
-#[derive(Debug, Drop)]
+#[derive(Drop)]
 pub struct Partial {
     /// How many elements have an error.
     pub errors: u64,

@@ -5,7 +5,7 @@ use rl_plain::{Same, TryCopy};
 use std::alloc::AllocError;
 
 /// How many elements there are, and how many bytes their lines have.
-#[derive(Clone, Copy, Debug)]
+#[derive(Clone, Copy)]
 pub struct Total {
     pub count: u64,
     pub bytes: u64,

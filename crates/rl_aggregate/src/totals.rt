@@ -24,7 +24,7 @@ use std::marker::Model;
 const NOTHING: Total = Total { count: 0, bytes: 0 };
 
 /// Totals by label set. Contracts see a finite map.
-#[derive(Debug, Drop)]
+#[derive(Drop)]
 pub struct Totals {
     alloc: Global,
     by_labels: BTreeMap<Labels, Total>,

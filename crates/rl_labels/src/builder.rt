@@ -17,7 +17,7 @@ use std::marker::Model;
 const ROOM: usize = 8;
 
 /// A label set that grows label by label, and whose text is made once, at the end. Contracts see the set.
-#[derive(Debug, Drop)]
+#[derive(Drop)]
 pub struct LabelsBuilder {
     labels: Vec<(ShortText, ShortText)>,
 }

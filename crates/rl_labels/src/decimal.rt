@@ -14,7 +14,7 @@ use std::marker::Model;
 use thiserror::Error;
 
 /// The text is no quantity of this kind.
-#[derive(Clone, Copy, Debug, Drop, Error, PartialEq, Eq)]
+#[derive(Clone, Copy, Debug, Drop, Error)]
 #[error("not a quantity of this kind")]
 pub struct NotOne;
 

@@ -13,7 +13,7 @@ use thiserror::Error;
 pub const MAX_LINE_LEN: usize = 65_535;
 
 /// A log entry. Entries are ordered by label text, timestamp and line bytes.
-#[derive(Debug, Drop, PartialEq, Eq, PartialOrd, Hash)]
+#[derive(Drop, PartialEq, Eq, PartialOrd, Hash)]
 pub struct Entry {
     pub labels: Labels,
     pub timestamp: Ns,
@@ -23,7 +23,7 @@ pub struct Entry {
 }
 
 /// Why an entry is refused, the lowest first.
-#[derive(Clone, Copy, Debug, Drop, Error, PartialEq, Eq)]
+#[derive(Clone, Copy, Debug, Drop, Error)]
 pub enum EntryFault {
     #[error("a stream has at least one label")]
     NoLabels,
@@ -32,8 +32,7 @@ pub enum EntryFault {
 }
 
 /// A refused entry, handed back with its fault.
-#[derive(Debug, Drop, Error)]
-#[error("{fault}")]
+#[derive(Drop)]
 pub struct RefusedEntry {
     pub fault: EntryFault,
     pub labels: Labels,

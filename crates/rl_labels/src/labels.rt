@@ -32,7 +32,7 @@ pub const MAX_TEXT_LEN: usize = 4096;
 const ESCAPES: [(u8, u8); 3] = [(b'\\', b'\\'), (b'"', b'"'), (b'\n', b'n')];
 
 /// Why pairs make no label set, the lowest first.
-#[derive(Clone, Copy, Debug, Drop, Error, PartialEq, Eq)]
+#[derive(Clone, Copy, Debug, Drop, Error)]
 pub enum LabelsFault {
     #[error("a label name is not [a-zA-Z_][a-zA-Z0-9_]*, or is __error__")]
     BadName,
@@ -340,7 +340,7 @@ fn push_label(text: &mut String, name: &str, value: &str) -> Result<(), AllocErr
 }
 
 // The labels by rising name, and their canonical text.
-#[derive(Debug, Drop)]
+#[derive(Drop)]
 struct Parts {
     labels: PlainList<(PlainText, PlainText)>,
     text: PlainText,
@@ -348,7 +348,7 @@ struct Parts {
 
 /// A label set, shared by its copies. It is compared, ordered and hashed by its canonical text, as in
 /// `{app="a",job="b"}`.
-#[derive(Debug, Drop)]
+#[derive(Drop)]
 pub struct Labels {
     parts: Shared<Parts>,
 }

@@ -49,7 +49,7 @@ impl fmt::Display for LimitField {
 }
 
 /// Limits as they were asked for. Ages and periods are in seconds.
-#[derive(Clone, Copy, Debug)]
+#[derive(Clone, Copy)]
 pub struct RawLimits {
     /// The most entries that a shard holds, 1 to 67,108,864.
     pub entries: u64,
@@ -82,7 +82,7 @@ pub const DEFAULT_LIMITS: RawLimits = RawLimits {
 };
 
 /// Limits that are in their ranges.
-#[derive(Clone, Copy, Debug)]
+#[derive(Clone, Copy)]
 pub struct Limits {
     pub entries: u64,
     pub chunk_entries: u64,

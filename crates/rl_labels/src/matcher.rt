@@ -27,7 +27,7 @@ pub enum MatchOp {
 }
 
 /// A label matcher, as in `app="a"`. A missing label reads as the empty text.
-#[derive(Debug, Drop, PartialEq, Eq, PartialOrd, Hash)]
+#[derive(Drop, PartialEq, Eq, PartialOrd, Hash)]
 pub struct Matcher {
     pub name: PlainText,
     pub op: MatchOp,
@@ -37,7 +37,7 @@ pub struct Matcher {
 }
 
 /// Why a matcher is refused, the lowest first.
-#[derive(Clone, Copy, Debug, Drop, Error, PartialEq, Eq)]
+#[derive(Clone, Copy, Debug, Drop, Error)]
 pub enum MatcherFault {
     #[error("a label name is not [a-zA-Z_][a-zA-Z0-9_]*")]
     BadName,

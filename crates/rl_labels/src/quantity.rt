@@ -155,14 +155,14 @@ fn size_unit(text: &[u8]) -> Option<SizeUnit>
 }
 
 /// A part of a duration.
-#[derive(Clone, Copy, Debug, Default, PartialEq, Eq)]
+#[derive(Clone, Copy, Default, PartialEq, Eq)]
 pub struct DurationPart {
     pub number: Decimal,
     pub unit: DurationUnit,
 }
 
 /// A size as it is written.
-#[derive(Clone, Copy, Debug, PartialEq, Eq)]
+#[derive(Clone, Copy, PartialEq, Eq)]
 pub struct Size {
     pub number: Decimal,
     pub unit: SizeUnit,
@@ -275,7 +275,7 @@ fn without_space(text: &[u8]) -> &[u8]
 const MOST_PARTS: usize = 8;
 
 /// A duration as it is written: 1 to 8 parts, which are added. Contracts see them.
-#[derive(Debug, Drop)]
+#[derive(Drop)]
 pub struct Duration {
     parts: ArrayVec<DurationPart, 8>,
 }
@@ -383,7 +383,7 @@ fn read_parts(text: &[u8], parts: &mut ArrayVec<DurationPart, 8>) -> bool
 }
 
 /// A quantity that a label's value is: one that may have a sign, as none in a query has.
-#[derive(Debug, Drop)]
+#[derive(Drop)]
 pub struct Signed<Q> {
     pub is_negative: bool,
     pub quantity: Q,

@@ -7,12 +7,12 @@ use std::alloc::{AllocError, Global};
 use std::marker::Model;
 
 /// A text, which lies in the value itself where it is short. Contracts see its bytes.
-#[derive(Debug, Drop)]
+#[derive(Drop)]
 pub(crate) struct ShortText {
     form: Form,
 }
 
-#[derive(Debug, Drop)]
+#[derive(Drop)]
 enum Form {
     Short(ArrayString<24>),
     Long(PlainText),

@@ -5,12 +5,12 @@ use rl_plain::PlainText;
 use std::marker::Model;
 
 /// A text that is lent, or has memory of its own. Contracts see its bytes.
-#[derive(Debug, Drop)]
+#[derive(Drop)]
 pub(crate) struct LentText<'a> {
     form: Form<'a>,
 }
 
-#[derive(Debug, Drop)]
+#[derive(Drop)]
 enum Form<'a> {
     Lent(&'a str),
     Own(PlainText),

@@ -207,7 +207,7 @@ fn behind_pair(text: &str) -> &str
 }
 
 /// Bytes that go on with each other.
-#[derive(Clone, Copy, Debug)]
+#[derive(Clone, Copy)]
 pub enum Run {
     /// What stands between pairs.
     Blank,

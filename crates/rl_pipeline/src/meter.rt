@@ -6,7 +6,7 @@ use std::marker::Model;
 
 /// How many lines were sent through pipelines, and how many buckets of windows were visited. The counters stop at the
 /// greatest number of 64 bits. Contracts see both.
-#[derive(Clone, Copy, Debug, PartialEq, Eq)]
+#[derive(Clone, Copy)]
 pub struct Meter {
     runs: u64,
     visits: u64,

@@ -10,7 +10,7 @@ use std::hash::{Hash, Hasher};
 use std::marker::Model;
 
 /// A list inside a plain type. It keeps the allocator that its `Vec` was made with.
-#[derive(Debug, Drop)]
+#[derive(Drop)]
 pub struct PlainList<T> {
     items: Vec<T>,
 }

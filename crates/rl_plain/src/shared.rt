@@ -8,7 +8,7 @@ use std::marker::Model;
 use std::sync::Arc;
 
 /// A value in a block of its own, with an atomic count of its owners. It is never changed in place.
-#[derive(Debug, Drop)]
+#[derive(Drop)]
 pub struct Shared<T> {
     value: Arc<T>,
 }

@@ -14,7 +14,7 @@ use std::hash::{Hash, Hasher};
 use std::marker::Model;
 
 /// A text inside a plain type, UTF-8. It keeps the allocator that its `String` was made with.
-#[derive(Debug, Drop)]
+#[derive(Drop)]
 pub struct PlainText {
     text: String,
 }

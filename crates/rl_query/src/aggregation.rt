@@ -8,7 +8,7 @@ use rl_plain::{PlainList, PlainText, Same, TryCopy};
 use std::alloc::AllocError;
 
 /// What a vector aggregation makes of each group of elements (LogQL).
-#[derive(Clone, Copy, Debug, PartialEq, Eq)]
+#[derive(Clone, Copy, PartialEq, Eq)]
 pub enum VectorOperator {
     /// The sum of the values.
     Sum,
@@ -23,7 +23,7 @@ pub enum VectorOperator {
 }
 
 /// Which elements are in one group (LogQL).
-#[derive(Debug, Drop, PartialEq, Eq)]
+#[derive(Drop, PartialEq, Eq)]
 pub enum Grouping {
     /// All elements.
     All,
@@ -34,7 +34,7 @@ pub enum Grouping {
 }
 
 /// A vector aggregation.
-#[derive(Debug, Drop, PartialEq, Eq)]
+#[derive(Drop, PartialEq, Eq)]
 pub struct Aggregation {
     pub operator: VectorOperator,
     pub grouping: Grouping,
@@ -43,7 +43,7 @@ pub struct Aggregation {
 }
 
 /// A comparison with a number: elements for which it is false are left out (LogQL).
-#[derive(Debug, Drop, PartialEq, Eq)]
+#[derive(Drop, PartialEq, Eq)]
 pub struct Threshold {
     pub comparison: Comparison,
     /// Below 1,000,000,000, with at most 6 digits behind its point.

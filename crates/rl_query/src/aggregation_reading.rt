@@ -24,7 +24,7 @@ use rl_plain::{PlainList, PlainText, TryCopy};
 use std::alloc::Global;
 
 /// What stands before the term in a vector aggregation.
-#[derive(Debug, Drop)]
+#[derive(Drop)]
 pub struct Front {
     pub operator: VectorOperator,
     /// The grouping before the parentheses.

@@ -10,7 +10,7 @@ use crate::stages::Stage;
 use rl_plain::PlainList;
 
 /// A range.
-#[derive(Debug, Drop)]
+#[derive(Drop)]
 pub struct DraftRange {
     pub selector: Selector,
     pub stages: Vec<Stage>,
@@ -18,7 +18,7 @@ pub struct DraftRange {
 }
 
 /// A term.
-#[derive(Debug, Drop)]
+#[derive(Drop)]
 pub struct DraftTerm {
     /// The outermost first.
     pub aggregations: Vec<Aggregation>,
@@ -27,7 +27,7 @@ pub struct DraftTerm {
 }
 
 /// A query.
-#[derive(Debug, Drop)]
+#[derive(Drop)]
 pub struct DraftQuery {
     pub left: DraftTerm,
     pub over: Option<DraftTerm>,

@@ -20,7 +20,7 @@ pub enum LineOp {
 }
 
 /// A line filter, as in `|= "error"`.
-#[derive(Debug, Drop, PartialEq, Eq)]
+#[derive(Drop, PartialEq, Eq)]
 pub struct LineFilter {
     pub op: LineOp,
     pub text: PlainText,
@@ -28,7 +28,7 @@ pub struct LineFilter {
 }
 
 /// The lines that a delete request covers: those of a selector that pass each line filter, of which there are at most 256.
-#[derive(Debug, Drop, PartialEq, Eq)]
+#[derive(Drop, PartialEq, Eq)]
 pub struct Sieve {
     pub selector: Selector,
     pub filters: PlainList<LineFilter>,

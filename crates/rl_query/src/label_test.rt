@@ -10,14 +10,14 @@ use std::alloc::{AllocError, Global};
 use std::marker::Model;
 
 /// How two tests are joined.
-#[derive(Clone, Copy, Debug, PartialEq, Eq)]
+#[derive(Clone, Copy, PartialEq, Eq)]
 pub enum Join {
     And,
     Or,
 }
 
 /// A test of one label.
-#[derive(Debug, Drop, PartialEq, Eq)]
+#[derive(Drop, PartialEq, Eq)]
 pub enum LabelTest {
     /// The label's text, as in `a="x"`.
     Text(MatcherTest),
@@ -27,13 +27,13 @@ pub enum LabelTest {
 
 /// Tests of labels, as in `a="x" and (b!="y" or c=~"z.*")`.
 #[cycle(tests)]
-#[derive(Debug, Drop)]
+#[derive(Drop)]
 pub struct LabelTests {
     node: Node,
 }
 
 #[cycle(tests)]
-#[derive(Debug, Drop)]
+#[derive(Drop)]
 enum Node {
     One(LabelTest),
     Joined(Join, Box<LabelTests>, Box<LabelTests>),

@@ -102,7 +102,7 @@ fn token_at(alloc: Global, text: &str) -> Result<(Token, &str), AllocError>
 }
 
 /// Bytes that go on with each other.
-#[derive(Clone, Copy, Debug)]
+#[derive(Clone, Copy)]
 pub enum Run {
     Word,
     Number,

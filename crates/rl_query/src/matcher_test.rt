@@ -7,7 +7,7 @@ use rl_plain::{Same, TryCopy};
 use std::alloc::AllocError;
 
 /// A matcher as a test: its name is no word of the grammar of tests.
-#[derive(Debug, Drop, PartialEq, Eq)]
+#[derive(Drop, PartialEq, Eq)]
 pub struct MatcherTest {
     pub matcher: Matcher,
     ghost free: { IsTrue (not (is_taken matcher.name)) },

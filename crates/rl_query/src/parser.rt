@@ -64,7 +64,7 @@ pub const LATER_WORDS: [&str; 24] = [
 ];
 
 /// Where in a query a token was looked for.
-#[derive(Clone, Copy, Debug, PartialEq, Eq)]
+#[derive(Clone, Copy)]
 pub enum Position {
     /// At the start of a query, also in parentheses.
     Start,

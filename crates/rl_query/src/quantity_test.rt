@@ -9,7 +9,7 @@ use rl_plain::{PlainText, Same, TryCopy};
 use std::alloc::AllocError;
 
 /// How a number is compared with another (LogQL).
-#[derive(Clone, Copy, Debug, PartialEq, Eq)]
+#[derive(Clone, Copy, PartialEq, Eq)]
 pub enum Comparison {
     /// `==`, which label tests also write `=`.
     Equal,
@@ -21,7 +21,7 @@ pub enum Comparison {
 }
 
 /// A quantity as a query writes it: without a sign, and without a space.
-#[derive(Debug, Drop, PartialEq, Eq)]
+#[derive(Drop, PartialEq, Eq)]
 pub enum Quantity {
     /// Without a unit.
     Number(Decimal),
@@ -30,7 +30,7 @@ pub enum Quantity {
 }
 
 /// A label whose value is a quantity is compared with another, as in `took>1.5s`.
-#[derive(Debug, Drop, PartialEq, Eq)]
+#[derive(Drop, PartialEq, Eq)]
 pub struct QuantityTest {
     pub name: PlainText,
     pub comparison: Comparison,

@@ -11,7 +11,7 @@ use rl_plain::{PlainList, Same, TryCopy};
 use std::alloc::AllocError;
 
 /// A metric query: a term, or the ratio of two, whose elements are perhaps compared with a number. Both terms together have at most 256 stages and 256 label tests.
-#[derive(Debug, Drop, PartialEq, Eq)]
+#[derive(Drop, PartialEq, Eq)]
 pub struct Query {
     pub left: Term,
     /// What it is divided by.
@@ -22,7 +22,7 @@ pub struct Query {
 }
 
 /// At most 8 vector aggregations around a range aggregation. Its tests keep to the parentheses that these leave: at most 64 are open at once.
-#[derive(Debug, Drop, PartialEq, Eq)]
+#[derive(Drop, PartialEq, Eq)]
 pub struct Term {
     /// The outermost first.
     pub aggregations: PlainList<Aggregation>,
@@ -86,7 +86,7 @@ impl RangeFunction {
 }
 
 /// The lines of a selector's streams that go through each stage, over a range. There are at most 256 stages, one parser and 256 label tests.
-#[derive(Debug, Drop, PartialEq, Eq)]
+#[derive(Drop, PartialEq, Eq)]
 pub struct LogRange {
     pub selector: Selector,
     pub stages: PlainList<Stage>,
@@ -99,7 +99,7 @@ pub struct LogRange {
 }
 
 /// A stream selector: label matchers, of which at least one refuses a stream without its label.
-#[derive(Debug, Drop, PartialEq, Eq)]
+#[derive(Drop, PartialEq, Eq)]
 pub struct Selector {
     pub matchers: PlainList<Matcher>,
     ghost real: { IsTrue (has_real_matcher matchers) },

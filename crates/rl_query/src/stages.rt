@@ -14,7 +14,7 @@ pub enum Parser {
 }
 
 /// A stage of a range: each line goes through all of them, in their order.
-#[derive(Debug, Drop, PartialEq, Eq)]
+#[derive(Drop, PartialEq, Eq)]
 pub enum Stage {
     /// Lines that do not pass are left out.
     Filter(LineFilter),

@@ -17,7 +17,7 @@ use crate::token::Sign;
 use std::alloc::{AllocError, Global};
 
 /// What may stand at a place without parentheses.
-#[derive(Clone, Copy, Debug, PartialEq, Eq)]
+#[derive(Clone, Copy)]
 pub enum Level {
     /// Any tests.
     Tests,

@@ -14,7 +14,7 @@ pub(crate) const ESCAPES: [(u8, u8); 5] = [
 ];
 
 /// A sign of the grammar.
-#[derive(Clone, Copy, Debug, PartialEq, Eq)]
+#[derive(Clone, Copy, PartialEq, Eq)]
 pub enum Sign {
     OpenBrace,
     CloseBrace,
@@ -87,7 +87,7 @@ impl Sign {
 }
 
 /// A token of a query text.
-#[derive(Debug, Drop, PartialEq, Eq)]
+#[derive(Drop, PartialEq, Eq)]
 pub enum Token {
     /// A name or a keyword.
     Word(PlainText),
@@ -102,7 +102,7 @@ pub enum Token {
 }
 
 /// A token and the byte at which it begins.
-#[derive(Debug, Drop)]
+#[derive(Drop)]
 pub struct Lexeme {
     pub token: Token,
     pub place: usize,

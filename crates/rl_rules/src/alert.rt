@@ -7,7 +7,7 @@ use rl_plain::{Same, TryCopy};
 use std::alloc::AllocError;
 
 /// An alert of a rule: an element that its vector has, or had.
-#[derive(Debug, Drop, PartialEq, Eq)]
+#[derive(Drop, PartialEq, Eq)]
 pub struct Alert {
     /// The element's labels, the rule's over them, and the rule's name as `alertname`.
     pub labels: Labels,

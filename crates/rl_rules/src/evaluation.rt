@@ -9,7 +9,7 @@ use rl_plain::{PlainList, PlainText, Same, TryCopy};
 use std::alloc::AllocError;
 
 /// An evaluation of a group at a moment.
-#[derive(Debug, Drop, PartialEq, Eq)]
+#[derive(Drop, PartialEq, Eq)]
 pub struct Evaluation {
     /// The name of the group.
     pub group: PlainText,
@@ -21,7 +21,7 @@ pub struct Evaluation {
 }
 
 /// What a rule gave, with what a sink says of the rule.
-#[derive(Debug, Drop, PartialEq, Eq)]
+#[derive(Drop, PartialEq, Eq)]
 pub struct RuleResult {
     pub kind: RuleKind,
     pub name: PlainText,
@@ -30,7 +30,7 @@ pub struct RuleResult {
 }
 
 /// What a rule gave.
-#[derive(Debug, Drop, PartialEq, Eq)]
+#[derive(Drop, PartialEq, Eq)]
 pub enum RuleOutcome {
     /// The recorded samples, in the order of their label sets.
     Samples(PlainList<Sample>),

@@ -7,7 +7,7 @@ use rl_query::Query;
 use std::alloc::AllocError;
 
 /// A group of rules, evaluated one after another at one moment.
-#[derive(Debug, Drop, PartialEq, Eq)]
+#[derive(Drop, PartialEq, Eq)]
 pub struct Group {
     pub name: PlainText,
     /// From one evaluation to the next, in seconds.
@@ -18,7 +18,7 @@ pub struct Group {
 }
 
 /// A rule: a query under a name.
-#[derive(Debug, Drop, PartialEq, Eq)]
+#[derive(Drop, PartialEq, Eq)]
 pub struct Rule {
     pub kind: RuleKind,
     /// The name of the metric that is recorded, or of the alerts.

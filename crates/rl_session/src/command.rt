@@ -7,7 +7,7 @@ ghost use Rattle.rl_session.specs.Command.{Asked, asked, ticks, cut_at, time_of,
 use rl_labels::{Decimal, Ns, number_of};
 
 /// What a command line asks for.
-#[derive(Clone, Copy, Debug, PartialEq, Eq)]
+#[derive(Clone, Copy, Debug)]
 pub enum Command<'a> {
     /// To take the entries of a JSON body.
     Push(&'a str),

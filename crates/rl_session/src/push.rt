@@ -16,7 +16,7 @@ use std::alloc::Global;
 use thiserror::Error;
 
 /// Why a push body is refused: the first fault that it has.
-#[derive(Clone, Copy, Debug, Drop, Error, PartialEq, Eq)]
+#[derive(Clone, Copy, Debug, Drop, Error)]
 pub enum PushFault {
     #[error("not JSON in UTF-8")]
     NotJson,

@@ -72,7 +72,7 @@ impl<T: Drop> From<AllocFailed<T>> for RunError {
 }
 
 // What became of a command.
-#[derive(Clone, Copy, Debug, PartialEq, Eq)]
+#[derive(Clone, Copy)]
 enum Answer {
     Taken,
     // Wholly or in part.

@@ -2,7 +2,7 @@
 use crate::step::ShardReply;
 
 // Decided before anything is held.
-#[derive(Debug, Drop)]
+#[derive(Drop)]
 pub(crate) enum Decision {
     // The reply, where nothing new is held.
     Answer(ShardReply),

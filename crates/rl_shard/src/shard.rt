@@ -14,7 +14,7 @@ use std::collections::BTreeMap;
 use std::marker::Model;
 
 /// One shard. Contracts see its limits, what it holds, and how many records its journal has.
-#[derive(Debug, Drop)]
+#[derive(Drop)]
 pub struct Shard {
     limits: Limits,
     // By label text, timestamp and line.

@@ -10,7 +10,7 @@ use std::alloc::{AllocError, AllocFailed};
 use thiserror::Error;
 
 /// A step of a shard.
-#[derive(Debug, Drop)]
+#[derive(Drop)]
 pub enum ShardStep {
     /// Takes a log entry.
     Push(Entry),
@@ -25,7 +25,7 @@ pub enum ShardStep {
 }
 
 /// What a shard answered. It stands in the journal with the step.
-#[derive(Debug, Drop)]
+#[derive(Drop)]
 pub enum ShardReply {
     /// The entry is held, whether it was held before or not.
     Accepted,
@@ -40,7 +40,7 @@ pub enum ShardReply {
 }
 
 /// Why a step was not decided. It made no record.
-#[derive(Clone, Copy, Debug, Drop, Error, PartialEq, Eq)]
+#[derive(Clone, Copy, Debug, Drop, Error)]
 pub enum ShardFault {
     #[error("the journal has as many records as it may have")]
     JournalFull,

@@ -10,7 +10,7 @@ use std::alloc::Global;
 use std::io::Write;
 
 /// Keeps every text, and writes them to its writer when it is closed, with the last line `# end <count>` behind them.
-#[derive(Debug, Drop)]
+#[derive(Drop)]
 pub struct Recorder<W> {
     pub(crate) writer: W,
     // How many texts may wait to be written.

@@ -7,7 +7,7 @@ use rl_plain::OrMemory;
 use thiserror::Error;
 
 /// Why a book refused a call, which left it as it was.
-#[derive(Clone, Copy, Debug, Drop, Error, PartialEq, Eq)]
+#[derive(Clone, Copy, Debug, Drop, Error)]
 pub enum BookFault {
     #[error("an evaluation is open")]
     Busy,
@@ -36,7 +36,7 @@ impl From<BookFault> for BookError {
 }
 
 /// Why a world refused a step, which left it as it was.
-#[derive(Clone, Copy, Debug, Drop, Error, PartialEq, Eq)]
+#[derive(Clone, Copy, Debug, Drop, Error)]
 pub enum Refusal {
     #[error("no such shard or group")]
     NoSuch,

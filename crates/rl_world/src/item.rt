@@ -3,7 +3,7 @@ use rl_plain::Shared;
 use rl_rules::{Evaluation, Group};
 
 /// An edit of a group, or an evaluation that was committed.
-#[derive(Debug, Drop)]
+#[derive(Drop)]
 pub enum Item {
     /// The group was edited: as it is from then on.
     Edited(Shared<Group>),

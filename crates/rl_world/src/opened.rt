@@ -3,7 +3,7 @@ use rl_labels::Ns;
 use rl_plain::PlainList;
 
 /// What a shard gave when it was asked.
-#[derive(Debug, Drop)]
+#[derive(Drop)]
 pub struct Gathered<X> {
     /// Where its journal has the question.
     pub place: u64,
@@ -12,7 +12,7 @@ pub struct Gathered<X> {
 }
 
 /// An evaluation that is open.
-#[derive(Debug, Drop)]
+#[derive(Drop)]
 pub struct OpenEvaluation<X> {
     pub t: Ns,
     /// One for each shard; `None` until it is asked.

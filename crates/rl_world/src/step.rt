@@ -6,7 +6,7 @@ use rl_rules::{Evaluation, Group};
 use rl_shard::{ShardReply, ShardStep};
 
 /// A step of a world.
-#[derive(Debug, Drop)]
+#[derive(Drop)]
 pub enum Step {
     /// A step of one shard.
     Shard { number: usize, step: ShardStep },
@@ -23,7 +23,7 @@ pub enum Step {
 }
 
 /// What a world answered to a step.
-#[derive(Debug, Drop)]
+#[derive(Drop)]
 pub enum Reply {
     /// The shard decided the step; its journal has it at the place.
     Decided { place: u64, reply: ShardReply },
@@ -39,7 +39,7 @@ pub enum Reply {
 }
 
 /// An evaluation that was committed.
-#[derive(Debug, Drop)]
+#[derive(Drop)]
 pub struct Committed {
     /// Its number in the group's history, counted from 0.
     pub number: u64,
