@@ -9,6 +9,7 @@ use Rattle.std.proofs.lemmas.Bool.{and_parts, and_from, true≢false}
 use Rattle.rl_plain.specs.laws.Bools.{true_from}
 use Rattle.rl_labels.specs.Name.{name_cmp, is_name, is_text}
 use Rattle.rl_labels.specs.LabelSet.{Pair, LabelSet, is_empty, is_label, are_labels, labels_of, labels_are_proper, label, same_labels, override, with_label, label_set_of}
+use Rattle.rl_labels.specs.LabelTrees.{with_new}
 use Rattle.rl_labels.specs.laws.LabelLaws.{name_cmp_total, proper-override, labels_of-with_label, labels_of-label_set_of}
 
 -- the labels of a set are in order, and make it
@@ -30,11 +31,11 @@ is_less Greater h = absurd (true≢false (sym h))
 greater_turned : (x y : List ℕ) → name_cmp x y ≡ Greater → name_cmp y x ≡ Less
 greater_turned x y h = name_cmp_total.antisymm y x ∙ ap ordering_reverse h
 
-less_turned : (x y : List ℕ) → name_cmp x y ≡ Less → name_cmp y x ≡ Greater
+pub less_turned : (x y : List ℕ) → name_cmp x y ≡ Less → name_cmp y x ≡ Greater
 less_turned x y h = name_cmp_total.antisymm y x ∙ ap ordering_reverse h
 
 -- a name below all is below each
-below_each : (name : List ℕ) (labels : List Pair) (i : ℕ) (pair : Pair) → below_all name_cmp name labels ≡ true → i < length labels → pair ≡ get_or labels i pair → name_cmp name pair.0 ≡ Less
+pub below_each : (name : List ℕ) (labels : List Pair) (i : ℕ) (pair : Pair) → below_all name_cmp name labels ≡ true → i < length labels → pair ≡ get_or labels i pair → name_cmp name pair.0 ≡ Less
 below_each name [] i pair h in' is = absurd (omega arith)
 below_each name (e ∷ es) zero pair h in' is = ap (λ p. name_cmp name p.0) is ∙ is_less (name_cmp name e.0) (and_parts (is_lt (name_cmp name e.0)) (below_all name_cmp name es) h).0
 below_each name (e ∷ es) (suc i) pair h in' is = below_each name es i pair (and_parts (is_lt (name_cmp name e.0)) (below_all name_cmp name es) h).1 (omega arith) is
@@ -53,7 +54,7 @@ module _ (name : List ℕ) where
   put_below value (e ∷ es) h = ap (λ o. by_order o ((name, value) ∷ e ∷ es) ((e.0, value) ∷ es) (e ∷ put name_cmp name value es)) (is_less (name_cmp name e.0) (and_parts (is_lt (name_cmp name e.0)) (below_all name_cmp name es) h).0)
 
   -- the labels up to one that is below the name are passed over
-  find_behind : (es : List Pair) (i : ℕ) (pair : Pair) → is_sorted name_cmp es ≡ true → i < length es → pair ≡ get_or es i pair → name_cmp name pair.0 ≡ Greater → find name_cmp name es ≡ find name_cmp name (drop (suc i) es)
+  pub find_behind : (es : List Pair) (i : ℕ) (pair : Pair) → is_sorted name_cmp es ≡ true → i < length es → pair ≡ get_or es i pair → name_cmp name pair.0 ≡ Greater → find name_cmp name es ≡ find name_cmp name (drop (suc i) es)
   find_behind [] i pair sorted in' is above = absurd (omega arith)
   find_behind (e ∷ es) zero pair sorted in' is above = ap (λ o. cond (is_eq o) (Some e.1) (find name_cmp name es)) (ap (λ p. name_cmp name p.0) (sym is) ∙ above)
   find_behind (e ∷ es) (suc i) pair sorted in' is above =
@@ -111,23 +112,26 @@ module _ (name value : List ℕ) (es : List Pair) (this : is_label (name, value)
       ∙ ap (override name value) (sym (labels_of-label_set_of es h))
       ∙ sym (labels_of-with_label (label_set_of es) name value is_named))
 
--- What is known of a label that is added, at its place.
-pub record Added (set : LabelSet) (name value : List ℕ) (es : List Pair) (place : ℕ) : Type 0 where
-  pub this : is_label (name, value) ≡ true
-  pub are : are_labels es ≡ true
-  pub of_set : label_set_of es ≡ set
-  pub absent : find name_cmp name es ≡ None
-  pub placed : put name_cmp name value es ≡ insert es place (name, value)
+module _ (name value : List ℕ) (es : List Pair) (this : is_label (name, value) ≡ true) (are : are_labels es ≡ true) where
+  -- labels with one more, unless one has its name
+  pub new_are : are_labels (with_new name value es) ≡ true
+  new_are = elim (is_some (find name_cmp name es)) as (λ b. are_labels (cond b es (put name_cmp name value es)) ≡ true) [
+    | true ↦ are
+    | false ↦ are_put name value es this are
+  ]
 
-pub added_are : (set : LabelSet) (name value : List ℕ) (es : List Pair) (place : ℕ) → Added set name value es place → are_labels (insert es place (name, value)) ≡ true
-added_are set name value es place a = ap are_labels (sym a.placed) ∙ are_put name value es a.this a.are
+  pub new_set : (set : LabelSet) → label_set_of es ≡ set → label_set_of (with_new name value es) ≡ cond (is_some (label set name)) set (with_label set name value)
+  new_set set of_set =
+      elim (is_some (find name_cmp name es)) as (λ b. label_set_of (cond b es (put name_cmp name value es)) ≡ cond b set (with_label set name value)) [
+        | true ↦ of_set
+        | false ↦ set_put name value es this are ∙ ap (λ s. with_label s name value) of_set
+      ]
+      ∙ ap (λ b. cond b set (with_label set name value)) (ap is_some (label_in es are name) ∙ ap (λ s. is_some (label s name)) of_set)
 
-pub added_set : (set : LabelSet) (name value : List ℕ) (es : List Pair) (place : ℕ) → Added set name value es place → label_set_of (insert es place (name, value)) ≡ cond (is_some (label set name)) set (with_label set name value)
-added_set set name value es place a =
-    ap label_set_of (sym a.placed) ∙ set_put name value es a.this a.are ∙ ap (λ s. with_label s name value) a.of_set
-    ∙ sym (ap (λ b. cond b set (with_label set name value)) (sym (ap is_some (label_in es a.are name) ∙ ap (λ s. is_some (label s name)) a.of_set) ∙ ap is_some a.absent))
+-- one is added where it stands
+pub new_placed : (name value : List ℕ) (es : List Pair) (place : ℕ) → find name_cmp name es ≡ None → put name_cmp name value es ≡ insert es place (name, value) → insert es place (name, value) ≡ with_new name value es
+new_placed name value es place absent placed = sym placed ∙ sym (ap (λ found. cond (is_some found) es (put name_cmp name value es)) absent)
 
 -- and none where the name is there
-pub not_added : (set : LabelSet) (name value : List ℕ) (es : List Pair) → are_labels es ≡ true → label_set_of es ≡ set → is_some (find name_cmp name es) ≡ true → set ≡ cond (is_some (label set name)) set (with_label set name value)
-not_added set name value es are of_set there =
-    sym (ap (λ b. cond b set (with_label set name value)) (sym (ap is_some (label_in es are name) ∙ ap (λ s. is_some (label s name)) of_set) ∙ there))
+pub not_new : (name value : List ℕ) (es : List Pair) → is_some (find name_cmp name es) ≡ true → es ≡ with_new name value es
+not_new name value es there = sym (ap (λ b. cond b es (put name_cmp name value es)) there)

@@ -28,7 +28,7 @@ less Greater e = absurd (true≢false (sym e))
 apart : (x y : List ℕ) → is_lt (name_cmp x y) ≡ true → is_text y x ≡ false
 apart x y below = other_texts y x (λ same. true≢false (sym below ∙ ap (λ z. is_lt (name_cmp x z)) same ∙ ap is_lt (tied_itself name_cmp_total x)))
 
-below_more_names : (x y : List ℕ) (es : List Pair) → is_lt (name_cmp x y) ≡ true → below_all name_cmp y es ≡ true → below_all name_cmp x es ≡ true
+pub below_more_names : (x y : List ℕ) (es : List Pair) → is_lt (name_cmp x y) ≡ true → below_all name_cmp y es ≡ true → below_all name_cmp x es ≡ true
 below_more_names x y [] below h = refl
 below_more_names x y (e ∷ es) below h =
     let parts = and_parts (is_lt (name_cmp y e.0)) (below_all name_cmp y es) h in

@@ -3,6 +3,7 @@ pub mod Crossing
 pub mod Digits
 pub mod Durations
 pub mod FromPairs
+pub mod Halves
 pub mod Overrides
 pub mod PairAnswers
 pub mod Rows
@@ -10,4 +11,5 @@ pub mod Sameness
 pub mod Selecting
 pub mod Steps
 pub mod TextLengths
+pub mod Trees
 mod Examples

@@ -2,8 +2,10 @@ pub mod Decimals
 pub mod EntryAnswers
 pub mod EntryOrder
 pub mod EntryParts
+pub mod Growing
 pub mod LabelSet
 pub mod LabelText
+pub mod LabelTrees
 pub mod LimitRanges
 pub mod MatcherOrder
 pub mod Name

@@ -28,6 +28,9 @@ pub const ERROR_LABEL: &str = "__error__";
 /// The longest canonical text of a stream's labels, in bytes.
 pub const MAX_TEXT_LEN: usize = 4096;
 
+// So many labels are gone through one by one, and more are sought by halves.
+const FEW: usize = 8;
+
 // What is escaped in a value: a backslash, a quote and a newline.
 const ESCAPES: [(u8, u8); 3] = [(b'\\', b'\\'), (b'"', b'"'), (b'\n', b'n')];
 
@@ -168,12 +171,30 @@ fn room_after(room: usize, label: &(PlainText, PlainText)) -> Option<usize>
 }
 
 // The value of the label with this name.
-pub(crate) fn value_in<'a>(labels: &'a [(PlainText, PlainText)], name: &str) -> Option<&'a str>
+fn value_in<'a>(labels: &'a [(PlainText, PlainText)], name: &str) -> Option<&'a str>
     ensures { option_copied result ≡ find name_cmp name.now labels.now }
 {
     for label in labels {
         if name == label.0.as_str() {
             return Some(label.1.as_str());
+        }
+    }
+    None
+}
+
+// The same of labels by rising name, sought by halves.
+fn value_by_halves<'a>(labels: &'a [(PlainText, PlainText)], name: &str) -> Option<&'a str>
+    requires { IsTrue (are_labels labels.now) }
+    ensures { option_copied result ≡ find name_cmp name.now labels.now }
+{
+    let mut rest = labels;
+    while !rest.is_empty() {
+        let middle = rest.len() / 2;
+        let label = &rest[middle];
+        match name.cmp(label.0.as_str()) {
+            Ordering::Less => rest = rest.split_at(middle).0,
+            Ordering::Equal => return Some(label.1.as_str()),
+            Ordering::Greater => rest = rest.split_at(middle + 1).1,
         }
     }
     None
@@ -422,7 +443,11 @@ impl Labels {
     pub fn get(&self, name: &str) -> Option<&str>
         ensures { option_copied result ≡ label self.now name.now }
     {
-        value_in(self.pairs(), name)
+        let pairs = self.pairs();
+        if pairs.len() > FEW {
+            return value_by_halves(pairs, name);
+        }
+        value_in(pairs, name)
     }
 
     /// The labels by rising name.

@@ -3,7 +3,7 @@
 //! A label set is seen as a finite map from names to texts that are not empty, `LabelSet`, and two label sets are equal,
 //! ordered and hashed by their canonical texts. Upper crates speak of it by `label`, `value_of` and `canonical_text`.
 //!
-//! - `labels`: `Labels`, made from pairs with named refusals. `builder`: `LabelsBuilder`, label sets that grow.
+//! - `labels`: `Labels`, made from pairs with named refusals. `builder`: `LabelsBuilder`, label sets that grow. `label_tree`: many labels, in a tree.
 //! - `entry`: `Entry`, labels with a moment and a line.
 //! - `matcher`: `Matcher`, and its built code that accepts label sets. `selector`: the same of many that must all accept.
 //! - `short`: texts that lie in the value itself where they are short.
@@ -16,6 +16,7 @@
 pub mod builder;
 pub mod decimal;
 pub mod entry;
+mod label_tree;
 pub mod labels;
 pub mod limits;
 pub mod matcher;
