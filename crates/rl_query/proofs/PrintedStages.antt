@@ -1,8 +1,7 @@
 -- What is printed of stages is derived.
-use Rattle.rl_query.proofs.TestPrinted.{Stops, prints_at}
-use Rattle.rl_query.specs.TestTree.{all_tests}
+use Rattle.rl_query.proofs.TestPrinted.{Stops, all_tests, is_test, prints_at}
 use Rattle.rl_query.specs.TestPrinting.{tests_text}
-use Rattle.rl_query.specs.TestGrammar.{AreTests, is_test}
+use Rattle.rl_query.specs.TestGrammar.{AreTests}
 use Rattle.rl_query.specs.TestDepth.{text_depth}
 use Rattle.rl_query.specs.Limits.{is_filter}
 use Rattle.rl_query.specs.Form.{by_tests, StageForm, by_filter, by_parser}

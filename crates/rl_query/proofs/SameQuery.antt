@@ -1,9 +1,7 @@
 -- Queries with one form are one, and each keeps its limits.
-use Rattle.rl_query.proofs.TestPrinted.{tests_kept}
+use Rattle.rl_query.proofs.TestPrinted.{all_tests, is_test, tests_kept}
 use Rattle.rl_query.proofs.TestDepths.{tests_shallow}
 use Rattle.rl_query.proofs.SameTests.{same_tests, count_forms, depth_forms}
-use Rattle.rl_query.specs.TestTree.{all_tests}
-use Rattle.rl_query.specs.TestGrammar.{is_test}
 use Rattle.rl_query.specs.TestDepth.{text_depth}
 use Rattle.rl_query.specs.Stages.{tests_in, count_label_tests, are_shallow, are_shallow_in, in_both, is_parser, count_parsers}
 use Rattle.rl_query.specs.Limits.{most_aggregations, most_tests, most_depth, has_real_matcher, is_filter, longest_range, most_stages}

@@ -2,8 +2,7 @@
 use Rattle.rl_query.proofs.TestReadings.{tests_are_read}
 use Rattle.rl_query.proofs.TestProductions.{tests_derived}
 use Rattle.rl_query.proofs.StageStarts.{tests_start, chain_ends, Ends}
-use Rattle.rl_query.specs.Testing.{tests_at}
-use Rattle.rl_query.specs.TestGrammar.{IsEnd}
+use Rattle.rl_query.specs.Testing.{IsEnd, tests_at}
 use Rattle.rl_query.specs.declared.room.Room.{Room}
 use Rattle.rl_query.specs.Form.{by_tests, tests_of, label_tests, StageForm, by_filter, by_parser, parses, parsers_of}
 use Rattle.std.proofs.Common.{◌-◌, ◌≡◌, ⊎_elim, ℕ, zero, suc, ◌+◌, ◌≤◌, Bool, true, false, cond, ◌||◌, ◌&&◌, List, [], ◌∷◌, codes, length, Some, is_some, Result, Ok, refl, sym, ap, subst, ◌∙◌, arith}

@@ -20,8 +20,8 @@ use Rattle.rl_query.specs.Grammar.{filter_sign, IsStage, AreChained}
 use Rattle.rl_query.specs.Parsing.{begins_stage, stage_comes, parser_of, is_later_stage_word, operator_comes, tests_begin}
 use Rattle.rl_query.specs.Printing.{parser_text}
 use Rattle.rl_query.specs.Standing.{Stand, operator_sign}
-use Rattle.rl_query.specs.TestGrammar.{Rule, test_name, Compares, IsLabelTest, IsOne, alone, in_parentheses, AreJoined, part, more, AreInside, AreTests, IsEnd}
-use Rattle.rl_query.specs.Testing.{is_word, is_and, begins, compares, behind_and}
+use Rattle.rl_query.specs.TestGrammar.{Rule, test_name, Compares, IsLabelTest, IsOne, alone, in_parentheses, AreJoined, part, more, AreInside, AreTests}
+use Rattle.rl_query.specs.Testing.{IsEnd, is_word, is_and, begins, compares, behind_and}
 use Rattle.rl_query.specs.TestTree.{TestTree}
 use Rattle.rl_query.proofs.Productions.{next_is}
 

@@ -1,5 +1,5 @@
 -- What is printed of label tests is derived.
-use Rattle.std.proofs.Common.{◌≡◌, inl, ℕ, zero, suc, ◌-◌, ◌≤◌, true, not, List, [], ◌∷◌, ◌++◌, codes, refl, sym, subst, arith, append_assoc, append-nil, Ok}
+use Rattle.std.proofs.Common.{◌≡◌, inl, ℕ, zero, suc, ◌-◌, ◌≤◌, Bool, true, not, ◌&&◌, List, [], ◌∷◌, ◌++◌, codes, refl, sym, subst, arith, append_assoc, append-nil, Ok}
 use Rattle.std.specs.List.{prefix_len}
 use Rattle.std.proofs.lemmas.Bool.{and_parts, and_from, not-true}
 use Rattle.rl_query.specs.declared.label_test.Join.{Join}
@@ -10,6 +10,8 @@ use Rattle.rl_query.specs.declared.token.Lexeme.{Lexeme}
 use Rattle.rl_query.specs.declared.token.Sign.TheVariants as signs
 use Rattle.rl_query.specs.declared.token.Token.TheVariants as tokens
 use Rattle.rl_labels.specs.Name.{is_name}
+use Rattle.rl_labels.specs.Operators.{is_comparable}
+use Rattle.rl_query.specs.Quantities.{is_quantity}
 use Rattle.rl_query.specs.declared.label_test.LabelTest.{LabelTest}
 use Rattle.rl_query.specs.declared.label_test.LabelTest.TheVariants as leaves
 use Rattle.rl_query.specs.Testing.{tests_at}
@@ -17,14 +19,28 @@ use Rattle.rl_query.proofs.TestReadings.{tests_are_read}
 use Rattle.rl_query.specs.Form.{TestForm, by_text, by_quantity, tests_form}
 use Rattle.rl_query.specs.Standing.{Stand, operator_sign, matcher_tokens}
 use Rattle.rl_query.specs.Lexing.{is_number_byte, lexemes_of, token_at}
-use Rattle.rl_query.specs.TestGrammar.{Rule, test_name, has_value, IsLabelTest, IsOne, alone, in_parentheses, Joins, AreJoined, part, more, AreTestsIn, AreInside, AreTests, is_test, ended}
+use Rattle.rl_query.specs.TestGrammar.{Rule, test_name, IsLabelTest, IsOne, alone, in_parentheses, Joins, AreJoined, part, more, AreTestsIn, AreInside, AreTests, ended}
 use Rattle.rl_query.specs.Limits.{is_taken}
 use Rattle.rl_query.specs.TestPrinting.{test_text, join_text, enclosed, tests_text}
 use Rattle.rl_query.specs.MatcherPrinting.{matcher_text}
 use Rattle.rl_query.specs.TestDepth.{left_level, right_level, needs, deepened, text_depth}
-use Rattle.rl_query.specs.TestTree.{TestTree, one, joined, all_tests, count_tests}
+use Rattle.rl_query.specs.TestTree.{TestTree, one, joined, count_tests}
 use Rattle.rl_query.proofs.QuantityPrinted.{quantity_test_prints}
 use Rattle.rl_query.proofs.Printed.{Prints, prints_as, prints_then, prints_all, spaced, lone_sign, word_lexes, matcher_lexes}
+
+-- each test passes
+abbrev pub all_tests : {A : Type 0} → (A → Bool) → TestTree A → Bool
+all_tests passes (one test) = passes test
+all_tests passes (joined join left right) = all_tests passes left && all_tests passes right
+
+-- the pattern or the quantity of a test is one
+abbrev pub has_value : TestForm → Bool
+has_value (by_text matcher) = is_comparable matcher.op matcher.value
+has_value (by_quantity test) = is_quantity test.quantity
+
+-- and its name, which is no word of the grammar
+abbrev pub is_test : TestForm → Bool
+is_test test = is_name (test_name test) && (not (is_taken (test_name test)) && has_value test)
 
 -- numbers do not go on with what follows
 abbrev pub Stops : List ℕ → Type 0

@@ -8,8 +8,8 @@ use Rattle.rl_query.specs.declared.token.Sign.TheVariants as signs
 use Rattle.rl_query.specs.declared.token.Token.TheVariants as tokens
 use Rattle.rl_query.specs.Form.{TestForm}
 use Rattle.rl_query.specs.Fronts.{is_sign}
-use Rattle.rl_query.specs.TestGrammar.{Rule, IsLabelTest, IsOne, alone, in_parentheses, Joins, AreJoined, part, more, AreTestsIn, AreInside, AreTests, IsEnd}
-use Rattle.rl_query.specs.Testing.{Reading, Reader, is_label, test_at, enclosed_at, one_at, behind_and, behind_join, others_at, joined_at, tests_in, inside_at, tests_at}
+use Rattle.rl_query.specs.TestGrammar.{Rule, IsLabelTest, IsOne, alone, in_parentheses, Joins, AreJoined, part, more, AreTestsIn, AreInside, AreTests}
+use Rattle.rl_query.specs.Testing.{IsEnd, Reading, Reader, is_label, test_at, enclosed_at, one_at, behind_and, behind_join, others_at, joined_at, tests_in, inside_at, tests_at}
 use Rattle.rl_query.specs.TestTree.{TestTree, one, joined, count_tests}
 use Rattle.rl_query.proofs.Chains.{stops}
 use Rattle.rl_query.proofs.StageStarts.{one_starts, no_more}

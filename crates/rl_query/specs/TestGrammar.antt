@@ -1,5 +1,5 @@
 -- The grammar of label tests, over their tokens and apart from how they are read. Each rule relates tests, tokens and those that follow.
-use Rattle.std.specs.Prelude.{◌≡◌, ◌⊎◌, ℕ, zero, suc, Bool, true, false, not, ◌&&◌, List, [], ◌∷◌, length, Some, None, codes}
+use Rattle.std.specs.Prelude.{◌≡◌, ◌⊎◌, ℕ, zero, suc, true, false, List, [], ◌∷◌, length, Some, codes}
 use Rattle.rl_labels.specs.Name.{is_name}
 use Rattle.rl_labels.specs.Operators.{is_comparable}
 use Rattle.rl_query.specs.declared.label_test.Join.{Join}
@@ -12,9 +12,8 @@ use Rattle.rl_query.specs.declared.token.Token.TheVariants as tokens
 use Rattle.rl_query.specs.Form.{TestForm, by_text, by_quantity}
 use Rattle.rl_query.specs.Standing.{Stand, operator_sign}
 use Rattle.rl_query.specs.Limits.{is_taken}
-use Rattle.rl_query.specs.Quantities.{quantity_of, is_quantity}
+use Rattle.rl_query.specs.Quantities.{quantity_of}
 use Rattle.rl_query.specs.Tables.{comparison_of}
-use Rattle.rl_query.specs.Testing.{behind_and, behind_or}
 use Rattle.rl_query.specs.TestTree.{TestTree, one, joined}
 
 -- tests, their tokens, and those that follow
@@ -38,15 +37,6 @@ pub record IsLabelTest (test : TestForm) (lexemes rest : List Lexeme) : Type 0 w
   pub compares : Compares test sign value
   pub named : is_name (test_name test) ≡ true
   pub free : is_taken (test_name test) ≡ false
-
--- the pattern or the quantity of a test is one
-abbrev pub has_value : TestForm → Bool
-has_value (by_text matcher) = is_comparable matcher.op matcher.value
-has_value (by_quantity test) = is_quantity test.quantity
-
--- and its name, which is no word of the grammar
-abbrev pub is_test : TestForm → Bool
-is_test test = is_name (test_name test) && (not (is_taken (test_name test)) && has_value test)
 
 -- the test of a label, or "(" tests ")"
 pub data IsOne (Inside : Rule) : TestTree TestForm → List Lexeme → List Lexeme → Type 0 where
@@ -75,10 +65,6 @@ AreInside (suc depth) tests lexemes rest = AreTestsIn (AreInside depth) tests le
 -- tests in which so many parentheses are open within one another at most
 abbrev pub AreTests : (depth : ℕ) → Rule
 AreTests depth = AreTestsIn (AreInside depth)
-
--- what stands behind tests, and to which nothing is joined
-abbrev pub IsEnd : List Lexeme → Type 0
-IsEnd lexemes = (behind_and lexemes ≡ None) × (behind_or lexemes ≡ None)
 
 -- the end of a text, which stands behind its tokens
 abbrev pub ended : List ℕ → List Lexeme

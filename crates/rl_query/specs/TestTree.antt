@@ -1,5 +1,5 @@
 -- Trees of tests: one test, or two trees joined.
-use Rattle.std.specs.Prelude.{◌≡◌, ℕ, zero, suc, ◌+◌, Bool, ◌&&◌, ◌||◌}
+use Rattle.std.specs.Prelude.{◌≡◌, ℕ, zero, suc, ◌+◌, Bool, ◌||◌}
 use Rattle.std.specs.Coded.{Coded}
 use base.Stored.{Gv, gnil, gnum, gcons, num}
 use mathlib.Core.Path.{sym, ap}
@@ -20,11 +20,6 @@ tree_size (joined join left right) = tree_size left + tree_size right + 1
 abbrev pub count_tests : {A : Type 0} → TestTree A → ℕ
 count_tests (one test) = 1
 count_tests (joined join left right) = count_tests left + count_tests right
-
--- each test passes
-abbrev pub all_tests : {A : Type 0} → (A → Bool) → TestTree A → Bool
-all_tests passes (one test) = passes test
-all_tests passes (joined join left right) = all_tests passes left && all_tests passes right
 
 -- some test passes
 abbrev pub any_test : {A : Type 0} → (A → Bool) → TestTree A → Bool

@@ -8,7 +8,7 @@ use Rattle.rl_query.specs.declared.label_test.TestParts.TheVariants as parts
 
 -- the tree that a node is
 abbrev pub node_tree : Node → TestTree LabelTest
-node_tree (nodes.One test) = one test
+node_tree (nodes.One test) = one test.value
 node_tree (nodes.Joined join left right) = joined join left.value right.value
 
 -- the tree of its parts

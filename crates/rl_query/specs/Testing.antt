@@ -1,5 +1,5 @@
 -- Reading label tests from their tokens: what is read, how many tests may still come and the tokens that follow it, or the first fault from the left.
-use Rattle.std.specs.Prelude.{ℕ, zero, suc, Bool, true, false, not, ◌&&◌, ◌||◌, List, [], ◌∷◌, Option, Some, None, is_some, Result, Ok, Err, if◌then◌else◌, codes}
+use Rattle.std.specs.Prelude.{◌≡◌, ℕ, zero, suc, Bool, true, false, not, ◌&&◌, ◌||◌, List, [], ◌∷◌, Option, Some, None, is_some, Result, Ok, Err, if◌then◌else◌, codes}
 use Rattle.std.specs.Option.{option_map_or}
 use Rattle.rl_labels.specs.Name.{is_text, is_name}
 use Rattle.rl_plain.specs.Answers.{◌>>=◌}
@@ -135,6 +135,10 @@ behind_and (lexeme ∷ lexemes) = if is_and lexeme.token then Some lexemes else 
 abbrev pub behind_or : List Lexeme → Option (List Lexeme)
 behind_or [] = None
 behind_or (lexeme ∷ lexemes) = if is_word (codes "or") lexeme.token then Some lexemes else None
+
+-- what stands behind tests, and to which nothing is joined
+abbrev pub IsEnd : List Lexeme → Type 0
+IsEnd lexemes = (behind_and lexemes ≡ None) × (behind_or lexemes ≡ None)
 
 abbrev pub behind_join : Join → List Lexeme → Option (List Lexeme)
 behind_join And = behind_and

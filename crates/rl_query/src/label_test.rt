@@ -25,7 +25,7 @@ pub enum LabelTest {
     Quantity(QuantityTest),
 }
 
-/// Tests of labels, as in `a="x" and (b!="y" or c=~"z.*")`.
+/// Tests of labels, as in `a="x" and (b!="y" or c=~"z.*")`. A node is a few words, since a query may have a deep tree.
 #[cycle(tests)]
 #[derive(Drop)]
 pub struct LabelTests {
@@ -35,7 +35,7 @@ pub struct LabelTests {
 #[cycle(tests)]
 #[derive(Drop)]
 enum Node {
-    One(LabelTest),
+    One(Box<LabelTest>),
     Joined(Join, Box<LabelTests>, Box<LabelTests>),
 }
 
@@ -68,12 +68,13 @@ impl Model for LabelTests {
 
 impl LabelTests {
     /// One test alone.
-    pub fn one(test: LabelTest) -> LabelTests
-        ensures { result ≡ one test }
+    pub fn one(alloc: Global, test: LabelTest) -> Result<LabelTests, AllocError>
+        ensures { IfOk result (λ tests. tests ≡ one test) }
     {
-        LabelTests {
+        let test = Box::new(alloc, test)?;
+        Ok(LabelTests {
             node: Node::One(test),
-        }
+        })
     }
 
     /// Two joined.
@@ -122,10 +123,18 @@ impl Same for LabelTest {
     }
 }
 
+// A copy of a test, alone. The test is large, so it lies in a frame of its own.
+#[inline(never)]
+fn copied(alloc: Global, test: &LabelTest) -> Result<LabelTests, AllocError>
+    ensures { IfOk result (λ tests. tests ≡ one test.now) }
+{
+    LabelTests::one(alloc, test.try_copy()?)
+}
+
 impl TryCopy for LabelTests {
     fn try_copy(&self) -> Result<Self, AllocError> {
         match &self.node {
-            Node::One(test) => Ok(LabelTests::one(test.try_copy()?)),
+            Node::One(test) => copied(*Box::allocator(test), test),
             Node::Joined(join, left, right) => {
                 let alloc = *Box::allocator(left);
                 LabelTests::joined(alloc, *join, left.try_copy()?, right.try_copy()?)
@@ -158,7 +167,7 @@ impl PartialEq for LabelTests {
 
     fn eq(&self, other: &Self) -> bool {
         match (&self.node, &other.node) {
-            (Node::One(one), Node::One(same)) => one == same,
+            (Node::One(one), Node::One(same)) => **one == **same,
             (Node::Joined(join, left, right), Node::Joined(same, front, back)) => {
                 join == same && **left == **front && **right == **back
             }

@@ -6,9 +6,9 @@ ghost use Rattle.rl_query.specs.Limits.{is_taken};
 ghost use Rattle.rl_query.specs.Form.{quantity_form, test_form, tests_form};
 ghost use Rattle.rl_query.specs.Quantities.{has_unit, quantity_of, is_quantity};
 ghost use Rattle.rl_query.specs.Tables.{comparison_of};
-ghost use Rattle.rl_query.specs.TestGrammar.{AreTests, IsEnd};
+ghost use Rattle.rl_query.specs.TestGrammar.{AreTests};
 ghost use Rattle.rl_query.specs.TestTree.{count_tests};
-ghost use Rattle.rl_query.specs.Testing.{Read, is_word, is_label, label_at, label_comes, one_fewer, comparison_at, quantity_at, named_test, quantity_test_at, compares, is_content, quantity_comes, label_test_at, test_at, is_and, begins, behind_and, behind_or, behind_join, enclosed_at, one_at, joined_at, part_at, inside_at, tests_at};
+ghost use Rattle.rl_query.specs.Testing.{IsEnd, Read, is_word, is_label, label_at, label_comes, one_fewer, comparison_at, quantity_at, named_test, quantity_test_at, compares, is_content, quantity_comes, label_test_at, test_at, is_and, begins, behind_and, behind_or, behind_join, enclosed_at, one_at, joined_at, part_at, inside_at, tests_at};
 
 use crate::fault::{QueryError, QueryFault};
 use crate::label_test::{Join, LabelTest, LabelTests};
@@ -210,16 +210,22 @@ fn label_test_at(lexemes: &[Lexeme]) -> Result<(LabelTest, &[Lexeme]), QueryErro
     Ok((LabelTest::Text(test), rest))
 }
 
-// The test of a label, by its name, where one may still come.
+// The test of a label, by its name, where one may still come. The test is large, so it lies in a frame of its own.
+#[inline(never)]
 #[tactic(auto, using(crate::proofs::FreeNames::label_first), unfolding(crate::specs::Testing::test_at))]
-fn test_at(left: usize, lexemes: &[Lexeme]) -> Result<(LabelTests, usize, &[Lexeme]), QueryError>
+fn test_at(
+    alloc: Global,
+    left: usize,
+    lexemes: &[Lexeme],
+) -> Result<(LabelTests, usize, &[Lexeme]), QueryError>
     ensures { Gives (λ x. (tests_form x.0, x.1, x.2.now)) result (test_at left lexemes.now) }
 {
     let (first, _) = next(lexemes)?;
     label_at(first)?;
     let fewer = one_fewer(left)?;
     let (test, rest) = label_test_at(lexemes)?;
-    Ok((LabelTests::one(test), fewer, rest))
+    let tests = LabelTests::one(alloc, test)?;
+    Ok((tests, fewer, rest))
 }
 
 // A token that joins two tests by `and`.
@@ -301,7 +307,7 @@ fn one_at(
     if is_sign(Sign::OpenParenthesis, &first.token) {
         return enclosed_at(alloc, depth, left, rest);
     }
-    test_at(left, lexemes)
+    test_at(alloc, left, lexemes)
 }
 
 // What `and` joins, and what `or` joins.
