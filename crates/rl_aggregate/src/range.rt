@@ -75,7 +75,7 @@ fn selector_of(alloc: Global, term: &Term) -> Result<SelectorCode, AllocError>
 fn pipeline_of(alloc: Global, term: &Term) -> Result<Pipeline, AllocError>
     ensures { IfOk result (λ pipeline. pipeline ≡ term.now.range.stages) }
 {
-    Pipeline::build(alloc, term.range.stages.as_slice()).or(Err(AllocError))
+    Pipeline::build(alloc, term).or(Err(AllocError))
 }
 
 // Those of several terms.

@@ -25,8 +25,8 @@ has_pattern (Tests tests) = are_by_pattern tests
 abbrev pub have_pattern : List Stage → Bool
 have_pattern stages = list_any has_pattern stages
 
--- Why stages are not built: for memory, and where one is by pattern also for its program's size. Each pattern is one.
+-- Why stages are not built: for memory, and where one is by pattern also with BadRegex, for its program's size. Each pattern is one.
 abbrev pub IsUnbuilt : (by_pattern : Bool) → OrMemory PatternFault → Type 0
 IsUnbuilt by_pattern Memory = Unit {0}
-IsUnbuilt by_pattern (Fault BadRegex) = ⊥
-IsUnbuilt by_pattern (Fault TooBig) = by_pattern ≡ true
+IsUnbuilt by_pattern (Fault BadRegex) = by_pattern ≡ true
+IsUnbuilt by_pattern (Fault TooBig) = ⊥

@@ -1,11 +1,11 @@
 //! Built line filters.
-ghost use Rattle.std.specs.Prelude.{◌≡◌, IfOk, IfErr};
+ghost use Rattle.std.specs.Prelude.{◌≡◌, true, IfOk, IfErr};
 ghost use Rattle.rl_pipeline.specs.Building.{is_by_pattern, IsUnbuilt};
 
 use crate::search::{Looking, Search};
 use memchr::memmem::Finder;
-use rl_patterns::{PatternCode, PatternError};
-use rl_plain::TryCopy;
+use rl_patterns::{PatternCode, PatternError, PatternFault};
+use rl_plain::{OrMemory, TryCopy};
 use rl_query::{LineFilter, LineOp};
 use std::alloc::{AllocError, Global};
 use std::marker::Model;
@@ -36,8 +36,20 @@ impl Model for FilterCode {
     ghost invariant = { λ a. IsSoughtBy a.filter a.sought };
 }
 
+// The code of a pattern. What takes too much room is told as BadRegex.
+fn pattern_code(alloc: Global, pattern: &str) -> Result<PatternCode, PatternError>
+    ensures code { IfOk result (λ code. code ≡ pattern.now) }
+    ensures refused { IfErr result (IsUnbuilt true) }
+{
+    match PatternCode::build(alloc, pattern) {
+        Ok(code) => Ok(code),
+        Err(OrMemory::Fault(_)) => Err(OrMemory::Fault(PatternFault::BadRegex)),
+        Err(OrMemory::Memory) => Err(OrMemory::Memory),
+    }
+}
+
 impl FilterCode {
-    /// The code of the filter. TooBig where its pattern's program is.
+    /// The code of the filter. BadRegex where its pattern takes too much room.
     pub fn build(alloc: Global, filter: &LineFilter) -> Result<FilterCode, PatternError>
         ensures code { IfOk result (λ code. code ≡ filter.now) }
         ensures refused { IfErr result (IsUnbuilt (is_by_pattern filter.now)) }
@@ -48,7 +60,7 @@ impl FilterCode {
                 Sought::Text(Finder::new(filter.text.as_str().as_bytes()).into_owned(alloc)?)
             }
             LineOp::Matches | LineOp::NotMatches => {
-                Sought::Pattern(PatternCode::build(alloc, filter.text.as_str())?)
+                Sought::Pattern(pattern_code(alloc, filter.text.as_str())?)
             }
         };
         Ok(FilterCode { filter, sought })

@@ -2,6 +2,8 @@
 ghost use Rattle.std.specs.Prelude.{◌≡◌, IfOk, IfErr};
 ghost use Rattle.rl_labels.specs.Operators as operators;
 ghost use Rattle.rl_pipeline.specs.Building.{IsUnbuilt};
+ghost use Rattle.rl_query.specs.TestTree.{one};
+ghost use Rattle.rl_pipeline.specs.TestNodes.{node_tree};
 ghost use Rattle.rl_pipeline.specs.LabelTests.{is_by_pattern, are_by_pattern, matcher_pattern, test_pattern};
 
 use rl_labels::{MatchOp, Matcher};
@@ -30,7 +32,7 @@ impl Model for TestCode {
     ghost invariant = { λ a. a.pattern ≡ test_pattern a.test };
 }
 
-/// Built label tests. Contracts see the tests.
+/// Built label tests. Contracts see the tests. A node is a few words, since a query may have a deep tree.
 #[cycle(tests)]
 #[derive(Drop)]
 pub struct TestsCode {
@@ -40,7 +42,7 @@ pub struct TestsCode {
 #[cycle(tests)]
 #[derive(Drop)]
 pub(crate) enum Node {
-    One(TestCode),
+    One(Box<TestCode>),
     Joined(Join, Box<TestsCode>, Box<TestsCode>),
 }
 
@@ -64,7 +66,8 @@ impl Model for TestsCode {
     ghost size_decreases = { λ a h. Prim.grind (arith) };
 }
 
-// The code of a matcher's pattern, if it has one. The pattern is one, so it is refused for memory or for its size.
+// The code of a matcher's pattern, if it has one. The pattern is one, so it is refused for memory or for its size, and the
+// second is told as BadRegex.
 fn pattern_code(alloc: Global, matcher: &Matcher) -> Result<Option<WholePatternCode>, PatternError>
     ensures code { IfOk result (λ code. code ≡ matcher_pattern matcher.now) }
     ensures refused { IfErr result (IsUnbuilt (operators.is_by_pattern matcher.now.op)) }
@@ -74,7 +77,7 @@ fn pattern_code(alloc: Global, matcher: &Matcher) -> Result<Option<WholePatternC
     }
     match WholePatternCode::build(alloc, matcher.value.as_str()) {
         Ok(code) => Ok(Some(code)),
-        Err(OrMemory::Fault(_)) => Err(OrMemory::Fault(PatternFault::TooBig)),
+        Err(OrMemory::Fault(_)) => Err(OrMemory::Fault(PatternFault::BadRegex)),
         Err(OrMemory::Memory) => Err(OrMemory::Memory),
     }
 }
@@ -91,14 +94,24 @@ fn test_code(alloc: Global, test: &LabelTest) -> Result<TestCode, PatternError>
     Ok(TestCode { test, pattern })
 }
 
+// The code of one test, alone. The test is large, so it lies in a frame of its own.
+#[inline(never)]
+fn one_code(alloc: Global, test: &LabelTest) -> Result<Node, PatternError>
+    ensures code { IfOk result (λ node. node_tree node ≡ one test.now) }
+    ensures refused { IfErr result (IsUnbuilt (is_by_pattern test.now)) }
+{
+    let code = Box::new(alloc, test_code(alloc, test)?)?;
+    Ok(Node::One(code))
+}
+
 impl TestsCode {
-    /// The code of the tests. TooBig where a pattern's program is.
+    /// The code of the tests. BadRegex where a pattern takes too much room.
     pub fn build(alloc: Global, tests: &LabelTests) -> Result<TestsCode, PatternError>
         ensures code { IfOk result (λ code. code ≡ tests.now) }
         ensures refused { IfErr result (IsUnbuilt (are_by_pattern tests.now)) }
     {
         let node = match tests.parts() {
-            TestParts::One(test) => Node::One(test_code(alloc, test)?),
+            TestParts::One(test) => one_code(alloc, test)?,
             TestParts::Joined(join, left, right) => {
                 let left = Box::new(alloc, TestsCode::build(alloc, left)?)?;
                 let right = Box::new(alloc, TestsCode::build(alloc, right)?)?;

@@ -1,13 +1,18 @@
 //! Pipelines: the built stages of a range.
 ghost use Rattle.std.specs.Prelude.{◌≡◌, IfOk, IfErr};
 ghost use Rattle.rl_pipeline.specs.Building.{has_pattern, have_pattern, IsUnbuilt};
+ghost use Rattle.rl_pipeline.specs.Metering.{with_run};
+ghost use Rattle.rl_pipeline.specs.Running.{run};
 ghost use Rattle.rl_pipeline.specs.Steps.{code_stage};
 
 use crate::filter::FilterCode;
 use crate::label_tests::TestsCode;
+use crate::line::Line;
+use crate::meter::Meter;
 use crate::running::Running;
+use rl_labels::Labels;
 use rl_patterns::PatternError;
-use rl_query::{Parser, Stage};
+use rl_query::{Parser, Stage, Term};
 use std::alloc::{AllocError, Global};
 use std::marker::Model;
 
@@ -40,8 +45,15 @@ impl Model for Pipeline {
 }
 
 impl Pipeline {
-    /// The code of the stages. TooBig where a pattern's program is.
-    pub fn build(alloc: Global, stages: &[Stage]) -> Result<Pipeline, PatternError>
+    /// The code of the term's stages. BadRegex where a pattern takes too much room.
+    pub fn build(alloc: Global, term: &Term) -> Result<Pipeline, PatternError>
+        ensures code { IfOk result (λ code. code ≡ term.now.range.stages) }
+        ensures refused { IfErr result (IsUnbuilt (have_pattern term.now.range.stages)) }
+    {
+        Pipeline::of_stages(alloc, term.range.stages.as_slice())
+    }
+
+    fn of_stages(alloc: Global, stages: &[Stage]) -> Result<Pipeline, PatternError>
         ensures code { IfOk result (λ code. code ≡ stages.now) }
         ensures refused { IfErr result (IsUnbuilt (have_pattern stages.now)) }
     {
@@ -57,6 +69,22 @@ impl Pipeline {
         ensures { IfOk result (λ running. running ≡ self.now) }
     {
         Running::new(*self.codes.allocator(), &self.codes)
+    }
+
+    /// The labels that a line of a stream has behind the stages, if it stays. The run is counted. Many lines go through
+    /// `running`, which makes the caches once.
+    pub fn run(
+        &self,
+        meter: &mut Meter,
+        labels: &Labels,
+        line: &str,
+    ) -> Result<Option<Labels>, AllocError>
+        ensures run { IfOk result (λ found. found ≡ run self.now line.now labels.now) }
+        ensures counted { meter.new ≡ with_run meter.old }
+    {
+        meter.count_run();
+        let mut running = self.running()?;
+        running.labels_of(&mut Line::new(labels, line))
     }
 }
 

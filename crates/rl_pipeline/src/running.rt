@@ -93,7 +93,6 @@ impl<'a> Running<'a> {
     }
 
     /// The same of a line that other pipelines have too: what its first parser finds is shared with them.
-    #[tactic(auto, using(crate::proofs::Stages::filters_first))]
     pub fn run_shared(
         &mut self,
         meter: &mut Meter,
@@ -106,6 +105,17 @@ impl<'a> Running<'a> {
         ensures line { line.new ≡ line.old }
     {
         meter.count_run();
+        self.labels_of(line)
+    }
+
+    // The same, and nothing is counted.
+    #[tactic(auto, using(crate::proofs::Stages::filters_first))]
+    pub(crate) fn labels_of(&mut self, line: &mut Line<'_>) -> Result<Option<Labels>, AllocError>
+        ensures run { IfOk result (λ found. found ≡ run self.old line.old.text line.old.labels) }
+        ensures left_out { keeps self.old line.old.text ≡ false → IsOk result }
+        ensures same { self.new ≡ self.old }
+        ensures line { line.new ≡ line.old }
+    {
         if !self.keeps(line.text()) {
             return Ok(None);
         }

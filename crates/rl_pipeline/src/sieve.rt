@@ -43,7 +43,7 @@ impl Model for SieveCode {
 }
 
 impl SieveCode {
-    /// The code of the sieve. TooBig where a pattern's program is.
+    /// The code of the sieve. BadRegex where a pattern takes too much room.
     pub fn build(alloc: Global, sieve: &Sieve) -> Result<SieveCode, PatternError>
         ensures code { IfOk result (λ code. code ≡ sieve.now) }
         ensures refused { IfErr result (IsUnbuilt (sieve_by_pattern sieve.now)) }
@@ -79,7 +79,7 @@ fn selector_code(alloc: Global, sieve: &Sieve) -> Result<SelectorCode, PatternEr
 {
     match SelectorCode::build(alloc, sieve.selector.matchers.as_slice()) {
         Ok(code) => Ok(code),
-        Err(OrMemory::Fault(_)) => Err(OrMemory::Fault(PatternFault::TooBig)),
+        Err(OrMemory::Fault(_)) => Err(OrMemory::Fault(PatternFault::BadRegex)),
         Err(OrMemory::Memory) => Err(OrMemory::Memory),
     }
 }

@@ -3,6 +3,8 @@ ghost use Rattle.std.specs.Prelude.{◌≡◌, IfOk};
 ghost use Rattle.std.specs.Option.{option_map};
 ghost use Rattle.rl_labels.specs.Selects.{accepts};
 ghost use Rattle.rl_patterns.specs.Matching.{wrapped};
+ghost use Rattle.rl_query.specs.TestTree.{one};
+ghost use Rattle.rl_pipeline.specs.TestNodes.{asking_tree};
 ghost use Rattle.rl_pipeline.specs.LabelTests.{is_decided, matcher_pattern, test_answer, tests_answer};
 
 use crate::comparing::ask_quantity;
@@ -35,7 +37,8 @@ impl<'a> Model for Testing<'a> {
     ghost invariant = { λ a. a.searching ≡ option_map wrapped (test_pattern a.test.now) };
 }
 
-/// Label tests that many lines are asked for. Contracts see the tests.
+/// Label tests that many lines are asked for. Contracts see the tests. A node is a few words, since a query may have a
+/// deep tree.
 #[cycle(asking)]
 #[derive(Drop)]
 pub(crate) struct TestsRunning<'a> {
@@ -45,7 +48,7 @@ pub(crate) struct TestsRunning<'a> {
 #[cycle(asking)]
 #[derive(Drop)]
 enum Asking<'a> {
-    One(Testing<'a>),
+    One(Box<Testing<'a>>),
     Joined(Pair<'a>),
 }
 
@@ -122,13 +125,22 @@ fn accepts(matcher: &Matcher, searching: &mut Option<Searching<'_>>, draft: &Dra
     }
 }
 
+// What asks many lines for one test alone. Its caches are large, so they lie in a frame of its own.
+#[inline(never)]
+fn asking_one(alloc: Global, code: &TestCode) -> Result<Asking<'_>, AllocError>
+    ensures { IfOk result (λ node. asking_tree node ≡ one code.now) }
+{
+    let testing = Box::new(alloc, Testing::new(code)?)?;
+    Ok(Asking::One(testing))
+}
+
 impl<'a> TestsRunning<'a> {
     // What asks many lines for the tests.
     pub(crate) fn new(alloc: Global, tests: &'a TestsCode) -> Result<Self, AllocError>
         ensures { IfOk result (λ running. running ≡ tests.now) }
     {
         let node = match &tests.node {
-            Node::One(test) => Asking::One(Testing::new(test)?),
+            Node::One(test) => asking_one(alloc, test)?,
             Node::Joined(join, left, right) => {
                 let left = Box::new(alloc, TestsRunning::new(alloc, left)?)?;
                 let right = Box::new(alloc, TestsRunning::new(alloc, right)?)?;

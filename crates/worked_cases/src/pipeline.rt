@@ -53,8 +53,7 @@ fn runs(alloc: Global, query: &str, rest: &str) -> Result<String, Trouble> {
 // The built stages of the first term of a query.
 fn pipeline_in(alloc: Global, query: &str) -> Result<Pipeline, Trouble> {
     let query = query_in(alloc, query)?;
-    let stages = query.left.range.stages.as_slice();
-    Pipeline::build(alloc, stages).ok().ok_or(Trouble::BadInput)
+    Pipeline::build(alloc, &query.left).ok().ok_or(Trouble::BadInput)
 }
 
 fn push_runs(
