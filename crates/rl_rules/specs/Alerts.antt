@@ -1,5 +1,5 @@
 -- Alerts: what becomes of an alert at a moment, by the element with its label set and by what it was before.
-use Rattle.std.specs.Prelude.{ℕ, ◌*◌, ◌-◌, ◌^◌, nat_le, Bool, true, false, List, ◌++◌, map, flat_map, option_to_list, Option, None, Some, if◌then◌else◌}
+use Rattle.std.specs.Prelude.{ℕ, ◌+◌, ◌*◌, ◌^◌, nat_le, Bool, true, false, List, ◌++◌, map, flat_map, option_to_list, Option, None, Some, if◌then◌else◌}
 use Rattle.std.specs.FinMap.{entries, from_entries}
 use Rattle.std.specs.FinMap.Entries.{find}
 use Rattle.rl_labels.specs.LabelSet.{LabelSet}
@@ -36,7 +36,7 @@ fired_of t (Some alert) = fired_from t alert.phase alert.fired
 
 -- its element has been there for so many seconds
 abbrev pub is_due : ℕ → ℕ → ℕ → Bool
-is_due hold since t = nat_le (hold * 10 ^ 9) (t - since)
+is_due hold since t = nat_le (since + hold * 10 ^ 9) t
 
 -- an alert whose element is there, with the value that this has now: it fires once the rule's time has passed
 abbrev pub standing : ℕ → ℕ → LabelSet → Fraction → Option Alert → Alert

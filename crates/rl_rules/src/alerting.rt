@@ -112,8 +112,8 @@ fn fired_of(t: Ns, before: Option<&Alert>) -> Option<Ns>
 fn is_due(hold: u64, since: Ns, t: Ns) -> bool
     ensures { result ≡ is_due hold since t }
 {
-    let passed = t.get().saturating_sub(since.get());
-    u128::from(hold) * 1_000_000_000 <= u128::from(passed)
+    let held = u128::from(hold) * 1_000_000_000;
+    u128::from(since.get()) + held <= u128::from(t.get())
 }
 
 // The alerts in the order of their label sets, of which the first with one counts.
