@@ -1,23 +1,13 @@
 -- Old rules that are not the same are passed over, and the first that is goes.
-use Rattle.std.proofs.Common.{◌≡◌, ◌↔◌, ℕ, ◌+◌, ◌<◌, ◌≤◌, Bool, true, false, cond, IsTrue, List, [], ◌∷◌, ◌++◌, length, get_or, take, drop, Option, None, Some, refl, sym, ap, ◌∙◌, append_assoc}
+use Rattle.std.proofs.Common.{◌≡◌, ℕ, ◌+◌, ◌<◌, ◌≤◌, Bool, true, false, cond, List, [], ◌∷◌, ◌++◌, length, get_or, take, drop, Option, None, Some, sym, ap, ◌∙◌, append_assoc}
 use Rattle.std.proofs.lemmas.List.{take_more, drop_more, drop_all, take_all, append-nil, get_or_default}
 use Rattle.rl_rules.specs.declared.alert.Alert.{Alert}
 use Rattle.rl_rules.specs.declared.rule.Rule.{Rule}
 use Rattle.rl_rules.specs.Editing.{taken}
-use Rattle.rl_rules.specs.SameRule.{is_same_rule, is_same_rule-true}
+use Rattle.rl_rules.specs.SameRule.{is_same_rule}
 
 abbrev Old : Type 0
 Old = Rule × List Alert
-
--- a test that tells whether two rules are one is the test
-pub same_answer : (b : Bool) (one other : Rule) → (IsTrue b ↔ (one ≡ other)) → b ≡ is_same_rule one other
-same_answer b one other tells = alike b (is_same_rule one other) tells (is_same_rule-true one other)
-  where
-    alike : {P : Type 0} (a b : Bool) → (IsTrue a ↔ P) → (IsTrue b ↔ P) → a ≡ b
-    alike true true x y = refl
-    alike false false x y = refl
-    alike true false x y = sym (y.1 (x.0 refl))
-    alike false true x y = x.1 (y.0 refl)
 
 module _ (rule : Rule) where
   -- the olds before a place were passed over

@@ -6,5 +6,6 @@ pub mod Forms
 pub mod Outcomes
 pub mod Recording
 pub mod RuleNames
+pub mod SameCoded
 pub mod SameRule
 pub mod Values

@@ -1,5 +1,5 @@
 //! Alerts: elements of an alerting rule, from one evaluation to the next.
-ghost use Rattle.std.specs.Prelude.{◌≡◌, IfOk, IsOk};
+ghost use Rattle.std.specs.Prelude.{◌≡◌, ◌↔◌, IsTrue, IfOk, IsOk};
 
 use rl_aggregate::Fraction;
 use rl_labels::{Labels, Ns};
@@ -7,7 +7,7 @@ use rl_plain::{Same, TryCopy};
 use std::alloc::AllocError;
 
 /// An alert of a rule: an element that its vector has, or had.
-#[derive(Drop, PartialEq, Eq)]
+#[derive(Drop)]
 pub struct Alert {
     /// The element's labels, the rule's over them, and the rule's name as `alertname`.
     pub labels: Labels,
@@ -68,4 +68,28 @@ impl Same for Alert {
             && self.fired.is_same(&other.fired)
             && self.phase.is_same(&other.phase)
     }
+}
+
+impl PartialEq for Alert {
+    ghost use Rattle.std.specs.Cmp;
+    ghost use Rattle.rl_rules.specs.SameCoded.{same_coded, same_coded-equiv};
+    ghost use Rattle.rl_rules.specs.contracts.alert.Alert as alert_type;
+
+    ghost eq = { same_coded alert_type.the_row.coded };
+
+    ghost laws = { Cmp.partial_equiv_from_equiv (same_coded-equiv alert_type.the_row.coded) };
+
+    fn eq(&self, other: &Self) -> bool
+        ensures coded { result ≡ same_coded alert_type.the_row.coded self.now other.now }
+        ensures one { IsTrue result ↔ (self.now ≡ other.now) }
+    {
+        self.is_same(other)
+    }
+}
+
+impl Eq for Alert {
+    ghost use Rattle.rl_rules.specs.SameCoded.{same_coded-equiv};
+    ghost use Rattle.rl_rules.specs.contracts.alert.Alert as alert_type;
+
+    ghost laws = { same_coded-equiv alert_type.the_row.coded };
 }

@@ -1,5 +1,5 @@
 //! Evaluations of a group: what each of its rules made of its query's outcome at a moment.
-ghost use Rattle.std.specs.Prelude.{◌≡◌, IfOk, IsOk};
+ghost use Rattle.std.specs.Prelude.{◌≡◌, ◌↔◌, IsTrue, IfOk, IsOk};
 
 use crate::alert::Alert;
 use crate::rule::RuleKind;
@@ -9,7 +9,7 @@ use rl_plain::{PlainList, PlainText, Same, TryCopy};
 use std::alloc::AllocError;
 
 /// An evaluation of a group at a moment.
-#[derive(Drop, PartialEq, Eq)]
+#[derive(Drop)]
 pub struct Evaluation {
     /// The name of the group.
     pub group: PlainText,
@@ -21,7 +21,7 @@ pub struct Evaluation {
 }
 
 /// What a rule gave, with what a sink says of the rule.
-#[derive(Drop, PartialEq, Eq)]
+#[derive(Drop)]
 pub struct RuleResult {
     pub kind: RuleKind,
     pub name: PlainText,
@@ -30,7 +30,7 @@ pub struct RuleResult {
 }
 
 /// What a rule gave.
-#[derive(Drop, PartialEq, Eq)]
+#[derive(Drop)]
 pub enum RuleOutcome {
     /// The recorded samples, in the order of their label sets.
     Samples(PlainList<Sample>),
@@ -89,6 +89,30 @@ impl Same for RuleOutcome {
     }
 }
 
+impl PartialEq for RuleOutcome {
+    ghost use Rattle.std.specs.Cmp;
+    ghost use Rattle.rl_rules.specs.SameCoded.{same_coded, same_coded-equiv};
+    ghost use Rattle.rl_rules.specs.contracts.evaluation.RuleOutcome as outcome_type;
+
+    ghost eq = { same_coded outcome_type.the_row.coded };
+
+    ghost laws = { Cmp.partial_equiv_from_equiv (same_coded-equiv outcome_type.the_row.coded) };
+
+    fn eq(&self, other: &Self) -> bool
+        ensures coded { result ≡ same_coded outcome_type.the_row.coded self.now other.now }
+        ensures one { IsTrue result ↔ (self.now ≡ other.now) }
+    {
+        self.is_same(other)
+    }
+}
+
+impl Eq for RuleOutcome {
+    ghost use Rattle.rl_rules.specs.SameCoded.{same_coded-equiv};
+    ghost use Rattle.rl_rules.specs.contracts.evaluation.RuleOutcome as outcome_type;
+
+    ghost laws = { same_coded-equiv outcome_type.the_row.coded };
+}
+
 impl TryCopy for RuleResult {
     fn try_copy(&self) -> Result<Self, AllocError> {
         let name = self.name.try_copy()?;
@@ -112,6 +136,30 @@ impl Same for RuleResult {
     }
 }
 
+impl PartialEq for RuleResult {
+    ghost use Rattle.std.specs.Cmp;
+    ghost use Rattle.rl_rules.specs.SameCoded.{same_coded, same_coded-equiv};
+    ghost use Rattle.rl_rules.specs.contracts.evaluation.RuleResult as result_type;
+
+    ghost eq = { same_coded result_type.the_row.coded };
+
+    ghost laws = { Cmp.partial_equiv_from_equiv (same_coded-equiv result_type.the_row.coded) };
+
+    fn eq(&self, other: &Self) -> bool
+        ensures coded { result ≡ same_coded result_type.the_row.coded self.now other.now }
+        ensures one { IsTrue result ↔ (self.now ≡ other.now) }
+    {
+        self.is_same(other)
+    }
+}
+
+impl Eq for RuleResult {
+    ghost use Rattle.rl_rules.specs.SameCoded.{same_coded-equiv};
+    ghost use Rattle.rl_rules.specs.contracts.evaluation.RuleResult as result_type;
+
+    ghost laws = { same_coded-equiv result_type.the_row.coded };
+}
+
 impl TryCopy for Evaluation {
     fn try_copy(&self) -> Result<Self, AllocError> {
         let group = self.group.try_copy()?;
@@ -133,4 +181,28 @@ impl Same for Evaluation {
             && self.places.is_same(&other.places)
             && self.outcomes.is_same(&other.outcomes)
     }
+}
+
+impl PartialEq for Evaluation {
+    ghost use Rattle.std.specs.Cmp;
+    ghost use Rattle.rl_rules.specs.SameCoded.{same_coded, same_coded-equiv};
+    ghost use Rattle.rl_rules.specs.contracts.evaluation.Evaluation as evaluation_type;
+
+    ghost eq = { same_coded evaluation_type.the_row.coded };
+
+    ghost laws = { Cmp.partial_equiv_from_equiv (same_coded-equiv evaluation_type.the_row.coded) };
+
+    fn eq(&self, other: &Self) -> bool
+        ensures coded { result ≡ same_coded evaluation_type.the_row.coded self.now other.now }
+        ensures one { IsTrue result ↔ (self.now ≡ other.now) }
+    {
+        self.is_same(other)
+    }
+}
+
+impl Eq for Evaluation {
+    ghost use Rattle.rl_rules.specs.SameCoded.{same_coded-equiv};
+    ghost use Rattle.rl_rules.specs.contracts.evaluation.Evaluation as evaluation_type;
+
+    ghost laws = { same_coded-equiv evaluation_type.the_row.coded };
 }

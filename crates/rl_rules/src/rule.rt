@@ -1,5 +1,5 @@
 //! Rules and groups of rules, as in Prometheus' rule files.
-ghost use Rattle.std.specs.Prelude.{◌≡◌, IfOk, IsOk};
+ghost use Rattle.std.specs.Prelude.{◌≡◌, ◌↔◌, IsTrue, IfOk, IsOk};
 
 use rl_labels::Labels;
 use rl_plain::{PlainList, PlainText, Same, TryCopy};
@@ -7,7 +7,7 @@ use rl_query::Query;
 use std::alloc::AllocError;
 
 /// A group of rules, evaluated one after another at one moment.
-#[derive(Drop, PartialEq, Eq)]
+#[derive(Drop)]
 pub struct Group {
     pub name: PlainText,
     /// From one evaluation to the next, in seconds.
@@ -18,7 +18,7 @@ pub struct Group {
 }
 
 /// A rule: a query under a name.
-#[derive(Drop, PartialEq, Eq)]
+#[derive(Drop)]
 pub struct Rule {
     pub kind: RuleKind,
     /// The name of the metric that is recorded, or of the alerts.
@@ -85,6 +85,30 @@ impl Same for Rule {
     }
 }
 
+impl PartialEq for Rule {
+    ghost use Rattle.std.specs.Cmp;
+    ghost use Rattle.rl_rules.specs.SameCoded.{same_coded, same_coded-equiv};
+    ghost use Rattle.rl_rules.specs.contracts.rule.Rule as rule_type;
+
+    ghost eq = { same_coded rule_type.the_row.coded };
+
+    ghost laws = { Cmp.partial_equiv_from_equiv (same_coded-equiv rule_type.the_row.coded) };
+
+    fn eq(&self, other: &Self) -> bool
+        ensures coded { result ≡ same_coded rule_type.the_row.coded self.now other.now }
+        ensures one { IsTrue result ↔ (self.now ≡ other.now) }
+    {
+        self.is_same(other)
+    }
+}
+
+impl Eq for Rule {
+    ghost use Rattle.rl_rules.specs.SameCoded.{same_coded-equiv};
+    ghost use Rattle.rl_rules.specs.contracts.rule.Rule as rule_type;
+
+    ghost laws = { same_coded-equiv rule_type.the_row.coded };
+}
+
 impl TryCopy for Group {
     fn try_copy(&self) -> Result<Self, AllocError> {
         let name = self.name.try_copy()?;
@@ -105,4 +129,28 @@ impl Same for Group {
             && self.name.is_same(&other.name)
             && self.rules.is_same(&other.rules)
     }
+}
+
+impl PartialEq for Group {
+    ghost use Rattle.std.specs.Cmp;
+    ghost use Rattle.rl_rules.specs.SameCoded.{same_coded, same_coded-equiv};
+    ghost use Rattle.rl_rules.specs.contracts.rule.Group as group_type;
+
+    ghost eq = { same_coded group_type.the_row.coded };
+
+    ghost laws = { Cmp.partial_equiv_from_equiv (same_coded-equiv group_type.the_row.coded) };
+
+    fn eq(&self, other: &Self) -> bool
+        ensures coded { result ≡ same_coded group_type.the_row.coded self.now other.now }
+        ensures one { IsTrue result ↔ (self.now ≡ other.now) }
+    {
+        self.is_same(other)
+    }
+}
+
+impl Eq for Group {
+    ghost use Rattle.rl_rules.specs.SameCoded.{same_coded-equiv};
+    ghost use Rattle.rl_rules.specs.contracts.rule.Group as group_type;
+
+    ghost laws = { same_coded-equiv group_type.the_row.coded };
 }

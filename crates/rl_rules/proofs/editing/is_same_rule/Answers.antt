@@ -1,6 +1,7 @@
 -- The sameness of rules tells whether two are one.
-use Rattle.rl_rules.proofs.Edited.{same_answer}
+use Rattle.rl_rules.specs.SameCoded.{same_answer}
+use Rattle.rl_rules.specs.contracts.rule.Rule as rule_type
 use Rattle.rl_rules.proofs.editing.is_same_rule.Goals as goal
 
 pub returns : goal.returns
-returns c = same_answer c.is_same.result c.args.one.now c.args.other.now c.is_same.ensures
+returns c = same_answer rule_type.the_row.coded c.is_same.result c.args.one.now c.args.other.now c.is_same.ensures

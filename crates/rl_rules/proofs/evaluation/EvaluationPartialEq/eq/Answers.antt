@@ -1,0 +1,7 @@
+-- Whether two are one is what their codes tell.
+use Rattle.rl_rules.specs.SameCoded.{same_answer}
+use Rattle.rl_rules.specs.contracts.evaluation.Evaluation as evaluation_type
+use Rattle.rl_rules.proofs.evaluation.EvaluationPartialEq.eq.Goals as goal
+
+pub returns-clause-coded : goal.returns-clause-coded
+returns-clause-coded c = same_answer evaluation_type.the_row.coded c.is_same.result c.args.self.now c.args.other.now c.is_same.ensures
