@@ -1,6 +1,6 @@
 //! A sink that writes the samples of recording rules, and keeps every text.
-ghost use Rattle.std.specs.Prelude.{◌≡◌, ◌≢◌, ◌⊎◌, ◌+◌, ◌<◌, ◌≤◌, ◌^◌, [], length, not, ◌&&◌, IsTrue, IsOk, Err, OnOk, OnErr, IfErr, slice_index_or, false, None};
-ghost use Rattle.rl_sinks.specs.Pieces.{pieces, IsPlace, Writes};
+ghost use Rattle.std.specs.Prelude.{◌≡◌, ◌≢◌, ◌⊎◌, ◌+◌, ◌<◌, ◌^◌, [], length, not, ◌&&◌, IsTrue, IsOk, Err, OnOk, OnErr, IfErr, false, None};
+ghost use Rattle.rl_sinks.specs.Pieces.{Writes};
 
 use crate::sink::{Sink, SinkFault, SinkKind};
 use crate::writing::{add, kept_text, write_rest};
@@ -8,8 +8,10 @@ use rl_plain::PlainText;
 use rl_rules::Evaluation;
 use std::alloc::Global;
 use std::io::Write;
+use std::marker::Model;
 
 /// Keeps every text, and writes them to its writer when it is closed, with the last line `# end <count>` behind them.
+/// Contracts see a `Recorded`.
 #[derive(Drop)]
 pub struct Recorder<W> {
     pub(crate) writer: W,
@@ -22,8 +24,18 @@ pub struct Recorder<W> {
     pub(crate) part: usize,
     pub(crate) closed: bool,
     pub(crate) refusals: u64,
-    ghost open_in_texts: { IsTrue (not closed) → (next ≤ length texts.items) × (part ≤ length (slice_index_or texts.items next [])) },
-    ghost place: { IsPlace (pieces texts.items) next part },
+}
+
+impl<W> Model for Recorder<W> {
+    ghost use Rattle.rl_sinks.specs.RecorderState.{Recorded, recorded_code, IsRecorded};
+
+    ghost Value = { Recorded W };
+
+    ghost coded = { recorded_code W.code };
+
+    ghost view = { λ a. record { writer = a.writer; room = a.cap; texts = a.texts.items; next = a.next; part = a.part; closed = a.closed; refusals = a.refusals } };
+
+    ghost invariant = { λ a. IsRecorded a.texts.items a.next a.part a.closed };
 }
 
 impl<W: Write + Drop> Recorder<W> {
@@ -33,7 +45,7 @@ impl<W: Write + Drop> Recorder<W> {
     /// A recorder that has taken nothing. At most `cap` texts wait to be written; where that is 0, each is refused as Full.
     pub fn new(alloc: Global, writer: W, cap: usize) -> Self
         ensures state { recorder_state result ≡ record { kind = kinds.Recorder; limit = None; count = 0; kept = []; closed = false; refusals = 0 } }
-        ensures room { result.cap ≡ cap }
+        ensures room { result.room ≡ cap }
         ensures writer { result.writer ≡ writer }
         ensures unwritten { (result.next ≡ 0) × (result.part ≡ 0) }
     {
@@ -80,14 +92,14 @@ impl<W: Write + Send + Drop> Sink for Recorder<W> {
     }
 
     fn take(&mut self, evaluation: &Evaluation) -> Result<(), SinkFault>
-        requires { length self.old.texts.items + 1 < 2 ^ 64 }
+        requires { length self.old.texts + 1 < 2 ^ 64 }
         ensures ok { OnOk result (recorder_state self.new ≡ taken (recorder_state self.old) (evaluation_text kinds.Recorder evaluation.now)) }
         ensures err { OnErr result (recorder_state self.new ≡ refused (recorder_state self.old)) }
         ensures closed { IsTrue self.old.closed → result ≡ Err (faults.Refused 1) }
         ensures full { IsTrue (not self.old.closed && is_full self.old) → result ≡ Err faults.Full }
         ensures open { IsTrue (not self.old.closed && not (is_full self.old)) → IsOk result ⊎ (result ≡ Err faults.Memory) }
         ensures answer { TakeAnswers self.old result }
-        ensures room { self.new.cap ≡ self.old.cap }
+        ensures room { self.new.room ≡ self.old.room }
         ensures writer { self.new.writer ≡ self.old.writer }
         ensures unwritten { (self.new.next ≡ self.old.next) × (self.new.part ≡ self.old.part) }
     {
@@ -105,7 +117,7 @@ impl<W: Write + Send + Drop> Sink for Recorder<W> {
         ensures all { OnOk result (unwritten self.new ≡ []) }
         ensures left { OnErr result (unwritten self.new ≢ []) }
         ensures answer { CloseAnswers self.new result }
-        ensures room { self.new.cap ≡ self.old.cap }
+        ensures room { self.new.room ≡ self.old.room }
     {
         self.closed = true;
         write_rest(

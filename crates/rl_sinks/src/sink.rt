@@ -75,7 +75,8 @@ pub trait Sink: Send + Drop {
     fn kept(&self, index: u64) -> Option<&str>
         ensures { option_copied result ≡ slice_get (state self.now).kept index };
 
-    /// Takes the evaluation's text for its kind. A refusal keeps nothing and is counted; a closed sink refuses with reason 1.
+    /// Takes the evaluation's text for its kind. A refusal keeps nothing and is counted. A closed sink refuses with reason 1,
+    /// and no sink that is open does; so who is told `Refused(1)` knows that the sink is closed.
     fn take(&mut self, evaluation: &Evaluation) -> Result<(), SinkFault>
         requires { (state self.old).count + 1 < 2 ^ 64 }
         ensures ok { OnOk result (state self.new ≡ taken (state self.old) (evaluation_text (state self.old).kind evaluation.now)) }

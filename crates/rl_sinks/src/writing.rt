@@ -30,7 +30,7 @@ pub(crate) fn add<W: Write + Drop>(
     recorder: &mut Recorder<W>,
     evaluation: &Evaluation,
 ) -> Result<(), SinkFault>
-    ensures room { recorder.new.cap ≡ recorder.old.cap }
+    ensures room { recorder.new.room ≡ recorder.old.room }
     ensures writer { recorder.new.writer ≡ recorder.old.writer }
     ensures unwritten { (recorder.new.next ≡ recorder.old.next) × (recorder.new.part ≡ recorder.old.part) }
     ensures ok { OnOk result (recorder_state recorder.new ≡ taken (recorder_state recorder.old) (evaluation_text kinds.Recorder evaluation.now)) }
