@@ -1,5 +1,5 @@
 -- What a shard answers to a step, and what it holds afterwards.
-use Rattle.std.specs.Prelude.{ℕ, ◌+◌, ◌*◌, nat_lt, nat_le, max, Bool, false, not, map, if◌then◌else◌, Option, None, Some}
+use Rattle.std.specs.Prelude.{ℕ, ◌+◌, ◌*◌, nat_lt, nat_le, max, Bool, map, if◌then◌else◌, Option, None, Some}
 use Rattle.std.specs.Option.{is_none, unwrap_or}
 use Rattle.std.specs.FinMap.{FinMap, insert, contains_key, len}
 use Rattle.rl_labels.specs.LabelSet.{LabelSet}
@@ -83,8 +83,3 @@ after_push shard entry = record { limits = shard.limits; state = pushed shard.li
 -- a step that is decided makes a record
 abbrev pub recorded : Journalled → ShardStep → Journalled
 recorded shard step = record { limits = shard.limits; state = stepped shard.limits shard.state step; records = shard.records + 1 }
-
--- a push that holds nothing new takes no memory
-abbrev pub needs_no_memory : Limits → ShardState → ShardStep → Bool
-needs_no_memory limits shard (steps.Push entry) = not (is_taken limits shard entry)
-needs_no_memory limits shard (steps.Collect slot terms t) = false

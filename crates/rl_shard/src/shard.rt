@@ -1,5 +1,5 @@
 //! A shard, by its steps.
-ghost use Rattle.std.specs.Prelude.{◌≡◌, IsTrue, not, ◌&&◌, Err, IsOk, IfOk, OnOk, OnErr, IsErrOf};
+ghost use Rattle.std.specs.Prelude.{◌≡◌, IsTrue, Err, IfOk, OnOk, OnErr, IsErrOf};
 
 use crate::collecting::collect;
 use crate::decision::Decision;
@@ -42,7 +42,7 @@ impl Model for Shard {
 
 impl Shard {
     ghost use Rattle.rl_shard.specs.ShardState.{empty_shard};
-    ghost use Rattle.rl_shard.specs.ShardStep.{push_reply, after_push, is_taken, step_reply, recorded, is_journal_full, needs_no_memory};
+    ghost use Rattle.rl_shard.specs.ShardStep.{push_reply, after_push, step_reply, recorded, is_journal_full};
     ghost use Rattle.rl_shard.specs.declared.step.ShardFault.TheVariants as faults;
     ghost use Rattle.rl_shard.specs.declared.step.ShardReply.TheVariants as replies;
     ghost use Rattle.rl_shard.specs.ShardState.{visible};
@@ -85,7 +85,6 @@ impl Shard {
         ensures changed { OnOk result (self.new ≡ recorded self.old step) }
         ensures same { OnErr result (self.new ≡ self.old) }
         ensures few { length (visible self.old.state) ≤ self.old.limits.entries }
-        ensures no_memory { IsTrue (not (is_journal_full self.old) && needs_no_memory self.old.limits self.old.state step) → IsOk result }
     {
         if self.is_journal_full() {
             return Err(ShardFault::JournalFull);
@@ -106,7 +105,6 @@ impl Shard {
         ensures reply { IfOk result (λ reply. reply ≡ push_reply self.old.limits self.old.state entry) }
         ensures state { OnOk result (self.new ≡ after_push self.old entry) }
         ensures err { OnErr result (self.new ≡ self.old) }
-        ensures no_memory { IsTrue (not (is_taken self.old.limits self.old.state entry)) → IsOk result }
     {
         match decide(&self.limits, &self.held, &self.newest, self.horizon, &entry) {
             Decision::Answer(reply) => Ok(reply),

@@ -1,14 +1,13 @@
 -- What each turn makes of a world, by what the calls of its shards and books promise.
-use Rattle.std.proofs.Common.{◌≡◌, ◌⊎◌, inl, inr, ℕ, zero, suc, [], ◌∷◌, Bool, true, false, cond, not, ◌&&◌, IsOk, is_ok, List, map, length, Option, None, Some, Result, Ok, Err, option_map, slice_get, slice_set, refl, sym, ap, subst, ◌∙◌}
+use Rattle.std.proofs.Common.{◌≡◌, ◌⊎◌, inl, inr, ℕ, zero, suc, [], ◌∷◌, Bool, true, false, cond, List, map, length, Option, None, Some, Result, Ok, Err, option_map, slice_get, slice_set, refl, sym, ap, subst, ◌∙◌}
 use Rattle.std.specs.List.{AllByRecursion}
 use Rattle.std.proofs.lemmas.List.{map-set, set-get_or}
 use Rattle.std.proofs.lemmas.Option.{slice_get-map, get_or_from_slice_get}
-use Rattle.std.proofs.lemmas.Bool.{and_from, true≢false}
 use Rattle.std.proofs.Math.Seq.{map-set_same}
 use Rattle.rl_labels.specs.Name.{is_text}
 use Rattle.rl_rules.specs.declared.rule.Group.{Group}
 use Rattle.rl_shard.specs.ShardState.{Journalled}
-use Rattle.rl_shard.specs.ShardStep.{step_reply, recorded, is_journal_full, needs_no_memory}
+use Rattle.rl_shard.specs.ShardStep.{step_reply, recorded, is_journal_full}
 use Rattle.rl_shard.specs.declared.step.ShardStep.{ShardStep}
 use Rattle.rl_shard.specs.declared.step.ShardReply.{ShardReply}
 use Rattle.rl_shard.specs.declared.step.ShardFault.{ShardFault}
@@ -17,7 +16,7 @@ use Rattle.rl_world.specs.BookCalls.{Answers, Refuses, with_history}
 use Rattle.rl_world.specs.History.{begin_fault, commit_fault, abandon_fault, edit_fault, begun, abandoned, edited}
 use Rattle.rl_world.specs.WorldRun.{told}
 use Rattle.rl_world.specs.WorldState.{BookState, world_of}
-use Rattle.rl_world.specs.WorldStep.{WorldStep, MayRefuse, partials, known, edit_refusal, journal_refusal, refusal_of, may_want, shard_may_want, told_of_shard, told_of_book}
+use Rattle.rl_world.specs.WorldStep.{WorldStep, MayRefuse, partials, known, edit_refusal, journal_refusal, refusal_of, may_want, told_of_shard, told_of_book}
 use Rattle.rl_world.specs.declared.fault.BookFault.{BookFault}
 use Rattle.rl_plain.specs.declared.refusal.OrMemory.{OrMemory}
 use Rattle.rl_plain.specs.declared.refusal.OrMemory.TheVariants as errors
@@ -29,9 +28,6 @@ use Rattle.rl_world.specs.declared.step.Reply.TheVariants as replies
 
 ok_apart : {A E : Type 0} (x : A) (e : E) → Ok x ≡ Err e → ⊥
 ok_apart x e h = cc
-
-pub err_not_ok : {A E : Type 0} (result : Result A E) (e : E) → result ≡ Err e → IsOk result → ⊥
-err_not_ok result e is ok = true≢false (sym ok ∙ ap is_ok is)
 
 pub not_true : (b : Bool) → (b ≡ true → ⊥) → b ≡ false
 not_true true h = absurd (h refl)
@@ -104,9 +100,9 @@ module _ (shards : List Journalled) (books : List BookState) where
   )
 
   pub shard_refused : (number : ℕ) (step : ShardStep) (shard after : Journalled) (fault : ShardFault) (refusal : Refusal) → slice_get shards number ≡ Some shard
-      → (fault ≡ shard_faults.JournalFull → is_journal_full shard ≡ true) → (is_journal_full shard ≡ true → fault ≡ shard_faults.JournalFull) → ((not (is_journal_full shard) && needs_no_memory shard.limits shard.state step) ≡ true → ⊥) → after ≡ shard → refusal ≡ told_of_shard fault
+      → (fault ≡ shard_faults.JournalFull → is_journal_full shard ≡ true) → (is_journal_full shard ≡ true → fault ≡ shard_faults.JournalFull) → after ≡ shard → refusal ≡ told_of_shard fault
       → WorldStep partials (world_of shards books) (steps.Shard number step) (replies.Refused refusal) (world_of (slice_set shards number after) books)
-  shard_refused number step shard after fault refusal there full first wants after_is refusal_is = (
+  shard_refused number step shard after fault refusal there full first after_is refusal_is = (
     subst (λ r. MayRefuse (world_of shards books) (steps.Shard number step) r) (sym refusal_is) (may fault full first),
     λ i. record { shards = (ap (slice_set shards number) after_is ∙ set_same shards number shard there) i; histories = map (λ (b : BookState). b.history) books },
   )
@@ -114,14 +110,11 @@ module _ (shards : List Journalled) (books : List BookState) where
       is_other : shard_faults.Memory ≡ shard_faults.JournalFull → ⊥
       is_other h = cc
 
-      wanted : is_journal_full shard ≡ false → not (needs_no_memory shard.limits shard.state step) ≡ true
-      wanted free = ap not (not_true (needs_no_memory shard.limits shard.state step) (λ none. wants (and_from (not (is_journal_full shard)) (needs_no_memory shard.limits shard.state step) (ap not free) none)))
-
       may : (fault : ShardFault) → (fault ≡ shard_faults.JournalFull → is_journal_full shard ≡ true) → (is_journal_full shard ≡ true → fault ≡ shard_faults.JournalFull) → MayRefuse (world_of shards books) (steps.Shard number step) (told_of_shard fault)
       may shard_faults.JournalFull full first = inl (ap (λ s. known s journal_refusal) there ∙ ap (λ b. cond b (Some refusals.JournalFull) None) (full refl))
       may shard_faults.Memory full first =
           let free = not_true (is_journal_full shard) (λ h. is_other (first h)) in
-          inr (refl, ap (λ s. known s journal_refusal) there ∙ ap (λ b. cond b (Some refusals.JournalFull) None) free, ap (λ s. shard_may_want s step) there ∙ wanted free)
+          inr (refl, ap (λ s. known s journal_refusal) there ∙ ap (λ b. cond b (Some refusals.JournalFull) None) free, refl)
 
   -- a book that a call left as it was
   pub book_kept : (group : ℕ) (book after : BookState) → slice_get books group ≡ Some book → after ≡ book → world_of shards (slice_set books group after) ≡ world_of shards books
@@ -129,7 +122,7 @@ module _ (shards : List Journalled) (books : List BookState) where
 
   -- a call of a book that takes memory was refused
   pub book_refused : (A : Type 0) (group : ℕ) (step : Step) (fault : Option BookFault) (error : OrMemory BookFault) (refusal : Refusal) (book after : BookState) → slice_get books group ≡ Some book
-      → refusal_of (world_of shards books) step ≡ option_map refusals.Book fault → may_want shards step ≡ true → Answers {A = A} fault (Err error) → refusal ≡ told_of_book error → after ≡ book
+      → refusal_of (world_of shards books) step ≡ option_map refusals.Book fault → may_want step ≡ true → Answers {A = A} fault (Err error) → refusal ≡ told_of_book error → after ≡ book
       → WorldStep partials (world_of shards books) step (replies.Refused refusal) (world_of shards (slice_set books group after))
   book_refused A group step fault error refusal book after there first takes answer refusal_is after_is = (
     subst (λ r. MayRefuse (world_of shards books) step r) (sym refusal_is) (may (answered_err A fault error answer)),

@@ -1,11 +1,11 @@
 -- What a world answers to a step, and what it is afterwards.
-use Rattle.std.specs.Prelude.{◌≡◌, ◌⊎◌, ℕ, Bool, true, false, not, IsTrue, List, [], ◌∷◌, length, Option, None, Some, option_map, slice_get, slice_set, if◌then◌else◌}
+use Rattle.std.specs.Prelude.{◌≡◌, ◌⊎◌, ℕ, Bool, true, false, IsTrue, List, [], ◌∷◌, length, Option, None, Some, option_map, slice_get, slice_set, if◌then◌else◌}
 use Rattle.rl_labels.specs.Name.{is_text}
 use Rattle.rl_labels.specs.declared.entry.Entry.{Entry}
 use Rattle.rl_query.specs.declared.query.Term.{Term}
 use Rattle.rl_aggregate.specs.declared.partial.Partial.{Partial}
 use Rattle.rl_shard.specs.ShardState.{Journalled, visible}
-use Rattle.rl_shard.specs.ShardStep.{step_reply, recorded, is_journal_full, needs_no_memory}
+use Rattle.rl_shard.specs.ShardStep.{step_reply, recorded, is_journal_full}
 use Rattle.rl_shard.specs.declared.step.ShardStep.{ShardStep}
 use Rattle.rl_shard.specs.declared.step.ShardStep.TheVariants as shard_steps
 use Rattle.rl_shard.specs.declared.step.ShardReply.{ShardReply}
@@ -64,19 +64,10 @@ abbrev pub told_of_book : OrMemory BookFault → Refusal
 told_of_book (errors.Fault fault) = refusals.Book fault
 told_of_book errors.Memory = refusals.Memory
 
--- a shard, if it is there, may want memory for a step
-abbrev pub shard_may_want : Option Journalled → ShardStep → Bool
-shard_may_want None step = false
-shard_may_want (Some shard) step = not (needs_no_memory shard.limits shard.state step)
-
--- whether a step may want memory: one of a shard where the shard may, and Abandon never
-abbrev pub may_want : List Journalled → Step → Bool
-may_want shards (steps.Shard number step) = shard_may_want (slice_get shards number) step
-may_want shards (steps.Abandon group) = false
-may_want shards (steps.Edit group to) = true
-may_want shards (steps.Begin group t) = true
-may_want shards (steps.Gather group number) = true
-may_want shards (steps.Commit group) = true
+-- whether a step may want memory: each but Abandon
+abbrev pub may_want : Step → Bool
+may_want (steps.Abandon group) = false
+may_want step = true
 
 module _ {X : Type 0} where
   -- a group is edited under its own name; another is no such group
@@ -94,7 +85,7 @@ module _ {X : Type 0} where
 
   -- it is the first refusal that applies; where none does, it may be want of memory
   abbrev pub MayRefuse : WorldState X → Step → Refusal → Type 0
-  MayRefuse world step refusal = (refusal_of world step ≡ Some refusal) ⊎ ((refusal ≡ refusals.Memory) × (refusal_of world step ≡ None) × IsTrue (may_want world.shards step))
+  MayRefuse world step refusal = (refusal_of world step ≡ Some refusal) ⊎ ((refusal ≡ refusals.Memory) × (refusal_of world step ≡ None) × IsTrue (may_want step))
 
   abbrev pub with_shard : WorldState X → ℕ → Journalled → WorldState X
   with_shard world number shard = record { shards = slice_set world.shards number shard; histories = world.histories }

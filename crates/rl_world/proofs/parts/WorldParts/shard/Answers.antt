@@ -4,7 +4,7 @@ use Rattle.std.proofs.lemmas.Bool.Decides.{nat_tests}
 use Rattle.std.proofs.lemmas.Option.{slice_get_read}
 use Rattle.rl_shard.specs.declared.step.ShardReply.{ShardReply}
 use Rattle.rl_shard.specs.declared.step.ShardFault.TheVariants as shard_faults
-use Rattle.rl_world.proofs.Turning.{err_is, err_not_ok, shard_decided, shard_refused}
+use Rattle.rl_world.proofs.Turning.{err_is, shard_decided, shard_refused}
 use Rattle.rl_world.proofs.parts.WorldParts.shard.Goals as goal
 
 pub returns-in-Ok-clause-step : goal.returns-in-Ok-clause-step
@@ -17,4 +17,4 @@ pub returns-in-Err-clause-step : goal.returns-in-Err-clause-step
 returns-in-Err-clause-step g c =
     let shards = c.args.self.now.shards.items in
     let there = slice_get_read shards c.len.result c.args.number c.index_mut-shard.result.now (omega (arith, c.len.ensures, c.args.self.now.shards.ok.0)) (grind (arith, nat_tests, c.if-number-len.false)) c.index_mut-shard.ensures.value in
-    shard_refused shards c.args.self.now.books.items c.args.number c.args.step c.index_mut-shard.result.now c.apply.new.self c.in-Err.fault c.refusal_of_shard.result there (λ h. c.apply.ensures.room (c.in-Err.is ∙ ap (λ f. Err f) h)) (λ h. err_is {A = ℕ × ShardReply} c.in-Err.fault shard_faults.JournalFull (sym c.in-Err.is ∙ c.apply.ensures.journal_full h)) (λ h. err_not_ok c.apply.result c.in-Err.fault c.in-Err.is (c.apply.ensures.no_memory h)) c.in-Err.ensures.same c.refusal_of_shard.ensures
+    shard_refused shards c.args.self.now.books.items c.args.number c.args.step c.index_mut-shard.result.now c.apply.new.self c.in-Err.fault c.refusal_of_shard.result there (λ h. c.apply.ensures.room (c.in-Err.is ∙ ap (λ f. Err f) h)) (λ h. err_is {A = ℕ × ShardReply} c.in-Err.fault shard_faults.JournalFull (sym c.in-Err.is ∙ c.apply.ensures.journal_full h)) c.in-Err.ensures.same c.refusal_of_shard.ensures
