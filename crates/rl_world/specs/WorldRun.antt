@@ -12,18 +12,26 @@ use Rattle.rl_world.specs.declared.step.Step.TheVariants as steps
 use Rattle.rl_world.specs.declared.step.Reply.{Reply}
 use Rattle.rl_world.specs.declared.step.Reply.TheVariants as replies
 
--- a commit offers its group's sinks what they have not taken, and lists those that are behind
+-- a commit offers its group's sinks what they have not taken, and lists those that are behind; its book asks as many shards as
+-- before, under the same number
 pub record CommitSinks (old : List BookState) (group : ℕ) (answer : Committed) (new : List BookState) : Type 0 where
   pub before : BookState
   pub there : slice_get old group ≡ Some before
   pub after : BookState
   pub now : new ≡ slice_set old group after
+  pub asks : (after.shards ≡ before.shards) × (after.slot ≡ before.slot)
   pub offered : AllOffered after.history.evaluations before.sinks after.sinks
   pub behind : answer.behind ≡ behind_of after.history.evaluations after.sinks
 
--- what sinks are told of, and the sinks
-abbrev pub told : BookState → List Evaluation × List SinkState
-told book = (book.history.evaluations, book.sinks)
+-- what sinks are told of, the sinks, how many shards a book asks, and under which number
+pub record BookTold : Type 0 where
+  pub evaluations : List Evaluation
+  pub sinks : List SinkState
+  pub shards : ℕ
+  pub slot : ℕ
+
+abbrev pub told : BookState → BookTold
+told book = record { evaluations = book.history.evaluations; sinks = book.sinks; shards = book.shards; slot = book.slot }
 
 -- what a step makes of the sinks: only a commit adds an evaluation, and touches them
 abbrev pub SinkStep : List BookState → Step → Reply → List BookState → Type 0

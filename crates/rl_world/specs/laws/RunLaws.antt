@@ -8,7 +8,7 @@ use Rattle.rl_rules.specs.declared.evaluation.Evaluation.{Evaluation}
 use Rattle.rl_sinks.specs.SinkState.{SinkState}
 use Rattle.rl_world.specs.Offering.{Offered, AllOffered, is_behind, behind_from, behind_of}
 use Rattle.rl_world.specs.Listings.{SinksFollow, listing, listings, is_listed, latest, last_listing}
-use Rattle.rl_world.specs.WorldRun.{CommitSinks, SinkStep, Ran, told}
+use Rattle.rl_world.specs.WorldRun.{CommitSinks, SinkStep, Ran, BookTold, told}
 use Rattle.rl_labels.specs.declared.entry.Entry.{Entry}
 use Rattle.rl_world.specs.WorldState.{BookState, WorldBooks, WorldState, Stands, world_of}
 use Rattle.rl_world.specs.WorldStep.{Replay, lists}
@@ -131,9 +131,9 @@ untouched old new group number book sink same there here =
       after = found.after;
       there = found.there;
       new = sink;
-      here = ap (λ (t : List Evaluation × List SinkState). slice_get t.1 number) found.same ∙ here;
+      here = ap (λ (t : BookTold). slice_get t.sinks number) found.same ∙ here;
       refusals = ap (λ n. n % 2 ^ 64) (omega arith);
-      behind = (refl, ap (λ (t : List Evaluation × List SinkState). t.0) found.same);
+      behind = (refl, ap (λ (t : BookTold). t.evaluations) found.same);
     }
 
 -- one refusal where the sink is behind
@@ -253,7 +253,7 @@ ran_follow old steps replies new run group number sink at =
 abbrev pub sink_counts : List BookState → List ℕ
 sink_counts books = map (λ book. length book.sinks) books
 
-counts_told : (books : List BookState) → map (λ (t : List Evaluation × List SinkState). length t.1) (map told books) ≡ sink_counts books
+counts_told : (books : List BookState) → map (λ (t : BookTold). length t.sinks) (map told books) ≡ sink_counts books
 counts_told [] = refl
 counts_told (book ∷ books) = ap (λ rest. length book.sinks ∷ rest) (counts_told books)
 
@@ -271,7 +271,7 @@ offered_count evaluations (old ∷ olds) [] all = absurd all
 turn_counts : (old new : List BookState) (step : Step) (reply : Reply) → SinkStep old step reply new → sink_counts new ≡ sink_counts old
 turn_counts old new (steps.Commit group) (replies.Committed answer) commit =
     ap sink_counts commit.now ∙ counts_set old group commit.before commit.after commit.there (offered_count commit.after.history.evaluations commit.before.sinks commit.after.sinks commit.offered)
-turn_counts old new step reply same = sym (counts_told new) ∙ ap (map (λ (t : List Evaluation × List SinkState). length t.1)) same ∙ counts_told old
+turn_counts old new step reply same = sym (counts_told new) ∙ ap (map (λ (t : BookTold). length t.sinks)) same ∙ counts_told old
 
 -- no sink comes or goes
 pub ran_counts : (old : WorldBooks) (steps : List Step) (replies : List Reply) (new : WorldBooks) → Ran old steps replies new → sink_counts new.books ≡ sink_counts old.books
