@@ -1,6 +1,7 @@
 //! What is told of a rule file.
 use crate::hint::hint_at;
 use crate::place::line_at;
+use crate::print::push_groups;
 use rl_query::{QueryError, QueryFault, parse};
 use rl_rules::{Group, RulesError, RulesFault, read_rules};
 use std::alloc::{AllocError, AllocFailed, Global};
@@ -37,11 +38,15 @@ impl From<fmt::Error> for Untold {
     }
 }
 
-/// What is told of a rule file: how much it has, or its faults, as the reader of a ruler finds them.
-pub(crate) fn report_of(alloc: Global, file: &str) -> Result<Report, Untold> {
+/// What is told of a rule file: its groups, if they are to be printed, and how much it has; or its faults, as the reader of a
+/// ruler finds them.
+pub(crate) fn report_of(alloc: Global, file: &str, prints: bool) -> Result<Report, Untold> {
     let mut text = String::new(alloc);
     let is_taken = match read_rules(alloc, file) {
         Ok(groups) => {
+            if prints {
+                push_groups(&mut text, &groups)?;
+            }
             push_counts(&mut text, &groups)?;
             true
         }
