@@ -10,7 +10,18 @@ pub(crate) fn halves(input: &str) -> Result<(&str, &str), Trouble> {
 }
 
 /// How a copy of the left value stands to the right one: by its signs, by `cmp`, and whether they are the same.
-pub(crate) fn compared<T>(alloc: Global, left: &T, right: &T) -> Result<String, Trouble>
+pub(crate) fn compared<T, F>(alloc: Global, input: &str, read: F) -> Result<String, Trouble>
+where
+    T: Ord + Hash + Same + TryCopy,
+    F: Fn(Global, &str) -> Result<T, Trouble>,
+    requires { F.IsAlwaysCallable read }
+{
+    let (left, right) = halves(input)?;
+    let (left, right) = (read(alloc, left)?, read(alloc, right)?);
+    order_of(alloc, &left, &right)
+}
+
+fn order_of<T>(alloc: Global, left: &T, right: &T) -> Result<String, Trouble>
 where
     T: Ord + Hash + Same + TryCopy,
 {
@@ -20,20 +31,19 @@ where
     Ok(format!(in alloc; "{sign} {order:?} {word}")?)
 }
 
-/// How a copy of the left value stands to the right one, where there is no order.
+/// Whether a copy of the left value is equal to the right one and the same, neither, or one alone.
 pub(crate) fn matched<T, F>(alloc: Global, input: &str, read: F) -> Result<String, Trouble>
 where
     T: PartialEq + Same + TryCopy,
-    F: Fn(&str) -> Result<T, Trouble>,
+    F: Fn(Global, &str) -> Result<T, Trouble>,
     requires { F.IsAlwaysCallable read }
 {
     let (left, right) = halves(input)?;
-    let (left, right) = (read(left)?, read(right)?);
+    let (left, right) = (read(alloc, left)?, read(alloc, right)?);
     Ok(String::from_str(alloc, likeness(&left, &right)?)?)
 }
 
-/// Whether a copy of the left value is equal to the right one and the same, neither, or one alone.
-pub(crate) fn likeness<T>(left: &T, right: &T) -> Result<&'static str, Trouble>
+fn likeness<T>(left: &T, right: &T) -> Result<&'static str, Trouble>
 where
     T: PartialEq + Same + TryCopy,
 {

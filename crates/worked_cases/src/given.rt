@@ -14,19 +14,6 @@ pub(crate) fn number_in(text: &str) -> Result<u64, Trouble> {
     text.parse::<u64>().ok().ok_or(Trouble::BadInput)
 }
 
-/// The bytes of a text in which `⏎` stands for a line feed and `�` for the byte 255, which is in no text.
-pub(crate) fn bytes_in(alloc: Global, text: &str) -> Result<Vec<u8>, Trouble> {
-    let mut bytes = Vec::new(alloc);
-    for c in text.chars() {
-        match c {
-            '⏎' => bytes.push(b'\n')?,
-            '�' => bytes.push(255)?,
-            _ => bytes.extend_from_slice(c.encode_utf8(&mut [0; 4]).as_bytes())?,
-        }
-    }
-    Ok(bytes)
-}
-
 /// A moment, or the longest that there is.
 pub(crate) fn moment_in(text: &str) -> Result<Ns, Trouble> {
     let nanoseconds = match text.strip_suffix("s") {
@@ -84,23 +71,18 @@ pub(crate) fn raw_limits_in(text: &str) -> Result<RawLimits, Trouble> {
     let mut raw = DEFAULT_LIMITS;
     for word in text.split_whitespace() {
         let (name, number) = word.split_once('=').ok_or(Trouble::BadInput)?;
-        set_limit(&mut raw, name, number_in(number)?)?;
+        let number = number_in(number)?;
+        match name {
+            "entries" => raw.entries = number,
+            "chunk_entries" => raw.chunk_entries = number,
+            "chunk_age" => raw.chunk_age = number,
+            "cancel" => raw.cancel = number,
+            "keep" => raw.keep = number,
+            "cache" => raw.cache = number,
+            "records" => raw.records = number,
+            "first_blob" => raw.first_blob = number,
+            _ => return Err(Trouble::BadInput),
+        }
     }
     Ok(raw)
-}
-
-/// Sets the limit of a name.
-pub(crate) fn set_limit(raw: &mut RawLimits, name: &str, number: u64) -> Result<(), Trouble> {
-    match name {
-        "entries" => raw.entries = number,
-        "chunk_entries" => raw.chunk_entries = number,
-        "chunk_age" => raw.chunk_age = number,
-        "cancel" => raw.cancel = number,
-        "keep" => raw.keep = number,
-        "cache" => raw.cache = number,
-        "records" => raw.records = number,
-        "first_blob" => raw.first_blob = number,
-        _ => return Err(Trouble::BadInput),
-    }
-    Ok(())
 }

@@ -1,15 +1,16 @@
-//! Cases of names, label sets, moments, entries, matchers and limits.
+//! Cases of names, label sets, values of labels, moments, entries, matchers and limits.
 //!
-//! A matcher is written as `a=x` or with `!=`, `=~`, `!~`, more of them as `a=x & b!=y`.
-use crate::compared::{compared, halves};
+//! A matcher is written as `a=x` or with `!=`, `=~`, `!~`.
+use crate::compared::compared;
 use crate::given::{entry_in, labels_in, moment_in, number_in, pairs_in, raw_limits_in};
 use crate::trouble::Trouble;
 use rl_labels::entry::MAX_LINE_LEN;
 use rl_labels::labels::{ERROR_LABEL, MAX_TEXT_LEN, is_label_name};
 use rl_labels::{
-    BadLimit, Entry, Labels, LabelsError, LimitField, Limits, MatchOp, Matcher, MatcherCode,
-    MatcherError, Ns, RefusedEntry, SelectorCode,
+    BadLimit, Decimal, Duration, Entry, Labels, LabelsError, LimitField, Limits, MatchOp, Matcher,
+    MatcherError, Ns, RefusedEntry, Signed,
 };
+use rl_patterns::PatternCode;
 use rl_plain::{OrMemory, PlainText};
 use std::alloc::Global;
 
@@ -21,11 +22,11 @@ pub(crate) fn answer(alloc: Global, directive: &str, input: &str) -> Result<Stri
         "value" => Ok(of_value(alloc, input)?.text()?),
         "read" => read(alloc, input),
         "with" => with(alloc, input),
-        "moment" => moment(alloc, input),
+        "number" => number(alloc, input),
+        "duration" => duration(alloc, input),
+        "moment" => Ok(format!(in alloc; "{:?}", Ns::new(number_in(input)?))?),
         "entry" => entry(alloc, input),
         "matcher" => matcher(alloc, input),
-        "accepts" => accepts(alloc, input),
-        "selects" => selects(alloc, input),
         "limits" => limits(alloc, input),
         "others" => others(alloc),
         _ => comparison(alloc, directive, input),
@@ -34,16 +35,23 @@ pub(crate) fn answer(alloc: Global, directive: &str, input: &str) -> Result<Stri
 
 // How two values stand to each other.
 fn comparison(alloc: Global, directive: &str, input: &str) -> Result<String, Trouble> {
-    let (left, right) = halves(input)?;
     match directive {
-        "sets" => compared(alloc, &labels_in(alloc, left)?, &labels_in(alloc, right)?),
-        "values" => compared(alloc, &of_value(alloc, left)?, &of_value(alloc, right)?),
-        "moments" => compared(alloc, &moment_in(left)?, &moment_in(right)?),
-        "entries" => compared(alloc, &entry_in(alloc, left)?, &entry_in(alloc, right)?),
-        "matchers" => compared(alloc, &matcher_in(alloc, left)?, &matcher_in(alloc, right)?),
-        "operators" => compared(alloc, &parts_of(left)?.1, &parts_of(right)?.1),
+        "sets" => compared(alloc, input, labels_in),
+        "values" => compared(alloc, input, of_value),
+        "moments" => compared(alloc, input, plain_moment_in),
+        "entries" => compared(alloc, input, entry_in),
+        "matchers" => compared(alloc, input, matcher_in),
+        "operators" => compared(alloc, input, operator_in),
         _ => Err(Trouble::NoSuchDirective),
     }
+}
+
+fn plain_moment_in(_alloc: Global, text: &str) -> Result<Ns, Trouble> {
+    moment_in(text)
+}
+
+fn operator_in(_alloc: Global, text: &str) -> Result<MatchOp, Trouble> {
+    Ok(parts_of(text)?.1)
 }
 
 // The set of pairs, shown, and the length of its text.
@@ -93,9 +101,20 @@ fn changed(labels: &Labels, change: &str) -> Result<Labels, Trouble> {
     }
 }
 
-fn moment(alloc: Global, input: &str) -> Result<String, Trouble> {
-    let nanoseconds = Ns::new(number_in(input)?).map(|moment| moment.get());
-    Ok(format!(in alloc; "{nanoseconds:?}")?)
+// The number that a label's value is, in billionths.
+fn number(alloc: Global, input: &str) -> Result<String, Trouble> {
+    Ok(match Signed::<Decimal>::read(input) {
+        Ok(number) => format!(in alloc; "{}", number.value())?,
+        Err(fault) => format!(in alloc; "{fault:?}")?,
+    })
+}
+
+// The duration that a label's value is, in billionths of a nanosecond.
+fn duration(alloc: Global, input: &str) -> Result<String, Trouble> {
+    Ok(match Signed::<Duration>::read(input) {
+        Ok(duration) => format!(in alloc; "{}", duration.value())?,
+        Err(fault) => format!(in alloc; "{fault:?}")?,
+    })
 }
 
 // The parts of an entry, and its fault where it is refused.
@@ -117,22 +136,22 @@ fn told_of_entry(alloc: Global, made: &Entry) -> Result<String, Trouble> {
 fn told_of_refused(alloc: Global, refused: &RefusedEntry) -> Result<String, Trouble> {
     let (labels, line, moment) = (&refused.labels, &refused.line, refused.timestamp.get());
     let fault = refused.fault;
-    Ok(format!(in alloc; "{fault:?}: {refused}\n{moment} {labels} {line}")?)
+    Ok(format!(in alloc; "{fault:?}: {fault}\n{moment} {labels} {line}")?)
 }
 
 // The name, the operator and the value.
 fn parts_of(text: &str) -> Result<(&str, MatchOp, &str), Trouble> {
-    if let Some((name, value)) = text.split_once("=~") {
-        return Ok((name, MatchOp::Matches, value));
+    for (sign, op) in [
+        ("=~", MatchOp::Matches),
+        ("!~", MatchOp::NotMatches),
+        ("!=", MatchOp::NotEqual),
+        ("=", MatchOp::Equal),
+    ] {
+        if let Some((name, value)) = text.split_once(sign) {
+            return Ok((name, op, value));
+        }
     }
-    if let Some((name, value)) = text.split_once("!~") {
-        return Ok((name, MatchOp::NotMatches, value));
-    }
-    if let Some((name, value)) = text.split_once("!=") {
-        return Ok((name, MatchOp::NotEqual, value));
-    }
-    let (name, value) = text.split_once('=').ok_or(Trouble::BadInput)?;
-    Ok((name, MatchOp::Equal, value))
+    Err(Trouble::BadInput)
 }
 
 fn matcher_of(alloc: Global, text: &str) -> Result<Result<Matcher, MatcherError>, Trouble> {
@@ -159,45 +178,36 @@ fn told_of_matcher(alloc: Global, made: &Matcher) -> Result<String, Trouble> {
     Ok(format!(in alloc; "{name} {op:?} {value}")?)
 }
 
-// Whether the matcher accepts the label set.
-fn accepts(alloc: Global, input: &str) -> Result<String, Trouble> {
-    let (matcher, labels) = halves(input)?;
-    let labels = labels_in(alloc, labels)?;
-    let accepts = matcher_code_in(alloc, matcher)?.accepts(&labels)?;
-    Ok(accepts.to_string(alloc)?)
-}
-
-fn matcher_code_in(alloc: Global, text: &str) -> Result<MatcherCode, Trouble> {
-    let matcher = matcher_in(alloc, text)?;
-    matcher.build().or(Err(Trouble::BadInput))
-}
-
-// Whether all matchers accept the label set.
-fn selects(alloc: Global, input: &str) -> Result<String, Trouble> {
-    let (matchers, labels) = halves(input)?;
-    let labels = labels_in(alloc, labels)?;
-    let accepts = selector_in(alloc, matchers)?.accepts(&labels)?;
-    Ok(accepts.to_string(alloc)?)
-}
-
-fn selector_in(alloc: Global, text: &str) -> Result<SelectorCode, Trouble> {
-    let mut matchers = Vec::new(alloc);
-    for matcher in text.split_terminator(" & ") {
-        matchers.push(matcher_in(alloc, matcher)?)?;
-    }
-    SelectorCode::build(alloc, &matchers).or(Err(Trouble::BadInput))
-}
-
+// Limits that hold, or the first that is out of its range.
 fn limits(alloc: Global, input: &str) -> Result<String, Trouble> {
-    Ok(match Limits::check(raw_limits_in(input)?) {
-        Ok(limits) => format!(in alloc; "{limits:?}")?,
-        Err(bad) => format!(in alloc; "{:?}: {bad}", bad.field)?,
-    })
+    match Limits::check(raw_limits_in(input)?) {
+        Ok(limits) => told_of_limits(alloc, limits),
+        Err(bad) => Ok(format!(in alloc; "{:?}: {bad}", bad.field)?),
+    }
 }
 
-// The texts of the faults that no input has.
+fn told_of_limits(alloc: Global, limits: Limits) -> Result<String, Trouble> {
+    let mut text = String::new(alloc);
+    for (name, limit) in [
+        ("entries", limits.entries),
+        ("chunk_entries", limits.chunk_entries),
+        ("chunk_age", limits.chunk_age),
+        ("cancel", limits.cancel),
+        ("keep", limits.keep),
+        ("cache", limits.cache),
+        ("records", limits.records),
+        ("first_blob", limits.first_blob),
+    ] {
+        writeln!(text, "{name}={limit}")?;
+    }
+    Ok(text)
+}
+
+// The texts of the faults that no input has, and that of a pattern of ten million letters.
 fn others(alloc: Global) -> Result<String, Trouble> {
     let memory: LabelsError = OrMemory::Memory;
     let field = LimitField::FirstBlob;
-    Ok(format!(in alloc; "{memory:?}: {memory}\n{field:?}: {}", BadLimit { field })?)
+    let big = PatternCode::build(alloc, "a{1000}{1000}{10}").err();
+    let limit = BadLimit { field };
+    Ok(format!(in alloc; "{memory:?}: {memory}\n{field:?}: {limit}\n{big:?}")?)
 }

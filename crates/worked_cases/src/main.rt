@@ -1,4 +1,4 @@
-//! Worked cases: what the calls of the libraries answer, compared with answers that were worked out by hand.
+//! Worked cases: what calls of the libraries answer that no program shows, compared with answers that were worked out by hand.
 //!
 //! Each argument names a file of cases, as `cases` says; the part of its name before the first `_` or `.` is the module
 //! that knows its directives. A directive that ends in `..` is asked of each line of its input, and gives a line each. A
@@ -7,20 +7,14 @@
 
 mod aggregate;
 mod cases;
-mod command;
 mod compared;
-mod front;
 mod given;
 mod labels;
-mod patterns;
 mod pipeline;
 mod plain;
-mod push;
-mod quantity;
 mod query;
 mod rules;
 mod session;
-mod shard;
 mod sinks;
 mod trouble;
 mod world;
@@ -64,22 +58,13 @@ fn run(rt: &HostRuntime) -> Result<bool, Trouble> {
 // Runs a case of a file, and prints it where its answer is another one.
 fn has_its_answer(rt: &impl Print, name: &str, case: &Case<'_>) -> Result<bool, Trouble> {
     let alloc = case.alloc;
-    let answered = answer(alloc, family_of(name), case.directive, case.input());
-    let answered = told_of(alloc, answered)?;
+    let answered = answer(alloc, family_of(name), case.directive, case.input())?;
     if answered.as_str().trim_end_matches('\n') == case.want() {
         return Ok(true);
     }
     let (line, directive, want) = (case.line, case.directive, case.want());
     println!(rt; "{name}:{line}: {directive}: wanted\n{want}\nand not\n{answered}")?;
     Ok(false)
-}
-
-// An answer, or why there is none.
-fn told_of(alloc: Global, answered: Result<String, Trouble>) -> Result<String, Trouble> {
-    match answered {
-        Ok(text) => Ok(text),
-        Err(trouble) => Ok(format!(in alloc; "{trouble:?}")?),
-    }
 }
 
 // The module that knows a file's directives.
@@ -97,44 +82,34 @@ fn answer(alloc: Global, family: &str, directive: &str, input: &str) -> Result<S
     };
     let mut answers = String::new(alloc);
     for line in input.split('\n') {
-        let answered = told_of(alloc, answer_once(alloc, family, directive, line))?;
+        let answered = answer_once(alloc, family, directive, line)?;
         writeln!(answers, "{}", answered.as_str().trim_end_matches('\n'))?;
     }
     Ok(answers)
 }
 
+// An answer, or why there is none.
 fn answer_once(
     alloc: Global,
     family: &str,
     directive: &str,
     input: &str,
 ) -> Result<String, Trouble> {
-    match family {
-        "aggregate" => aggregate::answer(alloc, directive, input),
-        "labels" => labels::answer(alloc, directive, input),
-        "patterns" => patterns::answer(alloc, directive, input),
-        "pipeline" => pipeline::answer(alloc, directive, input),
-        "plain" => plain::answer(alloc, directive, input),
-        "quantity" => quantity::answer(alloc, directive, input),
-        "query" => query::answer(alloc, directive, input),
-        _ => answer_of_ruler(alloc, family, directive, input),
+    match answer_of(alloc, family, directive, input) {
+        Ok(text) => Ok(text),
+        Err(trouble) => Ok(format!(in alloc; "{trouble:?}")?),
     }
 }
 
-// The same of what stands above queries and aggregations.
-fn answer_of_ruler(
-    alloc: Global,
-    family: &str,
-    directive: &str,
-    input: &str,
-) -> Result<String, Trouble> {
+fn answer_of(alloc: Global, family: &str, directive: &str, input: &str) -> Result<String, Trouble> {
     match family {
-        "command" => command::answer(alloc, directive, input),
-        "front" => front::answer(alloc, directive, input),
-        "push" => push::answer(alloc, directive, input),
+        "aggregate" => aggregate::answer(alloc, directive, input),
+        "labels" => labels::answer(alloc, directive, input),
+        "pipeline" => pipeline::answer(alloc, directive, input),
+        "plain" => plain::answer(alloc, directive, input),
+        "query" => query::answer(alloc, directive, input),
         "rules" => rules::answer(alloc, directive, input),
         "session" => session::answer(alloc, directive, input),
-        "shard" => shard::answer(alloc, directive, input),
         "sinks" => sinks::answer(alloc, directive, input),
         "world" => world::answer(alloc, directive, input),
         _ => Err(Trouble::NoSuchDirective),

@@ -1,7 +1,8 @@
-//! Cases of pipelines: the labels that lines have behind a parser, or behind all stages, and what sieves cover.
+//! Cases of pipelines: the labels that lines have behind a parser where an error is set, what is counted of lines that go
+//! through stages, and what sieves cover.
 //!
-//! With a parser the first line is the label set of the stream, and each other line a line of it; with `_error` the set has
-//! the error `E`. `runs` has a query before them. `covers` has a delete selector, and an entry in each other line.
+//! `json` and `logfmt` have the label set of a stream, which gets the error `E`, and its lines. `runs` has a query before these.
+//! `covers` has a delete selector, and an entry in each other line.
 use crate::given::{entry_in, labels_in};
 use crate::query::{query_in, sieve_in};
 use crate::trouble::Trouble;
@@ -10,32 +11,28 @@ use rl_labels::labels::{ERROR_LABEL, is_label_name};
 use rl_pipeline::{Covers, Meter, Pipeline, Running, SieveCode, parsed};
 use rl_query::Parser;
 use std::alloc::Global;
+use std::mem;
 
 pub(crate) fn answer(alloc: Global, directive: &str, input: &str) -> Result<String, Trouble> {
     let (first, lines) = input.split_once('\n').ok_or(Trouble::BadInput)?;
     match directive {
-        "json" => behind(alloc, Parser::Json, &labels_in(alloc, first)?, lines),
-        "json_error" => behind(alloc, Parser::Json, &with_error(alloc, first)?, lines),
-        "logfmt" => behind(alloc, Parser::Logfmt, &labels_in(alloc, first)?, lines),
-        "logfmt_error" => behind(alloc, Parser::Logfmt, &with_error(alloc, first)?, lines),
+        "json" => behind(alloc, Parser::Json, first, lines),
+        "logfmt" => behind(alloc, Parser::Logfmt, first, lines),
         "runs" => runs(alloc, first, lines),
         "covers" => covers(alloc, first, lines),
         _ => Err(Trouble::NoSuchDirective),
     }
 }
 
-fn with_error(alloc: Global, labels: &str) -> Result<Labels, Trouble> {
+// The labels that each line of a stream has behind the parser, where an error is set before it.
+fn behind(alloc: Global, parser: Parser, labels: &str, lines: &str) -> Result<String, Trouble> {
     if !is_label_name(ERROR_LABEL) {
         return Err(Trouble::BadInput);
     }
-    Ok(labels_in(alloc, labels)?.with_label(ERROR_LABEL, "E")?)
-}
-
-// The labels that each line has behind the parser.
-fn behind(alloc: Global, parser: Parser, labels: &Labels, lines: &str) -> Result<String, Trouble> {
+    let labels = labels_in(alloc, labels)?.with_label(ERROR_LABEL, "E")?;
     let mut answer = String::new(alloc);
     for line in lines.split('\n') {
-        writeln!(answer, "{}", parsed(alloc, parser, labels, line)?)?;
+        writeln!(answer, "{}", parsed(alloc, parser, &labels, line)?)?;
     }
     Ok(answer)
 }
@@ -43,9 +40,9 @@ fn behind(alloc: Global, parser: Parser, labels: &Labels, lines: &str) -> Result
 // The labels that each line has behind all stages, and what was counted.
 fn runs(alloc: Global, query: &str, rest: &str) -> Result<String, Trouble> {
     let (labels, lines) = rest.split_once('\n').ok_or(Trouble::BadInput)?;
-    let pipeline = pipeline_in(alloc, query)?;
     let labels = labels_in(alloc, labels)?;
     let mut answer = String::new(alloc);
+    let pipeline = pipeline_in(alloc, query)?;
     push_runs(&mut answer, &mut pipeline.running()?, &labels, lines)?;
     Ok(answer)
 }
@@ -53,7 +50,9 @@ fn runs(alloc: Global, query: &str, rest: &str) -> Result<String, Trouble> {
 // The built stages of the first term of a query.
 fn pipeline_in(alloc: Global, query: &str) -> Result<Pipeline, Trouble> {
     let query = query_in(alloc, query)?;
-    Pipeline::build(alloc, &query.left).ok().ok_or(Trouble::BadInput)
+    let built = Pipeline::build(alloc, &query.left);
+    mem::forget(query);
+    built.ok().ok_or(Trouble::BadInput)
 }
 
 fn push_runs(
@@ -78,26 +77,12 @@ fn push_runs(
 
 // Whether a sieve covers each entry.
 fn covers(alloc: Global, selector: &str, entries: &str) -> Result<String, Trouble> {
-    let code = sieve_code_in(alloc, selector)?;
+    let sieve = sieve_in(alloc, selector)?;
+    let code = SieveCode::build(alloc, &sieve).or(Err(Trouble::BadInput))?;
     let mut answer = String::new(alloc);
     for entry in entries.split('\n') {
-        push_covers(&mut answer, alloc, &code, entry)?;
+        let entry = entry_in(alloc, entry)?;
+        writeln!(answer, "{}", code.covers(&entry)?)?;
     }
     Ok(answer)
-}
-
-fn sieve_code_in(alloc: Global, selector: &str) -> Result<SieveCode, Trouble> {
-    let sieve = sieve_in(alloc, selector)?;
-    SieveCode::build(alloc, &sieve).or(Err(Trouble::BadInput))
-}
-
-fn push_covers(
-    answer: &mut String,
-    alloc: Global,
-    code: &SieveCode,
-    entry: &str,
-) -> Result<(), Trouble> {
-    let entry = entry_in(alloc, entry)?;
-    writeln!(answer, "{}", code.covers(&entry)?)?;
-    Ok(())
 }

@@ -1,7 +1,7 @@
 //! Cases of plain data: texts, lists, copies and comparisons.
 //!
 //! A list of numbers is `7,8`; `-` is an empty list, or no number. A pair has `=` between its halves.
-use crate::compared::{compared, halves};
+use crate::compared::compared;
 use crate::given::number_in;
 use crate::trouble::Trouble;
 use rl_plain::{PlainList, PlainText};
@@ -12,43 +12,39 @@ pub(crate) fn answer(alloc: Global, directive: &str, input: &str) -> Result<Stri
         "text" => text(alloc, input),
         "list" => list(alloc, input),
         "put" => put(alloc, input),
-        _ => comparison(alloc, directive, input),
-    }
-}
-
-// How two values stand to each other.
-fn comparison(alloc: Global, directive: &str, input: &str) -> Result<String, Trouble> {
-    let (left, right) = halves(input)?;
-    match directive {
-        "bools" => compared(alloc, &bool_in(left)?, &bool_in(right)?),
-        "numbers" => compared(alloc, &number_in(left)?, &number_in(right)?),
-        "texts" => compared(alloc, &text_in(alloc, left)?, &text_in(alloc, right)?),
-        "options" => compared(alloc, &option_in(left)?, &option_in(right)?),
-        "pairs" => compared(alloc, &pair_in(left)?, &pair_in(right)?),
-        "lists" => compared(alloc, &list_in(alloc, left)?, &list_in(alloc, right)?),
-        "shelves" => compared(alloc, &shelves_in(alloc, left)?, &shelves_in(alloc, right)?),
+        "bools" => compared(alloc, input, bool_in),
+        "numbers" => compared(alloc, input, plain_number_in),
+        "texts" => compared(alloc, input, text_in),
+        "options" => compared(alloc, input, option_in),
+        "pairs" => compared(alloc, input, pair_in),
+        "lists" => compared(alloc, input, list_in),
+        "shelves" => compared(alloc, input, shelves_in),
         _ => Err(Trouble::NoSuchDirective),
     }
 }
 
-fn bool_in(text: &str) -> Result<bool, Trouble> {
+fn bool_in(_alloc: Global, text: &str) -> Result<bool, Trouble> {
     Ok(text == "true")
+}
+
+fn plain_number_in(_alloc: Global, text: &str) -> Result<u64, Trouble> {
+    number_in(text)
 }
 
 fn text_in(alloc: Global, text: &str) -> Result<PlainText, Trouble> {
     Ok(PlainText::from_str(alloc, text)?)
 }
 
-fn option_in(text: &str) -> Result<Option<u64>, Trouble> {
+fn option_in(_alloc: Global, text: &str) -> Result<Option<u64>, Trouble> {
     if text == "-" {
         return Ok(None);
     }
     Ok(Some(number_in(text)?))
 }
 
-fn pair_in(text: &str) -> Result<(u64, bool), Trouble> {
+fn pair_in(_alloc: Global, text: &str) -> Result<(u64, bool), Trouble> {
     let (first, second) = text.split_once('=').ok_or(Trouble::BadInput)?;
-    Ok((number_in(first)?, bool_in(second)?))
+    Ok((number_in(first)?, second == "true"))
 }
 
 // The list, of a vector with room for one item.

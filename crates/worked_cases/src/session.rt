@@ -1,7 +1,8 @@
-//! Sessions over one group with two recorders.
+//! Sessions over one group with two recorders, and bodies of pushes.
 //!
 //! The first line of `run` has limits, or how many texts may wait in the first recorder, as `cap=1`. In the second it is
-//! two. Behind it stand a rule file, the mark and commands.
+//! two. Behind it stand a rule file, the mark and commands. `push` has a body, in which `�` is the byte 255, which is in no
+//! text.
 ghost use Rattle.std.specs.Prelude.{◌≡◌, length, map, IfOk};
 ghost use Rattle.std.specs.List.{AllByRecursion};
 ghost use Rattle.rl_world.specs.BookCalls.{IsFresh};
@@ -9,17 +10,38 @@ ghost use Rattle.rl_world.specs.BookCalls.{IsFresh};
 use crate::given::{limits_in, number_in};
 use crate::trouble::Trouble;
 use rl_labels::Limits;
+use rl_rules::RulesFault;
 use rl_session::names::{front_fault_name, push_error_name};
-use rl_session::{Front, FrontError, FrontFault, PushError, RunError, Session, Status, read_front};
+use rl_session::{
+    Front, FrontError, FrontFault, PushError, RunError, Session, Status, is_blank, read_front,
+    read_push,
+};
 use rl_sinks::{Recorder, Sink};
 use std::alloc::{AllocError, Global};
+use std::mem;
 
 pub(crate) fn answer(alloc: Global, directive: &str, input: &str) -> Result<String, Trouble> {
     match directive {
         "run" => run(alloc, input),
-        "faults" => faults(alloc),
+        "push" => push(alloc, input),
+        "others" => others(alloc),
         _ => Err(Trouble::NoSuchDirective),
     }
+}
+
+// How many entries a body has, or its fault by its name and as an operator reads it.
+fn push(alloc: Global, input: &str) -> Result<String, Trouble> {
+    let mut body = Vec::new(alloc);
+    for c in input.chars() {
+        match c {
+            '�' => body.push(255)?,
+            _ => body.extend_from_slice(c.encode_utf8(&mut [0; 4]).as_bytes())?,
+        }
+    }
+    Ok(match read_push(alloc, body.as_slice()) {
+        Ok(entries) => format!(in alloc; "{} entries", entries.len())?,
+        Err(error) => format!(in alloc; "{}: {error}", push_error_name(error))?,
+    })
 }
 
 fn run(alloc: Global, input: &str) -> Result<String, Trouble> {
@@ -66,18 +88,17 @@ fn run_session(
     front: Front,
     written: &mut Written,
 ) -> Result<Result<Status, RunError>, Trouble> {
+    let first = Recorder::new(alloc, &mut written.first, cap);
+    let second = Recorder::new(alloc, &mut written.second, 2);
+    let sinks = of_one_group(alloc, first, second)?;
     let Front { groups, commands } = front;
     if groups.len() != 1 {
         return Err(Trouble::BadInput);
     }
-    let recorder = Recorder::new(alloc, &mut written.first, cap);
-    let sinks = of_one_group(
-        alloc,
-        recorder,
-        Recorder::new(alloc, &mut written.second, 2),
-    )?;
     let mut session = Session::open(alloc, limits, groups, sinks)?;
-    Ok(session.run_commands(commands.as_str(), &mut written.printed))
+    let ended = session.run_commands(commands.as_str(), &mut written.printed);
+    mem::forget(session);
+    Ok(ended)
 }
 
 // The sinks of one group, which has these two.
@@ -95,17 +116,24 @@ fn of_one_group<S: Sink>(alloc: Global, first: S, second: S) -> Result<Vec<Vec<S
     Ok(sinks)
 }
 
-// The faults that no input has, by their names and as an operator reads them.
-fn faults(alloc: Global) -> Result<String, Trouble> {
+// The faults that no input has, and those of an input as an operator reads them; and that a line feed is no blank line.
+fn others(alloc: Global) -> Result<String, Trouble> {
     let mut text = String::new(alloc);
     let memory = PushError::Memory;
     writeln!(text, "{}: {memory}", push_error_name(memory))?;
-    for fault in [FrontFault::ReadFault, FrontFault::TooLong] {
+    for fault in [
+        FrontFault::ReadFault,
+        FrontFault::TooLong,
+        FrontFault::NotText,
+        FrontFault::NoMark,
+        FrontFault::Rules(RulesFault::MissingKey),
+    ] {
         writeln!(text, "{}: {fault}", front_fault_name(fault))?;
     }
     writeln!(text, "{}", FrontError::Memory)?;
     for error in [RunError::WriteFault, RunError::Memory] {
         writeln!(text, "{error:?}: {error}")?;
     }
+    writeln!(text, "{}", is_blank("\n"))?;
     Ok(text)
 }

@@ -4,9 +4,8 @@
 //! outcome is samples, or the cause of its failure.
 use crate::compared::matched;
 use crate::given::{labels_in, moment_in, number_in};
-use crate::rules::{sample_in, samples_in};
 use crate::trouble::Trouble;
-use rl_aggregate::Sample;
+use rl_aggregate::{Fraction, Sample};
 use rl_plain::{PlainList, PlainText};
 use rl_rules::{Alert, Cause, Evaluation, Phase, RuleKind, RuleOutcome, RuleResult};
 use rl_sinks::{Recorder, Sink, SinkFault, SinkKind, evaluation_text};
@@ -14,10 +13,9 @@ use std::alloc::{AllocError, AllocFailed, Global};
 
 pub(crate) fn answer(alloc: Global, directive: &str, input: &str) -> Result<String, Trouble> {
     match directive {
-        "evaluations" => matched(alloc, input, |text| evaluation_in(alloc, text)),
+        "evaluations" => matched(alloc, input, evaluation_in),
         "text" => text(alloc, input),
         "recorder" => recorder(alloc, input),
-        "boxed" => boxed(alloc, input),
         "fault" => fault(alloc),
         _ => Err(Trouble::NoSuchDirective),
     }
@@ -46,17 +44,10 @@ fn recorder(alloc: Global, input: &str) -> Result<String, Trouble> {
     Ok(text)
 }
 
-// The same with room for one text, in a box.
-fn boxed(alloc: Global, input: &str) -> Result<String, Trouble> {
-    let recorder = Recorder::new(alloc, Vec::new(alloc), 1);
-    let sink: Box<dyn Sink> = Box::new(alloc, recorder)?;
-    answers_of(alloc, sink, input)
-}
-
 // What a sink answers to each line, up to ten texts, and then what it is and keeps.
 fn answers_of<S: Sink>(alloc: Global, mut sink: S, lines: &str) -> Result<String, Trouble> {
     let mut text = String::new(alloc);
-    for line in lines.split('\n').filter(|line| !line.is_empty()) {
+    for line in lines.split_terminator('\n') {
         let answer = match line {
             "close" => sink.close(),
             _ if sink.count() > 9 => return Err(Trouble::BadInput),
@@ -179,4 +170,24 @@ fn phase_in(word: &str) -> Result<Phase, Trouble> {
         "resolved" => Ok(Phase::Resolved),
         _ => Err(Trouble::BadInput),
     }
+}
+
+// The samples of words `labels:value`, with the value `n` or `n/d`.
+fn samples_in(alloc: Global, text: &str) -> Result<PlainList<Sample>, Trouble> {
+    let mut samples = Vec::new(alloc);
+    for word in text.split_whitespace() {
+        samples.push(sample_in(alloc, word)?)?;
+    }
+    Ok(PlainList::from_vec(samples))
+}
+
+fn sample_in(alloc: Global, word: &str) -> Result<Sample, Trouble> {
+    let (labels, value) = word.split_once(':').ok_or(Trouble::BadInput)?;
+    let (numerator, denominator) = value.split_once('/').unwrap_or((value, "1"));
+    let value = Fraction {
+        numerator: u128::from(number_in(numerator)?),
+        denominator: u128::from(number_in(denominator)?),
+    };
+    let labels = labels_in(alloc, labels)?;
+    Ok(Sample { labels, value })
 }

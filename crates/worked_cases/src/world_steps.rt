@@ -1,5 +1,5 @@
 //! Steps of a world, calls of a book and look-ups in books, and what they are answered.
-ghost use Rattle.std.specs.Prelude.{◌≡◌};
+ghost use Rattle.std.specs.Prelude.{◌≡◌, ◌<◌, IfOk};
 
 use crate::given::{entry_in, moment_in, number_in};
 use crate::rules::{group_in, push_alert};
@@ -7,47 +7,41 @@ use crate::trouble::Trouble;
 use crate::world::Sunk;
 use rl_plain::{PlainList, Same};
 use rl_query::print_term;
-use rl_shard::ShardStep;
+use rl_rules::Evaluation;
+use rl_shard::{ShardReply, ShardStep};
 use rl_sinks::{SinkKind, evaluation_text};
 use rl_world::{Book, Committed, Item, Reply, Step, World};
 use std::alloc::Global;
 use std::fmt::{Debug, Display};
 use std::mem;
 
-/// What a world answers to each line. It is asked all steps up to a look-up at once.
-pub(crate) fn tell_lines(
-    alloc: Global,
+/// Tells what a world answers to each line. It is asked all steps up to a look-up at once.
+pub(crate) fn push_lines(
+    told: &mut String,
     world: &mut World<Sunk>,
     lines: &str,
-) -> Result<String, Trouble> {
-    let mut told = String::new(alloc);
+) -> Result<(), Trouble> {
+    let alloc = *told.allocator();
     let mut steps = Vec::new(alloc);
     for line in lines.split('\n') {
         if let Some(step) = step_in(alloc, line)? {
             steps.push(step)?;
         } else {
-            ask(alloc, world, &mut steps, &mut told)?;
-            told.push_str(look_at(alloc, world, line)?.as_str())?;
+            ask(told, world, mem::replace(&mut steps, Vec::new(alloc)))?;
+            look_at(told, world, line)?;
         }
     }
-    ask(alloc, world, &mut steps, &mut told)?;
-    Ok(told)
+    ask(told, world, steps)
 }
 
-// Asks the world the steps, of which none are left, and tells what it answers.
-fn ask(
-    alloc: Global,
-    world: &mut World<Sunk>,
-    steps: &mut Vec<Step>,
-    told: &mut String,
-) -> Result<(), Trouble> {
-    let steps = mem::replace(steps, Vec::new(alloc));
-    let mut replies = Vec::new(alloc);
-    world.run(steps, &mut replies)?;
-    for reply in replies.as_slice() {
-        told.push_str(told_of_reply(alloc, reply)?.as_str())?;
-    }
-    Ok(())
+// Asks the world the steps, and tells what it answers.
+fn ask(told: &mut String, world: &mut World<Sunk>, steps: Vec<Step>) -> Result<(), Trouble> {
+    let mut replies = Vec::new(*told.allocator());
+    let ran = world.run(steps, &mut replies);
+    let ended = push_replies(told, replies.as_slice());
+    mem::forget(replies);
+    ran?;
+    ended
 }
 
 // The step that a line asks for, if it is none that looks up.
@@ -90,115 +84,138 @@ fn index_in(text: &str) -> Result<usize, Trouble> {
     Ok(number_in(text)? as usize)
 }
 
-fn told_of_reply(alloc: Global, reply: &Reply) -> Result<String, Trouble> {
-    Ok(match reply {
-        Reply::Decided { place, reply } => format!(in alloc; "{place} {reply:?}\n")?,
-        Reply::Edited { place } => format!(in alloc; "{place} edited\n")?,
-        Reply::Begun => format!(in alloc; "begun\n")?,
-        Reply::Gathered { place } => format!(in alloc; "{place} gathered\n")?,
-        Reply::Committed(answer) => told_of_commit(alloc, answer)?,
-        Reply::Abandoned => format!(in alloc; "abandoned\n")?,
-        Reply::Refused(refusal) => told_of_refusal(alloc, refusal)?,
-    })
+fn push_replies(told: &mut String, replies: &[Reply]) -> Result<(), Trouble> {
+    for reply in replies {
+        match reply {
+            Reply::Decided { place, reply } => push_decision(told, *place, reply)?,
+            Reply::Edited { place } => writeln!(told, "{place} edited")?,
+            Reply::Begun => told.push_str("begun\n")?,
+            Reply::Gathered { place } => writeln!(told, "{place} gathered")?,
+            Reply::Committed(answer) => push_commit(told, answer)?,
+            Reply::Abandoned => told.push_str("abandoned\n")?,
+            Reply::Refused(refusal) => push_refusal(told, refusal)?,
+        }
+    }
+    Ok(())
+}
+
+// What a shard decided, with the newest moment of a stream that an entry is too far behind.
+fn push_decision(told: &mut String, place: u64, reply: &ShardReply) -> Result<(), Trouble> {
+    match reply {
+        ShardReply::Accepted => writeln!(told, "{place} Accepted")?,
+        ShardReply::Full => writeln!(told, "{place} Full")?,
+        ShardReply::TooFarBehind { newest } => {
+            writeln!(told, "{place} TooFarBehind {}", newest.get())?
+        }
+        ShardReply::Expired { .. } | ShardReply::Collected(_) => return Err(Trouble::BadInput),
+    }
+    Ok(())
 }
 
 // What was committed, with what a tail says of it.
-fn told_of_commit(alloc: Global, answer: &Committed) -> Result<String, Trouble> {
-    let number = answer.number;
+fn push_commit(told: &mut String, answer: &Committed) -> Result<(), Trouble> {
     let evaluation = answer.evaluation.get();
-    let places = numbers(alloc, evaluation.places.as_slice())?;
-    let behind = numbers(alloc, answer.behind.as_slice())?;
-    let text = evaluation_text(alloc, SinkKind::Tail, evaluation)?;
-    Ok(format!(in alloc; "{number} committed, places{places}, behind{behind}\n{text}")?)
+    write!(told, "{} committed, places", answer.number)?;
+    push_numbers(told, evaluation.places.as_slice())?;
+    told.push_str(", behind")?;
+    push_numbers(told, answer.behind.as_slice())?;
+    told.push('\n')?;
+    push_evaluation(told, Some(evaluation))
 }
 
 // Numbers, each behind a space.
-fn numbers(alloc: Global, numbers: &[u64]) -> Result<String, Trouble> {
-    let mut told = String::new(alloc);
+fn push_numbers(told: &mut String, numbers: &[u64]) -> Result<(), Trouble> {
     for number in numbers {
         write!(told, " {number}")?;
     }
-    Ok(told)
+    Ok(())
+}
+
+// What a tail says of an evaluation.
+fn push_evaluation(told: &mut String, evaluation: Option<&Evaluation>) -> Result<(), Trouble> {
+    match evaluation {
+        Some(evaluation) => {
+            let text = evaluation_text(*told.allocator(), SinkKind::Tail, evaluation)?;
+            told.push_str(text.as_str())?;
+        }
+        None => told.push_str("None\n")?,
+    }
+    Ok(())
 }
 
 // A refusal as it is, and in words.
-fn told_of_refusal<F: Debug + Display>(alloc: Global, fault: &F) -> Result<String, Trouble> {
-    Ok(format!(in alloc; "refused {fault:?}: {fault}\n")?)
+fn push_refusal<F: Debug + Display>(told: &mut String, fault: &F) -> Result<(), Trouble> {
+    writeln!(told, "refused {fault:?}: {fault}")?;
+    Ok(())
 }
 
 // What a look-up finds in a world.
-fn look_at(alloc: Global, world: &mut World<Sunk>, line: &str) -> Result<String, Trouble> {
+fn look_at(told: &mut String, world: &mut World<Sunk>, line: &str) -> Result<(), Trouble> {
     let (word, rest) = words_of(line);
     let (group, rest) = words_of(rest);
-    Ok(match word {
-        "groups" => format!(in alloc; "{}\n", world.groups())?,
-        "close" => format!(in alloc; "{} not written\n", world.close_sinks())?,
+    match word {
+        "groups" => writeln!(told, "{}", world.groups())?,
+        "close" => writeln!(told, "{} not written", world.close_sinks())?,
         _ => match world.book(index_in(group)?) {
-            Some(book) => look(alloc, book, word, rest)?,
-            None => format!(in alloc; "None\n")?,
+            Some(book) => look(told, book, word, rest)?,
+            None => told.push_str("None\n")?,
         },
-    })
+    }
+    Ok(())
 }
 
 // What a look-up finds in a book: its group, the group as it began, the alerts of each rule, whether it is due, an item of
 // its history, what a tail says of an evaluation, or how many texts a sink has taken and one that it keeps.
-fn look(alloc: Global, book: &Book<Sunk>, word: &str, rest: &str) -> Result<String, Trouble> {
+fn look(told: &mut String, book: &Book<Sunk>, word: &str, rest: &str) -> Result<(), Trouble> {
     let (first, second) = words_of(rest);
-    Ok(match word {
-        "group" => told_of_group(alloc, book)?,
-        "first" => format!(in alloc; "{} rules\n", book.first_group().rules.len())?,
-        "alerts" => told_of_alerts(alloc, book)?,
-        "due" => format!(in alloc; "{}\n", book.due(moment_in(first)?))?,
-        "item" => told_of_item(alloc, book.item(number_in(first)?))?,
-        "evaluation" => match book.evaluation(number_in(first)?) {
-            Some(evaluation) => evaluation_text(alloc, SinkKind::Tail, evaluation)?,
-            None => format!(in alloc; "None\n")?,
-        },
+    match word {
+        "group" => push_group(told, book)?,
+        "first" => writeln!(told, "{} rules", book.first_group().rules.len())?,
+        "alerts" => push_alerts(told, book)?,
+        "due" => writeln!(told, "{}", book.due(moment_in(first)?))?,
+        "item" => push_item(told, book.item(number_in(first)?))?,
+        "evaluation" => push_evaluation(told, book.evaluation(number_in(first)?))?,
         "show" => {
             let (sink, index) = (index_in(first)?, number_in(second)?);
             let (count, text) = (book.sink_count(sink), book.sink_text(sink, index));
-            format!(in alloc; "{count:?} {text:?}\n")?
+            writeln!(told, "{count:?} {text:?}")?;
         }
         _ => return Err(Trouble::BadInput),
-    })
+    }
+    Ok(())
 }
 
 // The alerts of each rule, each behind the number of the rule.
-fn told_of_alerts(alloc: Global, book: &Book<Sunk>) -> Result<String, Trouble> {
-    let mut told = format!(in alloc; "of {} rules\n", book.alerts().len())?;
+fn push_alerts(told: &mut String, book: &Book<Sunk>) -> Result<(), Trouble> {
+    writeln!(told, "of {} rules", book.alerts().len())?;
     for (number, alerts) in book.alerts().iter().enumerate() {
         for alert in alerts.as_slice() {
             write!(told, "{number} ")?;
-            push_alert(&mut told, alert)?;
+            push_alert(told, alert)?;
         }
     }
-    Ok(told)
+    Ok(())
 }
 
-fn told_of_item(alloc: Global, item: Option<&Item>) -> Result<String, Trouble> {
-    Ok(match item {
-        Some(Item::Edited(group)) => format!(in alloc;
-            "edited to {} rules\n",
-            group.get().rules.len()
-        )?,
-        Some(Item::Evaluated(evaluation)) => evaluation_text(
-            alloc,
-            SinkKind::Tail,
-            evaluation.get(),
-        )?,
-        None => format!(in alloc; "None\n")?,
-    })
+fn push_item(told: &mut String, item: Option<&Item>) -> Result<(), Trouble> {
+    match item {
+        Some(Item::Edited(group)) => {
+            writeln!(told, "edited to {} rules", group.get().rules.len())?;
+            Ok(())
+        }
+        Some(Item::Evaluated(evaluation)) => push_evaluation(told, Some(evaluation.get())),
+        None => push_evaluation(told, None),
+    }
 }
 
 // The name of a book's group, the number under which it asks, and its terms.
-fn told_of_group(alloc: Global, book: &Book<Sunk>) -> Result<String, Trouble> {
-    let (name, slot) = (book.group().name.as_str(), book.slot());
-    let mut told = format!(in alloc; "{name}, slot {slot}\n")?;
+fn push_group(told: &mut String, book: &Book<Sunk>) -> Result<(), Trouble> {
+    writeln!(told, "{}, slot {}", book.group().name, book.slot())?;
     for term in book.terms().get().as_slice() {
-        let term = print_term(alloc, term)?;
+        let term = print_term(*told.allocator(), term)?;
         writeln!(told, "{term}")?;
     }
-    Ok(told)
+    Ok(())
 }
 
 /// A book, and how many shards it asks.
@@ -210,61 +227,78 @@ pub(crate) struct Asking {
 }
 
 impl Asking {
-    /// Calls the book as a line says, and tells what it answers.
-    pub(crate) fn call(&mut self, alloc: Global, line: &str) -> Result<String, Trouble> {
+    /// Tells what the book answers to each line.
+    pub(crate) fn push_calls(&mut self, told: &mut String, lines: &str) -> Result<(), Trouble> {
+        for line in lines.split('\n') {
+            self.push_call(told, line)?;
+        }
+        Ok(())
+    }
+
+    fn push_call(&mut self, told: &mut String, line: &str) -> Result<(), Trouble> {
         let (word, rest) = words_of(line);
         match word {
-            "begin" => told_of_call(alloc, self.book.begin(moment_in(rest)?)),
-            "edit" => self.edit(alloc, rest),
-            "asks" => self.told_of_moment(alloc, index_in(rest)?),
-            "put" => self.put_nothing(alloc, rest),
+            "begin" => push_answer(told, self.book.begin(moment_in(rest)?)),
+            "edit" => self.edit(told, rest),
+            "asks" => push_answer(told, self.book.asks(self.shard_in(rest)?)),
+            "put" => self.put_nothing(told, rest),
             "commit" => match self.book.commit() {
-                Ok(answer) => told_of_commit(alloc, &answer),
-                Err(error) => told_of_refusal(alloc, &error),
+                Ok(answer) => push_commit(told, &answer),
+                Err(error) => push_refusal(told, &error),
             },
-            "abandon" => told_of_call(alloc, self.book.abandon()),
-            "close" => Ok(format!(in alloc; "{} not written\n", self.book.close_sinks())?),
-            _ => look(alloc, &self.book, word, rest),
+            "abandon" => push_answer(told, self.book.abandon()),
+            "close" => {
+                writeln!(told, "{} not written", self.book.close_sinks())?;
+                Ok(())
+            }
+            _ => look(told, &self.book, word, rest),
         }
     }
 
-    // The moment at which a shard is to be asked.
-    fn told_of_moment(&self, alloc: Global, shard: usize) -> Result<String, Trouble> {
-        if shard >= self.shards {
-            return Err(Trouble::BadInput);
+    // One of the shards.
+    fn shard_in(&self, text: &str) -> Result<usize, Trouble>
+        ensures { IfOk result (λ shard. shard < self.now.shards) }
+    {
+        let shard = index_in(text)?;
+        if shard < self.shards {
+            Ok(shard)
+        } else {
+            Err(Trouble::BadInput)
         }
-        told_of_call(alloc, self.book.asks(shard))
     }
 
     // Edits the group under its name.
-    fn edit(&mut self, alloc: Global, file: &str) -> Result<String, Trouble> {
-        let to = group_in(alloc, file)?;
+    fn edit(&mut self, told: &mut String, file: &str) -> Result<(), Trouble> {
+        let to = group_in(*told.allocator(), file)?;
         if !to.name.is_same(&self.book.group().name) {
             return Err(Trouble::BadInput);
         }
-        told_of_call(alloc, self.book.edit(to))
+        push_answer(told, self.book.edit(to))
     }
 
     // Hands in what a shard shows of no term, at a place.
-    fn put_nothing(&mut self, alloc: Global, words: &str) -> Result<String, Trouble> {
+    fn put_nothing(&mut self, told: &mut String, words: &str) -> Result<(), Trouble> {
         let (shard, place) = words_of(words);
-        let (shard, place) = (index_in(shard)?, number_in(place)?);
-        if shard >= self.shards || self.book.terms().get().len() > 0 {
+        let (shard, place) = (self.shard_in(shard)?, number_in(place)?);
+        if self.book.terms().get().len() > 0 {
             return Err(Trouble::BadInput);
         }
-        let nothing = PlainList::new(alloc);
-        told_of_call(alloc, self.book.put_partials(shard, place, nothing))
+        let nothing = PlainList::new(*told.allocator());
+        push_answer(told, self.book.put_partials(shard, place, nothing))
     }
 }
 
 // What a call is answered.
-fn told_of_call<T, F>(alloc: Global, answer: Result<T, F>) -> Result<String, Trouble>
+fn push_answer<T, F>(told: &mut String, answer: Result<T, F>) -> Result<(), Trouble>
 where
     T: Debug + Drop,
     F: Debug + Display + Drop,
 {
     match answer {
-        Ok(taken) => Ok(format!(in alloc; "Ok({taken:?})\n")?),
-        Err(fault) => told_of_refusal(alloc, &fault),
+        Ok(taken) => {
+            writeln!(told, "Ok({taken:?})")?;
+            Ok(())
+        }
+        Err(fault) => push_refusal(told, &fault),
     }
 }
