@@ -18,13 +18,13 @@ use std::process::ExitCode;
 use std::{env, io};
 
 // What the options ask for.
-#[derive(Clone, Copy, Drop)]
+#[derive(Drop)]
 struct Options {
     prints: bool,
 }
 
 // Why nothing is checked.
-#[derive(Clone, Copy, Drop)]
+#[derive(Drop)]
 enum Stop {
     BadOptions,
     Memory,

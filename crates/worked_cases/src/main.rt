@@ -20,7 +20,7 @@ mod trouble;
 mod world;
 mod world_steps;
 
-use cases::{Case, cases_of};
+use cases::{Case, case_in};
 use std::alloc::Global;
 use std::process::ExitCode;
 use std::rt::{Env, Files};
@@ -44,9 +44,9 @@ fn run(rt: &HostRuntime) -> Result<bool, Trouble> {
     let mut differ = 0u64;
     for name in env::args(rt)?.skip(1) {
         let text = fs::read_to_string(rt, name.as_str())?;
-        for case in cases_of(rt.alloc(), text.as_str())? {
+        for part in text.as_str().split("\n== ").skip(1) {
             count = count.saturating_add(1);
-            if !has_its_answer(rt, name.as_str(), &case)? {
+            if !has_its_answer(rt, name.as_str(), part)? {
                 differ = differ.saturating_add(1);
             }
         }
@@ -56,14 +56,18 @@ fn run(rt: &HostRuntime) -> Result<bool, Trouble> {
 }
 
 // Runs a case of a file, and prints it where its answer is another one.
-fn has_its_answer(rt: &impl Print, name: &str, case: &Case<'_>) -> Result<bool, Trouble> {
-    let alloc = case.alloc;
-    let answered = answer(alloc, family_of(name), case.directive, case.input())?;
-    if answered.as_str().trim_end_matches('\n') == case.want() {
+fn has_its_answer(rt: &HostRuntime, name: &str, part: &str) -> Result<bool, Trouble> {
+    let Case {
+        directive,
+        input,
+        want,
+    } = case_in(rt.alloc(), part)?;
+    let answered = answer(rt.alloc(), family_of(name), directive, input.as_str())?;
+    if answered.as_str().trim_end_matches('\n') == want.as_str().trim_end_matches('\n') {
         return Ok(true);
     }
-    let (line, directive, want) = (case.line, case.directive, case.want());
-    println!(rt; "{name}:{line}: {directive}: wanted\n{want}\nand not\n{answered}")?;
+    let (title, _) = part.split_once('\n').unwrap_or((part, ""));
+    println!(rt; "{name}: {title}: wanted\n{want}\nand not\n{answered}")?;
     Ok(false)
 }
 

@@ -64,7 +64,7 @@ fn others(alloc: Global) -> Result<String, Trouble> {
 }
 
 // What the first line of an input says.
-#[derive(Clone, Copy, Drop)]
+#[derive(Drop)]
 struct Settings<'a> {
     shards: usize,
     slot: u64,

@@ -1,5 +1,5 @@
 //! Steps of a world, calls of a book and look-ups in books, and what they are answered.
-ghost use Rattle.std.specs.Prelude.{◌≡◌, ◌<◌, IfOk};
+ghost use Rattle.std.specs.Prelude.{◌≡◌};
 
 use crate::given::{entry_in, moment_in, number_in};
 use crate::rules::{group_in, push_alert};
@@ -240,7 +240,7 @@ impl Asking {
         match word {
             "begin" => push_answer(told, self.book.begin(moment_in(rest)?)),
             "edit" => self.edit(told, rest),
-            "asks" => push_answer(told, self.book.asks(self.shard_in(rest)?)),
+            "asks" => self.push_moment(told, index_in(rest)?),
             "put" => self.put_nothing(told, rest),
             "commit" => match self.book.commit() {
                 Ok(answer) => push_commit(told, &answer),
@@ -255,16 +255,12 @@ impl Asking {
         }
     }
 
-    // One of the shards.
-    fn shard_in(&self, text: &str) -> Result<usize, Trouble>
-        ensures { IfOk result (λ shard. shard < self.now.shards) }
-    {
-        let shard = index_in(text)?;
-        if shard < self.shards {
-            Ok(shard)
-        } else {
-            Err(Trouble::BadInput)
+    // The moment at which a shard is to be asked.
+    fn push_moment(&self, told: &mut String, shard: usize) -> Result<(), Trouble> {
+        if shard >= self.shards {
+            return Err(Trouble::BadInput);
         }
+        push_answer(told, self.book.asks(shard))
     }
 
     // Edits the group under its name.
@@ -279,8 +275,8 @@ impl Asking {
     // Hands in what a shard shows of no term, at a place.
     fn put_nothing(&mut self, told: &mut String, words: &str) -> Result<(), Trouble> {
         let (shard, place) = words_of(words);
-        let (shard, place) = (self.shard_in(shard)?, number_in(place)?);
-        if self.book.terms().get().len() > 0 {
+        let (shard, place) = (index_in(shard)?, number_in(place)?);
+        if shard >= self.shards || self.book.terms().get().len() > 0 {
             return Err(Trouble::BadInput);
         }
         let nothing = PlainList::new(*told.allocator());
