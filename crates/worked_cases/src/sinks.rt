@@ -16,6 +16,7 @@ pub(crate) fn answer(alloc: Global, directive: &str, input: &str) -> Result<Stri
         "evaluations" => matched(alloc, input, evaluation_in),
         "text" => text(alloc, input),
         "recorder" => recorder(alloc, input),
+        "boxed" => boxed(alloc, input),
         "fault" => fault(alloc),
         _ => Err(Trouble::NoSuchDirective),
     }
@@ -42,6 +43,13 @@ fn recorder(alloc: Global, input: &str) -> Result<String, Trouble> {
     let written = str::from_utf8(&written).or(Err(Trouble::BadInput))?;
     write!(text, "written:\n{written}")?;
     Ok(text)
+}
+
+// The same with room for one text, in a box.
+fn boxed(alloc: Global, input: &str) -> Result<String, Trouble> {
+    let recorder = Recorder::new(alloc, Vec::new(alloc), 1);
+    let sink: Box<dyn Sink> = Box::new(alloc, recorder)?;
+    answers_of(alloc, sink, input)
 }
 
 // What a sink answers to each line, up to ten texts, and then what it is and keeps.
