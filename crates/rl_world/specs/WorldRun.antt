@@ -5,7 +5,7 @@ use Rattle.rl_rules.specs.declared.evaluation.Evaluation.{Evaluation}
 use Rattle.rl_sinks.specs.SinkState.{SinkState}
 use Rattle.rl_world.specs.Offering.{AllOffered, behind_of}
 use Rattle.rl_world.specs.WorldState.{BookState, WorldBooks, WorldState, Stands, world_of}
-use Rattle.rl_world.specs.WorldStep.{WorldStep, lists}
+use Rattle.rl_world.specs.WorldStep.{WorldStep, Replay, lists}
 use Rattle.rl_world.specs.declared.step.Committed.{Committed}
 use Rattle.rl_world.specs.declared.step.Step.{Step}
 use Rattle.rl_world.specs.declared.step.Step.TheVariants as steps
@@ -49,6 +49,11 @@ Ran old [] [] new = new ≡ old
 Ran old (step ∷ steps) (reply ∷ replies) new = (mid : WorldBooks) × Turned old step reply mid × Ran mid steps replies new
 Ran old [] (reply ∷ replies) new = ⊥
 Ran old (step ∷ steps) [] new = ⊥
+
+-- a replay by LogQL from scratch: for any lists that may have been shown before there are lists that may have been shown after,
+-- and the steps lead from the ones to the others
+abbrev pub Replays : WorldBooks → List Step → List Reply → WorldBooks → Type 0
+Replays old steps replies new = (shown : WorldState (List Entry)) → Stands (world_of old.shards old.books) shown → (after : WorldState (List Entry)) × Stands (world_of new.shards new.books) after × Replay lists shown steps replies after
 
 -- what a list gained at its end
 abbrev pub gained : List Reply → List Reply → List Reply

@@ -42,7 +42,8 @@ impl<S: Sink> Model for World<S> {
 
 impl<S: Sink> World<S> {
     ghost use Rattle.rl_world.specs.Offering.{TookPrefix};
-    ghost use Rattle.rl_world.specs.WorldRun.{Ran, gained};
+    ghost use Rattle.rl_world.specs.Listings.{SinksFollow};
+    ghost use Rattle.rl_world.specs.WorldRun.{Ran, Replays, gained};
     ghost use Rattle.rl_world.specs.WorldState.{world_of, StandsForSome};
 
     /// A world with so many empty shards, and a book for each group with its sinks. The sinks have taken nothing.
@@ -74,6 +75,21 @@ impl<S: Sink> World<S> {
         ensures capacity { vec_capacity out.old ≤ vec_capacity out.new }
         ensures replies { OnOk result (out.new.items ≡ out.old.items ++ gained out.old.items out.new.items) }
         ensures ran { OnOk result (Ran self.old steps.items (gained out.old.items out.new.items) self.new) }
+        ensures replays { OnOk result (Replays self.old steps.items (gained out.old.items out.new.items) self.new) }
+        ensures follows { OnOk result (SinksFollow self.old.books steps.items (gained out.old.items out.new.items) self.new.books) }
+        ensures prefixes { AllByRecursion (λ book. AllByRecursion (TookPrefix book.history.evaluations) book.sinks) self.new.books }
+    {
+        self.answer_all(steps, out)?;
+        Ok(())
+    }
+
+    // The same, turn by turn.
+    fn answer_all(&mut self, steps: Vec<Step>, out: &mut Vec<Reply>) -> Result<(), AllocError>
+        ensures memory { OnErr result ((self.new ≡ self.old) × (out.new.items ≡ out.old.items)) }
+        ensures room { length out.old.items + length steps.items ≤ vec_capacity out.old → IsOk result }
+        ensures capacity { vec_capacity out.old ≤ vec_capacity out.new }
+        ensures replies { OnOk result (out.new.items ≡ out.old.items ++ gained out.old.items out.new.items) }
+        ensures turns { OnOk result (Ran self.old steps.items (gained out.old.items out.new.items) self.new) }
         ensures prefixes { AllByRecursion (λ book. AllByRecursion (TookPrefix book.history.evaluations) book.sinks) self.new.books }
     {
         let parts = &mut self.parts;

@@ -8,10 +8,9 @@ use Rattle.rl_rules.specs.declared.evaluation.Evaluation.{Evaluation}
 use Rattle.rl_sinks.specs.SinkState.{SinkState}
 use Rattle.rl_world.specs.Offering.{Offered, AllOffered, is_behind, behind_from, behind_of}
 use Rattle.rl_world.specs.Listings.{SinksFollow, listing, listings, is_listed, latest, last_listing}
-use Rattle.rl_world.specs.WorldRun.{CommitSinks, SinkStep, Ran, BookTold, told}
-use Rattle.rl_labels.specs.declared.entry.Entry.{Entry}
-use Rattle.rl_world.specs.WorldState.{BookState, WorldBooks, WorldState, Stands, world_of}
-use Rattle.rl_world.specs.WorldStep.{Replay, lists}
+use Rattle.rl_world.specs.WorldRun.{CommitSinks, SinkStep, Ran, Replays, BookTold, told}
+use Rattle.rl_world.specs.WorldState.{BookState, WorldBooks, WorldState, world_of}
+use Rattle.rl_world.specs.WorldStep.{Keeping, Turn, WorldStep, Replay, lists}
 use Rattle.rl_world.specs.declared.step.Committed.{Committed}
 use Rattle.rl_world.specs.declared.step.Step.{Step}
 use Rattle.rl_world.specs.declared.step.Step.TheVariants as steps
@@ -26,7 +25,7 @@ ran_length old [] (reply ∷ replies) new run = absurd run
 ran_length old (step ∷ steps) [] new run = absurd run
 
 -- a run is a replay by LogQL from scratch, of any lists that may have been shown
-pub ran_replays : (old : WorldBooks) (steps : List Step) (replies : List Reply) (new : WorldBooks) → Ran old steps replies new → (shown : WorldState (List Entry)) → Stands (world_of old.shards old.books) shown → (after : WorldState (List Entry)) × Stands (world_of new.shards new.books) after × Replay lists shown steps replies after
+pub ran_replays : (old : WorldBooks) (steps : List Step) (replies : List Reply) (new : WorldBooks) → Ran old steps replies new → Replays old steps replies new
 ran_replays old [] [] new run shown stands = (shown, ap (λ (world : WorldBooks). world_of world.shards world.books) run ∙ stands, refl)
 ran_replays old (step ∷ steps) (reply ∷ replies) new run shown stands =
     let first = run.1.from_scratch shown stands in
@@ -279,3 +278,30 @@ ran_counts old [] [] new run = ap (λ (world : WorldBooks). sink_counts world.bo
 ran_counts old (step ∷ steps) (reply ∷ replies) new run = ran_counts run.0 steps replies new run.2 ∙ turn_counts old.books run.0.books step reply run.1.sinks
 ran_counts old [] (reply ∷ replies) new run = absurd run
 ran_counts old (step ∷ steps) [] new run = absurd run
+
+-- a reply that lists no sink
+abbrev pub unlisted : Reply → Reply
+unlisted (replies.Committed answer) = replies.Committed (record { number = answer.number; evaluation = answer.evaluation; behind = [] })
+unlisted reply = reply
+
+module _ {X : Type 0} (keeping : Keeping X) where
+  turn_unlisted : (old : WorldState X) (step : Step) (answer : Committed) (new : WorldState X) → Turn keeping old step (replies.Committed answer) new → Turn keeping old step (unlisted (replies.Committed answer)) new
+  turn_unlisted old (steps.Commit group) answer new turn = record { history = turn.history; there = turn.there; opened = turn.opened; open_is = turn.open_is; number_is = turn.number_is; evaluation_is = turn.evaluation_is; after = turn.after }
+  turn_unlisted old step answer new turn = turn
+
+  step_unlisted : (old : WorldState X) (step : Step) (reply : Reply) (new : WorldState X) → WorldStep keeping old step reply new → WorldStep keeping old step (unlisted reply) new
+  step_unlisted old step (replies.Committed answer) new turn = (turn.0, turn_unlisted old step answer new turn.1)
+  step_unlisted old step reply new turn = turn
+
+  -- a replay does not say which sinks a commit lists: that is left to what sinks follow
+  replay_unlisted : (old : WorldState X) (steps : List Step) (replies : List Reply) (new : WorldState X) → Replay keeping old steps replies new → Replay keeping old steps (map unlisted replies) new
+  replay_unlisted old [] [] new replay = replay
+  replay_unlisted old (step ∷ steps) (reply ∷ replies) new replay = (replay.0, step_unlisted old step reply replay.0 replay.1, replay_unlisted replay.0 steps replies new replay.2)
+  replay_unlisted old [] (reply ∷ replies) new replay = absurd replay
+  replay_unlisted old (step ∷ steps) [] new replay = absurd replay
+
+-- a run whose replies are told without those lists is a replay all the same
+pub unlisted_replays : (old : WorldBooks) (steps : List Step) (replies told : List Reply) (new : WorldBooks) → Ran old steps replies new → told ≡ map unlisted replies → Replays old steps told new
+unlisted_replays old steps replies told new run is shown stands =
+    let replay = ran_replays old steps replies new run shown stands in
+    (replay.0, replay.1, subst (λ said. Replay lists shown steps said replay.0) (sym is) (replay_unlisted lists shown steps replies replay.0 replay.2))

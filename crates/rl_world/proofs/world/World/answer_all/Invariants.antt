@@ -1,7 +1,7 @@
 -- The replies so far are those of a run of the steps so far, and there is room for the others.
 use Rattle.std.proofs.Common.{◌≡◌, ◌+◌, ◌≤◌, ◌++◌, length, vec_len, vec_capacity}
 use Rattle.rl_world.proofs.Running.{RunSoFar}
-use Rattle.rl_world.proofs.world.World.run.Given as goal
+use Rattle.rl_world.proofs.world.World.answer_all.Given as goal
 
 abbrev pub invariant-loop-step : goal.invariant-loop-step
 invariant-loop-step g l = record {
