@@ -1,0 +1,5 @@
+pub mod Chunks
+pub mod Fields
+pub mod Items
+pub mod Labels
+pub mod Turns

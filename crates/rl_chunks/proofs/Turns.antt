@@ -1,0 +1,93 @@
+-- Reading in turn, as a loop does.
+use Rattle.std.proofs.Common.{◌≡◌, ℕ, zero, suc, ◌+◌, ◌-◌, ◌<◌, ◌≤◌, List, [], ◌∷◌, ◌++◌, length, get_or, take, Option, None, Some, Result, Ok, Err, refl, sym, ap, subst, ◌∙◌, append_assoc, append-nil, arith}
+use Rattle.std.specs.Prelude.{slice_get}
+use Rattle.std.specs.List.{All, flat_map}
+use Rattle.std.proofs.lemmas.List.{length_push, take_more, flat_map_more}
+use Rattle.std.proofs.lemmas.List.Elements.{All-push}
+use Rattle.rl_plain.specs.Answers.{◌>>=◌, Fails}
+use Rattle.rl_plain.specs.declared.refusal.OrMemory.{OrMemory}
+use Rattle.rl_plain.specs.declared.refusal.OrMemory.TheVariants.{Fault, Memory}
+use Rattle.rl_chunks.specs.ChunkReading.{Read, in_turn}
+use Rattle.rl_chunks.specs.declared.fault.ChunkFault.{ChunkFault}
+
+-- the last of a list
+abbrev pub last_of : {A : Type 0} → List A → Option A
+last_of xs = slice_get xs (length xs - 1)
+
+at_push : {A : Type 0} (xs : List A) (x : A) → slice_get (xs ++ x ∷ []) (length xs) ≡ Some x
+at_push [] x = refl
+at_push (y ∷ ys) x = at_push ys x
+
+last_push : {A : Type 0} (xs : List A) (x : A) → last_of (xs ++ x ∷ []) ≡ Some x
+last_push xs x =
+    let place : length (xs ++ x ∷ []) - 1 ≡ length xs = omega (arith, length_push xs x) in
+    ap (slice_get (xs ++ x ∷ [])) place ∙ at_push xs x
+
+-- what was read before, and what is still read
+abbrev pub behind : {A : Type 0} → List A → Read (List A) → Read (List A)
+behind front read = read >>= λ x. Ok (front ++ x.0, x.1)
+
+regroup : {A : Type 0} (front : List A) (x : A) (read : Read (List A)) → behind front (read >>= λ y. Ok (x ∷ y.0, y.1)) ≡ behind (front ++ x ∷ []) read
+regroup front x (Ok y) = ap (λ xs. Ok (xs, y.1)) (sym (append_assoc front (x ∷ []) y.0))
+regroup front x (Err fault) = refl
+
+module _ {A : Type 0} (item : Option A → List ℕ → Read A) where
+  -- one more was read
+  pub goes_on : (front : List A) (count i : ℕ) (bytes : List ℕ) (x : A) (rest : List ℕ) (total : Read (List A)) → i < count → item (last_of front) bytes ≡ Ok (x, rest)
+      → behind front (in_turn item (count - i) (last_of front) bytes) ≡ total → behind (front ++ x ∷ []) (in_turn item (count - (i + 1)) (last_of (front ++ x ∷ [])) rest) ≡ total
+  unfolding in_turn
+  goes_on front count i bytes x rest total lt here so_far =
+      let more : count - i ≡ suc (count - (i + 1)) = omega arith in
+      let one : behind front (in_turn item (count - i) (last_of front) bytes) ≡ behind (front ++ x ∷ []) (in_turn item (count - (i + 1)) (Some x) rest) =
+      ap (λ n. behind front (in_turn item n (last_of front) bytes)) more
+      ∙ ap (λ read. behind front (read >>= λ first. in_turn item (count - (i + 1)) (Some first.0) first.1 >>= λ others. Ok (first.0 ∷ others.0, others.1))) here
+      ∙ regroup front x (in_turn item (count - (i + 1)) (Some x) rest) in
+      ap (λ last. behind (front ++ x ∷ []) (in_turn item (count - (i + 1)) last rest)) (last_push front x) ∙ (sym one ∙ so_far)
+
+  -- one was refused
+  pub ends : (e : OrMemory ChunkFault) (front : List A) (count i : ℕ) (bytes : List ℕ) (total : Read (List A)) → i < count → Fails e (item (last_of front) bytes)
+      → behind front (in_turn item (count - i) (last_of front) bytes) ≡ total → Fails e total
+  unfolding in_turn
+  ends Memory front count i bytes total lt here so_far = tt
+  ends (Fault fault) front count i bytes total lt here so_far =
+      let more : count - i ≡ suc (count - (i + 1)) = omega arith in
+      let one : behind front (in_turn item (count - i) (last_of front) bytes) ≡ Err fault =
+      ap (λ n. behind front (in_turn item n (last_of front) bytes)) more
+      ∙ ap (λ read. behind front (read >>= λ first. in_turn item (count - (i + 1)) (Some first.0) first.1 >>= λ others. Ok (first.0 ∷ others.0, others.1))) here in
+      sym so_far ∙ one
+
+  -- none is left
+  pub is_done : (front : List A) (count i : ℕ) (bytes : List ℕ) (total : Read (List A)) → count ≤ i → behind front (in_turn item (count - i) (last_of front) bytes) ≡ total → total ≡ Ok (front, bytes)
+  unfolding in_turn
+  is_done front count i bytes total le so_far =
+      let none : count - i ≡ 0 = omega arith in
+      let one : behind front (in_turn item (count - i) (last_of front) bytes) ≡ Ok (front, bytes) =
+      ap (λ n. behind front (in_turn item n (last_of front) bytes)) none ∙ ap (λ xs. Ok (xs, bytes)) (append-nil front) in
+      sym so_far ∙ one
+
+  -- at the start nothing was read
+  pub begins : (count : ℕ) (bytes : List ℕ) → behind [] (in_turn item (count - 0) (last_of []) bytes) ≡ in_turn item count None bytes
+  begins count bytes =
+      let all : count - 0 ≡ count = omega arith in
+      ap (λ n. behind [] (in_turn item n None bytes)) all ∙ same (in_turn item count None bytes)
+    where
+      same : (read : Read (List A)) → behind [] read ≡ read
+      same (Ok x) = refl
+      same (Err fault) = refl
+
+-- ---- writing
+
+-- one more was written behind a head and those before it
+pub one_more : {A : Type 0} (written : A → List ℕ) (xs : List A) (i : ℕ) (x : A) (old head out new : List ℕ) → i < length xs → x ≡ get_or xs i x
+    → out ≡ old ++ (head ++ flat_map written (take i xs)) → new ≡ out ++ written x → new ≡ old ++ (head ++ flat_map written (take (i + 1) xs))
+one_more written xs i x old head out new within is so_far now =
+    let next : take (i + 1) xs ≡ take i xs ++ x ∷ [] = take_more xs i x within ∙ ap (λ y. take i xs ++ y ∷ []) (sym is) in
+    now ∙ ap (λ t. t ++ written x) (so_far ∙ sym (append_assoc old head (flat_map written (take i xs))))
+    ∙ flat_map_more written (old ++ head) (take i xs) x
+    ∙ append_assoc old head (flat_map written (take i xs ++ x ∷ []))
+    ∙ ap (λ ys. old ++ (head ++ flat_map written ys)) (sym next)
+
+pub all_more : {A : Type 0} (P : A → Type 0) (xs : List A) (i : ℕ) (x : A) → i < length xs → x ≡ get_or xs i x → All P (take i xs) → P x → All P (take (i + 1) xs)
+all_more P xs i x within is so_far now =
+    let next : take (i + 1) xs ≡ take i xs ++ x ∷ [] = take_more xs i x within ∙ ap (λ y. take i xs ++ y ∷ []) (sym is) in
+    subst (All P) (sym next) (All-push P (take i xs) x so_far now)

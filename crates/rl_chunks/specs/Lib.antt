@@ -1,0 +1,2 @@
+pub mod ChunkText
+pub mod ChunkReading
