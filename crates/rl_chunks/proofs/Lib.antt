@@ -1,3 +1,4 @@
+pub mod Blobs
 pub mod Chunks
 pub mod Fields
 pub mod Items

@@ -1,2 +1,5 @@
 pub mod ChunkText
 pub mod ChunkReading
+pub mod MemState
+pub mod Spoiling
+pub mod StoreState

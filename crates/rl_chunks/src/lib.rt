@@ -4,18 +4,26 @@
 //! - `format`: the forms that a chunk's bytes may have.
 //! - `fault`: `ChunkFault`, why bytes are no chunk.
 //! - `writing`: `encode`. `reading`: `decode`.
+//! - `store`: `Store`, bytes by number, whatever its device does. `mem_store`: `MemStore`, in memory. `spoil_store`:
+//!   `SpoilStore`, which spoils what is read.
 #![tactic(auto)]
 
 pub mod chunk;
 pub mod fault;
 pub mod format;
 pub mod line;
+pub mod mem_store;
 pub mod reading;
+pub mod spoil_store;
+pub mod store;
 pub mod writing;
 
 pub use chunk::Chunk;
 pub use fault::{ChunkError, ChunkFault};
 pub use format::Format;
 pub use line::Line;
+pub use mem_store::MemStore;
 pub use reading::decode;
+pub use spoil_store::{Spoil, SpoilStore};
+pub use store::{Store, StoreFault};
 pub use writing::encode;

@@ -1,0 +1,9 @@
+-- The tree has an entry for each number.
+use Rattle.std.proofs.Common.{sym, ◌∙◌}
+use Rattle.std.specs.FinMap.{nat_cmp-IsAntisymmetric}
+use Rattle.std.proofs.lemmas.Cmp.{nat_cmp_total}
+use Rattle.rl_plain.specs.laws.TreeMaps.{len-of_tree}
+use Rattle.rl_chunks.proofs.mem_store.MemStore.len.Goals as goal
+
+pub returns : goal.returns
+returns c = c.len.ensures.len ∙ sym (len-of_tree nat_cmp_total nat_cmp-IsAntisymmetric c.args.self.now.blobs.entries c.len.ensures.ordered)
