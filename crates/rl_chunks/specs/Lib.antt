@@ -1,5 +1,6 @@
 pub mod ChunkText
 pub mod ChunkReading
+pub mod DirState
 pub mod MemState
 pub mod Spoiling
 pub mod StoreState

@@ -46,7 +46,11 @@ pub record IsRead (old new : Seen) : Type 0 where
 abbrev pub LeavesOthers : ℕ → Blobs → Blobs → Type 0
 LeavesOthers number old new = (other : ℕ) → (other ≡ number → ⊥) → map.get new other ≡ map.get old other
 
--- a fault was counted in the call, or no more can be counted
+-- a fault was counted, or no more can be counted
+abbrev pub IsCounted : ℕ → ℕ → StoreFault → Type 0
+IsCounted old new Fault = (old < new) ⊎ (new ≡ greatest)
+IsCounted old new Memory = Unit {0}
+
+-- the fault was counted in the call
 abbrev pub HasCause : Seen → Seen → StoreFault → Type 0
-HasCause old new Fault = (old.faults < new.faults) ⊎ (new.faults ≡ greatest)
-HasCause old new Memory = Unit {0}
+HasCause old new = IsCounted old.faults new.faults

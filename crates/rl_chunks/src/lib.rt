@@ -9,8 +9,10 @@
 #![tactic(auto)]
 
 pub mod chunk;
+pub mod dir_store;
 pub mod fault;
 pub mod format;
+pub mod history;
 pub mod line;
 pub mod mem_store;
 pub mod reading;
@@ -19,6 +21,7 @@ pub mod store;
 pub mod writing;
 
 pub use chunk::Chunk;
+pub use dir_store::DirStore;
 pub use fault::{ChunkError, ChunkFault};
 pub use format::Format;
 pub use line::Line;
