@@ -1,5 +1,5 @@
 -- A tree of bytes by number, and the map that it is.
-use Rattle.std.proofs.Common.{◌≡◌, ℕ, cond, List, Option, None, Some, sym, ap, ◌∙◌}
+use Rattle.std.proofs.Common.{◌≡◌, ℕ, cond, List, None, Some, sym, ap, ◌∙◌}
 use Rattle.std.specs.Ordering.{nat_cmp}
 use Rattle.std.specs.BTreeMap.{is_at}
 use Rattle.std.specs.Map.{lookup}

@@ -1,22 +1,20 @@
 -- The two laws: bytes that are read as a chunk are its text, and its text is read again.
-use Rattle.std.proofs.Common.{◌≡◌, ℕ, zero, suc, ◌+◌, ◌^◌, ◌<◌, ◌≤◌, ◌==◌, ltb, Bool, true, false, not, cond, eqb, List, [], ◌∷◌, ◌++◌, length, take, drop, Option, Some, None, Result, Ok, Err, refl, sym, ap, subst, ◌∙◌, append_assoc, append-nil, arith}
-use Rattle.std.specs.Prelude.{IsTrue, IfOk}
+use Rattle.std.proofs.Common.{◌≡◌, ℕ, zero, suc, ◌^◌, ◌<◌, ◌==◌, ltb, true, false, cond, List, [], ◌∷◌, ◌++◌, length, take, drop, Option, Some, None, Result, Ok, Err, refl, sym, ap, subst, ◌∙◌, append_assoc, append-nil, arith}
+use Rattle.std.specs.Prelude.{IfOk}
 use Rattle.std.specs.Int.{w16, w32, to_be_bytes}
 use Rattle.std.specs.List.{All, AllByRecursion, flat_map}
 use Rattle.std.specs.List.Sorted.{IsStrictlySortedBy}
-use Rattle.std.specs.Ordering.{is_lt, nat_cmp}
+use Rattle.std.specs.Ordering.{is_lt}
 use Rattle.std.specs.declared.cmp.Ordering.{Ordering}
 use Rattle.std.specs.declared.cmp.Ordering.TheVariants.{Less, Equal, Greater}
 use Rattle.std.specs.Cmp.{IsTotalOrder}
-use Rattle.std.specs.Cmp.Lexicographic.{slice_cmp}
-use Rattle.std.proofs.lemmas.Bool.{eqb-true, ltb-false, le-ltb, true≢false}
+use Rattle.std.proofs.lemmas.Bool.{eqb-true, le-ltb, true≢false}
 use Rattle.std.proofs.lemmas.Cmp.{on_total, then_total, nat_cmp_total, nat_list_cmp_total}
 use Rattle.std.proofs.lemmas.List.{nil_from_length, take-append-drop, length-append}
 use Rattle.std.proofs.lemmas.List.Elements.{recursion_from_All, All-from_recursion}
 use Rattle.rl_plain.specs.Answers.{◌>>=◌, Gives}
 use Rattle.rl_plain.specs.declared.refusal.OrMemory.{OrMemory}
-use Rattle.rl_plain.specs.declared.refusal.OrMemory.TheVariants as errors
-use Rattle.rl_labels.specs.LabelSet.{Pair, LabelSet, labels_of}
+use Rattle.rl_labels.specs.LabelSet.{LabelSet, labels_of}
 use Rattle.rl_labels.specs.Name.{is_text}
 use Rattle.rl_labels.specs.Pairs.{labels_from}
 use Rattle.rl_labels.specs.laws.LabelLaws.{same_text}
@@ -30,7 +28,7 @@ use Rattle.rl_chunks.specs.declared.format.Format.TheVariants.{Short}
 use Rattle.rl_chunks.specs.declared.line.Line.{Line}
 use Rattle.rl_chunks.proofs.Fields.{IsBytes, IsBytes-drop, bind_ok, ok_is, passed, not_met, Takes, Takes-then, wide16, wide32, number_takes, number_again}
 use Rattle.rl_chunks.proofs.Items.{Chain, in_turn_takes, in_turn_again, IsNextLabel, label_takes, label_again, IsNextLine, next_line_takes, next_line_again}
-use Rattle.rl_chunks.proofs.Labels.{AreGood, good_from_chain, OfStream, of_stream, stream_from, few_labels, chain_of_stream, stream_again, stream_of_chain}
+use Rattle.rl_chunks.proofs.Labels.{good_from_chain, OfStream, of_stream, stream_from, few_labels, chain_of_stream, stream_again, stream_of_chain}
 
 -- ---- lines that rise
 

@@ -1,17 +1,15 @@
 -- Labels and lines: what is read is what was written, and what was written is read again.
-use Rattle.std.proofs.Common.{◌≡◌, ℕ, zero, suc, ◌+◌, ◌^◌, ◌<◌, ◌≤◌, Bool, true, false, not, ◌&&◌, cond, List, [], ◌∷◌, ◌++◌, length, Option, Some, None, Result, Ok, Err, refl, sym, ap, subst, ◌∙◌, append_assoc, arith}
-use Rattle.std.specs.Prelude.{IsTrue, nat_le}
-use Rattle.std.specs.Int.{Width, w16, w32, w64, to_be_bytes}
+use Rattle.std.proofs.Common.{◌≡◌, ℕ, zero, suc, ◌^◌, ◌≤◌, true, false, ◌&&◌, cond, List, [], ◌∷◌, ◌++◌, length, Option, Some, Ok, Err, refl, ap, subst, ◌∙◌, append_assoc, arith}
+use Rattle.std.specs.Prelude.{nat_le}
+use Rattle.std.specs.Int.{w16, w64, to_be_bytes}
 use Rattle.std.specs.List.{flat_map}
 use Rattle.std.proofs.lemmas.Bool.{and_parts, and_from, leb-true, le-leb}
-use Rattle.rl_labels.specs.EntryParts.{longest_line}
 use Rattle.rl_labels.specs.LabelSet.{Pair, is_empty}
 use Rattle.rl_labels.specs.Name.{is_stream_name}
 use Rattle.rl_labels.specs.Quantity.{greatest_moment}
 use Rattle.rl_plain.specs.Answers.{◌>>=◌}
 use Rattle.rl_chunks.specs.ChunkText.{sized, line_width, label_bytes, line_bytes, IsLine}
 use Rattle.rl_chunks.specs.ChunkReading.{Read, number_at, text_at, is_next_name, name_at, value_at, label_at, moment_at, line_at, is_next_line, next_line_at, in_turn}
-use Rattle.rl_chunks.specs.declared.fault.ChunkFault.{ChunkFault}
 use Rattle.rl_chunks.specs.declared.fault.ChunkFault.TheVariants.{NotAChunk, Disorder}
 use Rattle.rl_chunks.specs.declared.format.Format.{Format}
 use Rattle.rl_chunks.specs.declared.format.Format.TheVariants.{Short}

@@ -1,31 +1,27 @@
 -- Labels that were read one behind the other are those of a stream, and those of a stream can be read.
-use Rattle.std.proofs.Common.{◌≡◌, ℕ, zero, suc, ◌+◌, ◌^◌, ◌<◌, ◌≤◌, ◌==◌, nat_lt, Bool, true, false, not, ◌&&◌, ◌||◌, cond, List, [], ◌∷◌, ◌++◌, length, map, Option, Some, None, Result, Ok, Err, refl, sym, ap, subst, ◌∙◌, arith}
-use Rattle.std.specs.Prelude.{IsTrue, nat_le, codes}
-use Rattle.std.specs.List.{All, AllByRecursion, list_all, list_any, flat_map, join_with_byte}
-use Rattle.std.specs.Str.{is_utf8}
-use Rattle.std.specs.Ordering.{is_lt, is_eq, nat_cmp, ordering_reverse}
+use Rattle.std.proofs.Common.{◌≡◌, ℕ, ◌+◌, ◌^◌, ◌<◌, ◌≤◌, ◌==◌, nat_lt, Bool, true, false, not, ◌||◌, cond, List, [], ◌∷◌, ◌++◌, length, map, Option, Some, None, Ok, Err, refl, sym, ap, subst, ◌∙◌, arith}
+use Rattle.std.specs.Prelude.{IsTrue, nat_le}
+use Rattle.std.specs.List.{All, AllByRecursion, list_all, list_any, join_with_byte}
+use Rattle.std.specs.Ordering.{is_lt}
 use Rattle.std.specs.declared.cmp.Ordering.{Ordering}
 use Rattle.std.specs.declared.cmp.Ordering.TheVariants.{Less, Equal, Greater}
 use Rattle.std.specs.FinMap.Entries.{is_sorted, below_all}
-use Rattle.std.proofs.lemmas.Bool.{and_parts, and_from, true≢false, lt-ltb, le-ltb, ltb-false, le-leb, leb-true, eqb-true, false_from_ne_true}
+use Rattle.std.proofs.lemmas.Bool.{and_parts, and_from, true≢false, le-ltb, ltb-false, le-leb, leb-true, eqb-true, false_from_ne_true}
 use Rattle.std.proofs.lemmas.Cmp.{tied_itself}
 use Rattle.std.proofs.lemmas.List.{length-append}
 use Rattle.std.proofs.lemmas.List.Sums.{sum_by-cons}
 use Rattle.std.proofs.lemmas.List.Elements.{recursion_from_All, All-from_recursion}
-use Rattle.rl_plain.specs.Escapes.{Escapes, escape, escaped}
+use Rattle.rl_plain.specs.Escapes.{Escapes, escape}
 use Rattle.rl_plain.specs.laws.Bools.{true_from}
 use Rattle.rl_labels.specs.EntryParts.{is_stream, are_stream_labels, has_no_label}
-use Rattle.rl_labels.specs.LabelSet.{Pair, LabelSet, is_empty, is_label, are_labels, labels_of, label_set_of, same_labels, labels_are_proper}
+use Rattle.rl_labels.specs.LabelSet.{Pair, LabelSet, is_empty, is_label, labels_of, label_set_of, same_labels, labels_are_proper}
 use Rattle.rl_labels.specs.LabelText.{label_escapes, value_text, label_text, labels_text, canonical_text}
 use Rattle.rl_labels.specs.Name.{name_cmp, is_name, is_text, is_stream_name}
 use Rattle.rl_labels.specs.Pairs.{names_are_good, times_named, has_same_name, longest_text, labels_from}
-use Rattle.rl_labels.specs.laws.LabelLaws.{labels_of-label_set_of, name_cmp_total, same_text, is_text_itself, other_texts}
-use Rattle.rl_labels.specs.declared.labels.LabelsFault.{LabelsFault}
+use Rattle.rl_labels.specs.laws.LabelLaws.{labels_of-label_set_of, name_cmp_total, same_text, other_texts}
 use Rattle.rl_labels.specs.declared.labels.LabelsFault.TheVariants.{BadName, SameName, TooLong}
 use Rattle.rl_chunks.specs.ChunkText.{IsText}
-use Rattle.rl_chunks.specs.ChunkReading.{is_next_name, in_chunk}
-use Rattle.rl_chunks.specs.declared.fault.ChunkFault.{ChunkFault}
-use Rattle.rl_chunks.proofs.Fields.{IsTextBelow}
+use Rattle.rl_chunks.specs.ChunkReading.{in_chunk}
 use Rattle.rl_chunks.proofs.Items.{Chain, IsGood, IsNextLabel}
 
 -- ---- names that rise

@@ -1,7 +1,6 @@
 -- How a store in a folder is seen.
 use Rattle.std.specs.Prelude.{ℕ, false}
 use Rattle.std.specs.FinMap.{empty, insert, remove}
-use Rattle.std.specs.declared.snapshot.Snapshot.{Snapshot}
 use Rattle.rl_chunks.specs.StoreState.{Blobs, Seen}
 use Rattle.rl_chunks.specs.declared.history.History.{History}
 use Rattle.rl_chunks.specs.declared.history.History.TheFolds.{fold-History}

@@ -1,9 +1,9 @@
 -- Each turn reads the next label.
-use Rattle.std.proofs.Common.{◌≡◌, ◌++◌, ◌∷◌, [], Ok, sym, ap, subst, ◌∙◌}
+use Rattle.std.proofs.Common.{sym, ap, subst, ◌∙◌}
 use Rattle.std.proofs.lemmas.Result.{err_from_is_err_and}
 use Rattle.rl_plain.specs.Answers.{Fails}
-use Rattle.rl_chunks.specs.ChunkReading.{label_at, in_turn}
-use Rattle.rl_chunks.proofs.Turns.{last_of, behind, goes_on, ends, is_done}
+use Rattle.rl_chunks.specs.ChunkReading.{label_at}
+use Rattle.rl_chunks.proofs.Turns.{last_of, goes_on, ends, is_done}
 use Rattle.rl_chunks.proofs.reading.pairs_at.Goals as goal
 
 pub returns-in_err-label : goal.returns-in_err-label

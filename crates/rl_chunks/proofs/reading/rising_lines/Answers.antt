@@ -1,8 +1,8 @@
 -- Each turn reads the next line.
-use Rattle.std.proofs.Common.{◌≡◌, ◌++◌, ◌∷◌, [], Ok, sym, ap, subst, ◌∙◌}
+use Rattle.std.proofs.Common.{sym, ap, subst, ◌∙◌}
 use Rattle.rl_plain.specs.Answers.{Fails}
-use Rattle.rl_chunks.specs.ChunkReading.{next_line_at, in_turn}
-use Rattle.rl_chunks.proofs.Turns.{last_of, behind, goes_on, ends, is_done}
+use Rattle.rl_chunks.specs.ChunkReading.{next_line_at}
+use Rattle.rl_chunks.proofs.Turns.{last_of, goes_on, ends, is_done}
 use Rattle.rl_chunks.proofs.reading.rising_lines.Goals as goal
 
 pub returns-in-Err : goal.returns-in-Err
