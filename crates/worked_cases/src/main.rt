@@ -7,6 +7,7 @@
 
 mod aggregate;
 mod cases;
+mod chunks;
 mod compared;
 mod given;
 mod labels;
@@ -108,6 +109,7 @@ fn answer_once(
 fn answer_of(alloc: Global, family: &str, directive: &str, input: &str) -> Result<String, Trouble> {
     match family {
         "aggregate" => aggregate::answer(alloc, directive, input),
+        "chunks" => chunks::answer(alloc, directive, input),
         "labels" => labels::answer(alloc, directive, input),
         "pipeline" => pipeline::answer(alloc, directive, input),
         "plain" => plain::answer(alloc, directive, input),
