@@ -4,6 +4,7 @@ pub mod AnsweredSieve
 pub mod Chains
 pub mod Cramped
 pub mod CrampedQueries
+pub mod Crossing
 pub mod Cuts
 pub mod Durations
 pub mod Elements

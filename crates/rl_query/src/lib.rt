@@ -12,6 +12,7 @@
 //! - `aggregation_reading`, `term_reading`, `query_reading`: groupings, operators and thresholds, terms, and queries from their tokens.
 //! - `stage`: line filters and stages from their tokens. `parser`: `parse`. `printer`: `print` and `print_term`.
 //! - `sieve`: `parse_delete` and `print_sieve`.
+//! - `sending`: what may be sent to another thread, and looked at from two.
 //! - `label_test`, `matcher_test` and `quantity_test`: `LabelTests`, trees of tests of texts and of quantities. `testing`: tests from their tokens. `test_printer`: `print_tests`.
 #![tactic(auto)]
 
@@ -30,6 +31,7 @@ pub mod quantity_test;
 pub mod query;
 pub mod query_reading;
 pub mod room;
+pub mod sending;
 pub mod sieve;
 pub mod stage;
 pub mod stages;
