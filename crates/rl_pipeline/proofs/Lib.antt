@@ -1,3 +1,4 @@
+pub mod Crossing
 pub mod JsonData
 pub mod LogfmtTexts
 pub mod LogfmtTurns

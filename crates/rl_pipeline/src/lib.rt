@@ -9,7 +9,7 @@
 //! - `label_tests`: built label tests. `testing`: what asks many lines for them. `comparing`: tests by quantity, and `holds`, the comparison of numbers.
 //! - `line`: `Line`, which several pipelines have read once. `draft`: the labels of a line on its way through the stages. `meter`: `Meter`, which counts the runs.
 //! - `pipeline`: `Pipeline`, built stages. `running`: `Running`, which sends many lines through them with one set of caches.
-//! - `sieve`: `SieveCode`, a built sieve, and `Covers`.
+//! - `sieve`: `SieveCode`, a built sieve, and `Covers`. `sending`: what may be sent to another thread.
 #![tactic(auto)]
 
 pub(crate) mod comparing;
@@ -28,6 +28,7 @@ pub mod parsing;
 pub mod pipeline;
 pub mod running;
 pub mod search;
+pub mod sending;
 pub mod sieve;
 pub(crate) mod testing;
 
