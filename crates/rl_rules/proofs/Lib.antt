@@ -1,4 +1,5 @@
 mod Alerted
+pub mod Crossing
 pub mod Edited
 mod Named
 mod Places

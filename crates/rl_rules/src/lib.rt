@@ -6,6 +6,7 @@
 //!
 //! - `rule`: `Group`, `Rule`. `alert`: `Alert`, `Phase`. `evaluation`: `Evaluation`, `RuleResult`, `RuleOutcome`, `Cause`.
 //! - `fault`: why a rule file is refused. `reading`: `read_rules`. `stepping`: `step_rule`. `editing`: `hand_on`.
+//! - `sending`: what may be sent to another thread, and looked at from two.
 #![tactic(auto)]
 
 pub mod alert;
@@ -16,6 +17,7 @@ pub mod fault;
 mod names;
 pub mod reading;
 pub mod rule;
+pub mod sending;
 mod shape;
 pub mod stepping;
 mod values;
