@@ -1,15 +1,18 @@
 -- Totals as a tree of entries: the total at a label set, and what a change of the tree leaves.
-use Rattle.std.proofs.Common.{◌≡◌, ◌+◌, cond, List, Option, None, Some, is_some, IsTrue, sym, ap, ◌∙◌, arith}
+use Rattle.std.proofs.Common.{◌≡◌, ◌+◌, nat_eq, ◌&&◌, true, cond, List, Option, None, Some, is_some, IsTrue, refl, sym, ap, subst, ◌∙◌, arith}
 use Rattle.std.specs.Option.{unwrap_or}
-use Rattle.std.specs.FinMap.{from_entries, insert, contains_key}
+use Rattle.std.specs.Bool.{Decides}
+use Rattle.std.specs.FinMap.{from_entries, insert, contains_key, entries}
 use Rattle.std.specs.BTreeMap.{is_at}
-use Rattle.std.specs.Map.{lookup}
-use Rattle.std.proofs.lemmas.Bool.{true≢false}
+use Rattle.std.specs.List.Sorted.{IsStrictlySortedBy}
+use Rattle.std.specs.Map.{lookup, keys_of}
+use Rattle.std.proofs.lemmas.Bool.{true≢false, and_parts, and_from, eq-eqb}
+use Rattle.std.proofs.lemmas.Bool.Decides.{nat_tests}
 use Rattle.rl_labels.specs.LabelSet.{LabelSet}
-use Rattle.rl_labels.specs.LabelText.{label_set_cmp}
-use Rattle.rl_labels.specs.laws.TextLaws.{label_set_cmp_total, label_set_cmp-IsAntisymmetric}
+use Rattle.rl_labels.specs.LabelText.{label_set_cmp, label_set_eq}
+use Rattle.rl_labels.specs.laws.TextLaws.{label_set_cmp_total, label_set_cmp-IsAntisymmetric, label_set_eq-true, label_set_eq_itself}
 use Rattle.rl_aggregate.specs.TotalsMap.{TotalsMap, no_total, plus, total_at, added}
-use Rattle.rl_plain.specs.laws.TreeMaps.{get-of_tree, one_set}
+use Rattle.rl_plain.specs.laws.TreeMaps.{get-of_tree, one_set, entries-of_tree}
 use Rattle.rl_aggregate.specs.declared.total.Total.{Total}
 
 abbrev pub Entries : Type 0
@@ -44,3 +47,22 @@ plus-no_total total =
     let count : 0 + total.count ≡ total.count = omega arith in
     let bytes : 0 + total.bytes ≡ total.bytes = omega arith in
     λ i. record { count = count i; bytes = bytes i }
+
+-- trees in order that make the same totals have the same entries
+pub same_entries_in : (es fs : Entries) → IsStrictlySortedBy label_set_cmp (keys_of es) → IsStrictlySortedBy label_set_cmp (keys_of fs) → totals_in es ≡ totals_in fs → es ≡ fs
+same_entries_in es fs ordered others same =
+    sym (entries-of_tree label_set_cmp_total label_set_cmp-IsAntisymmetric es ordered) ∙ ap (λ totals. entries totals) same ∙ entries-of_tree label_set_cmp_total label_set_cmp-IsAntisymmetric fs others
+
+-- what is tested equal is one
+pub labels_decided : (a b : LabelSet) → Decides (label_set_eq a b) (a ≡ b)
+labels_decided a b = (label_set_eq-true a b, λ same. subst (λ o. label_set_eq a o ≡ true) same (label_set_eq_itself a))
+
+pub total_decided : (a b : Total) → Decides (nat_eq a.count b.count && nat_eq a.bytes b.bytes) (a ≡ b)
+total_decided a b = (
+  (λ is.
+      let parts = and_parts (nat_eq a.count b.count) (nat_eq a.bytes b.bytes) is in
+      let count : a.count ≡ b.count = grind (arith, nat_tests, parts.0) in
+      let bytes : a.bytes ≡ b.bytes = grind (arith, nat_tests, parts.1) in
+      λ i. record { count = count i; bytes = bytes i }),
+  (λ same. subst (λ (o : Total). nat_eq a.count o.count && nat_eq a.bytes o.bytes ≡ true) same (and_from (nat_eq a.count a.count) (nat_eq a.bytes a.bytes) (eq-eqb a.count a.count refl) (eq-eqb a.bytes a.bytes refl))),
+)

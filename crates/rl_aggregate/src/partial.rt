@@ -7,7 +7,7 @@ ghost use Rattle.rl_aggregate.specs.TotalsMap.{HasAll};
 ghost use Rattle.rl_aggregate.specs.Partials.{merge, Fits, IsOfBoth};
 
 use crate::totals::Totals;
-use rl_plain::TryCopy;
+use rl_plain::{Same, TryCopy};
 use std::alloc::{AllocError, Global};
 
 /// What the elements of a term's range add up to.
@@ -60,5 +60,11 @@ impl TryCopy for Partial {
             errors: self.errors,
             totals,
         })
+    }
+}
+
+impl Same for Partial {
+    fn is_same(&self, other: &Self) -> bool {
+        self.errors == other.errors && self.totals.is_same(&other.totals)
     }
 }

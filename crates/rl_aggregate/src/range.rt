@@ -15,6 +15,7 @@ use crate::tally::{Tally, count_in_each, count_one, has_error, partials_of, tall
 use crate::total::Total;
 use rl_labels::{Entry, Labels, Ns, SelectorCode};
 use rl_pipeline::{Line, Meter, Pipeline, Running};
+use rl_plain::Shared;
 use rl_query::Term;
 use std::alloc::{AllocError, Global};
 
@@ -22,7 +23,12 @@ use std::alloc::{AllocError, Global};
 const SECOND: u64 = 1_000_000_000;
 
 /// What the entries in the term's range at the moment add up to.
-pub fn scratch(alloc: Global, entries: &[Entry], term: &Term, t: Ns) -> Result<Partial, AllocError>
+pub fn scratch(
+    alloc: Global,
+    entries: &[Shared<Entry>],
+    term: &Term,
+    t: Ns,
+) -> Result<Partial, AllocError>
     requires { length entries.now ≤ most_entries }
     ensures partial { IfOk result (λ found. found ≡ partial entries.now term.now t) }
     ensures any_order { (others : List Entry) → IsPermutation entries.now others → IfOk result (λ found. found ≡ partial others term.now t) }
@@ -36,7 +42,7 @@ pub fn scratch(alloc: Global, entries: &[Entry], term: &Term, t: Ns) -> Result<P
 /// line of a run that it selects goes through the stages of all, and a parser reads it once.
 pub fn scratch_all(
     alloc: Global,
-    entries: &[Entry],
+    entries: &[Shared<Entry>],
     term: &Term,
     others: &[&Term],
     t: Ns,
@@ -54,6 +60,7 @@ pub fn scratch_all(
     let mut tallies = tallies_of(alloc, &pipelines)?;
     let mut rest = entries;
     while let [first, ..] = rest {
+        let first = first.get();
         let (run, behind) = cut_run(term, t, first, rest);
         if is_selected(&selector, term, t, first)? {
             count(&mut found, &mut tallies, &first.labels, run, &mut running)?;
@@ -94,8 +101,8 @@ fn cut_run<'a>(
     term: &Term,
     t: Ns,
     first: &Entry,
-    entries: &'a [Entry],
-) -> (&'a [Entry], &'a [Entry])
+    entries: &'a [Shared<Entry>],
+) -> (&'a [Shared<Entry>], &'a [Shared<Entry>])
     requires some { 0 < length entries.now }
     requires first { first.now ≡ get_or entries.now 0 first.now }
     ensures some { 0 < length result.0.now }
@@ -103,7 +110,7 @@ fn cut_run<'a>(
     ensures like { IsTrue (list_all (is_like term.now t first.now) result.0.now) }
 {
     for (index, entry) in entries.iter().enumerate() {
-        if !is_like(term, t, first, entry) {
+        if !is_like(term, t, first, entry.get()) {
             return entries.split_at(index);
         }
     }
@@ -151,7 +158,7 @@ fn count(
     found: &mut Partial,
     others: &mut [Tally<'_>],
     labels: &Labels,
-    run: &[Entry],
+    run: &[Shared<Entry>],
     running: &mut Running<'_>,
 ) -> Result<(), AllocError>
     requires few { length run.now ≤ most_entries }
@@ -173,7 +180,7 @@ fn count(
 fn count_all(
     found: &mut Partial,
     labels: &Labels,
-    run: &[Entry],
+    run: &[Shared<Entry>],
     running: &mut Running<'_>,
 ) -> Result<(), AllocError>
     requires few { length run.now ≤ most_entries }
@@ -195,7 +202,7 @@ fn count_all(
 }
 
 // How many entries have lines that stay, and the bytes of these lines, where lines keep their labels.
-fn total_of(running: &mut Running<'_>, run: &[Entry]) -> Total
+fn total_of(running: &mut Running<'_>, run: &[Shared<Entry>]) -> Total
     requires few { length run.now ≤ most_entries }
     requires plain { IsPlain running.old }
     ensures total { result ≡ run_total (kept running.old run.now) }
@@ -203,6 +210,7 @@ fn total_of(running: &mut Running<'_>, run: &[Entry]) -> Total
 {
     let mut total = Total { count: 0, bytes: 0 };
     for entry in run {
+        let entry = entry.get();
         if running.keeps(entry.line.as_str()) {
             total.count += 1;
             total.bytes += entry.line.len() as u64;
@@ -215,7 +223,7 @@ fn total_of(running: &mut Running<'_>, run: &[Entry]) -> Total
 fn count_each(
     found: &mut Partial,
     others: &mut [Tally<'_>],
-    run: &[Entry],
+    run: &[Shared<Entry>],
     running: &mut Running<'_>,
 ) -> Result<(), AllocError>
     requires room { HasRoom found.old run.now }
@@ -226,6 +234,7 @@ fn count_each(
 {
     let mut meter = Meter::new();
     for entry in run {
+        let entry = entry.get();
         let mut line = Line::new(&entry.labels, entry.line.as_str());
         count_one(found, &mut meter, entry, running, &mut line)?;
         count_in_each(others, &mut meter, entry, &mut line)?;

@@ -5,7 +5,7 @@ use rl_plain::{Same, TryCopy};
 use std::alloc::AllocError;
 
 /// How many elements there are, and how many bytes their lines have.
-#[derive(Clone, Copy)]
+#[derive(Clone, Copy, PartialEq, Eq)]
 pub struct Total {
     pub count: u64,
     pub bytes: u64,

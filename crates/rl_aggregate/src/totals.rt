@@ -14,7 +14,7 @@ ghost use Rattle.rl_labels.specs.LabelText.{label_set_cmp};
 use crate::outcome::{Fraction, Sample};
 use crate::total::Total;
 use rl_labels::Labels;
-use rl_plain::TryCopy;
+use rl_plain::{Same, TryCopy};
 use rl_query::Term;
 use std::alloc::{AllocError, Global};
 use std::collections::BTreeMap;
@@ -162,5 +162,11 @@ impl TryCopy for Totals {
             alloc: self.alloc,
             by_labels,
         })
+    }
+}
+
+impl Same for Totals {
+    fn is_same(&self, other: &Self) -> bool {
+        self.by_labels.len() == other.by_labels.len() && self.by_labels == other.by_labels
     }
 }

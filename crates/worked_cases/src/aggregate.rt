@@ -58,13 +58,13 @@ fn merged(
 }
 
 // A few entries, one a line.
-fn entries_in(alloc: Global, text: &str) -> Result<Vec<Entry>, Trouble>
+fn entries_in(alloc: Global, text: &str) -> Result<Vec<Shared<Entry>>, Trouble>
     ensures { IfOk result (λ entries. length entries.items ≤ 1000) }
 {
     let mut entries = Vec::new(alloc);
     for line in text.split('\n') {
         if !line.is_empty() {
-            entries.push(entry_in(alloc, line)?)?;
+            entries.push(Shared::new(alloc, entry_in(alloc, line)?)?)?;
         }
     }
     if entries.len() > 1_000 {

@@ -1,5 +1,5 @@
 -- One line more is counted in each, and the others still have room there.
-use Rattle.std.proofs.Common.{◌≡◌, ◌++◌, [], ◌∷◌, List, map, take, drop, ◌+◌, sym, ap, subst, ◌∙◌, append_assoc}
+use Rattle.std.proofs.Common.{◌++◌, [], ◌∷◌, List, map, take, drop, ◌+◌, sym, ap, subst, ◌∙◌, append_assoc}
 use Rattle.std.specs.List.{AllByRecursion}
 use Rattle.rl_labels.specs.declared.entry.Entry.{Entry}
 use Rattle.rl_query.specs.declared.stages.Stage.{Stage}
@@ -17,8 +17,9 @@ count_in_each-requires-clause-room c =
     let run = c.args.run.now in
     let i = c.loop-entry.entry-index in
     let e = c.entry-item.result in
-    rooms_first e (drop (i + 1) run) c.loop-entry.others
-    (subst (λ es. AllByRecursion (λ (other : Tally). HasRoom other.found es) c.loop-entry.others) (split_entry run i e c.loop-entry-test.true c.entry-item.is) c.loop-entry.invariant.rooms)
+    subst (λ (entry : Entry). AllByRecursion (λ (other : Tally). HasRoom other.found (entry ∷ [])) c.loop-entry.others) (sym c.get-entry.ensures)
+    (rooms_first e (drop (i + 1) run) c.loop-entry.others
+    (subst (λ es. AllByRecursion (λ (other : Tally). HasRoom other.found es) c.loop-entry.others) (split_entry run i e c.loop-entry-test.true c.entry-item.is) c.loop-entry.invariant.rooms))
 
 pub loop-entry-preserved : goal.loop-entry-preserved
 loop-entry-preserved c =
@@ -28,8 +29,10 @@ loop-entry-preserved c =
     let e = c.entry-item.result in
     let was = c.loop-entry.invariant in
     let split = split_entry run i e c.loop-entry-test.true c.entry-item.is in
-    let one = c.in_ok-count_one.ensures.counted ∙ ap (λ (st : List Stage). merge c.loop-entry.found (partial_of (map (element st) (kept st (e ∷ []))))) was.same in
-    let each = c.in_ok-count_in_each.ensures.counted in
+    let one = c.in_ok-count_one.ensures.counted
+    ∙ ap (λ (entry : Entry). merge c.loop-entry.found (partial_of (map (element c.loop-entry.running) (kept c.loop-entry.running (entry ∷ []))))) c.get-entry.ensures
+    ∙ ap (λ (st : List Stage). merge c.loop-entry.found (partial_of (map (element st) (kept st (e ∷ []))))) was.same in
+    let each = c.in_ok-count_in_each.ensures.counted ∙ ap (λ (entry : Entry). map (counted entry) c.loop-entry.others) c.get-entry.ensures in
     let others = subst (HasRoom c.loop-entry.found) split was.room in
     let rooms = subst (λ es. AllByRecursion (λ (other : Tally). HasRoom other.found es) c.loop-entry.others) split was.rooms in
     record {

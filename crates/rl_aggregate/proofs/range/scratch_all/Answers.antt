@@ -9,7 +9,7 @@ use Rattle.rl_aggregate.specs.Partials.{partial_of}
 use Rattle.rl_aggregate.specs.Runs.{kept, HasRoom}
 use Rattle.rl_aggregate.specs.Tallies.{counted_all, nothing_counted}
 use Rattle.rl_aggregate.specs.declared.tally.Tally.{Tally}
-use Rattle.rl_aggregate.proofs.Counting.{have-run, all_before, run_before, run-few, run-room}
+use Rattle.rl_aggregate.proofs.Counting.{have-run, run_before, run-few, run-room}
 use Rattle.rl_aggregate.proofs.Tallies.{terms_room, terms_counted, terms_passed, all_counted}
 use Rattle.rl_aggregate.proofs.range.scratch_all.Goals as goal
 
@@ -26,7 +26,7 @@ count-requires-clause-rooms c =
     subst (λ tallies. AllByRecursion (λ (other : Tally). HasRoom other.found run) tallies) (sym (c.deref_mut.ensures.value ∙ c.loop-rest.invariant.2)) (terms_room run c.cut_run.result.1.now c.requires.few before.done before.all c.cut_run.ensures.cut c.args.t c.args.others.now)
 
 pub count-requires-clause-labels : goal.count-requires-clause-labels
-count-requires-clause-labels c = have-run c.args.term.now c.args.t c.first-item.result c.cut_run.result.0.now c.cut_run.ensures.like (sym c.in_ok-is_selected.ensures ∙ c.if-branch.true)
+count-requires-clause-labels c = have-run c.args.term.now c.args.t c.get-first.result.now c.cut_run.result.0.now c.cut_run.ensures.like (sym c.in_ok-is_selected.ensures ∙ c.if-branch.true)
 
 pub loop-rest-preserved-in_ok-count : goal.loop-rest-preserved-in_ok-count
 loop-rest-preserved-in_ok-count c =
@@ -34,10 +34,10 @@ loop-rest-preserved-in_ok-count c =
     let same = c.loop-rest.invariant.1 in
     let before = c.loop-rest.invariant.0 in
     let selected = sym c.in_ok-is_selected.ensures ∙ c.if-branch.true in (
-      run_before run c.cut_run.result.1.now c.requires.few before c.cut_run.ensures.cut c.first-item.result true c.cut_run.ensures.like selected
+      run_before run c.cut_run.result.1.now c.requires.few before c.cut_run.ensures.cut c.get-first.result.now true c.cut_run.ensures.like selected
           (c.in_ok-count.ensures.counted (in_range before.done c.args.term.now c.args.t) before.found_is ∙ ap (λ stages. partial_of (in_range before.done c.args.term.now c.args.t ++ map (element stages) (kept stages run))) same),
       c.in_ok-count.ensures.same ∙ same,
-      with_items_is c.loop-rest.tallies c.count.new.others (omega (arith, c.loop-rest.tallies.ok.0)) ∙ c.in_ok-count.ensures.others ∙ ap (map (counted_all run)) (c.deref_mut.ensures.value ∙ c.loop-rest.invariant.2) ∙ terms_counted c.args.term.now c.args.t c.first-item.result c.args.others.now c.requires.alike before.done run c.cut_run.ensures.like selected,
+      with_items_is c.loop-rest.tallies c.count.new.others (omega (arith, c.loop-rest.tallies.ok.0)) ∙ c.in_ok-count.ensures.others ∙ ap (map (counted_all run)) (c.deref_mut.ensures.value ∙ c.loop-rest.invariant.2) ∙ terms_counted c.args.term.now c.args.t c.get-first.result.now c.args.others.now c.requires.alike before.done run c.cut_run.ensures.like selected,
     )
 
 pub loop-rest-preserved : goal.loop-rest-preserved
@@ -45,10 +45,10 @@ loop-rest-preserved c =
     let run = c.cut_run.result.0.now in
     let before = c.loop-rest.invariant.0 in
     let passed = sym c.in_ok-is_selected.ensures ∙ c.if-branch.false in (
-      run_before run c.cut_run.result.1.now c.requires.few before c.cut_run.ensures.cut c.first-item.result false c.cut_run.ensures.like passed
+      run_before run c.cut_run.result.1.now c.requires.few before c.cut_run.ensures.cut c.get-first.result.now false c.cut_run.ensures.like passed
           (before.found_is ∙ ap partial_of (sym (append-nil (in_range before.done c.args.term.now c.args.t)))),
       c.loop-rest.invariant.1,
-      c.loop-rest.invariant.2 ∙ terms_passed c.args.term.now c.args.t c.first-item.result c.args.others.now c.requires.alike before.done run c.cut_run.ensures.like passed,
+      c.loop-rest.invariant.2 ∙ terms_passed c.args.term.now c.args.t c.get-first.result.now c.args.others.now c.requires.alike before.done run c.cut_run.ensures.like passed,
     )
 
 pub returns-clause-others : goal.returns-clause-others
