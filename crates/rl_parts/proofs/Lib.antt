@@ -1,0 +1,4 @@
+pub mod InOrder
+pub mod Heads
+pub mod Times
+pub mod Wayout

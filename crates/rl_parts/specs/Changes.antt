@@ -1,0 +1,47 @@
+-- What a stream becomes when it takes an entry, seals its head, or writes parts to a store.
+use Rattle.std.specs.Prelude.{◌≡◌, ℕ, ◌+◌, ◌≤◌, List, [], ◌∷◌, ◌++◌, map, length, Option, None, Some}
+use Rattle.std.specs.Option.{is_none}
+use Rattle.std.specs.List.{insert, filter, range_with_len}
+use Rattle.rl_labels.specs.declared.entry.Entry.{Entry}
+use Rattle.rl_parts.specs.StreamParts.{Note, PartView, notes_of}
+
+-- the entry was put at some place
+pub record IsInserted (old : List Entry) (entry : Entry) (new : List Entry) : Type 0 where
+  pub place : ℕ
+  pub within : place ≤ length old
+  pub is : new ≡ insert old place entry
+
+-- parts that no store has may have come behind the old ones
+pub record AreSealed (old new : List PartView) : Type 0 where
+  pub fresh : List PartView
+  pub behind : new ≡ old ++ fresh
+  pub unwritten : notes_of fresh ≡ []
+
+-- how many parts have no note
+abbrev pub unwritten_count : List PartView → ℕ
+unwritten_count parts = length (filter (λ part. is_none part.note) parts)
+
+-- a part's own note, else the next one
+abbrev pub own_or_next : Option Note → List Note → Option Note
+own_or_next (Some own) notes = Some own
+own_or_next None [] = None
+own_or_next None (note ∷ notes) = Some note
+
+-- the notes that are left for the parts behind it
+abbrev pub behind_next : Option Note → List Note → List Note
+behind_next (Some own) notes = notes
+behind_next None [] = []
+behind_next None (note ∷ notes) = notes
+
+-- the parts that have no note get these in turn
+abbrev pub with_notes : List PartView → List Note → List PartView
+with_notes [] notes = []
+with_notes (part ∷ parts) notes = record { entries = part.entries; note = own_or_next part.note notes } ∷ with_notes parts (behind_next part.note notes)
+
+-- parts without a note got one, in turn and without a gap, with the numbers from the first up to the next
+pub record AreNoted (old : List PartView) (first : ℕ) (new : List PartView) (next : ℕ) : Type 0 where
+  pub notes : List Note
+  pub few : length notes ≤ unwritten_count old
+  pub given : new ≡ with_notes old notes
+  pub numbers : map (λ note. note.number) notes ≡ range_with_len first (length notes)
+  pub many : next ≡ first + length notes

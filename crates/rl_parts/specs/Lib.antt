@@ -1,0 +1,6 @@
+pub mod Changes
+pub mod PartState
+pub mod Reading
+pub mod StoreUse
+pub mod StreamParts
+pub mod StreamState

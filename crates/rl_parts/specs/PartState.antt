@@ -1,0 +1,33 @@
+-- How a part is seen, wherever its entries are.
+use Rattle.std.specs.Prelude.{◌≡◌, ℕ, ◌-◌, List, length, Option, None, Some, slice_get}
+use Rattle.std.specs.Option.{option_map, unwrap_or}
+use Rattle.rl_labels.specs.declared.entry.Entry.{Entry}
+use Rattle.rl_parts.specs.StreamParts.{Note, PartView}
+use Rattle.rl_parts.specs.declared.part.Written.{Written}
+use Rattle.rl_parts.specs.declared.part.Place.{Place}
+use Rattle.rl_parts.specs.declared.part.Place.TheVariants.{Here, InStore}
+
+abbrev pub entries_at : Place → List Entry
+entries_at (Here entries) = entries
+entries_at (InStore written) = written.entries.value
+
+abbrev pub note_at : Place → Option Note
+note_at (Here entries) = None
+note_at (InStore written) = Some (record { number = written.number; digest = written.digest })
+
+abbrev pub part_at : Place → PartView
+part_at place = record { entries = entries_at place; note = note_at place }
+
+-- the timestamp of the entry at an index, 0 where there is none
+abbrev pub timestamp_at : List Entry → ℕ → ℕ
+timestamp_at entries index = unwrap_or (option_map (λ entry. entry.timestamp) (slice_get entries index)) 0
+
+-- the timestamps of the first and the last entry
+pub record IsRange (entries : List Entry) (first last : ℕ) : Type 0 where
+  pub start : first ≡ timestamp_at entries 0
+  pub end : last ≡ timestamp_at entries (length entries - 1)
+
+-- what is kept of a written part's range is its range
+abbrev pub RangeIsKept : Place → Type 0
+RangeIsKept (Here entries) = Unit {0}
+RangeIsKept (InStore written) = IsRange written.entries.value written.first written.last

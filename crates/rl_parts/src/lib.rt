@@ -1,0 +1,21 @@
+//! One stream as its parts: a head of log entries that grows, parts that are sealed, and parts that a store has.
+//!
+//! - `stream`: `Stream`, made of its first entry. It holds entries, seals its head, writes its parts to a store and reads them
+//!   there. `part`: `Part`, sealed entries, in memory or in a store.
+//! - `fetching`: `fetch`, a chunk of a store whose bytes have a digest.
+//! - `taker`: `Taker`, what is handed the lines of a stream.
+//! - `fault`: why reading or writing was refused.
+#![tactic(auto)]
+
+pub mod fault;
+pub mod fetching;
+pub mod part;
+mod sealing;
+pub mod stream;
+pub mod taker;
+
+pub use fault::{FlushFault, ReadFault};
+pub use fetching::fetch;
+pub use part::Part;
+pub use stream::Stream;
+pub use taker::Taker;

@@ -1,0 +1,121 @@
+//! One stream as its parts.
+ghost use Rattle.std.specs.Prelude.{◌≡◌, ◌<◌, ◌≤◌, max, [], ◌∷◌, length, OnOk, OnErr, IfOk};
+
+use crate::part::Part;
+use crate::sealing::{later, put, seal_head};
+use rl_labels::{Entry, Labels, Ns};
+use rl_plain::{Shared, TryCopy};
+use std::alloc::{AllocError, Global};
+use std::marker::Model;
+
+/// The most entries that a part can have.
+pub const MAX_PART_LEN: u64 = 1_048_576;
+
+/// One stream. Contracts see its labels, its sealed parts, its head, and its newest timestamp.
+#[derive(Drop)]
+pub struct Stream {
+    labels: Labels,
+    parts: Vec<Part>,
+    // Not sealed yet; by timestamp and line.
+    head: Vec<Shared<Entry>>,
+    newest: Ns,
+    // The newest timestamp in a part, if there is a part.
+    sealed_to: Option<Ns>,
+}
+
+impl Model for Stream {
+    ghost use Rattle.rl_parts.specs.StreamParts.{StreamView, stream_code};
+
+    ghost Value = { StreamView };
+
+    ghost coded = { stream_code };
+
+    ghost use Rattle.rl_parts.specs.StreamState.{IsInOrder};
+
+    ghost view = { λ a. record { labels = a.labels; parts = a.parts.items; head = a.head.items; newest = a.newest } };
+
+    ghost invariant = { λ a. IsInOrder (record { labels = a.labels; parts = a.parts.items; head = a.head.items; newest = a.newest }) a.sealed_to };
+}
+
+impl Stream {
+    ghost use Rattle.std.specs.List.{Contains};
+    ghost use Rattle.rl_parts.specs.StreamParts.{entries_of, notes_of, most_entries};
+    ghost use Rattle.rl_parts.specs.Changes.{IsInserted, AreSealed};
+
+    /// A stream of one entry. It is sealed at once where a part has no more than one.
+    pub fn start(alloc: Global, entry: Shared<Entry>, most: u64) -> Result<Stream, AllocError>
+        requires some { 1 ≤ most }
+        requires few { most ≤ most_entries }
+        ensures labels { IfOk result (λ stream. stream.labels ≡ entry.labels) }
+        ensures newest { IfOk result (λ stream. stream.newest ≡ entry.timestamp) }
+        ensures entries { IfOk result (λ stream. entries_of stream ≡ entry ∷ []) }
+        ensures notes { IfOk result (λ stream. notes_of stream.parts ≡ []) }
+    {
+        let labels = entry.get().labels.try_copy()?;
+        let mut stream = Stream {
+            labels,
+            parts: Vec::new(alloc),
+            head: Vec::new(alloc),
+            newest: entry.get().timestamp,
+            sealed_to: None,
+        };
+        stream.hold(entry, most)?;
+        Ok(stream)
+    }
+
+    /// The labels of the stream.
+    pub fn labels(&self) -> &Labels
+        ensures { result.now ≡ self.now.labels }
+    {
+        &self.labels
+    }
+
+    /// The newest timestamp that it ever had.
+    pub fn newest(&self) -> Ns
+        ensures { result ≡ self.now.newest }
+    {
+        self.newest
+    }
+
+    /// Takes an entry of the stream that is not in the head. A head of so many entries becomes a part. A refusal changes
+    /// nothing.
+    pub fn hold(&mut self, entry: Shared<Entry>, most: u64) -> Result<(), AllocError>
+        requires labels { entry.labels ≡ self.old.labels }
+        requires new { Contains self.old.head entry → ⊥ }
+        requires some { 1 ≤ most }
+        requires few { most ≤ most_entries }
+        ensures labels { self.new.labels ≡ self.old.labels }
+        ensures newest { OnOk result (self.new.newest ≡ max self.old.newest entry.timestamp) }
+        ensures entries { OnOk result (IsInserted (entries_of self.old) entry (entries_of self.new)) }
+        ensures parts { OnOk result (AreSealed self.old.parts self.new.parts) }
+        ensures short { OnOk result (length self.new.head < most) }
+        ensures err { OnErr result (self.new ≡ self.old) }
+    {
+        let timestamp = entry.get().timestamp;
+        self.parts.reserve(1)?;
+        put(&mut self.head, entry)?;
+        self.newest = later(Some(self.newest), timestamp);
+        if (self.head.len() as u64) < most {
+            return Ok(());
+        }
+        seal_head(&mut self.parts, &mut self.head, &mut self.sealed_to);
+        Ok(())
+    }
+
+    /// Makes a part of the head, if it has an entry. A refusal changes nothing.
+    pub fn seal(&mut self) -> Result<(), AllocError>
+        ensures labels { self.new.labels ≡ self.old.labels }
+        ensures newest { self.new.newest ≡ self.old.newest }
+        ensures entries { entries_of self.new ≡ entries_of self.old }
+        ensures parts { OnOk result (AreSealed self.old.parts self.new.parts) }
+        ensures head { OnOk result (self.new.head ≡ []) }
+        ensures err { OnErr result (self.new ≡ self.old) }
+    {
+        if self.head.is_empty() {
+            return Ok(());
+        }
+        self.parts.reserve(1)?;
+        seal_head(&mut self.parts, &mut self.head, &mut self.sealed_to);
+        Ok(())
+    }
+}
