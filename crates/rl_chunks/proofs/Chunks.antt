@@ -220,3 +220,9 @@ is_found bytes (Err e) fits is = tt
 
 pub is_read : (bytes : List ℕ) (chunk : Chunk) → IsChunkText bytes chunk → read_chunk bytes ≡ Ok chunk
 is_read bytes chunk is = ap read_chunk is.spelt ∙ chunk_again chunk is.ranges
+
+-- bytes that were written part by part are the text of the chunk
+pub spelt_in_turn : (labels : LabelSet) (lines : List Line) (none first second third : List ℕ) → none ≡ [] → first ≡ none ++ magic Short → second ≡ first ++ labels_bytes (labels_of labels) → third ≡ second ++ lines_bytes Short lines
+    → third ≡ chunk_text Short (record { labels = labels; lines = lines })
+spelt_in_turn labels lines none first second third p q r s =
+    s ∙ ap (λ t. t ++ lines_bytes Short lines) (r ∙ ap (λ t. t ++ labels_bytes (labels_of labels)) (q ∙ ap (λ t. t ++ magic Short) p))

@@ -1,9 +1,10 @@
 -- Reading in turn, as a loop does.
-use Rattle.std.proofs.Common.{◌≡◌, ℕ, suc, ◌+◌, ◌-◌, ◌<◌, ◌≤◌, List, [], ◌∷◌, ◌++◌, length, get_or, take, Option, None, Some, Ok, Err, refl, sym, ap, subst, ◌∙◌, append_assoc, append-nil, arith}
+use Rattle.std.proofs.Common.{◌≡◌, ℕ, suc, ◌+◌, ◌-◌, ◌<◌, ◌≤◌, List, [], ◌∷◌, ◌++◌, length, map, get_or, take, Option, None, Some, Ok, Err, refl, sym, ap, subst, ◌∙◌, append_assoc, append-nil, arith}
 use Rattle.std.specs.Prelude.{slice_get}
 use Rattle.std.specs.List.{All, flat_map}
-use Rattle.std.proofs.lemmas.List.{length_push, take_more, flat_map_more}
-use Rattle.std.proofs.lemmas.List.Elements.{All-push}
+use Rattle.std.proofs.lemmas.List.{length_push, length-map, get_or-map, take_all, take_more, flat_map_more}
+use Rattle.std.proofs.lemmas.List.Elements.{All-map, All-push}
+use Rattle.std.proofs.lemmas.List.Folds.{flat_map-map}
 use Rattle.rl_plain.specs.Answers.{◌>>=◌, Fails}
 use Rattle.rl_plain.specs.declared.refusal.OrMemory.{OrMemory}
 use Rattle.rl_plain.specs.declared.refusal.OrMemory.TheVariants.{Fault, Memory}
@@ -91,3 +92,19 @@ pub all_more : {A : Type 0} (P : A → Type 0) (xs : List A) (i : ℕ) (x : A) �
 all_more P xs i x within is so_far now =
     let next : take (i + 1) xs ≡ take i xs ++ x ∷ [] = take_more xs i x within ∙ ap (λ y. take i xs ++ y ∷ []) (sym is) in
     subst (All P) (sym next) (All-push P (take i xs) x so_far now)
+
+-- what holds of each image holds at a place
+pub at_map : {A B : Type 0} (P : B → Type 0) (f : A → B) (xs : List A) (i : ℕ) (x : A) → i < length xs → x ≡ get_or xs i x → All P (map f xs) → P (f x)
+at_map P f xs i x within is h =
+    subst P (get_or-map f xs i x (f x) within ∙ ap f (sym is)) (h i (f x) (subst (λ n. i < n) (sym (length-map xs f)) within))
+
+-- all images were written behind their number
+pub all_written : {A B : Type 0} (written : B → List ℕ) (f : A → B) (head : ℕ → List ℕ) (xs : List A) (i : ℕ) → length xs ≤ i
+    → head (length xs) ++ flat_map (λ x. written (f x)) (take i xs) ≡ head (length (map f xs)) ++ flat_map written (map f xs)
+all_written written f head xs i le =
+    let all : flat_map (λ x. written (f x)) (take i xs) ≡ flat_map written (map f xs) = ap (flat_map (λ x. written (f x))) (take_all i xs le) ∙ sym (flat_map-map written f xs) in
+    λ j. head (sym (length-map xs f) j) ++ all j
+
+-- what holds of all images so far holds of each
+pub all_images : {A B : Type 0} (P : B → Type 0) (f : A → B) (xs : List A) (i : ℕ) → length xs ≤ i → All (λ x. P (f x)) (take i xs) → All P (map f xs)
+all_images P f xs i le h = All-map P f xs (subst (All (λ x. P (f x))) (take_all i xs le) h)

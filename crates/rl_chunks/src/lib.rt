@@ -1,6 +1,7 @@
 //! Chunks and stores: a stream's lines as bytes that are written and read exactly, and the devices that keep such bytes.
 //!
-//! - `line`: `Line`, a timestamp and a text. `chunk`: `Chunk`, the labels of a stream and lines of it.
+//! - `line`: `Line`, a timestamp and a text. `as_line`: `AsLine`, what stands for a line and lends it. `chunk`: `Chunk`, the
+//!   labels of a stream and lines of it.
 //! - `format`: the forms that a chunk's bytes may have.
 //! - `fault`: `ChunkFault`, why bytes are no chunk.
 //! - `writing`: `encode`. `reading`: `decode`.
@@ -8,6 +9,7 @@
 //!   `SpoilStore`, which spoils what is read.
 #![tactic(auto)]
 
+pub mod as_line;
 pub mod chunk;
 pub mod dir_store;
 pub mod fault;
@@ -20,6 +22,7 @@ pub mod spoil_store;
 pub mod store;
 pub mod writing;
 
+pub use as_line::AsLine;
 pub use chunk::Chunk;
 pub use dir_store::DirStore;
 pub use fault::{ChunkError, ChunkFault};

@@ -1,5 +1,5 @@
 //! Chunks written as bytes.
-ghost use Rattle.std.specs.Prelude.{◌≡◌, ◌<◌, ◌≤◌, ◌^◌, ◌++◌, length, IsTrue, OnOk, IfOk, Ok};
+ghost use Rattle.std.specs.Prelude.{◌≡◌, ◌<◌, ◌≤◌, ◌^◌, ◌++◌, length, map, IsTrue, OnOk, IfOk, Ok};
 ghost use Rattle.std.specs.Int.{w16};
 ghost use Rattle.std.specs.List.{All, flat_map};
 ghost use Rattle.std.specs.List.Sorted.{IsStrictlySortedBy};
@@ -10,8 +10,8 @@ ghost use Rattle.rl_labels.specs.Quantity.{greatest_moment};
 ghost use Rattle.rl_chunks.specs.ChunkText.{magic, line_width, sized, labels_bytes, label_bytes, line_bytes, lines_bytes, line_cmp, IsText, IsLine, IsChunkText};
 ghost use Rattle.rl_chunks.specs.ChunkReading.{read_chunk};
 
+use crate::as_line::AsLine;
 use crate::format::Format;
-use crate::line::Line;
 use rl_labels::Labels;
 use rl_plain::PlainText;
 use std::alloc::{AllocError, Global};
@@ -70,21 +70,21 @@ fn push_line_text(out: &mut Vec<u8>, format: Format, text: &str) -> Result<(), A
     }
 }
 
-fn push_line(out: &mut Vec<u8>, format: Format, line: &Line) -> Result<(), AllocError>
-    requires { length line.now.text ≤ longest_line }
-    ensures bytes { OnOk result (out.new.items ≡ out.old.items ++ line_bytes format line.now) }
-    ensures line { OnOk result (IsLine line.now) }
+fn push_line<L: AsLine>(out: &mut Vec<u8>, format: Format, line: &L) -> Result<(), AllocError>
+    requires { length (L.line line.now).text ≤ longest_line }
+    ensures bytes { OnOk result (out.new.items ≡ out.old.items ++ line_bytes format (L.line line.now)) }
+    ensures line { OnOk result (IsLine (L.line line.now)) }
 {
-    out.extend_from_slice(&line.timestamp.get().to_be_bytes())?;
-    push_line_text(out, format, line.text.as_str())
+    out.extend_from_slice(&line.timestamp().get().to_be_bytes())?;
+    push_line_text(out, format, line.text())
 }
 
 // How many lines, and the lines.
-fn push_lines(out: &mut Vec<u8>, format: Format, lines: &[Line]) -> Result<(), AllocError>
+fn push_lines<L: AsLine>(out: &mut Vec<u8>, format: Format, lines: &[L]) -> Result<(), AllocError>
     requires few { length lines.now < 2 ^ 32 }
-    requires short { All (λ line. length line.text ≤ longest_line) lines.now }
-    ensures bytes { OnOk result (out.new.items ≡ out.old.items ++ lines_bytes format lines.now) }
-    ensures lines { OnOk result (All IsLine lines.now) }
+    requires short { All (λ line. length line.text ≤ longest_line) (map L.line lines.now) }
+    ensures bytes { OnOk result (out.new.items ≡ out.old.items ++ lines_bytes format (map L.line lines.now)) }
+    ensures lines { OnOk result (All IsLine (map L.line lines.now)) }
 {
     out.extend_from_slice(&(lines.len() as u32).to_be_bytes())?;
     for line in lines {
@@ -97,25 +97,25 @@ fn push_lines(out: &mut Vec<u8>, format: Format, lines: &[Line]) -> Result<(), A
 const LINE_HEAD: usize = 10;
 
 // About how many bytes a chunk has.
-fn room_for(labels: &Labels, lines: &[Line]) -> usize {
+fn room_for<L: AsLine>(labels: &Labels, lines: &[L]) -> usize {
     let mut room = labels.as_text().len().saturating_add(LINE_HEAD);
     for line in lines {
         room = room
             .saturating_add(LINE_HEAD)
-            .saturating_add(line.text.len());
+            .saturating_add(line.text().len());
     }
     room
 }
 
-/// The one text of the chunk that these lines of a stream are.
-pub fn encode(alloc: Global, labels: &Labels, lines: &[Line]) -> Result<Vec<u8>, AllocError>
+/// The one text of the chunk that these lines of a stream are. The lines are lent, and none is copied but into the text.
+pub fn encode<L: AsLine>(alloc: Global, labels: &Labels, lines: &[L]) -> Result<Vec<u8>, AllocError>
     requires stream { IsTrue (is_stream labels.now) }
-    requires short { All (λ line. length line.text ≤ longest_line) lines.now }
-    requires rising { IsStrictlySortedBy line_cmp lines.now }
+    requires short { All (λ line. length line.text ≤ longest_line) (map L.line lines.now) }
+    requires rising { IsStrictlySortedBy line_cmp (map L.line lines.now) }
     requires few { length lines.now < 2 ^ 32 }
-    ensures text { IfOk result (λ bytes. IsChunkText bytes.items (record { labels = labels.now; lines = lines.now })) }
+    ensures text { IfOk result (λ bytes. IsChunkText bytes.items (record { labels = labels.now; lines = map L.line lines.now })) }
     // What is written is read again.
-    ensures again { IfOk result (λ bytes. read_chunk bytes.items ≡ Ok (record { labels = labels.now; lines = lines.now })) }
+    ensures again { IfOk result (λ bytes. read_chunk bytes.items ≡ Ok (record { labels = labels.now; lines = map L.line lines.now })) }
 {
     let format = Format::Short;
     let mut out = Vec::with_capacity(alloc, room_for(labels, lines))?;
