@@ -8,7 +8,7 @@ use Rattle.rl_labels.specs.EntryOrder.{entry_cmp}
 use Rattle.rl_labels.specs.laws.OrderLaws.{entry_cmp_total, entry_cmp-IsAntisymmetric}
 use Rattle.rl_labels.specs.declared.entry.Entry.{Entry}
 use Rattle.rl_labels.specs.declared.limits.Limits.{Limits}
-use Rattle.rl_shard.specs.ShardState.{ShardState, Journalled, state_of, set_of, visible}
+use Rattle.rl_shard.specs.ShardState.{ShardState, ShardView, journalled, state_of, set_of, visible}
 use Rattle.rl_shard.proofs.InOrder.{keys-of_set, len-of_set}
 use Rattle.rl_shard.specs.ShardStep.{is_expired, is_too_far_behind, is_full, push_answer, newest_of}
 use Rattle.rl_shard.specs.declared.step.ShardReply.{ShardReply}
@@ -40,7 +40,7 @@ room_left limits held newest horizon entry h taken =
     grind (arith, nat_tests, room)
 
 -- what is seen is no more than may be held
-pub seen_few : (shard : Journalled) (limits : Limits) (held : List Entry) (newest : List (LabelSet × ℕ)) (horizon : Option ℕ) (records : ℕ) → ◌≡◌ {A = Journalled} (record { limits = limits; state = state_of held newest horizon; records = records }) shard → IsStrictlySortedBy entry_cmp held → length held ≤ limits.entries → length (visible shard.state) ≤ shard.limits.entries
+pub seen_few : (shard : ShardView) (limits : Limits) (held : List Entry) (newest : List (LabelSet × ℕ)) (horizon : Option ℕ) (records : ℕ) → ◌≡◌ {A = ShardView} (record { limits = limits; state = state_of held newest horizon; records = records }) shard → IsStrictlySortedBy entry_cmp held → length held ≤ limits.entries → length (visible (journalled shard).state) ≤ (journalled shard).limits.entries
 seen_few shard limits held newest horizon records seen h few =
-    subst (λ (s : Journalled). length (visible s.state) ≤ s.limits.entries) seen
+    subst (λ (s : ShardView). length (visible (journalled s).state) ≤ (journalled s).limits.entries) seen
     (subst (λ entries. length entries ≤ limits.entries) (sym (keys-of_set entry_cmp_total entry_cmp-IsAntisymmetric held h)) few)

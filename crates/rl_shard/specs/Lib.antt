@@ -1,3 +1,4 @@
 pub mod Deciding
+pub mod ShardFault
 pub mod ShardState
 pub mod ShardStep

@@ -51,16 +51,30 @@ empty_shard = record { held = empty; newest = empty; horizon = 0 }
 abbrev pub visible : ShardState → List Entry
 visible shard = keys shard.held
 
--- a shard as it is seen: its limits, what it holds, and how many records its journal has
+-- what is promised of a shard: its limits, what it holds, and how many records its journal has
 pub record Journalled : Type 0 where
   pub limits : Limits
   pub state : ShardState
   pub records : ℕ
 
+-- an empty shard of these limits, with an empty journal
+abbrev pub opened : Limits → Journalled
+opened limits = record { limits = limits; state = empty_shard; records = 0 }
+
+-- a shard as it is seen
+pub record ShardView : Type 0 where
+  pub limits : Limits
+  pub state : ShardState
+  pub records : ℕ
+
+-- the part of it that is promised
+abbrev pub journalled : ShardView → Journalled
+journalled shard = record { limits = shard.limits; state = shard.state; records = shard.records }
+
 -- a shard as numbers, for a store
-abbrev pub journalled_code : Coded Journalled
-journalled_code = code_by (Limits × ((EntrySet × (FinMap label_set_cmp ℕ × ℕ)) × ℕ))
+abbrev pub shard_view_code : Coded ShardView
+shard_view_code = code_by (Limits × ((EntrySet × (FinMap label_set_cmp ℕ × ℕ)) × ℕ))
     (coded× limits_type.the_row.coded (coded× (coded× (code entry_type.the_row.coded coded_unit) (coded× (code label_set_code coded_ℕ) coded_ℕ)) coded_ℕ))
-    (λ j. (j.limits, ((j.state.held, (j.state.newest, j.state.horizon)), j.records)))
+    (λ s. (s.limits, ((s.state.held, (s.state.newest, s.state.horizon)), s.records)))
     (λ p. record { limits = p.0; state = record { held = p.1.0.0; newest = p.1.0.1.0; horizon = p.1.0.1.1 }; records = p.1.1 })
     (λ _. refl)

@@ -16,7 +16,7 @@ const MOST_OTHERS: usize = 7;
 // What the entries in each term's range add up to. A range that stands twice is added up once.
 pub(crate) fn collect(
     alloc: Global,
-    held: &[Entry],
+    held: &[Shared<Entry>],
     terms: &[Term],
     t: Ns,
 ) -> Result<PlainList<Shared<Partial>>, AllocError>
@@ -38,7 +38,7 @@ pub(crate) fn collect(
 // added up together with those of the terms behind that read the same lines.
 fn next_partial<'a>(
     alloc: Global,
-    held: &[Entry],
+    held: &[Shared<Entry>],
     term: &'a Term,
     behind: &'a [Term],
     t: Ns,

@@ -4,7 +4,7 @@ ghost use Rattle.rl_shard.specs.declared.step.ShardFault.TheVariants.{Memory};
 
 use rl_aggregate::Partial;
 use rl_labels::{Entry, Ns};
-use rl_plain::{PlainList, Shared};
+use rl_plain::{PlainList, Same, Shared, TryCopy};
 use rl_query::Term;
 use std::alloc::{AllocError, AllocFailed};
 use thiserror::Error;
@@ -12,8 +12,8 @@ use thiserror::Error;
 /// A step of a shard.
 #[derive(Drop)]
 pub enum ShardStep {
-    /// Takes a log entry.
-    Push(Entry),
+    /// Takes a log entry, which the shard holds as it is.
+    Push(Shared<Entry>),
     /// Answers what each term's range has at the moment.
     Collect {
         /// The number of the group that asks.
@@ -39,13 +39,82 @@ pub enum ShardReply {
     Collected(PlainList<Shared<Partial>>),
 }
 
-/// Why a step was not decided. It made no record.
+/// Why a step was not decided. It made no record. No shard has a store yet, so the faults of one do not come.
 #[derive(Clone, Copy, Debug, Drop, Error)]
 pub enum ShardFault {
     #[error("the journal has as many records as it may have")]
     JournalFull,
+    #[error("the store's device failed")]
+    Fault,
+    #[error("a chunk was missing or changed in the store")]
+    Damaged,
+    #[error("no blob number is left")]
+    NumbersSpent,
     #[error("out of memory")]
     Memory,
+}
+
+impl TryCopy for ShardStep {
+    /// Shares the entry or the terms, and takes no memory.
+    fn try_copy(&self) -> Result<Self, AllocError> {
+        match self {
+            ShardStep::Push(entry) => Ok(ShardStep::Push(entry.try_copy()?)),
+            ShardStep::Collect { slot, terms, t } => Ok(ShardStep::Collect {
+                slot: *slot,
+                terms: terms.try_copy()?,
+                t: *t,
+            }),
+        }
+    }
+}
+
+impl Same for ShardStep {
+    fn is_same(&self, other: &Self) -> bool {
+        match (self, other) {
+            (ShardStep::Push(left), ShardStep::Push(right)) => left.is_same(right),
+            (
+                ShardStep::Collect { slot, terms, t },
+                ShardStep::Collect {
+                    slot: other_slot,
+                    terms: other_terms,
+                    t: other_t,
+                },
+            ) => slot == other_slot && t.is_same(other_t) && terms.is_same(other_terms),
+            _ => false,
+        }
+    }
+}
+
+impl TryCopy for ShardReply {
+    /// Shares the partials, and takes memory for their list alone.
+    fn try_copy(&self) -> Result<Self, AllocError> {
+        match self {
+            ShardReply::Accepted => Ok(ShardReply::Accepted),
+            ShardReply::Expired { horizon } => Ok(ShardReply::Expired { horizon: *horizon }),
+            ShardReply::TooFarBehind { newest } => {
+                Ok(ShardReply::TooFarBehind { newest: *newest })
+            }
+            ShardReply::Full => Ok(ShardReply::Full),
+            ShardReply::Collected(partials) => Ok(ShardReply::Collected(partials.try_copy()?)),
+        }
+    }
+}
+
+impl Same for ShardReply {
+    fn is_same(&self, other: &Self) -> bool {
+        match (self, other) {
+            (ShardReply::Accepted, ShardReply::Accepted) => true,
+            (ShardReply::Full, ShardReply::Full) => true,
+            (ShardReply::Expired { horizon }, ShardReply::Expired { horizon: other }) => {
+                horizon.is_same(other)
+            }
+            (ShardReply::TooFarBehind { newest }, ShardReply::TooFarBehind { newest: other }) => {
+                newest.is_same(other)
+            }
+            (ShardReply::Collected(left), ShardReply::Collected(right)) => left.is_same(right),
+            _ => false,
+        }
+    }
 }
 
 impl From<AllocError> for ShardFault {

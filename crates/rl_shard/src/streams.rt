@@ -13,7 +13,7 @@ ghost use Rattle.rl_shard.specs.ShardStep.{is_far_behind};
 use crate::decision::Decision;
 use crate::step::ShardReply;
 use rl_labels::{Entry, Labels, Limits, Ns};
-use rl_plain::TryCopy;
+use rl_plain::{Shared, TryCopy};
 use std::alloc::{AllocError, Global};
 use std::collections::BTreeMap;
 
@@ -50,25 +50,25 @@ fn newest_far_after(limits: &Limits, newest: &BTreeMap<Labels, Ns>, entry: &Entr
 }
 
 // The place at which the entry stands, or else the one at which it belongs.
-fn search(held: &[Entry], entry: &Entry) -> Result<usize, usize>
+fn search(held: &[Shared<Entry>], entry: &Entry) -> Result<usize, usize>
     requires { IsStrictlySortedBy entry_cmp held.now }
     ensures stands { IfOk result (λ _. contains_key (set_of held.now) entry.now ≡ true) }
     ensures belongs { IfErr result (λ place. BelongsAt held.now entry.now place) }
 {
-    match held.binary_search(entry) {
+    match held.binary_search_by(|other| other.get().cmp(entry)) {
         Ok(place) => Ok(place),
         Err(place) => Err(place),
     }
 }
 
 // The same. An entry that is greater than all belongs behind them, and is not searched for.
-fn place_of(held: &[Entry], entry: &Entry) -> Result<usize, usize>
+fn place_of(held: &[Shared<Entry>], entry: &Entry) -> Result<usize, usize>
     requires { IsStrictlySortedBy entry_cmp held.now }
     ensures stands { IfOk result (λ _. contains_key (set_of held.now) entry.now ≡ true) }
     ensures belongs { IfErr result (λ place. BelongsAt held.now entry.now place) }
 {
     match held.last() {
-        Some(last) if last.cmp(entry).is_lt() => Err(held.len()),
+        Some(last) if last.get().cmp(entry).is_lt() => Err(held.len()),
         _ => search(held, entry),
     }
 }
@@ -76,7 +76,7 @@ fn place_of(held: &[Entry], entry: &Entry) -> Result<usize, usize>
 // What becomes of the entry, by the first that holds.
 pub(crate) fn decide(
     limits: &Limits,
-    held: &[Entry],
+    held: &[Shared<Entry>],
     newest: &BTreeMap<Labels, Ns>,
     horizon: Option<Ns>,
     entry: &Entry,
@@ -99,9 +99,9 @@ pub(crate) fn decide(
 
 // Holds the entry at its place, and raises the newest timestamp of its stream.
 pub(crate) fn hold(
-    held: &mut Vec<Entry>,
+    held: &mut Vec<Shared<Entry>>,
     newest: &mut BTreeMap<Labels, Ns>,
-    entry: Entry,
+    entry: Shared<Entry>,
     place: usize,
 ) -> Result<(), AllocError>
     requires { place ≤ length held.old.items }
@@ -110,7 +110,7 @@ pub(crate) fn hold(
     ensures err { OnErr result ((held.new.items ≡ held.old.items) × (newest.new.entries ≡ newest.old.entries)) }
 {
     held.reserve(1)?;
-    raise(newest, &entry.labels, entry.timestamp)?;
+    raise(newest, &entry.get().labels, entry.get().timestamp)?;
     held.insert(place, entry)?;
     Ok(())
 }
