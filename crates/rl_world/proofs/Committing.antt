@@ -5,7 +5,7 @@ use Rattle.std.proofs.lemmas.List.{take-append-le}
 use Rattle.rl_rules.specs.declared.evaluation.Evaluation.{Evaluation}
 use Rattle.rl_sinks.specs.SinkState.{SinkState, within}
 use Rattle.rl_aggregate.specs.declared.partial.Partial.{Partial}
-use Rattle.rl_shard.specs.ShardState.{Journalled}
+use Rattle.rl_shard.specs.ShardState.{ShardView, journalled}
 use Rattle.rl_world.specs.BookCalls.{Answers}
 use Rattle.rl_world.specs.Evaluating.{group_terms, evaluation_of}
 use Rattle.rl_world.specs.Kept.{evaluation_from}
@@ -101,7 +101,7 @@ pub fits_commit : (n : ℕ) (result : Result Committed (OrMemory BookFault)) (bo
 fits_commit n (Ok answer) book after fits rest offered err = (rest.0 ∙ fits.0, each_took_offered after.history.evaluations book.sinks after.sinks offered)
 fits_commit n (Err error) book after fits rest offered err = subst (IsBookOf n) (sym err) fits
 
-module _ (shards : List Journalled) (books : List BookState) (group : ℕ) (book after : BookState) (there : slice_get books group ≡ Some book) where
+module _ (shards : List ShardView) (books : List BookState) (group : ℕ) (book after : BookState) (there : slice_get books group ≡ Some book) where
   pub commit_turn : (answer : Committed) → Answers (commit_fault book.history) (Ok answer) → answer.number ≡ length book.history.evaluations → IfSome book.history.opened (λ opened. answer.evaluation ≡ evaluation_from book.history.group (alerts_of book.history) opened)
       → after.history ≡ committed book.history answer.evaluation
       → WorldStep partials (world_of shards books) (steps.Commit group) (replies.Committed answer) (world_of shards (slice_set books group after))
@@ -116,7 +116,7 @@ module _ (shards : List Journalled) (books : List BookState) (group : ℕ) (book
           open_is = here.is;
           number_is = number;
           evaluation_is = here.holds;
-          after = world_with shards books group after ∙ (λ i. record { shards = shards; histories = slice_set (map (λ (b : BookState). b.history) books) group (history i) });
+          after = world_with shards books group after ∙ (λ i. record { shards = map journalled shards; histories = slice_set (map (λ (b : BookState). b.history) books) group (history i) });
         },
       )
 

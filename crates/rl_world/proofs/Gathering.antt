@@ -4,7 +4,8 @@ use Rattle.std.specs.List.{AllByRecursion}
 use Rattle.std.proofs.lemmas.List.{map-set, length-set}
 use Rattle.rl_aggregate.specs.declared.partial.Partial.{Partial}
 use Rattle.rl_query.specs.declared.query.Term.{Term}
-use Rattle.rl_shard.specs.ShardState.{Journalled, visible}
+use Rattle.rl_shard.specs.ShardFault.{MayCome}
+use Rattle.rl_shard.specs.ShardState.{ShardView, journalled, visible}
 use Rattle.rl_shard.specs.ShardStep.{recorded, is_journal_full}
 use Rattle.rl_shard.specs.declared.step.ShardStep.TheVariants as shard_steps
 use Rattle.rl_shard.specs.declared.step.ShardFault.{ShardFault}
@@ -21,7 +22,7 @@ use Rattle.rl_world.specs.declared.fault.Refusal.TheVariants as refusals
 use Rattle.rl_world.specs.declared.opened.OpenEvaluation.{OpenEvaluation}
 use Rattle.rl_world.specs.declared.step.Step.TheVariants as steps
 use Rattle.rl_world.specs.declared.step.Reply.TheVariants as replies
-use Rattle.rl_world.proofs.Turning.{each_set, history_at, set_same, not_true}
+use Rattle.rl_world.proofs.Turning.{each_set, history_at, not_true, shard_at, shard_kept}
 
 -- the evaluation that is open, by its moment
 record OpenAt {X : Type 0} (slot : Option (OpenEvaluation X)) (t : ℕ) : Type 0 where
@@ -53,61 +54,64 @@ fits_put n (Ok x) book after number place shown fits ok err = subst (IsBookOf n)
 fits_put n (Err e) book after number place shown fits ok err = subst (IsBookOf n) (sym err) fits
 
 -- the books of a world whose shard and book changed
-pub fits_both : (shards : List Journalled) (books : List BookState) (number : ℕ) (shard : Journalled) (group : ℕ) (after : BookState) → AllByRecursion (IsBookOf (length shards)) books → IsBookOf (length shards) after
+pub fits_both : (shards : List ShardView) (books : List BookState) (number : ℕ) (shard : ShardView) (group : ℕ) (after : BookState) → AllByRecursion (IsBookOf (length shards)) books → IsBookOf (length shards) after
     → AllByRecursion (IsBookOf (length (slice_set shards number shard))) (slice_set books group after)
 fits_both shards books number shard group after all here =
     subst (λ n. AllByRecursion (IsBookOf n) (slice_set books group after)) (sym (length-set shards number shard)) (each_set (IsBookOf (length shards)) books group after all here)
 
-module _ (shards : List Journalled) (books : List BookState) (group number : ℕ) (book : BookState) (shard : Journalled) (there : slice_get books group ≡ Some book) (shard_there : slice_get shards number ≡ Some shard) where
-  gather_refusal : refusal_of (world_of shards books) (steps.Gather group number) ≡ or_else (option_map refusals.Book (gather_fault book.history number)) (journal_refusal shard)
+module _ (shards : List ShardView) (books : List BookState) (group number : ℕ) (book : BookState) (shard : ShardView) (there : slice_get books group ≡ Some book) (shard_there : slice_get shards number ≡ Some shard) where
+  gather_refusal : refusal_of (world_of shards books) (steps.Gather group number) ≡ or_else (option_map refusals.Book (gather_fault book.history number)) (journal_refusal (journalled shard))
   gather_refusal =
-      ap (λ h. known h (λ history. known (slice_get shards number) (λ s. or_else (option_map refusals.Book (gather_fault history number)) (journal_refusal s)))) (history_at shards books group book there)
-      ∙ ap (λ s. known s (λ s. or_else (option_map refusals.Book (gather_fault book.history number)) (journal_refusal s))) shard_there
+      ap (λ h. known h (λ history. known (slice_get (map journalled shards) number) (λ s. or_else (option_map refusals.Book (gather_fault history number)) (journal_refusal s)))) (history_at shards books group book there)
+      ∙ ap (λ s. known s (λ s. or_else (option_map refusals.Book (gather_fault book.history number)) (journal_refusal s))) (shard_at shards books number shard shard_there)
 
-  asked_free : gather_fault book.history number ≡ None → refusal_of (world_of shards books) (steps.Gather group number) ≡ journal_refusal shard
-  asked_free free = gather_refusal ∙ ap (λ f. or_else (option_map refusals.Book f) (journal_refusal shard)) free
+  asked_free : gather_fault book.history number ≡ None → refusal_of (world_of shards books) (steps.Gather group number) ≡ journal_refusal (journalled shard)
+  asked_free free = gather_refusal ∙ ap (λ f. or_else (option_map refusals.Book f) (journal_refusal (journalled shard))) free
 
   -- its journal is full, or not
-  pub gather_full : gather_fault book.history number ≡ None → is_journal_full shard ≡ true → refusal_of (world_of shards books) (steps.Gather group number) ≡ Some refusals.JournalFull
+  pub gather_full : gather_fault book.history number ≡ None → is_journal_full (journalled shard) ≡ true → refusal_of (world_of shards books) (steps.Gather group number) ≡ Some refusals.JournalFull
   gather_full free full = asked_free free ∙ ap (λ b. cond b (Some refusals.JournalFull) None) full
 
-  pub gather_free : gather_fault book.history number ≡ None → is_journal_full shard ≡ false → refusal_of (world_of shards books) (steps.Gather group number) ≡ None
+  pub gather_free : gather_fault book.history number ≡ None → is_journal_full (journalled shard) ≡ false → refusal_of (world_of shards books) (steps.Gather group number) ≡ None
   gather_free free room = asked_free free ∙ ap (λ b. cond b (Some refusals.JournalFull) None) room
 
   -- the shard refused
-  pub gather_refused : (after : Journalled) (fault : ShardFault) (refusal : Refusal) → gather_fault book.history number ≡ None → is_journal_full shard ≡ false → (fault ≡ shard_faults.JournalFull → is_journal_full shard ≡ true) → after ≡ shard → refusal ≡ told_of_shard fault
+  pub gather_refused : (after : ShardView) (fault : ShardFault) (refusal : Refusal) → gather_fault book.history number ≡ None → is_journal_full (journalled shard) ≡ false → MayCome shard fault after → journalled after ≡ journalled shard → refusal ≡ told_of_shard fault
       → WorldStep partials (world_of shards books) (steps.Gather group number) (replies.Refused refusal) (world_of (slice_set shards number after) books)
-  gather_refused after fault refusal free room full after_is refusal_is = (
-    subst (λ r. MayRefuse (world_of shards books) (steps.Gather group number) r) (sym refusal_is) (may fault full),
-    λ i. record { shards = (ap (slice_set shards number) after_is ∙ set_same shards number shard shard_there) i; histories = map (λ (b : BookState). b.history) books },
+  gather_refused after fault refusal free room came kept refusal_is = (
+    subst (λ r. MayRefuse (world_of shards books) (steps.Gather group number) r) (sym refusal_is) (may fault came),
+    shard_kept shards books number shard after shard_there kept,
   )
     where
-      may : (fault : ShardFault) → (fault ≡ shard_faults.JournalFull → is_journal_full shard ≡ true) → MayRefuse (world_of shards books) (steps.Gather group number) (told_of_shard fault)
-      may shard_faults.JournalFull full = inl (gather_full free (full refl))
-      may shard_faults.Memory full = inr (refl, gather_free free room, refl)
+      may : (fault : ShardFault) → MayCome shard fault after → MayRefuse (world_of shards books) (steps.Gather group number) (told_of_shard fault)
+      may shard_faults.JournalFull full = inl (gather_full free full)
+      may shard_faults.Fault came = inr (gather_free free room, refl)
+      may shard_faults.Damaged came = inr (gather_free free room, refl)
+      may shard_faults.NumbersSpent came = inr (gather_free free room, refl)
+      may shard_faults.Memory came = inr (gather_free free room, refl)
 
   -- the shard showed what it has, and the book keeps the partials
-  pub gather_turn : (after_shard : Journalled) (after : BookState) (slot t place : ℕ) (terms : List Term) (shown : List Partial) → gather_fault book.history number ≡ None → option_map (λ (o : OpenEvaluation (List Partial)). o.t) book.history.opened ≡ Some t → terms ≡ group_terms book.history.group
-      → (is_journal_full shard ≡ true → ◌≡◌ {A = Result (ℕ × List Partial) ShardFault} (Ok (place, shown)) (Err shard_faults.JournalFull)) → place ≡ shard.records → shown ≡ partials_of (visible shard.state) terms t
-      → after_shard ≡ recorded shard (shard_steps.Collect slot terms t) → after ≡ with_history book (gathered book.history number place shown)
+  pub gather_turn : (after_shard : ShardView) (after : BookState) (slot t place : ℕ) (terms : List Term) (shown : List Partial) → gather_fault book.history number ≡ None → option_map (λ (o : OpenEvaluation (List Partial)). o.t) book.history.opened ≡ Some t → terms ≡ group_terms book.history.group
+      → (is_journal_full (journalled shard) ≡ true → ◌≡◌ {A = Result (ℕ × List Partial) ShardFault} (Ok (place, shown)) (Err shard_faults.JournalFull)) → place ≡ (journalled shard).records → shown ≡ partials_of (visible (journalled shard).state) terms t
+      → journalled after_shard ≡ recorded (journalled shard) (shard_steps.Collect slot terms t) → after ≡ with_history book (gathered book.history number place shown)
       → WorldStep partials (world_of shards books) (steps.Gather group number) (replies.Gathered place) (world_of (slice_set shards number after_shard) (slice_set books group after))
   gather_turn after_shard after slot t place terms shown free moment terms_is full place_is shown_is after_shard_is after_is =
       let here = open_at book.history.opened t moment in (
-        asked_free free ∙ ap (λ b. cond b (Some refusals.JournalFull) None) (not_true (is_journal_full shard) (λ h. ok_err (place, shown) shard_faults.JournalFull (full h))),
+        asked_free free ∙ ap (λ b. cond b (Some refusals.JournalFull) None) (not_true (is_journal_full (journalled shard)) (λ h. ok_err (place, shown) shard_faults.JournalFull (full h))),
         record {
           history = book.history;
           there = history_at shards books group book there;
           opened = here.opened;
           open_is = here.is;
-          shard = shard;
-          shard_there = shard_there;
+          shard = journalled shard;
+          shard_there = shard_at shards books number shard shard_there;
           place_is = place_is;
           after = λ i. record {
-            shards = slice_set shards number (after_shard_is i);
+            shards = (map-set journalled shards number after_shard ∙ ap (slice_set (map journalled shards) number) after_shard_is) i;
             histories = (map-set (λ (b : BookState). b.history) books group after
                 ∙ ap (slice_set (map (λ (b : BookState). b.history) books) group)
                 (ap (λ (b : BookState). b.history) after_is
-                ∙ ap (gathered book.history number place) (shown_is ∙ (λ j. partials_of (visible shard.state) (terms_is j) (sym here.moment j))))) i;
+                ∙ ap (gathered book.history number place) (shown_is ∙ (λ j. partials_of (visible (journalled shard).state) (terms_is j) (sym here.moment j))))) i;
           };
         },
       )

@@ -240,7 +240,7 @@ lift_turn world step reply new turn = absurd turn
 
 refused_kept : (world : Lists) (step : Step) (refusal : Refusal) → MayRefuse (kept_world world) step refusal → MayRefuse world step refusal
 refused_kept world step refusal (inl first) = inl (sym (refusal-kept world step) ∙ first)
-refused_kept world step refusal (inr memory) = inr (memory.0, sym (refusal-kept world step) ∙ memory.1, memory.2)
+refused_kept world step refusal (inr failed) = inr (sym (refusal-kept world step) ∙ failed.0, failed.1)
 
 lift_free : (world : Lists) (step : Step) (reply : Reply) (new : Parts) → (refusal_of (kept_world world) step ≡ None) × Turn partials (kept_world world) step reply new → (after : Lists) × Stands new after × ((refusal_of world step ≡ None) × Turn lists world step reply after)
 lift_free world step reply new free =

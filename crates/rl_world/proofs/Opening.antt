@@ -11,7 +11,7 @@ use Rattle.rl_sinks.specs.SinkState.{SinkState, within}
 use Rattle.rl_world.specs.BookCalls.{IsFresh, new_book, books_from}
 use Rattle.rl_world.specs.Offering.{TookPrefix, texts_of}
 use Rattle.rl_labels.specs.declared.entry.Entry.{Entry}
-use Rattle.rl_shard.specs.ShardState.{Journalled}
+use Rattle.rl_shard.specs.ShardState.{ShardView, journalled}
 use Rattle.rl_world.specs.History.{History}
 use Rattle.rl_world.specs.WorldState.{BookState, IsBookOf, StandsForSome, kept_history, world_of}
 
@@ -86,7 +86,7 @@ histories_shown (book ∷ books) all =
     )
 
 -- and a new world stands for worlds in which nothing was shown
-pub opened_shown : (opened : List Journalled) (books : List BookState) (slot records shards : ℕ) (groups : List Group) (sinks : List (List SinkState)) → books ≡ books_from slot records shards groups sinks → StandsForSome (world_of opened books)
+pub opened_shown : (opened : List ShardView) (books : List BookState) (slot records shards : ℕ) (groups : List Group) (sinks : List (List SinkState)) → books ≡ books_from slot records shards groups sinks → StandsForSome (world_of opened books)
 opened_shown opened books slot records shards groups sinks are =
     let shown = histories_shown books (subst (AllByRecursion IsUnopened) (sym are) (books_unopened slot records shards groups sinks)) in
-    (record { shards = opened; histories = shown.0 }, λ i. record { shards = opened; histories = shown.1 i })
+    (record { shards = map journalled opened; histories = shown.0 }, λ i. record { shards = map journalled opened; histories = shown.1 i })

@@ -1,12 +1,14 @@
 -- What each turn makes of a world, by what the calls of its shards and books promise.
 use Rattle.std.proofs.Common.{◌≡◌, ◌⊎◌, inl, inr, ℕ, zero, suc, [], ◌∷◌, Bool, true, false, cond, List, map, length, Option, None, Some, Result, Ok, Err, option_map, slice_get, slice_set, refl, sym, ap, subst, ◌∙◌}
 use Rattle.std.specs.List.{AllByRecursion}
-use Rattle.std.proofs.lemmas.List.{map-set, set-get_or}
+use Rattle.std.proofs.lemmas.List.{length-map, map-set, set-get_or}
+use Rattle.std.proofs.lemmas.Bool.{true≢false}
 use Rattle.std.proofs.lemmas.Option.{slice_get-map, get_or_from_slice_get}
 use Rattle.std.proofs.Math.Seq.{map-set_same}
 use Rattle.rl_labels.specs.Name.{is_text}
 use Rattle.rl_rules.specs.declared.rule.Group.{Group}
-use Rattle.rl_shard.specs.ShardState.{Journalled}
+use Rattle.rl_shard.specs.ShardFault.{MayCome}
+use Rattle.rl_shard.specs.ShardState.{ShardView, journalled}
 use Rattle.rl_shard.specs.ShardStep.{step_reply, recorded, is_journal_full}
 use Rattle.rl_shard.specs.declared.step.ShardStep.{ShardStep}
 use Rattle.rl_shard.specs.declared.step.ShardReply.{ShardReply}
@@ -16,7 +18,7 @@ use Rattle.rl_world.specs.BookCalls.{Answers, Refuses, with_history}
 use Rattle.rl_world.specs.History.{begin_fault, commit_fault, abandon_fault, edit_fault, begun, abandoned, edited}
 use Rattle.rl_world.specs.WorldRun.{told}
 use Rattle.rl_world.specs.WorldState.{BookState, world_of}
-use Rattle.rl_world.specs.WorldStep.{WorldStep, MayRefuse, partials, known, edit_refusal, journal_refusal, refusal_of, may_want, told_of_shard, told_of_book}
+use Rattle.rl_world.specs.WorldStep.{WorldStep, MayRefuse, may_fail, partials, known, edit_refusal, journal_refusal, refusal_of, may_want, told_of_shard, told_of_book}
 use Rattle.rl_world.specs.declared.fault.BookFault.{BookFault}
 use Rattle.rl_plain.specs.declared.refusal.OrMemory.{OrMemory}
 use Rattle.rl_plain.specs.declared.refusal.OrMemory.TheVariants as errors
@@ -76,45 +78,67 @@ pub refused_ok : {A : Type 0} (fault : Option BookFault) (x : A) → Refuses fau
 refused_ok (Some f) x h = absurd (ok_apart x f h)
 refused_ok None x h = refl
 
-module _ (shards : List Journalled) (books : List BookState) where
+-- of the faults of a shard one is its journal's
+is_for_journal : ShardFault → Bool
+is_for_journal shard_faults.JournalFull = true
+is_for_journal other = false
+
+module _ (shards : List ShardView) (books : List BookState) where
   -- the history of the book at a number
   pub history_at : (group : ℕ) (book : BookState) → slice_get books group ≡ Some book → slice_get (map (λ (b : BookState). b.history) books) group ≡ Some book.history
   history_at group book there = slice_get-map (λ (b : BookState). b.history) books group ∙ ap (option_map (λ (b : BookState). b.history)) there
 
-  -- the world with one history replaced
-  pub world_with : (group : ℕ) (after : BookState) → world_of shards (slice_set books group after) ≡ record { shards = shards; histories = slice_set (map (λ (b : BookState). b.history) books) group after.history }
-  world_with group after = λ i. record { shards = shards; histories = map-set (λ (b : BookState). b.history) books group after i }
+  -- what is promised of the shard at a number
+  pub shard_at : (number : ℕ) (shard : ShardView) → slice_get shards number ≡ Some shard → slice_get (map journalled shards) number ≡ Some (journalled shard)
+  shard_at number shard there = slice_get-map journalled shards number ∙ ap (option_map journalled) there
 
-  pub shard_decided : (number : ℕ) (step : ShardStep) (shard after : Journalled) (place : ℕ) (reply : ShardReply) → slice_get shards number ≡ Some shard
-      → (is_journal_full shard ≡ true → ◌≡◌ {A = Result (ℕ × ShardReply) ShardFault} (Ok (place, reply)) (Err shard_faults.JournalFull)) → place ≡ shard.records → reply ≡ step_reply shard.limits shard.state step → after ≡ recorded shard step
+  -- the world with one history replaced
+  pub world_with : (group : ℕ) (after : BookState) → world_of shards (slice_set books group after) ≡ record { shards = map journalled shards; histories = slice_set (map (λ (b : BookState). b.history) books) group after.history }
+  world_with group after = λ i. record { shards = map journalled shards; histories = map-set (λ (b : BookState). b.history) books group after i }
+
+  -- the world with one shard replaced
+  pub world_with_shard : (number : ℕ) (after : ShardView) → world_of (slice_set shards number after) books ≡ record { shards = slice_set (map journalled shards) number (journalled after); histories = map (λ (b : BookState). b.history) books }
+  world_with_shard number after = λ i. record { shards = map-set journalled shards number after i; histories = map (λ (b : BookState). b.history) books }
+
+  -- a shard of which the same is promised as before
+  pub shard_kept : (number : ℕ) (shard after : ShardView) → slice_get shards number ≡ Some shard → journalled after ≡ journalled shard → world_of (slice_set shards number after) books ≡ world_of shards books
+  shard_kept number shard after there kept =
+      world_with_shard number after
+      ∙ (λ i. record { shards = (ap (slice_set (map journalled shards) number) kept ∙ set_same (map journalled shards) number (journalled shard) (shard_at number shard there)) i; histories = map (λ (b : BookState). b.history) books })
+
+  pub shard_decided : (number : ℕ) (step : ShardStep) (shard after : ShardView) (place : ℕ) (reply : ShardReply) → slice_get shards number ≡ Some shard
+      → (is_journal_full (journalled shard) ≡ true → ◌≡◌ {A = Result (ℕ × ShardReply) ShardFault} (Ok (place, reply)) (Err shard_faults.JournalFull)) → place ≡ (journalled shard).records → reply ≡ step_reply (journalled shard).limits (journalled shard).state step → journalled after ≡ recorded (journalled shard) step
       → WorldStep partials (world_of shards books) (steps.Shard number step) (replies.Decided place reply) (world_of (slice_set shards number after) books)
   shard_decided number step shard after place reply there full place_is reply_is after_is = (
-    ap (λ s. known s journal_refusal) there ∙ ap (λ b. cond b (Some refusals.JournalFull) None) (not_true (is_journal_full shard) (λ h. ok_apart (place, reply) shard_faults.JournalFull (full h))),
+    ap (λ s. known s journal_refusal) (shard_at number shard there) ∙ ap (λ b. cond b (Some refusals.JournalFull) None) (not_true (is_journal_full (journalled shard)) (λ h. ok_apart (place, reply) shard_faults.JournalFull (full h))),
     record {
-      shard = shard;
-      there = there;
+      shard = journalled shard;
+      there = shard_at number shard there;
       place_is = place_is;
       reply_is = reply_is;
-      after = λ i. record { shards = slice_set shards number (after_is i); histories = map (λ (b : BookState). b.history) books };
+      after = world_with_shard number after ∙ (λ i. record { shards = slice_set (map journalled shards) number (after_is i); histories = map (λ (b : BookState). b.history) books });
     },
   )
 
-  pub shard_refused : (number : ℕ) (step : ShardStep) (shard after : Journalled) (fault : ShardFault) (refusal : Refusal) → slice_get shards number ≡ Some shard
-      → (fault ≡ shard_faults.JournalFull → is_journal_full shard ≡ true) → (is_journal_full shard ≡ true → fault ≡ shard_faults.JournalFull) → after ≡ shard → refusal ≡ told_of_shard fault
+  pub shard_refused : (number : ℕ) (step : ShardStep) (shard after : ShardView) (fault : ShardFault) (refusal : Refusal) → slice_get shards number ≡ Some shard
+      → MayCome shard fault after → (is_journal_full (journalled shard) ≡ true → fault ≡ shard_faults.JournalFull) → journalled after ≡ journalled shard → refusal ≡ told_of_shard fault
       → WorldStep partials (world_of shards books) (steps.Shard number step) (replies.Refused refusal) (world_of (slice_set shards number after) books)
-  shard_refused number step shard after fault refusal there full first after_is refusal_is = (
-    subst (λ r. MayRefuse (world_of shards books) (steps.Shard number step) r) (sym refusal_is) (may fault full first),
-    λ i. record { shards = (ap (slice_set shards number) after_is ∙ set_same shards number shard there) i; histories = map (λ (b : BookState). b.history) books },
+  shard_refused number step shard after fault refusal there came first kept refusal_is = (
+    subst (λ r. MayRefuse (world_of shards books) (steps.Shard number step) r) (sym refusal_is) (may fault came first),
+    shard_kept number shard after there kept,
   )
     where
-      is_other : shard_faults.Memory ≡ shard_faults.JournalFull → ⊥
-      is_other h = cc
+      free : (fault : ShardFault) → is_for_journal fault ≡ false → (is_journal_full (journalled shard) ≡ true → fault ≡ shard_faults.JournalFull) → refusal_of (world_of shards books) (steps.Shard number step) ≡ None
+      free fault other first =
+          ap (λ s. known s journal_refusal) (shard_at number shard there)
+          ∙ ap (λ b. cond b (Some refusals.JournalFull) None) (not_true (is_journal_full (journalled shard)) (λ full. true≢false (sym (ap is_for_journal (first full)) ∙ other)))
 
-      may : (fault : ShardFault) → (fault ≡ shard_faults.JournalFull → is_journal_full shard ≡ true) → (is_journal_full shard ≡ true → fault ≡ shard_faults.JournalFull) → MayRefuse (world_of shards books) (steps.Shard number step) (told_of_shard fault)
-      may shard_faults.JournalFull full first = inl (ap (λ s. known s journal_refusal) there ∙ ap (λ b. cond b (Some refusals.JournalFull) None) (full refl))
-      may shard_faults.Memory full first =
-          let free = not_true (is_journal_full shard) (λ h. is_other (first h)) in
-          inr (refl, ap (λ s. known s journal_refusal) there ∙ ap (λ b. cond b (Some refusals.JournalFull) None) free, refl)
+      may : (fault : ShardFault) → MayCome shard fault after → (is_journal_full (journalled shard) ≡ true → fault ≡ shard_faults.JournalFull) → MayRefuse (world_of shards books) (steps.Shard number step) (told_of_shard fault)
+      may shard_faults.JournalFull full first = inl (ap (λ s. known s journal_refusal) (shard_at number shard there) ∙ ap (λ b. cond b (Some refusals.JournalFull) None) full)
+      may shard_faults.Fault came first = inr (free shard_faults.Fault refl first, refl)
+      may shard_faults.Damaged came first = inr (free shard_faults.Damaged refl first, refl)
+      may shard_faults.NumbersSpent came first = inr (free shard_faults.NumbersSpent refl first, refl)
+      may shard_faults.Memory came first = inr (free shard_faults.Memory refl first, refl)
 
   -- a book that a call left as it was
   pub book_kept : (group : ℕ) (book after : BookState) → slice_get books group ≡ Some book → after ≡ book → world_of shards (slice_set books group after) ≡ world_of shards books
@@ -131,7 +155,7 @@ module _ (shards : List Journalled) (books : List BookState) where
     where
       may : (option_map refusals.Book fault ≡ Some (told_of_book error)) ⊎ ((told_of_book error ≡ refusals.Memory) × (fault ≡ None)) → MayRefuse (world_of shards books) step (told_of_book error)
       may (inl is) = inl (first ∙ is)
-      may (inr memory) = inr (memory.0, first ∙ ap (option_map refusals.Book) memory.1, takes)
+      may (inr memory) = inr (first ∙ ap (option_map refusals.Book) memory.1, ap (may_fail step) memory.0 ∙ takes)
 
   begin_refusal : (group t : ℕ) (book : BookState) → slice_get books group ≡ Some book → refusal_of (world_of shards books) (steps.Begin group t) ≡ option_map refusals.Book (begin_fault book.history t)
   begin_refusal group t book there = ap (λ h. known h (λ history. option_map refusals.Book (begin_fault history t))) (history_at group book there)
@@ -150,12 +174,12 @@ module _ (shards : List Journalled) (books : List BookState) where
     record {
       history = book.history;
       there = history_at group book there;
-      after = world_with group after ∙ (λ i. record { shards = shards; histories = slice_set (map (λ (b : BookState). b.history) books) group (now i) });
+      after = world_with group after ∙ (λ i. record { shards = map journalled shards; histories = slice_set (map (λ (b : BookState). b.history) books) group (now i) });
     },
   )
     where
-      now : after.history ≡ begun (length shards) book.history t
-      now = ap (λ (b : BookState). b.history) after_is ∙ ap (λ n. begun n book.history t) many
+      now : after.history ≡ begun (length (map journalled shards)) book.history t
+      now = ap (λ (b : BookState). b.history) after_is ∙ ap (λ n. begun n book.history t) (many ∙ sym (length-map shards journalled))
 
   pub begin_refused : (group t : ℕ) (book after : BookState) (error : OrMemory BookFault) (refusal : Refusal) → slice_get books group ≡ Some book
       → Answers {A = Unit {0}} (begin_fault book.history t) (Err error) → refusal ≡ told_of_book error → after ≡ book
@@ -177,7 +201,7 @@ module _ (shards : List Journalled) (books : List BookState) where
       history = book.history;
       there = history_at group book there;
       place_is = place_is;
-      after = world_with group after ∙ (λ i. record { shards = shards; histories = slice_set (map (λ (b : BookState). b.history) books) group (after_is i).history });
+      after = world_with group after ∙ (λ i. record { shards = map journalled shards; histories = slice_set (map (λ (b : BookState). b.history) books) group (after_is i).history });
     },
   )
 
@@ -193,7 +217,7 @@ module _ (shards : List Journalled) (books : List BookState) where
     record {
       history = book.history;
       there = history_at group book there;
-      after = world_with group after ∙ (λ i. record { shards = shards; histories = slice_set (map (λ (b : BookState). b.history) books) group (after_is i).history });
+      after = world_with group after ∙ (λ i. record { shards = map journalled shards; histories = slice_set (map (λ (b : BookState). b.history) books) group (after_is i).history });
     },
   )
 

@@ -1,11 +1,12 @@
 -- A run of steps, and what it makes of the sinks.
-use Rattle.std.specs.Prelude.{◌≡◌, ℕ, List, [], ◌∷◌, map, length, drop, Some, slice_get, slice_set}
+use Rattle.std.specs.Prelude.{◌≡◌, ℕ, false, List, [], ◌∷◌, map, length, drop, Some, slice_get, slice_set}
 use Rattle.rl_labels.specs.declared.entry.Entry.{Entry}
 use Rattle.rl_rules.specs.declared.evaluation.Evaluation.{Evaluation}
 use Rattle.rl_sinks.specs.SinkState.{SinkState}
 use Rattle.rl_world.specs.Offering.{AllOffered, behind_of}
 use Rattle.rl_world.specs.WorldState.{BookState, WorldBooks, WorldState, Stands, world_of}
-use Rattle.rl_world.specs.WorldStep.{WorldStep, Replay, lists}
+use Rattle.rl_world.specs.WorldStep.{WorldStep, IsRefused, IsOfNoStore, Replay, asks_shard, lists, partials}
+use Rattle.rl_world.specs.declared.fault.Refusal.{Refusal}
 use Rattle.rl_world.specs.declared.step.Committed.{Committed}
 use Rattle.rl_world.specs.declared.step.Step.{Step}
 use Rattle.rl_world.specs.declared.step.Step.TheVariants as steps
@@ -38,10 +39,18 @@ abbrev pub SinkStep : List BookState → Step → Reply → List BookState → T
 SinkStep old (steps.Commit group) (replies.Committed answer) new = CommitSinks old group answer new
 SinkStep old step reply new = map told new ≡ map told old
 
--- a turn: a step of the world by LogQL from scratch, on any lists that may have been shown, and what it makes of the sinks
+-- a turn of the world
 pub record Turned (old : WorldBooks) (step : Step) (reply : Reply) (new : WorldBooks) : Type 0 where
-  pub from_scratch : (shown : WorldState (List Entry)) → Stands (world_of old.shards old.books) shown → (after : WorldState (List Entry)) × Stands (world_of new.shards new.books) after × WorldStep lists shown step reply after
+  -- over any stores: a step that is refused counts as no step
+  pub refused : (refusal : Refusal) → reply ≡ replies.Refused refusal → IsRefused (world_of old.shards old.books) step refusal (world_of new.shards new.books)
+  -- over any stores: a step that asks no shard is one on the partials that are kept
+  pub on_kept : asks_shard step ≡ false → WorldStep partials (world_of old.shards old.books) step reply (world_of new.shards new.books)
+  -- over any stores: what it makes of the sinks
   pub sinks : SinkStep old.books step reply new.books
+  -- while no shard has a store: none refuses for it
+  pub no_store : IsOfNoStore reply
+  -- over honest stores: a step by LogQL from scratch, on any lists that may have been shown
+  pub from_scratch : (shown : WorldState (List Entry)) → Stands (world_of old.shards old.books) shown → (after : WorldState (List Entry)) × Stands (world_of new.shards new.books) after × WorldStep lists shown step reply after
 
 -- a run: turn after turn, with one reply for each step
 abbrev pub Ran : WorldBooks → List Step → List Reply → WorldBooks → Type 0

@@ -4,7 +4,7 @@ use Rattle.std.specs.List.{AllByRecursion}
 use Rattle.rl_labels.specs.declared.entry.Entry.{Entry}
 use Rattle.rl_query.specs.declared.query.Term.{Term}
 use Rattle.rl_aggregate.specs.declared.partial.Partial.{Partial}
-use Rattle.rl_shard.specs.ShardState.{Journalled}
+use Rattle.rl_shard.specs.ShardState.{Journalled, ShardView, journalled}
 use Rattle.rl_rules.specs.declared.alert.Alert.{Alert}
 use Rattle.rl_sinks.specs.SinkState.{SinkState, closed}
 use Rattle.rl_world.specs.Evaluating.{group_terms}
@@ -15,7 +15,7 @@ use Rattle.rl_world.specs.Slots.{IsKept, most_shards}
 use Rattle.rl_world.specs.declared.opened.Gathered.{Gathered}
 use Rattle.rl_world.specs.declared.opened.OpenEvaluation.{OpenEvaluation}
 
--- the shards, and the history of each group
+-- what is promised of each shard, and the history of each group
 pub record WorldState (X : Type 0) : Type 0 where
   pub shards : List Journalled
   pub histories : List (History X)
@@ -31,12 +31,12 @@ pub record BookState : Type 0 where
 
 -- a world as it is seen: its shards, and the book of each group
 pub record WorldBooks : Type 0 where
-  pub shards : List Journalled
+  pub shards : List ShardView
   pub books : List BookState
 
 -- the world that shards and books make up
-abbrev pub world_of : List Journalled → List BookState → WorldState (List Partial)
-world_of shards books = record { shards = shards; histories = map (λ book. book.history) books }
+abbrev pub world_of : List ShardView → List BookState → WorldState (List Partial)
+world_of shards books = record { shards = map journalled shards; histories = map (λ book. book.history) books }
 
 -- a sink by the number of its group and its own
 abbrev pub sink_at : List BookState → ℕ → ℕ → Option SinkState

@@ -1,5 +1,5 @@
 -- What a world answers to a step, and what it is afterwards.
-use Rattle.std.specs.Prelude.{◌≡◌, ◌⊎◌, ℕ, Bool, true, false, IsTrue, List, [], ◌∷◌, length, Option, None, Some, option_map, slice_get, slice_set, if◌then◌else◌}
+use Rattle.std.specs.Prelude.{◌≡◌, ◌⊎◌, ℕ, Bool, true, false, IsTrue, ◌&&◌, List, [], ◌∷◌, length, Option, None, Some, option_map, slice_get, slice_set, if◌then◌else◌}
 use Rattle.rl_labels.specs.Name.{is_text}
 use Rattle.rl_labels.specs.declared.entry.Entry.{Entry}
 use Rattle.rl_query.specs.declared.query.Term.{Term}
@@ -58,6 +58,9 @@ journal_refusal shard = if is_journal_full shard then Some refusals.JournalFull 
 -- how a world tells what a shard or a book refused
 abbrev pub told_of_shard : ShardFault → Refusal
 told_of_shard shard_faults.JournalFull = refusals.JournalFull
+told_of_shard shard_faults.Fault = refusals.Fault
+told_of_shard shard_faults.Damaged = refusals.Damaged
+told_of_shard shard_faults.NumbersSpent = refusals.NumbersSpent
 told_of_shard shard_faults.Memory = refusals.Memory
 
 abbrev pub told_of_book : OrMemory BookFault → Refusal
@@ -68,6 +71,29 @@ told_of_book errors.Memory = refusals.Memory
 abbrev pub may_want : Step → Bool
 may_want (steps.Abandon group) = false
 may_want step = true
+
+-- whether a step asks a shard
+abbrev pub asks_shard : Step → Bool
+asks_shard (steps.Shard number step) = true
+asks_shard (steps.Gather group number) = true
+asks_shard step = false
+
+-- a fault of a shard's store
+abbrev pub is_store_refusal : Refusal → Bool
+is_store_refusal refusals.Fault = true
+is_store_refusal refusals.Damaged = true
+is_store_refusal refusals.NumbersSpent = true
+is_store_refusal refusal = false
+
+-- what a step may come to nothing for where no refusal applies: want of memory, or the store of the shard that it asks
+abbrev pub may_fail : Step → Refusal → Bool
+may_fail step refusals.Memory = may_want step
+may_fail step refusal = asks_shard step && is_store_refusal refusal
+
+-- a reply that tells of no store
+abbrev pub IsOfNoStore : Reply → Type 0
+IsOfNoStore (replies.Refused refusal) = is_store_refusal refusal ≡ false
+IsOfNoStore reply = Unit {0}
 
 module _ {X : Type 0} where
   -- a group is edited under its own name; another is no such group
@@ -83,9 +109,13 @@ module _ {X : Type 0} where
   refusal_of world (steps.Commit group) = known (slice_get world.histories group) (λ history. option_map refusals.Book (commit_fault history))
   refusal_of world (steps.Abandon group) = known (slice_get world.histories group) (λ history. option_map refusals.Book (abandon_fault history))
 
-  -- it is the first refusal that applies; where none does, it may be want of memory
+  -- it is the first refusal that applies; where none does, the step may come to nothing for it
   abbrev pub MayRefuse : WorldState X → Step → Refusal → Type 0
-  MayRefuse world step refusal = (refusal_of world step ≡ Some refusal) ⊎ ((refusal ≡ refusals.Memory) × (refusal_of world step ≡ None) × IsTrue (may_want step))
+  MayRefuse world step refusal = (refusal_of world step ≡ Some refusal) ⊎ ((refusal_of world step ≡ None) × IsTrue (may_fail step refusal))
+
+  -- a step that is refused counts as no step
+  abbrev pub IsRefused : WorldState X → Step → Refusal → WorldState X → Type 0
+  IsRefused old step refusal new = MayRefuse old step refusal × (new ≡ old)
 
   abbrev pub with_shard : WorldState X → ℕ → Journalled → WorldState X
   with_shard world number shard = record { shards = slice_set world.shards number shard; histories = world.histories }
@@ -145,9 +175,9 @@ module _ {X : Type 0} where
   Turn keeping old (steps.Abandon group) replies.Abandoned new = HistoryTurn abandoned old group new
   Turn keeping old step reply new = ⊥
 
-  -- a refusal leaves the world as it was; any other reply comes only where no refusal does
+  -- a step that is refused counts as no step; any other reply comes only where no refusal does
   abbrev pub WorldStep : Keeping X → WorldState X → Step → Reply → WorldState X → Type 0
-  WorldStep keeping old step (replies.Refused refusal) new = MayRefuse old step refusal × (new ≡ old)
+  WorldStep keeping old step (replies.Refused refusal) new = IsRefused old step refusal new
   WorldStep keeping old step reply new = (refusal_of old step ≡ None) × Turn keeping old step reply new
 
   -- step after step

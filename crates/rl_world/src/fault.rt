@@ -35,7 +35,7 @@ impl From<BookFault> for BookError {
     }
 }
 
-/// Why a world refused a step, which left it as it was.
+/// Why a world refused a step, which counts as no step. No shard has a store yet, so what one refuses for does not come.
 #[derive(Clone, Copy, Debug, Drop, Error)]
 pub enum Refusal {
     #[error("no such shard or group")]
@@ -44,6 +44,12 @@ pub enum Refusal {
     Book(BookFault),
     #[error("the journal has as many records as it may have")]
     JournalFull,
+    #[error("the store's device failed")]
+    Fault,
+    #[error("a chunk was missing or changed in the store")]
+    Damaged,
+    #[error("no blob number is left")]
+    NumbersSpent,
     #[error("out of memory")]
     Memory,
 }

@@ -5,7 +5,7 @@ ghost use Rattle.std.proofs.Props.{props};
 ghost use Rattle.rl_world.specs.Closed.{BooksClosed};
 ghost use Rattle.rl_world.specs.WorldRun.{SinkStep};
 ghost use Rattle.rl_world.specs.WorldState.{IsBookOf, with_sinks_closed, world_of};
-ghost use Rattle.rl_world.specs.WorldStep.{WorldStep, partials};
+ghost use Rattle.rl_world.specs.WorldStep.{WorldStep, IsOfNoStore, partials};
 
 use crate::book::Book;
 use crate::step::{Reply, Step};
@@ -25,6 +25,7 @@ impl<S: Sink> WorldParts<S> {
     pub(crate) fn answer(&mut self, step: Step) -> Reply
         ensures step { WorldStep partials (world_of self.old.shards.items self.old.books.items) step result (world_of self.new.shards.items self.new.books.items) }
         ensures sinks { SinkStep self.old.books.items step result self.new.books.items }
+        ensures no_store { IsOfNoStore result }
     {
         match step {
             Step::Shard { number, step } => self.shard(number, step),

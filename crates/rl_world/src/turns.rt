@@ -1,7 +1,8 @@
 //! What a world does at each kind of step.
-ghost use Rattle.std.specs.Prelude.{◌≡◌, length, Err, IsTrue, IsErrOf, IfOk, OnOk, OnErr};
+ghost use Rattle.std.specs.Prelude.{◌≡◌, length, Err, IsTrue, false, IfOk, IfErr, OnOk, OnErr};
 ghost use Rattle.rl_labels.specs.Name.{is_text};
-ghost use Rattle.rl_shard.specs.ShardState.{visible};
+ghost use Rattle.rl_shard.specs.ShardFault.{is_store_fault, MayCome};
+ghost use Rattle.rl_shard.specs.ShardState.{journalled, visible};
 ghost use Rattle.rl_shard.specs.ShardStep.{recorded, is_journal_full};
 ghost use Rattle.rl_shard.specs.declared.step.ShardStep.TheVariants as shard_steps;
 ghost use Rattle.rl_shard.specs.declared.step.ShardFault.TheVariants as faults;
@@ -9,7 +10,7 @@ ghost use Rattle.rl_world.specs.Kept.{partials_of};
 ghost use Rattle.rl_world.specs.Slots.{AreOfOneShard};
 ghost use Rattle.rl_world.specs.WorldRun.{SinkStep};
 ghost use Rattle.rl_world.specs.WorldState.{world_of};
-ghost use Rattle.rl_world.specs.WorldStep.{WorldStep, partials, told_of_shard, told_of_book};
+ghost use Rattle.rl_world.specs.WorldStep.{WorldStep, IsOfNoStore, is_store_refusal, partials, told_of_shard, told_of_book};
 ghost use Rattle.rl_world.specs.declared.step.Step.TheVariants as steps;
 
 use crate::fault::{BookError, Refusal};
@@ -28,6 +29,7 @@ impl<S: Sink> WorldParts<S> {
     pub(crate) fn shard(&mut self, number: usize, step: ShardStep) -> Reply
         ensures step { WorldStep partials (world_of self.old.shards.items self.old.books.items) (steps.Shard number step) result (world_of self.new.shards.items self.new.books.items) }
         ensures sinks { SinkStep self.old.books.items (steps.Shard number step) result self.new.books.items }
+        ensures no_store { IsOfNoStore result }
     {
         if number >= self.shards.len() {
             return Reply::Refused(Refusal::NoSuch);
@@ -43,6 +45,7 @@ impl<S: Sink> WorldParts<S> {
     pub(crate) fn edit(&mut self, group: usize, to: Group) -> Reply
         ensures step { WorldStep partials (world_of self.old.shards.items self.old.books.items) (steps.Edit group to) result (world_of self.new.shards.items self.new.books.items) }
         ensures sinks { SinkStep self.old.books.items (steps.Edit group to) result self.new.books.items }
+        ensures no_store { IsOfNoStore result }
     {
         if group >= self.books.len() {
             return Reply::Refused(Refusal::NoSuch);
@@ -61,6 +64,7 @@ impl<S: Sink> WorldParts<S> {
     pub(crate) fn begin(&mut self, group: usize, t: Ns) -> Reply
         ensures step { WorldStep partials (world_of self.old.shards.items self.old.books.items) (steps.Begin group t) result (world_of self.new.shards.items self.new.books.items) }
         ensures sinks { SinkStep self.old.books.items (steps.Begin group t) result self.new.books.items }
+        ensures no_store { IsOfNoStore result }
     {
         if group >= self.books.len() {
             return Reply::Refused(Refusal::NoSuch);
@@ -76,6 +80,7 @@ impl<S: Sink> WorldParts<S> {
     pub(crate) fn gather(&mut self, group: usize, number: usize) -> Reply
         ensures step { WorldStep partials (world_of self.old.shards.items self.old.books.items) (steps.Gather group number) result (world_of self.new.shards.items self.new.books.items) }
         ensures sinks { SinkStep self.old.books.items (steps.Gather group number) result self.new.books.items }
+        ensures no_store { IsOfNoStore result }
     {
         if group >= self.books.len() || number >= self.shards.len() {
             return Reply::Refused(Refusal::NoSuch);
@@ -106,6 +111,7 @@ impl<S: Sink> WorldParts<S> {
     pub(crate) fn commit(&mut self, group: usize) -> Reply
         ensures step { WorldStep partials (world_of self.old.shards.items self.old.books.items) (steps.Commit group) result (world_of self.new.shards.items self.new.books.items) }
         ensures sinks { SinkStep self.old.books.items (steps.Commit group) result self.new.books.items }
+        ensures no_store { IsOfNoStore result }
     {
         if group >= self.books.len() {
             return Reply::Refused(Refusal::NoSuch);
@@ -121,6 +127,7 @@ impl<S: Sink> WorldParts<S> {
     pub(crate) fn abandon(&mut self, group: usize) -> Reply
         ensures step { WorldStep partials (world_of self.old.shards.items self.old.books.items) (steps.Abandon group) result (world_of self.new.shards.items self.new.books.items) }
         ensures sinks { SinkStep self.old.books.items (steps.Abandon group) result self.new.books.items }
+        ensures no_store { IsOfNoStore result }
     {
         if group >= self.books.len() {
             return Reply::Refused(Refusal::NoSuch);
@@ -140,12 +147,13 @@ fn ask(
     terms: Shared<PlainList<Term>>,
     t: Ns,
 ) -> Result<(u64, PlainList<Shared<Partial>>), ShardFault>
-    ensures room { IsErrOf result faults.JournalFull → IsTrue (is_journal_full shard.old) }
-    ensures journal_full { IsTrue (is_journal_full shard.old) → result ≡ Err faults.JournalFull }
-    ensures shown { IfOk result (λ answer. (answer.0 ≡ shard.old.records) × (answer.1 ≡ partials_of (visible shard.old.state) terms t)) }
+    ensures journal_full { IsTrue (is_journal_full (journalled shard.old)) → result ≡ Err faults.JournalFull }
+    ensures may_come { IfErr result (λ fault. MayCome shard.old fault shard.new) }
+    ensures no_store { IfErr result (λ fault. is_store_fault fault ≡ false) }
+    ensures shown { IfOk result (λ answer. (answer.0 ≡ (journalled shard.old).records) × (answer.1 ≡ partials_of (visible (journalled shard.old).state) terms t)) }
     ensures one_shard { IfOk result (λ answer. AreOfOneShard (length terms) answer.1) }
-    ensures ok { OnOk result (shard.new ≡ recorded shard.old (shard_steps.Collect slot terms t)) }
-    ensures err { OnErr result (shard.new ≡ shard.old) }
+    ensures ok { OnOk result (journalled shard.new ≡ recorded (journalled shard.old) (shard_steps.Collect slot terms t)) }
+    ensures kept { OnErr result (journalled shard.new ≡ journalled shard.old) }
 {
     let (place, reply) = shard.apply(ShardStep::Collect { slot, terms, t })?;
     match reply {
@@ -163,17 +171,22 @@ fn is_same_name(one: &Group, other: &Group) -> bool
 
 // A fault of a shard, as a world tells it.
 fn refusal_of_shard(fault: ShardFault) -> Refusal
-    ensures { result ≡ told_of_shard fault }
+    ensures told { result ≡ told_of_shard fault }
+    ensures store { is_store_refusal result ≡ is_store_fault fault }
 {
     match fault {
         ShardFault::JournalFull => Refusal::JournalFull,
+        ShardFault::Fault => Refusal::Fault,
+        ShardFault::Damaged => Refusal::Damaged,
+        ShardFault::NumbersSpent => Refusal::NumbersSpent,
         ShardFault::Memory => Refusal::Memory,
     }
 }
 
 // A refusal of a book, as a world tells it.
 fn refusal_of_book(error: BookError) -> Refusal
-    ensures { result ≡ told_of_book error }
+    ensures told { result ≡ told_of_book error }
+    ensures store { is_store_refusal result ≡ false }
 {
     match error {
         BookError::Fault(fault) => Refusal::Book(fault),

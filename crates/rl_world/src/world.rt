@@ -6,7 +6,7 @@ ghost use Rattle.rl_world.specs.WorldState.{with_sinks_closed};
 ghost use Rattle.rl_world.specs.BookCalls.{books_from, IsFresh};
 ghost use Rattle.rl_world.specs.Closed.{BooksClosed};
 ghost use Rattle.rl_world.specs.Slots.{most_shards};
-ghost use Rattle.rl_shard.specs.ShardState.{empty_shard};
+ghost use Rattle.rl_shard.specs.ShardState.{journalled, opened};
 
 use crate::book::Book;
 use crate::parts::WorldParts;
@@ -43,8 +43,9 @@ impl<S: Sink> Model for World<S> {
 impl<S: Sink> World<S> {
     ghost use Rattle.rl_world.specs.Offering.{TookPrefix};
     ghost use Rattle.rl_world.specs.Listings.{SinksFollow};
-    ghost use Rattle.rl_world.specs.WorldRun.{Ran, Replays, gained};
+    ghost use Rattle.rl_world.specs.WorldRun.{Turned, Ran, Replays, gained};
     ghost use Rattle.rl_world.specs.WorldState.{world_of, StandsForSome};
+    ghost use Rattle.rl_world.specs.WorldStep.{IsOfNoStore};
 
     /// A world with so many empty shards, and a book for each group with its sinks. The sinks have taken nothing.
     pub fn open(
@@ -57,7 +58,7 @@ impl<S: Sink> World<S> {
         requires shards { shards ≤ most_shards }
         requires lists { length sinks.items ≡ length groups.items }
         requires fresh { AllByRecursion (λ own. AllByRecursion IsFresh (map S.state own.items)) sinks.items }
-        ensures shards { IfOk result (λ world. world.shards ≡ replicate shards (record { limits = limits; state = empty_shard; records = 0 })) }
+        ensures shards { IfOk result (λ world. map journalled world.shards ≡ replicate shards (opened limits)) }
         ensures books { IfOk result (λ world. world.books ≡ books_from 0 limits.records shards groups.items (map (λ own. map S.state own.items) sinks.items)) }
         ensures shown { IfOk result (λ world. StandsForSome (world_of world.shards world.books)) }
     {
@@ -68,6 +69,14 @@ impl<S: Sink> World<S> {
         })
     }
 
+    /// Answers one step, in one turn.
+    pub fn answer(&mut self, step: Step) -> Reply
+        ensures turned { Turned self.old step result self.new }
+        ensures prefixes { AllByRecursion (λ book. AllByRecursion (TookPrefix book.history.evaluations) book.sinks) self.new.books }
+    {
+        self.parts.answer(step)
+    }
+
     /// Answers each step in order, with one reply at the end of `out`. With no room for all replies it does nothing.
     pub fn run(&mut self, steps: Vec<Step>, out: &mut Vec<Reply>) -> Result<(), AllocError>
         ensures memory { OnErr result ((self.new ≡ self.old) × (out.new.items ≡ out.old.items)) }
@@ -76,6 +85,7 @@ impl<S: Sink> World<S> {
         ensures replies { OnOk result (out.new.items ≡ out.old.items ++ gained out.old.items out.new.items) }
         ensures ran { OnOk result (Ran self.old steps.items (gained out.old.items out.new.items) self.new) }
         ensures replays { OnOk result (Replays self.old steps.items (gained out.old.items out.new.items) self.new) }
+        ensures no_store { OnOk result (AllByRecursion IsOfNoStore (gained out.old.items out.new.items)) }
         ensures follows { OnOk result (SinksFollow self.old.books steps.items (gained out.old.items out.new.items) self.new.books) }
         ensures prefixes { AllByRecursion (λ book. AllByRecursion (TookPrefix book.history.evaluations) book.sinks) self.new.books }
     {
@@ -126,7 +136,7 @@ impl<S: Sink> World<S> {
 
 // So many empty shards.
 fn open_shards(alloc: Global, limits: Limits, number: usize) -> Result<Vec<Shard>, AllocError>
-    ensures { IfOk result (λ shards. shards.items ≡ replicate number (record { limits = limits; state = empty_shard; records = 0 })) }
+    ensures { IfOk result (λ shards. map journalled shards.items ≡ replicate number (opened limits)) }
 {
     let mut shards = Vec::with_capacity(alloc, number)?;
     for _ in 0..number {

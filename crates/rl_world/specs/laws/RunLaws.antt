@@ -1,6 +1,6 @@
 -- What follows of a run: a reply for each step, a replay by LogQL from scratch, and what it makes of each sink.
 use Rattle.std.proofs.Common.{◌≡◌, ℕ, zero, suc, ◌+◌, ◌<◌, ◌%◌, ◌^◌, Bool, true, false, cond, ◌||◌, List, [], ◌∷◌, map, length, Option, None, Some, MatchOption, option_map, option_and_then, slice_get, slice_set, nat_lt, nat_eq, refl, sym, ap, subst, ◌∙◌, arith}
-use Rattle.std.specs.List.{list_any, zip}
+use Rattle.std.specs.List.{AllByRecursion, list_any, zip}
 use Rattle.std.proofs.lemmas.List.Sums.{sum_by-cons}
 use Rattle.std.proofs.lemmas.Option.{slice_get-map}
 use Rattle.std.proofs.lemmas.Bool.{eqb-true, eqb-false, eq-eqb, ne_eqb}
@@ -10,7 +10,7 @@ use Rattle.rl_world.specs.Offering.{Offered, AllOffered, is_behind, behind_from,
 use Rattle.rl_world.specs.Listings.{SinksFollow, listing, listings, is_listed, latest, last_listing}
 use Rattle.rl_world.specs.WorldRun.{CommitSinks, SinkStep, Ran, Replays, BookTold, told}
 use Rattle.rl_world.specs.WorldState.{BookState, WorldBooks, WorldState, world_of}
-use Rattle.rl_world.specs.WorldStep.{Keeping, Turn, WorldStep, Replay, lists}
+use Rattle.rl_world.specs.WorldStep.{Keeping, Turn, WorldStep, IsOfNoStore, Replay, lists}
 use Rattle.rl_world.specs.declared.step.Committed.{Committed}
 use Rattle.rl_world.specs.declared.step.Step.{Step}
 use Rattle.rl_world.specs.declared.step.Step.TheVariants as steps
@@ -33,6 +33,13 @@ ran_replays old (step ∷ steps) (reply ∷ replies) new run shown stands =
     (rest.0, rest.1, (first.0, first.2, rest.2))
 ran_replays old [] (reply ∷ replies) new run shown stands = absurd run
 ran_replays old (step ∷ steps) [] new run shown stands = absurd run
+
+-- no reply tells of a store
+pub ran_no_store : (old : WorldBooks) (steps : List Step) (replies : List Reply) (new : WorldBooks) → Ran old steps replies new → AllByRecursion IsOfNoStore replies
+ran_no_store old [] [] new run = tt
+ran_no_store old (step ∷ steps) (reply ∷ replies) new run = (run.1.no_store, ran_no_store run.0 steps replies new run.2)
+ran_no_store old [] (reply ∷ replies) new run = absurd run
+ran_no_store old (step ∷ steps) [] new run = absurd run
 
 some_is : {X : Type 0} (a b : X) → Some a ≡ Some b → a ≡ b
 some_is a b h = cc

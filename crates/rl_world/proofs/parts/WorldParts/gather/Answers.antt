@@ -1,6 +1,7 @@
 -- A shard is asked, and the book keeps what it showed.
 use Rattle.std.proofs.Common.{◌≡◌, None, length, Err, arith, sym, ap, subst, ◌∙◌}
 use Rattle.std.proofs.lemmas.Option.{slice_get_read}
+use Rattle.rl_shard.specs.ShardState.{journalled}
 use Rattle.rl_shard.specs.ShardStep.{is_journal_full}
 use Rattle.rl_world.specs.BookCalls.{with_history}
 use Rattle.rl_world.specs.History.{gather_fault, gathered}
@@ -20,8 +21,8 @@ returns-in-Err-ask-clause-step g c =
     let shard_there = slice_get_read shards c.len-else-group-len.result c.args.number shard (omega (arith, c.len-else-group-len.ensures, c.args.self.now.shards.ok.0)) c.if-number-len.false c.index_mut.ensures.value in
     let free : gather_fault book.history c.args.number ≡ None = refused_ok (gather_fault book.history c.args.number) c.in-Ok.t c.in-Ok.ensures.answer in
     let first = slice_get_read shards c.len-else-group-len.result c.args.number c.index.result.now (omega (arith, c.len-else-group-len.ensures, c.args.self.now.shards.ok.0)) c.if-number-len.false c.index.ensures in
-    let room = ap is_journal_full (same_read shards c.args.number shard c.index.result.now shard_there first) ∙ sym c.is_journal_full.ensures ∙ c.if-is_journal_full.false in
-    gather_refused shards books c.args.group c.args.number book shard there shard_there c.ask.new.shard c.in-Err-ask.fault c.refusal_of_shard.result free room (λ h. c.ask.ensures.room (c.in-Err-ask.is ∙ ap (λ f. Err f) h)) c.in-Err-ask.ensures.err c.refusal_of_shard.ensures
+    let room = ap (λ s. is_journal_full (journalled s)) (same_read shards c.args.number shard c.index.result.now shard_there first) ∙ sym c.is_journal_full.ensures ∙ c.if-is_journal_full.false in
+    gather_refused shards books c.args.group c.args.number book shard there shard_there c.ask.new.shard c.in-Err-ask.fault c.refusal_of_shard.result free room c.in-Err-ask.ensures.may_come c.in-Err-ask.ensures.kept c.refusal_of_shard.ensures.told
 
 pub invariant_of-self-2 : goal.invariant_of-self-2
 invariant_of-self-2 g c =

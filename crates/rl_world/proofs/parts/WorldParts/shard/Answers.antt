@@ -17,4 +17,4 @@ pub returns-in-Err-clause-step : goal.returns-in-Err-clause-step
 returns-in-Err-clause-step g c =
     let shards = c.args.self.now.shards.items in
     let there = slice_get_read shards c.len.result c.args.number c.index_mut-shard.result.now (omega (arith, c.len.ensures, c.args.self.now.shards.ok.0)) (grind (arith, nat_tests, c.if-number-len.false)) c.index_mut-shard.ensures.value in
-    shard_refused shards c.args.self.now.books.items c.args.number c.args.step c.index_mut-shard.result.now c.apply.new.self c.in-Err.fault c.refusal_of_shard.result there (λ h. c.apply.ensures.room (c.in-Err.is ∙ ap (λ f. Err f) h)) (λ h. err_is {A = ℕ × ShardReply} c.in-Err.fault shard_faults.JournalFull (sym c.in-Err.is ∙ c.apply.ensures.journal_full h)) c.in-Err.ensures.same c.refusal_of_shard.ensures
+    shard_refused shards c.args.self.now.books.items c.args.number c.args.step c.index_mut-shard.result.now c.apply.new.self c.in-Err.fault c.refusal_of_shard.result there c.in-Err.ensures.may_come (λ h. err_is {A = ℕ × ShardReply} c.in-Err.fault shard_faults.JournalFull (sym c.in-Err.is ∙ c.apply.ensures.journal_full h)) c.in-Err.ensures.kept c.refusal_of_shard.ensures.told
