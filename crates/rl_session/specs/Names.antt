@@ -61,6 +61,9 @@ abbrev pub refusal_name : Refusal → List ℕ
 refusal_name refusals.NoSuch = codes "NoSuch"
 refusal_name (refusals.Book fault) = book_fault_name fault
 refusal_name refusals.JournalFull = codes "JournalFull"
+refusal_name refusals.Fault = codes "Fault"
+refusal_name refusals.Damaged = codes "Damaged"
+refusal_name refusals.NumbersSpent = codes "NumbersSpent"
 refusal_name refusals.Memory = codes "Memory"
 
 -- a rule file's fault, or want of memory

@@ -81,6 +81,9 @@ pub(crate) fn refusal_name(refusal: Refusal) -> &'static str
         Refusal::NoSuch => "NoSuch",
         Refusal::Book(fault) => book_fault_name(fault),
         Refusal::JournalFull => "JournalFull",
+        Refusal::Fault => "Fault",
+        Refusal::Damaged => "Damaged",
+        Refusal::NumbersSpent => "NumbersSpent",
         Refusal::Memory => "Memory",
     }
 }

@@ -17,6 +17,7 @@ use crate::front::first_line;
 use crate::names::{edit_refusal_name, push_error_name, push_refusal, refusal_name};
 use crate::push::{PushError, read_push};
 use rl_labels::{Entry, Limits, Ns};
+use rl_plain::Shared;
 use rl_rules::Group;
 use rl_shard::ShardStep;
 use rl_sinks::{Sink, write_tail};
@@ -257,7 +258,7 @@ impl<S: Sink> Session<S> {
     {
         let mut steps = Vec::with_capacity(self.alloc, entries.len())?;
         for entry in entries {
-            let step = ShardStep::Push(entry);
+            let step = ShardStep::Push(Shared::new(self.alloc, entry)?);
             steps.push(Step::Shard { number: 0, step })?;
         }
         let mut replies = Vec::new(self.alloc);
