@@ -4,6 +4,7 @@ ghost use Rattle.std.specs.List.{AllByRecursion};
 ghost use Rattle.rl_world.specs.BookCalls.{IsFresh};
 
 use rl_labels::{DEFAULT_LIMITS, Limits, Ns};
+use rl_plain::Shared;
 use rl_rules::read_rules;
 use rl_session::{RunError, Session, Status, read_push};
 use rl_shard::ShardStep;
@@ -47,7 +48,8 @@ pub(crate) fn opened<S: Sink>(alloc: Global, sinks: Vec<Vec<S>>) -> Option<World
     }
     let limits = Limits::check(DEFAULT_LIMITS).ok()?;
     let mut world = World::open(alloc, limits, 1, groups, sinks).ok()?;
-    let step = ShardStep::Push(read_push(alloc, PUSH.as_bytes()).ok()?.pop()?);
+    let entry = read_push(alloc, PUSH.as_bytes()).ok()?.pop()?;
+    let step = ShardStep::Push(Shared::new(alloc, entry).ok()?);
     let steps = vec![in alloc; Step::Shard { number: 0, step }].ok()?;
     let mut replies = Vec::new(alloc);
     world.run(steps, &mut replies).ok()?;

@@ -16,6 +16,7 @@ mod plain;
 mod query;
 mod rules;
 mod session;
+mod shard;
 mod sinks;
 mod trouble;
 mod world;
@@ -117,6 +118,7 @@ fn answer_of(alloc: Global, family: &str, directive: &str, input: &str) -> Resul
         "rules" => rules::answer(alloc, directive, input),
         "session" => session::answer(alloc, directive, input),
         "sinks" => sinks::answer(alloc, directive, input),
+        "shard" => shard::answer(alloc, directive, input),
         "world" => world::answer(alloc, directive, input),
         _ => Err(Trouble::NoSuchDirective),
     }

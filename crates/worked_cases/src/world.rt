@@ -60,7 +60,14 @@ fn book(alloc: Global, input: &str) -> Result<String, Trouble> {
 fn others(alloc: Global) -> Result<String, Trouble> {
     let (error, refusal) = (BookError::Memory, Refusal::Memory);
     let (full, memory) = (ShardFault::JournalFull, ShardFault::from(AllocError));
-    Ok(format!(in alloc; "{error}\n{refusal}\n{full}\n{memory}\n")?)
+    let mut told = format!(in alloc; "{error}\n{refusal}\n{full}\n{memory}\n")?;
+    let (of_shard, of_world) = (ShardFault::Fault, Refusal::Fault);
+    writeln!(told, "{of_shard}\n{of_world}")?;
+    let (of_shard, of_world) = (ShardFault::Damaged, Refusal::Damaged);
+    writeln!(told, "{of_shard}\n{of_world}")?;
+    let (of_shard, of_world) = (ShardFault::NumbersSpent, Refusal::NumbersSpent);
+    writeln!(told, "{of_shard}\n{of_world}")?;
+    Ok(told)
 }
 
 // What the first line of an input says.

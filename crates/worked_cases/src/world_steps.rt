@@ -5,7 +5,7 @@ use crate::given::{entry_in, moment_in, number_in};
 use crate::rules::{group_in, push_alert};
 use crate::trouble::Trouble;
 use crate::world::Sunk;
-use rl_plain::{PlainList, Same};
+use rl_plain::{PlainList, Same, Shared};
 use rl_query::print_term;
 use rl_rules::Evaluation;
 use rl_shard::{ShardReply, ShardStep};
@@ -53,7 +53,7 @@ fn step_in(alloc: Global, line: &str) -> Result<Option<Step>, Trouble> {
     };
     Ok(Some(match word {
         "push" => {
-            let step = ShardStep::Push(entry_in(alloc, rest)?);
+            let step = ShardStep::Push(Shared::new(alloc, entry_in(alloc, rest)?)?);
             let number = group;
             Step::Shard { number, step }
         }
