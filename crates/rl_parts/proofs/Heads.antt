@@ -1,20 +1,18 @@
 -- What an entry that is put makes of a head, and a head that is sealed of a stream.
-use Rattle.std.proofs.Common.{◌≡◌, ℕ, ◌+◌, ◌-◌, ◌<◌, ◌≤◌, max, List, [], ◌∷◌, ◌++◌, length, take, drop, get_or, Some, None, Option, refl, sym, ap, subst, ◌∙◌, append-nil, append_assoc, lit<, arith}
+use Rattle.std.proofs.Common.{◌≡◌, ℕ, ◌+◌, ◌-◌, ◌<◌, ◌≤◌, max, List, [], ◌∷◌, ◌++◌, length, take, drop, None, Option, refl, sym, ap, subst, ◌∙◌, append-nil, lit<, arith}
 use Rattle.std.specs.Option.{unwrap_or}
 use Rattle.std.specs.List.{All, AllByRecursion, flat_map, insert as List_insert}
-use Rattle.std.specs.List.Sorted.{IsStrictlySortedBy}
 use Rattle.std.proofs.lemmas.List.{length-append}
 use Rattle.std.proofs.lemmas.List.Concat.{flat_map-append}
 use Rattle.std.proofs.lemmas.List.Edits.{length-insert, insert-append_right}
 use Rattle.std.proofs.lemmas.List.Elements.{All-append, All-cons, All-take, All-drop, All-weaker}
 use Rattle.rl_labels.specs.LabelSet.{LabelSet}
-use Rattle.rl_labels.specs.EntryOrder.{entry_cmp}
 use Rattle.rl_labels.specs.laws.OrderLaws.{entry_cmp_total}
 use Rattle.rl_labels.specs.declared.entry.Entry.{Entry}
-use Rattle.rl_parts.specs.StreamParts.{PartView, StreamView, IsRun, IsPart, IsStream, entries_of, notes_of, unwritten, most_entries}
+use Rattle.rl_parts.specs.StreamParts.{PartView, IsRun, IsPart, unwritten, most_entries}
 use Rattle.rl_parts.specs.PartState.{timestamp_at}
 use Rattle.rl_parts.specs.Changes.{IsInserted, AreSealed}
-use Rattle.rl_parts.specs.StreamState.{AreSealedUpTo, IsInOrder, BelongsAt, IsPut}
+use Rattle.rl_parts.specs.StreamState.{AreSealedUpTo, IsInOrder, IsPut}
 use Rattle.rl_parts.proofs.InOrder.{insert_in_order, nothing_in_order}
 use Rattle.rl_parts.proofs.Times.{up_to_last}
 

@@ -1,4 +1,7 @@
-pub mod InOrder
 pub mod Heads
+pub mod InOrder
+pub mod Lines
+pub mod Puts
 pub mod Times
 pub mod Wayout
+pub mod Writes

@@ -1,5 +1,5 @@
 -- Timestamps along entries of one stream in order.
-use Rattle.std.proofs.Common.{◌≡◌, ℕ, ◌+◌, ◌-◌, ◌<◌, ◌≤◌, Some, None, Option, List, length, get_or, slice_get, refl, sym, ap, subst, ◌∙◌, inl, inr, ◌⊎◌, arith}
+use Rattle.std.proofs.Common.{◌≡◌, ℕ, ◌-◌, ◌<◌, ◌≤◌, List, length, get_or, refl, sym, ap, subst, ◌∙◌, inl, inr, arith}
 use Rattle.std.specs.Option.{option_map, unwrap_or}
 use Rattle.std.specs.List.{All}
 use Rattle.std.specs.Ordering.{nat_cmp, ordering_then, ordering_reverse}
@@ -23,7 +23,7 @@ tied Less h = cc
 tied Equal h = refl
 tied Greater h = cc
 
-same_labels : (s t : LabelSet) → s ≡ t → label_set_cmp s t ≡ Equal
+pub same_labels : (s t : LabelSet) → s ≡ t → label_set_cmp s t ≡ Equal
 same_labels s t e = subst (λ u. label_set_cmp s u ≡ Equal) e (tied (label_set_cmp s s) (label_set_cmp_total.antisymm s s))
 
 -- of two entries of a stream the later one is greater

@@ -1,5 +1,5 @@
 -- A fault that is passed on.
-use Rattle.std.proofs.Common.{◌≡◌, Result, Ok, Err, refl, subst}
+use Rattle.std.proofs.Common.{Err}
 use Rattle.rl_parts.specs.StoreUse.{Right}
 use Rattle.rl_parts.specs.declared.fault.ReadFault.{ReadFault}
 use Rattle.rl_parts.specs.declared.fault.ReadFault.TheVariants as reads

@@ -4,3 +4,4 @@ pub mod Reading
 pub mod StoreUse
 pub mod StreamParts
 pub mod StreamState
+pub mod laws

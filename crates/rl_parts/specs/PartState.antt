@@ -1,8 +1,11 @@
 -- How a part is seen, wherever its entries are.
-use Rattle.std.specs.Prelude.{◌≡◌, ℕ, ◌-◌, List, length, Option, None, Some, slice_get}
+use Rattle.std.specs.Prelude.{◌≡◌, ℕ, ◌+◌, ◌-◌, List, length, Option, None, Some, slice_get}
 use Rattle.std.specs.Option.{option_map, unwrap_or}
+use Rattle.rl_labels.specs.LabelSet.{LabelSet}
 use Rattle.rl_labels.specs.declared.entry.Entry.{Entry}
-use Rattle.rl_parts.specs.StreamParts.{Note, PartView}
+use Rattle.rl_chunks.specs.StoreState.{Seen}
+use Rattle.rl_parts.specs.StreamParts.{Note, PartView, chunk_of}
+use Rattle.rl_parts.specs.StoreUse.{IsNoteOf}
 use Rattle.rl_parts.specs.declared.part.Written.{Written}
 use Rattle.rl_parts.specs.declared.part.Place.{Place}
 use Rattle.rl_parts.specs.declared.part.Place.TheVariants.{Here, InStore}
@@ -31,3 +34,10 @@ pub record IsRange (entries : List Entry) (first last : ℕ) : Type 0 where
 abbrev pub RangeIsKept : Place → Type 0
 RangeIsKept (Here entries) = Unit {0}
 RangeIsKept (InStore written) = IsRange written.entries.value written.first written.last
+
+-- what is kept of entries that were written under a number, over what a store then has
+pub record IsWritten (seen : Seen) (labels : LabelSet) (entries : List Entry) (number : ℕ) (written : Written) : Type 0 where
+  pub entries_are : written.entries.value ≡ entries
+  pub range : IsRange entries written.first written.last
+  pub number_is : written.number ≡ number
+  pub note : IsNoteOf seen (number + 1) (chunk_of labels entries) (record { number = written.number; digest = written.digest })

@@ -1,11 +1,11 @@
 -- What is read of a stream: the entries of a range of time, and whether a part has to be read for it.
-use Rattle.std.specs.Prelude.{◌≡◌, ℕ, ◌<◌, nat_le, Bool, ◌&&◌, ◌⊎◌, List, map, IfSome}
+use Rattle.std.specs.Prelude.{ℕ, ◌<◌, nat_le, Bool, ◌&&◌, ◌⊎◌, List, map, IfSome}
 use Rattle.std.specs.List.{All, AllByRecursion, filter}
 use Rattle.rl_labels.specs.LabelSet.{LabelSet}
 use Rattle.rl_labels.specs.declared.entry.Entry.{Entry}
 use Rattle.rl_chunks.specs.EntryLines.{line_of}
 use Rattle.rl_chunks.specs.declared.line.Line.{Line}
-use Rattle.rl_parts.specs.StreamParts.{PartView, StreamView, entries_of}
+use Rattle.rl_parts.specs.StreamParts.{StreamView}
 
 -- both ends are in the range
 abbrev pub is_in_range : ℕ → ℕ → Entry → Bool

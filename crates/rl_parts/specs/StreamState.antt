@@ -2,7 +2,6 @@
 use Rattle.std.specs.Prelude.{◌≡◌, ℕ, ◌≤◌, List, length, Option}
 use Rattle.std.specs.Option.{unwrap_or}
 use Rattle.std.specs.List.{All, AllByRecursion, AllWithin, insert}
-use Rattle.std.specs.List.Sorted.{IsStrictlySortedBy}
 use Rattle.std.specs.declared.cmp.Ordering.TheVariants.{Less, Greater}
 use Rattle.rl_labels.specs.EntryOrder.{entry_cmp}
 use Rattle.rl_labels.specs.declared.entry.Entry.{Entry}

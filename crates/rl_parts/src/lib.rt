@@ -9,6 +9,7 @@
 
 pub mod fault;
 pub mod fetching;
+mod flushing;
 pub mod part;
 mod sealing;
 pub mod stream;

@@ -1,17 +1,21 @@
 //! Sealed entries of a stream, in memory or in a store.
-use rl_labels::{Entry, Ns};
+use crate::fault::FlushFault;
+use crate::flushing::write_entries;
+use rl_chunks::Store;
+use rl_labels::{Entry, Labels, Ns};
 use rl_plain::{PlainList, Shared};
+use std::alloc::Global;
 use std::marker::Model;
 use std::snapshot::Snapshot;
 
 // What is kept of entries that a store has. The entries themselves are seen by contracts alone.
 #[derive(Drop)]
-struct Written {
-    number: u64,
-    digest: [u8; 32],
-    first: Ns,
-    last: Ns,
-    entries: Snapshot<PlainList<Shared<Entry>>>,
+pub(crate) struct Written {
+    pub(crate) number: u64,
+    pub(crate) digest: [u8; 32],
+    pub(crate) first: Ns,
+    pub(crate) last: Ns,
+    pub(crate) entries: Snapshot<PlainList<Shared<Entry>>>,
 }
 
 // Where the entries are.
@@ -42,8 +46,10 @@ impl Model for Part {
 }
 
 impl Part {
-    ghost use Rattle.std.specs.Prelude.{◌≡◌};
-    ghost use Rattle.rl_parts.specs.StreamParts.{unwritten};
+    ghost use Rattle.std.specs.Prelude.{◌≡◌, ℕ, [], ◌∷◌, IfErr, OnOk, IsSome};
+    ghost use Rattle.rl_parts.specs.StreamParts.{IsPart, unwritten};
+    ghost use Rattle.rl_parts.specs.StoreUse.{Grown, IsKept, FlushCause};
+    ghost use Rattle.rl_parts.specs.Changes.{AreNoted};
 
     // A part that no store has.
     pub(crate) fn new(entries: Vec<Shared<Entry>>) -> Part
@@ -51,5 +57,28 @@ impl Part {
     {
         let place = Place::Here(PlainList::from_vec(entries));
         Part { place }
+    }
+
+    // Writes the part under the next number, unless a store has it.
+    pub(crate) fn write<S: Store>(
+        &mut self,
+        alloc: Global,
+        store: &mut S,
+        labels: &Labels,
+        next: &mut u64,
+    ) -> Result<(), FlushFault>
+        requires { IsPart labels.now self.old }
+        ensures noted { AreNoted (self.old ∷ []) next.old (self.new ∷ []) next.new }
+        ensures kept { IsKept (S.seen store.old) next.old labels.now self.old → IsKept (S.seen store.new) next.new labels.now self.new }
+        ensures written { OnOk result (IsSome self.new.note) }
+        ensures grown { Grown (S.seen store.old) next.old (S.seen store.new) }
+        ensures cause { IfErr result (FlushCause (S.seen store.old) (S.seen store.new) next.new) }
+    {
+        let written = match &self.place {
+            Place::InStore(_) => return Ok(()),
+            Place::Here(entries) => write_entries(alloc, store, labels, entries, next)?,
+        };
+        self.place = Place::InStore(written);
+        Ok(())
     }
 }

@@ -1,8 +1,11 @@
 //! One stream as its parts.
-ghost use Rattle.std.specs.Prelude.{◌≡◌, ◌<◌, ◌≤◌, max, [], ◌∷◌, length, OnOk, OnErr, IfOk};
+ghost use Rattle.std.specs.Prelude.{◌≡◌, ◌<◌, ◌≤◌, max, [], ◌∷◌, length, OnOk, OnErr, IfOk, IfErr};
 
+use crate::fault::FlushFault;
+use crate::flushing::write_parts;
 use crate::part::Part;
 use crate::sealing::{later, put, seal_head};
+use rl_chunks::Store;
 use rl_labels::{Entry, Labels, Ns};
 use rl_plain::{Shared, TryCopy};
 use std::alloc::{AllocError, Global};
@@ -40,7 +43,8 @@ impl Model for Stream {
 impl Stream {
     ghost use Rattle.std.specs.List.{Contains};
     ghost use Rattle.rl_parts.specs.StreamParts.{entries_of, notes_of, most_entries};
-    ghost use Rattle.rl_parts.specs.Changes.{IsInserted, AreSealed};
+    ghost use Rattle.rl_parts.specs.StoreUse.{Grown, AreKept, FlushCause};
+    ghost use Rattle.rl_parts.specs.Changes.{IsInserted, AreSealed, AreNoted, unwritten_count};
 
     /// A stream of one entry. It is sealed at once where a part has no more than one.
     pub fn start(alloc: Global, entry: Shared<Entry>, most: u64) -> Result<Stream, AllocError>
@@ -117,5 +121,26 @@ impl Stream {
         self.parts.reserve(1)?;
         seal_head(&mut self.parts, &mut self.head, &mut self.sealed_to);
         Ok(())
+    }
+
+    /// Writes each part that no store has, in order, under the numbers from the next on, and lets their lines go. What
+    /// was written before a fault stays written. The greatest number is never given.
+    pub fn flush<S: Store>(
+        &mut self,
+        alloc: Global,
+        store: &mut S,
+        next: &mut u64,
+    ) -> Result<(), FlushFault>
+        ensures labels { self.new.labels ≡ self.old.labels }
+        ensures newest { self.new.newest ≡ self.old.newest }
+        ensures head { self.new.head ≡ self.old.head }
+        ensures entries { entries_of self.new ≡ entries_of self.old }
+        ensures parts { AreNoted self.old.parts next.old self.new.parts next.new }
+        ensures all { OnOk result (unwritten_count self.new.parts ≡ 0) }
+        ensures kept { AreKept (S.seen store.old) next.old self.old → AreKept (S.seen store.new) next.new self.new }
+        ensures grown { Grown (S.seen store.old) next.old (S.seen store.new) }
+        ensures cause { IfErr result (FlushCause (S.seen store.old) (S.seen store.new) next.new) }
+    {
+        write_parts(alloc, store, &self.labels, &mut self.parts, next)
     }
 }

@@ -1,7 +1,5 @@
 -- A fault of the store is passed on.
-use Rattle.std.proofs.Common.{subst, sym}
 use Rattle.std.proofs.lemmas.Result.{err_from_is_err_and}
-use Rattle.rl_parts.specs.StoreUse.{Right}
 use Rattle.rl_parts.proofs.Wayout.{right_on}
 use Rattle.rl_parts.proofs.fetching.fetch.Goals as goal
 

@@ -1,10 +1,10 @@
 -- The head with the entry, and what becomes of it.
-use Rattle.std.proofs.Common.{◌≡◌, ◌+◌, ◌≤◌, ◌<◌, ◌∷◌, ◌++◌, [], List, length, sym, ap, subst, ◌∙◌, arith}
+use Rattle.std.proofs.Common.{◌≡◌, ◌+◌, ◌<◌, ◌∷◌, ◌++◌, [], List, length, sym, ap, subst, ◌∙◌, arith}
 use Rattle.std.specs.List.{Contains, flat_map}
 use Rattle.rl_labels.specs.declared.entry.Entry.{Entry}
 use Rattle.rl_parts.specs.StreamParts.{PartView, StreamView, IsRun, unwritten, entries_of, most_entries}
 use Rattle.rl_parts.specs.Changes.{IsInserted}
-use Rattle.rl_parts.specs.StreamState.{IsPut, IsInOrder}
+use Rattle.rl_parts.specs.StreamState.{IsInOrder}
 use Rattle.rl_parts.proofs.Heads.{run_put, many_put, entries_put, entries_sealed, in_order_sealed}
 use Rattle.rl_parts.proofs.stream.Stream.hold.Goals as goal
 

@@ -1,5 +1,5 @@
 -- The head is sealed, and the stream stays in order.
-use Rattle.std.proofs.Common.{◌≡◌, ◌<◌, ◌≤◌, ◌∷◌, ◌++◌, [], List, length, sym, ap, subst, ◌∙◌, arith}
+use Rattle.std.proofs.Common.{◌≡◌, ◌<◌, ◌∷◌, ◌++◌, [], List, length, sym, ap, subst, ◌∙◌, arith}
 use Rattle.std.proofs.lemmas.Bool.Decides.{nat_tests}
 use Rattle.rl_labels.specs.declared.entry.Entry.{Entry}
 use Rattle.rl_parts.specs.StreamParts.{PartView, unwritten, most_entries}

@@ -1,6 +1,5 @@
 -- A stream without entries is in order.
-use Rattle.std.proofs.Common.{lit<}
-use Rattle.rl_parts.proofs.Heads.{run_none, none_in_order}
+use Rattle.rl_parts.proofs.Heads.{none_in_order}
 use Rattle.rl_parts.proofs.stream.Stream.start.Goals as goal
 
 pub invariant_of-stream : goal.invariant_of-stream

@@ -1,0 +1,3 @@
+-- Laws that the crates above rest on.
+pub mod NoteLaws
+pub mod UseLaws

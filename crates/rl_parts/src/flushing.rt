@@ -1,0 +1,94 @@
+//! Parts that are written to a store.
+ghost use Rattle.std.specs.Prelude.{◌≡◌, ℕ, ◌+◌, ◌<◌, ◌≤◌, [], ◌∷◌, length, Some, IfOk, IfErr, OnOk, MatchResult};
+ghost use Rattle.std.specs.List.{AllByRecursion};
+ghost use Rattle.std.specs.FinMap as map;
+ghost use Rattle.rl_parts.specs.StreamParts.{IsPart, unwritten};
+ghost use Rattle.rl_parts.specs.PartState.{IsRange, IsWritten};
+ghost use Rattle.rl_parts.specs.StoreUse.{Grown, IsKept, FlushCause};
+ghost use Rattle.rl_parts.specs.Changes.{AreNoted, unwritten_count};
+
+use crate::fault::FlushFault;
+use crate::part::{Part, Written};
+use rl_chunks::{Store, StoreFault, encode};
+use rl_labels::{Entry, Labels, Ns};
+use rl_plain::{PlainList, Shared};
+use sha2::{Digest, Sha256};
+use std::alloc::Global;
+use std::snapshot::Snapshot;
+
+// Puts bytes under a number.
+fn put_bytes<S: Store>(store: &mut S, number: u64, bytes: Vec<u8>) -> Result<(), FlushFault>
+    ensures there { OnOk result (map.get (S.seen store.new).blobs number ≡ Some bytes.items) }
+    ensures grown { Grown (S.seen store.old) number (S.seen store.new) }
+    ensures cause { (next : ℕ) → IfErr result (FlushCause (S.seen store.old) (S.seen store.new) next) }
+{
+    match store.put(number, bytes) {
+        Ok(()) => Ok(()),
+        Err(StoreFault::Fault) => Err(FlushFault::Fault),
+        Err(StoreFault::Memory) => Err(FlushFault::Memory),
+    }
+}
+
+// The timestamps of the first and the last entry.
+fn range_of(entries: &[Shared<Entry>]) -> (Ns, Ns)
+    requires { 0 < length entries.now }
+    ensures { IsRange entries.now result.0 result.1 }
+{
+    let first = entries[0].get().timestamp;
+    let last = entries[entries.len() - 1].get().timestamp;
+    (first, last)
+}
+
+// Writes entries of a stream under the next number. The greatest number is not given.
+pub(crate) fn write_entries<S: Store>(
+    alloc: Global,
+    store: &mut S,
+    labels: &Labels,
+    entries: &PlainList<Shared<Entry>>,
+    next: &mut u64,
+) -> Result<Written, FlushFault>
+    requires { IsPart labels.now (unwritten entries.now) }
+    ensures written { IfOk result (IsWritten (S.seen store.new) labels.now entries.now next.old) }
+    ensures next { MatchResult result (λ _. next.new ≡ next.old + 1) (λ _. next.new ≡ next.old) }
+    ensures grown { Grown (S.seen store.old) next.old (S.seen store.new) }
+    ensures cause { IfErr result (FlushCause (S.seen store.old) (S.seen store.new) next.new) }
+{
+    let number = *next;
+    if number == u64::MAX {
+        return Err(FlushFault::NumbersSpent);
+    }
+    let bytes = encode(alloc, labels, entries.as_slice())?;
+    let digest = Sha256::digest(bytes.as_slice());
+    put_bytes(store, number, bytes)?;
+    *next = number + 1;
+    let (first, last) = range_of(entries.as_slice());
+    Ok(Written {
+        number,
+        digest,
+        first,
+        last,
+        entries: Snapshot::of(entries),
+    })
+}
+
+// Writes each part that no store has, in order, under the numbers from the next on.
+pub(crate) fn write_parts<S: Store>(
+    alloc: Global,
+    store: &mut S,
+    labels: &Labels,
+    parts: &mut [Part],
+    next: &mut u64,
+) -> Result<(), FlushFault>
+    requires { AllByRecursion (IsPart labels.now) parts.old }
+    ensures noted { AreNoted parts.old next.old parts.new next.new }
+    ensures kept { AllByRecursion (IsKept (S.seen store.old) next.old labels.now) parts.old → AllByRecursion (IsKept (S.seen store.new) next.new labels.now) parts.new }
+    ensures all { OnOk result (unwritten_count parts.new ≡ 0) }
+    ensures grown { Grown (S.seen store.old) next.old (S.seen store.new) }
+    ensures cause { IfErr result (FlushCause (S.seen store.old) (S.seen store.new) next.new) }
+{
+    for index in 0..parts.len() {
+        let part = &mut parts[index];
+        part.write(alloc, store, labels, next)?;
+    }
+    Ok(())
+}
