@@ -1,3 +1,4 @@
+pub mod Finding
 pub mod Heads
 pub mod InOrder
 pub mod Lines

@@ -1,7 +1,7 @@
 -- Timestamps along entries of one stream in order.
-use Rattle.std.proofs.Common.{◌≡◌, ℕ, ◌-◌, ◌<◌, ◌≤◌, List, length, get_or, refl, sym, ap, subst, ◌∙◌, inl, inr, arith}
+use Rattle.std.proofs.Common.{◌≡◌, ℕ, ◌-◌, ◌<◌, ◌≤◌, List, [], ◌∷◌, ◌⊎◌, length, get_or, refl, sym, ap, subst, ◌∙◌, inl, inr, arith}
 use Rattle.std.specs.Option.{option_map, unwrap_or}
-use Rattle.std.specs.List.{All}
+use Rattle.std.specs.List.{All, Contains}
 use Rattle.std.specs.Ordering.{nat_cmp, ordering_then, ordering_reverse}
 use Rattle.std.specs.declared.cmp.Ordering.{Ordering}
 use Rattle.std.specs.declared.cmp.Ordering.TheVariants.{Less, Equal, Greater}
@@ -16,7 +16,8 @@ use Rattle.rl_labels.specs.EntryOrder.{entry_cmp}
 use Rattle.rl_labels.specs.laws.TextLaws.{label_set_cmp_total}
 use Rattle.rl_labels.specs.declared.entry.Entry.{Entry}
 use Rattle.rl_parts.specs.StreamParts.{IsRun}
-use Rattle.rl_parts.specs.PartState.{timestamp_at}
+use Rattle.rl_parts.specs.PartState.{timestamp_at, IsRange}
+use Rattle.rl_parts.specs.Reading.{IsApart}
 
 tied : (o : Ordering) → o ≡ ordering_reverse o → o ≡ Equal
 tied Less h = cc
@@ -39,23 +40,46 @@ le_from_less a b same less = elim (cases_lt b.timestamp a.timestamp) [
   | inr le ↦ le
 ]
 
+pub timestamp_is : (xs : List Entry) (i : ℕ) (d : Entry) → i < length xs → timestamp_at xs i ≡ (get_or xs i d).timestamp
+timestamp_is xs i d within = ap (λ found. unwrap_or (option_map (λ entry. entry.timestamp) found) 0) (slice_get-get_or xs i d within)
+
 module _ (set : LabelSet) (xs : List Entry) (run : IsRun set xs) where
   rise : (i j : ℕ) (d : Entry) → i < j → j < length xs → (get_or xs i d).timestamp ≤ (get_or xs j d).timestamp
   rise i j d lt within = le_from_less (get_or xs i d) (get_or xs j d) (run.labels i d (omega arith) ∙ sym (run.labels j d within)) (Less-from_sorted entry_cmp xs i j d run.rising lt within)
 
-  at : (i : ℕ) (d : Entry) → i < length xs → timestamp_at xs i ≡ (get_or xs i d).timestamp
-  at i d within = ap (λ found. unwrap_or (option_map (λ entry. entry.timestamp) found) 0) (slice_get-get_or xs i d within)
-
   -- no entry is later than the last
   pub up_to_last : All (λ entry. entry.timestamp ≤ timestamp_at xs (length xs - 1)) xs
   up_to_last k d within = elim (cases_lt k (length xs - 1)) [
-    | inl lt ↦ (let e = at (length xs - 1) d (omega arith) in let le = rise k (length xs - 1) d lt (omega arith) in omega arith)
-    | inr le ↦ (let here : k ≡ length xs - 1 = omega arith in let e = at (length xs - 1) d (omega arith) in let f : (get_or xs k d).timestamp ≡ (get_or xs (length xs - 1) d).timestamp = ap (λ i. (get_or xs i d).timestamp) here in omega arith)
+    | inl lt ↦ (let e = timestamp_is xs (length xs - 1) d (omega arith) in let le = rise k (length xs - 1) d lt (omega arith) in omega arith)
+    | inr le ↦ (let here : k ≡ length xs - 1 = omega arith in let e = timestamp_is xs (length xs - 1) d (omega arith) in let f : (get_or xs k d).timestamp ≡ (get_or xs (length xs - 1) d).timestamp = ap (λ i. (get_or xs i d).timestamp) here in omega arith)
   ]
 
   -- and none is earlier than the first
   pub from_first : All (λ entry. timestamp_at xs 0 ≤ entry.timestamp) xs
   from_first k d within = elim (cases_lt 0 k) [
-    | inl lt ↦ (let e = at 0 d (omega arith) in let le = rise 0 k d lt within in omega arith)
-    | inr le ↦ (let here : k ≡ 0 = omega arith in let e = at 0 d (omega arith) in let f : (get_or xs k d).timestamp ≡ (get_or xs 0 d).timestamp = ap (λ i. (get_or xs i d).timestamp) here in omega arith)
+    | inl lt ↦ (let e = timestamp_is xs 0 d (omega arith) in let le = rise 0 k d lt within in omega arith)
+    | inr le ↦ (let here : k ≡ 0 = omega arith in let e = timestamp_is xs 0 d (omega arith) in let f : (get_or xs k d).timestamp ≡ (get_or xs 0 d).timestamp = ap (λ i. (get_or xs i d).timestamp) here in omega arith)
   ]
+
+-- an entry outside of the range of time is not there
+pub outside : (set : LabelSet) (xs : List Entry) (first last : ℕ) (entry : Entry) → IsRun set xs → IsRange xs first last → (last < entry.timestamp) ⊎ (entry.timestamp < first) → Contains xs entry → ⊥
+outside set xs first last entry run range (inl out) there =
+    let low : (get_or xs there.0 entry).timestamp ≤ timestamp_at xs (length xs - 1) = up_to_last set xs run there.0 entry there.1 in
+    let same : (get_or xs there.0 entry).timestamp ≡ entry.timestamp = ap (λ (e : Entry). e.timestamp) there.2 in
+    omega (arith, range.end)
+outside set xs first last entry run range (inr out) there =
+    let low : timestamp_at xs 0 ≤ (get_or xs there.0 entry).timestamp = from_first set xs run there.0 entry there.1 in
+    let same : (get_or xs there.0 entry).timestamp ≡ entry.timestamp = ap (λ (e : Entry). e.timestamp) there.2 in
+    omega (arith, range.start)
+
+-- entries whose range of time reaches into another are not apart from it
+pub reaches : (xs : List Entry) (first last from to : ℕ) → IsRange xs first last → 0 < length xs → from ≤ last → first ≤ to → IsApart from to xs → ⊥
+reaches [] first last from to range some low high apart = omega arith
+reaches (x ∷ xs) first last from to range some low high (inl before) =
+    let es : List Entry = x ∷ xs in
+    let end = timestamp_is es (length es - 1) x (omega arith) in
+    let lt : (get_or es (length es - 1) x).timestamp < from = before (length es - 1) x (omega arith) in
+    omega (arith, range.end)
+reaches (x ∷ xs) first last from to range some low high (inr behind) =
+    let lt : to < x.timestamp = behind 0 x (omega arith) in
+    omega (arith, range.start)

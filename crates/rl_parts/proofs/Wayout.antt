@@ -1,11 +1,29 @@
--- A fault that is passed on.
-use Rattle.std.proofs.Common.{Err}
-use Rattle.rl_parts.specs.StoreUse.{Right}
+-- Ways out of calls over a store, and what is kept until then.
+use Rattle.std.proofs.Common.{◌≡◌, ℕ, ◌<◌, List, length, get_or, Result, Ok, Err, sym, subst}
+use Rattle.std.specs.List.{AllByRecursion}
+use Rattle.std.proofs.lemmas.List.Elements.{All-from_recursion}
+use Rattle.rl_labels.specs.LabelSet.{LabelSet}
+use Rattle.rl_chunks.specs.StoreState.{Seen}
+use Rattle.rl_parts.specs.StreamParts.{PartView}
+use Rattle.rl_parts.specs.StoreUse.{Right, Looked, IsKept}
 use Rattle.rl_parts.specs.declared.fault.ReadFault.{ReadFault}
 use Rattle.rl_parts.specs.declared.fault.ReadFault.TheVariants as reads
+use Rattle.rl_parts.specs.laws.UseLaws.{IsKept-looked}
 
 -- a fault that was right to answer of one thing is right to answer of another
 pub right_on : {A B : Type 0} (fault : ReadFault) (P : A → Type 0) (Q : B → Type 0) → Right {A = A} (Err fault) P → Right {A = B} (Err fault) Q
 right_on reads.Fault P Q h = tt
 right_on reads.Damaged P Q h = h
 right_on reads.Memory P Q h = tt
+
+-- a part is still kept after other reads
+pub kept_at : (start seen : Seen) (next : ℕ) (labels : LabelSet) (parts : List PartView) (i : ℕ) (p : PartView) → i < length parts → p ≡ get_or parts i p → Looked start seen → AllByRecursion (IsKept start next labels) parts → IsKept seen next labels p
+kept_at start seen next labels parts i p within is looked kept =
+    IsKept-looked start seen next labels looked p (subst (IsKept start next labels) (sym is) (All-from_recursion (IsKept start next labels) parts kept i p within))
+
+-- what follows from the answer
+pub right_then : {A : Type 0} (P Q : A → Type 0) → ((answer : A) → P answer → Q answer) → (result : Result A ReadFault) → Right result P → Right result Q
+right_then P Q f (Ok answer) h = f answer h
+right_then P Q f (Err reads.Fault) h = tt
+right_then P Q f (Err reads.Damaged) h = h
+right_then P Q f (Err reads.Memory) h = tt

@@ -12,6 +12,7 @@ pub mod fetching;
 mod flushing;
 pub mod part;
 mod sealing;
+mod searching;
 pub mod stream;
 pub mod taker;
 

@@ -1,6 +1,7 @@
 //! Sealed entries of a stream, in memory or in a store.
-use crate::fault::FlushFault;
+use crate::fault::{FlushFault, ReadFault};
 use crate::flushing::write_entries;
+use crate::searching::{has_entry, has_written};
 use rl_chunks::Store;
 use rl_labels::{Entry, Labels, Ns};
 use rl_plain::{PlainList, Shared};
@@ -46,9 +47,11 @@ impl Model for Part {
 }
 
 impl Part {
-    ghost use Rattle.std.specs.Prelude.{◌≡◌, ℕ, [], ◌∷◌, IfErr, OnOk, IsSome};
+    ghost use Rattle.std.specs.Prelude.{◌≡◌, ℕ, true, [], ◌∷◌, IsTrue, ◌↔◌, IfErr, OnOk, IsSome};
+    ghost use Rattle.std.specs.List.{Contains};
     ghost use Rattle.rl_parts.specs.StreamParts.{IsPart, unwritten};
-    ghost use Rattle.rl_parts.specs.StoreUse.{Grown, IsKept, FlushCause};
+    ghost use Rattle.rl_parts.specs.StoreUse.{Looked, Grown, IsKept, Right, ReadCause, FlushCause};
+    ghost use Rattle.rl_parts.specs.Reading.{IsOutside, in_memory, in_store};
     ghost use Rattle.rl_parts.specs.Changes.{AreNoted};
 
     // A part that no store has.
@@ -80,5 +83,35 @@ impl Part {
         };
         self.place = Place::InStore(written);
         Ok(())
+    }
+
+    // Whether the part has the entry in memory.
+    pub(crate) fn has_here(&self, entry: &Entry) -> bool
+        requires { IsPart entry.now.labels self.now }
+        ensures { IsTrue result ↔ Contains (in_memory self.now) entry.now }
+    {
+        match &self.place {
+            Place::Here(entries) => has_entry(entries.as_slice(), entry),
+            Place::InStore(_) => false,
+        }
+    }
+
+    // Whether a store has the entry in this part.
+    pub(crate) fn has_there<S: Store>(
+        &self,
+        alloc: Global,
+        store: &mut S,
+        entry: &Entry,
+    ) -> Result<bool, ReadFault>
+        requires { IsPart entry.now.labels self.now }
+        ensures looked { Looked (S.seen store.old) (S.seen store.new) }
+        ensures cause { IfErr result (ReadCause (S.seen store.old) (S.seen store.new)) }
+        ensures unread { IsOutside entry.now.timestamp entry.now.timestamp self.now → S.seen store.new ≡ S.seen store.old }
+        ensures right { (next : ℕ) → IsKept (S.seen store.old) next entry.now.labels self.now → (S.seen store.old).honest ≡ true → Right result (λ found. IsTrue found ↔ Contains (in_store self.now) entry.now) }
+    {
+        match &self.place {
+            Place::Here(_) => Ok(false),
+            Place::InStore(written) => has_written(alloc, store, written, entry),
+        }
     }
 }

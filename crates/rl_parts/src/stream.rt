@@ -1,10 +1,11 @@
 //! One stream as its parts.
-ghost use Rattle.std.specs.Prelude.{◌≡◌, ◌<◌, ◌≤◌, max, [], ◌∷◌, length, OnOk, OnErr, IfOk, IfErr};
+ghost use Rattle.std.specs.Prelude.{◌≡◌, ℕ, ◌<◌, ◌≤◌, max, true, [], ◌∷◌, length, IsTrue, ◌↔◌, Ok, OnOk, OnErr, IfOk, IfErr};
 
-use crate::fault::FlushFault;
+use crate::fault::{FlushFault, ReadFault};
 use crate::flushing::write_parts;
 use crate::part::Part;
 use crate::sealing::{later, put, seal_head};
+use crate::searching::{any_here, any_there, has_entry, is_above};
 use rl_chunks::Store;
 use rl_labels::{Entry, Labels, Ns};
 use rl_plain::{Shared, TryCopy};
@@ -43,7 +44,8 @@ impl Model for Stream {
 impl Stream {
     ghost use Rattle.std.specs.List.{Contains};
     ghost use Rattle.rl_parts.specs.StreamParts.{entries_of, notes_of, most_entries};
-    ghost use Rattle.rl_parts.specs.StoreUse.{Grown, AreKept, FlushCause};
+    ghost use Rattle.rl_parts.specs.StoreUse.{Looked, Grown, AreKept, Right, ReadCause, FlushCause};
+    ghost use Rattle.rl_parts.specs.Reading.{NoneReaches, entries_here};
     ghost use Rattle.rl_parts.specs.Changes.{IsInserted, AreSealed, AreNoted, unwritten_count};
 
     /// A stream of one entry. It is sealed at once where a part has no more than one.
@@ -142,5 +144,32 @@ impl Stream {
         ensures cause { IfErr result (FlushCause (S.seen store.old) (S.seen store.new) next.new) }
     {
         write_parts(alloc, store, &self.labels, &mut self.parts, next)
+    }
+
+    /// Whether the stream has an entry with its labels. Entries in memory are found first, whatever the store does. A part
+    /// that a store has is read only where its range of time, both ends included, has the entry's timestamp.
+    pub fn holds<S: Store>(
+        &self,
+        alloc: Global,
+        store: &mut S,
+        entry: &Entry,
+    ) -> Result<bool, ReadFault>
+        requires { entry.now.labels ≡ self.now.labels }
+        ensures looked { Looked (S.seen store.old) (S.seen store.new) }
+        ensures cause { IfErr result (ReadCause (S.seen store.old) (S.seen store.new)) }
+        ensures here { Contains (entries_here self.now) entry.now → (result ≡ Ok true) × (S.seen store.new ≡ S.seen store.old) }
+        ensures unread { NoneReaches entry.now.timestamp entry.now.timestamp self.now → S.seen store.new ≡ S.seen store.old }
+        ensures right { (next : ℕ) → AreKept (S.seen store.old) next self.now → (S.seen store.old).honest ≡ true → Right result (λ found. IsTrue found ↔ Contains (entries_of self.now) entry.now) }
+    {
+        if has_entry(&self.head, entry) {
+            return Ok(true);
+        }
+        if is_above(self.sealed_to, entry.timestamp) {
+            return Ok(false);
+        }
+        if any_here(&self.parts, entry) {
+            return Ok(true);
+        }
+        any_there(alloc, store, &self.parts, entry)
     }
 }

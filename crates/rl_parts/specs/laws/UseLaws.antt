@@ -6,7 +6,11 @@ use Rattle.std.specs.FinMap as map
 use Rattle.rl_labels.specs.LabelSet.{LabelSet}
 use Rattle.rl_chunks.specs.StoreState.{Seen}
 use Rattle.rl_parts.specs.StreamParts.{Note, PartView, StreamView, chunk_of, listed, notes_of}
-use Rattle.rl_parts.specs.StoreUse.{FaultsRise, FaultCame, Looked, Grown, IsNoteOf, IsKept, AreKept}
+use Rattle.rl_parts.specs.StoreUse.{FaultsRise, FaultCame, Looked, Grown, IsNoteOf, IsKept, AreKept, ReadCause, FlushCause}
+use Rattle.rl_parts.specs.declared.fault.ReadFault.{ReadFault}
+use Rattle.rl_parts.specs.declared.fault.ReadFault.TheVariants as reads
+use Rattle.rl_parts.specs.declared.fault.FlushFault.{FlushFault}
+use Rattle.rl_parts.specs.declared.fault.FlushFault.TheVariants as flushes
 
 -- no call at all
 pub Looked-none : (seen : Seen) → Looked seen seen
@@ -90,3 +94,14 @@ AreKept-unwritten seen next labels (part ∷ parts) none = (at part.note none, A
 pub AreKept-append : (seen : Seen) (next : ℕ) (labels : LabelSet) (parts others : List PartView) → AllByRecursion (IsKept seen next labels) parts → AllByRecursion (IsKept seen next labels) others → AllByRecursion (IsKept seen next labels) (parts ++ others)
 AreKept-append seen next labels [] others h k = k
 AreKept-append seen next labels (part ∷ parts) others h k = (h.0, AreKept-append seen next labels parts others h.1 k)
+
+-- a cause stays one behind other calls
+pub ReadCause-after : (a b c : Seen) (fault : ReadFault) → FaultsRise a.faults b.faults → ReadCause b c fault → ReadCause a c fault
+ReadCause-after a b c reads.Fault rise cause = FaultCame-after a.faults b.faults c.faults rise cause
+ReadCause-after a b c reads.Damaged rise cause = tt
+ReadCause-after a b c reads.Memory rise cause = tt
+
+pub FlushCause-after : (a b c : Seen) (next : ℕ) (fault : FlushFault) → FaultsRise a.faults b.faults → FlushCause b c next fault → FlushCause a c next fault
+FlushCause-after a b c next flushes.Fault rise cause = FaultCame-after a.faults b.faults c.faults rise cause
+FlushCause-after a b c next flushes.NumbersSpent rise cause = cause
+FlushCause-after a b c next flushes.Memory rise cause = tt

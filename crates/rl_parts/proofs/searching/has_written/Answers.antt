@@ -1,0 +1,45 @@
+-- The range of time tells, and else the lines of the chunk.
+use Rattle.std.proofs.Common.{◌≡◌, List, map, refl, sym, ap, subst, ◌∙◌}
+use Rattle.std.specs.Prelude.{IsTrue, ◌↔◌}
+use Rattle.std.specs.List.{Contains}
+use Rattle.std.proofs.lemmas.Result.{err_from_is_err_and}
+use Rattle.rl_chunks.specs.ChunkText.{chunk_text}
+use Rattle.rl_chunks.specs.EntryLines.{line_of}
+use Rattle.rl_chunks.specs.declared.chunk.Chunk.{Chunk}
+use Rattle.rl_chunks.specs.declared.format.Format.TheVariants.{Short}
+use Rattle.rl_chunks.specs.declared.line.Line.{Line}
+use Rattle.rl_parts.specs.StreamParts.{chunk_of}
+use Rattle.rl_parts.proofs.Finding.{no, line_found, line_there}
+use Rattle.rl_parts.proofs.Times.{outside, reaches}
+use Rattle.rl_parts.proofs.Wayout.{right_on}
+use Rattle.rl_parts.proofs.searching.has_written.Goals as goal
+
+pub returns-then-is_outside-clause-right : goal.returns-then-is_outside-clause-right
+returns-then-is_outside-clause-right g c = λ next is honest.
+    no (outside c.args.entry.now.labels c.args.written.now.entries.value c.args.written.now.first c.args.written.now.last c.args.entry.now c.requires.part.run c.requires.range (c.is_outside.ensures.out c.if-is_outside.true))
+
+pub returns-in_err-chunk-clause-unread : goal.returns-in_err-chunk-clause-unread
+returns-in_err-chunk-clause-unread g c = λ apart.
+    let within = c.is_outside.ensures.reaches c.if-is_outside.false in
+    absurd (reaches c.args.written.now.entries.value c.args.written.now.first c.args.written.now.last c.args.entry.now.timestamp c.args.entry.now.timestamp c.requires.range c.requires.part.some within.0 within.1 apart)
+
+pub returns-in_err-chunk-clause-right : goal.returns-in_err-chunk-clause-right
+returns-in_err-chunk-clause-right g c = λ next is honest.
+    let p = err_from_is_err_and c.from_residual.result c.from_residual.ensures.1 in
+    let chunk = chunk_of c.args.entry.now.labels c.args.written.now.entries.value in
+    rw (p.1, p.2) (right_on c.in_err-chunk.field-0.0 _ _ (c.in_err-chunk.ensures.right (chunk_text Short chunk) chunk honest (is.kept honest) (sym is.digest) is.read))
+
+pub returns-clause-unread : goal.returns-clause-unread
+returns-clause-unread g c = λ apart.
+    let within = c.is_outside.ensures.reaches c.if-is_outside.false in
+    absurd (reaches c.args.written.now.entries.value c.args.written.now.first c.args.written.now.last c.args.entry.now.timestamp c.args.entry.now.timestamp c.requires.range c.requires.part.some within.0 within.1 apart)
+
+pub returns-clause-right : goal.returns-clause-right
+returns-clause-right g c = λ next is honest.
+    let entries = c.args.written.now.entries.value in
+    let entry = c.args.entry.now in
+    let chunk = chunk_of entry.labels entries in
+    let same : c.in_ok-chunk.chunk ≡ chunk = c.in_ok-chunk.ensures.right (chunk_text Short chunk) chunk honest (is.kept honest) (sym is.digest) is.read in
+    let lines : c.as_slice.result.now ≡ map line_of entries = c.as_slice.ensures ∙ ap (λ (ch : Chunk). ch.lines) same in
+    let told : IsTrue c.has_line.result ↔ Contains (map line_of entries) (line_of entry) = subst (λ (ls : List Line). IsTrue c.has_line.result ↔ Contains ls (line_of entry)) lines c.has_line.ensures in
+    (λ t. line_found entry.labels entries entry c.requires.part.run.labels refl (told.0 t), λ there. told.1 (line_there entries entry there))

@@ -1,0 +1,70 @@
+-- The head, the parts in memory and those in a store are all entries.
+use Rattle.std.proofs.Common.{◌≡◌, List, true, false, inl, inr, sym, ap, subst, ◌∙◌}
+use Rattle.std.specs.Prelude.{IsTrue, ◌↔◌}
+use Rattle.std.specs.List.{AllByRecursion, Contains, flat_map}
+use Rattle.std.proofs.lemmas.List.Elements.{Contains-append_left, Contains-append_right, Contains-append_cases}
+use Rattle.rl_labels.specs.LabelSet.{LabelSet}
+use Rattle.rl_labels.specs.declared.entry.Entry.{Entry}
+use Rattle.rl_parts.specs.StreamParts.{PartView, StreamView, entries_of}
+use Rattle.rl_parts.specs.StoreUse.{IsKept, AreKept}
+use Rattle.rl_parts.specs.Reading.{entries_here, in_memory, in_store}
+use Rattle.rl_parts.proofs.Finding.{yes, no, not_both, above_all, of_memory, of_rest}
+use Rattle.rl_parts.proofs.Wayout.{right_then}
+use Rattle.rl_parts.proofs.stream.Stream.holds.Goals as goal
+
+pub returns-then-has_entry-clause-right : goal.returns-then-has_entry-clause-right
+returns-then-has_entry-clause-right g c = λ next kept honest.
+    let there : Contains c.self.inside.head.items c.args.entry.now = subst (λ (es : List Entry). Contains es c.args.entry.now) c.deref.ensures.value (c.has_entry.ensures.0 c.if-has_entry.true) in
+    subst (λ (s : StreamView). IsTrue true ↔ Contains (entries_of s) c.args.entry.now) c.self.view_is (yes (Contains-append_right (flat_map (λ part. part.entries) c.self.inside.parts.items) c.self.inside.head.items c.args.entry.now there))
+
+pub returns-then-is_above-clause-here : goal.returns-then-is_above-clause-here
+returns-then-is_above-clause-here g c = λ there.
+    let entry = c.args.entry.now in
+    let no_head : Contains c.self.inside.head.items entry → ⊥ = λ h. not_both (c.has_entry.ensures.1 (subst (λ (es : List Entry). Contains es entry) (sym c.deref.ensures.value) h)) c.if-has_entry.false in
+    elim (Contains-append_cases (flat_map in_memory c.self.inside.parts.items) c.self.inside.head.items entry (subst (λ (s : StreamView). Contains (entries_here s) entry) (sym c.self.view_is) there)) [
+      | inl memory ↦ absurd (above_all c.self.inside.sealed_to c.self.inside.parts.items entry c.self.invariant.up_to (c.is_above.ensures c.if-is_above.true) (of_memory c.self.inside.parts.items entry memory))
+      | inr head ↦ absurd (no_head head)
+    ]
+
+pub returns-then-is_above-clause-right : goal.returns-then-is_above-clause-right
+returns-then-is_above-clause-right g c = λ next kept honest.
+    let entry = c.args.entry.now in
+    let no_head : Contains c.self.inside.head.items entry → ⊥ = λ h. not_both (c.has_entry.ensures.1 (subst (λ (es : List Entry). Contains es entry) (sym c.deref.ensures.value) h)) c.if-has_entry.false in
+    subst (λ (s : StreamView). IsTrue false ↔ Contains (entries_of s) entry) c.self.view_is
+    (no (λ there. elim (Contains-append_cases (flat_map (λ part. part.entries) c.self.inside.parts.items) c.self.inside.head.items entry there) [
+      | inl here ↦ above_all c.self.inside.sealed_to c.self.inside.parts.items entry c.self.invariant.up_to (c.is_above.ensures c.if-is_above.true) here
+      | inr head ↦ no_head head
+    ]))
+
+pub returns-then-any_here-clause-right : goal.returns-then-any_here-clause-right
+returns-then-any_here-clause-right g c = λ next kept honest.
+    let entry = c.args.entry.now in
+    let there : Contains (flat_map in_memory c.self.inside.parts.items) entry = subst (λ (ps : List PartView). Contains (flat_map in_memory ps) entry) c.deref-2.ensures.value (c.any_here.ensures.0 c.if-any_here.true) in
+    subst (λ (s : StreamView). IsTrue true ↔ Contains (entries_of s) entry) c.self.view_is
+    (yes (Contains-append_left (flat_map (λ part. part.entries) c.self.inside.parts.items) c.self.inside.head.items entry (of_memory c.self.inside.parts.items entry there)))
+
+pub returns-clause-here : goal.returns-clause-here
+returns-clause-here g c = λ there.
+    let entry = c.args.entry.now in
+    let no_head : Contains c.self.inside.head.items entry → ⊥ = λ h. not_both (c.has_entry.ensures.1 (subst (λ (es : List Entry). Contains es entry) (sym c.deref.ensures.value) h)) c.if-has_entry.false in
+    let no_memory : Contains (flat_map in_memory c.self.inside.parts.items) entry → ⊥ = λ h. not_both (c.any_here.ensures.1 (subst (λ (ps : List PartView). Contains (flat_map in_memory ps) entry) (sym c.deref-2.ensures.value) h)) c.if-any_here.false in
+    elim (Contains-append_cases (flat_map in_memory c.self.inside.parts.items) c.self.inside.head.items entry (subst (λ (s : StreamView). Contains (entries_here s) entry) (sym c.self.view_is) there)) [
+      | inl memory ↦ absurd (no_memory memory)
+      | inr head ↦ absurd (no_head head)
+    ]
+
+pub returns-clause-right : goal.returns-clause-right
+returns-clause-right g c = λ next kept honest.
+    let entry = c.args.entry.now in
+    let seen = g.S.Store.seen c.args.store.now in
+    let parts = c.self.inside.parts.items in
+    let head = c.self.inside.head.items in
+    let no_head : Contains head entry → ⊥ = λ h. not_both (c.has_entry.ensures.1 (subst (λ (es : List Entry). Contains es entry) (sym c.deref.ensures.value) h)) c.if-has_entry.false in
+    let no_memory : Contains (flat_map in_memory parts) entry → ⊥ = λ h. not_both (c.any_here.ensures.1 (subst (λ (ps : List PartView). Contains (flat_map in_memory ps) entry) (sym c.deref-2.ensures.value) h)) c.if-any_here.false in
+    let are : AllByRecursion (IsKept seen next c.self.inside.labels) parts = subst (λ (s : StreamView). AreKept seen next s) (sym c.self.view_is) kept in
+    let of : c.self.inside.labels ≡ entry.labels = ap (λ (s : StreamView). s.labels) c.self.view_is ∙ sym c.requires in
+    let now : AllByRecursion (IsKept seen next entry.labels) c.deref-3.result.now = subst (λ (ps : List PartView). AllByRecursion (IsKept seen next entry.labels) ps) (sym c.deref-3.ensures.value) (subst (λ (set : LabelSet). AllByRecursion (IsKept seen next set) parts) of are) in
+    right_then (λ found. IsTrue found ↔ Contains (flat_map in_store c.deref-3.result.now) entry) (λ found. IsTrue found ↔ Contains (entries_of c.args.self.now) entry)
+    (λ found told. subst (λ (s : StreamView). IsTrue found ↔ Contains (entries_of s) entry) c.self.view_is
+    (of_rest parts head entry no_head no_memory found (subst (λ (ps : List PartView). IsTrue found ↔ Contains (flat_map in_store ps) entry) c.deref-3.ensures.value told)))
+    c.any_there.result (c.any_there.ensures.right next now honest)

@@ -1,0 +1,124 @@
+//! Whether a stream has an entry.
+ghost use Rattle.std.specs.Prelude.{◌≡◌, ℕ, ◌<◌, ◌≤◌, ◌⊎◌, true, false, IsTrue, ◌↔◌, IfErr};
+ghost use Rattle.std.specs.Option.{unwrap_or};
+ghost use Rattle.std.specs.List.{AllByRecursion, Contains, flat_map};
+ghost use Rattle.std.specs.List.Sorted.{IsStrictlySortedBy};
+ghost use Rattle.rl_labels.specs.EntryOrder.{entry_cmp};
+ghost use Rattle.rl_chunks.specs.EntryLines.{line_of};
+ghost use Rattle.rl_parts.specs.StreamParts.{IsPart, unwritten, chunk_of};
+ghost use Rattle.rl_parts.specs.PartState.{IsRange};
+ghost use Rattle.rl_parts.specs.StoreUse.{Looked, IsKept, IsNoteOf, Right, ReadCause};
+ghost use Rattle.rl_parts.specs.Reading.{IsApart, IsOutside, in_memory, in_store};
+
+use crate::fault::ReadFault;
+use crate::fetching::fetch;
+use crate::part::{Part, Written};
+use crate::sealing::search;
+use rl_chunks::{Line, Store};
+use rl_labels::{Entry, Ns};
+use rl_plain::Shared;
+use std::alloc::Global;
+
+// Whether entries in order have this one.
+pub(crate) fn has_entry(entries: &[Shared<Entry>], entry: &Entry) -> bool
+    requires { IsStrictlySortedBy entry_cmp entries.now }
+    ensures { IsTrue result ↔ Contains entries.now entry.now }
+{
+    match search(entries, entry) {
+        Ok(_) => true,
+        Err(_) => false,
+    }
+}
+
+// Whether the line is that of the entry.
+fn is_line_of(line: &Line, entry: &Entry) -> bool
+    ensures { IsTrue result ↔ (line.now ≡ line_of entry.now) }
+{
+    line.timestamp == entry.timestamp && line.text == entry.line
+}
+
+// Whether the line of the entry is among the lines.
+fn has_line(lines: &[Line], entry: &Entry) -> bool
+    ensures { IsTrue result ↔ Contains lines.now (line_of entry.now) }
+{
+    for line in lines {
+        if is_line_of(line, entry) {
+            return true;
+        }
+    }
+    false
+}
+
+// Whether a timestamp is above the newest one of the parts.
+pub(crate) fn is_above(sealed_to: Option<Ns>, timestamp: Ns) -> bool
+    ensures { result ≡ true → unwrap_or sealed_to 0 < timestamp }
+{
+    match sealed_to {
+        Some(newest) => newest < timestamp,
+        None => false,
+    }
+}
+
+// Whether none of a written part's entries is in a range of time, both ends included.
+pub(crate) fn is_outside(written: &Written, from: Ns, to: Ns) -> bool
+    ensures out { result ≡ true → (written.now.last < from) ⊎ (to < written.now.first) }
+    ensures reaches { result ≡ false → (from ≤ written.now.last) × (written.now.first ≤ to) }
+{
+    written.last < from || to < written.first
+}
+
+// Whether the entry is among those that a store has of a part. The store is read only where the part's range of time has
+// the entry's timestamp.
+pub(crate) fn has_written<S: Store>(
+    alloc: Global,
+    store: &mut S,
+    written: &Written,
+    entry: &Entry,
+) -> Result<bool, ReadFault>
+    requires part { IsPart entry.now.labels (unwritten written.now.entries.value) }
+    requires range { IsRange written.now.entries.value written.now.first written.now.last }
+    ensures looked { Looked (S.seen store.old) (S.seen store.new) }
+    ensures cause { IfErr result (ReadCause (S.seen store.old) (S.seen store.new)) }
+    ensures unread { IsApart entry.now.timestamp entry.now.timestamp written.now.entries.value → S.seen store.new ≡ S.seen store.old }
+    ensures right { (next : ℕ) → IsNoteOf (S.seen store.old) next (chunk_of entry.now.labels written.now.entries.value) (record { number = written.now.number; digest = written.now.digest }) → (S.seen store.old).honest ≡ true → Right result (λ found. IsTrue found ↔ Contains written.now.entries.value entry.now) }
+{
+    if is_outside(written, entry.timestamp, entry.timestamp) {
+        return Ok(false);
+    }
+    let chunk = fetch(alloc, store, written.number, &written.digest)?;
+    Ok(has_line(chunk.lines.as_slice(), entry))
+}
+
+// Whether a part in memory has the entry.
+pub(crate) fn any_here(parts: &[Part], entry: &Entry) -> bool
+    requires { AllByRecursion (IsPart entry.now.labels) parts.now }
+    ensures { IsTrue result ↔ Contains (flat_map in_memory parts.now) entry.now }
+{
+    for part in parts {
+        if part.has_here(entry) {
+            return true;
+        }
+    }
+    false
+}
+
+// Whether a store has the entry in a part.
+pub(crate) fn any_there<S: Store>(
+    alloc: Global,
+    store: &mut S,
+    parts: &[Part],
+    entry: &Entry,
+) -> Result<bool, ReadFault>
+    requires { AllByRecursion (IsPart entry.now.labels) parts.now }
+    ensures looked { Looked (S.seen store.old) (S.seen store.new) }
+    ensures cause { IfErr result (ReadCause (S.seen store.old) (S.seen store.new)) }
+    ensures unread { AllByRecursion (IsOutside entry.now.timestamp entry.now.timestamp) parts.now → S.seen store.new ≡ S.seen store.old }
+    ensures right { (next : ℕ) → AllByRecursion (IsKept (S.seen store.old) next entry.now.labels) parts.now → (S.seen store.old).honest ≡ true → Right result (λ found. IsTrue found ↔ Contains (flat_map in_store parts.now) entry.now) }
+{
+    for part in parts {
+        if part.has_there(alloc, store, entry)? {
+            return Ok(true);
+        }
+    }
+    Ok(false)
+}
