@@ -1,4 +1,5 @@
 pub mod Finding
+pub mod Handing
 pub mod Heads
 pub mod InOrder
 pub mod Lines

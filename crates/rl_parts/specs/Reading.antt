@@ -20,6 +20,10 @@ told entry = (entry.labels, line_of entry)
 abbrev pub told_in_range : ℕ → ℕ → List Entry → List (LabelSet × Line)
 told_in_range from to entries = map told (filter (is_in_range from to) entries)
 
+-- lines of the range, as they are handed out with labels
+abbrev pub lines_in_range : LabelSet → ℕ → ℕ → List Line → List (LabelSet × Line)
+lines_in_range labels from to lines = map (λ line. (labels, line)) (filter (λ line. nat_le from line.timestamp && nat_le line.timestamp to) lines)
+
 -- the entries are all before the range, or all behind it
 abbrev pub IsApart : ℕ → ℕ → List Entry → Type 0
 IsApart from to entries = All (λ entry. entry.timestamp < from) entries ⊎ All (λ entry. to < entry.timestamp) entries

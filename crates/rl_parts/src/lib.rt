@@ -10,6 +10,7 @@
 pub mod fault;
 pub mod fetching;
 mod flushing;
+mod handing_out;
 pub mod part;
 mod sealing;
 mod searching;

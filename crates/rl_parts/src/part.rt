@@ -1,7 +1,9 @@
 //! Sealed entries of a stream, in memory or in a store.
 use crate::fault::{FlushFault, ReadFault};
 use crate::flushing::write_entries;
+use crate::handing_out::{hand_all, hand_written};
 use crate::searching::{has_entry, has_written};
+use crate::taker::Taker;
 use rl_chunks::Store;
 use rl_labels::{Entry, Labels, Ns};
 use rl_plain::{PlainList, Shared};
@@ -47,11 +49,11 @@ impl Model for Part {
 }
 
 impl Part {
-    ghost use Rattle.std.specs.Prelude.{◌≡◌, ℕ, true, [], ◌∷◌, IsTrue, ◌↔◌, IfErr, OnOk, IsSome};
+    ghost use Rattle.std.specs.Prelude.{◌≡◌, ℕ, true, [], ◌∷◌, ◌++◌, IsTrue, ◌↔◌, IfErr, OnOk, IsSome};
     ghost use Rattle.std.specs.List.{Contains};
     ghost use Rattle.rl_parts.specs.StreamParts.{IsPart, unwritten};
     ghost use Rattle.rl_parts.specs.StoreUse.{Looked, Grown, IsKept, Right, ReadCause, FlushCause};
-    ghost use Rattle.rl_parts.specs.Reading.{IsOutside, in_memory, in_store};
+    ghost use Rattle.rl_parts.specs.Reading.{IsOutside, in_memory, in_store, told_in_range};
     ghost use Rattle.rl_parts.specs.Changes.{AreNoted};
 
     // A part that no store has.
@@ -113,5 +115,31 @@ impl Part {
             Place::Here(_) => Ok(false),
             Place::InStore(written) => has_written(alloc, store, written, entry),
         }
+    }
+
+    // Hands out the entries of the range.
+    pub(crate) fn hand_out<S: Store, T: Taker>(
+        &self,
+        alloc: Global,
+        store: &mut S,
+        labels: &Labels,
+        from: Ns,
+        to: Ns,
+        taker: &mut T,
+    ) -> Result<(), ReadFault>
+        requires { IsPart labels.now self.now }
+        ensures looked { Looked (S.seen store.old) (S.seen store.new) }
+        ensures cause { IfErr result (ReadCause (S.seen store.old) (S.seen store.new)) }
+        ensures unread { IsOutside from to self.now → S.seen store.new ≡ S.seen store.old }
+        ensures told { IsOutside from to self.now → OnOk result (T.taken taker.new ≡ T.taken taker.old ++ told_in_range from to self.now.entries) }
+        ensures right { (next : ℕ) → IsKept (S.seen store.old) next labels.now self.now → (S.seen store.old).honest ≡ true → Right result (λ _. T.taken taker.new ≡ T.taken taker.old ++ told_in_range from to self.now.entries) }
+    {
+        match &self.place {
+            Place::Here(entries) => hand_all(labels, entries.as_slice(), from, to, taker)?,
+            Place::InStore(written) => {
+                return hand_written(alloc, store, written, labels, from, to, taker);
+            }
+        }
+        Ok(())
     }
 }

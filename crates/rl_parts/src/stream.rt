@@ -1,11 +1,13 @@
 //! One stream as its parts.
-ghost use Rattle.std.specs.Prelude.{◌≡◌, ℕ, ◌<◌, ◌≤◌, max, true, [], ◌∷◌, length, IsTrue, ◌↔◌, Ok, OnOk, OnErr, IfOk, IfErr};
+ghost use Rattle.std.specs.Prelude.{◌≡◌, ℕ, ◌<◌, ◌≤◌, max, true, [], ◌∷◌, ◌++◌, length, IsTrue, ◌↔◌, Ok, OnOk, OnErr, IfOk, IfErr};
 
 use crate::fault::{FlushFault, ReadFault};
 use crate::flushing::write_parts;
+use crate::handing_out::{hand_all, hand_parts};
 use crate::part::Part;
 use crate::sealing::{later, put, seal_head};
 use crate::searching::{any_here, any_there, has_entry, is_above};
+use crate::taker::Taker;
 use rl_chunks::Store;
 use rl_labels::{Entry, Labels, Ns};
 use rl_plain::{Shared, TryCopy};
@@ -45,7 +47,7 @@ impl Stream {
     ghost use Rattle.std.specs.List.{Contains};
     ghost use Rattle.rl_parts.specs.StreamParts.{entries_of, notes_of, most_entries};
     ghost use Rattle.rl_parts.specs.StoreUse.{Looked, Grown, AreKept, Right, ReadCause, FlushCause};
-    ghost use Rattle.rl_parts.specs.Reading.{NoneReaches, entries_here};
+    ghost use Rattle.rl_parts.specs.Reading.{NoneReaches, entries_here, told_in_range};
     ghost use Rattle.rl_parts.specs.Changes.{IsInserted, AreSealed, AreNoted, unwritten_count};
 
     /// A stream of one entry. It is sealed at once where a part has no more than one.
@@ -171,5 +173,26 @@ impl Stream {
             return Ok(true);
         }
         any_there(alloc, store, &self.parts, entry)
+    }
+
+    /// Hands out the entries of a range of time, both ends included: part by part and then the head, each once and in
+    /// order. A part that a store has is read only where its range of time reaches into the range.
+    pub fn each<S: Store, T: Taker>(
+        &self,
+        alloc: Global,
+        store: &mut S,
+        from: Ns,
+        to: Ns,
+        taker: &mut T,
+    ) -> Result<(), ReadFault>
+        ensures looked { Looked (S.seen store.old) (S.seen store.new) }
+        ensures cause { IfErr result (ReadCause (S.seen store.old) (S.seen store.new)) }
+        ensures unread { NoneReaches from to self.now → S.seen store.new ≡ S.seen store.old }
+        ensures told { NoneReaches from to self.now → OnOk result (T.taken taker.new ≡ T.taken taker.old ++ told_in_range from to (entries_of self.now)) }
+        ensures right { (next : ℕ) → AreKept (S.seen store.old) next self.now → (S.seen store.old).honest ≡ true → Right result (λ _. T.taken taker.new ≡ T.taken taker.old ++ told_in_range from to (entries_of self.now)) }
+    {
+        hand_parts(alloc, store, &self.labels, &self.parts, from, to, taker)?;
+        hand_all(&self.labels, &self.head, from, to, taker)?;
+        Ok(())
     }
 }

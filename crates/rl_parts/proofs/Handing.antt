@@ -1,0 +1,75 @@
+-- The entries of a range, as they are handed out.
+use Rattle.std.proofs.Common.{◌≡◌, ℕ, ◌+◌, ◌-◌, ◌<◌, ◌≤◌, ◌⊎◌, inl, inr, leb, ◌&&◌, true, false, Bool, cond, List, [], ◌∷◌, ◌++◌, length, get_or, take, map, refl, sym, ap, ◌∙◌, append-nil, append_assoc, arith}
+use Rattle.std.specs.List.{All, AllByRecursion, filter, flat_map}
+use Rattle.std.proofs.lemmas.Bool.Decides.{nat_tests}
+use Rattle.std.proofs.lemmas.List.{map-append, take_more}
+use Rattle.std.proofs.lemmas.List.Concat.{flat_map-append}
+use Rattle.std.proofs.lemmas.List.Elements.{filter-append, recursion_from_All}
+use Rattle.rl_labels.specs.LabelSet.{LabelSet}
+use Rattle.rl_labels.specs.declared.entry.Entry.{Entry}
+use Rattle.rl_chunks.specs.EntryLines.{line_of}
+use Rattle.rl_chunks.specs.declared.line.Line.{Line}
+use Rattle.rl_parts.specs.StreamParts.{PartView, IsRun}
+use Rattle.rl_parts.specs.PartState.{timestamp_at, IsRange}
+use Rattle.rl_parts.specs.Reading.{is_in_range, told, told_in_range, lines_in_range}
+use Rattle.rl_parts.proofs.Times.{up_to_last, from_first}
+
+pub lines-append : (set : LabelSet) (from to : ℕ) (xs ys : List Line) → lines_in_range set from to (xs ++ ys) ≡ lines_in_range set from to xs ++ lines_in_range set from to ys
+lines-append set from to xs ys =
+    ap (map (λ (line : Line). (set, line))) (filter-append (λ (line : Line). leb from line.timestamp && leb line.timestamp to) xs ys)
+    ∙ map-append (λ (line : Line). (set, line)) (filter (λ line. leb from line.timestamp && leb line.timestamp to) xs) (filter (λ line. leb from line.timestamp && leb line.timestamp to) ys)
+
+pub told-append : (from to : ℕ) (xs ys : List Entry) → told_in_range from to (xs ++ ys) ≡ told_in_range from to xs ++ told_in_range from to ys
+told-append from to xs ys = ap (map told) (filter-append (is_in_range from to) xs ys) ∙ map-append told (filter (is_in_range from to) xs) (filter (is_in_range from to) ys)
+
+-- one line more
+pub line_more : {A : Type 0} (line : A → Line) (set : LabelSet) (from to : ℕ) (xs : List A) (i : ℕ) (x : A) (start taken now : List (LabelSet × Line)) → i < length xs → x ≡ get_or xs i x
+    → taken ≡ start ++ lines_in_range set from to (map line (take i xs)) → now ≡ taken ++ lines_in_range set from to (line x ∷ []) → now ≡ start ++ lines_in_range set from to (map line (take (i + 1) xs))
+line_more line set from to xs i x start taken now within is so_far one =
+    let front : take (i + 1) xs ≡ take i xs ++ x ∷ [] = take_more xs i x within ∙ ap (λ y. take i xs ++ y ∷ []) (sym is) in
+    let all : lines_in_range set from to (map line (take (i + 1) xs)) ≡ lines_in_range set from to (map line (take i xs)) ++ lines_in_range set from to (line x ∷ []) =
+    ap (λ ys. lines_in_range set from to (map line ys)) front ∙ ap (lines_in_range set from to) (map-append line (take i xs) (x ∷ [])) ∙ lines-append set from to (map line (take i xs)) (line x ∷ []) in
+    one ∙ ap (λ t. t ++ lines_in_range set from to (line x ∷ [])) so_far ∙ append_assoc start _ _ ∙ ap (λ t. start ++ t) (sym all)
+
+-- one part more
+pub part_more : (from to : ℕ) (parts : List PartView) (i : ℕ) (p : PartView) (start taken now : List (LabelSet × Line)) → i < length parts → p ≡ get_or parts i p
+    → taken ≡ start ++ told_in_range from to (flat_map (λ part. part.entries) (take i parts)) → now ≡ taken ++ told_in_range from to p.entries → now ≡ start ++ told_in_range from to (flat_map (λ part. part.entries) (take (i + 1) parts))
+part_more from to parts i p start taken now within is so_far one =
+    let entries = λ (part : PartView). part.entries in
+    let front : take (i + 1) parts ≡ take i parts ++ p ∷ [] = take_more parts i p within ∙ ap (λ y. take i parts ++ y ∷ []) (sym is) in
+    let all : told_in_range from to (flat_map entries (take (i + 1) parts)) ≡ told_in_range from to (flat_map entries (take i parts)) ++ told_in_range from to p.entries =
+    ap (λ ps. told_in_range from to (flat_map entries ps)) front ∙ ap (told_in_range from to) (flat_map-append entries (take i parts) (p ∷ []) ∙ ap (λ es. flat_map entries (take i parts) ++ es) (append-nil p.entries)) ∙ told-append from to (flat_map entries (take i parts)) p.entries in
+    one ∙ ap (λ t. t ++ told_in_range from to p.entries) so_far ∙ append_assoc start _ _ ∙ ap (λ t. start ++ t) (sym all)
+
+-- lines of entries are handed out as the entries are
+same_told : (set : LabelSet) (from to : ℕ) (entries : List Entry) → AllByRecursion (λ entry. entry.labels ≡ set) entries → lines_in_range set from to (map line_of entries) ≡ told_in_range from to entries
+same_told set from to [] same = refl
+same_told set from to (entry ∷ entries) same = at (is_in_range from to entry) (same_told set from to entries same.1)
+  where
+    at : (b : Bool) → lines_in_range set from to (map line_of entries) ≡ told_in_range from to entries
+        → map (λ line. (set, line)) (cond b (line_of entry ∷ filter (λ line. leb from line.timestamp && leb line.timestamp to) (map line_of entries)) (filter (λ line. leb from line.timestamp && leb line.timestamp to) (map line_of entries)))
+        ≡ map told (cond b (entry ∷ filter (is_in_range from to) entries) (filter (is_in_range from to) entries))
+    at true others = λ i. (sym same.0 i, line_of entry) ∷ others i
+    at false others = others
+
+pub lines_told : (set : LabelSet) (from to : ℕ) (entries : List Entry) → All (λ entry. entry.labels ≡ set) entries → lines_in_range set from to (map line_of entries) ≡ told_in_range from to entries
+lines_told set from to entries same = same_told set from to entries (recursion_from_All (λ entry. entry.labels ≡ set) entries same)
+
+none_told : (from to : ℕ) (entries : List Entry) → AllByRecursion (λ entry. is_in_range from to entry ≡ false) entries → told_in_range from to entries ≡ []
+none_told from to [] out = refl
+none_told from to (entry ∷ entries) out = ap (λ b. map told (cond b (entry ∷ filter (is_in_range from to) entries) (filter (is_in_range from to) entries))) out.0 ∙ none_told from to entries out.1
+
+-- nothing is handed out of entries whose range of time is outside
+pub nothing_told : (set : LabelSet) (xs : List Entry) (first last from to : ℕ) → IsRun set xs → IsRange xs first last → (last < from) ⊎ (to < first) → told_in_range from to xs ≡ []
+nothing_told set xs first last from to run range out = none_told from to xs (recursion_from_All (λ entry. is_in_range from to entry ≡ false) xs (λ k d within. at (get_or xs k d) (up_to_last set xs run k d within) (from_first set xs run k d within) out))
+  where
+    at : (entry : Entry) → entry.timestamp ≤ timestamp_at xs (length xs - 1) → timestamp_at xs 0 ≤ entry.timestamp → (last < from) ⊎ (to < first) → is_in_range from to entry ≡ false
+    at entry low high (inl before) = grind (arith, nat_tests, range.start, range.end)
+    at entry low high (inr behind) = grind (arith, nat_tests, range.start, range.end)
+
+-- parts, and then the head
+pub both_told : (set : LabelSet) (from to : ℕ) (parts : List PartView) (head : List Entry) (start mid now : List (LabelSet × Line)) → All (λ entry. entry.labels ≡ set) head
+    → mid ≡ start ++ told_in_range from to (flat_map (λ part. part.entries) parts) → now ≡ mid ++ lines_in_range set from to (map line_of head) → now ≡ start ++ told_in_range from to (flat_map (λ part. part.entries) parts ++ head)
+both_told set from to parts head start mid now same first second =
+    let all : List Entry = flat_map (λ part. part.entries) parts in
+    second ∙ (λ i. first i ++ lines_told set from to head same i) ∙ append_assoc start (told_in_range from to all) (told_in_range from to head) ∙ ap (λ t. start ++ t) (sym (told-append from to all head))

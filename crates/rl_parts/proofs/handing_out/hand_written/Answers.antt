@@ -1,0 +1,59 @@
+-- The range of time tells that nothing is handed out, and else the lines of the chunk are.
+use Rattle.std.proofs.Common.{◌≡◌, ◌++◌, map, sym, ap, ◌∙◌, append-nil}
+use Rattle.std.proofs.lemmas.List.{map-id}
+use Rattle.std.proofs.lemmas.Result.{err_from_is_err_and}
+use Rattle.rl_chunks.specs.ChunkText.{chunk_text}
+use Rattle.rl_chunks.specs.EntryLines.{line_of}
+use Rattle.rl_chunks.specs.declared.chunk.Chunk.{Chunk}
+use Rattle.rl_chunks.specs.declared.format.Format.TheVariants.{Short}
+use Rattle.rl_parts.specs.StreamParts.{chunk_of}
+use Rattle.rl_parts.specs.Reading.{lines_in_range}
+use Rattle.rl_parts.proofs.Handing.{nothing_told, lines_told}
+use Rattle.rl_parts.proofs.Times.{reaches}
+use Rattle.rl_parts.proofs.Wayout.{right_on}
+use Rattle.rl_parts.proofs.handing_out.hand_written.Goals as goal
+
+pub returns-then-is_outside-clause-told : goal.returns-then-is_outside-clause-told
+returns-then-is_outside-clause-told g c = λ apart.
+    let taken = g.T.Taker.taken c.args.taker.now in
+    sym (ap (λ t. taken ++ t) (nothing_told c.args.labels.now c.args.written.now.entries.value c.args.written.now.first c.args.written.now.last c.args.from c.args.to c.requires.part.run c.requires.range (c.is_outside.ensures.out c.if-is_outside.true)) ∙ append-nil taken)
+
+pub returns-then-is_outside-clause-right : goal.returns-then-is_outside-clause-right
+returns-then-is_outside-clause-right g c = λ next is honest.
+    let taken = g.T.Taker.taken c.args.taker.now in
+    sym (ap (λ t. taken ++ t) (nothing_told c.args.labels.now c.args.written.now.entries.value c.args.written.now.first c.args.written.now.last c.args.from c.args.to c.requires.part.run c.requires.range (c.is_outside.ensures.out c.if-is_outside.true)) ∙ append-nil taken)
+
+pub returns-in_err-chunk-clause-unread : goal.returns-in_err-chunk-clause-unread
+returns-in_err-chunk-clause-unread g c = λ apart.
+    let within = c.is_outside.ensures.reaches c.if-is_outside.false in
+    absurd (reaches c.args.written.now.entries.value c.args.written.now.first c.args.written.now.last c.args.from c.args.to c.requires.range c.requires.part.some within.0 within.1 apart)
+
+pub returns-in_err-chunk-clause-right : goal.returns-in_err-chunk-clause-right
+returns-in_err-chunk-clause-right g c = λ next is honest.
+    let p = err_from_is_err_and c.from_residual.result c.from_residual.ensures.1 in
+    let chunk = chunk_of c.args.labels.now c.args.written.now.entries.value in
+    rw (p.1, p.2) (right_on c.in_err-chunk.field-0.0 _ _ (c.in_err-chunk.ensures.right (chunk_text Short chunk) chunk honest (is.kept honest) (sym is.digest) is.read))
+
+pub returns-in_err-hand_all-clause-unread : goal.returns-in_err-hand_all-clause-unread
+returns-in_err-hand_all-clause-unread g c = λ apart.
+    let within = c.is_outside.ensures.reaches c.if-is_outside.false in
+    absurd (reaches c.args.written.now.entries.value c.args.written.now.first c.args.written.now.last c.args.from c.args.to c.requires.range c.requires.part.some within.0 within.1 apart)
+
+pub returns-clause-unread : goal.returns-clause-unread
+returns-clause-unread g c = λ apart.
+    let within = c.is_outside.ensures.reaches c.if-is_outside.false in
+    absurd (reaches c.args.written.now.entries.value c.args.written.now.first c.args.written.now.last c.args.from c.args.to c.requires.range c.requires.part.some within.0 within.1 apart)
+
+pub returns-clause-told : goal.returns-clause-told
+returns-clause-told g c = λ apart.
+    let within = c.is_outside.ensures.reaches c.if-is_outside.false in
+    absurd (reaches c.args.written.now.entries.value c.args.written.now.first c.args.written.now.last c.args.from c.args.to c.requires.range c.requires.part.some within.0 within.1 apart)
+
+pub returns-clause-right : goal.returns-clause-right
+returns-clause-right g c = λ next is honest.
+    let entries = c.args.written.now.entries.value in
+    let labels = c.args.labels.now in
+    let chunk = chunk_of labels entries in
+    let same : c.in_ok-chunk.chunk ≡ chunk = c.in_ok-chunk.ensures.right (chunk_text Short chunk) chunk honest (is.kept honest) (sym is.digest) is.read in
+    let lines : map (λ line. line) c.as_slice.result.now ≡ map line_of entries = map-id c.as_slice.result.now ∙ c.as_slice.ensures ∙ ap (λ (ch : Chunk). ch.lines) same in
+    c.in_ok-hand_all.ensures ∙ ap (λ t. g.T.Taker.taken c.args.taker.now ++ t) (ap (lines_in_range labels c.args.from c.args.to) lines ∙ lines_told labels c.args.from c.args.to entries c.requires.part.run.labels)

@@ -1,0 +1,31 @@
+-- Entries in memory are their lines, and what is kept of others is a note of their chunk.
+use Rattle.std.proofs.Common.{◌≡◌, ◌++◌, List, map, sym, ap, subst, ◌∙◌}
+use Rattle.rl_labels.specs.declared.entry.Entry.{Entry}
+use Rattle.rl_chunks.specs.EntryLines.{line_of}
+use Rattle.rl_parts.specs.StreamParts.{PartView}
+use Rattle.rl_parts.specs.PartState.{part_at}
+use Rattle.rl_parts.specs.StoreUse.{IsKept, Right}
+use Rattle.rl_parts.specs.Reading.{lines_in_range, told_in_range}
+use Rattle.rl_parts.specs.declared.part.Place.TheVariants.{Here, InStore}
+use Rattle.rl_parts.proofs.Handing.{lines_told}
+use Rattle.rl_parts.proofs.part.Part.hand_out.Goals as goal
+
+pub returns-in-InStore-clause-right : goal.returns-in-InStore-clause-right
+returns-in-InStore-clause-right g c = λ next kept honest.
+    let here : part_at (InStore c.in-InStore.written) ≡ c.args.self.now = ap part_at (sym c.in-InStore.is) ∙ c.self.view_is in
+    subst (λ (p : PartView). Right c.hand_written.result (λ _. g.T.Taker.taken c.hand_written.new.taker ≡ g.T.Taker.taken c.args.taker.now ++ told_in_range c.args.from c.args.to p.entries)) here
+    (c.hand_written.ensures.right next (subst (IsKept (g.S.Store.seen c.args.store.now) next c.args.labels.now) (sym here) kept) honest)
+
+pub returns-clause-told : goal.returns-clause-told
+returns-clause-told g c = λ apart.
+    let here : part_at (Here c.in-Here.entries) ≡ c.args.self.now = ap part_at (sym c.in-Here.is) ∙ c.self.view_is in
+    let entries : c.as_slice.result.now ≡ c.args.self.now.entries = c.as_slice.ensures ∙ ap (λ (p : PartView). p.entries) here in
+    c.in_ok-hand_all-in-Here.ensures ∙ ap (λ t. g.T.Taker.taken c.args.taker.now ++ t)
+    (ap (λ (es : List Entry). lines_in_range c.args.labels.now c.args.from c.args.to (map line_of es)) entries ∙ lines_told c.args.labels.now c.args.from c.args.to c.args.self.now.entries c.requires.run.labels)
+
+pub returns-clause-right : goal.returns-clause-right
+returns-clause-right g c = λ next kept honest.
+    let here : part_at (Here c.in-Here.entries) ≡ c.args.self.now = ap part_at (sym c.in-Here.is) ∙ c.self.view_is in
+    let entries : c.as_slice.result.now ≡ c.args.self.now.entries = c.as_slice.ensures ∙ ap (λ (p : PartView). p.entries) here in
+    c.in_ok-hand_all-in-Here.ensures ∙ ap (λ t. g.T.Taker.taken c.args.taker.now ++ t)
+    (ap (λ (es : List Entry). lines_in_range c.args.labels.now c.args.from c.args.to (map line_of es)) entries ∙ lines_told c.args.labels.now c.args.from c.args.to c.args.self.now.entries c.requires.run.labels)

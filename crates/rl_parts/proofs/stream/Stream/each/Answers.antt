@@ -1,0 +1,51 @@
+-- The parts, and then the head.
+use Rattle.std.proofs.Common.{◌≡◌, ◌++◌, List, map, sym, ap, subst, ◌∙◌}
+use Rattle.std.specs.List.{AllByRecursion, flat_map}
+use Rattle.std.proofs.lemmas.Result.{err_from_is_err_and}
+use Rattle.rl_labels.specs.declared.entry.Entry.{Entry}
+use Rattle.rl_chunks.specs.EntryLines.{line_of}
+use Rattle.rl_parts.specs.StreamParts.{PartView, StreamView, entries_of}
+use Rattle.rl_parts.specs.StoreUse.{IsKept, AreKept}
+use Rattle.rl_parts.specs.Reading.{IsOutside, NoneReaches, lines_in_range, told_in_range}
+use Rattle.rl_parts.proofs.Handing.{both_told}
+use Rattle.rl_parts.proofs.Wayout.{right_on}
+use Rattle.rl_parts.proofs.stream.Stream.each.Goals as goal
+
+pub returns-in_err-hand_parts-clause-right : goal.returns-in_err-hand_parts-clause-right
+returns-in_err-hand_parts-clause-right g c = λ next kept honest.
+    let p = err_from_is_err_and c.from_residual.result c.from_residual.ensures.1 in
+    let seen = g.S.Store.seen c.args.store.now in
+    let are : AllByRecursion (IsKept seen next c.self.inside.labels) c.self.inside.parts.items = subst (λ (s : StreamView). AreKept seen next s) (sym c.self.view_is) kept in
+    let now : AllByRecursion (IsKept seen next c.self.inside.labels) c.deref.result.now = subst (λ (ps : List PartView). AllByRecursion (IsKept seen next c.self.inside.labels) ps) (sym c.deref.ensures.value) are in
+    rw (p.1, p.2) (right_on c.in_err-hand_parts.field-0.0 _ _ (c.in_err-hand_parts.ensures.right next now honest))
+
+pub returns-clause-told : goal.returns-clause-told
+returns-clause-told g c = λ apart.
+    let from = c.args.from in
+    let to = c.args.to in
+    let start = g.T.Taker.taken c.args.taker.now in
+    let mid = g.T.Taker.taken c.hand_parts.new.taker in
+    let out : AllByRecursion (IsOutside from to) c.self.inside.parts.items = subst (λ (s : StreamView). NoneReaches from to s) (sym c.self.view_is) apart in
+    let now : AllByRecursion (IsOutside from to) c.deref.result.now = subst (λ (ps : List PartView). AllByRecursion (IsOutside from to) ps) (sym c.deref.ensures.value) out in
+    let first : mid ≡ start ++ told_in_range from to (flat_map (λ part. part.entries) c.self.inside.parts.items) =
+    c.in_ok-hand_parts.ensures.told now ∙ ap (λ (ps : List PartView). start ++ told_in_range from to (flat_map (λ part. part.entries) ps)) c.deref.ensures.value in
+    let second : g.T.Taker.taken c.hand_all.new.taker ≡ mid ++ lines_in_range c.self.inside.labels from to (map line_of c.self.inside.head.items) =
+    c.in_ok-hand_all.ensures ∙ ap (λ (es : List Entry). mid ++ lines_in_range c.self.inside.labels from to (map line_of es)) c.deref-2.ensures.value in
+    both_told c.self.inside.labels from to c.self.inside.parts.items c.self.inside.head.items start mid (g.T.Taker.taken c.hand_all.new.taker) c.self.invariant.parts.growing.labels first second
+    ∙ ap (λ (s : StreamView). start ++ told_in_range from to (entries_of s)) c.self.view_is
+
+pub returns-clause-right : goal.returns-clause-right
+returns-clause-right g c = λ next kept honest.
+    let from = c.args.from in
+    let to = c.args.to in
+    let seen = g.S.Store.seen c.args.store.now in
+    let start = g.T.Taker.taken c.args.taker.now in
+    let mid = g.T.Taker.taken c.hand_parts.new.taker in
+    let are : AllByRecursion (IsKept seen next c.self.inside.labels) c.self.inside.parts.items = subst (λ (s : StreamView). AreKept seen next s) (sym c.self.view_is) kept in
+    let now : AllByRecursion (IsKept seen next c.self.inside.labels) c.deref.result.now = subst (λ (ps : List PartView). AllByRecursion (IsKept seen next c.self.inside.labels) ps) (sym c.deref.ensures.value) are in
+    let first : mid ≡ start ++ told_in_range from to (flat_map (λ part. part.entries) c.self.inside.parts.items) =
+    c.in_ok-hand_parts.ensures.right next now honest ∙ ap (λ (ps : List PartView). start ++ told_in_range from to (flat_map (λ part. part.entries) ps)) c.deref.ensures.value in
+    let second : g.T.Taker.taken c.hand_all.new.taker ≡ mid ++ lines_in_range c.self.inside.labels from to (map line_of c.self.inside.head.items) =
+    c.in_ok-hand_all.ensures ∙ ap (λ (es : List Entry). mid ++ lines_in_range c.self.inside.labels from to (map line_of es)) c.deref-2.ensures.value in
+    both_told c.self.inside.labels from to c.self.inside.parts.items c.self.inside.head.items start mid (g.T.Taker.taken c.hand_all.new.taker) c.self.invariant.parts.growing.labels first second
+    ∙ ap (λ (s : StreamView). start ++ told_in_range from to (entries_of s)) c.self.view_is

@@ -1,0 +1,105 @@
+//! Lines of a range of time, handed out.
+ghost use Rattle.std.specs.Prelude.{◌≡◌, ℕ, nat_le, ◌&&◌, true, [], ◌∷◌, ◌++◌, map, IfErr, OnOk};
+ghost use Rattle.std.specs.List.{AllByRecursion, flat_map};
+ghost use Rattle.rl_parts.specs.StreamParts.{IsPart, unwritten, chunk_of};
+ghost use Rattle.rl_parts.specs.PartState.{IsRange};
+ghost use Rattle.rl_parts.specs.StoreUse.{Looked, IsKept, IsNoteOf, Right, ReadCause};
+ghost use Rattle.rl_parts.specs.Reading.{IsApart, IsOutside, lines_in_range, told_in_range};
+
+use crate::fault::ReadFault;
+use crate::fetching::fetch;
+use crate::part::{Part, Written};
+use crate::searching::is_outside;
+use crate::taker::Taker;
+use rl_chunks::{AsLine, Store};
+use rl_labels::{Labels, Ns};
+use std::alloc::{AllocError, Global};
+
+// Whether a timestamp is in a range, both ends included.
+fn is_within(from: Ns, to: Ns, timestamp: Ns) -> bool
+    ensures { result ≡ (nat_le from timestamp && nat_le timestamp to) }
+{
+    from <= timestamp && timestamp <= to
+}
+
+// Hands out a line, if it is in the range.
+fn hand<L: AsLine, T: Taker>(
+    labels: &Labels,
+    line: &L,
+    from: Ns,
+    to: Ns,
+    taker: &mut T,
+) -> Result<(), AllocError>
+    ensures { OnOk result (T.taken taker.new ≡ T.taken taker.old ++ lines_in_range labels.now from to (L.line line.now ∷ [])) }
+{
+    let timestamp = line.timestamp();
+    if is_within(from, to, timestamp) {
+        return taker.take(labels, timestamp, line.text());
+    }
+    Ok(())
+}
+
+// Hands out the lines of the range.
+pub(crate) fn hand_all<L: AsLine, T: Taker>(
+    labels: &Labels,
+    lines: &[L],
+    from: Ns,
+    to: Ns,
+    taker: &mut T,
+) -> Result<(), AllocError>
+    ensures { OnOk result (T.taken taker.new ≡ T.taken taker.old ++ lines_in_range labels.now from to (map L.line lines.now)) }
+{
+    for line in lines {
+        hand(labels, line, from, to, taker)?;
+    }
+    Ok(())
+}
+
+// Hands out what a store has of a part. The store is read only where the part's range of time reaches into the range.
+pub(crate) fn hand_written<S: Store, T: Taker>(
+    alloc: Global,
+    store: &mut S,
+    written: &Written,
+    labels: &Labels,
+    from: Ns,
+    to: Ns,
+    taker: &mut T,
+) -> Result<(), ReadFault>
+    requires part { IsPart labels.now (unwritten written.now.entries.value) }
+    requires range { IsRange written.now.entries.value written.now.first written.now.last }
+    ensures looked { Looked (S.seen store.old) (S.seen store.new) }
+    ensures cause { IfErr result (ReadCause (S.seen store.old) (S.seen store.new)) }
+    ensures unread { IsApart from to written.now.entries.value → S.seen store.new ≡ S.seen store.old }
+    ensures told { IsApart from to written.now.entries.value → OnOk result (T.taken taker.new ≡ T.taken taker.old ++ told_in_range from to written.now.entries.value) }
+    ensures right { (next : ℕ) → IsNoteOf (S.seen store.old) next (chunk_of labels.now written.now.entries.value) (record { number = written.now.number; digest = written.now.digest }) → (S.seen store.old).honest ≡ true → Right result (λ _. T.taken taker.new ≡ T.taken taker.old ++ told_in_range from to written.now.entries.value) }
+{
+    if is_outside(written, from, to) {
+        return Ok(());
+    }
+    let chunk = fetch(alloc, store, written.number, &written.digest)?;
+    hand_all(labels, chunk.lines.as_slice(), from, to, taker)?;
+    Ok(())
+}
+
+// Hands out the entries of parts.
+pub(crate) fn hand_parts<S: Store, T: Taker>(
+    alloc: Global,
+    store: &mut S,
+    labels: &Labels,
+    parts: &[Part],
+    from: Ns,
+    to: Ns,
+    taker: &mut T,
+) -> Result<(), ReadFault>
+    requires { AllByRecursion (IsPart labels.now) parts.now }
+    ensures looked { Looked (S.seen store.old) (S.seen store.new) }
+    ensures cause { IfErr result (ReadCause (S.seen store.old) (S.seen store.new)) }
+    ensures unread { AllByRecursion (IsOutside from to) parts.now → S.seen store.new ≡ S.seen store.old }
+    ensures told { AllByRecursion (IsOutside from to) parts.now → OnOk result (T.taken taker.new ≡ T.taken taker.old ++ told_in_range from to (flat_map (λ part. part.entries) parts.now)) }
+    ensures right { (next : ℕ) → AllByRecursion (IsKept (S.seen store.old) next labels.now) parts.now → (S.seen store.old).honest ≡ true → Right result (λ _. T.taken taker.new ≡ T.taken taker.old ++ told_in_range from to (flat_map (λ part. part.entries) parts.now)) }
+{
+    for part in parts {
+        part.hand_out(alloc, store, labels, from, to, taker)?;
+    }
+    Ok(())
+}
