@@ -1,9 +1,9 @@
 -- What a stream becomes when it takes an entry, seals its head, or writes parts to a store.
-use Rattle.std.specs.Prelude.{◌≡◌, ℕ, ◌+◌, ◌≤◌, List, [], ◌∷◌, ◌++◌, map, length, Option, None, Some}
+use Rattle.std.specs.Prelude.{◌≡◌, ℕ, ◌+◌, ◌≤◌, ◌==◌, nat_lt, if◌then◌else◌, List, [], ◌∷◌, ◌++◌, map, length, Option, None, Some}
 use Rattle.std.specs.Option.{is_none}
 use Rattle.std.specs.List.{insert, filter, range_with_len}
 use Rattle.rl_labels.specs.declared.entry.Entry.{Entry}
-use Rattle.rl_parts.specs.StreamParts.{Note, PartView, notes_of}
+use Rattle.rl_parts.specs.StreamParts.{Note, PartView, StreamView, unwritten, notes_of}
 
 -- the entry was put at some place
 pub record IsInserted (old : List Entry) (entry : Entry) (new : List Entry) : Type 0 where
@@ -16,6 +16,17 @@ pub record AreSealed (old new : List PartView) : Type 0 where
   pub fresh : List PartView
   pub behind : new ≡ old ++ fresh
   pub unwritten : notes_of fresh ≡ []
+
+-- the parts of a stream whose head, if it has an entry, becomes one
+abbrev pub sealed_parts : StreamView → List PartView
+sealed_parts stream = if length stream.head == 0 then stream.parts else stream.parts ++ unwritten stream.head ∷ []
+
+-- the entry was put into the head, which becomes a part where it has so many entries by now
+pub record IsHeld (most : ℕ) (old : StreamView) (entry : Entry) (new : StreamView) : Type 0 where
+  pub place : ℕ
+  pub within : place ≤ length old.head
+  pub parts : new.parts ≡ (if nat_lt (length old.head + 1) most then old.parts else old.parts ++ unwritten (insert old.head place entry) ∷ [])
+  pub head : new.head ≡ (if nat_lt (length old.head + 1) most then insert old.head place entry else [])
 
 -- how many parts have no note
 abbrev pub unwritten_count : List PartView → ℕ

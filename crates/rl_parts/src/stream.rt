@@ -48,7 +48,7 @@ impl Stream {
     ghost use Rattle.rl_parts.specs.StreamParts.{entries_of, notes_of, most_entries};
     ghost use Rattle.rl_parts.specs.StoreUse.{Looked, Grown, AreKept, Right, ReadCause, FlushCause};
     ghost use Rattle.rl_parts.specs.Reading.{NoneReaches, entries_here, told_in_range};
-    ghost use Rattle.rl_parts.specs.Changes.{IsInserted, AreSealed, AreNoted, unwritten_count};
+    ghost use Rattle.rl_parts.specs.Changes.{IsInserted, IsHeld, AreSealed, AreNoted, sealed_parts, unwritten_count};
 
     /// A stream of one entry. It is sealed at once where a part has no more than one.
     pub fn start(alloc: Global, entry: Shared<Entry>, most: u64) -> Result<Stream, AllocError>
@@ -58,6 +58,7 @@ impl Stream {
         ensures newest { IfOk result (λ stream. stream.newest ≡ entry.timestamp) }
         ensures entries { IfOk result (λ stream. entries_of stream ≡ entry ∷ []) }
         ensures notes { IfOk result (λ stream. notes_of stream.parts ≡ []) }
+        ensures head { 1 < most → IfOk result (λ stream. stream.parts ≡ []) }
     {
         let labels = entry.get().labels.try_copy()?;
         let mut stream = Stream {
@@ -97,6 +98,7 @@ impl Stream {
         ensures entries { OnOk result (IsInserted (entries_of self.old) entry (entries_of self.new)) }
         ensures parts { OnOk result (AreSealed self.old.parts self.new.parts) }
         ensures short { OnOk result (length self.new.head < most) }
+        ensures shape { OnOk result (IsHeld most self.old entry self.new) }
         ensures err { OnErr result (self.new ≡ self.old) }
     {
         let timestamp = entry.get().timestamp;
@@ -117,6 +119,7 @@ impl Stream {
         ensures entries { entries_of self.new ≡ entries_of self.old }
         ensures parts { OnOk result (AreSealed self.old.parts self.new.parts) }
         ensures head { OnOk result (self.new.head ≡ []) }
+        ensures shape { OnOk result (self.new.parts ≡ sealed_parts self.old) }
         ensures err { OnErr result (self.new ≡ self.old) }
     {
         if self.head.is_empty() {
