@@ -2,14 +2,14 @@
 use Rattle.std.proofs.Common.{◌≡◌, ℕ, zero, suc, ◌+◌, ◌<◌, ◌≤◌, ◌⊎◌, inl, inr, Bool, true, false, List, [], ◌∷◌, ◌++◌, length, get_or, map, take, Option, Some, None, refl, sym, ap, subst, ◌∙◌, append-nil, arith, Ordering}
 use Rattle.std.specs.Prelude.{IsTrue, ◌↔◌}
 use Rattle.std.specs.Option.{unwrap_or}
-use Rattle.std.specs.List.{All, AllWithin, Contains, flat_map}
+use Rattle.std.specs.List.{All, AllByRecursion, AllWithin, Contains, flat_map}
 use Rattle.std.specs.Ordering.{ordering_reverse}
 use Rattle.std.specs.declared.cmp.Ordering.TheVariants.{Less, Equal, Greater}
 use Rattle.std.specs.Cmp.{IsTotalOrder}
 use Rattle.std.proofs.lemmas.Bool.{cases_lt}
 use Rattle.std.proofs.lemmas.List.{length-map, get_or-map, take_all, take_more}
 use Rattle.std.proofs.lemmas.List.Concat.{flat_map-append}
-use Rattle.std.proofs.lemmas.List.Elements.{All-contains, Contains-append_left, Contains-append_right, Contains-append_cases, Contains-push_cases}
+use Rattle.std.proofs.lemmas.List.Elements.{All-contains, All-weaker, Contains-append_left, Contains-append_right, Contains-append_cases, Contains-push_cases}
 use Rattle.rl_labels.specs.LabelSet.{LabelSet}
 use Rattle.rl_labels.specs.laws.OrderLaws.{same_entry}
 use Rattle.rl_labels.specs.declared.entry.Entry.{Entry}
@@ -17,7 +17,8 @@ use Rattle.rl_chunks.specs.EntryLines.{line_of}
 use Rattle.rl_chunks.specs.declared.line.Line.{Line}
 use Rattle.rl_parts.specs.StreamParts.{Note, PartView}
 use Rattle.rl_parts.specs.StreamState.{AreSealedUpTo}
-use Rattle.rl_parts.specs.Reading.{in_memory, in_store}
+use Rattle.rl_parts.specs.Reading.{IsWithout, in_memory, in_store}
+use Rattle.rl_parts.proofs.Heads.{one_behind}
 
 no_true : {P : Type 0} → false ≡ true → P
 no_true h = cc
@@ -155,3 +156,20 @@ of_rest parts head q no_head no_memory found told =
         | inr late ↦ absurd (no_head late)
       ],
     )
+
+-- one more that is so
+pub one_more : {A : Type 0} (P : A → Type 0) (xs : List A) (i : ℕ) (x : A) → i < length xs → x ≡ get_or xs i x → AllByRecursion P (take i xs) → P x → AllByRecursion P (take (i + 1) xs)
+one_more P xs i x within is before here =
+    let front : take (i + 1) xs ≡ take i xs ++ x ∷ [] = take_more xs i x within ∙ ap (λ y. take i xs ++ y ∷ []) (sym is) in
+    subst (AllByRecursion P) (sym front) (one_behind P (take i xs) x before here)
+
+-- no part has an entry that is newer than all of them, wherever its entries are
+pub without_above : (top : Option ℕ) (parts : List PartView) (entry : Entry) → AreSealedUpTo top parts → unwrap_or top 0 < entry.timestamp → AllByRecursion (IsWithout entry) parts
+without_above top [] entry up_to lt = tt
+without_above top (part ∷ parts) entry up_to lt =
+    let before : All (λ e. e.timestamp < entry.timestamp) part.entries = All-weaker (λ e. e.timestamp ≤ unwrap_or top 0) (λ e. e.timestamp < entry.timestamp) (λ e le. omega arith) part.entries up_to.0 in
+    (at before part.note, without_above top parts entry up_to.1 lt)
+  where
+    at : All (λ e. e.timestamp < entry.timestamp) part.entries → (note : Option Note) → IsWithout entry (record { entries = part.entries; note = note })
+    at before None = tt
+    at before (Some note) = inl (inl before)

@@ -1,6 +1,6 @@
 -- The entries of a range, as they are handed out.
-use Rattle.std.proofs.Common.{◌≡◌, ℕ, ◌+◌, ◌-◌, ◌<◌, ◌≤◌, ◌⊎◌, inl, inr, leb, ◌&&◌, true, false, Bool, cond, List, [], ◌∷◌, ◌++◌, length, get_or, take, map, refl, sym, ap, ◌∙◌, append-nil, append_assoc, arith}
-use Rattle.std.specs.List.{All, AllByRecursion, filter, flat_map}
+use Rattle.std.proofs.Common.{◌≡◌, ℕ, ◌+◌, ◌-◌, ◌<◌, ◌≤◌, ◌⊎◌, inl, inr, leb, ◌&&◌, true, false, Bool, cond, List, [], ◌∷◌, ◌++◌, length, get_or, take, map, refl, sym, ap, subst, ◌∙◌, append-nil, append_assoc, arith}
+use Rattle.std.specs.List.{All, AllByRecursion, AllZip, filter, flat_map}
 use Rattle.std.proofs.lemmas.Bool.Decides.{nat_tests}
 use Rattle.std.proofs.lemmas.List.{map-append, take_more}
 use Rattle.std.proofs.lemmas.List.Concat.{flat_map-append}
@@ -11,7 +11,7 @@ use Rattle.rl_chunks.specs.EntryLines.{line_of}
 use Rattle.rl_chunks.specs.declared.line.Line.{Line}
 use Rattle.rl_parts.specs.StreamParts.{PartView, IsRun}
 use Rattle.rl_parts.specs.PartState.{timestamp_at, IsRange}
-use Rattle.rl_parts.specs.Reading.{is_in_range, told, told_in_range, lines_in_range}
+use Rattle.rl_parts.specs.Reading.{is_in_range, told, told_in_range, lines_in_range, IsPiece, IsHandedOut}
 use Rattle.rl_parts.proofs.Times.{up_to_last, from_first}
 
 pub lines-append : (set : LabelSet) (from to : ℕ) (xs ys : List Line) → lines_in_range set from to (xs ++ ys) ≡ lines_in_range set from to xs ++ lines_in_range set from to ys
@@ -73,3 +73,28 @@ pub both_told : (set : LabelSet) (from to : ℕ) (parts : List PartView) (head :
 both_told set from to parts head start mid now same first second =
     let all : List Entry = flat_map (λ part. part.entries) parts in
     second ∙ (λ i. first i ++ lines_told set from to head same i) ∙ append_assoc start (told_in_range from to all) (told_in_range from to head) ∙ ap (λ t. start ++ t) (sym (told-append from to all head))
+
+zip_append : {A B : Type 0} (R : A → B → Type 0) (xs : List A) (us : List B) (ys : List A) (vs : List B) → AllZip R xs us → AllZip R ys vs → AllZip R (xs ++ ys) (us ++ vs)
+zip_append R [] [] ys vs h k = k
+zip_append R [] (u ∷ us) ys vs h k = absurd h
+zip_append R (x ∷ xs) [] ys vs h k = absurd h
+zip_append R (x ∷ xs) (u ∷ us) ys vs h k = (h.0, zip_append R xs us ys vs h.1 k)
+
+-- pieces of parts, and then of others
+handed_then : (set : LabelSet) (from to : ℕ) (xs ys : List PartView) (a b c : List (LabelSet × Line)) → IsHandedOut set from to xs a b → IsHandedOut set from to ys b c → IsHandedOut set from to (xs ++ ys) a c
+handed_then set from to xs ys a b c p q = record {
+  pieces = p.pieces ++ q.pieces;
+  each = zip_append (IsPiece set from to) xs p.pieces ys q.pieces p.each q.each;
+  behind = q.behind ∙ ap (λ t. t ++ flat_map (λ piece. piece) q.pieces) p.behind ∙ append_assoc a _ _ ∙ ap (λ t. a ++ t) (sym (flat_map-append (λ piece. piece) p.pieces q.pieces));
+}
+
+-- the piece of one part more
+pub piece_more : (set : LabelSet) (from to : ℕ) (parts : List PartView) (i : ℕ) (p : PartView) (start taken now : List (LabelSet × Line)) → i < length parts → p ≡ get_or parts i p
+    → IsHandedOut set from to (take i parts) start taken → IsHandedOut set from to (p ∷ []) taken now → IsHandedOut set from to (take (i + 1) parts) start now
+piece_more set from to parts i p start taken now within is so_far one =
+    let front : take (i + 1) parts ≡ take i parts ++ p ∷ [] = take_more parts i p within ∙ ap (λ y. take i parts ++ y ∷ []) (sym is) in
+    subst (λ (ps : List PartView). IsHandedOut set from to ps start now) (sym front) (handed_then set from to (take i parts) (p ∷ []) start taken now so_far one)
+
+-- one piece
+pub one_piece : (set : LabelSet) (from to : ℕ) (p : PartView) (piece old new : List (LabelSet × Line)) → IsPiece set from to p piece → new ≡ old ++ piece → IsHandedOut set from to (p ∷ []) old new
+one_piece set from to p piece old new is behind = record { pieces = piece ∷ []; each = (is, tt); behind = behind ∙ ap (λ t. old ++ t) (sym (append-nil piece)) }

@@ -83,3 +83,8 @@ reaches (x ∷ xs) first last from to range some low high (inl before) =
 reaches (x ∷ xs) first last from to range some low high (inr behind) =
     let lt : to < x.timestamp = behind 0 x (omega arith) in
     omega (arith, range.start)
+
+-- entries whose range of time is outside are apart from it
+pub apart_from : (set : LabelSet) (xs : List Entry) (first last from to : ℕ) → IsRun set xs → IsRange xs first last → (last < from) ⊎ (to < first) → IsApart from to xs
+apart_from set xs first last from to run range (inl out) = inl (λ k d within. let le = up_to_last set xs run k d within in omega (arith, range.end))
+apart_from set xs first last from to run range (inr out) = inr (λ k d within. let le = from_first set xs run k d within in omega (arith, range.start))

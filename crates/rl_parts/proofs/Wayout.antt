@@ -1,5 +1,6 @@
 -- Ways out of calls over a store, and what is kept until then.
 use Rattle.std.proofs.Common.{◌≡◌, ℕ, ◌<◌, List, length, get_or, Result, Ok, Err, sym, subst}
+use Rattle.std.specs.Prelude.{IfOk, OnOk}
 use Rattle.std.specs.List.{AllByRecursion}
 use Rattle.std.proofs.lemmas.List.Elements.{All-from_recursion}
 use Rattle.rl_labels.specs.LabelSet.{LabelSet}
@@ -27,3 +28,12 @@ right_then P Q f (Ok answer) h = f answer h
 right_then P Q f (Err reads.Fault) h = tt
 right_then P Q f (Err reads.Damaged) h = h
 right_then P Q f (Err reads.Memory) h = tt
+
+-- what follows where the call was not refused
+pub ok_then : {A E : Type 0} (P Q : A → Type 0) → ((answer : A) → P answer → Q answer) → (result : Result A E) → IfOk result P → IfOk result Q
+ok_then P Q f (Ok answer) h = f answer h
+ok_then P Q f (Err fault) h = tt
+
+pub on_ok_then : {A E P Q : Type 0} → (P → Q) → (result : Result A E) → OnOk result P → OnOk result Q
+on_ok_then f (Ok answer) h = f h
+on_ok_then f (Err fault) h = tt

@@ -1,12 +1,15 @@
 -- What is read of a stream: the entries of a range of time, and whether a part has to be read for it.
-use Rattle.std.specs.Prelude.{ℕ, ◌<◌, nat_le, Bool, ◌&&◌, ◌⊎◌, List, [], ◌++◌, map, if◌then◌else◌, IfSome}
-use Rattle.std.specs.Option.{is_none}
-use Rattle.std.specs.List.{All, AllByRecursion, filter, flat_map}
+use Rattle.std.specs.Prelude.{ℕ, ◌<◌, nat_le, Bool, ◌&&◌, ◌≡◌, ◌⊎◌, List, [], ◌++◌, map, if◌then◌else◌, Some, IfSome}
+use Rattle.std.specs.Option.{is_none, MatchOption}
+use Rattle.std.specs.List.{All, AllByRecursion, AllZip, Contains, filter, flat_map}
+use Rattle.sha2.specs.Sha256.{sha256}
 use Rattle.rl_labels.specs.LabelSet.{LabelSet}
 use Rattle.rl_labels.specs.declared.entry.Entry.{Entry}
 use Rattle.rl_chunks.specs.EntryLines.{line_of}
 use Rattle.rl_chunks.specs.declared.line.Line.{Line}
-use Rattle.rl_parts.specs.StreamParts.{PartView, StreamView}
+use Rattle.rl_chunks.specs.ChunkText.{IsChunkText}
+use Rattle.rl_chunks.specs.declared.chunk.Chunk.{Chunk}
+use Rattle.rl_parts.specs.StreamParts.{Note, PartView, StreamView}
 
 -- both ends are in the range
 abbrev pub is_in_range : ℕ → ℕ → Entry → Bool
@@ -46,3 +49,26 @@ in_store part = if is_none part.note then [] else part.entries
 -- the entries of a stream that stand in memory
 abbrev pub entries_here : StreamView → List Entry
 entries_here stream = flat_map in_memory stream.parts ++ stream.head
+
+-- bytes with the digest are the chunk
+abbrev pub IsReadAs : List ℕ → Chunk → Type 0
+IsReadAs digest chunk = (bytes : List ℕ) × IsChunkText bytes chunk × (sha256 bytes ≡ digest)
+
+-- a store has no such entry in the part: its entries are apart in time, or bytes with the digest are a chunk without the line
+abbrev pub IsWithout : Entry → PartView → Type 0
+IsWithout entry part = IfSome part.note (λ note. IsApart entry.timestamp entry.timestamp part.entries ⊎ ((chunk : Chunk) × IsReadAs note.digest chunk × (Contains chunk.lines (line_of entry) → ⊥)))
+
+-- bytes with the digest are a chunk with the line
+abbrev pub IsWith : Entry → PartView → Type 0
+IsWith entry part = (note : Note) × (part.note ≡ Some note) × ((chunk : Chunk) × IsReadAs note.digest chunk × Contains chunk.lines (line_of entry))
+
+-- what is handed out of a part: its own entries of the range, or those lines of a chunk that bytes with the digest are
+abbrev pub IsPiece : LabelSet → ℕ → ℕ → PartView → List (LabelSet × Line) → Type 0
+IsPiece labels from to part piece = MatchOption part.note (piece ≡ told_in_range from to part.entries)
+    (λ note. (IsApart from to part.entries × (piece ≡ [])) ⊎ ((chunk : Chunk) × IsReadAs note.digest chunk × (piece ≡ lines_in_range labels from to chunk.lines)))
+
+-- a piece of each part in turn was handed out
+pub record IsHandedOut (labels : LabelSet) (from to : ℕ) (parts : List PartView) (old new : List (LabelSet × Line)) : Type 0 where
+  pub pieces : List (List (LabelSet × Line))
+  pub each : AllZip (IsPiece labels from to) parts pieces
+  pub behind : new ≡ old ++ flat_map (λ piece. piece) pieces

@@ -49,11 +49,11 @@ impl Model for Part {
 }
 
 impl Part {
-    ghost use Rattle.std.specs.Prelude.{◌≡◌, ℕ, true, [], ◌∷◌, ◌++◌, IsTrue, ◌↔◌, IfErr, OnOk, IsSome};
+    ghost use Rattle.std.specs.Prelude.{◌≡◌, ℕ, true, false, [], ◌∷◌, ◌++◌, IsTrue, ◌↔◌, IfOk, IfErr, OnOk, IsSome};
     ghost use Rattle.std.specs.List.{Contains};
     ghost use Rattle.rl_parts.specs.StreamParts.{IsPart, unwritten};
     ghost use Rattle.rl_parts.specs.StoreUse.{Looked, Grown, IsKept, Right, ReadCause, FlushCause};
-    ghost use Rattle.rl_parts.specs.Reading.{IsOutside, in_memory, in_store, told_in_range};
+    ghost use Rattle.rl_parts.specs.Reading.{IsOutside, IsWith, IsWithout, IsHandedOut, in_memory, in_store, told_in_range};
     ghost use Rattle.rl_parts.specs.Changes.{AreNoted};
 
     // A part that no store has.
@@ -109,6 +109,8 @@ impl Part {
         ensures looked { Looked (S.seen store.old) (S.seen store.new) }
         ensures cause { IfErr result (ReadCause (S.seen store.old) (S.seen store.new)) }
         ensures unread { IsOutside entry.now.timestamp entry.now.timestamp self.now → S.seen store.new ≡ S.seen store.old }
+        ensures yes { IfOk result (λ found. found ≡ true → IsWith entry.now self.now) }
+        ensures no { IfOk result (λ found. found ≡ false → IsWithout entry.now self.now) }
         ensures right { (next : ℕ) → IsKept (S.seen store.old) next entry.now.labels self.now → (S.seen store.old).honest ≡ true → Right result (λ found. IsTrue found ↔ Contains (in_store self.now) entry.now) }
     {
         match &self.place {
@@ -132,6 +134,7 @@ impl Part {
         ensures cause { IfErr result (ReadCause (S.seen store.old) (S.seen store.new)) }
         ensures unread { IsOutside from to self.now → S.seen store.new ≡ S.seen store.old }
         ensures told { IsOutside from to self.now → OnOk result (T.taken taker.new ≡ T.taken taker.old ++ told_in_range from to self.now.entries) }
+        ensures piece { OnOk result (IsHandedOut labels.now from to (self.now ∷ []) (T.taken taker.old) (T.taken taker.new)) }
         ensures right { (next : ℕ) → IsKept (S.seen store.old) next labels.now self.now → (S.seen store.old).honest ≡ true → Right result (λ _. T.taken taker.new ≡ T.taken taker.old ++ told_in_range from to self.now.entries) }
     {
         match &self.place {

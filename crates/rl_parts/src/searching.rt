@@ -1,14 +1,15 @@
 //! Whether a stream has an entry.
-ghost use Rattle.std.specs.Prelude.{◌≡◌, ℕ, ◌<◌, ◌≤◌, ◌⊎◌, true, false, IsTrue, ◌↔◌, IfErr};
+ghost use Rattle.std.specs.Prelude.{◌≡◌, ℕ, ◌<◌, ◌≤◌, ◌⊎◌, true, false, IsTrue, ◌↔◌, IfOk, IfErr};
 ghost use Rattle.std.specs.Option.{unwrap_or};
 ghost use Rattle.std.specs.List.{AllByRecursion, Contains, flat_map};
 ghost use Rattle.std.specs.List.Sorted.{IsStrictlySortedBy};
 ghost use Rattle.rl_labels.specs.EntryOrder.{entry_cmp};
 ghost use Rattle.rl_chunks.specs.EntryLines.{line_of};
-ghost use Rattle.rl_parts.specs.StreamParts.{IsPart, unwritten, chunk_of};
+ghost use Rattle.rl_parts.specs.StreamParts.{PartView, IsPart, unwritten, chunk_of};
+ghost use Rattle.rl_chunks.specs.declared.chunk.Chunk.{Chunk};
 ghost use Rattle.rl_parts.specs.PartState.{IsRange};
 ghost use Rattle.rl_parts.specs.StoreUse.{Looked, IsKept, IsNoteOf, Right, ReadCause};
-ghost use Rattle.rl_parts.specs.Reading.{IsApart, IsOutside, in_memory, in_store};
+ghost use Rattle.rl_parts.specs.Reading.{IsApart, IsOutside, IsReadAs, IsWith, IsWithout, in_memory, in_store};
 
 use crate::fault::ReadFault;
 use crate::fetching::fetch;
@@ -80,6 +81,8 @@ pub(crate) fn has_written<S: Store>(
     ensures looked { Looked (S.seen store.old) (S.seen store.new) }
     ensures cause { IfErr result (ReadCause (S.seen store.old) (S.seen store.new)) }
     ensures unread { IsApart entry.now.timestamp entry.now.timestamp written.now.entries.value → S.seen store.new ≡ S.seen store.old }
+    ensures yes { IfOk result (λ found. found ≡ true → (chunk : Chunk) × IsReadAs written.now.digest chunk × Contains chunk.lines (line_of entry.now)) }
+    ensures no { IfOk result (λ found. found ≡ false → IsApart entry.now.timestamp entry.now.timestamp written.now.entries.value ⊎ ((chunk : Chunk) × IsReadAs written.now.digest chunk × (Contains chunk.lines (line_of entry.now) → ⊥))) }
     ensures right { (next : ℕ) → IsNoteOf (S.seen store.old) next (chunk_of entry.now.labels written.now.entries.value) (record { number = written.now.number; digest = written.now.digest }) → (S.seen store.old).honest ≡ true → Right result (λ found. IsTrue found ↔ Contains written.now.entries.value entry.now) }
 {
     if is_outside(written, entry.timestamp, entry.timestamp) {
@@ -113,6 +116,8 @@ pub(crate) fn any_there<S: Store>(
     ensures looked { Looked (S.seen store.old) (S.seen store.new) }
     ensures cause { IfErr result (ReadCause (S.seen store.old) (S.seen store.new)) }
     ensures unread { AllByRecursion (IsOutside entry.now.timestamp entry.now.timestamp) parts.now → S.seen store.new ≡ S.seen store.old }
+    ensures yes { IfOk result (λ found. found ≡ true → (part : PartView) × Contains parts.now part × IsWith entry.now part) }
+    ensures no { IfOk result (λ found. found ≡ false → AllByRecursion (IsWithout entry.now) parts.now) }
     ensures right { (next : ℕ) → AllByRecursion (IsKept (S.seen store.old) next entry.now.labels) parts.now → (S.seen store.old).honest ≡ true → Right result (λ found. IsTrue found ↔ Contains (flat_map in_store parts.now) entry.now) }
 {
     for part in parts {

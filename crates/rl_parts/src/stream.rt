@@ -1,5 +1,5 @@
 //! One stream as its parts.
-ghost use Rattle.std.specs.Prelude.{◌≡◌, ℕ, ◌<◌, ◌≤◌, max, true, [], ◌∷◌, ◌++◌, length, IsTrue, ◌↔◌, Ok, OnOk, OnErr, IfOk, IfErr};
+ghost use Rattle.std.specs.Prelude.{◌≡◌, ℕ, ◌<◌, ◌≤◌, ◌⊎◌, max, true, false, List, [], ◌∷◌, ◌++◌, length, IsTrue, ◌↔◌, Ok, OnOk, OnErr, IfOk, IfErr};
 
 use crate::fault::{FlushFault, ReadFault};
 use crate::flushing::write_parts;
@@ -44,10 +44,12 @@ impl Model for Stream {
 }
 
 impl Stream {
-    ghost use Rattle.std.specs.List.{Contains};
-    ghost use Rattle.rl_parts.specs.StreamParts.{entries_of, notes_of, most_entries};
+    ghost use Rattle.std.specs.List.{AllByRecursion, Contains};
+    ghost use Rattle.rl_parts.specs.StreamParts.{PartView, entries_of, notes_of, most_entries};
     ghost use Rattle.rl_parts.specs.StoreUse.{Looked, Grown, AreKept, Right, ReadCause, FlushCause};
-    ghost use Rattle.rl_parts.specs.Reading.{NoneReaches, entries_here, told_in_range};
+    ghost use Rattle.rl_parts.specs.Reading.{NoneReaches, IsWith, IsWithout, IsHandedOut, entries_here, told_in_range};
+    ghost use Rattle.rl_labels.specs.LabelSet.{LabelSet};
+    ghost use Rattle.rl_chunks.specs.declared.line.Line.{Line};
     ghost use Rattle.rl_parts.specs.Changes.{IsInserted, IsHeld, AreSealed, AreNoted, sealed_parts, unwritten_count};
 
     /// A stream of one entry. It is sealed at once where a part has no more than one.
@@ -164,6 +166,9 @@ impl Stream {
         ensures cause { IfErr result (ReadCause (S.seen store.old) (S.seen store.new)) }
         ensures here { Contains (entries_here self.now) entry.now → (result ≡ Ok true) × (S.seen store.new ≡ S.seen store.old) }
         ensures unread { NoneReaches entry.now.timestamp entry.now.timestamp self.now → S.seen store.new ≡ S.seen store.old }
+        // What is answered of a part that a store has is told by bytes with the digest, whatever the store does.
+        ensures yes { IfOk result (λ found. found ≡ true → Contains (entries_here self.now) entry.now ⊎ ((part : PartView) × Contains self.now.parts part × IsWith entry.now part)) }
+        ensures no { IfOk result (λ found. found ≡ false → AllByRecursion (IsWithout entry.now) self.now.parts) }
         ensures right { (next : ℕ) → AreKept (S.seen store.old) next self.now → (S.seen store.old).honest ≡ true → Right result (λ found. IsTrue found ↔ Contains (entries_of self.now) entry.now) }
     {
         if has_entry(&self.head, entry) {
@@ -192,6 +197,8 @@ impl Stream {
         ensures cause { IfErr result (ReadCause (S.seen store.old) (S.seen store.new)) }
         ensures unread { NoneReaches from to self.now → S.seen store.new ≡ S.seen store.old }
         ensures told { NoneReaches from to self.now → OnOk result (T.taken taker.new ≡ T.taken taker.old ++ told_in_range from to (entries_of self.now)) }
+        // What is handed out of a part that a store has is told by bytes with the digest, whatever the store does.
+        ensures pieces { OnOk result ((mid : List (LabelSet × Line)) × IsHandedOut self.now.labels from to self.now.parts (T.taken taker.old) mid × (T.taken taker.new ≡ mid ++ told_in_range from to self.now.head)) }
         ensures right { (next : ℕ) → AreKept (S.seen store.old) next self.now → (S.seen store.old).honest ≡ true → Right result (λ _. T.taken taker.new ≡ T.taken taker.old ++ told_in_range from to (entries_of self.now)) }
     {
         hand_parts(alloc, store, &self.labels, &self.parts, from, to, taker)?;

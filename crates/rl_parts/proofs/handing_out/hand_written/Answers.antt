@@ -1,5 +1,5 @@
 -- The range of time tells that nothing is handed out, and else the lines of the chunk are.
-use Rattle.std.proofs.Common.{◌≡◌, ◌++◌, map, sym, ap, ◌∙◌, append-nil}
+use Rattle.std.proofs.Common.{◌≡◌, ◌++◌, [], map, inl, inr, refl, sym, ap, ◌∙◌, append-nil}
 use Rattle.std.proofs.lemmas.List.{map-id}
 use Rattle.std.proofs.lemmas.Result.{err_from_is_err_and}
 use Rattle.rl_chunks.specs.ChunkText.{chunk_text}
@@ -9,7 +9,7 @@ use Rattle.rl_chunks.specs.declared.format.Format.TheVariants.{Short}
 use Rattle.rl_parts.specs.StreamParts.{chunk_of}
 use Rattle.rl_parts.specs.Reading.{lines_in_range}
 use Rattle.rl_parts.proofs.Handing.{nothing_told, lines_told}
-use Rattle.rl_parts.proofs.Times.{reaches}
+use Rattle.rl_parts.proofs.Times.{reaches, apart_from}
 use Rattle.rl_parts.proofs.Wayout.{right_on}
 use Rattle.rl_parts.proofs.handing_out.hand_written.Goals as goal
 
@@ -57,3 +57,14 @@ returns-clause-right g c = λ next is honest.
     let same : c.in_ok-chunk.chunk ≡ chunk = c.in_ok-chunk.ensures.right (chunk_text Short chunk) chunk honest (is.kept honest) (sym is.digest) is.read in
     let lines : map (λ line. line) c.as_slice.result.now ≡ map line_of entries = map-id c.as_slice.result.now ∙ c.as_slice.ensures ∙ ap (λ (ch : Chunk). ch.lines) same in
     c.in_ok-hand_all.ensures ∙ ap (λ t. g.T.Taker.taken c.args.taker.now ++ t) (ap (lines_in_range labels c.args.from c.args.to) lines ∙ lines_told labels c.args.from c.args.to entries c.requires.part.run.labels)
+
+pub returns-then-is_outside-clause-piece : goal.returns-then-is_outside-clause-piece
+returns-then-is_outside-clause-piece g c =
+    let apart = apart_from c.args.labels.now c.args.written.now.entries.value c.args.written.now.first c.args.written.now.last c.args.from c.args.to c.requires.part.run c.requires.range (c.is_outside.ensures.out c.if-is_outside.true) in
+    ([], inl (apart, refl), sym (append-nil (g.T.Taker.taken c.args.taker.now)))
+
+pub returns-clause-piece : goal.returns-clause-piece
+returns-clause-piece g c =
+    let chunk = c.in_ok-chunk.chunk in
+    let lines : map (λ line. line) c.as_slice.result.now ≡ chunk.lines = map-id c.as_slice.result.now ∙ c.as_slice.ensures in
+    (lines_in_range c.args.labels.now c.args.from c.args.to chunk.lines, inr (chunk, c.in_ok-chunk.ensures.found, refl), c.in_ok-hand_all.ensures ∙ ap (λ t. g.T.Taker.taken c.args.taker.now ++ t) (ap (lines_in_range c.args.labels.now c.args.from c.args.to) lines))

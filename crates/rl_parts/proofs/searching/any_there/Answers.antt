@@ -1,10 +1,12 @@
 -- Each turn looks into the next part, over a store that only reads have changed.
 use Rattle.std.proofs.Common.{sym, subst, ◌∙◌}
 use Rattle.std.proofs.lemmas.Result.{err_from_is_err_and}
+use Rattle.std.specs.List.{AllByRecursion}
+use Rattle.std.proofs.lemmas.List.{take_all}
 use Rattle.std.proofs.lemmas.List.Elements.{All-from_recursion}
-use Rattle.rl_parts.specs.Reading.{IsOutside, in_store}
+use Rattle.rl_parts.specs.Reading.{IsOutside, IsWithout, in_store}
 use Rattle.rl_parts.specs.laws.UseLaws.{Looked-then}
-use Rattle.rl_parts.proofs.Finding.{yes, no, not_both, absent_part, absent_parts, found_part}
+use Rattle.rl_parts.proofs.Finding.{yes, no, not_both, absent_part, absent_parts, found_part, one_more}
 use Rattle.rl_parts.proofs.Wayout.{right_on, kept_at}
 use Rattle.rl_parts.proofs.searching.any_there.Goals as goal
 
@@ -35,7 +37,14 @@ loop-part-preserved g c =
           let here = kept_at start seen next c.args.entry.now.labels c.args.parts.now c.loop-part.part-index c.part-item.result c.loop-part-test.true c.part-item.is c.loop-part.invariant.looked kept in
           absent_part in_store c.args.parts.now c.loop-part.part-index c.part-item.result c.args.entry.now c.loop-part-test.true c.part-item.is (c.loop-part.invariant.absent next kept honest)
           (λ there. not_both ((c.in_ok-has_there.ensures.right next here (c.loop-part.invariant.looked.honest ∙ honest)).1 there) c.if-branch.false);
+      without = one_more (IsWithout c.args.entry.now) c.args.parts.now c.loop-part.part-index c.part-item.result c.loop-part-test.true c.part-item.is c.loop-part.invariant.without (c.in_ok-has_there.ensures.no c.if-branch.false);
     }
 
 pub returns-clause-right : goal.returns-clause-right
 returns-clause-right g c = λ next kept honest. no (absent_parts in_store c.args.parts.now c.loop-part.part-index c.args.entry.now c.loop-part-test.false (c.loop-part.invariant.absent next kept honest))
+
+pub returns-then-branch-clause-yes : goal.returns-then-branch-clause-yes
+returns-then-branch-clause-yes g c = λ found. (c.part-item.result, (c.loop-part.part-index, c.loop-part-test.true, sym c.part-item.is), c.in_ok-has_there.ensures.yes c.if-branch.true)
+
+pub returns-clause-no : goal.returns-clause-no
+returns-clause-no g c = λ found. subst (AllByRecursion (IsWithout c.args.entry.now)) (take_all c.loop-part.part-index c.args.parts.now c.loop-part-test.false) c.loop-part.invariant.without

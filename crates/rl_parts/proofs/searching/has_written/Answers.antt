@@ -1,5 +1,5 @@
 -- The range of time tells, and else the lines of the chunk.
-use Rattle.std.proofs.Common.{◌≡◌, List, map, refl, sym, ap, subst, ◌∙◌}
+use Rattle.std.proofs.Common.{◌≡◌, List, map, inl, inr, refl, sym, ap, subst, ◌∙◌}
 use Rattle.std.specs.Prelude.{IsTrue, ◌↔◌}
 use Rattle.std.specs.List.{Contains}
 use Rattle.std.proofs.lemmas.Result.{err_from_is_err_and}
@@ -9,8 +9,8 @@ use Rattle.rl_chunks.specs.declared.chunk.Chunk.{Chunk}
 use Rattle.rl_chunks.specs.declared.format.Format.TheVariants.{Short}
 use Rattle.rl_chunks.specs.declared.line.Line.{Line}
 use Rattle.rl_parts.specs.StreamParts.{chunk_of}
-use Rattle.rl_parts.proofs.Finding.{no, line_found, line_there}
-use Rattle.rl_parts.proofs.Times.{outside, reaches}
+use Rattle.rl_parts.proofs.Finding.{no, not_both, line_found, line_there}
+use Rattle.rl_parts.proofs.Times.{outside, reaches, apart_from}
 use Rattle.rl_parts.proofs.Wayout.{right_on}
 use Rattle.rl_parts.proofs.searching.has_written.Goals as goal
 
@@ -43,3 +43,17 @@ returns-clause-right g c = λ next is honest.
     let lines : c.as_slice.result.now ≡ map line_of entries = c.as_slice.ensures ∙ ap (λ (ch : Chunk). ch.lines) same in
     let told : IsTrue c.has_line.result ↔ Contains (map line_of entries) (line_of entry) = subst (λ (ls : List Line). IsTrue c.has_line.result ↔ Contains ls (line_of entry)) lines c.has_line.ensures in
     (λ t. line_found entry.labels entries entry c.requires.part.run.labels refl (told.0 t), λ there. told.1 (line_there entries entry there))
+
+pub returns-then-is_outside-clause-no : goal.returns-then-is_outside-clause-no
+returns-then-is_outside-clause-no g c = λ found.
+    inl (apart_from c.args.entry.now.labels c.args.written.now.entries.value c.args.written.now.first c.args.written.now.last c.args.entry.now.timestamp c.args.entry.now.timestamp c.requires.part.run c.requires.range (c.is_outside.ensures.out c.if-is_outside.true))
+
+pub returns-clause-yes : goal.returns-clause-yes
+returns-clause-yes g c = λ found.
+    let lines : c.as_slice.result.now ≡ c.in_ok-chunk.chunk.lines = c.as_slice.ensures in
+    (c.in_ok-chunk.chunk, c.in_ok-chunk.ensures.found, subst (λ (ls : List Line). Contains ls (line_of c.args.entry.now)) lines (c.has_line.ensures.0 found))
+
+pub returns-clause-no : goal.returns-clause-no
+returns-clause-no g c = λ found.
+    let lines : c.as_slice.result.now ≡ c.in_ok-chunk.chunk.lines = c.as_slice.ensures in
+    inr (c.in_ok-chunk.chunk, c.in_ok-chunk.ensures.found, λ there. not_both (c.has_line.ensures.1 (subst (λ (ls : List Line). Contains ls (line_of c.args.entry.now)) (sym lines) there)) found)

@@ -6,8 +6,8 @@ use Rattle.rl_labels.specs.declared.entry.Entry.{Entry}
 use Rattle.rl_chunks.specs.EntryLines.{line_of}
 use Rattle.rl_parts.specs.StreamParts.{PartView, StreamView, entries_of}
 use Rattle.rl_parts.specs.StoreUse.{IsKept, AreKept}
-use Rattle.rl_parts.specs.Reading.{IsOutside, NoneReaches, lines_in_range, told_in_range}
-use Rattle.rl_parts.proofs.Handing.{both_told}
+use Rattle.rl_parts.specs.Reading.{IsOutside, IsHandedOut, NoneReaches, lines_in_range, told_in_range}
+use Rattle.rl_parts.proofs.Handing.{both_told, lines_told}
 use Rattle.rl_parts.proofs.Wayout.{right_on}
 use Rattle.rl_parts.proofs.stream.Stream.each.Goals as goal
 
@@ -49,3 +49,16 @@ returns-clause-right g c = λ next kept honest.
     c.in_ok-hand_all.ensures ∙ ap (λ (es : List Entry). mid ++ lines_in_range c.self.inside.labels from to (map line_of es)) c.deref-2.ensures.value in
     both_told c.self.inside.labels from to c.self.inside.parts.items c.self.inside.head.items start mid (g.T.Taker.taken c.hand_all.new.taker) c.self.invariant.parts.growing.labels first second
     ∙ ap (λ (s : StreamView). start ++ told_in_range from to (entries_of s)) c.self.view_is
+
+pub returns-clause-pieces : goal.returns-clause-pieces
+returns-clause-pieces g c =
+    let from = c.args.from in
+    let to = c.args.to in
+    let start = g.T.Taker.taken c.args.taker.now in
+    let mid = g.T.Taker.taken c.hand_parts.new.taker in
+    let now = g.T.Taker.taken c.hand_all.new.taker in
+    let labels = c.self.inside.labels in
+    let head = c.self.inside.head.items in
+    let handed : IsHandedOut labels from to c.self.inside.parts.items start mid = subst (λ (ps : List PartView). IsHandedOut labels from to ps start mid) c.deref.ensures.value c.in_ok-hand_parts.ensures.pieces in
+    let told : now ≡ mid ++ told_in_range from to head = c.in_ok-hand_all.ensures ∙ ap (λ t. mid ++ t) (ap (λ (es : List Entry). lines_in_range labels from to (map line_of es)) c.deref-2.ensures.value ∙ lines_told labels from to head c.self.invariant.parts.growing.labels) in
+    (mid, subst (λ (s : StreamView). IsHandedOut s.labels from to s.parts start mid) c.self.view_is handed, told ∙ ap (λ (s : StreamView). mid ++ told_in_range from to s.head) c.self.view_is)

@@ -1,5 +1,5 @@
 -- The head, the parts in memory and those in a store are all entries.
-use Rattle.std.proofs.Common.{◌≡◌, List, true, false, inl, inr, sym, ap, subst, ◌∙◌}
+use Rattle.std.proofs.Common.{◌≡◌, ◌⊎◌, List, true, false, inl, inr, sym, ap, subst, ◌∙◌}
 use Rattle.std.specs.Prelude.{IsTrue, ◌↔◌}
 use Rattle.std.specs.List.{AllByRecursion, Contains, flat_map}
 use Rattle.std.proofs.lemmas.List.Elements.{Contains-append_left, Contains-append_right, Contains-append_cases}
@@ -7,9 +7,9 @@ use Rattle.rl_labels.specs.LabelSet.{LabelSet}
 use Rattle.rl_labels.specs.declared.entry.Entry.{Entry}
 use Rattle.rl_parts.specs.StreamParts.{PartView, StreamView, entries_of}
 use Rattle.rl_parts.specs.StoreUse.{IsKept, AreKept}
-use Rattle.rl_parts.specs.Reading.{entries_here, in_memory, in_store}
-use Rattle.rl_parts.proofs.Finding.{yes, no, not_both, above_all, of_memory, of_rest}
-use Rattle.rl_parts.proofs.Wayout.{right_then}
+use Rattle.rl_parts.specs.Reading.{IsWith, IsWithout, entries_here, in_memory, in_store}
+use Rattle.rl_parts.proofs.Finding.{yes, no, not_both, above_all, without_above, of_memory, of_rest}
+use Rattle.rl_parts.proofs.Wayout.{right_then, ok_then}
 use Rattle.rl_parts.proofs.stream.Stream.holds.Goals as goal
 
 pub returns-then-has_entry-clause-right : goal.returns-then-has_entry-clause-right
@@ -68,3 +68,30 @@ returns-clause-right g c = λ next kept honest.
     (λ found told. subst (λ (s : StreamView). IsTrue found ↔ Contains (entries_of s) entry) c.self.view_is
     (of_rest parts head entry no_head no_memory found (subst (λ (ps : List PartView). IsTrue found ↔ Contains (flat_map in_store ps) entry) c.deref-3.ensures.value told)))
     c.any_there.result (c.any_there.ensures.right next now honest)
+
+pub returns-then-has_entry-clause-yes : goal.returns-then-has_entry-clause-yes
+returns-then-has_entry-clause-yes g c = λ found.
+    let there : Contains c.self.inside.head.items c.args.entry.now = subst (λ (es : List Entry). Contains es c.args.entry.now) c.deref.ensures.value (c.has_entry.ensures.0 c.if-has_entry.true) in
+    inl (subst (λ (s : StreamView). Contains (entries_here s) c.args.entry.now) c.self.view_is (Contains-append_right (flat_map in_memory c.self.inside.parts.items) c.self.inside.head.items c.args.entry.now there))
+
+pub returns-then-is_above-clause-no : goal.returns-then-is_above-clause-no
+returns-then-is_above-clause-no g c = λ found.
+    subst (λ (s : StreamView). AllByRecursion (IsWithout c.args.entry.now) s.parts) c.self.view_is (without_above c.self.inside.sealed_to c.self.inside.parts.items c.args.entry.now c.self.invariant.up_to (c.is_above.ensures c.if-is_above.true))
+
+pub returns-then-any_here-clause-yes : goal.returns-then-any_here-clause-yes
+returns-then-any_here-clause-yes g c = λ found.
+    let entry = c.args.entry.now in
+    let there : Contains (flat_map in_memory c.self.inside.parts.items) entry = subst (λ (ps : List PartView). Contains (flat_map in_memory ps) entry) c.deref-2.ensures.value (c.any_here.ensures.0 c.if-any_here.true) in
+    inl (subst (λ (s : StreamView). Contains (entries_here s) entry) c.self.view_is (Contains-append_left (flat_map in_memory c.self.inside.parts.items) c.self.inside.head.items entry there))
+
+pub returns-clause-yes : goal.returns-clause-yes
+returns-clause-yes g c =
+    let parts : c.deref-3.result.now ≡ c.args.self.now.parts = c.deref-3.ensures.value ∙ ap (λ (s : StreamView). s.parts) c.self.view_is in
+    ok_then _ (λ found. found ≡ true → Contains (entries_here c.args.self.now) c.args.entry.now ⊎ ((part : PartView) × Contains c.args.self.now.parts part × IsWith c.args.entry.now part))
+    (λ found told t. let at = told t in inr (at.0, subst (λ (ps : List PartView). Contains ps at.0) parts at.1, at.2)) c.any_there.result c.any_there.ensures.yes
+
+pub returns-clause-no : goal.returns-clause-no
+returns-clause-no g c =
+    let parts : c.deref-3.result.now ≡ c.args.self.now.parts = c.deref-3.ensures.value ∙ ap (λ (s : StreamView). s.parts) c.self.view_is in
+    ok_then _ (λ found. found ≡ false → AllByRecursion (IsWithout c.args.entry.now) c.args.self.now.parts)
+    (λ found told f. subst (λ (ps : List PartView). AllByRecursion (IsWithout c.args.entry.now) ps) parts (told f)) c.any_there.result c.any_there.ensures.no
