@@ -4,6 +4,6 @@ pub mod Heads
 pub mod InOrder
 pub mod Lines
 pub mod Puts
+pub mod Refusals
 pub mod Times
-pub mod Wayout
 pub mod Writes

@@ -183,8 +183,8 @@ impl Stream {
         any_there(alloc, store, &self.parts, entry)
     }
 
-    /// Hands out the entries of a range of time, both ends included: part by part and then the head, each once and in
-    /// order. A part that a store has is read only where its range of time reaches into the range.
+    /// Hands out the entries of a range of time, both ends included, each once: part by part, and then the head. A part
+    /// that a store has is read only where its range of time reaches into the range.
     pub fn each<S: Store, T: Taker>(
         &self,
         alloc: Global,

@@ -1,6 +1,6 @@
 -- A fault of the store is passed on.
 use Rattle.std.proofs.lemmas.Result.{err_from_is_err_and}
-use Rattle.rl_parts.proofs.Wayout.{right_on}
+use Rattle.rl_parts.proofs.Refusals.{right_on}
 use Rattle.rl_parts.proofs.fetching.fetch.Goals as goal
 
 pub returns-in_err-bytes-clause-right : goal.returns-in_err-bytes-clause-right

@@ -8,7 +8,7 @@ use Rattle.rl_parts.specs.StreamParts.{PartView}
 use Rattle.rl_parts.specs.Reading.{IsOutside, IsHandedOut, told_in_range}
 use Rattle.rl_parts.specs.laws.UseLaws.{Looked-then}
 use Rattle.rl_parts.proofs.Handing.{part_more, piece_more}
-use Rattle.rl_parts.proofs.Wayout.{right_on, kept_at}
+use Rattle.rl_parts.proofs.Refusals.{right_on, kept_at}
 use Rattle.rl_parts.proofs.handing_out.hand_parts.Goals as goal
 
 pub returns-in_err-hand_out-clause-right : goal.returns-in_err-hand_out-clause-right

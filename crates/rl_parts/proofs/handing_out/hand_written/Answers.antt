@@ -10,7 +10,7 @@ use Rattle.rl_parts.specs.StreamParts.{chunk_of}
 use Rattle.rl_parts.specs.Reading.{lines_in_range}
 use Rattle.rl_parts.proofs.Handing.{nothing_told, lines_told}
 use Rattle.rl_parts.proofs.Times.{reaches, apart_from}
-use Rattle.rl_parts.proofs.Wayout.{right_on}
+use Rattle.rl_parts.proofs.Refusals.{right_on}
 use Rattle.rl_parts.proofs.handing_out.hand_written.Goals as goal
 
 pub returns-then-is_outside-clause-told : goal.returns-then-is_outside-clause-told

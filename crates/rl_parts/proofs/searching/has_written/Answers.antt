@@ -11,7 +11,7 @@ use Rattle.rl_chunks.specs.declared.line.Line.{Line}
 use Rattle.rl_parts.specs.StreamParts.{chunk_of}
 use Rattle.rl_parts.proofs.Finding.{no, not_both, line_found, line_there}
 use Rattle.rl_parts.proofs.Times.{outside, reaches, apart_from}
-use Rattle.rl_parts.proofs.Wayout.{right_on}
+use Rattle.rl_parts.proofs.Refusals.{right_on}
 use Rattle.rl_parts.proofs.searching.has_written.Goals as goal
 
 pub returns-then-is_outside-clause-right : goal.returns-then-is_outside-clause-right

@@ -9,7 +9,7 @@ use Rattle.rl_parts.specs.StoreUse.{IsKept, Right}
 use Rattle.rl_parts.specs.Reading.{IsHandedOut, lines_in_range, told_in_range}
 use Rattle.rl_parts.specs.declared.part.Place.TheVariants.{Here, InStore}
 use Rattle.rl_parts.proofs.Handing.{lines_told, one_piece}
-use Rattle.rl_parts.proofs.Wayout.{on_ok_then}
+use Rattle.rl_parts.proofs.Refusals.{on_ok_then}
 use Rattle.rl_parts.proofs.part.Part.hand_out.Goals as goal
 
 pub returns-in-InStore-clause-right : goal.returns-in-InStore-clause-right

@@ -8,7 +8,7 @@ use Rattle.rl_parts.specs.StreamParts.{PartView, StreamView, entries_of}
 use Rattle.rl_parts.specs.StoreUse.{IsKept, AreKept}
 use Rattle.rl_parts.specs.Reading.{IsOutside, IsHandedOut, NoneReaches, lines_in_range, told_in_range}
 use Rattle.rl_parts.proofs.Handing.{both_told, lines_told}
-use Rattle.rl_parts.proofs.Wayout.{right_on}
+use Rattle.rl_parts.proofs.Refusals.{right_on}
 use Rattle.rl_parts.proofs.stream.Stream.each.Goals as goal
 
 pub returns-in_err-hand_parts-clause-right : goal.returns-in_err-hand_parts-clause-right
