@@ -79,7 +79,7 @@ refused_ok (Some f) x h = absurd (ok_apart x f h)
 refused_ok None x h = refl
 
 -- of the faults of a shard one is its journal's
-is_for_journal : ShardFault → Bool
+abbrev is_for_journal : ShardFault → Bool
 is_for_journal shard_faults.JournalFull = true
 is_for_journal other = false
 
