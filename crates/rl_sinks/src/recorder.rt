@@ -61,7 +61,7 @@ impl<W: Write + Drop> Recorder<W> {
     }
 }
 
-impl<W: Write + Send + Drop> Sink for Recorder<W> {
+impl<W: Write + Drop> Sink for Recorder<W> {
     ghost use Rattle.std.specs.Option.{option_copied};
     ghost use Rattle.rl_sinks.specs.SinkState.{taken, refused, closed};
     ghost use Rattle.rl_sinks.specs.Texts.{evaluation_text};

@@ -52,8 +52,8 @@ impl<T: Drop> From<AllocFailed<T>> for SinkFault {
     }
 }
 
-/// Takes the text of each evaluation.
-pub trait Sink: Send + Drop {
+/// Takes the text of each evaluation. What hands a sink to another thread asks for `Send` besides.
+pub trait Sink: Drop {
     ghost state: { Self → SinkState };
     // What a sink says beside of an answer: of `take`, by the sink before it, and of `close`, by the sink after it.
     ghost take_answers: { Self → Result ⊤ SinkFault → Type 0 } = { λ _ _. ⊤ };
@@ -92,7 +92,7 @@ pub trait Sink: Send + Drop {
         ensures answer { close_answers self.new result };
 }
 
-impl Sink for Box<dyn Sink> {
+impl Sink for Box<dyn Sink + Send> {
     ghost state = { λ sink. (Sink-box sink).state sink.value };
 
     ghost take_answers = { λ sink. (Sink-box sink).take_answers sink.value };

@@ -150,7 +150,7 @@ fn run_front(rt: &HostRuntime, front: Front) -> Result<Status, Stop> {
     let mut sinks = Vec::with_capacity(alloc, groups.len())?;
     for _ in 0..groups.len() {
         let recorder = Recorder::new(alloc, Output::new(*rt), RECORDER_CAP);
-        let boxed: Box<dyn Sink> = Box::new(alloc, recorder)?;
+        let boxed: Box<dyn Sink + Send> = Box::new(alloc, recorder)?;
         sinks.push(vec![in alloc; boxed]?)?;
     }
     let mut out = BufWriter::new(alloc, Output::new(*rt)).map_err(|_| Stop::Failed)?;

@@ -48,7 +48,7 @@ fn recorder(alloc: Global, input: &str) -> Result<String, Trouble> {
 // The same with room for one text, in a box.
 fn boxed(alloc: Global, input: &str) -> Result<String, Trouble> {
     let recorder = Recorder::new(alloc, Vec::new(alloc), 1);
-    let sink: Box<dyn Sink> = Box::new(alloc, recorder)?;
+    let sink: Box<dyn Sink + Send> = Box::new(alloc, recorder)?;
     answers_of(alloc, sink, input)
 }
 

@@ -1,6 +1,6 @@
 -- A group more, whose recorder has taken nothing.
 use Rattle.std.proofs.Common.{rules, ◌≡◌, ◌∙◌, refl, ap, inl}
-use Rattle.rl_sinks.specs.contracts.sink.BoxDynSinkSink.TheImpl.{ghosts}
+use Rattle.rl_sinks.specs.contracts.sink.BoxDynSinkSendSink.TheImpl.{ghosts}
 use Rattle.rl_sinks.specs.RecorderState.{recorder_state}
 use Rattle.rl_sinks.specs.SinkState.{SinkState}
 use denote.Param.Object.{read_made}

@@ -2,7 +2,7 @@
 use Rattle.std.proofs.Common.{◌≡◌, length, map}
 use Rattle.std.specs.List.{AllByRecursion}
 use Rattle.rl_world.specs.BookCalls.{IsFresh}
-use Rattle.rl_sinks.specs.contracts.sink.BoxDynSinkSink.TheImpl.{ghosts}
+use Rattle.rl_sinks.specs.contracts.sink.BoxDynSinkSendSink.TheImpl.{ghosts}
 use Rattle.rule_shell.proofs.run_front.OwnLists.{own-1, lawful-own-1}
 use Rattle.rule_shell.proofs.run_front.Hidden.{sends-own-1}
 use Rattle.rule_shell.proofs.run_front.Given as goal

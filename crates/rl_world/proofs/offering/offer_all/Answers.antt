@@ -6,7 +6,7 @@ use Rattle.rl_world.proofs.offering.offer_all.Goals as goal
 use Rattle.rl_world.proofs.offering.offer_all.Goals.{then-offer, else-offer}
 
 pub offer-requires-clause-prefix : goal.offer-requires-clause-prefix
-offer-requires-clause-prefix g c κs within =
+offer-requires-clause-prefix g c =
     took_prefix-next g.S.Sink.state c.args.evaluations.now c.args.sinks.now c.loop-number.sinks c.loop-number.number c.index-sinks-number.result (omega arith) (omega arith) c.loop-number.invariant.rest c.requires.prefixes
 
 pub loop-number-preserved : goal.loop-number-preserved

@@ -11,7 +11,7 @@ use Rattle.rl_world.proofs.Items.{alerts-evaluated, group-evaluated, evaluations
 use Rattle.rl_world.proofs.book.Book.commit.Goals as goal
 
 pub offer_all-requires-clause-prefixes : goal.offer_all-requires-clause-prefixes
-offer_all-requires-clause-prefixes g c κs within =
+offer_all-requires-clause-prefixes g c =
     let state = g.S.Sink.state in
     let inside = c.self.inside in
     each_took_now inside.evaluations.items c.deref.result.now c.in_ok-evaluation.evaluation (map state inside.sinks.items) (map state c.deref_mut.result.now)
