@@ -6,7 +6,7 @@ ghost use Rattle.rl_world.specs.BookCalls.{IsFresh};
 use rl_labels::{DEFAULT_LIMITS, Limits, Ns};
 use rl_plain::Shared;
 use rl_rules::read_rules;
-use rl_session::{RunError, Session, Status, read_push};
+use rl_session::{RunError, Session, Status, WorldEngine, read_push};
 use rl_shard::ShardStep;
 use rl_sinks::{Recorder, Sink};
 use rl_world::{Committed, Reply, Step, World};
@@ -113,7 +113,8 @@ pub(crate) fn session(
     let groups = vec![in alloc; read_rules(alloc, RULES).ok()?.pop()?].ok()?;
     let sinks = one(alloc, one(alloc, Recorder::new(alloc, sink, 8))?)?;
     let limits = Limits::check(DEFAULT_LIMITS).ok()?;
-    let mut session = Session::open(alloc, limits, groups, sinks).ok()?;
+    let engine = WorldEngine::open(alloc, limits, 1, groups, sinks).ok()?;
+    let mut session = Session::new(alloc, engine);
     Some(session.run_commands(text, out))
 }
 

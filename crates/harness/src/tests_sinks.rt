@@ -73,7 +73,10 @@ fn nothing_is_written_behind_a_failed_write(rt: HostRuntime) -> Result<(), Fail>
 fn a_box_is_the_sink_in_it(rt: HostRuntime) -> Result<(), Fail> {
     let one = evaluation(rt.alloc(), 10)?;
     let writer = Planned::new(rt.alloc(), 99, (1, 1), FULL);
-    let mut sink: Box<dyn Sink + Send> = Box::new(rt.alloc(), Recorder::new(rt.alloc(), writer, 1))?;
+    let mut sink: Box<dyn Sink + Send> = Box::new(
+        rt.alloc(),
+        Recorder::new(rt.alloc(), writer, 1),
+    )?;
     is(&rt, sink.kind(), SinkKind::Recorder, 0);
     is(&rt, take(&rt, &mut sink, one.get()), Ok(()), 1);
     is(&rt, take(&rt, &mut sink, one.get()), Err(Full), 2);

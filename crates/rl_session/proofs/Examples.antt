@@ -1,19 +1,20 @@
 -- Definitions, computed where no running session shows them.
 use Rattle.std.specs.Prelude.{codes}
 use Rattle.std.specs.Fmt.{digits}
-use Rattle.std.proofs.Common.{◌≡◌, ℕ, false, List, [], ◌∷◌, Some, Ok, Err, inl, refl, sym, subst, arith}
+use Rattle.std.proofs.Common.{◌≡◌, ℕ, true, false, List, [], ◌∷◌, Some, Ok, Err, inl, refl, sym, subst, arith}
 use Rattle.rl_world.specs.declared.fault.BookFault.TheVariants as books
 use Rattle.rl_world.specs.declared.fault.Refusal.TheVariants as refusals
-use Rattle.rl_world.specs.declared.step.Reply.TheVariants as replies
+use Rattle.rl_session.specs.Asking.{IsForPush, IsForEvaluation, EvaluatesDue}
 use Rattle.rl_session.specs.Command.{pushes, evaluates}
+use Rattle.rl_session.specs.Engine.{Calls, number_named}
 use Rattle.rl_session.specs.Front.{IsCut}
 use Rattle.rl_session.specs.Names.{refusal_name}
 use Rattle.rl_session.specs.PushBody.{entries_of}
 use Rattle.rl_session.specs.PushForms.{EntryForm}
 use Rattle.rl_session.specs.Reading.{Reads, Tells}
-use Rattle.rl_session.specs.Session.{IsForPush, IsTold, AreLinesTold, committed_of}
-use Rattle.rl_session.specs.declared.session.Answer.TheVariants.{Refused, Ended}
-use Rattle.rl_session.specs.declared.session.Got.TheVariants as gots
+use Rattle.rl_session.specs.Session.{IsTold, AreLinesTold}
+use Rattle.rl_session.specs.declared.telling.Answer.TheVariants.{Refused, Ended}
+use Rattle.rl_session.specs.declared.telling.Got.TheVariants as gots
 use Rattle.rl_session.specs.declared.front.fault.FrontFault.TheVariants as fronts
 
 cut_round_a_mark : IsCut (codes "d\n%%\nc") (codes "d\n", codes "c")
@@ -34,15 +35,18 @@ not_told_past_the_longest told = absurd (omega (arith, told.0))
 name_of_a_busy_book : refusal_name (refusals.Book books.Busy) ≡ codes "Busy"
 name_of_a_busy_book = refl
 
-first_refusal : committed_of (replies.Begun ∷ replies.Refused refusals.NoSuch ∷ replies.Refused refusals.Memory ∷ []) ≡ Some (Err refusals.NoSuch)
-first_refusal = refl
+module _ {E : Type 0} (calls : Calls E) where
+  push_without_memory : (engine : E) (json : List ℕ) (form : EntryForm) → entries_of json ≡ Ok (form ∷ []) → IsTold calls engine (Some (pushes json)) (codes "accepted 0 refused 1\n  0 Memory\n") Refused engine
+  unfolding digits
+  push_without_memory engine json form read = (gots.Unpushed 1, subst (λ read. IsForPush calls engine read (gots.Unpushed 1) engine) (sym read) (refl, refl), (refl, refl))
 
-push_without_memory : (json : List ℕ) (form : EntryForm) → entries_of json ≡ Ok (form ∷ []) → IsTold (Some (pushes json)) (codes "accepted 0 refused 1\n  0 Memory\n") Refused
-unfolding digits
-push_without_memory json form read = (gots.Unpushed 1, subst (λ read. IsForPush read (gots.Unpushed 1)) (sym read) refl, (refl, refl))
+  evaluation_refused : (old new : E) (group : List ℕ) → number_named group (calls.groups old) ≡ Some 0 → calls.evaluates old 0 5 (Err refusals.Memory) new → IsTold calls old (Some (evaluates 5 group)) (codes "refused Memory\n") Refused new
+  evaluation_refused old new group named evaluated = (gots.Evaluated (Err refusals.Memory), subst (λ number. IsForEvaluation calls old 5 number (gots.Evaluated (Err refusals.Memory)) new) (sym named) (evaluated, tt), (refl, refl))
 
-evaluation_without_memory : (group : List ℕ) → IsTold (Some (evaluates 5 group)) (codes "refused Memory\n") Refused
-evaluation_without_memory group = (gots.Evaluated (Err refusals.Memory), tt, (refl, refl))
+  tick_that_goes_on : (old mid new : E) → calls.is_due old 0 9 true → calls.evaluates old 0 9 (Err refusals.JournalFull) mid → calls.is_due mid 1 9 true → calls.evaluates mid 1 9 (Err refusals.Memory) new
+      → EvaluatesDue calls old 9 0 2 (Err refusals.JournalFull ∷ Err refusals.Memory ∷ []) new
+  tick_that_goes_on old mid new first full second wanted =
+      (true, first, (Err refusals.JournalFull, mid, Err refusals.Memory ∷ [], (full, tt), refl, (true, second, (Err refusals.Memory, new, [], (wanted, tt), refl, (refl, refl)))))
 
-nothing_told_behind_an_end : AreLinesTold (codes "end" ∷ codes "nonsense" ∷ []) [] false
-nothing_told_behind_an_end = ([], Ended, (refl, refl), (refl, refl))
+  nothing_told_behind_an_end : (engine : E) → AreLinesTold calls engine (codes "end" ∷ codes "nonsense" ∷ []) [] false engine
+  nothing_told_behind_an_end engine = ([], Ended, engine, (refl, refl, refl), (refl, refl, refl))

@@ -1,9 +1,12 @@
 mod Documents
 pub mod Answering
-pub mod Closing
+pub mod Calling
 pub mod Cut
 pub mod Gathering
 pub mod Lines
 mod Printing
-pub mod Telling
+pub mod Standing
+pub mod LinesSoFar
+mod Texts
 mod Examples
+pub mod Worlds

@@ -1,9 +1,12 @@
 pub mod Names
 pub mod Command
 pub mod Edits
+pub mod Engine
+pub mod Asking
 pub mod Printed
 pub mod Session
 pub mod PushBody
 pub mod PushForms
 pub mod Front
 pub mod Reading
+pub mod WorldEngine

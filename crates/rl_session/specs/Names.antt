@@ -1,5 +1,5 @@
 -- The names under which faults and refusals are printed: those of their variants, without what they hold.
-use Rattle.std.specs.Prelude.{ℕ, List, Option, None, Some, codes}
+use Rattle.std.specs.Prelude.{ℕ, List, Option, None, Some, Result, Ok, Err, codes}
 use Rattle.rl_plain.specs.declared.refusal.OrMemory.{OrMemory}
 use Rattle.rl_plain.specs.declared.refusal.OrMemory.TheVariants as errors
 use Rattle.rl_rules.specs.declared.fault.RulesFault.{RulesFault}
@@ -10,8 +10,6 @@ use Rattle.rl_world.specs.declared.fault.BookFault.{BookFault}
 use Rattle.rl_world.specs.declared.fault.BookFault.TheVariants as books
 use Rattle.rl_world.specs.declared.fault.Refusal.{Refusal}
 use Rattle.rl_world.specs.declared.fault.Refusal.TheVariants as refusals
-use Rattle.rl_world.specs.declared.step.Reply.{Reply}
-use Rattle.rl_world.specs.declared.step.Reply.TheVariants as world
 use Rattle.rl_session.specs.declared.front.fault.FrontFault.{FrontFault}
 use Rattle.rl_session.specs.declared.front.fault.FrontFault.TheVariants as fronts
 use Rattle.rl_session.specs.declared.edit.EditRefusal.{EditRefusal}
@@ -56,7 +54,7 @@ book_fault_name books.AlreadyGathered = codes "AlreadyGathered"
 book_fault_name books.Incomplete = codes "Incomplete"
 book_fault_name books.SessionFull = codes "SessionFull"
 
--- a world's refusal, or the fault of the book
+-- a refusal, or the fault of the book
 abbrev pub refusal_name : Refusal → List ℕ
 refusal_name refusals.NoSuch = codes "NoSuch"
 refusal_name (refusals.Book fault) = book_fault_name fault
@@ -76,7 +74,7 @@ abbrev pub edit_refusal_name : EditRefusal → List ℕ
 edit_refusal_name (edits.Rules error) = rules_error_name error
 edit_refusal_name edits.NotOneGroup = codes "NotOneGroup"
 edit_refusal_name edits.NoSuchGroup = codes "NoSuchGroup"
-edit_refusal_name (edits.World refusal) = refusal_name refusal
+edit_refusal_name (edits.Engine refusal) = refusal_name refusal
 
 -- why a shard did not take an entry
 abbrev pub shard_refusal : ShardReply → Option (List ℕ)
@@ -85,8 +83,7 @@ shard_refusal (replies.TooFarBehind _) = Some (codes "TooFarBehind")
 shard_refusal replies.Full = Some (codes "Full")
 shard_refusal _ = None
 
--- why a push was refused, by the shard or by the world
-abbrev pub push_refusal : Reply → Option (List ℕ)
-push_refusal (world.Decided _ reply) = shard_refusal reply
-push_refusal (world.Refused refusal) = Some (refusal_name refusal)
-push_refusal _ = None
+-- why a push was refused, by the shard or before it
+abbrev pub push_refusal : Result ShardReply Refusal → Option (List ℕ)
+push_refusal (Ok reply) = shard_refusal reply
+push_refusal (Err refusal) = Some (refusal_name refusal)

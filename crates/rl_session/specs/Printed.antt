@@ -1,20 +1,19 @@
 -- What a session prints, where the bytes that its writer holds are known.
 use Rattle.std.specs.Prelude.{ℕ, suc, ◌-◌, ◌==◌, nat_lt, is_err, ⊤, Bool, List, [], ◌∷◌, ◌++◌, length, replicate, count_by, flat_map, Option, None, Some, is_some, Result, Ok, Err, codes, if◌then◌else◌}
-use Rattle.std.specs.List.{concat, list_any}
+use Rattle.std.specs.List.{list_any}
 use Rattle.std.specs.Fmt.{decimal}
-use Rattle.rl_sinks.specs.SinkState.{SinkState}
 use Rattle.rl_sinks.specs.Texts.{tail_text}
 use Rattle.rl_world.specs.declared.fault.Refusal.{Refusal}
 use Rattle.rl_world.specs.declared.fault.Refusal.TheVariants as refusals
 use Rattle.rl_world.specs.declared.step.Committed.{Committed}
-use Rattle.rl_world.specs.declared.step.Reply.{Reply}
-use Rattle.rl_world.specs.declared.step.Reply.TheVariants as replies
+use Rattle.rl_shard.specs.declared.step.ShardReply.{ShardReply}
 use Rattle.rl_session.specs.Names.{push_error_name, push_refusal, refusal_name, edit_refusal_name}
 use Rattle.rl_session.specs.declared.edit.EditRefusal.{EditRefusal}
-use Rattle.rl_session.specs.declared.session.Answer.{Answer}
-use Rattle.rl_session.specs.declared.session.Answer.TheVariants.{Taken, Refused}
-use Rattle.rl_session.specs.declared.session.Got.{Got}
-use Rattle.rl_session.specs.declared.session.Got.TheVariants as gots
+use Rattle.rl_session.specs.Engine.{Shown, kept_text}
+use Rattle.rl_session.specs.declared.telling.Answer.{Answer}
+use Rattle.rl_session.specs.declared.telling.Answer.TheVariants.{Taken, Refused}
+use Rattle.rl_session.specs.declared.telling.Got.{Got}
+use Rattle.rl_session.specs.declared.telling.Got.TheVariants as gots
 
 -- the line of a refusal
 abbrev pub refusal_line : List ℕ → List ℕ
@@ -36,20 +35,20 @@ entry_line number None = []
 entry_line number (Some name) = codes "  " ++ decimal number ++ codes " " ++ name ++ codes "\n"
 
 -- the lines of entries, of which the first has this number
-abbrev pub entry_lines : ℕ → List Reply → List ℕ
+abbrev pub entry_lines : ℕ → List (Result ShardReply Refusal) → List ℕ
 entry_lines number [] = []
-entry_lines number (reply ∷ replies) = entry_line number (push_refusal reply) ++ entry_lines (suc number) replies
+entry_lines number (answer ∷ answers) = entry_line number (push_refusal answer) ++ entry_lines (suc number) answers
 
-abbrev pub is_refused : Reply → Bool
-is_refused reply = is_some (push_refusal reply)
+abbrev pub is_refused : Result ShardReply Refusal → Bool
+is_refused answer = is_some (push_refusal answer)
 
--- what a push prints, by the reply to each entry
-abbrev pub pushed_text : List Reply → List ℕ
-pushed_text replies = counts_line (length replies - count_by is_refused replies) (count_by is_refused replies) ++ entry_lines 0 replies
+-- what a push prints, by the answer to each entry
+abbrev pub pushed_text : List (Result ShardReply Refusal) → List ℕ
+pushed_text answers = counts_line (length answers - count_by is_refused answers) (count_by is_refused answers) ++ entry_lines 0 answers
 
 -- no memory for any of so many entries
-abbrev pub none_pushed : ℕ → List Reply
-none_pushed count = replicate count (replies.Refused refusals.Memory)
+abbrev pub none_pushed : ℕ → List (Result ShardReply Refusal)
+none_pushed count = replicate count (Err refusals.Memory)
 
 -- a space and a number
 abbrev pub number_text : ℕ → List ℕ
@@ -80,11 +79,11 @@ edited_text (Ok done) = codes "ok\n"
 edited_text (Err refusal) = refusal_line (edit_refusal_name refusal)
 
 -- what a sink that is shown prints: how many texts it has taken, and those that it keeps
-abbrev pub shown_text : Option SinkState → List ℕ
+abbrev pub shown_text : Option Shown → List ℕ
 shown_text None = refusal_line (codes "BadCommand")
-shown_text (Some sink) = codes "count " ++ decimal sink.count ++ codes "\n" ++ concat sink.kept
+shown_text sink = kept_text sink
 
-abbrev pub shown_answer : Option SinkState → Answer
+abbrev pub shown_answer : Option Shown → Answer
 shown_answer None = Refused
 shown_answer (Some sink) = Taken
 
@@ -110,3 +109,11 @@ answer_to (gots.Edited result) = answer_of (is_err result)
 answer_to (gots.Evaluated result) = answer_of (is_err result)
 answer_to (gots.Ticked results) = answer_of (list_any is_err results.items)
 answer_to _ = Refused
+
+abbrev pub not_closed_line : List ℕ → List ℕ
+not_closed_line name = codes "not closed " ++ (name ++ codes "\n")
+
+-- the last line, by whether the sinks were closed
+abbrev pub closed_text : Result ℕ Refusal → List ℕ
+closed_text (Ok failures) = codes "closed\n"
+closed_text (Err refusal) = not_closed_line (refusal_name refusal)

@@ -15,7 +15,8 @@ pub(crate) enum EditRefusal {
     NotOneGroup,
     // No group has its name.
     NoSuchGroup,
-    World(Refusal),
+    // The engine refused it.
+    Engine(Refusal),
 }
 
 /// The one group of a document.

@@ -1,18 +1,26 @@
 //! Sessions: rules, a mark and commands as they are read, and what the commands print.
 //!
 //! - `front`: `read_front`, what stands before the mark and behind it. `push`: `read_push`, entries from JSON.
-//! - `command`: `Command`, one line. `edit`: the group of an edit. `session`: `Session`, many lines.
+//! - `engine`: `Engine`, what evaluates the groups. `world_engine`: `WorldEngine`, a world on one thread.
+//! - `command`: `Command`, one line. `edit`: the group of an edit. `asking`: what commands ask of an engine, and what they get.
+//! - `telling`: what is printed of that. `session`: `Session`, many lines.
 //! - `names`: the names of faults and refusals.
 #![tactic(auto)]
 
+mod asking;
 pub mod command;
 mod edit;
+pub mod engine;
 pub mod front;
 pub mod names;
 pub mod push;
 pub mod session;
+mod telling;
+pub mod world_engine;
 
 pub use command::{Command, is_blank, read_command};
+pub use engine::Engine;
 pub use front::{Commands, Front, FrontError, FrontFault, read_front};
 pub use push::{PushError, PushFault, read_push};
 pub use session::{RunError, Session, Status};
+pub use world_engine::WorldEngine;

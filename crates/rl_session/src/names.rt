@@ -8,7 +8,7 @@ use crate::front::FrontFault;
 use crate::push::{PushError, PushFault};
 use rl_rules::{RulesError, RulesFault};
 use rl_shard::ShardReply;
-use rl_world::{BookFault, Refusal, Reply};
+use rl_world::{BookFault, Refusal};
 
 /// The name of a push body's fault.
 pub fn push_error_name(error: PushError) -> &'static str
@@ -60,7 +60,7 @@ pub(crate) fn edit_refusal_name(refusal: EditRefusal) -> &'static str
         EditRefusal::Rules(error) => rules_error_name(error),
         EditRefusal::NotOneGroup => "NotOneGroup",
         EditRefusal::NoSuchGroup => "NoSuchGroup",
-        EditRefusal::World(refusal) => refusal_name(refusal),
+        EditRefusal::Engine(refusal) => refusal_name(refusal),
     }
 }
 
@@ -73,7 +73,7 @@ fn rules_error_name(error: RulesError) -> &'static str
     }
 }
 
-// The name of a world's refusal; that of the book's fault where it has one.
+// The name of a refusal; that of the book's fault where it has one.
 pub(crate) fn refusal_name(refusal: Refusal) -> &'static str
     ensures { result.now ≡ refusal_name refusal }
 {
@@ -102,13 +102,12 @@ fn book_fault_name(fault: BookFault) -> &'static str
 }
 
 // The name under which the push of an entry was refused, if it was.
-pub(crate) fn push_refusal(reply: &Reply) -> Option<&'static str>
-    ensures { option_map (λ name. name.now) result ≡ push_refusal reply.now }
+pub(crate) fn push_refusal(answer: &Result<ShardReply, Refusal>) -> Option<&'static str>
+    ensures { option_map (λ name. name.now) result ≡ push_refusal answer.now }
 {
-    match reply {
-        Reply::Decided { reply, .. } => shard_refusal(reply),
-        Reply::Refused(refusal) => Some(refusal_name(*refusal)),
-        _ => None,
+    match answer {
+        Ok(reply) => shard_refusal(reply),
+        Err(refusal) => Some(refusal_name(*refusal)),
     }
 }
 

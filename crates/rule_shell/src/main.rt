@@ -19,12 +19,17 @@ use output::Output;
 use rl_labels::{DEFAULT_LIMITS, Limits};
 use rl_rules::Group;
 use rl_session::names::front_fault_name;
-use rl_session::{Front, FrontError, FrontFault, RunError, Session, Status, read_front};
+use rl_session::{
+    Front, FrontError, FrontFault, RunError, Session, Status, WorldEngine, read_front,
+};
 use rl_sinks::{Recorder, Sink};
 use std::alloc::{AllocError, AllocFailed, Global};
 use std::io::{BufWriter, ErrorKind, Write};
 use std::process::ExitCode;
 use std::{env, mem};
+
+// How many shards there are.
+const SHARDS: usize = 1;
 
 // How many texts of a recorder may wait to be written.
 const RECORDER_CAP: usize = 1_024;
@@ -160,7 +165,7 @@ fn run_front(rt: &HostRuntime, front: Front) -> Result<Status, Stop> {
     }
 }
 
-// Runs the commands over new shards. Behind it the process ends, and gives all memory back at once.
+// Runs the commands over a new world. Behind it the process ends, and gives all memory back at once.
 fn run_session<S: Sink, W: Write>(
     alloc: Global,
     limits: Limits,
@@ -172,7 +177,8 @@ fn run_session<S: Sink, W: Write>(
     requires lists { length sinks.items ≡ length groups.items }
     requires fresh { AllByRecursion (λ own. AllByRecursion IsFresh (map S.state own.items)) sinks.items }
 {
-    let mut session = Session::open(alloc, limits, groups, sinks)?;
+    let engine = WorldEngine::open(alloc, limits, SHARDS, groups, sinks)?;
+    let mut session = Session::new(alloc, engine);
     let ended = session.run_commands(commands, out);
     mem::forget(session);
     ended

@@ -13,8 +13,8 @@ use rl_labels::Limits;
 use rl_rules::RulesFault;
 use rl_session::names::{front_fault_name, push_error_name};
 use rl_session::{
-    Front, FrontError, FrontFault, PushError, RunError, Session, Status, is_blank, read_front,
-    read_push,
+    Front, FrontError, FrontFault, PushError, RunError, Session, Status, WorldEngine, is_blank,
+    read_front, read_push,
 };
 use rl_sinks::{Recorder, Sink};
 use std::alloc::{AllocError, Global};
@@ -95,7 +95,8 @@ fn run_session(
     if groups.len() != 1 {
         return Err(Trouble::BadInput);
     }
-    let mut session = Session::open(alloc, limits, groups, sinks)?;
+    let engine = WorldEngine::open(alloc, limits, 1, groups, sinks)?;
+    let mut session = Session::new(alloc, engine);
     let ended = session.run_commands(commands.as_str(), &mut written.printed);
     mem::forget(session);
     Ok(ended)

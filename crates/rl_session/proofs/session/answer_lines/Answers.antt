@@ -3,21 +3,23 @@ use Rattle.std.proofs.Common.{◌∷◌, length, length-append, sym, ap, subst, 
 use Rattle.std.specs.Option.{option_copied}
 use Rattle.rl_session.specs.Front.{IsFirstLine}
 use Rattle.rl_session.proofs.Cut.{IsUtf8-behind}
-use Rattle.rl_session.proofs.Telling.{told_line, told_all, told_end}
+use Rattle.rl_session.proofs.LinesSoFar.{told_line, told_all, told_end}
 use Rattle.rl_session.proofs.session.answer_lines.Goals as goal
 
-pub returns-then-is_end-clause-told : goal.returns-then-is_end-clause-told
-returns-then-is_end-clause-told g c =
+pub returns-then-is_end : goal.returns-then-is_end
+returns-then-is_end g c =
     let contents = g.W.Write.contents in
-    told_end c.args.commands.now c.loop-answer.rest.now c.first_line.result.0.now (option_copied c.first_line.result.1) c.loop-answer.refused c.in_ok-answer.answer (contents c.args.out.now) (contents c.loop-answer.out) (contents c.answer_line.new.out)
-    (sym c.is_end.ensures ∙ c.if-is_end.true) c.first_line.ensures c.in_ok-answer.ensures.told c.loop-answer.invariant.so_far
+    told_end g.E.Engine.calls c.args.engine.now c.args.commands.now c.loop-answer.rest.now c.first_line.result.0.now (option_copied c.first_line.result.1) c.loop-answer.refused c.in_ok-answer.answer
+    (contents c.args.out.now) (contents c.loop-answer.out) (contents c.answer_line.new.out) c.loop-answer.engine c.answer_line.new.engine
+    (sym c.is_end.ensures ∙ c.if-is_end.true) c.first_line.ensures c.in_ok-answer.ensures c.loop-answer.invariant.so_far
 
-pub returns-in-None-clause-told : goal.returns-in-None-clause-told
-returns-in-None-clause-told g c =
+pub returns-in-None : goal.returns-in-None
+returns-in-None g c =
     let contents = g.W.Write.contents in
     let first = subst (λ behind. IsFirstLine c.loop-answer.rest.now c.first_line.result.0.now (option_copied behind)) c.in-None.is c.first_line.ensures in
-    rw c.is_refusal-refused.ensures (told_all c.args.commands.now c.loop-answer.rest.now c.first_line.result.0.now c.loop-answer.refused c.in_ok-answer.answer (contents c.args.out.now) (contents c.loop-answer.out) (contents c.answer_line.new.out)
-    (sym c.is_end.ensures ∙ c.if-is_end.false) first c.in_ok-answer.ensures.told c.loop-answer.invariant.so_far)
+    rw c.is_refusal-refused.ensures (told_all g.E.Engine.calls c.args.engine.now c.args.commands.now c.loop-answer.rest.now c.first_line.result.0.now c.loop-answer.refused c.in_ok-answer.answer
+    (contents c.args.out.now) (contents c.loop-answer.out) (contents c.answer_line.new.out) c.loop-answer.engine c.answer_line.new.engine
+    (sym c.is_end.ensures ∙ c.if-is_end.false) first c.in_ok-answer.ensures c.loop-answer.invariant.so_far)
 
 pub loop-answer-preserved : goal.loop-answer-preserved
 loop-answer-preserved g c =
@@ -25,9 +27,9 @@ loop-answer-preserved g c =
     let first = subst (λ behind. IsFirstLine c.loop-answer.rest.now c.first_line.result.0.now (option_copied behind)) c.in-Some.is c.first_line.ensures in
     record {
       text = IsUtf8-behind c.loop-answer.rest.now c.first_line.result.0.now c.in-Some.behind.now c.loop-answer.invariant.text first.1;
-      so_far = rw c.is_refusal-refused.ensures (told_line c.args.commands.now c.loop-answer.rest.now c.first_line.result.0.now c.in-Some.behind.now c.loop-answer.refused c.in_ok-answer.answer (contents c.args.out.now) (contents c.loop-answer.out) (contents c.answer_line.new.out)
-          (sym c.is_end.ensures ∙ c.if-is_end.false) first c.in_ok-answer.ensures.told c.loop-answer.invariant.so_far);
-      sinks = omega arith;
+      so_far = rw c.is_refusal-refused.ensures (told_line g.E.Engine.calls c.args.engine.now c.args.commands.now c.loop-answer.rest.now c.first_line.result.0.now c.in-Some.behind.now c.loop-answer.refused c.in_ok-answer.answer
+          (contents c.args.out.now) (contents c.loop-answer.out) (contents c.answer_line.new.out) c.loop-answer.engine c.answer_line.new.engine
+          (sym c.is_end.ensures ∙ c.if-is_end.false) first c.in_ok-answer.ensures c.loop-answer.invariant.so_far);
     }
 
 pub loop-answer-smaller : goal.loop-answer-smaller

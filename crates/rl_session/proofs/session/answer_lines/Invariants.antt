@@ -1,9 +1,8 @@
--- What was told of the lines so far, and that no sink is gone.
+-- What was told of the lines so far.
 use Rattle.std.proofs.Common.{length}
 use denote.Text.{Utf8}
 use denote.Shadow.{shadow}
-use Rattle.rl_session.specs.Session.{KeepsSinks}
-use Rattle.rl_session.proofs.Telling.{ToldSoFar}
+use Rattle.rl_session.proofs.LinesSoFar.{ToldSoFar}
 use Rattle.rl_session.proofs.session.answer_lines.Given as goal
 
 abbrev pub decreases-loop-answer : goal.decreases-loop-answer
@@ -12,6 +11,5 @@ decreases-loop-answer g l = length l.rest
 abbrev pub invariant-loop-answer : goal.invariant-loop-answer
 invariant-loop-answer g l = record {
   text : shadow (Utf8 l.rest);
-  so_far : ToldSoFar l.commands l.rest l.refused (g.W.Write.contents l.fn.out) (g.W.Write.contents l.out);
-  sinks : KeepsSinks l.fn.session.world l.session.world;
+  so_far : ToldSoFar g.E.Engine.calls l.fn.engine l.commands l.rest l.refused (g.W.Write.contents l.fn.out) (g.W.Write.contents l.out) l.engine;
 }

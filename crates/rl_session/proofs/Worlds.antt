@@ -1,0 +1,107 @@
+-- What the calls of an engine over a world make of the world.
+use Rattle.std.proofs.Common.{◌≡◌, ℕ, zero, suc, ◌+◌, ◌<◌, Bool, true, false, cond, List, [], ◌∷◌, map, length, take, Option, None, Some, Ok, Err, refl, sym, ap, subst, ◌∙◌, arith}
+use Rattle.std.specs.Prelude.{⊤, Result, slice_get, option_map}
+use Rattle.std.proofs.lemmas.List.{length-map, take_all}
+use Rattle.std.proofs.lemmas.Option.{slice_get-map}
+use Rattle.rl_labels.specs.Name.{is_text}
+use Rattle.rl_rules.specs.declared.rule.Group.{Group}
+use Rattle.rl_sinks.specs.SinkState.{closed}
+use Rattle.rl_world.specs.WorldState.{BookState, WorldBooks, with_sinks_closed, world_of}
+use Rattle.rl_world.specs.declared.fault.Refusal.{Refusal}
+use Rattle.rl_session.specs.Engine.{Listed, number_named}
+use Rattle.rl_session.specs.WorldEngine.{IsEngine, IsGathered, AreGathered, name_at, listed}
+
+-- books whose sinks were closed are listed as before
+pub closed_listed : (books : List BookState) → map listed (map with_sinks_closed books) ≡ map listed books
+closed_listed [] = refl
+closed_listed (book ∷ books) = λ i. record { name = book.history.group.name; sinks = length-map book.sinks closed i } ∷ closed_listed books i
+
+closed_histories : (books : List BookState) → map (λ (b : BookState). b.history) (map with_sinks_closed books) ≡ map (λ (b : BookState). b.history) books
+closed_histories [] = refl
+closed_histories (book ∷ books) = ap (λ rest. book.history ∷ rest) (closed_histories books)
+
+-- and stand for the same lists
+pub closed_engine : (shards : ℕ) (old new : WorldBooks) → new ≡ record { shards = old.shards; books = map with_sinks_closed old.books } → IsEngine shards old → IsEngine shards new
+closed_engine shards old new is engine = subst (IsEngine shards) (sym is) (record {
+  shards_are = engine.shards_are;
+  stands = (engine.stands.0, (λ i. record { shards = old.shards; histories = closed_histories old.books i }) ∙ engine.stands.1);
+})
+
+-- worlds that are listed alike have the same names
+pub names_alike : (old new : WorldBooks) (group : ℕ) → map listed new.books ≡ map listed old.books → name_at new group ≡ name_at old group
+names_alike old new group alike = by_list new.books ∙ ap (λ groups. option_map (λ (one : Listed). one.name) (slice_get groups group)) alike ∙ sym (by_list old.books)
+  where
+    through : (book : Option BookState) → option_map (λ (b : BookState). b.history.group.name) book ≡ option_map (λ (one : Listed). one.name) (option_map listed book)
+    through None = refl
+    through (Some book) = refl
+
+    by_list : (books : List BookState) → option_map (λ (b : BookState). b.history.group.name) (slice_get books group) ≡ option_map (λ (one : Listed). one.name) (slice_get (map listed books) group)
+    by_list books = through (slice_get books group) ∙ ap (option_map (λ (one : Listed). one.name)) (sym (slice_get-map listed books group))
+
+ok_err : {A : Type 0} (x : A) (refusal : Refusal) → ◌≡◌ {A = Result A Refusal} (Ok x) (Err refusal) → ⊥
+ok_err x refusal h = cc
+
+-- a shard more
+pub gathered_more : (old : WorldBooks) (group from left at : ℕ) (mid new : WorldBooks) → at ≡ from + left → AreGathered old group from left (Ok tt) mid → IsGathered mid group at (Ok tt) new → AreGathered old group from (suc left) (Ok tt) new
+gathered_more old group from zero at mid new place gathered next =
+    (Ok tt, new, subst (λ n. IsGathered old group n (Ok tt) new) (omega (arith, place)) (subst (λ world. IsGathered world group at (Ok tt) new) gathered.1 next), (refl, refl))
+gathered_more old group from (suc left) at mid new place (Ok done, first, begins, rest) next =
+    (Ok done, first, begins, gathered_more first group (suc from) left at mid new (omega (arith, place)) rest next)
+gathered_more old group from (suc left) at mid new place (Err refusal, first, begins, rest) next = absurd (ok_err tt refusal rest.0)
+
+-- a shard that refuses ends it
+pub gathered_stop : (old : WorldBooks) (group from left all at : ℕ) (mid new : WorldBooks) (refusal : Refusal) → at ≡ from + left → left < all → AreGathered old group from left (Ok tt) mid → IsGathered mid group at (Err refusal) new → AreGathered old group from all (Err refusal) new
+gathered_stop old group from left zero at mid new refusal place below gathered stops = absurd (omega (arith, below))
+gathered_stop old group from zero (suc all) at mid new refusal place below gathered stops =
+    (Err refusal, new, subst (λ n. IsGathered old group n (Err refusal) new) (omega (arith, place)) (subst (λ world. IsGathered world group at (Err refusal) new) gathered.1 stops), (refl, refl))
+gathered_stop old group from (suc left) (suc all) at mid new refusal place below (Ok done, first, begins, rest) stops =
+    (Ok done, first, begins, gathered_stop first group (suc from) left all at mid new refusal (omega (arith, place)) (omega (arith, below)) rest stops)
+gathered_stop old group from (suc left) (suc all) at mid new refusal place below (Err other, first, begins, rest) stops = absurd (ok_err tt other rest.0)
+
+none_some : {X : Type 0} (x : X) → None ≡ Some x → ⊥
+none_some x h = cc
+
+some_none : {X : Type 0} (x : X) → Some x ≡ None → ⊥
+some_none x h = cc
+
+some_is : {X : Type 0} (a b : X) → Some a ≡ Some b → a ≡ b
+some_is a b h = cc
+
+-- the first group has another name, and no other has this one
+apart : (name : List ℕ) (first : Listed) (groups : List Listed) → number_named name (first ∷ groups) ≡ None → (is_text first.name name ≡ false) × (number_named name groups ≡ None)
+apart name first groups none =
+    elim (is_text first.name name) as (λ b. is_text first.name name ≡ b → cond b (Some 0) (option_map suc (number_named name groups)) ≡ None → (is_text first.name name ≡ false) × (number_named name groups ≡ None)) [
+      | true ↦ λ is h. absurd (some_none 0 h)
+      | false ↦ λ is h. (is, within (number_named name groups) h)
+    ] refl none
+  where
+    within : (number : Option ℕ) → option_map suc number ≡ None → number ≡ None
+    within None h = refl
+    within (Some n) h = absurd (some_none (suc n) h)
+
+named_by : (name : List ℕ) (first : Listed) (groups : List Listed) (t : Bool) → is_text first.name name ≡ t → number_named name (first ∷ groups) ≡ cond t (Some 0) (option_map suc (number_named name groups))
+named_by name first groups t is = ap (λ b. cond b (Some 0) (option_map suc (number_named name groups))) is
+
+-- what a comparison of a name with that of a book's group tells
+pub named_test : (name text : List ℕ) (book : BookState) (group : Group) (t : Bool) → text ≡ group.name → group ≡ book.history.group → t ≡ is_text text name → is_text book.history.group.name name ≡ t
+named_test name text book group t text_is group_is test = sym (test ∙ ap (λ n. is_text n name) (text_is ∙ ap (λ (g : Group). g.name) group_is))
+
+-- a group more that has another name
+pub none_more : (name : List ℕ) (books : List BookState) (i : ℕ) (book : BookState) → number_named name (map listed (take i books)) ≡ None → slice_get books i ≡ Some book → is_text book.history.group.name name ≡ false → number_named name (map listed (take (suc i) books)) ≡ None
+none_more name [] i book none there other = absurd (none_some book there)
+none_more name (first ∷ books) zero book none there other = named_by name (listed first) [] false (ap (λ (b : BookState). is_text b.history.group.name name) (some_is first book there) ∙ other)
+none_more name (first ∷ books) (suc i) book none there other =
+    let both = apart name (listed first) (map listed (take i books)) none in
+    named_by name (listed first) (map listed (take (suc i) books)) false both.0 ∙ ap (option_map suc) (none_more name books i book both.1 there other)
+
+-- the first that has the name
+pub named_here : (name : List ℕ) (books : List BookState) (i : ℕ) (book : BookState) → number_named name (map listed (take i books)) ≡ None → slice_get books i ≡ Some book → is_text book.history.group.name name ≡ true → Some i ≡ number_named name (map listed books)
+named_here name [] i book none there same = absurd (none_some book there)
+named_here name (first ∷ books) zero book none there same = sym (named_by name (listed first) (map listed books) true (ap (λ (b : BookState). is_text b.history.group.name name) (some_is first book there) ∙ same))
+named_here name (first ∷ books) (suc i) book none there same =
+    let both = apart name (listed first) (map listed (take i books)) none in
+    sym (named_by name (listed first) (map listed books) false both.0 ∙ ap (option_map suc) (sym (named_here name books i book both.1 there same)))
+
+-- no group has it
+pub named_none : (name : List ℕ) (books : List BookState) → number_named name (map listed (take (length books) books)) ≡ None → None ≡ number_named name (map listed books)
+named_none name books none = sym (ap (λ b. number_named name (map listed b)) (sym (take_all (length books) books (omega arith))) ∙ none)

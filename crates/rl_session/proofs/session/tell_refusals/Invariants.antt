@@ -1,8 +1,0 @@
--- The lines of the replies so far.
-use Rattle.std.proofs.Common.{take}
-use Rattle.std.specs.Io.KnownBytes.{Appends}
-use Rattle.rl_session.specs.Printed.{entry_lines}
-use Rattle.rl_session.proofs.session.tell_refusals.Given as goal
-
-abbrev pub invariant-loop-number : goal.invariant-loop-number
-invariant-loop-number g l = Appends (g.W.Write.contents l.fn.out) (g.W.Write.contents l.out) (entry_lines 0 (take l.number l.replies))

@@ -1,0 +1,89 @@
+-- What a command asks of an engine, call after call, and what it gets.
+use Rattle.std.specs.Prelude.{◌≡◌, ℕ, zero, suc, ⊤, Bool, true, false, List, [], ◌∷◌, ◌++◌, map, length, Option, None, Some, Result, Ok, Err, IfOk}
+use Rattle.rl_plain.specs.declared.refusal.OrMemory.TheVariants as errors
+use Rattle.rl_labels.specs.declared.entry.Entry.{Entry}
+use Rattle.rl_rules.specs.declared.rule.Group.{Group}
+use Rattle.rl_shard.specs.declared.step.ShardReply.{ShardReply}
+use Rattle.rl_world.specs.declared.fault.Refusal.{Refusal}
+use Rattle.rl_world.specs.declared.fault.Refusal.TheVariants as refusals
+use Rattle.rl_world.specs.declared.step.Committed.{Committed}
+use Rattle.rl_session.specs.Edits.{GivesOneGroup}
+use Rattle.rl_session.specs.Engine.{Calls, Shown, number_named}
+use Rattle.rl_session.specs.PushForms.{EntryForm, entry_form}
+use Rattle.rl_session.specs.declared.edit.EditRefusal.{EditRefusal}
+use Rattle.rl_session.specs.declared.edit.EditRefusal.TheVariants as causes
+use Rattle.rl_session.specs.declared.push.PushFault.{PushFault}
+use Rattle.rl_session.specs.declared.telling.Got.{Got}
+use Rattle.rl_session.specs.declared.telling.Got.TheVariants as gots
+
+-- an edit that was refused by the engine
+abbrev pub told_of_edit : Result ⊤ Refusal → Result ⊤ EditRefusal
+told_of_edit (Ok done) = Ok done
+told_of_edit (Err refusal) = Err (causes.Engine refusal)
+
+module _ {E : Type 0} (calls : Calls E) where
+  -- entries are handed in one after the other, each with an answer of its own
+  abbrev pub PushesAll : E → List Entry → List (Result ShardReply Refusal) → E → Type 0
+  PushesAll old [] [] new = new ≡ old
+  PushesAll old (entry ∷ entries) (answer ∷ answers) new = (mid : E) × calls.pushes old entry answer mid × PushesAll mid entries answers new
+  PushesAll old entries answers new = ⊥
+
+  -- of a body with entries each is handed in, or none for want of memory; of another nothing is asked
+  abbrev pub IsForPush : E → Result (List EntryForm) PushFault → Got → E → Type 0
+  IsForPush old read (gots.Unread errors.Memory) new = new ≡ old
+  IsForPush old (Ok forms) (gots.Pushed answers) new = (entries : List Entry) × (map entry_form entries ≡ forms) × PushesAll old entries answers.items new
+  IsForPush old (Ok forms) (gots.Unpushed count) new = (count ≡ length forms) × (new ≡ old)
+  IsForPush old (Err fault) (gots.Unread (errors.Fault other)) new = (other ≡ fault) × (new ≡ old)
+  IsForPush old read got new = ⊥
+
+  -- a group is evaluated, and what is answered is of that moment
+  abbrev pub EvaluatesAt : E → ℕ → ℕ → Result Committed Refusal → E → Type 0
+  EvaluatesAt old group t answer new = calls.evaluates old group t answer new × IfOk answer (λ committed. committed.evaluation.t ≡ t)
+
+  -- a group that is due is evaluated, another is passed over
+  abbrev pub IsTurn : Bool → E → ℕ → ℕ → (E → List (Result Committed Refusal) → Type 0) → List (Result Committed Refusal) → Type 0
+  IsTurn true old now group Rest results = (answer : Result Committed Refusal) × (mid : E) × (rest : List (Result Committed Refusal)) × EvaluatesAt old group now answer mid × (results ≡ answer ∷ rest) × Rest mid rest
+  IsTurn false old now group Rest results = Rest old results
+
+  -- so many groups, from one on, are asked in their order whether they are due, and those that are give these results
+  abbrev pub EvaluatesDue : E → ℕ → ℕ → ℕ → List (Result Committed Refusal) → E → Type 0
+  EvaluatesDue old now group zero results new = (results ≡ []) × (new ≡ old)
+  EvaluatesDue old now group (suc left) results new = (due : Bool) × calls.is_due old group now due × IsTurn due old now group (λ mid rest. EvaluatesDue mid now (suc group) left rest new) results
+
+  -- one group takes its turn, and what it gives stands behind what others gave
+  abbrev pub TakesTurn : E → ℕ → ℕ → List (Result Committed Refusal) → List (Result Committed Refusal) → E → Type 0
+  TakesTurn old now group before after new = (due : Bool) × (more : List (Result Committed Refusal)) × calls.is_due old group now due × IsTurn due old now group (λ mid rest. (rest ≡ []) × (new ≡ mid)) more × (after ≡ before ++ more)
+
+  -- all groups are; or none for want of memory
+  abbrev pub IsForTick : E → ℕ → Got → E → Type 0
+  IsForTick old now (gots.Ticked results) new = EvaluatesDue old now 0 (length (calls.groups old)) results.items new
+  IsForTick old now (gots.Evaluated (Err refusal)) new = (refusal ≡ refusals.Memory) × (new ≡ old)
+  IsForTick old now got new = ⊥
+
+  -- the group at the number is evaluated, if there is one
+  abbrev pub IsForEvaluation : E → ℕ → Option ℕ → Got → E → Type 0
+  IsForEvaluation old t (Some group) (gots.Evaluated answer) new = EvaluatesAt old group t answer new
+  IsForEvaluation old t None gots.Refused new = new ≡ old
+  IsForEvaluation old t number got new = ⊥
+
+  -- the group at the number is edited, if there is one
+  abbrev pub PutsAt : E → Option ℕ → Group → Result ⊤ EditRefusal → E → Type 0
+  PutsAt old (Some group) to result new = (answer : Result ⊤ Refusal) × calls.edits old group to answer new × (result ≡ told_of_edit answer)
+  PutsAt old None to result new = (result ≡ Err causes.NoSuchGroup) × (new ≡ old)
+
+  abbrev pub PutsGroup : E → Group → Result ⊤ EditRefusal → E → Type 0
+  PutsGroup old to result new = PutsAt old (number_named to.name (calls.groups old)) to result new
+
+  -- the one group of a document is put into its place; where the document has not one, nothing is asked
+  abbrev pub EditsRead : E → Result Group EditRefusal → Result ⊤ EditRefusal → E → Type 0
+  EditsRead old (Ok to) result new = PutsGroup old to result new
+  EditsRead old (Err refusal) result new = (result ≡ Err refusal) × (new ≡ old)
+
+  abbrev pub IsForEdit : E → List ℕ → Got → E → Type 0
+  IsForEdit old document (gots.Edited result) new = (read : Result Group EditRefusal) × GivesOneGroup document read × EditsRead old read result new
+  IsForEdit old document got new = ⊥
+
+  -- what the sink of the group at the number has, if there is such a group
+  abbrev pub IsForShow : E → Option ℕ → ℕ → Option Shown → Type 0
+  IsForShow engine (Some group) sink shown = calls.shows engine group sink shown
+  IsForShow engine None sink shown = shown ≡ None

@@ -1,0 +1,55 @@
+-- What a session asks of an engine, and what is known of the answers.
+use Rattle.std.specs.Prelude.{◌≡◌, ℕ, suc, ⊤, Bool, List, [], ◌∷◌, ◌++◌, Option, None, Some, is_some, option_map, Result, Ok, Err, codes, if◌then◌else◌}
+use Rattle.std.specs.List.{concat}
+use Rattle.std.specs.Fmt.{decimal}
+use Rattle.std.specs.Io.KnownBytes.{Appends}
+use Rattle.std.specs.declared.io.Error.{Error}
+use Rattle.rl_labels.specs.Name.{is_text}
+use Rattle.rl_labels.specs.declared.entry.Entry.{Entry}
+use Rattle.rl_rules.specs.declared.rule.Group.{Group}
+use Rattle.rl_shard.specs.declared.step.ShardReply.{ShardReply}
+use Rattle.rl_world.specs.declared.fault.Refusal.{Refusal}
+use Rattle.rl_world.specs.declared.step.Committed.{Committed}
+
+-- a group as an engine lists it: its name, and how many sinks it has
+pub record Listed : Type 0 where
+  pub name : List ℕ
+  pub sinks : ℕ
+
+-- what a sink has: how many texts it has taken, and those that it keeps
+pub record Shown : Type 0 where
+  pub count : ℕ
+  pub kept : List (List ℕ)
+
+-- what an engine says of each call: by the engine before it, by what was asked and answered, and, where the call may change it, by
+-- the engine after it
+pub record Calls (E : Type 0) : Type 1 where
+  -- its groups, by their numbers
+  pub groups : E → List Listed
+  -- an entry is handed in
+  pub pushes : E → Entry → Result ShardReply Refusal → E → Type 0
+  -- a group is put in the place of the one at a number
+  pub edits : E → ℕ → Group → Result ⊤ Refusal → E → Type 0
+  -- the group at a number is evaluated at a moment
+  pub evaluates : E → ℕ → ℕ → Result Committed Refusal → E → Type 0
+  -- whether an evaluation of the group at a number is due at a moment
+  pub is_due : E → ℕ → ℕ → Bool → Type 0
+  -- what the sink at a number has of the group at a number, if there is one
+  pub shows : E → ℕ → ℕ → Option Shown → Type 0
+  -- its sinks are closed: how many of them could not write all
+  pub closes : E → Result ℕ Refusal → E → Type 0
+
+-- the number of the first group with a name, if there is one
+abbrev pub number_named : List ℕ → List Listed → Option ℕ
+number_named name [] = None
+number_named name (group ∷ groups) = if is_text group.name name then Some 0 else option_map suc (number_named name groups)
+
+-- what is written of a sink: nothing where there is none
+abbrev pub kept_text : Option Shown → List ℕ
+kept_text None = []
+kept_text (Some sink) = codes "count " ++ decimal sink.count ++ codes "\n" ++ concat sink.kept
+
+-- whether a sink is there, and what it has stands behind what stood there
+abbrev pub ShowsIn : {E : Type 0} → Calls E → E → ℕ → ℕ → Option (List ℕ) → Result Bool Error → Option (List ℕ) → Type 0
+ShowsIn calls engine group sink old (Ok there) new = (shown : Option Shown) × calls.shows engine group sink shown × (there ≡ is_some shown) × Appends old new (kept_text shown)
+ShowsIn calls engine group sink old (Err error) new = Unit {0}

@@ -1,0 +1,138 @@
+-- A world as an engine: which steps each call makes, one after another, and with which replies.
+use Rattle.std.specs.Prelude.{◌≡◌, ℕ, zero, suc, ⊤, Bool, false, List, map, length, Option, None, Some, option_map, option_and_then, Result, Ok, Err, IfOk, slice_get}
+use Rattle.rl_labels.specs.declared.entry.Entry.{Entry}
+use Rattle.rl_rules.specs.declared.rule.Group.{Group}
+use Rattle.rl_shard.specs.declared.step.ShardReply.{ShardReply}
+use Rattle.rl_shard.specs.declared.step.ShardStep.TheVariants.{Push}
+use Rattle.rl_sinks.specs.SinkState.{SinkState}
+use Rattle.rl_sinks.specs.declared.sink.SinkFault.{SinkFault}
+use Rattle.rl_world.specs.Closed.{BooksClosed}
+use Rattle.rl_world.specs.History.{is_due}
+use Rattle.rl_world.specs.WorldRun.{Turned}
+use Rattle.rl_world.specs.WorldState.{BookState, WorldBooks, StandsForSome, world_of, sink_at, with_sinks_closed}
+use Rattle.rl_world.specs.declared.fault.Refusal.{Refusal}
+use Rattle.rl_world.specs.declared.step.Committed.{Committed}
+use Rattle.rl_world.specs.declared.step.Reply.{Reply}
+use Rattle.rl_world.specs.declared.step.Reply.TheVariants as replies
+use Rattle.rl_world.specs.declared.step.Step.{Step}
+use Rattle.rl_world.specs.declared.step.Step.TheVariants as steps
+use Rattle.rl_session.specs.Engine.{Calls, Listed, Shown}
+
+-- what holds of every engine: it asks each shard, and some lists may have been shown
+pub record IsEngine (shards : ℕ) (world : WorldBooks) : Type 0 where
+  pub shards_are : shards ≡ length world.shards
+  pub stands : StandsForSome (world_of world.shards world.books)
+
+-- a book as an engine lists it
+abbrev pub listed : BookState → Listed
+listed book = record { name = book.history.group.name; sinks = length book.sinks }
+
+abbrev pub shown_of : SinkState → Shown
+shown_of sink = record { count = sink.count; kept = sink.kept }
+
+-- whether the book is there, and an evaluation of it is due
+abbrev pub is_due_at : Option BookState → ℕ → Bool
+is_due_at None now = false
+is_due_at (Some book) now = is_due book.history now
+
+-- the name of the group at a number
+abbrev pub name_at : WorldBooks → ℕ → Option (List ℕ)
+name_at world group = option_map (λ book. book.history.group.name) (slice_get world.books group)
+
+-- an entry is a step of the first shard
+abbrev pub IsPushed : WorldBooks → Entry → Result ShardReply Refusal → WorldBooks → Type 0
+IsPushed old entry (Ok reply) new = (place : ℕ) × Turned old (steps.Shard 0 (Push entry)) (replies.Decided place reply) new
+IsPushed old entry (Err refusal) new = Turned old (steps.Shard 0 (Push entry)) (replies.Refused refusal) new
+
+-- an edit is a step
+abbrev pub IsEdited : WorldBooks → ℕ → Group → Result ⊤ Refusal → WorldBooks → Type 0
+IsEdited old group to (Ok done) new = (place : ℕ) × Turned old (steps.Edit group to) (replies.Edited place) new
+IsEdited old group to (Err refusal) new = Turned old (steps.Edit group to) (replies.Refused refusal) new
+
+-- an evaluation is opened
+abbrev pub IsBegun : WorldBooks → ℕ → ℕ → Result ⊤ Refusal → WorldBooks → Type 0
+IsBegun old group t (Ok done) new = Turned old (steps.Begin group t) replies.Begun new
+IsBegun old group t (Err refusal) new = Turned old (steps.Begin group t) (replies.Refused refusal) new
+
+-- a shard is asked
+abbrev pub IsGathered : WorldBooks → ℕ → ℕ → Result ⊤ Refusal → WorldBooks → Type 0
+IsGathered old group number (Ok done) new = (place : ℕ) × Turned old (steps.Gather group number) (replies.Gathered place) new
+IsGathered old group number (Err refusal) new = Turned old (steps.Gather group number) (replies.Refused refusal) new
+
+-- the open evaluation is committed
+abbrev pub IsCommitted : WorldBooks → ℕ → Result Committed Refusal → WorldBooks → Type 0
+IsCommitted old group (Ok committed) new = Turned old (steps.Commit group) (replies.Committed committed) new
+IsCommitted old group (Err refusal) new = Turned old (steps.Commit group) (replies.Refused refusal) new
+
+-- behind a step that was refused nothing is done
+abbrev pub IsBehind : {A : Type 0} → Result ⊤ Refusal → WorldBooks → (Result A Refusal → WorldBooks → Type 0) → Result A Refusal → WorldBooks → Type 0
+IsBehind (Ok done) mid Next answer new = Next answer new
+IsBehind (Err refusal) mid Next answer new = (answer ≡ Err refusal) × (new ≡ mid)
+
+-- so many shards are asked in their order, from one on, up to the first refusal
+abbrev pub AreGathered : WorldBooks → ℕ → ℕ → ℕ → Result ⊤ Refusal → WorldBooks → Type 0
+AreGathered old group number zero answer new = (answer ≡ Ok tt) × (new ≡ old)
+AreGathered old group number (suc left) answer new = (first : Result ⊤ Refusal) × (mid : WorldBooks) × IsGathered old group number first mid × IsBehind first mid (AreGathered mid group (suc number) left) answer new
+
+-- all shards are, and then it is committed
+abbrev pub IsFinished : WorldBooks → ℕ → Result Committed Refusal → WorldBooks → Type 0
+IsFinished old group answer new = (all : Result ⊤ Refusal) × (mid : WorldBooks) × AreGathered old group 0 (length old.shards) all mid × IsBehind all mid (IsCommitted mid group) answer new
+
+-- an evaluation that was not committed is abandoned
+abbrev pub IsLeft : WorldBooks → ℕ → Result Committed Refusal → WorldBooks → Type 0
+IsLeft old group (Ok committed) new = new ≡ old
+IsLeft old group (Err refusal) new = Turned old (steps.Abandon group) replies.Abandoned new
+
+abbrev pub IsClosedOff : WorldBooks → ℕ → Result Committed Refusal → WorldBooks → Type 0
+IsClosedOff old group answer new = (mid : WorldBooks) × IsFinished old group answer mid × IsLeft mid group answer new
+
+-- an evaluation begins, asks each shard and commits, up to the first refusal; what was committed is of the group that was asked for
+pub record IsEvaluated (old : WorldBooks) (group t : ℕ) (answer : Result Committed Refusal) (new : WorldBooks) : Type 0 where
+  pub begun : Result ⊤ Refusal
+  pub mid : WorldBooks
+  pub begins : IsBegun old group t begun mid
+  pub behind : IsBehind begun mid (IsClosedOff mid group) answer new
+  pub of_group : IfOk answer (λ committed. name_at old group ≡ Some committed.evaluation.group)
+
+-- each sink is closed, and the answers of so many say that they could not write all
+abbrev pub IsClosed : {S : Type 0} → (S → SinkState) → (S → Result ⊤ SinkFault → Type 0) → WorldBooks → Result ℕ Refusal → WorldBooks → Type 0
+IsClosed state Says old (Ok failures) new = (new ≡ record { shards = old.shards; books = map with_sinks_closed old.books }) × BooksClosed state Says new.books failures
+IsClosed state Says old (Err refusal) new = ⊥
+
+abbrev pub world_calls : {S : Type 0} → (S → SinkState) → (S → Result ⊤ SinkFault → Type 0) → Calls WorldBooks
+world_calls state Says = record {
+  groups = λ world. map listed world.books;
+  pushes = IsPushed;
+  edits = IsEdited;
+  evaluates = IsEvaluated;
+  is_due = λ world group now due. due ≡ is_due_at (slice_get world.books group) now;
+  shows = λ world group sink shown. shown ≡ option_map shown_of (sink_at world.books group sink);
+  closes = IsClosed state Says;
+}
+
+-- the moment of the evaluation that the group at a number has open
+abbrev pub open_moment : WorldBooks → ℕ → Option ℕ
+open_moment world group = option_and_then (λ book. option_map (λ opened. opened.t) book.history.opened) (slice_get world.books group)
+
+-- no group and no sink comes or goes, and no shard
+abbrev pub IsAlike : WorldBooks → WorldBooks → Type 0
+IsAlike old new = (map listed new.books ≡ map listed old.books) × (length new.shards ≡ length old.shards)
+
+-- what a reply tells of the moments of open evaluations before and after, and of the names of groups; other replies never come
+abbrev pub TellsOf : (ℕ → Option ℕ) → (ℕ → Option ℕ) → (ℕ → Option (List ℕ)) → Step → Reply → Type 0
+TellsOf before after name (steps.Shard number step) (replies.Decided place reply) = Unit {0}
+TellsOf before after name (steps.Shard number step) (replies.Refused refusal) = Unit {0}
+TellsOf before after name (steps.Edit group to) (replies.Edited place) = Unit {0}
+TellsOf before after name (steps.Edit group to) (replies.Refused refusal) = Unit {0}
+TellsOf before after name (steps.Begin group t) replies.Begun = after group ≡ Some t
+TellsOf before after name (steps.Begin group t) (replies.Refused refusal) = Unit {0}
+TellsOf before after name (steps.Gather group number) (replies.Gathered place) = after group ≡ before group
+TellsOf before after name (steps.Gather group number) (replies.Refused refusal) = after group ≡ before group
+TellsOf before after name (steps.Commit group) (replies.Committed committed) = (before group ≡ Some committed.evaluation.t) × (name group ≡ Some committed.evaluation.group)
+TellsOf before after name (steps.Commit group) (replies.Refused refusal) = after group ≡ before group
+TellsOf before after name (steps.Abandon group) replies.Abandoned = Unit {0}
+TellsOf before after name (steps.Abandon group) (replies.Refused refusal) = before group ≡ None
+TellsOf before after name step reply = ⊥
+
+abbrev pub Tells : WorldBooks → Step → Reply → WorldBooks → Type 0
+Tells old step reply new = TellsOf (open_moment old) (open_moment new) (name_at old) step reply

@@ -1,0 +1,124 @@
+//! What commands ask of an engine, and what they get.
+ghost use Rattle.std.specs.Prelude.{◌≡◌, ◌+◌, ◌<◌, ◌≤◌, length, IfOk, OnErr, vec_len, vec_capacity};
+ghost use Rattle.rl_session.specs.Asking.{IsForPush, IsForEdit, IsForTick, IsForEvaluation, PushesAll, EvaluatesDue, TakesTurn, PutsGroup};
+ghost use Rattle.rl_session.specs.Engine.{number_named};
+ghost use Rattle.rl_session.specs.PushBody.{entries_of};
+
+use crate::edit::{EditRefusal, read_group};
+use crate::engine::Engine;
+use crate::push::read_push;
+use crate::telling::Got;
+use rl_labels::{Entry, Ns};
+use rl_rules::Group;
+use rl_shard::ShardReply;
+use rl_world::{Committed, Refusal};
+use std::alloc::{AllocError, Global};
+
+/// Hands in the entries of a push body, in their order.
+pub(crate) fn push<E: Engine>(alloc: Global, engine: &mut E, json: &str) -> Got
+    ensures { IsForPush E.calls engine.old (entries_of json.now) result engine.new }
+{
+    let entries = match read_push(alloc, json.as_bytes()) {
+        Ok(entries) => entries,
+        Err(error) => return Got::Unread(error),
+    };
+    let count = entries.len();
+    match push_all(alloc, engine, entries) {
+        Ok(answers) => Got::Pushed(answers),
+        Err(AllocError) => Got::Unpushed(count),
+    }
+}
+
+// What the engine answers to each entry. With no room for all answers it is handed none.
+fn push_all<E: Engine>(
+    alloc: Global,
+    engine: &mut E,
+    entries: Vec<Entry>,
+) -> Result<Vec<Result<ShardReply, Refusal>>, AllocError>
+    ensures each { IfOk result (λ answers. PushesAll E.calls engine.old entries.items answers.items engine.new) }
+    ensures none { OnErr result (engine.new ≡ engine.old) }
+{
+    let mut answers = Vec::with_capacity(alloc, entries.len())?;
+    for entry in entries {
+        let answer = engine.push(entry);
+        answers.push_reserved(answer);
+    }
+    Ok(answers)
+}
+
+/// Evaluates the group with the name.
+pub(crate) fn eval<E: Engine>(engine: &mut E, t: Ns, name: &str) -> Got
+    ensures { IsForEvaluation E.calls engine.old t (number_named name.now (E.calls.groups engine.old)) result engine.new }
+{
+    match engine.group(name) {
+        Some(group) => Got::Evaluated(engine.evaluate(group, t)),
+        None => Got::Refused,
+    }
+}
+
+/// Evaluates each group that is due, in their order. With no room for what they may give it evaluates none.
+pub(crate) fn tick<E: Engine>(alloc: Global, engine: &mut E, now: Ns) -> Got
+    ensures { IsForTick E.calls engine.old now result engine.new }
+{
+    match Vec::with_capacity(alloc, engine.groups()) {
+        Ok(results) => Got::Ticked(evaluate_due(engine, now, results)),
+        Err(AllocError) => Got::Evaluated(Err(Refusal::Memory)),
+    }
+}
+
+// Puts what each group gave that is due into an empty list, which has room for all groups.
+fn evaluate_due<E: Engine>(
+    engine: &mut E,
+    now: Ns,
+    mut results: Vec<Result<Committed, Refusal>>,
+) -> Vec<Result<Committed, Refusal>>
+    requires empty { vec_len results ≡ 0 }
+    requires room { length (E.calls.groups engine.old) ≤ vec_capacity results }
+    ensures { EvaluatesDue E.calls engine.old now 0 (length (E.calls.groups engine.old)) result.items engine.new }
+{
+    for group in 0..engine.groups() {
+        evaluate_if_due(engine, group, now, &mut results);
+    }
+    results
+}
+
+// Adds what a group gives, if it is due.
+fn evaluate_if_due<E: Engine>(
+    engine: &mut E,
+    group: usize,
+    now: Ns,
+    results: &mut Vec<Result<Committed, Refusal>>,
+)
+    requires { vec_len results.old < vec_capacity results.old }
+    ensures turn { TakesTurn E.calls engine.old now group results.old.items results.new.items engine.new }
+    ensures len { vec_len results.new ≤ vec_len results.old + 1 }
+    ensures capacity { vec_capacity results.old ≤ vec_capacity results.new }
+{
+    if engine.is_due(group, now) {
+        let answer = engine.evaluate(group, now);
+        results.push_reserved(answer);
+    }
+}
+
+/// Puts the one group of a document in the place of the group with its name.
+pub(crate) fn edit<E: Engine>(alloc: Global, engine: &mut E, document: &str) -> Got
+    ensures { IsForEdit E.calls engine.old document.now result engine.new }
+{
+    match read_group(alloc, document) {
+        Ok(to) => Got::Edited(put_group(engine, to)),
+        Err(refusal) => Got::Edited(Err(refusal)),
+    }
+}
+
+// Puts a group in the place of the group with its name, or tells why not.
+fn put_group<E: Engine>(engine: &mut E, to: Group) -> Result<(), EditRefusal>
+    ensures { PutsGroup E.calls engine.old to result engine.new }
+{
+    let Some(group) = engine.group(to.name.as_str()) else {
+        return Err(EditRefusal::NoSuchGroup);
+    };
+    match engine.edit(group, to) {
+        Ok(()) => Ok(()),
+        Err(refusal) => Err(EditRefusal::Engine(refusal)),
+    }
+}

@@ -1,0 +1,55 @@
+//! What a session asks of whatever evaluates its groups.
+ghost use Rattle.std.specs.Prelude.{◌≡◌, length, IfOk};
+ghost use Rattle.rl_session.specs.Engine.{Calls, number_named, ShowsIn};
+
+use rl_labels::{Entry, Ns};
+use rl_rules::Group;
+use rl_shard::ShardReply;
+use rl_world::{Committed, Refusal};
+use std::io;
+use std::io::Write;
+
+/// Evaluates rule groups over shards: a world on one thread, or many threads behind locks. Groups and their sinks go by their
+/// number, counted from 0. None of them comes or goes, and no group gets another name.
+pub trait Engine: Drop {
+    // What is known of each answer.
+    ghost calls: { Calls Self };
+
+    /// How many groups it has.
+    fn groups(&self) -> usize
+        ensures { result ≡ length (calls.groups self.now) };
+
+    /// The number of the first group with the name.
+    fn group(&self, name: &str) -> Option<usize>
+        ensures { result ≡ number_named name.now (calls.groups self.now) };
+
+    /// Hands an entry to its shard.
+    fn push(&mut self, entry: Entry) -> Result<ShardReply, Refusal>
+        ensures answer { calls.pushes self.old entry result self.new }
+        ensures groups { calls.groups self.new ≡ calls.groups self.old };
+
+    /// Puts a group of the same name in the place of the group at the number.
+    fn edit(&mut self, group: usize, to: Group) -> Result<(), Refusal>
+        ensures answer { calls.edits self.old group to result self.new }
+        ensures groups { calls.groups self.new ≡ calls.groups self.old };
+
+    /// Evaluates the group at the number. An evaluation that is refused leaves none open.
+    fn evaluate(&mut self, group: usize, t: Ns) -> Result<Committed, Refusal>
+        ensures answer { calls.evaluates self.old group t result self.new }
+        ensures moment { IfOk result (λ committed. committed.evaluation.t ≡ t) }
+        ensures groups { calls.groups self.new ≡ calls.groups self.old };
+
+    /// Whether an evaluation of the group at the number is due.
+    fn is_due(&self, group: usize, now: Ns) -> bool
+        ensures { calls.is_due self.now group now result };
+
+    /// Writes `count`, how many texts the sink has taken, and the texts that it keeps. False, and nothing is written, where there
+    /// is no such sink.
+    fn show<W: Write>(&self, group: usize, sink: usize, out: &mut W) -> io::Result<bool>
+        ensures { ShowsIn calls self.now group sink (W.contents out.old) result (W.contents out.new) };
+
+    /// Closes the sinks. How many could not write all.
+    fn close(&mut self) -> Result<u64, Refusal>
+        ensures answer { calls.closes self.old result self.new }
+        ensures groups { calls.groups self.new ≡ calls.groups self.old };
+}

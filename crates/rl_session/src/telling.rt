@@ -1,0 +1,245 @@
+//! What is printed of what commands got.
+ghost use Rattle.std.specs.Prelude.{◌≡◌, flat_map, Some, OnOk, IfOk, is_err};
+ghost use Rattle.std.specs.List.{list_any};
+ghost use Rattle.std.specs.Io.KnownBytes.{Appends};
+ghost use Rattle.rl_session.specs.Printed.{refusal_line, bad_push_line, counts_line, entry_line, entry_lines, is_refused, evaluated_text, ticked_text, pushed_text, none_pushed, number_text, behind_line, committed_text, printed, answer_of, answer_to, closed_text, not_closed_line};
+
+use crate::edit::EditRefusal;
+use crate::names::{edit_refusal_name, push_error_name, push_refusal, refusal_name};
+use crate::push::PushError;
+use rl_shard::ShardReply;
+use rl_sinks::write_tail;
+use rl_world::{Committed, Refusal};
+use std::io;
+use std::io::Write;
+
+/// What became of a command.
+#[derive(Clone, Copy)]
+pub(crate) enum Answer {
+    Taken,
+    // Wholly or in part.
+    Refused,
+    Ended,
+}
+
+/// What a command got, but for a sink that is shown.
+#[derive(Drop)]
+pub(crate) enum Got {
+    // No command, or no such group or sink.
+    Refused,
+    // A push body that gave no entries.
+    Unread(PushError),
+    // An answer to each entry of a push.
+    Pushed(Vec<Result<ShardReply, Refusal>>),
+    // No memory for the answers to so many entries, of which none was handed in.
+    Unpushed(usize),
+    // Whether a group was edited.
+    Edited(Result<(), EditRefusal>),
+    // The evaluation that was committed, or the first refusal.
+    Evaluated(Result<Committed, Refusal>),
+    // The same of each group that was due.
+    Ticked(Vec<Result<Committed, Refusal>>),
+}
+
+// What becomes of a command by what it got.
+fn answer_to(got: &Got) -> Answer
+    ensures { result ≡ answer_to got.now }
+{
+    match got {
+        Got::Pushed(answers) => answer_of(has_refused(answers)),
+        Got::Unpushed(count) => answer_of(*count > 0),
+        Got::Edited(result) => answer_of(result.is_err()),
+        Got::Evaluated(result) => answer_of(result.is_err()),
+        Got::Ticked(results) => answer_of(has_failed(results)),
+        Got::Refused | Got::Unread(_) => Answer::Refused,
+    }
+}
+
+fn has_refused(answers: &[Result<ShardReply, Refusal>]) -> bool
+    ensures { result ≡ list_any is_refused answers.now }
+{
+    answers.iter().any(|answer| is_refused(answer))
+}
+
+fn has_failed(results: &[Result<Committed, Refusal>]) -> bool
+    ensures { result ≡ list_any is_err results.now }
+{
+    results.iter().any(|evaluated| evaluated.is_err())
+}
+
+fn answer_of(refused: bool) -> Answer
+    ensures { result ≡ answer_of refused }
+{
+    if refused {
+        Answer::Refused
+    } else {
+        Answer::Taken
+    }
+}
+
+/// Prints what a command got. What becomes of the command.
+pub(crate) fn tell<W: Write>(got: &Got, out: &mut W) -> io::Result<Answer>
+    ensures text { OnOk result (Appends (W.contents out.old) (W.contents out.new) (printed got.now)) }
+    ensures answer { IfOk result (λ answer. answer ≡ answer_to got.now) }
+{
+    print(got, out)?;
+    Ok(answer_to(got))
+}
+
+// Prints what a command got.
+fn print<W: Write>(got: &Got, out: &mut W) -> io::Result<()>
+    ensures { OnOk result (Appends (W.contents out.old) (W.contents out.new) (printed got.now)) }
+{
+    match got {
+        Got::Refused => refuse(out, "BadCommand"),
+        Got::Unread(error) => refuse_push(out, push_error_name(*error)),
+        Got::Pushed(answers) => tell_pushed(answers, out),
+        Got::Unpushed(count) => tell_none_pushed(*count, out),
+        Got::Edited(Ok(())) => out.write_all(b"ok\n"),
+        Got::Edited(Err(refusal)) => refuse(out, edit_refusal_name(*refusal)),
+        Got::Evaluated(result) => tell_evaluated(result, out),
+        Got::Ticked(results) => tell_ticked(results, out),
+    }
+}
+
+fn refuse<W: Write>(out: &mut W, name: &str) -> io::Result<()>
+    ensures { OnOk result (Appends (W.contents out.old) (W.contents out.new) (refusal_line name.now)) }
+{
+    writeln!(out, "refused {name}")
+}
+
+fn refuse_push<W: Write>(out: &mut W, name: &str) -> io::Result<()>
+    ensures { OnOk result (Appends (W.contents out.old) (W.contents out.new) (bad_push_line name.now)) }
+{
+    writeln!(out, "refused BadPush {name}")
+}
+
+// Tells how many entries were accepted, and of the others each with its number and its refusal.
+fn tell_pushed<W: Write>(answers: &[Result<ShardReply, Refusal>], out: &mut W) -> io::Result<()>
+    ensures { OnOk result (Appends (W.contents out.old) (W.contents out.new) (pushed_text answers.now)) }
+{
+    let refused = answers.iter().filter(|answer| is_refused(answer)).count();
+    tell_counts(answers.len() - refused, refused, out)?;
+    tell_refusals(answers, out)
+}
+
+fn is_refused(answer: &Result<ShardReply, Refusal>) -> bool
+    ensures { result ≡ is_refused answer.now }
+{
+    push_refusal(answer).is_some()
+}
+
+// Tells how many entries were accepted, and how many refused if some were.
+fn tell_counts<W: Write>(accepted: usize, refused: usize, out: &mut W) -> io::Result<()>
+    ensures { OnOk result (Appends (W.contents out.old) (W.contents out.new) (counts_line accepted refused)) }
+{
+    if refused == 0 {
+        writeln!(out, "accepted {accepted}")
+    } else {
+        writeln!(out, "accepted {accepted} refused {refused}")
+    }
+}
+
+// Tells of each entry that was refused its number and its refusal.
+fn tell_refusals<W: Write>(answers: &[Result<ShardReply, Refusal>], out: &mut W) -> io::Result<()>
+    ensures { OnOk result (Appends (W.contents out.old) (W.contents out.new) (entry_lines 0 answers.now)) }
+{
+    for (number, answer) in answers.iter().enumerate() {
+        if let Some(name) = push_refusal(answer) {
+            tell_refusal(number, name, out)?;
+        }
+    }
+    Ok(())
+}
+
+fn tell_refusal<W: Write>(number: usize, name: &str, out: &mut W) -> io::Result<()>
+    ensures { OnOk result (Appends (W.contents out.old) (W.contents out.new) (entry_line number (Some name.now))) }
+{
+    writeln!(out, "  {number} {name}")
+}
+
+// Tells that there was no memory for any of so many entries.
+fn tell_none_pushed<W: Write>(count: usize, out: &mut W) -> io::Result<()>
+    ensures { OnOk result (Appends (W.contents out.old) (W.contents out.new) (pushed_text (none_pushed count))) }
+{
+    tell_counts(0, count, out)?;
+    tell_each_refused(count, out)
+}
+
+// Tells of each of so many entries that there was no memory for it.
+fn tell_each_refused<W: Write>(count: usize, out: &mut W) -> io::Result<()>
+    ensures { OnOk result (Appends (W.contents out.old) (W.contents out.new) (entry_lines 0 (none_pushed count))) }
+{
+    for number in 0..count {
+        tell_refusal(number, "Memory", out)?;
+    }
+    Ok(())
+}
+
+// Tells what the groups that were due gave, if some were.
+fn tell_ticked<W: Write>(results: &[Result<Committed, Refusal>], out: &mut W) -> io::Result<()>
+    ensures { OnOk result (Appends (W.contents out.old) (W.contents out.new) (ticked_text results.now)) }
+{
+    if results.is_empty() {
+        return out.write_all(b"ok\n");
+    }
+    for evaluated in results {
+        tell_evaluated(evaluated, out)?;
+    }
+    Ok(())
+}
+
+// Tells what an evaluation found, or why it was refused.
+fn tell_evaluated<W: Write>(evaluated: &Result<Committed, Refusal>, out: &mut W) -> io::Result<()>
+    ensures { OnOk result (Appends (W.contents out.old) (W.contents out.new) (evaluated_text evaluated.now)) }
+{
+    match evaluated {
+        Ok(committed) => tell_committed(committed, out),
+        Err(refusal) => refuse(out, refusal_name(*refusal)),
+    }
+}
+
+// Tells what an evaluation found, and which sinks are behind.
+fn tell_committed<W: Write>(committed: &Committed, out: &mut W) -> io::Result<()>
+    ensures { OnOk result (Appends (W.contents out.old) (W.contents out.new) (committed_text committed.now)) }
+{
+    write_tail(out, committed.evaluation.get())?;
+    tell_behind(committed.behind.as_slice(), out)
+}
+
+// Tells the numbers of the sinks that are behind, if some are.
+fn tell_behind<W: Write>(behind: &[u64], out: &mut W) -> io::Result<()>
+    ensures { OnOk result (Appends (W.contents out.old) (W.contents out.new) (behind_line behind.now)) }
+{
+    if behind.is_empty() {
+        return Ok(());
+    }
+    out.write_all(b"behind")?;
+    tell_numbers(behind, out)?;
+    out.write_all(b"\n")
+}
+
+fn tell_numbers<W: Write>(numbers: &[u64], out: &mut W) -> io::Result<()>
+    ensures { OnOk result (Appends (W.contents out.old) (W.contents out.new) (flat_map number_text numbers.now)) }
+{
+    for number in numbers {
+        write!(out, " {number}")?;
+    }
+    Ok(())
+}
+
+/// Tells whether the sinks were closed.
+pub(crate) fn tell_closed<W: Write>(closed: &Result<u64, Refusal>, out: &mut W) -> io::Result<()>
+    ensures { OnOk result (Appends (W.contents out.old) (W.contents out.new) (closed_text closed.now)) }
+{
+    match closed {
+        Ok(_failed) => out.write_all(b"closed\n"),
+        Err(refusal) => tell_not_closed(refusal_name(*refusal), out),
+    }
+}
+
+fn tell_not_closed<W: Write>(name: &str, out: &mut W) -> io::Result<()>
+    ensures { OnOk result (Appends (W.contents out.old) (W.contents out.new) (not_closed_line name.now)) }
+{
+    writeln!(out, "not closed {name}")
+}

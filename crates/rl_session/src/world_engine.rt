@@ -1,0 +1,268 @@
+//! A world on one thread as an engine: a call is a step, and an evaluation a list of steps.
+ghost use Rattle.std.specs.Prelude.{◌≡◌, ◌≤◌, length, map, replicate, slice_get, option_map, is_some, Some, IsSome, IfOk, IfSome, OnOk, OnErr};
+ghost use Rattle.std.specs.List.{AllByRecursion, concat};
+ghost use Rattle.std.specs.Io.KnownBytes.{Appends};
+ghost use Rattle.rl_shard.specs.ShardState.{empty_shard};
+ghost use Rattle.rl_world.specs.BookCalls.{books_from, IsFresh};
+ghost use Rattle.rl_world.specs.Slots.{most_shards};
+ghost use Rattle.rl_world.specs.WorldRun.{Turned};
+ghost use Rattle.rl_world.specs.declared.step.Reply.TheVariants as replies;
+ghost use Rattle.rl_world.specs.declared.step.Step.TheVariants as steps;
+ghost use Rattle.rl_session.specs.Engine.{number_named, kept_text};
+ghost use Rattle.rl_session.specs.WorldEngine.{Tells, IsAlike, IsBegun, IsGathered, AreGathered, IsCommitted, IsFinished, listed, shown_of, name_at, open_moment};
+
+use crate::engine::Engine;
+use rl_labels::{Entry, Limits, Ns};
+use rl_rules::Group;
+use rl_shard::{ShardReply, ShardStep};
+use rl_sinks::Sink;
+use rl_world::{Book, Committed, Refusal, Reply, Step, World};
+use std::alloc::{AllocError, Global};
+use std::io;
+use std::io::Write;
+use std::marker::Model;
+
+/// Shards and books on one thread. Entries go to the first shard, and an evaluation asks each. Contracts see its world.
+#[derive(Drop)]
+pub struct WorldEngine<S: Sink> {
+    world: World<S>,
+    shards: usize,
+}
+
+impl<S: Sink> Model for WorldEngine<S> {
+    ghost use Rattle.rl_world.specs.WorldState.{WorldBooks};
+
+    ghost Value = { WorldBooks };
+
+    ghost use Rattle.std.specs.Coded.{codes};
+    ghost use Rattle.rl_labels.specs.LabelSet.{label_set_code};
+    ghost use Rattle.rl_aggregate.specs.contracts.totals.Totals as totals_type;
+    ghost use Rattle.rl_query.specs.contracts.label_test.LabelTests as tests_type;
+    ghost use Rattle.rl_shard.specs.contracts.shard.Shard as shard_type;
+
+    ghost coded = { Prim.hlevel (codes, label_set_code, totals_type.the_row.coded, tests_type.the_row.coded, shard_type.the_row.coded) };
+
+    ghost use Rattle.rl_session.specs.WorldEngine.{IsEngine};
+
+    ghost view = { λ a. a.world };
+
+    ghost invariant = { λ a. IsEngine a.shards a.world };
+}
+
+impl<S: Sink> WorldEngine<S> {
+    /// Empty shards, and a book for each group with its sinks, which have taken nothing.
+    pub fn open(
+        alloc: Global,
+        limits: Limits,
+        shards: usize,
+        groups: Vec<Group>,
+        sinks: Vec<Vec<S>>,
+    ) -> Result<Self, AllocError>
+        requires shards { shards ≤ most_shards }
+        requires lists { length sinks.items ≡ length groups.items }
+        requires fresh { AllByRecursion (λ own. AllByRecursion IsFresh (map S.state own.items)) sinks.items }
+        ensures shards { IfOk result (λ world. world.shards ≡ replicate shards (record { limits = limits; state = empty_shard; records = 0 })) }
+        ensures books { IfOk result (λ world. world.books ≡ books_from 0 limits.records shards groups.items (map (λ own. map S.state own.items) sinks.items)) }
+    {
+        let world = World::open(alloc, limits, shards, groups, sinks)?;
+        Ok(WorldEngine { world, shards })
+    }
+
+    // Answers one step.
+    fn answer(&mut self, step: Step) -> Reply
+        ensures turned { Turned self.old step result self.new }
+        ensures told { Tells self.old step result self.new }
+        ensures alike { IsAlike self.old self.new }
+    {
+        self.world.answer(step)
+    }
+
+    // Opens an evaluation of the group at the moment.
+    fn begin(&mut self, group: usize, t: Ns) -> Result<(), Refusal>
+        ensures made { IsBegun self.old group t result self.new }
+        ensures opened { OnOk result (open_moment self.new group ≡ Some t) }
+        ensures alike { IsAlike self.old self.new }
+    {
+        match self.answer(Step::Begin { group, t }) {
+            Reply::Begun => Ok(()),
+            Reply::Refused(refusal) => Err(refusal),
+            _ => unreachable!(),
+        }
+    }
+
+    // Asks a shard, for the open evaluation of the group.
+    fn gather(&mut self, group: usize, number: usize) -> Result<(), Refusal>
+        ensures made { IsGathered self.old group number result self.new }
+        ensures still_open { open_moment self.new group ≡ open_moment self.old group }
+        ensures alike { IsAlike self.old self.new }
+    {
+        match self.answer(Step::Gather { group, number }) {
+            Reply::Gathered { .. } => Ok(()),
+            Reply::Refused(refusal) => Err(refusal),
+            _ => unreachable!(),
+        }
+    }
+
+    // Asks each shard in order.
+    fn gather_all(&mut self, group: usize) -> Result<(), Refusal>
+        ensures made { AreGathered self.old group 0 (length self.old.shards) result self.new }
+        ensures still_open { open_moment self.new group ≡ open_moment self.old group }
+        ensures alike { IsAlike self.old self.new }
+    {
+        for number in 0..self.shards() {
+            self.gather(group, number)?;
+        }
+        Ok(())
+    }
+
+    // Commits the open evaluation of the group.
+    fn commit(&mut self, group: usize) -> Result<Committed, Refusal>
+        ensures made { IsCommitted self.old group result self.new }
+        ensures moment { IfOk result (λ committed. open_moment self.old group ≡ Some committed.evaluation.t) }
+        ensures of_group { IfOk result (λ committed. name_at self.old group ≡ Some committed.evaluation.group) }
+        ensures still_open { OnErr result (open_moment self.new group ≡ open_moment self.old group) }
+        ensures alike { IsAlike self.old self.new }
+    {
+        match self.answer(Step::Commit { group }) {
+            Reply::Committed(committed) => Ok(committed),
+            Reply::Refused(refusal) => Err(refusal),
+            _ => unreachable!(),
+        }
+    }
+
+    // Asks each shard, and commits the open evaluation of the group.
+    fn finish(&mut self, group: usize) -> Result<Committed, Refusal>
+        ensures made { IsFinished self.old group result self.new }
+        ensures moment { IfOk result (λ committed. open_moment self.old group ≡ Some committed.evaluation.t) }
+        ensures of_group { IfOk result (λ committed. name_at self.old group ≡ Some committed.evaluation.group) }
+        ensures still_open { OnErr result (open_moment self.new group ≡ open_moment self.old group) }
+        ensures alike { IsAlike self.old self.new }
+    {
+        self.gather_all(group)?;
+        self.commit(group)
+    }
+
+    // Closes the open evaluation of the group, of which nothing is left.
+    fn abandon(&mut self, group: usize)
+        requires { IsSome (open_moment self.old group) }
+        ensures made { Turned self.old (steps.Abandon group) replies.Abandoned self.new }
+        ensures alike { IsAlike self.old self.new }
+    {
+        match self.answer(Step::Abandon { group }) {
+            Reply::Abandoned => {}
+            _ => unreachable!(),
+        }
+    }
+
+    // How many shards it asks.
+    fn shards(&self) -> usize
+        ensures { result ≡ length self.now.shards }
+    {
+        self.shards
+    }
+}
+
+impl<S: Sink> Engine for WorldEngine<S> {
+    ghost use Rattle.rl_session.specs.WorldEngine.{world_calls};
+
+    ghost calls = { world_calls S.state S.close_answers };
+
+    fn groups(&self) -> usize {
+        self.world.groups()
+    }
+
+    fn group(&self, name: &str) -> Option<usize> {
+        group_named(&self.world, name)
+    }
+
+    fn push(&mut self, entry: Entry) -> Result<ShardReply, Refusal> {
+        let step = ShardStep::Push(entry);
+        match self.answer(Step::Shard { number: 0, step }) {
+            Reply::Decided { reply, .. } => Ok(reply),
+            Reply::Refused(refusal) => Err(refusal),
+            _ => unreachable!(),
+        }
+    }
+
+    fn edit(&mut self, group: usize, to: Group) -> Result<(), Refusal> {
+        match self.answer(Step::Edit { group, to }) {
+            Reply::Edited { .. } => Ok(()),
+            Reply::Refused(refusal) => Err(refusal),
+            _ => unreachable!(),
+        }
+    }
+
+    fn evaluate(&mut self, group: usize, t: Ns) -> Result<Committed, Refusal> {
+        self.begin(group, t)?;
+        match self.finish(group) {
+            Ok(committed) => Ok(committed),
+            Err(refusal) => {
+                self.abandon(group);
+                Err(refusal)
+            }
+        }
+    }
+
+    fn is_due(&self, group: usize, now: Ns) -> bool {
+        match self.world.book(group) {
+            Some(book) => book.due(now),
+            None => false,
+        }
+    }
+
+    fn show<W: Write>(&self, group: usize, sink: usize, out: &mut W) -> io::Result<bool> {
+        match self.world.book(group) {
+            Some(book) => write_sink(book, sink, out),
+            None => Ok(false),
+        }
+    }
+
+    fn close(&mut self) -> Result<u64, Refusal> {
+        Ok(self.world.close_sinks())
+    }
+}
+
+// The number of the first group with the name.
+fn group_named<S: Sink>(world: &World<S>, name: &str) -> Option<usize>
+    ensures { result ≡ number_named name.now (map listed world.now.books) }
+{
+    for number in 0..world.groups() {
+        let book = world.book(number)?;
+        if book.group().name.as_str() == name {
+            return Some(number);
+        }
+    }
+    None
+}
+
+// Writes how many texts a sink has taken, and those that it keeps. Whether there is such a sink.
+fn write_sink<S: Sink, W: Write>(book: &Book<S>, sink: usize, out: &mut W) -> io::Result<bool>
+    ensures there { IfOk result (λ there. there ≡ is_some (slice_get book.now.sinks sink)) }
+    ensures text { OnOk result (Appends (W.contents out.old) (W.contents out.new) (kept_text (option_map shown_of (slice_get book.now.sinks sink)))) }
+{
+    let Some(count) = book.sink_count(sink) else {
+        return Ok(false);
+    };
+    writeln!(out, "count {count}")?;
+    write_texts(book, sink, count, out)?;
+    Ok(true)
+}
+
+// Writes the texts that a sink keeps, which are at most so many.
+fn write_texts<S: Sink, W: Write>(
+    book: &Book<S>,
+    sink: usize,
+    count: u64,
+    out: &mut W,
+) -> io::Result<()>
+    requires { IfSome (slice_get book.now.sinks sink) (λ sink. length sink.kept ≤ count) }
+    ensures { IfSome (slice_get book.now.sinks sink) (λ sink. OnOk result (Appends (W.contents out.old) (W.contents out.new) (concat sink.kept))) }
+{
+    for index in 0..count {
+        let Some(text) = book.sink_text(sink, index) else {
+            break;
+        };
+        out.write_all(text.as_bytes())?;
+    }
+    Ok(())
+}
