@@ -1,0 +1,11 @@
+pub mod Sealed
+pub mod Added
+pub mod Held
+pub mod Offered
+pub mod Kept
+pub mod Numbers
+pub mod RowChanges
+pub mod Steps
+pub mod Told
+pub mod Whole
+pub mod Written

@@ -1,0 +1,198 @@
+-- What streams hand out one after the other, and what is read for it.
+use Rattle.std.proofs.Common.{◌≡◌, ℕ, zero, suc, ◌+◌, Bool, true, false, cond, ◌&&◌, ◌↔◌, IsTrue, Contains, Some, None, Option, is_some, List, [], ◌∷◌, ◌++◌, map, filter, take, slice_get, Result, Ok, Err, refl, sym, ap, ◌∙◌, true≢false, append_assoc, append-nil, add-one}
+use Rattle.std.specs.Prelude.{if◌then◌else◌}
+use Rattle.std.specs.List.{All, AllByRecursion, IsDistinct}
+use Rattle.std.specs.BTreeMap.{is_at}
+use Rattle.std.specs.Ordering.{eq_by_cmp, is_eq}
+use Rattle.std.specs.Cmp.{tied_itself}
+use Rattle.std.specs.FinMap.{get}
+use Rattle.std.proofs.lemmas.List.Sorted.{IsPermutation-sym}
+use Rattle.std.specs.Map.{lookup, values_of}
+use Rattle.std.proofs.lemmas.List.{map-append}
+use Rattle.std.proofs.lemmas.List.Folds.{flat_map-map}
+use Rattle.std.proofs.lemmas.List.Elements.{filter-append, All-head, All-tail}
+use Rattle.rl_labels.specs.LabelSet.{LabelSet}
+use Rattle.rl_labels.specs.LabelText.{label_set_cmp, label_set_eq}
+use Rattle.rl_labels.specs.EntryOrder.{entry_cmp}
+use Rattle.rl_labels.specs.laws.OrderLaws.{entry_cmp_total, entry_cmp-IsAntisymmetric}
+use Rattle.rl_labels.specs.Selects.{selects}
+use Rattle.rl_labels.specs.laws.TextLaws.{label_set_eq_itself, label_set_eq-true, label_set_cmp_total}
+use Rattle.rl_labels.specs.declared.entry.Entry.{Entry}
+use Rattle.rl_labels.specs.declared.matcher.Matcher.{Matcher}
+use Rattle.rl_chunks.specs.StoreState.{Seen}
+use Rattle.rl_chunks.specs.declared.line.Line.{Line}
+use Rattle.rl_parts.specs.StreamParts.{StreamView, entries_of}
+use Rattle.rl_parts.specs.StoreUse.{AreKept, Looked, Right}
+use Rattle.rl_parts.specs.Reading.{is_in_range, told, told_in_range}
+use Rattle.rl_parts.specs.declared.fault.ReadFault.{ReadFault}
+use Rattle.rl_parts.specs.declared.fault.ReadFault.TheVariants as reads
+use Rattle.rl_streams.specs.Asking.{is_asked, asked, told_of, told_by, told_at, left, AreToldOnce, NoneSelected}
+use Rattle.rl_streams.specs.RowSteps.{AreOthers, IsPlaceOf}
+use Rattle.rl_streams.specs.HeldSet.{set_of}
+use Rattle.rl_streams.specs.laws.HeldLaws.{keys-of_distinct}
+use Rattle.rl_streams.specs.StreamRows.{Row, joined, by_stream, newest_in, newest_map, is_among, IsOwn, AreStreams}
+use Rattle.rl_streams.proofs.Added.{row_of_place}
+use Rattle.rl_plain.specs.laws.TreeMaps.{get-of_tree}
+use Rattle.rl_streams.proofs.Held.{answer_is, held_at}
+use Rattle.rl_streams.proofs.RowChanges.{at_row, with_key, not_none, same_some}
+use Rattle.rl_streams.proofs.Steps.{streams_looked}
+
+-- a fault that was right to answer of one thing is right to answer of another
+pub right_on : {A B : Type 0} (fault : ReadFault) (P : A → Type 0) (Q : B → Type 0) → Right {A = A} (Err fault) P → Right {A = B} (Err fault) Q
+right_on reads.Fault P Q h = tt
+right_on reads.Damaged P Q h = h
+right_on reads.Memory P Q h = tt
+
+-- what follows from the answer
+pub right_then : {A : Type 0} (P Q : A → Type 0) → ((answer : A) → P answer → Q answer) → (result : Result A ReadFault) → Right result P → Right result Q
+right_then P Q f (Ok answer) h = f answer h
+right_then P Q f (Err reads.Fault) h = tt
+right_then P Q f (Err reads.Damaged) h = h
+right_then P Q f (Err reads.Memory) h = tt
+
+module _ (rows : List Row) (i : ℕ) (entry : Entry) (stream : StreamView) (place : IsPlaceOf rows entry.labels (Some i)) (at : slice_get (values_of rows) i ≡ Some stream) where
+  -- there is a stream of its labels
+  pub not_others : AreOthers entry.labels rows → ⊥
+  not_others others = true≢false (sym (label_set_eq_itself entry.labels) ∙ at_row (λ row. label_set_eq entry.labels row.0 ≡ false) rows i (entry.labels, stream) others (row_of_place rows i entry.labels stream place at))
+
+  -- what the stream answers is right of all streams
+  pub found_at : (result : Result Bool ReadFault) (seen : Seen) (next : ℕ) → AreStreams rows seen next → (AreKept seen next stream → Right result (λ found. IsTrue found ↔ Contains (entries_of stream) entry)) → Right result (λ found. found ≡ is_among entry (joined rows))
+  found_at result seen next are right =
+      let row = row_of_place rows i entry.labels stream place at in
+      right_then (λ found. IsTrue found ↔ Contains (entries_of stream) entry) (λ found. found ≡ is_among entry (joined rows)) (λ found is. answer_is entry found (entries_of stream) is ∙ sym (held_at entry rows i stream are.own are.apart row)) result
+      (right (at_row (λ row. AreKept seen next row.1) rows i (entry.labels, stream) are.kept row))
+
+module _ (selector : List Matcher) (from to : ℕ) where
+  -- entries of one stream that are asked for
+  of_stream : (labels : LabelSet) (entries : List Entry) → All (λ entry. entry.labels ≡ labels) entries → map told (asked selector from to entries) ≡ (if selects selector labels then told_in_range from to entries else [])
+  of_stream labels [] own = none (selects selector labels)
+    where
+      none : (b : Bool) → [] ≡ (if b then told_in_range from to [] else [])
+      none true = refl
+      none false = refl
+  of_stream labels (entry ∷ entries) own =
+      ap (λ set. map told (cond (selects selector set && is_in_range from to entry) (entry ∷ asked selector from to entries) (asked selector from to entries))) (All-head (λ e. e.labels ≡ labels) entry entries own)
+      ∙ by (selects selector labels) (is_in_range from to entry) (of_stream labels entries (All-tail (λ e. e.labels ≡ labels) entry entries own))
+    where
+      by : (a b : Bool) → map told (asked selector from to entries) ≡ (if a then told_in_range from to entries else [])
+          → map told (cond (a && b) (entry ∷ asked selector from to entries) (asked selector from to entries)) ≡ (if a then map told (cond b (entry ∷ filter (is_in_range from to) entries) (filter (is_in_range from to) entries)) else [])
+      by true true others = ap (λ l. told entry ∷ l) others
+      by true false others = others
+      by false b others = others
+
+  -- what all streams hand out is what is asked of all entries
+  pub told_all : (rows : List Row) → AllByRecursion IsOwn rows → told_by selector from to rows ≡ map told (asked selector from to (joined rows))
+  told_all [] own = refl
+  told_all (row ∷ rows) own =
+      ap (λ l. l ++ told_by selector from to rows) (sym (of_stream row.0 (entries_of row.1) own.0.entries))
+      ∙ ap (λ l. map told (asked selector from to (entries_of row.1)) ++ l) (told_all rows own.1)
+      ∙ sym (map-append told (asked selector from to (entries_of row.1)) (asked selector from to (joined rows)))
+      ∙ ap (map told) (sym (filter-append (is_asked selector from to) (entries_of row.1) (joined rows)))
+
+  -- one stream more
+  told_suc : (rows : List Row) (i : ℕ) (labels : LabelSet) (stream : StreamView) → slice_get rows i ≡ Some (labels, stream) → told_by selector from to (take (suc i) rows) ≡ told_by selector from to (take i rows) ++ told_of selector from to labels stream
+  told_suc [] i labels stream at = absurd (not_none (labels, stream) at)
+  told_suc (row ∷ rows) zero labels stream at = append-nil (told_of selector from to row.0 row.1) ∙ ap (λ (r : Row). told_of selector from to r.0 r.1) (same_some row (labels, stream) at)
+  told_suc (row ∷ rows) (suc i) labels stream at =
+      ap (λ l. told_of selector from to row.0 row.1 ++ l) (told_suc rows i labels stream at)
+      ∙ sym (append_assoc (told_of selector from to row.0 row.1) (told_by selector from to (take i rows)) (told_of selector from to labels stream))
+
+  pub told_more : (rows : List Row) (i : ℕ) (stream : StreamView) (before taken now : List (LabelSet × Line)) → AllByRecursion IsOwn rows → slice_get (values_of rows) i ≡ Some stream
+      → taken ≡ before ++ told_by selector from to (take i rows) → now ≡ taken ++ told_of selector from to stream.labels stream → now ≡ before ++ told_by selector from to (take (i + 1) rows)
+  told_more rows i stream before taken now own at was is =
+      let row = with_key rows i stream at in
+      let labels = (at_row IsOwn rows i (row.0, stream) own row.1).labels in
+      is ∙ ap (λ l. l ++ told_of selector from to stream.labels stream) was
+      ∙ append_assoc before (told_by selector from to (take i rows)) (told_of selector from to stream.labels stream)
+      ∙ ap (λ l. before ++ (told_by selector from to (take i rows) ++ told_of selector from to l stream)) labels
+      ∙ ap (λ l. before ++ l) (sym (told_suc rows i row.0 stream row.1))
+      ∙ ap (λ n. before ++ told_by selector from to (take n rows)) (sym (add-one i))
+
+  -- a stream at a place is kept, once the store was looked at
+  pub kept_there : (rows : List Row) (i : ℕ) (stream : StreamView) (old seen : Seen) (next : ℕ) → AreStreams rows old next → Looked old seen → slice_get (values_of rows) i ≡ Some stream → AreKept seen next stream
+  kept_there rows i stream old seen next are looked at =
+      let row = with_key rows i stream at in
+      at_row (λ row. AreKept seen next row.1) rows i (row.0, stream) ((streams_looked rows old next are seen looked).kept) row.1
+
+  -- it is not selected where none is
+  pub not_selected : (rows : List Row) (i : ℕ) (stream : StreamView) → AllByRecursion IsOwn rows → AllByRecursion (λ row. selects selector row.0 ≡ false) rows → slice_get (values_of rows) i ≡ Some stream → selects selector stream.labels ≡ false
+  not_selected rows i stream own none at =
+      let row = with_key rows i stream at in
+      ap (selects selector) ((at_row IsOwn rows i (row.0, stream) own row.1).labels) ∙ at_row (λ row. selects selector row.0 ≡ false) rows i (row.0, stream) none row.1
+
+-- each once: what all streams hand out, where no entry is held twice
+pub told_once : (selector : List Matcher) (from to : ℕ) (rows : List Row) (before after : List (LabelSet × Line)) → AllByRecursion IsOwn rows → IsDistinct (eq_by_cmp entry_cmp) (joined rows)
+    → after ≡ before ++ told_by selector from to rows → AreToldOnce selector from to (set_of (joined rows)) before after
+told_once selector from to rows before after own once is = record {
+  order = asked selector from to (joined rows);
+  once = IsPermutation-sym _ _ (keys-of_distinct entry_cmp_total entry_cmp-IsAntisymmetric (is_asked selector from to) (joined rows) once);
+  told = is ∙ ap (λ l. before ++ l) (told_all selector from to rows own);
+}
+
+-- a stream that is there has a newest timestamp
+behind_another : (row : Row) (rows : List Row) (labels : LabelSet) → is_some (lookup (is_at (label_set_cmp labels)) (newest_in rows)) ≡ true → is_some (lookup (is_at (label_set_cmp labels)) (newest_in (row ∷ rows))) ≡ true
+behind_another row rows labels there = by (is_at (label_set_cmp labels) row.0)
+  where
+    by : (b : Bool) → is_some (cond b (Some row.1.newest) (lookup (is_at (label_set_cmp labels)) (newest_in rows))) ≡ true
+    by true = refl
+    by false = there
+
+all_mapped : (P Q : Row → Type 0) → ((row : Row) → P row → Q row) → (rows : List Row) → AllByRecursion P rows → AllByRecursion Q rows
+all_mapped P Q f [] h = tt
+all_mapped P Q f (row ∷ rows) h = (f row h.0, all_mapped P Q f rows h.1)
+
+have_newest : (rows : List Row) → AllByRecursion (λ row. is_some (lookup (is_at (label_set_cmp row.0)) (newest_in rows)) ≡ true) rows
+have_newest [] = tt
+have_newest (row ∷ rows) = (
+  ap (λ b. is_some (cond b (Some row.1.newest) (lookup (is_at (label_set_cmp row.0)) (newest_in rows)))) (ap is_eq (tied_itself label_set_cmp_total row.0)),
+  all_mapped (λ other. is_some (lookup (is_at (label_set_cmp other.0)) (newest_in rows)) ≡ true) (λ other. is_some (lookup (is_at (label_set_cmp other.0)) (newest_in (row ∷ rows))) ≡ true) (λ other. behind_another row rows other.0) rows (have_newest rows),
+)
+
+-- so where none is selected, no row is
+pub rows_not_selected : (selector : List Matcher) (rows : List Row) → NoneSelected selector (newest_map (newest_in rows)) → AllByRecursion (λ row. selects selector row.0 ≡ false) rows
+rows_not_selected selector rows none =
+    all_mapped (λ row. is_some (lookup (is_at (label_set_cmp row.0)) (newest_in rows)) ≡ true) (λ row. selects selector row.0 ≡ false) (λ row there. by row there (selects selector row.0) refl) rows (have_newest rows)
+  where
+    by : (row : Row) → is_some (lookup (is_at (label_set_cmp row.0)) (newest_in rows)) ≡ true → (b : Bool) → selects selector row.0 ≡ b → selects selector row.0 ≡ false
+    by row there true e = absurd (true≢false (sym there ∙ ap is_some (sym (get-of_tree label_set_cmp_total (newest_in rows) row.0) ∙ none row.0 e)))
+    by row there false e = e
+
+-- and where no stream has the labels, all have others
+pub rows_others : (rows : List Row) (labels : LabelSet) → get (newest_map (newest_in rows)) labels ≡ None → AreOthers labels rows
+rows_others rows labels none = from rows (ap is_some (sym (get-of_tree label_set_cmp_total (newest_in rows) labels) ∙ none))
+  where
+    by : (row : Row) → is_some (cond (is_at (label_set_cmp labels) row.0) (Some row.1.newest) None) ≡ false → (b : Bool) → label_set_eq labels row.0 ≡ b → label_set_eq labels row.0 ≡ false
+    by row none true e =
+        absurd (true≢false (sym (ap (λ key. is_some (cond (is_at (label_set_cmp labels) key) (Some row.1.newest) None)) (sym (label_set_eq-true labels row.0 e))
+        ∙ ap (λ b. is_some (cond b (Some row.1.newest) None)) (ap is_eq (tied_itself label_set_cmp_total labels))) ∙ none))
+    by row none false e = e
+
+    apart : (a : Bool) (newest : ℕ) (others : Option ℕ) → is_some (cond a (Some newest) others) ≡ false → (is_some (cond a (Some newest) None) ≡ false) × (is_some others ≡ false)
+    apart true newest others h = (h, absurd (true≢false h))
+    apart false newest others h = (refl, h)
+
+    from : (rows : List Row) → is_some (lookup (is_at (label_set_cmp labels)) (newest_in rows)) ≡ false → AreOthers labels rows
+    from [] none = tt
+    from (row ∷ rows) none =
+        let two = apart (is_at (label_set_cmp labels) row.0) row.1.newest (lookup (is_at (label_set_cmp labels)) (newest_in rows)) none in
+        (by row two.0 (label_set_eq labels row.0) refl, from rows two.1)
+
+-- a stream that is asked alone
+pub told_here : (selector : List Matcher) (from to : ℕ) (rows : List Row) (i : ℕ) (stream : StreamView) → AllByRecursion IsOwn rows → slice_get (values_of rows) i ≡ Some stream → told_of selector from to stream.labels stream ≡ told_at selector from to (by_stream rows) i
+told_here selector from to [] i stream own at = absurd (not_none stream at)
+told_here selector from to (row ∷ rows) zero stream own at =
+    ap (λ (s : StreamView). told_of selector from to s.labels s) (sym (same_some row.1 stream at))
+    ∙ ap (λ labels. told_of selector from to labels row.1) own.0.labels ∙ sym (of_stream selector from to row.0 (entries_of row.1) own.0.entries)
+told_here selector from to (row ∷ rows) (suc i) stream own at = told_here selector from to rows i stream own.1 at
+
+-- at first all that is asked for is left
+pub left_at_first : (selector : List Matcher) (from to : ℕ) (rows : List Row) → left selector from to (by_stream rows) 0 [] ≡ map told (asked selector from to (joined rows))
+left_at_first selector from to rows = ap (λ entries. map told (asked selector from to entries)) (flat_map-map (λ entries. entries) (λ (row : Row). entries_of row.1) rows)
+
+-- and each of them once
+pub left_once : (selector : List Matcher) (from to : ℕ) (rows : List Row) → IsDistinct (eq_by_cmp entry_cmp) (joined rows) → AreToldOnce selector from to (set_of (joined rows)) [] (left selector from to (by_stream rows) 0 [])
+left_once selector from to rows once = record {
+  order = asked selector from to (joined rows);
+  once = IsPermutation-sym _ _ (keys-of_distinct entry_cmp_total entry_cmp-IsAntisymmetric (is_asked selector from to) (joined rows) once);
+  told = left_at_first selector from to rows;
+}

@@ -1,0 +1,109 @@
+-- Streams as they are seen, and what is always true of them.
+use Rattle.std.proofs.Common.{◌≡◌, ℕ, ◌+◌, ◌<◌, Bool, true, false, not, List, [], ◌∷◌, length, Result, Ok, Err, refl, sym, ap, subst, ◌∙◌, arith}
+use Rattle.std.specs.Prelude.{OnOk, IsErrOf, MatchBool, nat_le}
+use Rattle.std.specs.List.{IsDistinct}
+use Rattle.std.specs.FinMap.{contains_key, len}
+use Rattle.std.proofs.lemmas.Bool.Decides.{nat_tests}
+use Rattle.std.proofs.lemmas.List.Sorted.{length_permutation}
+use Rattle.rl_labels.specs.EntryOrder.{EntrySet}
+use Rattle.rl_labels.specs.laws.OrderLaws.{entry_cmp_total, entry_cmp-IsAntisymmetric}
+use Rattle.rl_labels.specs.declared.entry.Entry.{Entry}
+use Rattle.rl_parts.specs.StoreUse.{Looked}
+use Rattle.rl_parts.specs.declared.fault.ReadFault.TheVariants as reads
+use Rattle.rl_streams.specs.laws.HeldLaws.{contains_key-of_list, len-of_distinct, set-permuted}
+use Rattle.rl_streams.specs.declared.refusal.AddRefusal.{AddRefusal}
+use Rattle.rl_streams.specs.declared.refusal.AddRefusal.TheVariants.{Expired, TooFarBehind, Full, Read}
+use Rattle.rl_labels.specs.declared.limits.Limits.{Limits}
+use Rattle.rl_chunks.specs.StoreState.{Seen}
+use Rattle.rl_streams.specs.StreamRows.{Row, joined, by_stream, newest_in, newest_map, loose_in, unwritten_in, is_among}
+use Rattle.rl_streams.specs.StreamsState.{StreamsView, IsWhole, Cuts, Looks, Takes, IsDecided, view_of}
+use Rattle.rl_streams.specs.HeldSet.{set_of}
+use Rattle.rl_streams.specs.RowSteps.{AreCut, AreAdded, IsOfferedRight}
+use Rattle.rl_streams.proofs.Steps.{streams_looked}
+
+-- no streams
+pub none_whole : (limits : Limits) (rows : List Row) (seen : Seen) → rows ≡ [] → IsWhole limits rows seen limits.first_blob 0
+unfolding IsDistinct
+none_whole limits rows seen none = subst (λ rows. IsWhole limits rows seen limits.first_blob 0) (sym none) (record {
+  streams = record { own = tt; apart = tt; kept = tt; numbers = tt; once = λ _. tt };
+  counted = refl;
+  room = omega arith;
+})
+
+module _ (limits : Limits) (seen : Seen) (next count : ℕ) (old new : List Row) (cut : AreCut old new) where
+  -- streams whose heads were sealed
+  pub cut_whole : IsWhole limits old seen next count → IsWhole limits new seen next count
+  cut_whole whole = record { streams = cut.streams seen next whole.streams; counted = whole.counted ∙ ap length (sym cut.entries); room = whole.room }
+
+  pub cut_view : Cuts (view_of limits old seen next) (view_of limits new seen next)
+  cut_view = record { limits = refl; held = ap set_of cut.entries; newest = ap newest_map cut.newest; next = refl; order = cut.order; seen = refl }
+
+-- none are left
+pub on_ok_none : {A T E : Type 0} (xs : List A) (result : Result T E) → OnOk result (xs ≡ []) → OnOk result (length xs ≡ 0)
+on_ok_none xs (Ok x) none = ap length none
+on_ok_none xs (Err e) none = tt
+
+-- an entry that was taken was not held, and there was room for it
+pub taken_new : (held : Bool) → true ≡ not held → held ≡ false
+taken_new true e = e
+taken_new false e = refl
+
+pub has_room : (limits : Limits) (count : ℕ) → nat_le limits.entries count ≡ false → count < limits.entries
+has_room limits count h = grind (arith, nat_tests, h)
+
+module _ (limits : Limits) (rows new : List Row) (old seen : Seen) (next count : ℕ) (whole : IsWhole limits rows old next count) (looked : Looked old seen) where
+  -- streams whose store was looked at
+  pub looked_whole : new ≡ rows → IsWhole limits new seen next count
+  looked_whole same = subst (λ rows. IsWhole limits rows seen next count) (sym same) (record { streams = streams_looked rows old next whole.streams seen looked; counted = whole.counted; room = whole.room })
+
+  pub looked_view : new ≡ rows → Looks (view_of limits rows old next) (view_of limits new seen next)
+  looked_view same = record { limits = refl; held = ap (λ rows. set_of (joined rows)) same; newest = ap (λ rows. newest_map (newest_in rows)) same; next = refl; loose = ap (λ rows. length (loose_in rows)) same; unwritten = ap (λ rows. length (unwritten_in rows)) same; order = ap by_stream same; seen = looked }
+
+  abbrev before : StreamsView
+  before = view_of limits rows old next
+
+  abbrev after : StreamsView
+  after = view_of limits new seen next
+
+  module _ (entry : Entry) where
+    abbrev held : EntrySet
+    held = set_of (joined rows)
+
+    is_held : contains_key held entry ≡ is_among entry (joined rows)
+    is_held = contains_key-of_list entry_cmp_total (joined rows) entry
+
+    many_held : old.honest ≡ true → len held ≡ count
+    many_held honest = len-of_distinct entry_cmp_total (joined rows) (whole.streams.once honest) ∙ sym whole.counted
+
+    -- streams that took an entry
+    pub taken_whole : AreAdded rows entry new → (old.honest ≡ true → is_among entry (joined rows) ≡ false) → count < limits.entries → IsWhole limits new seen next (count + 1)
+    taken_whole added is_new room =
+        let longer = length_permutation (entry ∷ joined rows) (joined new) added.entries in
+        record {
+          streams = added.streams seen next (streams_looked rows old next whole.streams seen looked) (λ honest. is_new (sym looked.honest ∙ honest));
+          counted = omega (arith, longer, whole.counted);
+          room = omega (arith, room);
+        }
+
+    pub taken_view : AreAdded rows entry new → Takes (view_of limits rows old next) entry (view_of limits new seen next)
+    taken_view added = record { limits = refl; held = set-permuted entry_cmp_total entry_cmp-IsAntisymmetric (entry ∷ joined rows) (joined new) added.entries; newest = added.newest; next = refl; seen = looked }
+
+    -- what was decided, where it was refused
+    pub decided_refused : (refusal : AddRefusal) (is_full : Bool) (to : StreamsView) → old.honest ≡ true → IsOfferedRight (Err refusal) (is_among entry (joined rows)) → (IsErrOf {T = Bool} (Err refusal) Full → is_full ≡ true) → is_full ≡ nat_le limits.entries count → IsDecided {A = Unit {0}} (Err refusal) (view_of limits rows old next) entry to
+    decided_refused Full is_full to honest right full is = (is_held ∙ right, let le = sym is ∙ full refl in let many = many_held honest in grind (arith, nat_tests, le, many))
+    decided_refused (Read reads.Fault) is_full to honest right full is = tt
+    decided_refused (Read reads.Damaged) is_full to honest right full is = right
+    decided_refused (Read reads.Memory) is_full to honest right full is = tt
+    decided_refused (Expired horizon) is_full to honest right full is = right
+    decided_refused (TooFarBehind newest) is_full to honest right full is = right
+
+    -- where it was held already, and where it was taken
+    pub decided_held : old.honest ≡ true → IsOfferedRight (Ok false) (is_among entry (joined rows)) → new ≡ rows → IsDecided {A = Unit {0}} (Ok tt) (view_of limits rows old next) entry (view_of limits new seen next)
+    decided_held honest right same = subst (λ b. MatchBool b (Looks before after) ((len before.held < limits.entries) × Takes before entry after)) (sym (is_held ∙ was (is_among entry (joined rows)) right)) (looked_view same)
+      where
+        was : (b : Bool) → false ≡ not b → b ≡ true
+        was true e = refl
+        was false e = e
+
+    pub decided_taken : old.honest ≡ true → IsOfferedRight (Ok true) (is_among entry (joined rows)) → AreAdded rows entry new → count < limits.entries → IsDecided {A = Unit {0}} (Ok tt) (view_of limits rows old next) entry (view_of limits new seen next)
+    decided_taken honest right added room = subst (λ b. MatchBool b (Looks before after) ((len before.held < limits.entries) × Takes before entry after)) (sym (is_held ∙ taken_new (is_among entry (joined rows)) right)) (subst (λ n. n < limits.entries) (sym (many_held honest)) room, taken_view added)

@@ -1,0 +1,30 @@
+-- What is held is a set.
+use Rattle.std.proofs.Common.{◌≡◌, true, None, refl, sym, ap, subst, ◌∙◌}
+use Rattle.std.specs.FinMap.{get, contains_key}
+use Rattle.rl_labels.specs.laws.OrderLaws.{entry_cmp_total}
+use Rattle.rl_parts.specs.StoreUse.{Right}
+use Rattle.rl_streams.specs.StreamRows.{joined, is_among}
+use Rattle.rl_streams.specs.StreamsState.{StreamsView, view_of}
+use Rattle.rl_streams.specs.laws.HeldLaws.{contains_key-of_list}
+use Rattle.rl_streams.proofs.Told.{right_then, rows_others}
+use Rattle.rl_streams.proofs.Whole.{looked_whole}
+use Rattle.rl_streams.proofs.streams.Streams.holds.Goals as goal
+
+pub invariant_of-self : goal.invariant_of-self
+invariant_of-self g c =
+    let s = c.self.inside in
+    looked_whole s.limits s.streams.entries s.streams.entries (g.S.Store.seen s.store) (g.S.Store.seen c.holds.new.store) s.next s.count c.self.invariant c.holds.ensures.looked refl
+
+pub returns-clause-unread : goal.returns-clause-unread
+returns-clause-unread g c = λ none.
+    let s = c.self.inside in
+    let unread = c.holds.ensures.unread (rows_others s.streams.entries c.args.entry.now.labels (subst (λ (view : StreamsView). get view.newest c.args.entry.now.labels ≡ None) (sym c.self.view_is) none)) in
+    (unread.0, ap (λ seen. view_of s.limits s.streams.entries seen s.next) unread.1 ∙ c.self.view_is)
+
+pub returns-clause-right : goal.returns-clause-right
+returns-clause-right g c =
+    let s = c.self.inside in
+    let entry = c.args.entry.now in
+    subst (λ (view : StreamsView). view.seen.honest ≡ true → Right c.holds.result (λ found. found ≡ contains_key view.held entry)) c.self.view_is
+    (λ honest. right_then (λ found. found ≡ is_among entry (joined s.streams.entries)) (λ found. found ≡ contains_key (view_of s.limits s.streams.entries (g.S.Store.seen s.store) s.next).held entry)
+    (λ found is. is ∙ sym (contains_key-of_list entry_cmp_total (joined s.streams.entries) entry)) c.holds.result (c.holds.ensures.right s.next c.self.invariant.streams honest))

@@ -1,0 +1,48 @@
+-- What is asked of all streams: the entries that a selector selects, in a range of time.
+use Rattle.std.specs.Prelude.{◌≡◌, ℕ, Bool, true, ◌&&◌, List, [], ◌++◌, map, drop, get_or, None, if◌then◌else◌}
+use Rattle.std.specs.List.{filter, flat_map}
+use Rattle.std.specs.List.Sorted.{IsPermutation}
+use Rattle.std.specs.FinMap.{FinMap, get, keys}
+use Rattle.rl_labels.specs.EntryOrder.{EntrySet}
+use Rattle.rl_labels.specs.LabelText.{label_set_cmp}
+use Rattle.rl_labels.specs.LabelSet.{LabelSet}
+use Rattle.rl_labels.specs.Selects.{selects}
+use Rattle.rl_labels.specs.declared.entry.Entry.{Entry}
+use Rattle.rl_labels.specs.declared.matcher.Matcher.{Matcher}
+use Rattle.rl_chunks.specs.declared.line.Line.{Line}
+use Rattle.rl_parts.specs.StreamParts.{StreamView, entries_of}
+use Rattle.rl_parts.specs.Reading.{is_in_range, told, told_in_range}
+use Rattle.rl_streams.specs.StreamRows.{Row}
+
+abbrev pub is_asked : List Matcher → ℕ → ℕ → Entry → Bool
+is_asked selector from to entry = selects selector entry.labels && is_in_range from to entry
+
+-- the entries that are asked for
+abbrev pub asked : List Matcher → ℕ → ℕ → List Entry → List Entry
+asked selector from to entries = filter (is_asked selector from to) entries
+
+-- what a stream hands out: nothing where it is not selected
+abbrev pub told_of : List Matcher → ℕ → ℕ → LabelSet → StreamView → List (LabelSet × Line)
+told_of selector from to labels stream = if selects selector labels then told_in_range from to (entries_of stream) else []
+
+-- what all streams hand out
+abbrev pub told_by : List Matcher → ℕ → ℕ → List Row → List (LabelSet × Line)
+told_by selector from to rows = flat_map (λ row. told_of selector from to row.0 row.1) rows
+
+-- no stream is selected
+abbrev pub NoneSelected : List Matcher → FinMap label_set_cmp ℕ → Type 0
+NoneSelected selector newest = (labels : LabelSet) → selects selector labels ≡ true → get newest labels ≡ None
+
+-- the held entries that are asked for were handed out behind what was taken before, each once, in some order
+pub record AreToldOnce (selector : List Matcher) (from to : ℕ) (held : EntrySet) (before after : List (LabelSet × Line)) : Type 0 where
+  pub order : List Entry
+  pub once : IsPermutation (asked selector from to (keys held)) order
+  pub told : after ≡ before ++ map told order
+
+-- what one stream of all hands out
+abbrev pub told_at : List Matcher → ℕ → ℕ → List (List Entry) → ℕ → List (LabelSet × Line)
+told_at selector from to order place = map told (asked selector from to (get_or order place []))
+
+-- what is left to be handed out: the lines that wait, and what the streams from a place on hand out
+abbrev pub left : List Matcher → ℕ → ℕ → List (List Entry) → ℕ → List (LabelSet × Line) → List (LabelSet × Line)
+left selector from to order place lines = lines ++ map told (asked selector from to (flat_map (λ entries. entries) (drop place order)))

@@ -1,0 +1,7 @@
+pub mod Asking
+pub mod CursorState
+pub mod HeldSet
+pub mod RowSteps
+pub mod StreamRows
+pub mod StreamsState
+pub mod laws

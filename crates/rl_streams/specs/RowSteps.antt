@@ -1,0 +1,73 @@
+-- What the calls make of the rows of streams.
+use Rattle.std.specs.Prelude.{◌≡◌, ℕ, ◌≤◌, max, not, Bool, true, false, List, ◌∷◌, Option, Some, Result, Ok, Err, MatchOption, slice_get}
+use Rattle.std.specs.List.{AllByRecursion}
+use Rattle.std.specs.List.Sorted.{IsPermutation}
+use Rattle.rl_labels.specs.LabelSet.{LabelSet}
+use Rattle.rl_labels.specs.LabelText.{label_set_eq}
+use Rattle.rl_labels.specs.declared.entry.Entry.{Entry}
+use Rattle.rl_chunks.specs.StoreState.{Seen}
+use Rattle.rl_parts.specs.StreamParts.{StreamView, entries_of}
+use Rattle.rl_parts.specs.StoreUse.{Grown}
+use Rattle.rl_parts.specs.Changes.{IsInserted, AreSealed}
+use Rattle.rl_parts.specs.declared.fault.ReadFault.TheVariants as reads
+use Rattle.rl_streams.specs.StreamRows.{Row, joined, by_stream, newest_in, loose_in, newest_map, raised, is_among, AreStreams}
+use Rattle.rl_streams.specs.declared.refusal.AddRefusal.{AddRefusal}
+use Rattle.rl_streams.specs.declared.refusal.AddRefusal.TheVariants.{Expired, TooFarBehind, Full, Read}
+
+-- no stream has the labels
+abbrev pub AreOthers : LabelSet → List Row → Type 0
+AreOthers labels rows = AllByRecursion (λ row. label_set_eq labels row.0 ≡ false) rows
+
+-- where the stream with the labels stands, if there is one
+abbrev pub IsPlaceOf : List Row → LabelSet → Option ℕ → Type 0
+IsPlaceOf rows labels place = MatchOption place (AreOthers labels rows) (λ i. (stream : StreamView) × (slice_get rows i ≡ Some (labels, stream)))
+
+-- streams that hold what they held, over the same store
+pub record AreCut (old new : List Row) : Type 0 where
+  pub entries : joined new ≡ joined old
+  pub order : by_stream new ≡ by_stream old
+  pub newest : newest_in new ≡ newest_in old
+  pub streams : (seen : Seen) (next : ℕ) → AreStreams old seen next → AreStreams new seen next
+
+-- streams that hold what they held, over a store that has more of their parts
+pub record AreFlushed (old : List Row) (before : Seen) (first : ℕ) (new : List Row) (seen : Seen) (next : ℕ) : Type 0 where
+  pub entries : joined new ≡ joined old
+  pub order : by_stream new ≡ by_stream old
+  pub newest : newest_in new ≡ newest_in old
+  pub loose : loose_in new ≡ loose_in old
+  pub numbers : first ≤ next
+  pub grown : Grown before first seen
+  pub streams : AreStreams old before first → AreStreams new seen next
+
+-- the stream has taken the entry
+pub record Gains (old : StreamView) (entry : Entry) (new : StreamView) : Type 0 where
+  pub labels : new.labels ≡ old.labels
+  pub newest : new.newest ≡ max old.newest entry.timestamp
+  pub entries : IsInserted (entries_of old) entry (entries_of new)
+  pub parts : AreSealed old.parts new.parts
+
+-- where there is one more entry, the stream has taken it, and else it is as it was
+abbrev pub IsOffered : Bool → StreamView → Entry → StreamView → Type 0
+IsOffered true old entry new = Gains old entry new
+IsOffered false old entry new = new ≡ old
+
+-- streams that hold one entry more, with its stream's newest timestamp raised to its own
+pub record AreAdded (old : List Row) (entry : Entry) (new : List Row) : Type 0 where
+  pub entries : IsPermutation (entry ∷ joined old) (joined new)
+  pub newest : newest_map (newest_in new) ≡ raised (newest_map (newest_in old)) entry.labels entry.timestamp
+  pub streams : (seen : Seen) (next : ℕ) → AreStreams old seen next → (seen.honest ≡ true → is_among entry (joined old) ≡ false) → AreStreams new seen next
+
+-- where there is one more entry, the streams hold it too, and else they are as they were
+abbrev pub AreOffered : Bool → List Row → Entry → List Row → Type 0
+AreOffered true old entry new = AreAdded old entry new
+AreOffered false old entry new = new ≡ old
+
+-- over an honest store: there is one more entry where it was not held. The search for it may fail, but finds nothing damaged
+abbrev pub IsOfferedRight : Result Bool AddRefusal → Bool → Type 0
+IsOfferedRight (Ok more) held = more ≡ not held
+IsOfferedRight (Err Full) held = held ≡ false
+IsOfferedRight (Err (Read reads.Fault)) held = Unit {0}
+IsOfferedRight (Err (Read reads.Damaged)) held = ⊥
+IsOfferedRight (Err (Read reads.Memory)) held = Unit {0}
+IsOfferedRight (Err (Expired _)) held = ⊥
+IsOfferedRight (Err (TooFarBehind _)) held = ⊥

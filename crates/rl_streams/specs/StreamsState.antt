@@ -1,0 +1,143 @@
+-- All streams of a shard as one set, and what the calls make of it.
+use Rattle.std.specs.Prelude.{◌≡◌, ℕ, ◌+◌, ◌*◌, ◌<◌, ◌≤◌, nat_lt, Bool, false, List, [], length, Option, None, Some, Result, Ok, Err, MatchBool, if◌then◌else◌, refl}
+use base.Stored.{coded_unit}
+use Rattle.std.specs.Coded.{Coded, code_by, coded×, coded_ℕ, coded_list, coded_bool}
+use Rattle.std.specs.FinMap.{FinMap, insert, empty, len, contains_key, code}
+use Rattle.rl_labels.specs.LabelSet.{label_set_code}
+use Rattle.rl_labels.specs.LabelText.{label_set_cmp}
+use Rattle.rl_labels.specs.EntryOrder.{EntrySet}
+use Rattle.rl_labels.specs.declared.entry.Entry.{Entry}
+use Rattle.rl_labels.specs.declared.limits.Limits.{Limits}
+use Rattle.rl_labels.specs.contracts.entry.Entry as entry_type
+use Rattle.rl_labels.specs.contracts.limits.Limits as limits_type
+use Rattle.rl_chunks.specs.StoreState.{Blobs, Seen}
+use Rattle.rl_parts.specs.StoreUse.{Looked, Grown, ReadCause}
+use Rattle.rl_parts.specs.declared.fault.ReadFault.TheVariants as reads
+use Rattle.rl_streams.specs.HeldSet.{set_of}
+use Rattle.rl_streams.specs.StreamRows.{Row, joined, by_stream, newest_in, loose_in, unwritten_in, newest_map, newest_at, raised, AreStreams}
+use Rattle.rl_streams.specs.declared.refusal.AddRefusal.{AddRefusal}
+use Rattle.rl_streams.specs.declared.refusal.AddRefusal.TheVariants.{Expired, TooFarBehind, Full, Read}
+
+pub record StreamsView : Type 0 where
+  pub limits : Limits
+  -- the entries that the streams hold
+  pub held : EntrySet
+  -- the newest timestamp that each stream ever had, in nanoseconds
+  pub newest : FinMap label_set_cmp ℕ
+  -- the store
+  pub seen : Seen
+  -- the next number of a chunk
+  pub next : ℕ
+  -- how many entries are not sealed yet
+  pub loose : ℕ
+  -- how many sealed parts the store does not have
+  pub unwritten : ℕ
+  -- the entries stream by stream, as they are handed out
+  pub order : List (List Entry)
+
+-- a store, and streams, as numbers
+abbrev pub seen_code : Coded Seen
+seen_code = code_by (Blobs × (Bool × (ℕ × ℕ))) (coded× (code coded_ℕ (coded_list coded_ℕ)) (coded× coded_bool (coded× coded_ℕ coded_ℕ)))
+    (λ s. (s.blobs, (s.honest, (s.reads, s.faults))))
+    (λ p. record { blobs = p.0; honest = p.1.0; reads = p.1.1.0; faults = p.1.1.1 })
+    (λ _. refl)
+
+abbrev pub streams_code : Coded StreamsView
+streams_code = code_by (Limits × (EntrySet × (FinMap label_set_cmp ℕ × (Seen × (ℕ × (ℕ × (ℕ × List (List Entry))))))))
+    (coded× limits_type.the_row.coded (coded× (code entry_type.the_row.coded coded_unit) (coded× (code label_set_code coded_ℕ) (coded× seen_code (coded× coded_ℕ (coded× coded_ℕ (coded× coded_ℕ (coded_list (coded_list entry_type.the_row.coded)))))))))
+    (λ s. (s.limits, (s.held, (s.newest, (s.seen, (s.next, (s.loose, (s.unwritten, s.order))))))))
+    (λ p. record { limits = p.0; held = p.1.0; newest = p.1.1.0; seen = p.1.1.1.0; next = p.1.1.1.1.0; loose = p.1.1.1.1.1.0; unwritten = p.1.1.1.1.1.1.0; order = p.1.1.1.1.1.1.1 })
+    (λ _. refl)
+
+-- streams as they are seen
+abbrev pub view_of : Limits → List Row → Seen → ℕ → StreamsView
+view_of limits rows seen next = record { limits = limits; held = set_of (joined rows); newest = newest_map (newest_in rows); seen = seen; next = next; loose = length (loose_in rows); unwritten = length (unwritten_in rows); order = by_stream rows }
+
+-- what is always true of them, and of the count of entries
+pub record IsWhole (limits : Limits) (rows : List Row) (seen : Seen) (next count : ℕ) : Type 0 where
+  pub streams : AreStreams rows seen next
+  pub counted : count ≡ length (joined rows)
+  pub room : count ≤ limits.entries
+
+-- no streams
+abbrev pub no_streams : Limits → Seen → StreamsView
+no_streams limits seen = record { limits = limits; held = empty; newest = empty; seen = seen; next = limits.first_blob; loose = 0; unwritten = 0; order = [] }
+
+-- half of a second, in nanoseconds
+abbrev pub half_second : ℕ
+half_second = 500000000
+
+-- older than a timestamp by more than half of the age of a chunk
+abbrev pub is_far_behind : Limits → Entry → ℕ → Bool
+is_far_behind limits entry newest = nat_lt (entry.timestamp + limits.chunk_age * half_second) newest
+
+-- why an entry is refused for its age, if it is: it is older than the horizon, or too far behind the newest of its stream
+abbrev pub age_refusal : Limits → FinMap label_set_cmp ℕ → ℕ → Entry → Option AddRefusal
+age_refusal limits newest horizon entry =
+    if nat_lt entry.timestamp horizon then Some (Expired horizon)
+    else (if is_far_behind limits entry (newest_at newest entry.labels) then Some (TooFarBehind (newest_at newest entry.labels))
+    else None)
+
+-- the answer does not speak of the entry's age
+abbrev pub IsNoAge : {A : Type 0} → Result A AddRefusal → Type 0
+IsNoAge (Ok _) = Unit {0}
+IsNoAge (Err (Expired horizon)) = ⊥
+IsNoAge (Err (TooFarBehind newest)) = ⊥
+IsNoAge (Err Full) = Unit {0}
+IsNoAge (Err (Read _)) = Unit {0}
+
+-- a call that only looks at the store
+pub record Looks (old new : StreamsView) : Type 0 where
+  pub limits : new.limits ≡ old.limits
+  pub held : new.held ≡ old.held
+  pub newest : new.newest ≡ old.newest
+  pub next : new.next ≡ old.next
+  pub loose : new.loose ≡ old.loose
+  pub unwritten : new.unwritten ≡ old.unwritten
+  pub order : new.order ≡ old.order
+  pub seen : Looked old.seen new.seen
+
+-- a call that seals heads
+pub record Cuts (old new : StreamsView) : Type 0 where
+  pub limits : new.limits ≡ old.limits
+  pub held : new.held ≡ old.held
+  pub newest : new.newest ≡ old.newest
+  pub next : new.next ≡ old.next
+  pub order : new.order ≡ old.order
+  pub seen : new.seen ≡ old.seen
+
+-- the entry is held with the others, and its stream's newest timestamp is raised to its own
+pub record Takes (old : StreamsView) (entry : Entry) (new : StreamsView) : Type 0 where
+  pub limits : new.limits ≡ old.limits
+  pub held : new.held ≡ insert old.held entry tt
+  pub newest : new.newest ≡ raised old.newest entry.labels entry.timestamp
+  pub next : new.next ≡ old.next
+  pub seen : Looked old.seen new.seen
+
+-- a call that puts chunks under numbers from the next one on
+pub record Flushes (old new : StreamsView) : Type 0 where
+  pub limits : new.limits ≡ old.limits
+  pub held : new.held ≡ old.held
+  pub newest : new.newest ≡ old.newest
+  pub next : old.next ≤ new.next
+  pub loose : new.loose ≡ old.loose
+  pub order : new.order ≡ old.order
+  pub seen : Grown old.seen old.next new.seen
+
+-- a refusal for a fault of the device came with one
+abbrev pub AddCause : Seen → Seen → AddRefusal → Type 0
+AddCause old new (Expired horizon) = Unit {0}
+AddCause old new (TooFarBehind newest) = Unit {0}
+AddCause old new Full = Unit {0}
+AddCause old new (Read fault) = ReadCause old new fault
+
+-- what becomes of an entry that is not refused for its age, over an honest store: one that is held changes nothing; for a new one there
+-- must be room. The search for it may fail, but finds nothing damaged
+abbrev pub IsDecided : {A : Type 0} → Result A AddRefusal → StreamsView → Entry → StreamsView → Type 0
+IsDecided (Ok _) old entry new = MatchBool (contains_key old.held entry) (Looks old new) ((len old.held < old.limits.entries) × Takes old entry new)
+IsDecided (Err Full) old entry new = (contains_key old.held entry ≡ false) × (old.limits.entries ≤ len old.held)
+IsDecided (Err (Read reads.Fault)) old entry new = Unit {0}
+IsDecided (Err (Read reads.Damaged)) old entry new = ⊥
+IsDecided (Err (Read reads.Memory)) old entry new = Unit {0}
+IsDecided (Err (Expired horizon)) old entry new = ⊥
+IsDecided (Err (TooFarBehind newest)) old entry new = ⊥

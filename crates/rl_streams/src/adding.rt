@@ -1,0 +1,157 @@
+//! How streams take an entry.
+ghost use Rattle.std.specs.Prelude.{◌≡◌, ◌≤◌, ◌⊎◌, ℕ, Bool, true, false, List, IfOk, IfErr, OnOk, OnErr, IsErrOf, is_none};
+ghost use Rattle.std.specs.List.{AllByRecursion, IsDistinct};
+ghost use Rattle.std.specs.Map.{keys_of};
+ghost use Rattle.rl_labels.specs.LabelText.{label_set_eq};
+ghost use Rattle.rl_parts.specs.StreamParts.{entries_of, most_entries};
+ghost use Rattle.rl_parts.specs.StoreUse.{Looked, AreKept};
+ghost use Rattle.rl_streams.specs.StreamRows.{joined, newest_in, newest_map, is_among, IsOwn, AreStreams};
+ghost use Rattle.rl_streams.specs.RowSteps.{AreAdded, AreOffered, AreOthers, IsOffered, IsOfferedRight, IsPlaceOf};
+ghost use Rattle.rl_streams.specs.StreamsState.{age_refusal, is_far_behind, AddCause, IsNoAge};
+ghost use Rattle.rl_streams.specs.declared.refusal.AddRefusal.TheVariants.{Full, Read};
+ghost use Rattle.rl_parts.specs.declared.fault.ReadFault.TheVariants.{Memory};
+
+use crate::refusal::AddRefusal;
+use indexmap::IndexMap;
+use rl_chunks::Store;
+use rl_labels::{Entry, Labels, Limits, Ns};
+use rl_parts::Stream;
+use rl_plain::{Shared, TryCopy};
+use std::alloc::Global;
+
+// Half of a second, in nanoseconds.
+const HALF_SECOND: u64 = 500_000_000;
+
+// Whether the entry is older than a timestamp by more than half of the age of a chunk.
+fn is_far_behind(limits: &Limits, entry: &Entry, newest: Ns) -> bool
+    ensures { result ≡ is_far_behind limits.now entry.now newest }
+{
+    entry.timestamp.get() + limits.chunk_age * HALF_SECOND < newest.get()
+}
+
+// Where the stream of the labels stands, if there is one.
+pub(crate) fn place_of(streams: &IndexMap<Labels, Stream>, labels: &Labels) -> Option<usize>
+    ensures place { IsPlaceOf streams.now.entries labels.now result }
+    ensures apart { IsDistinct label_set_eq (keys_of streams.now.entries) }
+{
+    streams.get_index_of(labels)
+}
+
+// Why the entry is refused for its age, if it is. Its stream stands at the place.
+pub(crate) fn age_refusal(
+    limits: &Limits,
+    streams: &IndexMap<Labels, Stream>,
+    place: Option<usize>,
+    horizon: Ns,
+    entry: &Entry,
+) -> Option<AddRefusal>
+    requires place { IsPlaceOf streams.now.entries entry.now.labels place }
+    requires apart { IsDistinct label_set_eq (keys_of streams.now.entries) }
+    ensures { result ≡ age_refusal limits.now (newest_map (newest_in streams.now.entries)) horizon entry.now }
+{
+    if entry.timestamp < horizon {
+        return Some(AddRefusal::Expired { horizon });
+    }
+    match place {
+        None => None,
+        Some(place) => {
+            let newest = streams[place].newest();
+            if is_far_behind(limits, entry, newest) {
+                Some(AddRefusal::TooFarBehind { newest })
+            } else {
+                None
+            }
+        }
+    }
+}
+
+// Lets a stream take an entry of its labels, unless it holds it. The answer tells whether it took it.
+fn offer<S: Store>(
+    alloc: Global,
+    store: &mut S,
+    stream: &mut Stream,
+    entry: Shared<Entry>,
+    most: u64,
+    is_full: bool,
+) -> Result<bool, AddRefusal>
+    requires labels { entry.labels ≡ stream.old.labels }
+    requires some { 1 ≤ most }
+    requires few { most ≤ most_entries }
+    ensures looked { Looked (S.seen store.old) (S.seen store.new) }
+    ensures cause { IfErr result (AddCause (S.seen store.old) (S.seen store.new)) }
+    ensures no_age { IsNoAge result }
+    ensures room { IfOk result (λ more. more ≡ true → is_full ≡ false) }
+    ensures full { IsErrOf result Full → is_full ≡ true }
+    ensures taken { IfOk result (λ more. IsOffered more stream.old entry stream.new) }
+    ensures refused { OnErr result (stream.new ≡ stream.old) }
+    ensures right { (next : ℕ) → AreKept (S.seen store.old) next stream.old → (S.seen store.old).honest ≡ true → IsOfferedRight result (is_among entry (entries_of stream.old)) }
+{
+    if stream.holds(alloc, store, entry.get())? {
+        return Ok(false);
+    }
+    if is_full {
+        return Err(AddRefusal::Full);
+    }
+    stream.hold(entry, most)?;
+    Ok(true)
+}
+
+// Puts a stream of the entry alone behind the others.
+fn begin(
+    alloc: Global,
+    streams: &mut IndexMap<Labels, Stream>,
+    entry: Shared<Entry>,
+    most: u64,
+    is_full: bool,
+) -> Result<(), AddRefusal>
+    requires new { AreOthers entry.labels streams.old.entries }
+    requires some { 1 ≤ most }
+    requires few { most ≤ most_entries }
+    ensures room { OnOk result (is_full ≡ false) }
+    ensures full { IsErrOf result Full → is_full ≡ true }
+    ensures taken { OnOk result (AreAdded streams.old.entries entry streams.new.entries) }
+    ensures refused { OnErr result (streams.new.entries ≡ streams.old.entries) }
+    ensures cause { IfErr result (λ refusal. (refusal ≡ Full) ⊎ (refusal ≡ Read Memory)) }
+{
+    if is_full {
+        return Err(AddRefusal::Full);
+    }
+    let labels = entry.get().labels.try_copy()?;
+    let stream = Stream::start(alloc, entry, most)?;
+    streams.insert(labels, stream)?;
+    Ok(())
+}
+
+// Lets the stream of its labels take the entry, unless it is held. A new stream comes behind the others. The answer tells
+// whether there is one entry more.
+pub(crate) fn put<S: Store>(
+    alloc: Global,
+    store: &mut S,
+    streams: &mut IndexMap<Labels, Stream>,
+    place: Option<usize>,
+    entry: Shared<Entry>,
+    most: u64,
+    is_full: bool,
+) -> Result<bool, AddRefusal>
+    requires place { IsPlaceOf streams.old.entries entry.labels place }
+    requires own { AllByRecursion IsOwn streams.old.entries }
+    requires apart { IsDistinct label_set_eq (keys_of streams.old.entries) }
+    requires some { 1 ≤ most }
+    requires few { most ≤ most_entries }
+    ensures looked { Looked (S.seen store.old) (S.seen store.new) }
+    ensures cause { IfErr result (AddCause (S.seen store.old) (S.seen store.new)) }
+    ensures no_age { IsNoAge result }
+    ensures room { IfOk result (λ more. more ≡ true → is_full ≡ false) }
+    ensures full { IsErrOf result Full → is_full ≡ true }
+    ensures taken { IfOk result (λ more. AreOffered more streams.old.entries entry streams.new.entries) }
+    ensures refused { OnErr result (streams.new.entries ≡ streams.old.entries) }
+    ensures right { (next : ℕ) → AreStreams streams.old.entries (S.seen store.old) next → (S.seen store.old).honest ≡ true → IsOfferedRight result (is_among entry (joined streams.old.entries)) }
+{
+    match place {
+        None => {
+            begin(alloc, streams, entry, most, is_full)?;
+            Ok(true)
+        }
+        Some(place) => offer(alloc, store, &mut streams[place], entry, most, is_full),
+    }
+}

@@ -1,0 +1,102 @@
+//! What is asked of streams, handed out line by line.
+ghost use Rattle.std.specs.Prelude.{◌≡◌, ◌≤◌, [], ◌∷◌, true, length, IfErr, IfOk, MatchOption, OnErr, OnOk};
+ghost use Rattle.rl_parts.specs.StoreUse.{ReadCause, Right};
+ghost use Rattle.rl_streams.specs.Asking.{left};
+ghost use Rattle.rl_streams.specs.StreamsState.{Looks};
+
+use crate::lines::Lines;
+use crate::streams::Streams;
+use rl_chunks::{Line, Store};
+use rl_labels::{Labels, Ns, SelectorCode};
+use rl_parts::ReadFault;
+use rl_plain::Shared;
+
+/// Hands out what is asked of streams line by line, and reads them one after the other.
+#[derive(Drop)]
+pub struct Cursor<'a, S: Store> {
+    streams: &'a mut Streams<S>,
+    selector: &'a SelectorCode,
+    from: Ns,
+    to: Ns,
+    // Where the next stream stands.
+    place: usize,
+    // What the streams before it have handed out, and wait here.
+    lines: Lines,
+}
+
+// Asks streams from the place on, until lines wait or no stream is left. A stream that was not read to its end is asked again.
+fn fill<S: Store>(
+    streams: &mut Streams<S>,
+    selector: &SelectorCode,
+    from: Ns,
+    to: Ns,
+    place: &mut usize,
+    lines: &mut Lines,
+) -> Result<(), ReadFault>
+    ensures same { Looks streams.old streams.new }
+    ensures cause { IfErr result (ReadCause streams.old.seen streams.new.seen) }
+    ensures undamaged { streams.old.seen.honest ≡ true → Right result (λ _. Unit {0}) }
+    ensures left { streams.old.seen.honest ≡ true → left selector.now from to streams.new.order place.new lines.new ≡ left selector.now from to streams.old.order place.old lines.old }
+    ensures all { OnOk result (lines.new ≡ [] → length streams.new.order ≤ place.new) }
+{
+    for next in *place..streams.stream_count() {
+        if !lines.is_empty() {
+            return Ok(());
+        }
+        if let Err(fault) = streams.hand_out(next, selector, from, to, lines) {
+            lines.clear();
+            return Err(fault);
+        }
+        *place = next + 1;
+    }
+    Ok(())
+}
+
+impl<'a, S: Store> Cursor<'a, S> {
+    ghost use Rattle.rl_streams.specs.CursorState.{left_in};
+
+    // What the streams are asked.
+    pub(crate) fn new(
+        streams: &'a mut Streams<S>,
+        selector: &'a SelectorCode,
+        from: Ns,
+        to: Ns,
+        lines: Lines,
+    ) -> Self
+        ensures same_reference { result.streams.ghost_name ≡ streams.entry.ghost_name }
+        ensures streams { result.streams.now ≡ streams.old }
+        ensures asks { (result.selector.now ≡ selector.now) × (result.from ≡ from) × (result.to ≡ to) }
+        ensures place { result.place ≡ 0 }
+        ensures lines { result.lines ≡ lines }
+    {
+        Cursor {
+            streams,
+            selector,
+            from,
+            to,
+            place: 0,
+            lines,
+        }
+    }
+
+    /// The next line with its labels, if one is left. After a refusal as much is left as before.
+    pub fn next(&mut self) -> Result<Option<(Shared<Labels>, Line)>, ReadFault>
+        ensures same_reference { self.new.streams.ghost_name ≡ self.old.streams.ghost_name }
+        ensures asks { (self.new.selector.now ≡ self.old.selector.now) × (self.new.from ≡ self.old.from) × (self.new.to ≡ self.old.to) }
+        ensures same { Looks self.old.streams.now self.new.streams.now }
+        ensures cause { IfErr result (ReadCause self.old.streams.now.seen self.new.streams.now.seen) }
+        ensures right { self.old.streams.now.seen.honest ≡ true → Right result (λ found. MatchOption found (left_in self.old ≡ []) (λ line. left_in self.old ≡ line ∷ left_in self.new)) }
+        ensures refused { OnErr result (self.old.streams.now.seen.honest ≡ true → left_in self.new ≡ left_in self.old) }
+    {
+        let (place, lines) = (&mut self.place, &mut self.lines);
+        fill(
+            self.streams,
+            self.selector,
+            self.from,
+            self.to,
+            place,
+            lines,
+        )?;
+        Ok(self.lines.pop())
+    }
+}

@@ -1,0 +1,18 @@
+//! All streams of a shard as one set of log entries, over a store that may have parts of them.
+//!
+//! - `streams`: `Streams`. It takes entries, seals what it holds and writes it to the store, and reads it again.
+//! - `refusal`: `AddRefusal`, why an entry is not taken.
+#![tactic(auto)]
+
+mod adding;
+pub mod cursor;
+mod cutting;
+mod flushing;
+mod lines;
+mod reading;
+pub mod refusal;
+pub mod streams;
+
+pub use cursor::Cursor;
+pub use refusal::AddRefusal;
+pub use streams::Streams;

@@ -1,0 +1,77 @@
+//! What streams hold, read where it is.
+ghost use Rattle.std.specs.Prelude.{◌≡◌, ◌++◌, ℕ, true, false, Ok, IfErr};
+ghost use Rattle.std.specs.List.{AllByRecursion};
+ghost use Rattle.rl_labels.specs.Selects.{selects};
+ghost use Rattle.rl_parts.specs.StoreUse.{Looked, AreKept, ReadCause, Right};
+ghost use Rattle.rl_streams.specs.Asking.{told_of, told_by};
+ghost use Rattle.rl_streams.specs.RowSteps.{AreOthers};
+ghost use Rattle.rl_streams.specs.StreamRows.{joined, is_among, IsOwn, AreStreams};
+
+use crate::adding::place_of;
+use indexmap::IndexMap;
+use rl_chunks::Store;
+use rl_labels::{Entry, Labels, Ns, SelectorCode};
+use rl_parts::{ReadFault, Stream, Taker};
+use std::alloc::Global;
+
+// Whether a stream holds the entry. Where no stream has its labels, nothing is read.
+pub(crate) fn holds<S: Store>(
+    alloc: Global,
+    store: &mut S,
+    streams: &IndexMap<Labels, Stream>,
+    entry: &Entry,
+) -> Result<bool, ReadFault>
+    requires { AllByRecursion IsOwn streams.now.entries }
+    ensures looked { Looked (S.seen store.old) (S.seen store.new) }
+    ensures cause { IfErr result (ReadCause (S.seen store.old) (S.seen store.new)) }
+    ensures unread { AreOthers entry.now.labels streams.now.entries → (result ≡ Ok false) × (S.seen store.new ≡ S.seen store.old) }
+    ensures right { (next : ℕ) → AreStreams streams.now.entries (S.seen store.old) next → (S.seen store.old).honest ≡ true → Right result (λ found. found ≡ is_among entry.now (joined streams.now.entries)) }
+{
+    match place_of(streams, &entry.labels) {
+        None => Ok(false),
+        Some(place) => streams[place].holds(alloc, store, entry),
+    }
+}
+
+// Hands out the lines of a stream in the range, if the selector selects it.
+pub(crate) fn each_selected<S: Store, T: Taker>(
+    alloc: Global,
+    store: &mut S,
+    stream: &Stream,
+    selector: &SelectorCode,
+    from: Ns,
+    to: Ns,
+    taker: &mut T,
+) -> Result<(), ReadFault>
+    ensures looked { Looked (S.seen store.old) (S.seen store.new) }
+    ensures cause { IfErr result (ReadCause (S.seen store.old) (S.seen store.new)) }
+    ensures unread { selects selector.now stream.now.labels ≡ false → S.seen store.new ≡ S.seen store.old }
+    ensures right { (next : ℕ) → AreKept (S.seen store.old) next stream.now → (S.seen store.old).honest ≡ true → Right result (λ _. T.taken taker.new ≡ T.taken taker.old ++ told_of selector.now from to stream.now.labels stream.now) }
+{
+    if !selector.accepts(stream.labels())? {
+        return Ok(());
+    }
+    stream.each(alloc, store, from, to, taker)
+}
+
+// Hands out the lines in the range of all streams that the selector selects. The others are not read.
+pub(crate) fn each<S: Store, T: Taker>(
+    alloc: Global,
+    store: &mut S,
+    streams: &IndexMap<Labels, Stream>,
+    selector: &SelectorCode,
+    from: Ns,
+    to: Ns,
+    taker: &mut T,
+) -> Result<(), ReadFault>
+    requires { AllByRecursion IsOwn streams.now.entries }
+    ensures looked { Looked (S.seen store.old) (S.seen store.new) }
+    ensures cause { IfErr result (ReadCause (S.seen store.old) (S.seen store.new)) }
+    ensures unread { AllByRecursion (λ row. selects selector.now row.0 ≡ false) streams.now.entries → S.seen store.new ≡ S.seen store.old }
+    ensures right { (next : ℕ) → AreStreams streams.now.entries (S.seen store.old) next → (S.seen store.old).honest ≡ true → Right result (λ _. T.taken taker.new ≡ T.taken taker.old ++ told_by selector.now from to streams.now.entries) }
+{
+    for place in 0..streams.len() {
+        each_selected(alloc, store, &streams[place], selector, from, to, taker)?;
+    }
+    Ok(())
+}

@@ -1,0 +1,192 @@
+//! All streams of a shard.
+ghost use Rattle.std.specs.Prelude.{◌≡◌, ◌⊎◌, ◌<◌, ◌++◌, [], length, true, false, None, Ok, Err, IfErr, MatchOption, OnErr, OnOk};
+
+use crate::adding::{age_refusal, place_of, put};
+use crate::cursor::Cursor;
+use crate::lines::Lines;
+use crate::refusal::AddRefusal;
+use crate::{cutting, flushing, reading};
+use indexmap::IndexMap;
+use rl_chunks::Store;
+use rl_labels::{Entry, Labels, Limits, Ns, SelectorCode};
+use rl_parts::{FlushFault, ReadFault, Stream, Taker};
+use rl_plain::Shared;
+use std::alloc::{AllocError, Global};
+use std::marker::Model;
+
+/// All streams of a shard over a store. Contracts see the entries that are held as one set, the newest timestamp of each stream,
+/// the store, and the next number of a chunk.
+#[derive(Drop)]
+pub struct Streams<S: Store> {
+    alloc: Global,
+    store: S,
+    limits: Limits,
+    streams: IndexMap<Labels, Stream>,
+    // How many entries there are in all streams.
+    count: u64,
+    next: u64,
+}
+
+impl<S: Store> Model for Streams<S> {
+    ghost use Rattle.rl_streams.specs.StreamsState.{StreamsView, view_of, streams_code, IsWhole};
+
+    ghost Value = { StreamsView };
+
+    ghost coded = { streams_code };
+
+    ghost view = { λ a. view_of a.limits a.streams.entries (S.seen a.store) a.next };
+
+    ghost invariant = { λ a. IsWhole a.limits a.streams.entries (S.seen a.store) a.next a.count };
+}
+
+impl<S: Store> Streams<S> {
+    ghost use Rattle.std.specs.FinMap.{contains_key, get, len};
+    ghost use Rattle.rl_parts.specs.StoreUse.{FlushCause, ReadCause, Right};
+    ghost use Rattle.rl_streams.specs.Asking.{AreToldOnce, NoneSelected, told_at};
+    ghost use Rattle.rl_streams.specs.CursorState.{left_in};
+    ghost use Rattle.rl_streams.specs.StreamsState.{no_streams, age_refusal, AddCause, Cuts, Flushes, IsDecided, IsNoAge, Looks, Takes};
+
+    /// Streams that hold nothing. The first number is that of the limits.
+    pub fn new(alloc: Global, store: S, limits: Limits) -> Self
+        ensures { result ≡ no_streams limits (S.seen store) }
+    {
+        Streams {
+            alloc,
+            store,
+            limits,
+            streams: IndexMap::new(alloc),
+            count: 0,
+            next: limits.first_blob,
+        }
+    }
+
+    /// The store.
+    pub fn store(&self) -> &S
+        ensures { S.seen result.now ≡ self.now.seen }
+    {
+        &self.store
+    }
+
+    /// Seals the heads of all streams. Nothing changes of what is held. A refusal leaves some heads as they are.
+    pub fn cut(&mut self) -> Result<(), AllocError>
+        ensures same { Cuts self.old self.new }
+        ensures all { OnOk result (self.new.loose ≡ 0) }
+    {
+        cutting::cut(&mut self.streams)
+    }
+
+    /// How many entries are held. A store that is not honest may make it count one twice.
+    pub fn len(&self) -> u64
+        ensures { self.now.seen.honest ≡ true → result ≡ len self.now.held }
+    {
+        self.count
+    }
+
+    /// Takes an entry. One that is held changes nothing. The search for it may read from the store, so a fault of the store
+    /// may be answered where the entry is held, or where there is no room. A refusal takes nothing.
+    pub fn add(&mut self, entry: Shared<Entry>, horizon: Ns) -> Result<(), AddRefusal>
+        // An entry that is too old is refused, over any store and without a read.
+        ensures aged { MatchOption (age_refusal self.old.limits self.old.newest horizon entry) (IsNoAge result) (λ refusal. (result ≡ Err refusal) × (self.new ≡ self.old)) }
+        ensures taken { OnOk result (Looks self.old self.new ⊎ Takes self.old entry self.new) }
+        ensures refused { OnErr result (Looks self.old self.new) }
+        ensures cause { IfErr result (AddCause self.old.seen self.new.seen) }
+        // Exactly one of these over an honest store.
+        ensures decided { age_refusal self.old.limits self.old.newest horizon entry ≡ None → self.old.seen.honest ≡ true → IsDecided result self.old entry self.new }
+    {
+        let place = place_of(&self.streams, &entry.get().labels);
+        let refusal = age_refusal(&self.limits, &self.streams, place, horizon, entry.get());
+        if let Some(refusal) = refusal {
+            return Err(refusal);
+        }
+        let is_full = self.count >= self.limits.entries;
+        let most = self.limits.chunk_entries;
+        let (store, streams) = (&mut self.store, &mut self.streams);
+        if !put(self.alloc, store, streams, place, entry, most, is_full)? {
+            return Ok(());
+        }
+        self.count += 1;
+        Ok(())
+    }
+
+    /// Writes the sealed parts that the store does not have, stream by stream. What was written before a refusal stays
+    /// written, and the next call goes on from there.
+    pub fn flush(&mut self) -> Result<(), FlushFault>
+        ensures same { Flushes self.old self.new }
+        ensures all { OnOk result (self.new.unwritten ≡ 0) }
+        ensures cause { IfErr result (FlushCause self.old.seen self.new.seen self.new.next) }
+    {
+        flushing::flush(
+            self.alloc,
+            &mut self.store,
+            &mut self.streams,
+            &mut self.next,
+        )
+    }
+
+    /// Whether the entry is held. Where no stream has its labels, nothing is read. A store that is not honest may hide an
+    /// entry, and what it answers in its place is found to be damaged.
+    pub fn holds(&mut self, entry: &Entry) -> Result<bool, ReadFault>
+        ensures same { Looks self.old self.new }
+        ensures cause { IfErr result (ReadCause self.old.seen self.new.seen) }
+        ensures unread { get self.old.newest entry.now.labels ≡ None → (result ≡ Ok false) × (self.new ≡ self.old) }
+        ensures right { self.old.seen.honest ≡ true → Right result (λ found. found ≡ contains_key self.old.held entry.now) }
+    {
+        reading::holds(self.alloc, &mut self.store, &self.streams, entry)
+    }
+
+    /// Hands out the lines from one moment to another, both included, of the streams that the selector selects: each once,
+    /// one stream after the other. A stream that is not selected is asked for its labels alone. After a refusal some lines
+    /// may have been handed out.
+    pub fn each<T: Taker>(
+        &mut self,
+        selector: &SelectorCode,
+        from: Ns,
+        to: Ns,
+        taker: &mut T,
+    ) -> Result<(), ReadFault>
+        ensures same { Looks self.old self.new }
+        ensures cause { IfErr result (ReadCause self.old.seen self.new.seen) }
+        ensures unread { NoneSelected selector.now self.old.newest → self.new ≡ self.old }
+        ensures right { self.old.seen.honest ≡ true → Right result (λ _. AreToldOnce selector.now from to self.old.held (T.taken taker.old) (T.taken taker.new)) }
+    {
+        let (store, streams) = (&mut self.store, &self.streams);
+        reading::each(self.alloc, store, streams, selector, from, to, taker)
+    }
+
+    /// A cursor over the lines from one moment to another, both included, of the streams that the selector selects. Over an
+    /// honest store it hands out each once.
+    pub fn cursor<'a>(&'a mut self, selector: &'a SelectorCode, from: Ns, to: Ns) -> Cursor<'a, S>
+        ensures same_reference { result.streams.ghost_name ≡ self.entry.ghost_name }
+        ensures streams { result.streams.now ≡ self.old }
+        ensures asks { (result.selector.now ≡ selector.now) × (result.from ≡ from) × (result.to ≡ to) }
+        ensures left { self.old.seen.honest ≡ true → AreToldOnce selector.now from to self.old.held [] (left_in result) }
+    {
+        let lines = Lines::new(self.alloc);
+        Cursor::new(self, selector, from, to, lines)
+    }
+
+    // How many streams there are.
+    pub(crate) fn stream_count(&self) -> usize
+        ensures { result ≡ length self.now.order }
+    {
+        self.streams.len()
+    }
+
+    // Hands out what one stream has in the range, if the selector selects it.
+    pub(crate) fn hand_out<T: Taker>(
+        &mut self,
+        place: usize,
+        selector: &SelectorCode,
+        from: Ns,
+        to: Ns,
+        taker: &mut T,
+    ) -> Result<(), ReadFault>
+        requires { place < length self.old.order }
+        ensures same { Looks self.old self.new }
+        ensures cause { IfErr result (ReadCause self.old.seen self.new.seen) }
+        ensures right { self.old.seen.honest ≡ true → Right result (λ _. T.taken taker.new ≡ T.taken taker.old ++ told_at selector.now from to self.old.order place) }
+    {
+        let (store, stream) = (&mut self.store, &self.streams[place]);
+        reading::each_selected(self.alloc, store, stream, selector, from, to, taker)
+    }
+}
