@@ -98,13 +98,13 @@ fn cut(alloc: Global, bytes: &[u8]) -> Result<String, Trouble> {
 
 // Numbers that look random, and are the same in each run.
 #[derive(Drop)]
-struct Draws {
-    state: u64,
+pub(crate) struct Draws {
+    pub(crate) state: u64,
 }
 
 impl Draws {
     // A number up to the greatest one.
-    fn up_to(&mut self, greatest: u32) -> u32
+    pub(crate) fn up_to(&mut self, greatest: u32) -> u32
         ensures { result ≤ greatest }
     {
         let next = self.state.wrapping_mul(6_364_136_223_846_793_005);

@@ -18,6 +18,8 @@ mod rules;
 mod session;
 mod shard;
 mod sinks;
+mod streams;
+mod streams_random;
 mod trouble;
 mod world;
 mod world_steps;
@@ -119,6 +121,7 @@ fn answer_of(alloc: Global, family: &str, directive: &str, input: &str) -> Resul
         "session" => session::answer(alloc, directive, input),
         "sinks" => sinks::answer(alloc, directive, input),
         "shard" => shard::answer(alloc, directive, input),
+        "streams" => streams::answer(alloc, directive, input),
         "world" => world::answer(alloc, directive, input),
         _ => Err(Trouble::NoSuchDirective),
     }
