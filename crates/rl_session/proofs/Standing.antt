@@ -2,6 +2,7 @@
 use Rattle.std.proofs.Common.{◌≡◌, ℕ, zero, suc, true, false, cond, inl, inr, List, [], ◌∷◌, map, length, Option, None, Some, is_some, refl, sym, ap, subst, ◌∙◌}
 use Rattle.std.specs.Prelude.{slice_get, slice_set, option_map, option_and_then}
 use Rattle.std.specs.Cmp.Lexicographic.{same_text}
+use Rattle.std.proofs.lemmas.List.{length-map}
 use Rattle.std.proofs.lemmas.Option.{slice_get-map}
 use Rattle.rl_labels.specs.Name.{is_text}
 use Rattle.rl_labels.specs.declared.entry.Entry.{Entry}
@@ -9,13 +10,13 @@ use Rattle.rl_aggregate.specs.declared.partial.Partial.{Partial}
 use Rattle.rl_rules.specs.declared.evaluation.Evaluation.{Evaluation}
 use Rattle.rl_rules.specs.declared.rule.Group.{Group}
 use Rattle.rl_shard.specs.ShardStep.{recorded}
-use Rattle.rl_shard.specs.ShardState.{visible}
+use Rattle.rl_shard.specs.ShardState.{journalled, visible}
 use Rattle.rl_shard.specs.declared.step.ShardStep.TheVariants as shard_steps
 use Rattle.rl_world.specs.Evaluating.{group_terms}
 use Rattle.rl_world.specs.History.{History, begun, gathered, with_shown, committed, edited, abandoned, edit_fault, abandon_fault}
 use Rattle.rl_world.specs.WorldRun.{Turned, Ran}
 use Rattle.rl_world.specs.WorldState.{BookState, WorldBooks, WorldState, Stands, StandsForSome, world_of, kept_open, kept_history}
-use Rattle.rl_world.specs.WorldStep.{WorldStep, lists, known, edit_refusal}
+use Rattle.rl_world.specs.WorldStep.{WorldStep, lists, known, edit_refusal, may_fail}
 use Rattle.rl_world.specs.laws.RunLaws.{sink_counts, ran_counts}
 use Rattle.rl_world.specs.declared.fault.BookFault.TheVariants as faults
 use Rattle.rl_world.specs.declared.fault.Refusal.{Refusal}
@@ -93,6 +94,16 @@ abandon_refused (Some history) refusal refused = within history.opened refused
     within None h = refl
     within (Some opened) h = absurd (none_some refusal h)
 
+-- no abandoning comes to nothing
+abandon_never : (group : ℕ) (refusal : Refusal) → may_fail (steps.Abandon group) refusal ≡ false
+abandon_never group refusals.NoSuch = refl
+abandon_never group (refusals.Book fault) = refl
+abandon_never group refusals.JournalFull = refl
+abandon_never group refusals.Fault = refl
+abandon_never group refusals.Damaged = refl
+abandon_never group refusals.NumbersSpent = refl
+abandon_never group refusals.Memory = refl
+
 told_step : (old : Lists) (step : Step) (reply : Reply) (new : Lists) → WorldStep lists old step reply new → TellsOf (moments old) (moments new) (λ group. name (slice_get old.histories group)) step reply
 told_step old (steps.Shard number step) (replies.Decided place reply) new turn = tt
 told_step old (steps.Shard number step) (replies.Refused refusal) new turn = tt
@@ -115,7 +126,7 @@ told_step old (steps.Commit group) (replies.Committed answer) new turn =
 told_step old (steps.Commit group) (replies.Refused refusal) new turn = ap (λ (world : Lists). moments world group) turn.1
 told_step old (steps.Abandon group) replies.Abandoned new turn = tt
 told_step old (steps.Abandon group) (replies.Refused refusal) new (inl refused, same) = abandon_refused (slice_get old.histories group) refusal refused
-told_step old (steps.Abandon group) (replies.Refused refusal) new (inr wanted, same) = absurd (false_true wanted.2)
+told_step old (steps.Abandon group) (replies.Refused refusal) new (inr wanted, same) = absurd (false_true (sym (abandon_never group refusal) ∙ wanted.1))
 told_step old step reply new turn = absurd turn.1
 
 names_stay : (old : Lists) (step : Step) (reply : Reply) (new : Lists) → WorldStep lists old step reply new → names new.histories ≡ names old.histories
@@ -216,7 +227,7 @@ followed old step reply new before turned =
       told = subst (λ names. TellsOf (open_moment old) (open_moment new) names step reply) old_names (subst (λ later. TellsOf (open_moment old) later (λ group. name (slice_get shown.histories group)) step reply) new_moments (subst (λ former. TellsOf former (moments after) (λ group. name (slice_get shown.histories group)) step reply) old_moments told));
       alike = (
         listed_alike old.books new.books (names_shown new after next.1 ∙ names_stay shown step reply after next.2 ∙ sym (names_shown old shown before.1)) (ran_counts old (step ∷ []) (reply ∷ []) new run),
-        ap (λ (world : WorldState (List Partial)). length world.shards) next.1 ∙ shards_stay shown step reply after next.2 ∙ sym (ap (λ (world : WorldState (List Partial)). length world.shards) before.1),
+        sym (length-map new.shards journalled) ∙ ap (λ (world : WorldState (List Partial)). length world.shards) next.1 ∙ shards_stay shown step reply after next.2 ∙ sym (ap (λ (world : WorldState (List Partial)). length world.shards) before.1) ∙ length-map old.shards journalled,
       );
       stands = (after, next.1);
     }

@@ -5,6 +5,7 @@ use Rattle.std.proofs.lemmas.List.{length-map, take_all}
 use Rattle.std.proofs.lemmas.Option.{slice_get-map}
 use Rattle.rl_labels.specs.Name.{is_text}
 use Rattle.rl_rules.specs.declared.rule.Group.{Group}
+use Rattle.rl_shard.specs.ShardState.{journalled}
 use Rattle.rl_sinks.specs.SinkState.{closed}
 use Rattle.rl_world.specs.WorldState.{BookState, WorldBooks, with_sinks_closed, world_of}
 use Rattle.rl_world.specs.declared.fault.Refusal.{Refusal}
@@ -24,7 +25,7 @@ closed_histories (book ∷ books) = ap (λ rest. book.history ∷ rest) (closed_
 pub closed_engine : (shards : ℕ) (old new : WorldBooks) → new ≡ record { shards = old.shards; books = map with_sinks_closed old.books } → IsEngine shards old → IsEngine shards new
 closed_engine shards old new is engine = subst (IsEngine shards) (sym is) (record {
   shards_are = engine.shards_are;
-  stands = (engine.stands.0, (λ i. record { shards = old.shards; histories = closed_histories old.books i }) ∙ engine.stands.1);
+  stands = (engine.stands.0, (λ i. record { shards = map journalled old.shards; histories = closed_histories old.books i }) ∙ engine.stands.1);
 })
 
 -- worlds that are listed alike have the same names

@@ -9,6 +9,7 @@ use crate::engine::Engine;
 use crate::push::read_push;
 use crate::telling::Got;
 use rl_labels::{Entry, Ns};
+use rl_plain::Shared;
 use rl_rules::Group;
 use rl_shard::ShardReply;
 use rl_world::{Committed, Refusal};
@@ -29,7 +30,7 @@ pub(crate) fn push<E: Engine>(alloc: Global, engine: &mut E, json: &str) -> Got
     }
 }
 
-// What the engine answers to each entry. With no room for all answers it is handed none.
+// What the engine answers to each entry. With no room for all of them and all answers it is handed none.
 fn push_all<E: Engine>(
     alloc: Global,
     engine: &mut E,
@@ -38,12 +39,24 @@ fn push_all<E: Engine>(
     ensures each { IfOk result (λ answers. PushesAll E.calls engine.old entries.items answers.items engine.new) }
     ensures none { OnErr result (engine.new ≡ engine.old) }
 {
+    let entries = share(alloc, entries)?;
     let mut answers = Vec::with_capacity(alloc, entries.len())?;
     for entry in entries {
         let answer = engine.push(entry);
         answers.push_reserved(answer);
     }
     Ok(answers)
+}
+
+// The entries, each where its owners can share it.
+fn share(alloc: Global, entries: Vec<Entry>) -> Result<Vec<Shared<Entry>>, AllocError>
+    ensures { IfOk result (λ shared. shared.items ≡ entries.items) }
+{
+    let mut shared = Vec::with_capacity(alloc, entries.len())?;
+    for entry in entries {
+        shared.push(Shared::new(alloc, entry)?)?;
+    }
+    Ok(shared)
 }
 
 /// Evaluates the group with the name.

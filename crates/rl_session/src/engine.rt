@@ -3,6 +3,7 @@ ghost use Rattle.std.specs.Prelude.{◌≡◌, length, IfOk};
 ghost use Rattle.rl_session.specs.Engine.{Calls, number_named, ShowsIn};
 
 use rl_labels::{Entry, Ns};
+use rl_plain::Shared;
 use rl_rules::Group;
 use rl_shard::ShardReply;
 use rl_world::{Committed, Refusal};
@@ -24,7 +25,7 @@ pub trait Engine: Drop {
         ensures { result ≡ number_named name.now (calls.groups self.now) };
 
     /// Hands an entry to its shard.
-    fn push(&mut self, entry: Entry) -> Result<ShardReply, Refusal>
+    fn push(&mut self, entry: Shared<Entry>) -> Result<ShardReply, Refusal>
         ensures answer { calls.pushes self.old entry result self.new }
         ensures groups { calls.groups self.new ≡ calls.groups self.old };
 

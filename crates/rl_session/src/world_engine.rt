@@ -2,7 +2,7 @@
 ghost use Rattle.std.specs.Prelude.{◌≡◌, ◌≤◌, length, map, replicate, slice_get, option_map, is_some, Some, IsSome, IfOk, IfSome, OnOk, OnErr};
 ghost use Rattle.std.specs.List.{AllByRecursion, concat};
 ghost use Rattle.std.specs.Io.KnownBytes.{Appends};
-ghost use Rattle.rl_shard.specs.ShardState.{empty_shard};
+ghost use Rattle.rl_shard.specs.ShardState.{journalled, opened};
 ghost use Rattle.rl_world.specs.BookCalls.{books_from, IsFresh};
 ghost use Rattle.rl_world.specs.Slots.{most_shards};
 ghost use Rattle.rl_world.specs.WorldRun.{Turned};
@@ -13,6 +13,7 @@ ghost use Rattle.rl_session.specs.WorldEngine.{Tells, IsAlike, IsBegun, IsGather
 
 use crate::engine::Engine;
 use rl_labels::{Entry, Limits, Ns};
+use rl_plain::Shared;
 use rl_rules::Group;
 use rl_shard::{ShardReply, ShardStep};
 use rl_sinks::Sink;
@@ -61,7 +62,7 @@ impl<S: Sink> WorldEngine<S> {
         requires shards { shards ≤ most_shards }
         requires lists { length sinks.items ≡ length groups.items }
         requires fresh { AllByRecursion (λ own. AllByRecursion IsFresh (map S.state own.items)) sinks.items }
-        ensures shards { IfOk result (λ world. world.shards ≡ replicate shards (record { limits = limits; state = empty_shard; records = 0 })) }
+        ensures shards { IfOk result (λ world. map journalled world.shards ≡ replicate shards (opened limits)) }
         ensures books { IfOk result (λ world. world.books ≡ books_from 0 limits.records shards groups.items (map (λ own. map S.state own.items) sinks.items)) }
     {
         let world = World::open(alloc, limits, shards, groups, sinks)?;
@@ -175,7 +176,7 @@ impl<S: Sink> Engine for WorldEngine<S> {
         group_named(&self.world, name)
     }
 
-    fn push(&mut self, entry: Entry) -> Result<ShardReply, Refusal> {
+    fn push(&mut self, entry: Shared<Entry>) -> Result<ShardReply, Refusal> {
         let step = ShardStep::Push(entry);
         match self.answer(Step::Shard { number: 0, step }) {
             Reply::Decided { reply, .. } => Ok(reply),
