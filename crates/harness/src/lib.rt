@@ -3,7 +3,7 @@
 //!
 //! - `tests_sinks`: what a recorder writes when writes fail. `tests_worlds`: sinks in a world that fail or refuse.
 //! - `tests_reading`: readers of an input, turn by turn. `tests_sessions`: a session whose output or recorder fails.
-//! - `tests_stores`: stores in memory and in folders, and what spoils them.
+//! - `tests_stores`: stores in memory and in folders, and what spoils them. `tests_streams`: streams whose store fails.
 //! - `tests_memory`: calls that want memory, made again. `tests_given`: what several of these need.
 #![tactic(auto)]
 
@@ -19,5 +19,7 @@ mod tests_sessions;
 mod tests_sinks;
 #[cfg(test)]
 mod tests_stores;
+#[cfg(test)]
+mod tests_streams;
 #[cfg(test)]
 mod tests_worlds;
