@@ -1,9 +1,10 @@
 -- The entries of a range, as they are handed out.
-use Rattle.std.proofs.Common.{◌≡◌, ℕ, ◌+◌, ◌-◌, ◌<◌, ◌≤◌, ◌⊎◌, inl, inr, leb, ◌&&◌, true, false, Bool, cond, List, [], ◌∷◌, ◌++◌, length, get_or, take, map, refl, sym, ap, subst, ◌∙◌, append-nil, append_assoc, arith}
-use Rattle.std.specs.List.{All, AllByRecursion, AllZip, filter, flat_map}
+use Rattle.std.proofs.Common.{◌≡◌, ℕ, ◌+◌, ◌-◌, ◌<◌, ◌≤◌, ◌⊎◌, inl, inr, leb, ◌&&◌, true, false, Bool, cond, List, [], ◌∷◌, ◌++◌, length, get_or, take, map, refl, sym, ap, subst, ◌∙◌, append-nil, arith}
+use Rattle.std.specs.List.{All, AllByRecursion, AllZip, filter, flat_map, fold}
 use Rattle.std.proofs.lemmas.Bool.Decides.{nat_tests}
 use Rattle.std.proofs.lemmas.List.{map-append, take_more}
 use Rattle.std.proofs.lemmas.List.Concat.{flat_map-append}
+use Rattle.std.proofs.lemmas.List.Sums.{fold-append}
 use Rattle.std.proofs.lemmas.List.Elements.{filter-append, recursion_from_All}
 use Rattle.rl_labels.specs.LabelSet.{LabelSet}
 use Rattle.rl_labels.specs.declared.entry.Entry.{Entry}
@@ -23,23 +24,23 @@ pub told-append : (from to : ℕ) (xs ys : List Entry) → told_in_range from to
 told-append from to xs ys = ap (map told) (filter-append (is_in_range from to) xs ys) ∙ map-append told (filter (is_in_range from to) xs) (filter (is_in_range from to) ys)
 
 -- one line more
-pub line_more : {A : Type 0} (line : A → Line) (set : LabelSet) (from to : ℕ) (xs : List A) (i : ℕ) (x : A) (start taken now : List (LabelSet × Line)) → i < length xs → x ≡ get_or xs i x
-    → taken ≡ start ++ lines_in_range set from to (map line (take i xs)) → now ≡ taken ++ lines_in_range set from to (line x ∷ []) → now ≡ start ++ lines_in_range set from to (map line (take (i + 1) xs))
-line_more line set from to xs i x start taken now within is so_far one =
+pub line_more : {A T : Type 0} (taking : T → LabelSet × Line → T) (line : A → Line) (set : LabelSet) (from to : ℕ) (xs : List A) (i : ℕ) (x : A) (start taken now : T) → i < length xs → x ≡ get_or xs i x
+    → taken ≡ fold taking start (lines_in_range set from to (map line (take i xs))) → now ≡ fold taking taken (lines_in_range set from to (line x ∷ [])) → now ≡ fold taking start (lines_in_range set from to (map line (take (i + 1) xs)))
+line_more taking line set from to xs i x start taken now within is so_far one =
     let front : take (i + 1) xs ≡ take i xs ++ x ∷ [] = take_more xs i x within ∙ ap (λ y. take i xs ++ y ∷ []) (sym is) in
     let all : lines_in_range set from to (map line (take (i + 1) xs)) ≡ lines_in_range set from to (map line (take i xs)) ++ lines_in_range set from to (line x ∷ []) =
     ap (λ ys. lines_in_range set from to (map line ys)) front ∙ ap (lines_in_range set from to) (map-append line (take i xs) (x ∷ [])) ∙ lines-append set from to (map line (take i xs)) (line x ∷ []) in
-    one ∙ ap (λ t. t ++ lines_in_range set from to (line x ∷ [])) so_far ∙ append_assoc start _ _ ∙ ap (λ t. start ++ t) (sym all)
+    one ∙ ap (λ t. fold taking t (lines_in_range set from to (line x ∷ []))) so_far ∙ sym (fold-append taking start (lines_in_range set from to (map line (take i xs))) (lines_in_range set from to (line x ∷ []))) ∙ ap (fold taking start) (sym all)
 
 -- one part more
-pub part_more : (from to : ℕ) (parts : List PartView) (i : ℕ) (p : PartView) (start taken now : List (LabelSet × Line)) → i < length parts → p ≡ get_or parts i p
-    → taken ≡ start ++ told_in_range from to (flat_map (λ part. part.entries) (take i parts)) → now ≡ taken ++ told_in_range from to p.entries → now ≡ start ++ told_in_range from to (flat_map (λ part. part.entries) (take (i + 1) parts))
-part_more from to parts i p start taken now within is so_far one =
+pub part_more : {T : Type 0} (taking : T → LabelSet × Line → T) (from to : ℕ) (parts : List PartView) (i : ℕ) (p : PartView) (start taken now : T) → i < length parts → p ≡ get_or parts i p
+    → taken ≡ fold taking start (told_in_range from to (flat_map (λ part. part.entries) (take i parts))) → now ≡ fold taking taken (told_in_range from to p.entries) → now ≡ fold taking start (told_in_range from to (flat_map (λ part. part.entries) (take (i + 1) parts)))
+part_more taking from to parts i p start taken now within is so_far one =
     let entries = λ (part : PartView). part.entries in
     let front : take (i + 1) parts ≡ take i parts ++ p ∷ [] = take_more parts i p within ∙ ap (λ y. take i parts ++ y ∷ []) (sym is) in
     let all : told_in_range from to (flat_map entries (take (i + 1) parts)) ≡ told_in_range from to (flat_map entries (take i parts)) ++ told_in_range from to p.entries =
     ap (λ ps. told_in_range from to (flat_map entries ps)) front ∙ ap (told_in_range from to) (flat_map-append entries (take i parts) (p ∷ []) ∙ ap (λ es. flat_map entries (take i parts) ++ es) (append-nil p.entries)) ∙ told-append from to (flat_map entries (take i parts)) p.entries in
-    one ∙ ap (λ t. t ++ told_in_range from to p.entries) so_far ∙ append_assoc start _ _ ∙ ap (λ t. start ++ t) (sym all)
+    one ∙ ap (λ t. fold taking t (told_in_range from to p.entries)) so_far ∙ sym (fold-append taking start (told_in_range from to (flat_map entries (take i parts))) (told_in_range from to p.entries)) ∙ ap (fold taking start) (sym all)
 
 -- lines of entries are handed out as the entries are
 same_told : (set : LabelSet) (from to : ℕ) (entries : List Entry) → AllByRecursion (λ entry. entry.labels ≡ set) entries → lines_in_range set from to (map line_of entries) ≡ told_in_range from to entries
@@ -68,11 +69,11 @@ nothing_told set xs first last from to run range out = none_told from to xs (rec
     at entry low high (inr behind) = grind (arith, nat_tests, range.start, range.end)
 
 -- parts, and then the head
-pub both_told : (set : LabelSet) (from to : ℕ) (parts : List PartView) (head : List Entry) (start mid now : List (LabelSet × Line)) → All (λ entry. entry.labels ≡ set) head
-    → mid ≡ start ++ told_in_range from to (flat_map (λ part. part.entries) parts) → now ≡ mid ++ lines_in_range set from to (map line_of head) → now ≡ start ++ told_in_range from to (flat_map (λ part. part.entries) parts ++ head)
-both_told set from to parts head start mid now same first second =
+pub both_told : {T : Type 0} (taking : T → LabelSet × Line → T) (set : LabelSet) (from to : ℕ) (parts : List PartView) (head : List Entry) (start mid now : T) → All (λ entry. entry.labels ≡ set) head
+    → mid ≡ fold taking start (told_in_range from to (flat_map (λ part. part.entries) parts)) → now ≡ fold taking mid (lines_in_range set from to (map line_of head)) → now ≡ fold taking start (told_in_range from to (flat_map (λ part. part.entries) parts ++ head))
+both_told taking set from to parts head start mid now same first second =
     let all : List Entry = flat_map (λ part. part.entries) parts in
-    second ∙ (λ i. first i ++ lines_told set from to head same i) ∙ append_assoc start (told_in_range from to all) (told_in_range from to head) ∙ ap (λ t. start ++ t) (sym (told-append from to all head))
+    second ∙ (λ i. fold taking (first i) (lines_told set from to head same i)) ∙ sym (fold-append taking start (told_in_range from to all) (told_in_range from to head)) ∙ ap (fold taking start) (sym (told-append from to all head))
 
 zip_append : {A B : Type 0} (R : A → B → Type 0) (xs : List A) (us : List B) (ys : List A) (vs : List B) → AllZip R xs us → AllZip R ys vs → AllZip R (xs ++ ys) (us ++ vs)
 zip_append R [] [] ys vs h k = k
@@ -81,20 +82,20 @@ zip_append R (x ∷ xs) [] ys vs h k = absurd h
 zip_append R (x ∷ xs) (u ∷ us) ys vs h k = (h.0, zip_append R xs us ys vs h.1 k)
 
 -- pieces of parts, and then of others
-handed_then : (set : LabelSet) (from to : ℕ) (xs ys : List PartView) (a b c : List (LabelSet × Line)) → IsHandedOut set from to xs a b → IsHandedOut set from to ys b c → IsHandedOut set from to (xs ++ ys) a c
-handed_then set from to xs ys a b c p q = record {
+handed_then : {T : Type 0} (taking : T → LabelSet × Line → T) (set : LabelSet) (from to : ℕ) (xs ys : List PartView) (a b c : T) → IsHandedOut taking set from to xs a b → IsHandedOut taking set from to ys b c → IsHandedOut taking set from to (xs ++ ys) a c
+handed_then taking set from to xs ys a b c p q = record {
   pieces = p.pieces ++ q.pieces;
   each = zip_append (IsPiece set from to) xs p.pieces ys q.pieces p.each q.each;
-  behind = q.behind ∙ ap (λ t. t ++ flat_map (λ piece. piece) q.pieces) p.behind ∙ append_assoc a _ _ ∙ ap (λ t. a ++ t) (sym (flat_map-append (λ piece. piece) p.pieces q.pieces));
+  behind = q.behind ∙ ap (λ t. fold taking t (flat_map (λ piece. piece) q.pieces)) p.behind ∙ sym (fold-append taking a (flat_map (λ piece. piece) p.pieces) (flat_map (λ piece. piece) q.pieces)) ∙ ap (fold taking a) (sym (flat_map-append (λ piece. piece) p.pieces q.pieces));
 }
 
 -- the piece of one part more
-pub piece_more : (set : LabelSet) (from to : ℕ) (parts : List PartView) (i : ℕ) (p : PartView) (start taken now : List (LabelSet × Line)) → i < length parts → p ≡ get_or parts i p
-    → IsHandedOut set from to (take i parts) start taken → IsHandedOut set from to (p ∷ []) taken now → IsHandedOut set from to (take (i + 1) parts) start now
-piece_more set from to parts i p start taken now within is so_far one =
+pub piece_more : {T : Type 0} (taking : T → LabelSet × Line → T) (set : LabelSet) (from to : ℕ) (parts : List PartView) (i : ℕ) (p : PartView) (start taken now : T) → i < length parts → p ≡ get_or parts i p
+    → IsHandedOut taking set from to (take i parts) start taken → IsHandedOut taking set from to (p ∷ []) taken now → IsHandedOut taking set from to (take (i + 1) parts) start now
+piece_more taking set from to parts i p start taken now within is so_far one =
     let front : take (i + 1) parts ≡ take i parts ++ p ∷ [] = take_more parts i p within ∙ ap (λ y. take i parts ++ y ∷ []) (sym is) in
-    subst (λ (ps : List PartView). IsHandedOut set from to ps start now) (sym front) (handed_then set from to (take i parts) (p ∷ []) start taken now so_far one)
+    subst (λ (ps : List PartView). IsHandedOut taking set from to ps start now) (sym front) (handed_then taking set from to (take i parts) (p ∷ []) start taken now so_far one)
 
 -- one piece
-pub one_piece : (set : LabelSet) (from to : ℕ) (p : PartView) (piece old new : List (LabelSet × Line)) → IsPiece set from to p piece → new ≡ old ++ piece → IsHandedOut set from to (p ∷ []) old new
-one_piece set from to p piece old new is behind = record { pieces = piece ∷ []; each = (is, tt); behind = behind ∙ ap (λ t. old ++ t) (sym (append-nil piece)) }
+pub one_piece : {T : Type 0} (taking : T → LabelSet × Line → T) (set : LabelSet) (from to : ℕ) (p : PartView) (piece : List (LabelSet × Line)) (old new : T) → IsPiece set from to p piece → new ≡ fold taking old piece → IsHandedOut taking set from to (p ∷ []) old new
+one_piece taking set from to p piece old new is behind = record { pieces = piece ∷ []; each = (is, tt); behind = behind ∙ ap (fold taking old) (sym (append-nil piece)) }

@@ -1,7 +1,7 @@
 -- What is read of a stream: the entries of a range of time, and whether a part has to be read for it.
 use Rattle.std.specs.Prelude.{ℕ, ◌<◌, nat_le, Bool, ◌&&◌, ◌≡◌, ◌⊎◌, List, [], ◌++◌, map, if◌then◌else◌, Some, IfSome}
 use Rattle.std.specs.Option.{is_none, MatchOption}
-use Rattle.std.specs.List.{All, AllByRecursion, AllZip, Contains, filter, flat_map}
+use Rattle.std.specs.List.{All, AllByRecursion, AllZip, Contains, filter, flat_map, fold}
 use Rattle.sha2.specs.Sha256.{sha256}
 use Rattle.rl_labels.specs.LabelSet.{LabelSet}
 use Rattle.rl_labels.specs.declared.entry.Entry.{Entry}
@@ -67,8 +67,8 @@ abbrev pub IsPiece : LabelSet → ℕ → ℕ → PartView → List (LabelSet ×
 IsPiece labels from to part piece = MatchOption part.note (piece ≡ told_in_range from to part.entries)
     (λ note. (IsApart from to part.entries × (piece ≡ [])) ⊎ ((chunk : Chunk) × IsReadAs note.digest chunk × (piece ≡ lines_in_range labels from to chunk.lines)))
 
--- a piece of each part in turn was handed out
-pub record IsHandedOut (labels : LabelSet) (from to : ℕ) (parts : List PartView) (old new : List (LabelSet × Line)) : Type 0 where
+-- a piece of each part in turn was handed out, and this is what the taker became by them
+pub record IsHandedOut {T : Type 0} (taking : T → LabelSet × Line → T) (labels : LabelSet) (from to : ℕ) (parts : List PartView) (old new : T) : Type 0 where
   pub pieces : List (List (LabelSet × Line))
   pub each : AllZip (IsPiece labels from to) parts pieces
-  pub behind : new ≡ old ++ flat_map (λ piece. piece) pieces
+  pub behind : new ≡ fold taking old (flat_map (λ piece. piece) pieces)

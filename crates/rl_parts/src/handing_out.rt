@@ -1,6 +1,6 @@
 //! Lines of a range of time, handed out.
-ghost use Rattle.std.specs.Prelude.{◌≡◌, ℕ, nat_le, ◌&&◌, ◌⊎◌, true, List, [], ◌∷◌, ◌++◌, map, IfErr, OnOk};
-ghost use Rattle.std.specs.List.{AllByRecursion, flat_map};
+ghost use Rattle.std.specs.Prelude.{◌≡◌, ℕ, nat_le, ◌&&◌, ◌⊎◌, true, List, [], ◌∷◌, map, IfErr, OnOk};
+ghost use Rattle.std.specs.List.{AllByRecursion, flat_map, fold};
 ghost use Rattle.rl_parts.specs.StreamParts.{IsPart, unwritten, chunk_of};
 ghost use Rattle.rl_parts.specs.PartState.{IsRange};
 ghost use Rattle.rl_parts.specs.StoreUse.{Looked, IsKept, IsNoteOf, Right, ReadCause};
@@ -33,7 +33,7 @@ fn hand<L: AsLine, T: Taker>(
     to: Ns,
     taker: &mut T,
 ) -> Result<(), AllocError>
-    ensures { OnOk result (T.taken taker.new ≡ T.taken taker.old ++ lines_in_range labels.now from to (L.line line.now ∷ [])) }
+    ensures { OnOk result (taker.new ≡ fold T.taking taker.old (lines_in_range labels.now from to (L.line line.now ∷ []))) }
 {
     let timestamp = line.timestamp();
     if is_within(from, to, timestamp) {
@@ -50,7 +50,7 @@ pub(crate) fn hand_all<L: AsLine, T: Taker>(
     to: Ns,
     taker: &mut T,
 ) -> Result<(), AllocError>
-    ensures { OnOk result (T.taken taker.new ≡ T.taken taker.old ++ lines_in_range labels.now from to (map L.line lines.now)) }
+    ensures { OnOk result (taker.new ≡ fold T.taking taker.old (lines_in_range labels.now from to (map L.line lines.now))) }
 {
     for line in lines {
         hand(labels, line, from, to, taker)?;
@@ -73,9 +73,9 @@ pub(crate) fn hand_written<S: Store, T: Taker>(
     ensures looked { Looked (S.seen store.old) (S.seen store.new) }
     ensures cause { IfErr result (ReadCause (S.seen store.old) (S.seen store.new)) }
     ensures unread { IsApart from to written.now.entries.value → S.seen store.new ≡ S.seen store.old }
-    ensures told { IsApart from to written.now.entries.value → OnOk result (T.taken taker.new ≡ T.taken taker.old ++ told_in_range from to written.now.entries.value) }
-    ensures piece { OnOk result ((piece : List (LabelSet × Line)) × ((IsApart from to written.now.entries.value × (piece ≡ [])) ⊎ ((chunk : Chunk) × IsReadAs written.now.digest chunk × (piece ≡ lines_in_range labels.now from to chunk.lines))) × (T.taken taker.new ≡ T.taken taker.old ++ piece)) }
-    ensures right { (next : ℕ) → IsNoteOf (S.seen store.old) next (chunk_of labels.now written.now.entries.value) (record { number = written.now.number; digest = written.now.digest }) → (S.seen store.old).honest ≡ true → Right result (λ _. T.taken taker.new ≡ T.taken taker.old ++ told_in_range from to written.now.entries.value) }
+    ensures told { IsApart from to written.now.entries.value → OnOk result (taker.new ≡ fold T.taking taker.old (told_in_range from to written.now.entries.value)) }
+    ensures piece { OnOk result ((piece : List (LabelSet × Line)) × ((IsApart from to written.now.entries.value × (piece ≡ [])) ⊎ ((chunk : Chunk) × IsReadAs written.now.digest chunk × (piece ≡ lines_in_range labels.now from to chunk.lines))) × (taker.new ≡ fold T.taking taker.old piece)) }
+    ensures right { (next : ℕ) → IsNoteOf (S.seen store.old) next (chunk_of labels.now written.now.entries.value) (record { number = written.now.number; digest = written.now.digest }) → (S.seen store.old).honest ≡ true → Right result (λ _. taker.new ≡ fold T.taking taker.old (told_in_range from to written.now.entries.value)) }
 {
     if is_outside(written, from, to) {
         return Ok(());
@@ -99,9 +99,9 @@ pub(crate) fn hand_parts<S: Store, T: Taker>(
     ensures looked { Looked (S.seen store.old) (S.seen store.new) }
     ensures cause { IfErr result (ReadCause (S.seen store.old) (S.seen store.new)) }
     ensures unread { AllByRecursion (IsOutside from to) parts.now → S.seen store.new ≡ S.seen store.old }
-    ensures told { AllByRecursion (IsOutside from to) parts.now → OnOk result (T.taken taker.new ≡ T.taken taker.old ++ told_in_range from to (flat_map (λ part. part.entries) parts.now)) }
-    ensures pieces { OnOk result (IsHandedOut labels.now from to parts.now (T.taken taker.old) (T.taken taker.new)) }
-    ensures right { (next : ℕ) → AllByRecursion (IsKept (S.seen store.old) next labels.now) parts.now → (S.seen store.old).honest ≡ true → Right result (λ _. T.taken taker.new ≡ T.taken taker.old ++ told_in_range from to (flat_map (λ part. part.entries) parts.now)) }
+    ensures told { AllByRecursion (IsOutside from to) parts.now → OnOk result (taker.new ≡ fold T.taking taker.old (told_in_range from to (flat_map (λ part. part.entries) parts.now))) }
+    ensures pieces { OnOk result (IsHandedOut T.taking labels.now from to parts.now taker.old taker.new) }
+    ensures right { (next : ℕ) → AllByRecursion (IsKept (S.seen store.old) next labels.now) parts.now → (S.seen store.old).honest ≡ true → Right result (λ _. taker.new ≡ fold T.taking taker.old (told_in_range from to (flat_map (λ part. part.entries) parts.now))) }
 {
     for part in parts {
         part.hand_out(alloc, store, labels, from, to, taker)?;

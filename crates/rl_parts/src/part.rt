@@ -49,8 +49,8 @@ impl Model for Part {
 }
 
 impl Part {
-    ghost use Rattle.std.specs.Prelude.{◌≡◌, ℕ, true, false, [], ◌∷◌, ◌++◌, IsTrue, ◌↔◌, IfOk, IfErr, OnOk, IsSome};
-    ghost use Rattle.std.specs.List.{Contains};
+    ghost use Rattle.std.specs.Prelude.{◌≡◌, ℕ, true, false, [], ◌∷◌, IsTrue, ◌↔◌, IfOk, IfErr, OnOk, IsSome};
+    ghost use Rattle.std.specs.List.{Contains, fold};
     ghost use Rattle.rl_parts.specs.StreamParts.{IsPart, unwritten};
     ghost use Rattle.rl_parts.specs.StoreUse.{Looked, Grown, IsKept, Right, ReadCause, FlushCause};
     ghost use Rattle.rl_parts.specs.Reading.{IsOutside, IsWith, IsWithout, IsHandedOut, in_memory, in_store, told_in_range};
@@ -133,9 +133,9 @@ impl Part {
         ensures looked { Looked (S.seen store.old) (S.seen store.new) }
         ensures cause { IfErr result (ReadCause (S.seen store.old) (S.seen store.new)) }
         ensures unread { IsOutside from to self.now → S.seen store.new ≡ S.seen store.old }
-        ensures told { IsOutside from to self.now → OnOk result (T.taken taker.new ≡ T.taken taker.old ++ told_in_range from to self.now.entries) }
-        ensures piece { OnOk result (IsHandedOut labels.now from to (self.now ∷ []) (T.taken taker.old) (T.taken taker.new)) }
-        ensures right { (next : ℕ) → IsKept (S.seen store.old) next labels.now self.now → (S.seen store.old).honest ≡ true → Right result (λ _. T.taken taker.new ≡ T.taken taker.old ++ told_in_range from to self.now.entries) }
+        ensures told { IsOutside from to self.now → OnOk result (taker.new ≡ fold T.taking taker.old (told_in_range from to self.now.entries)) }
+        ensures piece { OnOk result (IsHandedOut T.taking labels.now from to (self.now ∷ []) taker.old taker.new) }
+        ensures right { (next : ℕ) → IsKept (S.seen store.old) next labels.now self.now → (S.seen store.old).honest ≡ true → Right result (λ _. taker.new ≡ fold T.taking taker.old (told_in_range from to self.now.entries)) }
     {
         match &self.place {
             Place::Here(entries) => hand_all(labels, entries.as_slice(), from, to, taker)?,

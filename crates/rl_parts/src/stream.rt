@@ -1,5 +1,5 @@
 //! One stream as its parts.
-ghost use Rattle.std.specs.Prelude.{◌≡◌, ℕ, ◌<◌, ◌≤◌, ◌⊎◌, max, true, false, List, [], ◌∷◌, ◌++◌, length, IsTrue, ◌↔◌, Ok, OnOk, OnErr, IfOk, IfErr};
+ghost use Rattle.std.specs.Prelude.{◌≡◌, ℕ, ◌<◌, ◌≤◌, ◌⊎◌, max, true, false, [], ◌∷◌, length, IsTrue, ◌↔◌, Ok, OnOk, OnErr, IfOk, IfErr};
 
 use crate::fault::{FlushFault, ReadFault};
 use crate::flushing::write_parts;
@@ -44,12 +44,10 @@ impl Model for Stream {
 }
 
 impl Stream {
-    ghost use Rattle.std.specs.List.{AllByRecursion, Contains};
+    ghost use Rattle.std.specs.List.{AllByRecursion, Contains, fold};
     ghost use Rattle.rl_parts.specs.StreamParts.{PartView, entries_of, notes_of, most_entries};
     ghost use Rattle.rl_parts.specs.StoreUse.{Looked, Grown, AreKept, Right, ReadCause, FlushCause};
     ghost use Rattle.rl_parts.specs.Reading.{NoneReaches, IsWith, IsWithout, IsHandedOut, entries_here, told_in_range};
-    ghost use Rattle.rl_labels.specs.LabelSet.{LabelSet};
-    ghost use Rattle.rl_chunks.specs.declared.line.Line.{Line};
     ghost use Rattle.rl_parts.specs.Changes.{IsInserted, IsHeld, AreSealed, AreNoted, sealed_parts, unwritten_count};
 
     /// A stream of one entry. It is sealed at once where a part has no more than one.
@@ -196,10 +194,10 @@ impl Stream {
         ensures looked { Looked (S.seen store.old) (S.seen store.new) }
         ensures cause { IfErr result (ReadCause (S.seen store.old) (S.seen store.new)) }
         ensures unread { NoneReaches from to self.now → S.seen store.new ≡ S.seen store.old }
-        ensures told { NoneReaches from to self.now → OnOk result (T.taken taker.new ≡ T.taken taker.old ++ told_in_range from to (entries_of self.now)) }
+        ensures told { NoneReaches from to self.now → OnOk result (taker.new ≡ fold T.taking taker.old (told_in_range from to (entries_of self.now))) }
         // What is handed out of a part that a store has is told by bytes with the digest, whatever the store does.
-        ensures pieces { OnOk result ((mid : List (LabelSet × Line)) × IsHandedOut self.now.labels from to self.now.parts (T.taken taker.old) mid × (T.taken taker.new ≡ mid ++ told_in_range from to self.now.head)) }
-        ensures right { (next : ℕ) → AreKept (S.seen store.old) next self.now → (S.seen store.old).honest ≡ true → Right result (λ _. T.taken taker.new ≡ T.taken taker.old ++ told_in_range from to (entries_of self.now)) }
+        ensures pieces { OnOk result ((mid : T) × IsHandedOut T.taking self.now.labels from to self.now.parts taker.old mid × (taker.new ≡ fold T.taking mid (told_in_range from to self.now.head))) }
+        ensures right { (next : ℕ) → AreKept (S.seen store.old) next self.now → (S.seen store.old).honest ≡ true → Right result (λ _. taker.new ≡ fold T.taking taker.old (told_in_range from to (entries_of self.now))) }
     {
         hand_parts(alloc, store, &self.labels, &self.parts, from, to, taker)?;
         hand_all(&self.labels, &self.head, from, to, taker)?;

@@ -1,12 +1,13 @@
 -- Each turn hands out the next line.
-use Rattle.std.proofs.Common.{◌++◌, map, ap, ◌∙◌}
+use Rattle.std.proofs.Common.{map, ap, ◌∙◌}
+use Rattle.std.specs.List.{fold}
 use Rattle.std.proofs.lemmas.List.{take_all}
 use Rattle.rl_parts.specs.Reading.{lines_in_range}
 use Rattle.rl_parts.proofs.Handing.{line_more}
 use Rattle.rl_parts.proofs.handing_out.hand_all.Goals as goal
 
 pub loop-line-preserved : goal.loop-line-preserved
-loop-line-preserved g c = line_more g.L.AsLine.line c.args.labels.now c.args.from c.args.to c.args.lines.now c.loop-line.line-index c.line-item.result (g.T.Taker.taken c.args.taker.now) (g.T.Taker.taken c.loop-line.taker) (g.T.Taker.taken c.hand.new.taker) c.loop-line-test.true c.line-item.is c.loop-line.invariant c.in_ok-hand.ensures
+loop-line-preserved g c = line_more g.T.Taker.taking g.L.AsLine.line c.args.labels.now c.args.from c.args.to c.args.lines.now c.loop-line.line-index c.line-item.result c.args.taker.now c.loop-line.taker c.hand.new.taker c.loop-line-test.true c.line-item.is c.loop-line.invariant c.in_ok-hand.ensures
 
 pub returns : goal.returns
-returns g c = c.loop-line.invariant ∙ ap (λ xs. g.T.Taker.taken c.args.taker.now ++ lines_in_range c.args.labels.now c.args.from c.args.to (map g.L.AsLine.line xs)) (take_all c.loop-line.line-index c.args.lines.now c.loop-line-test.false)
+returns g c = c.loop-line.invariant ∙ ap (λ xs. fold g.T.Taker.taking c.args.taker.now (lines_in_range c.args.labels.now c.args.from c.args.to (map g.L.AsLine.line xs))) (take_all c.loop-line.line-index c.args.lines.now c.loop-line-test.false)

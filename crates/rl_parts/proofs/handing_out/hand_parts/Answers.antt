@@ -1,6 +1,6 @@
 -- Each turn hands out the next part, over a store that only reads have changed.
-use Rattle.std.proofs.Common.{◌++◌, List, sym, ap, subst, ◌∙◌}
-use Rattle.std.specs.List.{AllByRecursion, flat_map}
+use Rattle.std.proofs.Common.{List, sym, ap, subst, ◌∙◌}
+use Rattle.std.specs.List.{AllByRecursion, flat_map, fold}
 use Rattle.std.proofs.lemmas.List.{take_all}
 use Rattle.std.proofs.lemmas.List.Elements.{All-from_recursion}
 use Rattle.std.proofs.lemmas.Result.{err_from_is_err_and}
@@ -22,7 +22,7 @@ loop-part-preserved g c =
     let start = g.S.Store.seen c.args.store.now in
     let seen = g.S.Store.seen c.loop-part.store in
     let outside : AllByRecursion (IsOutside c.args.from c.args.to) c.args.parts.now → IsOutside c.args.from c.args.to c.part-item.result = λ apart. subst (IsOutside c.args.from c.args.to) (sym c.part-item.is) (All-from_recursion (IsOutside c.args.from c.args.to) c.args.parts.now apart c.loop-part.part-index c.part-item.result c.loop-part-test.true) in
-    let more = part_more c.args.from c.args.to c.args.parts.now c.loop-part.part-index c.part-item.result (g.T.Taker.taken c.args.taker.now) (g.T.Taker.taken c.loop-part.taker) (g.T.Taker.taken c.hand_out.new.taker) c.loop-part-test.true c.part-item.is in
+    let more = part_more g.T.Taker.taking c.args.from c.args.to c.args.parts.now c.loop-part.part-index c.part-item.result c.args.taker.now c.loop-part.taker c.hand_out.new.taker c.loop-part-test.true c.part-item.is in
     record {
       looked = Looked-then start seen (g.S.Store.seen c.hand_out.new.store) c.loop-part.invariant.looked c.hand_out.ensures.looked;
       unread = λ apart. c.hand_out.ensures.unread (outside apart) ∙ c.loop-part.invariant.unread apart;
@@ -30,14 +30,14 @@ loop-part-preserved g c =
       right = λ next kept honest.
           let here = kept_at start seen next c.args.labels.now c.args.parts.now c.loop-part.part-index c.part-item.result c.loop-part-test.true c.part-item.is c.loop-part.invariant.looked kept in
           more (c.loop-part.invariant.right next kept honest) (c.in_ok-hand_out.ensures.right next here (c.loop-part.invariant.looked.honest ∙ honest));
-      pieces = piece_more c.args.labels.now c.args.from c.args.to c.args.parts.now c.loop-part.part-index c.part-item.result (g.T.Taker.taken c.args.taker.now) (g.T.Taker.taken c.loop-part.taker) (g.T.Taker.taken c.hand_out.new.taker) c.loop-part-test.true c.part-item.is c.loop-part.invariant.pieces c.in_ok-hand_out.ensures.piece;
+      pieces = piece_more g.T.Taker.taking c.args.labels.now c.args.from c.args.to c.args.parts.now c.loop-part.part-index c.part-item.result c.args.taker.now c.loop-part.taker c.hand_out.new.taker c.loop-part-test.true c.part-item.is c.loop-part.invariant.pieces c.in_ok-hand_out.ensures.piece;
     }
 
 pub returns-clause-told : goal.returns-clause-told
-returns-clause-told g c = λ apart. c.loop-part.invariant.told apart ∙ ap (λ (ps : List PartView). g.T.Taker.taken c.args.taker.now ++ told_in_range c.args.from c.args.to (flat_map (λ part. part.entries) ps)) (take_all c.loop-part.part-index c.args.parts.now c.loop-part-test.false)
+returns-clause-told g c = λ apart. c.loop-part.invariant.told apart ∙ ap (λ (ps : List PartView). fold g.T.Taker.taking c.args.taker.now (told_in_range c.args.from c.args.to (flat_map (λ part. part.entries) ps))) (take_all c.loop-part.part-index c.args.parts.now c.loop-part-test.false)
 
 pub returns-clause-right : goal.returns-clause-right
-returns-clause-right g c = λ next kept honest. c.loop-part.invariant.right next kept honest ∙ ap (λ (ps : List PartView). g.T.Taker.taken c.args.taker.now ++ told_in_range c.args.from c.args.to (flat_map (λ part. part.entries) ps)) (take_all c.loop-part.part-index c.args.parts.now c.loop-part-test.false)
+returns-clause-right g c = λ next kept honest. c.loop-part.invariant.right next kept honest ∙ ap (λ (ps : List PartView). fold g.T.Taker.taking c.args.taker.now (told_in_range c.args.from c.args.to (flat_map (λ part. part.entries) ps))) (take_all c.loop-part.part-index c.args.parts.now c.loop-part-test.false)
 
 pub returns-clause-pieces : goal.returns-clause-pieces
-returns-clause-pieces g c = subst (λ (ps : List PartView). IsHandedOut c.args.labels.now c.args.from c.args.to ps (g.T.Taker.taken c.args.taker.now) (g.T.Taker.taken c.loop-part.taker)) (take_all c.loop-part.part-index c.args.parts.now c.loop-part-test.false) c.loop-part.invariant.pieces
+returns-clause-pieces g c = subst (λ (ps : List PartView). IsHandedOut g.T.Taker.taking c.args.labels.now c.args.from c.args.to ps c.args.taker.now c.loop-part.taker) (take_all c.loop-part.part-index c.args.parts.now c.loop-part-test.false) c.loop-part.invariant.pieces

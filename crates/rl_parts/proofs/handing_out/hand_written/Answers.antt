@@ -1,5 +1,6 @@
 -- The range of time tells that nothing is handed out, and else the lines of the chunk are.
-use Rattle.std.proofs.Common.{◌≡◌, ◌++◌, [], map, inl, inr, refl, sym, ap, ◌∙◌, append-nil}
+use Rattle.std.proofs.Common.{◌≡◌, [], map, inl, inr, refl, sym, ap, ◌∙◌}
+use Rattle.std.specs.List.{fold}
 use Rattle.std.proofs.lemmas.List.{map-id}
 use Rattle.std.proofs.lemmas.Result.{err_from_is_err_and}
 use Rattle.rl_chunks.specs.ChunkText.{chunk_text}
@@ -15,13 +16,11 @@ use Rattle.rl_parts.proofs.handing_out.hand_written.Goals as goal
 
 pub returns-then-is_outside-clause-told : goal.returns-then-is_outside-clause-told
 returns-then-is_outside-clause-told g c = λ apart.
-    let taken = g.T.Taker.taken c.args.taker.now in
-    sym (ap (λ t. taken ++ t) (nothing_told c.args.labels.now c.args.written.now.entries.value c.args.written.now.first c.args.written.now.last c.args.from c.args.to c.requires.part.run c.requires.range (c.is_outside.ensures.out c.if-is_outside.true)) ∙ append-nil taken)
+    sym (ap (fold g.T.Taker.taking c.args.taker.now) (nothing_told c.args.labels.now c.args.written.now.entries.value c.args.written.now.first c.args.written.now.last c.args.from c.args.to c.requires.part.run c.requires.range (c.is_outside.ensures.out c.if-is_outside.true)))
 
 pub returns-then-is_outside-clause-right : goal.returns-then-is_outside-clause-right
 returns-then-is_outside-clause-right g c = λ next is honest.
-    let taken = g.T.Taker.taken c.args.taker.now in
-    sym (ap (λ t. taken ++ t) (nothing_told c.args.labels.now c.args.written.now.entries.value c.args.written.now.first c.args.written.now.last c.args.from c.args.to c.requires.part.run c.requires.range (c.is_outside.ensures.out c.if-is_outside.true)) ∙ append-nil taken)
+    sym (ap (fold g.T.Taker.taking c.args.taker.now) (nothing_told c.args.labels.now c.args.written.now.entries.value c.args.written.now.first c.args.written.now.last c.args.from c.args.to c.requires.part.run c.requires.range (c.is_outside.ensures.out c.if-is_outside.true)))
 
 pub returns-in_err-chunk-clause-unread : goal.returns-in_err-chunk-clause-unread
 returns-in_err-chunk-clause-unread g c = λ apart.
@@ -56,15 +55,15 @@ returns-clause-right g c = λ next is honest.
     let chunk = chunk_of labels entries in
     let same : c.in_ok-chunk.chunk ≡ chunk = c.in_ok-chunk.ensures.right (chunk_text Short chunk) chunk honest (is.kept honest) (sym is.digest) is.read in
     let lines : map (λ line. line) c.as_slice.result.now ≡ map line_of entries = map-id c.as_slice.result.now ∙ c.as_slice.ensures ∙ ap (λ (ch : Chunk). ch.lines) same in
-    c.in_ok-hand_all.ensures ∙ ap (λ t. g.T.Taker.taken c.args.taker.now ++ t) (ap (lines_in_range labels c.args.from c.args.to) lines ∙ lines_told labels c.args.from c.args.to entries c.requires.part.run.labels)
+    c.in_ok-hand_all.ensures ∙ ap (fold g.T.Taker.taking c.args.taker.now) (ap (lines_in_range labels c.args.from c.args.to) lines ∙ lines_told labels c.args.from c.args.to entries c.requires.part.run.labels)
 
 pub returns-then-is_outside-clause-piece : goal.returns-then-is_outside-clause-piece
 returns-then-is_outside-clause-piece g c =
     let apart = apart_from c.args.labels.now c.args.written.now.entries.value c.args.written.now.first c.args.written.now.last c.args.from c.args.to c.requires.part.run c.requires.range (c.is_outside.ensures.out c.if-is_outside.true) in
-    ([], inl (apart, refl), sym (append-nil (g.T.Taker.taken c.args.taker.now)))
+    ([], inl (apart, refl), refl)
 
 pub returns-clause-piece : goal.returns-clause-piece
 returns-clause-piece g c =
     let chunk = c.in_ok-chunk.chunk in
     let lines : map (λ line. line) c.as_slice.result.now ≡ chunk.lines = map-id c.as_slice.result.now ∙ c.as_slice.ensures in
-    (lines_in_range c.args.labels.now c.args.from c.args.to chunk.lines, inr (chunk, c.in_ok-chunk.ensures.found, refl), c.in_ok-hand_all.ensures ∙ ap (λ t. g.T.Taker.taken c.args.taker.now ++ t) (ap (lines_in_range c.args.labels.now c.args.from c.args.to) lines))
+    (lines_in_range c.args.labels.now c.args.from c.args.to chunk.lines, inr (chunk, c.in_ok-chunk.ensures.found, refl), c.in_ok-hand_all.ensures ∙ ap (fold g.T.Taker.taking c.args.taker.now) (ap (lines_in_range c.args.labels.now c.args.from c.args.to) lines))
