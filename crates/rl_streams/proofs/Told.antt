@@ -1,7 +1,7 @@
 -- What streams hand out one after the other, and what is read for it.
 use Rattle.std.proofs.Common.{◌≡◌, ℕ, zero, suc, ◌+◌, Bool, true, false, cond, ◌&&◌, ◌↔◌, IsTrue, Contains, Some, None, Option, is_some, List, [], ◌∷◌, ◌++◌, map, filter, take, slice_get, Result, Ok, Err, refl, sym, ap, ◌∙◌, true≢false, append_assoc, append-nil, add-one}
 use Rattle.std.specs.Prelude.{if◌then◌else◌}
-use Rattle.std.specs.List.{All, AllByRecursion, IsDistinct}
+use Rattle.std.specs.List.{All, AllByRecursion, IsDistinct, fold}
 use Rattle.std.specs.BTreeMap.{is_at}
 use Rattle.std.specs.Ordering.{eq_by_cmp, is_eq}
 use Rattle.std.specs.Cmp.{tied_itself}
@@ -10,6 +10,7 @@ use Rattle.std.proofs.lemmas.List.Sorted.{IsPermutation-sym}
 use Rattle.std.specs.Map.{lookup, values_of}
 use Rattle.std.proofs.lemmas.List.{map-append}
 use Rattle.std.proofs.lemmas.List.Folds.{flat_map-map}
+use Rattle.std.proofs.lemmas.List.Sums.{fold-append}
 use Rattle.std.proofs.lemmas.List.Elements.{filter-append, All-head, All-tail}
 use Rattle.rl_labels.specs.LabelSet.{LabelSet}
 use Rattle.rl_labels.specs.LabelText.{label_set_cmp, label_set_eq}
@@ -97,16 +98,16 @@ module _ (selector : List Matcher) (from to : ℕ) where
       ap (λ l. told_of selector from to row.0 row.1 ++ l) (told_suc rows i labels stream at)
       ∙ sym (append_assoc (told_of selector from to row.0 row.1) (told_by selector from to (take i rows)) (told_of selector from to labels stream))
 
-  pub told_more : (rows : List Row) (i : ℕ) (stream : StreamView) (before taken now : List (LabelSet × Line)) → AllByRecursion IsOwn rows → slice_get (values_of rows) i ≡ Some stream
-      → taken ≡ before ++ told_by selector from to (take i rows) → now ≡ taken ++ told_of selector from to stream.labels stream → now ≡ before ++ told_by selector from to (take (i + 1) rows)
-  told_more rows i stream before taken now own at was is =
+  pub told_more : {T : Type 0} (taking : T → LabelSet × Line → T) (rows : List Row) (i : ℕ) (stream : StreamView) (before taken now : T) → AllByRecursion IsOwn rows → slice_get (values_of rows) i ≡ Some stream
+      → taken ≡ fold taking before (told_by selector from to (take i rows)) → now ≡ fold taking taken (told_of selector from to stream.labels stream) → now ≡ fold taking before (told_by selector from to (take (i + 1) rows))
+  told_more taking rows i stream before taken now own at was is =
       let row = with_key rows i stream at in
       let labels = (at_row IsOwn rows i (row.0, stream) own row.1).labels in
-      is ∙ ap (λ l. l ++ told_of selector from to stream.labels stream) was
-      ∙ append_assoc before (told_by selector from to (take i rows)) (told_of selector from to stream.labels stream)
-      ∙ ap (λ l. before ++ (told_by selector from to (take i rows) ++ told_of selector from to l stream)) labels
-      ∙ ap (λ l. before ++ l) (sym (told_suc rows i row.0 stream row.1))
-      ∙ ap (λ n. before ++ told_by selector from to (take n rows)) (sym (add-one i))
+      is ∙ ap (λ t. fold taking t (told_of selector from to stream.labels stream)) was
+      ∙ sym (fold-append taking before (told_by selector from to (take i rows)) (told_of selector from to stream.labels stream))
+      ∙ ap (λ l. fold taking before (told_by selector from to (take i rows) ++ told_of selector from to l stream)) labels
+      ∙ ap (fold taking before) (sym (told_suc rows i row.0 stream row.1))
+      ∙ ap (λ n. fold taking before (told_by selector from to (take n rows))) (sym (add-one i))
 
   -- a stream at a place is kept, once the store was looked at
   pub kept_there : (rows : List Row) (i : ℕ) (stream : StreamView) (old seen : Seen) (next : ℕ) → AreStreams rows old next → Looked old seen → slice_get (values_of rows) i ≡ Some stream → AreKept seen next stream
@@ -121,12 +122,12 @@ module _ (selector : List Matcher) (from to : ℕ) where
       ap (selects selector) ((at_row IsOwn rows i (row.0, stream) own row.1).labels) ∙ at_row (λ row. selects selector row.0 ≡ false) rows i (row.0, stream) none row.1
 
 -- each once: what all streams hand out, where no entry is held twice
-pub told_once : (selector : List Matcher) (from to : ℕ) (rows : List Row) (before after : List (LabelSet × Line)) → AllByRecursion IsOwn rows → IsDistinct (eq_by_cmp entry_cmp) (joined rows)
-    → after ≡ before ++ told_by selector from to rows → AreToldOnce selector from to (set_of (joined rows)) before after
-told_once selector from to rows before after own once is = record {
+pub told_once : {T : Type 0} (taking : T → LabelSet × Line → T) (selector : List Matcher) (from to : ℕ) (rows : List Row) (before after : T) → AllByRecursion IsOwn rows → IsDistinct (eq_by_cmp entry_cmp) (joined rows)
+    → after ≡ fold taking before (told_by selector from to rows) → AreToldOnce selector from to (set_of (joined rows)) taking before after
+told_once taking selector from to rows before after own once is = record {
   order = asked selector from to (joined rows);
   once = IsPermutation-sym _ _ (keys-of_distinct entry_cmp_total entry_cmp-IsAntisymmetric (is_asked selector from to) (joined rows) once);
-  told = is ∙ ap (λ l. before ++ l) (told_all selector from to rows own);
+  told = is ∙ ap (fold taking before) (told_all selector from to rows own);
 }
 
 -- a stream that is there has a newest timestamp
@@ -185,14 +186,19 @@ told_here selector from to (row ∷ rows) zero stream own at =
     ∙ ap (λ labels. told_of selector from to labels row.1) own.0.labels ∙ sym (of_stream selector from to row.0 (entries_of row.1) own.0.entries)
 told_here selector from to (row ∷ rows) (suc i) stream own at = told_here selector from to rows i stream own.1 at
 
+-- lines put behind others one by one
+pub pushed : {A : Type 0} (xs ys : List A) → fold (λ lines line. lines ++ line ∷ []) xs ys ≡ xs ++ ys
+pushed xs [] = sym (append-nil xs)
+pushed xs (y ∷ ys) = pushed (xs ++ y ∷ []) ys ∙ append_assoc xs (y ∷ []) ys
+
 -- at first all that is asked for is left
 pub left_at_first : (selector : List Matcher) (from to : ℕ) (rows : List Row) → left selector from to (by_stream rows) 0 [] ≡ map told (asked selector from to (joined rows))
 left_at_first selector from to rows = ap (λ entries. map told (asked selector from to entries)) (flat_map-map (λ entries. entries) (λ (row : Row). entries_of row.1) rows)
 
 -- and each of them once
-pub left_once : (selector : List Matcher) (from to : ℕ) (rows : List Row) → IsDistinct (eq_by_cmp entry_cmp) (joined rows) → AreToldOnce selector from to (set_of (joined rows)) [] (left selector from to (by_stream rows) 0 [])
+pub left_once : (selector : List Matcher) (from to : ℕ) (rows : List Row) → IsDistinct (eq_by_cmp entry_cmp) (joined rows) → AreToldOnce selector from to (set_of (joined rows)) (λ lines line. lines ++ line ∷ []) [] (left selector from to (by_stream rows) 0 [])
 left_once selector from to rows once = record {
   order = asked selector from to (joined rows);
   once = IsPermutation-sym _ _ (keys-of_distinct entry_cmp_total entry_cmp-IsAntisymmetric (is_asked selector from to) (joined rows) once);
-  told = left_at_first selector from to rows;
+  told = left_at_first selector from to rows ∙ sym (pushed [] (map told (asked selector from to (joined rows))));
 }

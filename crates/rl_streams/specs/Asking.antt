@@ -1,6 +1,6 @@
 -- What is asked of all streams: the entries that a selector selects, in a range of time.
 use Rattle.std.specs.Prelude.{◌≡◌, ℕ, Bool, true, ◌&&◌, List, [], ◌++◌, map, drop, get_or, None, if◌then◌else◌}
-use Rattle.std.specs.List.{filter, flat_map}
+use Rattle.std.specs.List.{filter, flat_map, fold}
 use Rattle.std.specs.List.Sorted.{IsPermutation}
 use Rattle.std.specs.FinMap.{FinMap, get, keys}
 use Rattle.rl_labels.specs.EntryOrder.{EntrySet}
@@ -33,11 +33,11 @@ told_by selector from to rows = flat_map (λ row. told_of selector from to row.0
 abbrev pub NoneSelected : List Matcher → FinMap label_set_cmp ℕ → Type 0
 NoneSelected selector newest = (labels : LabelSet) → selects selector labels ≡ true → get newest labels ≡ None
 
--- the held entries that are asked for were handed out behind what was taken before, each once, in some order
-pub record AreToldOnce (selector : List Matcher) (from to : ℕ) (held : EntrySet) (before after : List (LabelSet × Line)) : Type 0 where
+-- the held entries that are asked for were handed out, each once, in some order
+pub record AreToldOnce {T : Type 0} (selector : List Matcher) (from to : ℕ) (held : EntrySet) (taking : T → LabelSet × Line → T) (before after : T) : Type 0 where
   pub order : List Entry
   pub once : IsPermutation (asked selector from to (keys held)) order
-  pub told : after ≡ before ++ map told order
+  pub told : after ≡ fold taking before (map told order)
 
 -- what one stream of all hands out
 abbrev pub told_at : List Matcher → ℕ → ℕ → List (List Entry) → ℕ → List (LabelSet × Line)

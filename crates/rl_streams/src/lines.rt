@@ -81,7 +81,9 @@ impl Lines {
 }
 
 impl Taker for Lines {
-    ghost taken = { λ lines. lines };
+    ghost use Rattle.std.specs.Prelude.{◌++◌};
+
+    ghost taking = { λ lines line. lines ++ line ∷ [] };
 
     fn take(&mut self, labels: &Labels, timestamp: Ns, text: &str) -> Result<(), AllocError> {
         let labels = shared(self.alloc, self.lines.back(), labels)?;

@@ -1,5 +1,5 @@
 //! All streams of a shard.
-ghost use Rattle.std.specs.Prelude.{◌≡◌, ◌⊎◌, ◌<◌, ◌++◌, [], length, true, false, None, Ok, Err, IfErr, MatchOption, OnErr, OnOk};
+ghost use Rattle.std.specs.Prelude.{◌≡◌, ◌⊎◌, ◌<◌, ◌++◌, [], ◌∷◌, length, true, false, None, Ok, Err, IfErr, MatchOption, OnErr, OnOk};
 
 use crate::adding::{age_refusal, place_of, put};
 use crate::cursor::Cursor;
@@ -147,7 +147,7 @@ impl<S: Store> Streams<S> {
         ensures same { Looks self.old self.new }
         ensures cause { IfErr result (ReadCause self.old.seen self.new.seen) }
         ensures unread { NoneSelected selector.now self.old.newest → self.new ≡ self.old }
-        ensures right { self.old.seen.honest ≡ true → Right result (λ _. AreToldOnce selector.now from to self.old.held (T.taken taker.old) (T.taken taker.new)) }
+        ensures right { self.old.seen.honest ≡ true → Right result (λ _. AreToldOnce selector.now from to self.old.held T.taking taker.old taker.new) }
     {
         let (store, streams) = (&mut self.store, &self.streams);
         reading::each(self.alloc, store, streams, selector, from, to, taker)
@@ -159,7 +159,7 @@ impl<S: Store> Streams<S> {
         ensures same_reference { result.streams.ghost_name ≡ self.entry.ghost_name }
         ensures streams { result.streams.now ≡ self.old }
         ensures asks { (result.selector.now ≡ selector.now) × (result.from ≡ from) × (result.to ≡ to) }
-        ensures left { self.old.seen.honest ≡ true → AreToldOnce selector.now from to self.old.held [] (left_in result) }
+        ensures left { self.old.seen.honest ≡ true → AreToldOnce selector.now from to self.old.held (λ lines line. lines ++ line ∷ []) [] (left_in result) }
     {
         let lines = Lines::new(self.alloc);
         Cursor::new(self, selector, from, to, lines)
@@ -172,21 +172,21 @@ impl<S: Store> Streams<S> {
         self.streams.len()
     }
 
-    // Hands out what one stream has in the range, if the selector selects it.
-    pub(crate) fn hand_out<T: Taker>(
+    // Puts what one stream has in the range behind the lines that wait, if the selector selects it.
+    pub(crate) fn hand_out(
         &mut self,
         place: usize,
         selector: &SelectorCode,
         from: Ns,
         to: Ns,
-        taker: &mut T,
+        lines: &mut Lines,
     ) -> Result<(), ReadFault>
         requires { place < length self.old.order }
         ensures same { Looks self.old self.new }
         ensures cause { IfErr result (ReadCause self.old.seen self.new.seen) }
-        ensures right { self.old.seen.honest ≡ true → Right result (λ _. T.taken taker.new ≡ T.taken taker.old ++ told_at selector.now from to self.old.order place) }
+        ensures right { self.old.seen.honest ≡ true → Right result (λ _. lines.new ≡ lines.old ++ told_at selector.now from to self.old.order place) }
     {
         let (store, stream) = (&mut self.store, &self.streams[place]);
-        reading::each_selected(self.alloc, store, stream, selector, from, to, taker)
+        reading::each_selected(self.alloc, store, stream, selector, from, to, lines)
     }
 }

@@ -1,5 +1,6 @@
 -- Each turn asks one stream.
-use Rattle.std.proofs.Common.{◌++◌, ap, ◌∙◌, take_all, arith}
+use Rattle.std.proofs.Common.{ap, ◌∙◌, take_all, arith}
+use Rattle.std.specs.List.{fold}
 use Rattle.std.proofs.lemmas.Result.{err_from_is_err_and}
 use Rattle.rl_parts.specs.laws.UseLaws.{Looked-then}
 use Rattle.rl_streams.specs.Asking.{told_by}
@@ -22,11 +23,11 @@ loop-place-preserved g c = record {
   unread = λ none. c.each_selected.ensures.unread (not_selected c.args.selector.now c.args.from c.args.to c.args.streams.now.entries c.loop-place.place c.index.result.now c.requires none c.index.ensures) ∙ c.loop-place.invariant.unread none;
   right = λ next are honest.
       let kept = kept_there c.args.selector.now c.args.from c.args.to c.args.streams.now.entries c.loop-place.place c.index.result.now (g.S.Store.seen c.args.store.now) (g.S.Store.seen c.loop-place.store) next are c.loop-place.invariant.looked c.index.ensures in
-      told_more c.args.selector.now c.args.from c.args.to c.args.streams.now.entries c.loop-place.place c.index.result.now (g.T.Taker.taken c.args.taker.now) (g.T.Taker.taken c.loop-place.taker) (g.T.Taker.taken c.each_selected.new.taker) c.requires c.index.ensures
+      told_more c.args.selector.now c.args.from c.args.to g.T.Taker.taking c.args.streams.now.entries c.loop-place.place c.index.result.now c.args.taker.now c.loop-place.taker c.each_selected.new.taker c.requires c.index.ensures
       (c.loop-place.invariant.right next are honest) (c.in_ok-each_selected.ensures.right next kept (c.loop-place.invariant.looked.honest ∙ honest));
 }
 
 pub returns-clause-right : goal.returns-clause-right
 returns-clause-right g c = λ next are honest.
     c.loop-place.invariant.right next are honest
-    ∙ ap (λ rows. g.T.Taker.taken c.args.taker.now ++ told_by c.args.selector.now c.args.from c.args.to rows) (take_all c.loop-place.place c.args.streams.now.entries (omega (arith, c.len-place-end.ensures.len, c.loop-place-test.false)))
+    ∙ ap (λ rows. fold g.T.Taker.taking c.args.taker.now (told_by c.args.selector.now c.args.from c.args.to rows)) (take_all c.loop-place.place c.args.streams.now.entries (omega (arith, c.len-place-end.ensures.len, c.loop-place-test.false)))

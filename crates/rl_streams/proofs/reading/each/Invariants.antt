@@ -1,5 +1,5 @@
-use Rattle.std.proofs.Common.{◌≡◌, ◌++◌, ℕ, true, false, take}
-use Rattle.std.specs.List.{AllByRecursion}
+use Rattle.std.proofs.Common.{◌≡◌, ℕ, true, false, take}
+use Rattle.std.specs.List.{AllByRecursion, fold}
 use Rattle.rl_labels.specs.Selects.{selects}
 use Rattle.rl_parts.specs.StoreUse.{Looked}
 use Rattle.rl_streams.specs.Asking.{told_by}
@@ -10,5 +10,5 @@ abbrev pub invariant-loop-place : goal.invariant-loop-place
 invariant-loop-place g l = record {
   looked : Looked (g.S.Store.seen l.fn.store) (g.S.Store.seen l.store);
   unread : AllByRecursion (λ row. selects l.selector row.0 ≡ false) l.streams.entries → g.S.Store.seen l.store ≡ g.S.Store.seen l.fn.store;
-  right : (next : ℕ) → AreStreams l.streams.entries (g.S.Store.seen l.fn.store) next → (g.S.Store.seen l.fn.store).honest ≡ true → g.T.Taker.taken l.taker ≡ g.T.Taker.taken l.fn.taker ++ told_by l.selector l.from l.to (take l.place l.streams.entries);
+  right : (next : ℕ) → AreStreams l.streams.entries (g.S.Store.seen l.fn.store) next → (g.S.Store.seen l.fn.store).honest ≡ true → l.taker ≡ fold g.T.Taker.taking l.fn.taker (told_by l.selector l.from l.to (take l.place l.streams.entries));
 }

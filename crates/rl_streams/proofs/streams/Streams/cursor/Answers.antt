@@ -1,5 +1,5 @@
 -- At first all is left.
-use Rattle.std.proofs.Common.{◌≡◌, [], true, sym, subst, ◌∙◌}
+use Rattle.std.proofs.Common.{◌≡◌, [], ◌∷◌, ◌++◌, true, sym, subst, ◌∙◌}
 use Rattle.rl_streams.specs.Asking.{AreToldOnce, left}
 use Rattle.rl_streams.specs.CursorState.{left_in}
 use Rattle.rl_streams.specs.StreamsState.{StreamsView}
@@ -14,6 +14,6 @@ returns-clause-left g c = λ honest.
     let e = c.new.ensures in
     let none = e.lines ∙ c.new-lines.ensures in
     let same : left_in c.new.result ≡ left selector from to c.args.self.now.order 0 [] = λ i. left (e.asks.0 i) (e.asks.1 i) (e.asks.2 i) ((e.streams i).order) (e.place i) (none i) in
-    subst (AreToldOnce selector from to c.args.self.now.held []) (sym same)
-    (subst (λ (view : StreamsView). view.seen.honest ≡ true → AreToldOnce selector from to view.held [] (left selector from to view.order 0 [])) c.self.view_is
+    subst (AreToldOnce selector from to c.args.self.now.held (λ lines line. lines ++ line ∷ []) []) (sym same)
+    (subst (λ (view : StreamsView). view.seen.honest ≡ true → AreToldOnce selector from to view.held (λ lines line. lines ++ line ∷ []) [] (left selector from to view.order 0 [])) c.self.view_is
     (λ honest. left_once selector from to c.self.inside.streams.entries (c.self.invariant.streams.once honest)) honest)

@@ -1,5 +1,6 @@
 -- What is handed out is the set in some order, where no entry is held twice.
-use Rattle.std.proofs.Common.{◌≡◌, ◌++◌, true, refl, sym, ap, subst, ◌∙◌}
+use Rattle.std.proofs.Common.{◌≡◌, true, refl, sym, ap, subst, ◌∙◌}
+use Rattle.std.specs.List.{fold}
 use Rattle.rl_parts.specs.StoreUse.{Right}
 use Rattle.rl_streams.specs.Asking.{NoneSelected, AreToldOnce, told_by}
 use Rattle.rl_streams.specs.StreamsState.{StreamsView, view_of}
@@ -22,8 +23,8 @@ pub returns-clause-right : goal.returns-clause-right
 returns-clause-right g c =
     let s = c.self.inside in
     let rows = s.streams.entries in
-    let before = g.T.Taker.taken c.args.taker.now in
-    let after = g.T.Taker.taken c.each.new.taker in
-    subst (λ (view : StreamsView). view.seen.honest ≡ true → Right c.each.result (λ _. AreToldOnce c.args.selector.now c.args.from c.args.to view.held before after)) c.self.view_is
-    (λ honest. right_then (λ _. after ≡ before ++ told_by c.args.selector.now c.args.from c.args.to rows) (λ _. AreToldOnce c.args.selector.now c.args.from c.args.to (view_of s.limits rows (g.S.Store.seen s.store) s.next).held before after)
-    (λ _ is. told_once c.args.selector.now c.args.from c.args.to rows before after c.self.invariant.streams.own (c.self.invariant.streams.once honest) is) c.each.result (c.each.ensures.right s.next c.self.invariant.streams honest))
+    let before = c.args.taker.now in
+    let after = c.each.new.taker in
+    subst (λ (view : StreamsView). view.seen.honest ≡ true → Right c.each.result (λ _. AreToldOnce c.args.selector.now c.args.from c.args.to view.held g.T.Taker.taking before after)) c.self.view_is
+    (λ honest. right_then (λ _. after ≡ fold g.T.Taker.taking before (told_by c.args.selector.now c.args.from c.args.to rows)) (λ _. AreToldOnce c.args.selector.now c.args.from c.args.to (view_of s.limits rows (g.S.Store.seen s.store) s.next).held g.T.Taker.taking before after)
+    (λ _ is. told_once g.T.Taker.taking c.args.selector.now c.args.from c.args.to rows before after c.self.invariant.streams.own (c.self.invariant.streams.once honest) is) c.each.result (c.each.ensures.right s.next c.self.invariant.streams honest))
