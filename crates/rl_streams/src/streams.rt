@@ -1,5 +1,5 @@
 //! All streams of a shard.
-ghost use Rattle.std.specs.Prelude.{◌≡◌, ◌⊎◌, ◌<◌, ◌++◌, [], ◌∷◌, length, true, false, None, Ok, Err, IfErr, MatchOption, OnErr, OnOk};
+ghost use Rattle.std.specs.Prelude.{◌≡◌, ◌⊎◌, ◌<◌, ◌≤◌, ◌++◌, [], ◌∷◌, length, true, false, None, Ok, Err, IfErr, MatchOption, OnErr, OnOk};
 
 use crate::adding::{age_refusal, place_of, put};
 use crate::cursor::Cursor;
@@ -67,6 +67,13 @@ impl<S: Store> Streams<S> {
         &self.store
     }
 
+    /// The limits.
+    pub fn limits(&self) -> &Limits
+        ensures { result.now ≡ self.now.limits }
+    {
+        &self.limits
+    }
+
     /// Seals the heads of all streams. Nothing changes of what is held. A refusal leaves some heads as they are.
     pub fn cut(&mut self) -> Result<(), AllocError>
         ensures same { Cuts self.old self.new }
@@ -77,7 +84,8 @@ impl<S: Store> Streams<S> {
 
     /// How many entries are held. A store that is not honest may make it count one twice.
     pub fn len(&self) -> u64
-        ensures { self.now.seen.honest ≡ true → result ≡ len self.now.held }
+        ensures right { self.now.seen.honest ≡ true → result ≡ len self.now.held }
+        ensures room { len self.now.held ≤ self.now.limits.entries }
     {
         self.count
     }

@@ -1,5 +1,5 @@
 -- Lists and their sets: what a set has, that order does not matter, and that a list with no item twice is its set in another order.
-use Rattle.std.proofs.Common.{◌≡◌, ◌+◌, Bool, true, false, cond, is_some, ◌||◌, Some, None, List, [], ◌∷◌, ◌++◌, length, map, filter, refl, sym, ap, subst, ◌∙◌, true≢false, arith}
+use Rattle.std.proofs.Common.{◌≡◌, ℕ, suc, ◌+◌, ◌≤◌, Bool, true, false, cond, is_some, ◌||◌, Some, None, List, [], ◌∷◌, ◌++◌, length, map, filter, refl, sym, ap, subst, ◌∙◌, true≢false, arith}
 use Rattle.std.specs.List.{list_any, AllByRecursion, IsDistinct}
 use Rattle.std.specs.List.Sorted.{IsPermutation, IsStrictlySortedBy}
 use Rattle.std.specs.Ordering.{eq_by_cmp, is_eq}
@@ -77,6 +77,17 @@ module _ {K : Type 0} {R : K → K → Ordering} (o : IsTotalOrder R) where
       let is_new : contains_key others x ≡ false = contains_key-of_list xs x ∙ none_ties (eq_by_cmp R x) xs (IsDistinct-head (eq_by_cmp R) x xs h) in
       let many : len others ≡ length xs = len-of_distinct xs (IsDistinct-tail (eq_by_cmp R) x xs h) in
       len-insert o others x tt ∙ ap (λ b. cond b (len others) (len others + 1)) is_new ∙ omega (arith, many)
+
+  -- and no set is longer than its list
+  pub len-of_list : (xs : List K) → len (from_entries {R = R} (map mark xs)) ≤ length xs
+  len-of_list [] = omega (arith, len-empty R (Unit {0}))
+  len-of_list (x ∷ xs) =
+      let others = from_entries {R = R} (map mark xs) in
+      subst (λ n. n ≤ suc (length xs)) (sym (len-insert o others x tt)) (by (len others) (contains_key others x) (len-of_list xs))
+    where
+      by : (many : ℕ) (b : Bool) → many ≤ length xs → cond b many (many + 1) ≤ suc (length xs)
+      by many true le = omega (arith, le)
+      by many false le = omega (arith, le)
 
   module _ (same : IsAntisymmetric R) where
     -- the order of the list does not matter
