@@ -8,10 +8,11 @@ ghost use Rattle.rl_parts.specs.StoreUse.{Grown, IsKept, FlushCause};
 ghost use Rattle.rl_parts.specs.Changes.{AreNoted, unwritten_count};
 
 use crate::fault::FlushFault;
+use crate::held::Held;
 use crate::part::{Part, Written};
-use rl_chunks::{Store, StoreFault, encode};
-use rl_labels::{Entry, Labels, Ns};
-use rl_plain::{PlainList, Shared};
+use rl_chunks::{AsLine, Store, StoreFault, encode};
+use rl_labels::{Labels, Ns};
+use rl_plain::PlainList;
 use sha2::{Digest, Sha256};
 use std::alloc::Global;
 use std::snapshot::Snapshot;
@@ -30,12 +31,12 @@ fn put_bytes<S: Store>(store: &mut S, number: u64, bytes: Vec<u8>) -> Result<(),
 }
 
 // The timestamps of the first and the last entry.
-fn range_of(entries: &[Shared<Entry>]) -> (Ns, Ns)
+fn range_of(entries: &[Held]) -> (Ns, Ns)
     requires { 0 < length entries.now }
     ensures { IsRange entries.now result.0 result.1 }
 {
-    let first = entries[0].get().timestamp;
-    let last = entries[entries.len() - 1].get().timestamp;
+    let first = entries[0].timestamp();
+    let last = entries[entries.len() - 1].timestamp();
     (first, last)
 }
 
@@ -44,7 +45,7 @@ pub(crate) fn write_entries<S: Store>(
     alloc: Global,
     store: &mut S,
     labels: &Labels,
-    entries: &PlainList<Shared<Entry>>,
+    entries: &PlainList<Held>,
     next: &mut u64,
 ) -> Result<Written, FlushFault>
     requires { IsPart labels.now (unwritten entries.now) }

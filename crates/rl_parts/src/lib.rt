@@ -11,6 +11,7 @@ pub mod fault;
 pub mod fetching;
 mod flushing;
 mod handing_out;
+mod held;
 pub mod part;
 mod sealing;
 mod searching;

@@ -2,11 +2,12 @@
 use crate::fault::{FlushFault, ReadFault};
 use crate::flushing::write_entries;
 use crate::handing_out::{hand_all, hand_written};
+use crate::held::Held;
 use crate::searching::{has_entry, has_written};
 use crate::taker::Taker;
 use rl_chunks::Store;
 use rl_labels::{Entry, Labels, Ns};
-use rl_plain::{PlainList, Shared};
+use rl_plain::PlainList;
 use std::alloc::Global;
 use std::marker::Model;
 use std::snapshot::Snapshot;
@@ -18,13 +19,13 @@ pub(crate) struct Written {
     pub(crate) digest: [u8; 32],
     pub(crate) first: Ns,
     pub(crate) last: Ns,
-    pub(crate) entries: Snapshot<PlainList<Shared<Entry>>>,
+    pub(crate) entries: Snapshot<PlainList<Held>>,
 }
 
 // Where the entries are.
 #[derive(Drop)]
 enum Place {
-    Here(PlainList<Shared<Entry>>),
+    Here(PlainList<Held>),
     InStore(Written),
 }
 
@@ -57,7 +58,7 @@ impl Part {
     ghost use Rattle.rl_parts.specs.Changes.{AreNoted};
 
     // A part that no store has.
-    pub(crate) fn new(entries: Vec<Shared<Entry>>) -> Part
+    pub(crate) fn new(entries: Vec<Held>) -> Part
         ensures { result ≡ unwritten entries.items }
     {
         let place = Place::Here(PlainList::from_vec(entries));

@@ -2,51 +2,52 @@
 ghost use Rattle.std.specs.Prelude.{◌≡◌, ◌-◌, ◌<◌, max, [], ◌∷◌, ◌++◌, length, vec_len, vec_capacity, IfOk, IfErr, OnOk, OnErr};
 ghost use Rattle.std.specs.Option.{unwrap_or};
 ghost use Rattle.std.specs.List.{Contains};
-ghost use Rattle.std.specs.List.Sorted.{IsStrictlySortedBy};
-ghost use Rattle.rl_labels.specs.EntryOrder.{entry_cmp};
-ghost use Rattle.rl_parts.specs.StreamParts.{unwritten};
+ghost use Rattle.rl_parts.specs.StreamParts.{IsRun, unwritten};
 ghost use Rattle.rl_parts.specs.PartState.{timestamp_at};
 ghost use Rattle.rl_parts.specs.StreamState.{BelongsAt, IsPut};
 
+use crate::held::Held;
 use crate::part::Part;
+use rl_chunks::AsLine;
 use rl_labels::{Entry, Ns};
 use rl_plain::Shared;
 use std::alloc::AllocError;
 use std::mem;
 
-// Where the entry stands, or else where it belongs.
-pub(crate) fn search(entries: &[Shared<Entry>], entry: &Entry) -> Result<usize, usize>
-    requires { IsStrictlySortedBy entry_cmp entries.now }
+// Where the entry stands among those of its stream, or else where it belongs. One that is greater than all belongs behind
+// them, and is not searched for.
+pub(crate) fn search(entries: &[Held], entry: &Entry) -> Result<usize, usize>
+    requires { IsRun entry.now.labels entries.now }
     ensures stands { IfOk result (λ _. Contains entries.now entry.now) }
     ensures belongs { IfErr result (λ place. BelongsAt entries.now entry.now place) }
 {
-    entries.binary_search_by(|other| other.get().cmp(entry))
+    match entries.last() {
+        Some(last) if last.order(entry).is_lt() => Err(entries.len()),
+        _ => entries.binary_search_by(|held| held.order(entry)),
+    }
 }
 
-// Where an entry that is not there belongs. One that is greater than all belongs behind them, and is not searched for.
-fn place_of(entries: &[Shared<Entry>], entry: &Entry) -> usize
-    requires rising { IsStrictlySortedBy entry_cmp entries.now }
+// Where an entry that is not there belongs.
+fn place_of(entries: &[Held], entry: &Entry) -> usize
+    requires run { IsRun entry.now.labels entries.now }
     requires new { Contains entries.now entry.now → ⊥ }
     ensures { BelongsAt entries.now entry.now result }
 {
-    match entries.last() {
-        Some(last) if last.get().cmp(entry).is_lt() => entries.len(),
-        _ => match search(entries, entry) {
-            Ok(place) => place,
-            Err(place) => place,
-        },
+    match search(entries, entry) {
+        Ok(place) => place,
+        Err(place) => place,
     }
 }
 
 // Puts an entry that is not there into its place. There is room for it.
-pub(crate) fn put(entries: &mut Vec<Shared<Entry>>, entry: Shared<Entry>) -> Result<(), AllocError>
-    requires rising { IsStrictlySortedBy entry_cmp entries.old.items }
+pub(crate) fn put(entries: &mut Vec<Held>, entry: Shared<Entry>) -> Result<(), AllocError>
+    requires run { IsRun entry.labels entries.old.items }
     requires new { Contains entries.old.items entry → ⊥ }
     ensures ok { OnOk result (IsPut entries.old.items entry entries.new.items) }
     ensures err { OnErr result (entries.new.items ≡ entries.old.items) }
 {
     let place = place_of(entries, entry.get());
-    entries.insert(place, entry)?;
+    entries.insert(place, Held::new(entry))?;
     Ok(())
 }
 
@@ -61,21 +62,17 @@ pub(crate) fn later(before: Option<Ns>, timestamp: Ns) -> Ns
 }
 
 // The newest timestamp in a part, once the head is one too.
-fn sealed_past(sealed_to: Option<Ns>, head: &[Shared<Entry>]) -> Option<Ns>
+fn sealed_past(sealed_to: Option<Ns>, head: &[Held]) -> Option<Ns>
     ensures { unwrap_or result 0 ≡ max (unwrap_or sealed_to 0) (timestamp_at head.now (length head.now - 1)) }
 {
     match head.last() {
         None => sealed_to,
-        Some(last) => Some(later(sealed_to, last.get().timestamp)),
+        Some(last) => Some(later(sealed_to, last.timestamp())),
     }
 }
 
 // Makes a part of a head. There is room for the part.
-pub(crate) fn seal_head(
-    parts: &mut Vec<Part>,
-    head: &mut Vec<Shared<Entry>>,
-    sealed_to: &mut Option<Ns>,
-)
+pub(crate) fn seal_head(parts: &mut Vec<Part>, head: &mut Vec<Held>, sealed_to: &mut Option<Ns>)
     requires { vec_len parts.old < vec_capacity parts.old }
     ensures parts { parts.new.items ≡ parts.old.items ++ unwritten head.old.items ∷ [] }
     ensures head { head.new.items ≡ [] }

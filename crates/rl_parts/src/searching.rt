@@ -2,10 +2,8 @@
 ghost use Rattle.std.specs.Prelude.{◌≡◌, ℕ, ◌<◌, ◌≤◌, ◌⊎◌, true, false, IsTrue, ◌↔◌, IfOk, IfErr};
 ghost use Rattle.std.specs.Option.{unwrap_or};
 ghost use Rattle.std.specs.List.{AllByRecursion, Contains, flat_map};
-ghost use Rattle.std.specs.List.Sorted.{IsStrictlySortedBy};
-ghost use Rattle.rl_labels.specs.EntryOrder.{entry_cmp};
 ghost use Rattle.rl_chunks.specs.EntryLines.{line_of};
-ghost use Rattle.rl_parts.specs.StreamParts.{PartView, IsPart, unwritten, chunk_of};
+ghost use Rattle.rl_parts.specs.StreamParts.{PartView, IsPart, IsRun, unwritten, chunk_of};
 ghost use Rattle.rl_chunks.specs.declared.chunk.Chunk.{Chunk};
 ghost use Rattle.rl_parts.specs.PartState.{IsRange};
 ghost use Rattle.rl_parts.specs.StoreUse.{Looked, IsKept, IsNoteOf, Right, ReadCause};
@@ -13,16 +11,16 @@ ghost use Rattle.rl_parts.specs.Reading.{IsApart, IsOutside, IsReadAs, IsWith, I
 
 use crate::fault::ReadFault;
 use crate::fetching::fetch;
+use crate::held::Held;
 use crate::part::{Part, Written};
 use crate::sealing::search;
 use rl_chunks::{Line, Store};
 use rl_labels::{Entry, Ns};
-use rl_plain::Shared;
 use std::alloc::Global;
 
 // Whether entries in order have this one.
-pub(crate) fn has_entry(entries: &[Shared<Entry>], entry: &Entry) -> bool
-    requires { IsStrictlySortedBy entry_cmp entries.now }
+pub(crate) fn has_entry(entries: &[Held], entry: &Entry) -> bool
+    requires { IsRun entry.now.labels entries.now }
     ensures { IsTrue result ↔ Contains entries.now entry.now }
 {
     match search(entries, entry) {

@@ -4,6 +4,7 @@ ghost use Rattle.std.specs.Prelude.{◌≡◌, ℕ, ◌<◌, ◌≤◌, ◌⊎�
 use crate::fault::{FlushFault, ReadFault};
 use crate::flushing::write_parts;
 use crate::handing_out::{hand_all, hand_parts};
+use crate::held::Held;
 use crate::part::Part;
 use crate::sealing::{later, put, seal_head};
 use crate::searching::{any_here, any_there, has_entry, is_above};
@@ -23,7 +24,7 @@ pub struct Stream {
     labels: Labels,
     parts: Vec<Part>,
     // Not sealed yet; by timestamp and line.
-    head: Vec<Shared<Entry>>,
+    head: Vec<Held>,
     newest: Ns,
     // The newest timestamp in a part, if there is a part.
     sealed_to: Option<Ns>,

@@ -1,0 +1,61 @@
+//! An entry of a stream, with its timestamp beside it.
+ghost use Rattle.std.specs.Prelude.{◌≡◌};
+ghost use Rattle.rl_chunks.specs.ChunkText.{line_cmp};
+ghost use Rattle.rl_chunks.specs.EntryLines.{line_of};
+
+use rl_chunks::AsLine;
+use rl_labels::{Entry, Ns};
+use rl_plain::Shared;
+use std::cmp::Ordering;
+use std::marker::Model;
+
+// An entry, with its timestamp beside it, so that a search seldom has to look into the entry's block. Contracts see the entry.
+#[derive(Drop)]
+pub(crate) struct Held {
+    timestamp: Ns,
+    entry: Shared<Entry>,
+}
+
+impl Model for Held {
+    ghost use Rattle.std.specs.Prelude.{◌≡◌};
+    ghost use Rattle.rl_labels.specs.declared.entry.Entry.{Entry};
+    ghost use Rattle.rl_labels.specs.contracts.entry.Entry as entry_type;
+
+    ghost Value = { Entry };
+
+    ghost coded = { entry_type.the_row.coded };
+
+    ghost view = { λ a. a.entry };
+
+    ghost invariant = { λ a. a.timestamp ≡ a.entry.timestamp };
+}
+
+impl Held {
+    pub(crate) fn new(entry: Shared<Entry>) -> Held
+        ensures { result ≡ entry }
+    {
+        let timestamp = entry.get().timestamp;
+        Held { timestamp, entry }
+    }
+
+    // How it stands to another entry of its stream: by timestamp, and then by line.
+    pub(crate) fn order(&self, other: &Entry) -> Ordering
+        ensures { result ≡ line_cmp (line_of self.now) (line_of other.now) }
+    {
+        self.timestamp
+            .cmp(&other.timestamp)
+            .then_with(|| self.entry.get().line.cmp(&other.line))
+    }
+}
+
+impl AsLine for Held {
+    ghost line = { line_of };
+
+    fn timestamp(&self) -> Ns {
+        self.timestamp
+    }
+
+    fn text(&self) -> &str {
+        self.entry.get().line.as_str()
+    }
+}
