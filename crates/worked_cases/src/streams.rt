@@ -12,6 +12,7 @@ use rl_parts::Taker;
 use rl_plain::{PlainList, PlainText, Shared, TryCopy};
 use rl_streams::Streams;
 use std::alloc::{AllocError, Global};
+use std::marker::Model;
 
 /// What a directive gives for its input.
 pub(crate) fn answer(alloc: Global, directive: &str, input: &str) -> Result<String, Trouble> {
@@ -112,8 +113,24 @@ pub(crate) struct Told {
     pub(crate) lines: Vec<(Labels, Line)>,
 }
 
+impl Model for Told {
+    ghost use Rattle.std.specs.Prelude.{List};
+    ghost use Rattle.std.specs.Coded.{coded_list, coded×};
+    ghost use Rattle.rl_labels.specs.LabelSet.{LabelSet, label_set_code};
+    ghost use Rattle.rl_chunks.specs.declared.line.Line.{Line};
+    ghost use Rattle.rl_chunks.specs.contracts.line.Line as line_type;
+
+    ghost Value = { List (LabelSet × Line) };
+
+    ghost coded = { coded_list (coded× label_set_code line_type.the_row.coded) };
+
+    ghost view = { λ a. a.lines.items };
+}
+
 impl Taker for Told {
-    ghost taken = { λ told. told.lines.items };
+    ghost use Rattle.std.specs.Prelude.{[], ◌∷◌, ◌++◌};
+
+    ghost taking = { λ lines line. lines ++ line ∷ [] };
 
     fn take(&mut self, labels: &Labels, timestamp: Ns, text: &str) -> Result<(), AllocError> {
         let text = PlainText::from_str(*self.lines.allocator(), text)?;
