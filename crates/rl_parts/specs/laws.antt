@@ -1,3 +1,4 @@
 -- Laws that the crates above rest on.
 pub mod NoteLaws
+pub mod TakerLaws
 pub mod UseLaws

@@ -24,6 +24,7 @@ use Rattle.rl_chunks.specs.StoreState.{Seen}
 use Rattle.rl_chunks.specs.declared.line.Line.{Line}
 use Rattle.rl_parts.specs.StreamParts.{StreamView, entries_of}
 use Rattle.rl_parts.specs.StoreUse.{AreKept, Looked, Right}
+use Rattle.rl_parts.specs.laws.TakerLaws.{fold-pushed}
 use Rattle.rl_parts.specs.Reading.{is_in_range, told, told_in_range}
 use Rattle.rl_parts.specs.declared.fault.ReadFault.{ReadFault}
 use Rattle.rl_parts.specs.declared.fault.ReadFault.TheVariants as reads
@@ -186,11 +187,6 @@ told_here selector from to (row ∷ rows) zero stream own at =
     ∙ ap (λ labels. told_of selector from to labels row.1) own.0.labels ∙ sym (of_stream selector from to row.0 (entries_of row.1) own.0.entries)
 told_here selector from to (row ∷ rows) (suc i) stream own at = told_here selector from to rows i stream own.1 at
 
--- lines put behind others one by one
-pub pushed : {A : Type 0} (xs ys : List A) → fold (λ lines line. lines ++ line ∷ []) xs ys ≡ xs ++ ys
-pushed xs [] = sym (append-nil xs)
-pushed xs (y ∷ ys) = pushed (xs ++ y ∷ []) ys ∙ append_assoc xs (y ∷ []) ys
-
 -- at first all that is asked for is left
 pub left_at_first : (selector : List Matcher) (from to : ℕ) (rows : List Row) → left selector from to (by_stream rows) 0 [] ≡ map told (asked selector from to (joined rows))
 left_at_first selector from to rows = ap (λ entries. map told (asked selector from to entries)) (flat_map-map (λ entries. entries) (λ (row : Row). entries_of row.1) rows)
@@ -200,5 +196,5 @@ pub left_once : (selector : List Matcher) (from to : ℕ) (rows : List Row) → 
 left_once selector from to rows once = record {
   order = asked selector from to (joined rows);
   once = IsPermutation-sym _ _ (keys-of_distinct entry_cmp_total entry_cmp-IsAntisymmetric (is_asked selector from to) (joined rows) once);
-  told = left_at_first selector from to rows ∙ sym (pushed [] (map told (asked selector from to (joined rows))));
+  told = left_at_first selector from to rows ∙ sym (fold-pushed [] (map told (asked selector from to (joined rows))));
 }
