@@ -94,7 +94,7 @@ fn test_code(alloc: Global, test: &LabelTest) -> Result<TestCode, PatternError>
     Ok(TestCode { test, pattern })
 }
 
-// The code of one test, alone. The test is large, so it lies in a frame of its own.
+// The code of one test, alone.
 #[inline(never)]
 fn one_code(alloc: Global, test: &LabelTest) -> Result<Node, PatternError>
     ensures code { IfOk result (λ node. node_tree node ≡ one test.now) }
@@ -104,6 +104,15 @@ fn one_code(alloc: Global, test: &LabelTest) -> Result<Node, PatternError>
     Ok(Node::One(code))
 }
 
+// The same, by a pointer, which is called and not inlined: a test is large, so it lies in a frame that is not the tree's.
+fn one_code_apart(alloc: Global, test: &LabelTest) -> Result<Node, PatternError>
+    ensures code { IfOk result (λ node. node_tree node ≡ one test.now) }
+    ensures refused { IfErr result (IsUnbuilt (is_by_pattern test.now)) }
+{
+    let coded: fn(Global, &LabelTest) -> Result<Node, PatternError> = one_code;
+    coded(alloc, test)
+}
+
 impl TestsCode {
     /// The code of the tests. BadRegex where a pattern takes too much room.
     pub fn build(alloc: Global, tests: &LabelTests) -> Result<TestsCode, PatternError>
@@ -111,7 +120,7 @@ impl TestsCode {
         ensures refused { IfErr result (IsUnbuilt (are_by_pattern tests.now)) }
     {
         let node = match tests.parts() {
-            TestParts::One(test) => one_code(alloc, test)?,
+            TestParts::One(test) => one_code_apart(alloc, test)?,
             TestParts::Joined(join, left, right) => {
                 let left = Box::new(alloc, TestsCode::build(alloc, left)?)?;
                 let right = Box::new(alloc, TestsCode::build(alloc, right)?)?;

@@ -40,13 +40,11 @@ impl<'a> Model for Testing<'a> {
 /// Label tests that many lines are asked for. Contracts see the tests. A node is a few words, since a query may have a
 /// deep tree.
 #[cycle(asking)]
-#[derive(Drop)]
 pub(crate) struct TestsRunning<'a> {
     node: Asking<'a>,
 }
 
 #[cycle(asking)]
-#[derive(Drop)]
 enum Asking<'a> {
     One(Box<Testing<'a>>),
     Joined(Pair<'a>),
@@ -54,7 +52,6 @@ enum Asking<'a> {
 
 // Two joined.
 #[cycle(asking)]
-#[derive(Drop)]
 struct Pair<'a> {
     join: Join,
     left: Box<TestsRunning<'a>>,
@@ -79,6 +76,28 @@ impl<'a> Model for TestsRunning<'a> {
     ghost use Rattle.std.proofs.Common.{arith};
 
     ghost size_decreases = { λ a h. Prim.grind (arith) };
+}
+
+impl Drop for TestsRunning<'_> {
+    // A long row of tests leans to the left, and their caches are large: what is on the left is dropped by the loop.
+    #[cycle(ending)]
+    fn drop(mut self) {
+        loop {
+            let TestsRunning { node } = self;
+            match node {
+                Asking::One(_) => return,
+                Asking::Joined(pair) => {
+                    let Pair {
+                        join: _,
+                        left,
+                        right,
+                    } = pair;
+                    drop(right);
+                    self = Box::into_inner(left);
+                }
+            }
+        }
+    }
 }
 
 impl<'a> Testing<'a> {
