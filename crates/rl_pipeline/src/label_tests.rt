@@ -34,13 +34,11 @@ impl Model for TestCode {
 
 /// Built label tests. Contracts see the tests. A node is a few words, since a query may have a deep tree.
 #[cycle(tests)]
-#[derive(Drop)]
 pub struct TestsCode {
     pub(crate) node: Node,
 }
 
 #[cycle(tests)]
-#[derive(Drop)]
 pub(crate) enum Node {
     One(Box<TestCode>),
     Joined(Join, Box<TestsCode>, Box<TestsCode>),
@@ -64,6 +62,38 @@ impl Model for TestsCode {
     ghost use Rattle.std.proofs.Common.{arith};
 
     ghost size_decreases = { λ a h. Prim.grind (arith) };
+}
+
+impl Drop for TestsCode {
+    // A long row of tests leans to the left, so what is on the left is dropped by the loop.
+    #[cycle(ending)]
+    fn drop(mut self) {
+        loop {
+            let TestsCode { node } = self;
+            match node {
+                Node::One(test) => {
+                    end_apart(test);
+                    return;
+                }
+                Node::Joined(_, left, right) => {
+                    drop(right);
+                    self = Box::into_inner(left);
+                }
+            }
+        }
+    }
+}
+
+// Drops a test.
+#[inline(never)]
+fn end(test: Box<TestCode>) {
+    drop(test);
+}
+
+// The same by a pointer, as `one_code_apart`.
+fn end_apart(test: Box<TestCode>) {
+    let ends: fn(Box<TestCode>) = end;
+    ends(test);
 }
 
 // The code of a matcher's pattern, if it has one. The pattern is one, so it is refused for memory or for its size, and the
