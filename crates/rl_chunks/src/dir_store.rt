@@ -112,7 +112,7 @@ impl<R> DirStore<R> {
     }
 }
 
-impl<R: Files + Send + Drop> Store for DirStore<R> {
+impl<R: Files + Drop> Store for DirStore<R> {
     ghost use Rattle.rl_chunks.specs.DirState.{dir_seen};
 
     ghost seen = { λ store. dir_seen store.history.value store.reads store.faults };

@@ -34,7 +34,8 @@ impl<T: Drop> From<AllocFailed<T>> for StoreFault {
 }
 
 /// Keeps bytes by number. Its device may fail, lose bytes or lie; where the store is honest, what is read is what was put.
-pub trait Store: Send + Drop {
+/// What hands a store to another thread asks for `Send` besides.
+pub trait Store: Drop {
     ghost seen: { Self → Seen };
 
     /// Keeps the bytes under the number, in the place of those before. A refusal may lose what the number had.
