@@ -1,6 +1,6 @@
 -- The entries of a range, as they are handed out.
 use Rattle.std.proofs.Common.{◌≡◌, ℕ, ◌+◌, ◌-◌, ◌<◌, ◌≤◌, ◌⊎◌, inl, inr, leb, ◌&&◌, true, false, Bool, cond, List, [], ◌∷◌, ◌++◌, length, get_or, take, map, refl, sym, ap, subst, ◌∙◌, append-nil, arith}
-use Rattle.std.specs.List.{All, AllByRecursion, AllZip, filter, flat_map, fold}
+use Rattle.std.specs.List.{All, AllByRecursion, filter, flat_map, fold}
 use Rattle.std.proofs.lemmas.Bool.Decides.{nat_tests}
 use Rattle.std.proofs.lemmas.List.{map-append, take_more}
 use Rattle.std.proofs.lemmas.List.Concat.{flat_map-append}
@@ -13,6 +13,7 @@ use Rattle.rl_chunks.specs.declared.line.Line.{Line}
 use Rattle.rl_parts.specs.StreamParts.{PartView, IsRun}
 use Rattle.rl_parts.specs.PartState.{timestamp_at, IsRange}
 use Rattle.rl_parts.specs.Reading.{is_in_range, told, told_in_range, lines_in_range, IsPiece, IsHandedOut}
+use Rattle.rl_parts.specs.laws.TakerLaws.{AllZip-append}
 use Rattle.rl_parts.proofs.Times.{up_to_last, from_first}
 
 pub lines-append : (set : LabelSet) (from to : ℕ) (xs ys : List Line) → lines_in_range set from to (xs ++ ys) ≡ lines_in_range set from to xs ++ lines_in_range set from to ys
@@ -75,17 +76,11 @@ both_told taking set from to parts head start mid now same first second =
     let all : List Entry = flat_map (λ part. part.entries) parts in
     second ∙ (λ i. fold taking (first i) (lines_told set from to head same i)) ∙ sym (fold-append taking start (told_in_range from to all) (told_in_range from to head)) ∙ ap (fold taking start) (sym (told-append from to all head))
 
-zip_append : {A B : Type 0} (R : A → B → Type 0) (xs : List A) (us : List B) (ys : List A) (vs : List B) → AllZip R xs us → AllZip R ys vs → AllZip R (xs ++ ys) (us ++ vs)
-zip_append R [] [] ys vs h k = k
-zip_append R [] (u ∷ us) ys vs h k = absurd h
-zip_append R (x ∷ xs) [] ys vs h k = absurd h
-zip_append R (x ∷ xs) (u ∷ us) ys vs h k = (h.0, zip_append R xs us ys vs h.1 k)
-
 -- pieces of parts, and then of others
 handed_then : {T : Type 0} (taking : T → LabelSet × Line → T) (set : LabelSet) (from to : ℕ) (xs ys : List PartView) (a b c : T) → IsHandedOut taking set from to xs a b → IsHandedOut taking set from to ys b c → IsHandedOut taking set from to (xs ++ ys) a c
 handed_then taking set from to xs ys a b c p q = record {
   pieces = p.pieces ++ q.pieces;
-  each = zip_append (IsPiece set from to) xs p.pieces ys q.pieces p.each q.each;
+  each = AllZip-append (IsPiece set from to) xs p.pieces ys q.pieces p.each q.each;
   behind = q.behind ∙ ap (λ t. fold taking t (flat_map (λ piece. piece) q.pieces)) p.behind ∙ sym (fold-append taking a (flat_map (λ piece. piece) p.pieces) (flat_map (λ piece. piece) q.pieces)) ∙ ap (fold taking a) (sym (flat_map-append (λ piece. piece) p.pieces q.pieces));
 }
 

@@ -1,7 +1,7 @@
 -- What streams hand out one after the other, and what is read for it.
-use Rattle.std.proofs.Common.{◌≡◌, ℕ, zero, suc, ◌+◌, Bool, true, false, cond, ◌&&◌, ◌↔◌, IsTrue, Contains, Some, None, Option, is_some, List, [], ◌∷◌, ◌++◌, map, filter, take, slice_get, Result, Ok, Err, refl, sym, ap, ◌∙◌, true≢false, append_assoc, append-nil, add-one}
-use Rattle.std.specs.Prelude.{if◌then◌else◌}
-use Rattle.std.specs.List.{All, AllByRecursion, IsDistinct, fold}
+use Rattle.std.proofs.Common.{◌≡◌, ℕ, zero, suc, ◌+◌, Bool, true, false, cond, ◌&&◌, ◌↔◌, IsTrue, Contains, Some, None, Option, is_some, List, [], ◌∷◌, ◌++◌, map, filter, take, slice_get, Result, Ok, Err, refl, sym, ap, subst, ◌∙◌, true≢false, append_assoc, append-nil, add-one}
+use Rattle.std.specs.Prelude.{MatchBool, OnOk, if◌then◌else◌}
+use Rattle.std.specs.List.{All, AllByRecursion, IsDistinct, flat_map, fold}
 use Rattle.std.specs.BTreeMap.{is_at}
 use Rattle.std.specs.Ordering.{eq_by_cmp, is_eq}
 use Rattle.std.specs.Cmp.{tied_itself}
@@ -24,11 +24,12 @@ use Rattle.rl_chunks.specs.StoreState.{Seen}
 use Rattle.rl_chunks.specs.declared.line.Line.{Line}
 use Rattle.rl_parts.specs.StreamParts.{StreamView, entries_of}
 use Rattle.rl_parts.specs.StoreUse.{AreKept, Looked, Right}
-use Rattle.rl_parts.specs.laws.TakerLaws.{fold-pushed}
-use Rattle.rl_parts.specs.Reading.{is_in_range, told, told_in_range}
+use Rattle.rl_parts.specs.laws.TakerLaws.{fold-pushed, AllZip-append}
+use Rattle.std.proofs.lemmas.List.Concat.{flat_map-append}
+use Rattle.rl_parts.specs.Reading.{is_in_range, told, told_in_range, IsHandedOut}
 use Rattle.rl_parts.specs.declared.fault.ReadFault.{ReadFault}
 use Rattle.rl_parts.specs.declared.fault.ReadFault.TheVariants as reads
-use Rattle.rl_streams.specs.Asking.{is_asked, asked, told_of, told_by, told_at, left, AreToldOnce, NoneSelected}
+use Rattle.rl_streams.specs.Asking.{is_asked, asked, told_of, told_by, told_at, left, AreOfParts, AreOfRow, AreTold, AreToldOnce, NoneSelected}
 use Rattle.rl_streams.specs.RowSteps.{AreOthers, IsPlaceOf}
 use Rattle.rl_streams.specs.HeldSet.{set_of}
 use Rattle.rl_streams.specs.laws.HeldLaws.{keys-of_distinct}
@@ -130,6 +131,50 @@ told_once taking selector from to rows before after own once is = record {
   once = IsPermutation-sym _ _ (keys-of_distinct entry_cmp_total entry_cmp-IsAntisymmetric (is_asked selector from to) (joined rows) once);
   told = is ∙ ap (fold taking before) (told_all selector from to rows own);
 }
+
+-- over any store: what a stream hands out that is not selected, and one that is
+pub none_of_row : (selector : List Matcher) (from to : ℕ) (stream : StreamView) {T : Type 0} (taking : T → LabelSet × Line → T) (taker : T) → selects selector stream.labels ≡ false
+    → (lines : List (LabelSet × Line)) × AreOfRow selector from to (stream.labels, stream) lines × (taker ≡ fold taking taker lines)
+none_of_row selector from to stream taking taker not_selected =
+    let none : List (LabelSet × Line) = [] in
+    (none, subst (λ b. MatchBool b (AreOfParts from to stream none) (none ≡ none)) (sym not_selected) refl, refl)
+
+pub of_row : (selector : List Matcher) (from to : ℕ) (stream : StreamView) {T : Type 0} (taking : T → LabelSet × Line → T) (before after : T) → selects selector stream.labels ≡ true
+    → (result : Result (Unit {0}) ReadFault) → OnOk result ((mid : T) × IsHandedOut taking stream.labels from to stream.parts before mid × (after ≡ fold taking mid (told_in_range from to stream.head)))
+    → OnOk result ((lines : List (LabelSet × Line)) × AreOfRow selector from to (stream.labels, stream) lines × (after ≡ fold taking before lines))
+of_row selector from to stream taking before after selected (Ok _) (mid, handed, head) =
+    let sealed = flat_map (λ piece. piece) handed.pieces in
+    let lines = sealed ++ told_in_range from to stream.head in (
+      lines,
+      subst (λ b. MatchBool b (AreOfParts from to stream lines) (lines ≡ [])) (sym selected) (record { pieces = handed.pieces; each = handed.each; all = refl }),
+      head ∙ ap (λ t. fold taking t (told_in_range from to stream.head)) handed.behind ∙ sym (fold-append taking before sealed (told_in_range from to stream.head)),
+    )
+of_row selector from to stream taking before after selected (Err fault) handed = tt
+
+-- of no streams, and of one more
+pub told_none : (selector : List Matcher) (from to : ℕ) {T : Type 0} (taking : T → LabelSet × Line → T) (taker : T) → AreTold taking selector from to [] taker taker
+told_none selector from to taking taker = record { lines = []; each = tt; told = refl }
+
+pub told_then : {T : Type 0} (taking : T → LabelSet × Line → T) (selector : List Matcher) (from to : ℕ) (rows : List Row) (i : ℕ) (stream : StreamView) (before taken now : T) → AllByRecursion IsOwn rows → slice_get (values_of rows) i ≡ Some stream
+    → AreTold taking selector from to (take i rows) before taken → (lines : List (LabelSet × Line)) × AreOfRow selector from to (stream.labels, stream) lines × (now ≡ fold taking taken lines) → AreTold taking selector from to (take (i + 1) rows) before now
+told_then taking selector from to rows i stream before taken now own at was (lines, of_row, is) =
+    let row = with_key rows i stream at in
+    let labels = (at_row IsOwn rows i (row.0, stream) own row.1).labels in
+    let one = subst (λ set. AreOfRow selector from to (set, stream) lines) labels of_row in
+    subst (λ taken_rows. AreTold taking selector from to taken_rows before now) (sym (one_row_more rows i (row.0, stream) row.1)) (record {
+      lines = was.lines ++ lines ∷ [];
+      each = AllZip-append (AreOfRow selector from to) (take i rows) was.lines ((row.0, stream) ∷ []) (lines ∷ []) was.each (one, tt);
+      told = is ∙ ap (λ t. fold taking t lines) was.told ∙ sym (fold-append taking before (flat_map (λ l. l) was.lines) lines)
+          ∙ ap (fold taking before) (ap (λ l. flat_map (λ l. l) was.lines ++ l) (sym (append-nil lines)) ∙ sym (flat_map-append (λ l. l) was.lines (lines ∷ [])));
+    })
+  where
+    one_row_more : (rows : List Row) (i : ℕ) (row : Row) → slice_get rows i ≡ Some row → take (i + 1) rows ≡ take i rows ++ row ∷ []
+    one_row_more rows i row at = ap (λ n. take n rows) (add-one i) ∙ by rows i at
+      where
+        by : (rows : List Row) (i : ℕ) → slice_get rows i ≡ Some row → take (suc i) rows ≡ take i rows ++ row ∷ []
+        by [] i at = absurd (not_none row at)
+        by (other ∷ rows) zero at = ap (λ (r : Row). r ∷ []) (same_some other row at)
+        by (other ∷ rows) (suc i) at = ap (λ l. other ∷ l) (by rows i at)
 
 -- a stream that is there has a newest timestamp
 behind_another : (row : Row) (rows : List Row) (labels : LabelSet) → is_some (lookup (is_at (label_set_cmp labels)) (newest_in rows)) ≡ true → is_some (lookup (is_at (label_set_cmp labels)) (newest_in (row ∷ rows))) ≡ true

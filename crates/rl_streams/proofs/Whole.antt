@@ -57,7 +57,7 @@ module _ (limits : Limits) (rows new : List Row) (old seen : Seen) (next count :
   looked_whole same = subst (λ rows. IsWhole limits rows seen next count) (sym same) (record { streams = streams_looked rows old next whole.streams seen looked; counted = whole.counted; room = whole.room })
 
   pub looked_view : new ≡ rows → Looks (view_of limits rows old next) (view_of limits new seen next)
-  looked_view same = record { limits = refl; held = ap (λ rows. set_of (joined rows)) same; newest = ap (λ rows. newest_map (newest_in rows)) same; next = refl; loose = ap (λ rows. length (loose_in rows)) same; unwritten = ap (λ rows. length (unwritten_in rows)) same; order = ap by_stream same; seen = looked }
+  looked_view same = record { limits = refl; held = ap (λ rows. set_of (joined rows)) same; newest = ap (λ rows. newest_map (newest_in rows)) same; next = refl; loose = ap (λ rows. length (loose_in rows)) same; unwritten = ap (λ rows. length (unwritten_in rows)) same; rows = same; seen = looked }
 
   abbrev before : StreamsView
   before = view_of limits rows old next

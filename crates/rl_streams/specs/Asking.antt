@@ -1,6 +1,6 @@
 -- What is asked of all streams: the entries that a selector selects, in a range of time.
-use Rattle.std.specs.Prelude.{◌≡◌, ℕ, Bool, true, ◌&&◌, List, [], ◌++◌, map, drop, get_or, None, if◌then◌else◌}
-use Rattle.std.specs.List.{filter, flat_map, fold}
+use Rattle.std.specs.Prelude.{◌≡◌, ℕ, Bool, true, ◌&&◌, List, [], ◌++◌, map, drop, get_or, None, MatchBool, if◌then◌else◌}
+use Rattle.std.specs.List.{AllZip, filter, flat_map, fold}
 use Rattle.std.specs.List.Sorted.{IsPermutation}
 use Rattle.std.specs.FinMap.{FinMap, get, keys}
 use Rattle.rl_labels.specs.EntryOrder.{EntrySet}
@@ -11,7 +11,7 @@ use Rattle.rl_labels.specs.declared.entry.Entry.{Entry}
 use Rattle.rl_labels.specs.declared.matcher.Matcher.{Matcher}
 use Rattle.rl_chunks.specs.declared.line.Line.{Line}
 use Rattle.rl_parts.specs.StreamParts.{StreamView, entries_of}
-use Rattle.rl_parts.specs.Reading.{is_in_range, told, told_in_range}
+use Rattle.rl_parts.specs.Reading.{is_in_range, told, told_in_range, IsPiece}
 use Rattle.rl_streams.specs.StreamRows.{Row}
 
 abbrev pub is_asked : List Matcher → ℕ → ℕ → Entry → Bool
@@ -38,6 +38,22 @@ pub record AreToldOnce {T : Type 0} (selector : List Matcher) (from to : ℕ) (h
   pub order : List Entry
   pub once : IsPermutation (asked selector from to (keys held)) order
   pub told : after ≡ fold taking before (map told order)
+
+-- lines of a stream over any store: a piece of each part, and what its head has in the range
+pub record AreOfParts (from to : ℕ) (stream : StreamView) (lines : List (LabelSet × Line)) : Type 0 where
+  pub pieces : List (List (LabelSet × Line))
+  pub each : AllZip (IsPiece stream.labels from to) stream.parts pieces
+  pub all : lines ≡ flat_map (λ piece. piece) pieces ++ told_in_range from to stream.head
+
+-- they are those of a stream that is selected, and none of another
+abbrev pub AreOfRow : List Matcher → ℕ → ℕ → Row → List (LabelSet × Line) → Type 0
+AreOfRow selector from to row lines = MatchBool (selects selector row.0) (AreOfParts from to row.1 lines) (lines ≡ [])
+
+-- such lines of each stream in turn were handed out, and this is what the taker became by them
+pub record AreTold {T : Type 0} (taking : T → LabelSet × Line → T) (selector : List Matcher) (from to : ℕ) (rows : List Row) (before after : T) : Type 0 where
+  pub lines : List (List (LabelSet × Line))
+  pub each : AllZip (AreOfRow selector from to) rows lines
+  pub told : after ≡ fold taking before (flat_map (λ of_row. of_row) lines)
 
 -- what one stream of all hands out
 abbrev pub told_at : List Matcher → ℕ → ℕ → List (List Entry) → ℕ → List (LabelSet × Line)

@@ -11,6 +11,7 @@ use Rattle.rl_labels.specs.declared.limits.Limits.{Limits}
 use Rattle.rl_labels.specs.contracts.entry.Entry as entry_type
 use Rattle.rl_labels.specs.contracts.limits.Limits as limits_type
 use Rattle.rl_chunks.specs.StoreState.{Blobs, Seen}
+use Rattle.rl_parts.specs.StreamParts.{stream_code}
 use Rattle.rl_parts.specs.StoreUse.{Looked, Grown, ReadCause}
 use Rattle.rl_parts.specs.declared.fault.ReadFault.TheVariants as reads
 use Rattle.rl_streams.specs.HeldSet.{set_of}
@@ -32,8 +33,8 @@ pub record StreamsView : Type 0 where
   pub loose : ℕ
   -- how many sealed parts the store does not have
   pub unwritten : ℕ
-  -- the entries stream by stream, as they are handed out
-  pub order : List (List Entry)
+  -- the streams, as they are handed out
+  pub rows : List Row
 
 -- a store, and streams, as numbers
 abbrev pub seen_code : Coded Seen
@@ -43,15 +44,19 @@ seen_code = code_by (Blobs × (Bool × (ℕ × ℕ))) (coded× (code coded_ℕ (
     (λ _. refl)
 
 abbrev pub streams_code : Coded StreamsView
-streams_code = code_by (Limits × (EntrySet × (FinMap label_set_cmp ℕ × (Seen × (ℕ × (ℕ × (ℕ × List (List Entry))))))))
-    (coded× limits_type.the_row.coded (coded× (code entry_type.the_row.coded coded_unit) (coded× (code label_set_code coded_ℕ) (coded× seen_code (coded× coded_ℕ (coded× coded_ℕ (coded× coded_ℕ (coded_list (coded_list entry_type.the_row.coded)))))))))
-    (λ s. (s.limits, (s.held, (s.newest, (s.seen, (s.next, (s.loose, (s.unwritten, s.order))))))))
-    (λ p. record { limits = p.0; held = p.1.0; newest = p.1.1.0; seen = p.1.1.1.0; next = p.1.1.1.1.0; loose = p.1.1.1.1.1.0; unwritten = p.1.1.1.1.1.1.0; order = p.1.1.1.1.1.1.1 })
+streams_code = code_by (Limits × (EntrySet × (FinMap label_set_cmp ℕ × (Seen × (ℕ × (ℕ × (ℕ × List Row)))))))
+    (coded× limits_type.the_row.coded (coded× (code entry_type.the_row.coded coded_unit) (coded× (code label_set_code coded_ℕ) (coded× seen_code (coded× coded_ℕ (coded× coded_ℕ (coded× coded_ℕ (coded_list (coded× label_set_code stream_code)))))))))
+    (λ s. (s.limits, (s.held, (s.newest, (s.seen, (s.next, (s.loose, (s.unwritten, s.rows))))))))
+    (λ p. record { limits = p.0; held = p.1.0; newest = p.1.1.0; seen = p.1.1.1.0; next = p.1.1.1.1.0; loose = p.1.1.1.1.1.0; unwritten = p.1.1.1.1.1.1.0; rows = p.1.1.1.1.1.1.1 })
     (λ _. refl)
 
 -- streams as they are seen
 abbrev pub view_of : Limits → List Row → Seen → ℕ → StreamsView
-view_of limits rows seen next = record { limits = limits; held = set_of (joined rows); newest = newest_map (newest_in rows); seen = seen; next = next; loose = length (loose_in rows); unwritten = length (unwritten_in rows); order = by_stream rows }
+view_of limits rows seen next = record { limits = limits; held = set_of (joined rows); newest = newest_map (newest_in rows); seen = seen; next = next; loose = length (loose_in rows); unwritten = length (unwritten_in rows); rows = rows }
+
+-- their entries stream by stream, as they are handed out
+abbrev pub order_of : StreamsView → List (List Entry)
+order_of streams = by_stream streams.rows
 
 -- what is always true of them, and of the count of entries
 pub record IsWhole (limits : Limits) (rows : List Row) (seen : Seen) (next count : ℕ) : Type 0 where
@@ -61,7 +66,7 @@ pub record IsWhole (limits : Limits) (rows : List Row) (seen : Seen) (next count
 
 -- no streams
 abbrev pub no_streams : Limits → Seen → StreamsView
-no_streams limits seen = record { limits = limits; held = empty; newest = empty; seen = seen; next = limits.first_blob; loose = 0; unwritten = 0; order = [] }
+no_streams limits seen = record { limits = limits; held = empty; newest = empty; seen = seen; next = limits.first_blob; loose = 0; unwritten = 0; rows = [] }
 
 -- half of a second, in nanoseconds
 abbrev pub half_second : ℕ
@@ -94,7 +99,7 @@ pub record Looks (old new : StreamsView) : Type 0 where
   pub next : new.next ≡ old.next
   pub loose : new.loose ≡ old.loose
   pub unwritten : new.unwritten ≡ old.unwritten
-  pub order : new.order ≡ old.order
+  pub rows : new.rows ≡ old.rows
   pub seen : Looked old.seen new.seen
 
 -- a call that seals heads
@@ -103,7 +108,7 @@ pub record Cuts (old new : StreamsView) : Type 0 where
   pub held : new.held ≡ old.held
   pub newest : new.newest ≡ old.newest
   pub next : new.next ≡ old.next
-  pub order : new.order ≡ old.order
+  pub order : order_of new ≡ order_of old
   pub seen : new.seen ≡ old.seen
 
 -- the entry is held with the others, and its stream's newest timestamp is raised to its own
@@ -121,7 +126,7 @@ pub record Flushes (old new : StreamsView) : Type 0 where
   pub newest : new.newest ≡ old.newest
   pub next : old.next ≤ new.next
   pub loose : new.loose ≡ old.loose
-  pub order : new.order ≡ old.order
+  pub order : order_of new ≡ order_of old
   pub seen : Grown old.seen old.next new.seen
 
 -- a refusal for a fault of the device came with one

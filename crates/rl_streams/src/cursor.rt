@@ -2,7 +2,7 @@
 ghost use Rattle.std.specs.Prelude.{◌≡◌, ◌≤◌, [], ◌∷◌, true, length, IfErr, IfOk, MatchOption, OnErr, OnOk};
 ghost use Rattle.rl_parts.specs.StoreUse.{ReadCause, Right};
 ghost use Rattle.rl_streams.specs.Asking.{left};
-ghost use Rattle.rl_streams.specs.StreamsState.{Looks};
+ghost use Rattle.rl_streams.specs.StreamsState.{order_of, Looks};
 
 use crate::lines::Lines;
 use crate::streams::Streams;
@@ -36,8 +36,8 @@ fn fill<S: Store>(
     ensures same { Looks streams.old streams.new }
     ensures cause { IfErr result (ReadCause streams.old.seen streams.new.seen) }
     ensures undamaged { streams.old.seen.honest ≡ true → Right result (λ _. Unit {0}) }
-    ensures left { streams.old.seen.honest ≡ true → left selector.now from to streams.new.order place.new lines.new ≡ left selector.now from to streams.old.order place.old lines.old }
-    ensures all { OnOk result (lines.new ≡ [] → length streams.new.order ≤ place.new) }
+    ensures left { streams.old.seen.honest ≡ true → left selector.now from to (order_of streams.new) place.new lines.new ≡ left selector.now from to (order_of streams.old) place.old lines.old }
+    ensures all { OnOk result (lines.new ≡ [] → length (order_of streams.new) ≤ place.new) }
 {
     for next in *place..streams.stream_count() {
         if !lines.is_empty() {

@@ -1,9 +1,11 @@
 //! What streams hold, read where it is.
-ghost use Rattle.std.specs.Prelude.{◌≡◌, ℕ, true, false, Ok, IfErr};
+ghost use Rattle.std.specs.Prelude.{◌≡◌, ℕ, List, true, false, Ok, IfErr, OnOk};
 ghost use Rattle.std.specs.List.{AllByRecursion, fold};
+ghost use Rattle.rl_labels.specs.LabelSet.{LabelSet};
 ghost use Rattle.rl_labels.specs.Selects.{selects};
+ghost use Rattle.rl_chunks.specs.declared.line.Line.{Line};
 ghost use Rattle.rl_parts.specs.StoreUse.{Looked, AreKept, ReadCause, Right};
-ghost use Rattle.rl_streams.specs.Asking.{told_of, told_by};
+ghost use Rattle.rl_streams.specs.Asking.{told_of, told_by, AreOfRow, AreTold};
 ghost use Rattle.rl_streams.specs.RowSteps.{AreOthers};
 ghost use Rattle.rl_streams.specs.StreamRows.{joined, is_among, IsOwn, AreStreams};
 
@@ -46,6 +48,7 @@ pub(crate) fn each_selected<S: Store, T: Taker>(
     ensures looked { Looked (S.seen store.old) (S.seen store.new) }
     ensures cause { IfErr result (ReadCause (S.seen store.old) (S.seen store.new)) }
     ensures unread { selects selector.now stream.now.labels ≡ false → S.seen store.new ≡ S.seen store.old }
+    ensures told { OnOk result ((lines : List (LabelSet × Line)) × AreOfRow selector.now from to (stream.now.labels, stream.now) lines × (taker.new ≡ fold T.taking taker.old lines)) }
     ensures right { (next : ℕ) → AreKept (S.seen store.old) next stream.now → (S.seen store.old).honest ≡ true → Right result (λ _. taker.new ≡ fold T.taking taker.old (told_of selector.now from to stream.now.labels stream.now)) }
 {
     if !selector.accepts(stream.labels())? {
@@ -68,6 +71,7 @@ pub(crate) fn each<S: Store, T: Taker>(
     ensures looked { Looked (S.seen store.old) (S.seen store.new) }
     ensures cause { IfErr result (ReadCause (S.seen store.old) (S.seen store.new)) }
     ensures unread { AllByRecursion (λ row. selects selector.now row.0 ≡ false) streams.now.entries → S.seen store.new ≡ S.seen store.old }
+    ensures told { OnOk result (AreTold T.taking selector.now from to streams.now.entries taker.old taker.new) }
     ensures right { (next : ℕ) → AreStreams streams.now.entries (S.seen store.old) next → (S.seen store.old).honest ≡ true → Right result (λ _. taker.new ≡ fold T.taking taker.old (told_by selector.now from to streams.now.entries)) }
 {
     for place in 0..streams.len() {

@@ -1,5 +1,6 @@
 //! All streams of a shard.
 ghost use Rattle.std.specs.Prelude.{◌≡◌, ◌⊎◌, ◌<◌, ◌≤◌, ◌++◌, [], ◌∷◌, length, true, false, None, Ok, Err, IfErr, MatchOption, OnErr, OnOk};
+ghost use Rattle.rl_chunks.specs.StoreState.{greatest};
 
 use crate::adding::{age_refusal, place_of, put};
 use crate::cursor::Cursor;
@@ -42,9 +43,9 @@ impl<S: Store> Model for Streams<S> {
 impl<S: Store> Streams<S> {
     ghost use Rattle.std.specs.FinMap.{contains_key, get, len};
     ghost use Rattle.rl_parts.specs.StoreUse.{FlushCause, ReadCause, Right};
-    ghost use Rattle.rl_streams.specs.Asking.{AreToldOnce, NoneSelected, told_at};
+    ghost use Rattle.rl_streams.specs.Asking.{AreTold, AreToldOnce, NoneSelected, told_at};
     ghost use Rattle.rl_streams.specs.CursorState.{left_in};
-    ghost use Rattle.rl_streams.specs.StreamsState.{no_streams, age_refusal, AddCause, Cuts, Flushes, IsDecided, IsNoAge, Looks, Takes};
+    ghost use Rattle.rl_streams.specs.StreamsState.{no_streams, age_refusal, order_of, AddCause, Cuts, Flushes, IsDecided, IsNoAge, Looks, Takes};
 
     /// Streams that hold nothing. The first number is that of the limits.
     pub fn new(alloc: Global, store: S, limits: Limits) -> Self
@@ -122,13 +123,16 @@ impl<S: Store> Streams<S> {
         ensures same { Flushes self.old self.new }
         ensures all { OnOk result (self.new.unwritten ≡ 0) }
         ensures cause { IfErr result (FlushCause self.old.seen self.new.seen self.new.next) }
+        ensures numbers { self.new.next ≤ greatest }
     {
-        flushing::flush(
+        let flushed = flushing::flush(
             self.alloc,
             &mut self.store,
             &mut self.streams,
             &mut self.next,
-        )
+        );
+        show_bound(self.next);
+        flushed
     }
 
     /// Whether the entry is held. Where no stream has its labels, nothing is read. A store that is not honest may hide an
@@ -155,6 +159,8 @@ impl<S: Store> Streams<S> {
         ensures same { Looks self.old self.new }
         ensures cause { IfErr result (ReadCause self.old.seen self.new.seen) }
         ensures unread { NoneSelected selector.now self.old.newest → self.new ≡ self.old }
+        // What is handed out of a part that the store has is told by bytes with its digest, over any store.
+        ensures told { OnOk result (AreTold T.taking selector.now from to self.old.rows taker.old taker.new) }
         ensures right { self.old.seen.honest ≡ true → Right result (λ _. AreToldOnce selector.now from to self.old.held T.taking taker.old taker.new) }
     {
         let (store, streams) = (&mut self.store, &self.streams);
@@ -175,7 +181,7 @@ impl<S: Store> Streams<S> {
 
     // How many streams there are.
     pub(crate) fn stream_count(&self) -> usize
-        ensures { result ≡ length self.now.order }
+        ensures { result ≡ length (order_of self.now) }
     {
         self.streams.len()
     }
@@ -189,12 +195,17 @@ impl<S: Store> Streams<S> {
         to: Ns,
         lines: &mut Lines,
     ) -> Result<(), ReadFault>
-        requires { place < length self.old.order }
+        requires { place < length (order_of self.old) }
         ensures same { Looks self.old self.new }
         ensures cause { IfErr result (ReadCause self.old.seen self.new.seen) }
-        ensures right { self.old.seen.honest ≡ true → Right result (λ _. lines.new ≡ lines.old ++ told_at selector.now from to self.old.order place) }
+        ensures right { self.old.seen.honest ≡ true → Right result (λ _. lines.new ≡ lines.old ++ told_at selector.now from to (order_of self.old) place) }
     {
         let (store, stream) = (&mut self.store, &self.streams[place]);
         reading::each_selected(self.alloc, store, stream, selector, from, to, lines)
     }
 }
+
+// Shows contracts that a number of 64 bits is within the greatest.
+fn show_bound(number: u64)
+    ensures { number ≤ greatest }
+{}

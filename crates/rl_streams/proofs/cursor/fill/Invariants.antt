@@ -1,11 +1,11 @@
 use Rattle.std.proofs.Common.{◌≡◌, true}
 use Rattle.rl_streams.specs.Asking.{left}
-use Rattle.rl_streams.specs.StreamsState.{Looks}
+use Rattle.rl_streams.specs.StreamsState.{order_of, Looks}
 use Rattle.rl_streams.proofs.cursor.fill.Given as goal
 
 abbrev pub invariant-loop-next : goal.invariant-loop-next
 invariant-loop-next g l = record {
   same : Looks l.fn.streams l.streams;
   at : l.place ≡ l.next;
-  left : l.fn.streams.seen.honest ≡ true → left l.selector l.from l.to l.streams.order l.place l.lines ≡ left l.selector l.from l.to l.fn.streams.order l.fn.place l.fn.lines;
+  left : l.fn.streams.seen.honest ≡ true → left l.selector l.from l.to (order_of l.streams) l.place l.lines ≡ left l.selector l.from l.to (order_of l.fn.streams) l.fn.place l.fn.lines;
 }

@@ -1,8 +1,9 @@
 -- What is handed out is the set in some order, where no entry is held twice.
 use Rattle.std.proofs.Common.{◌≡◌, true, refl, sym, ap, subst, ◌∙◌}
+use Rattle.std.specs.Prelude.{OnOk}
 use Rattle.std.specs.List.{fold}
 use Rattle.rl_parts.specs.StoreUse.{Right}
-use Rattle.rl_streams.specs.Asking.{NoneSelected, AreToldOnce, told_by}
+use Rattle.rl_streams.specs.Asking.{NoneSelected, AreTold, AreToldOnce, told_by}
 use Rattle.rl_streams.specs.StreamsState.{StreamsView, view_of}
 use Rattle.rl_streams.proofs.Told.{right_then, told_once, rows_not_selected}
 use Rattle.rl_streams.proofs.Whole.{looked_whole}
@@ -18,6 +19,10 @@ returns-clause-unread g c = λ none.
     let s = c.self.inside in
     let same = c.each.ensures.unread (rows_not_selected c.args.selector.now s.streams.entries (subst (λ (view : StreamsView). NoneSelected c.args.selector.now view.newest) (sym c.self.view_is) none)) in
     ap (λ seen. view_of s.limits s.streams.entries seen s.next) same ∙ c.self.view_is
+
+pub returns-clause-told : goal.returns-clause-told
+returns-clause-told g c =
+    subst (λ (view : StreamsView). OnOk c.each.result (AreTold g.T.Taker.taking c.args.selector.now c.args.from c.args.to view.rows c.args.taker.now c.each.new.taker)) c.self.view_is c.each.ensures.told
 
 pub returns-clause-right : goal.returns-clause-right
 returns-clause-right g c =
