@@ -3,6 +3,7 @@ ghost use Rattle.std.specs.Prelude.{◌≡◌, ◌∷◌, [], IfSome, map};
 ghost use Rattle.std.specs.List.{AllByRecursion};
 ghost use Rattle.rl_world.specs.BookCalls.{IsFresh};
 
+use rl_chunks::MemStore;
 use rl_labels::{DEFAULT_LIMITS, Limits, Ns};
 use rl_plain::Shared;
 use rl_rules::read_rules;
@@ -36,7 +37,7 @@ pub(crate) fn front(text: &str, bytes: u64) -> &str {
 
 /// A world of one shard, which holds the line, and of a group for each list of sinks. Here and below there is nothing where
 /// memory is wanted.
-pub(crate) fn opened<S: Sink>(alloc: Global, sinks: Vec<Vec<S>>) -> Option<World<S>>
+pub(crate) fn opened<S: Sink>(alloc: Global, sinks: Vec<Vec<S>>) -> Option<World<MemStore, S>>
     requires { AllByRecursion (λ own. AllByRecursion IsFresh (map S.state own.items)) sinks.items }
 {
     let mut groups = Vec::new(alloc);
@@ -47,7 +48,8 @@ pub(crate) fn opened<S: Sink>(alloc: Global, sinks: Vec<Vec<S>>) -> Option<World
         return None;
     }
     let limits = Limits::check(DEFAULT_LIMITS).ok()?;
-    let mut world = World::open(alloc, limits, 1, groups, sinks).ok()?;
+    let stores = one(alloc, MemStore::new(alloc))?;
+    let mut world = World::open(alloc, limits, stores, groups, sinks).ok()?;
     let entry = read_push(alloc, PUSH.as_bytes()).ok()?.pop()?;
     let step = ShardStep::Push(Shared::new(alloc, entry).ok()?);
     let steps = vec![in alloc; Step::Shard { number: 0, step }].ok()?;
@@ -57,14 +59,14 @@ pub(crate) fn opened<S: Sink>(alloc: Global, sinks: Vec<Vec<S>>) -> Option<World
 }
 
 /// The same, of one group with a recorder.
-pub(crate) fn recorded(alloc: Global) -> Option<World<Recorder<Vec<u8>>>> {
+pub(crate) fn recorded(alloc: Global) -> Option<World<MemStore, Recorder<Vec<u8>>>> {
     let own = vec![in alloc; Recorder::new(alloc, Vec::new(alloc), 8)].ok()?;
     opened(alloc, vec![in alloc; own].ok()?)
 }
 
 /// Evaluates a group at a moment in seconds, and goes on where the first time memory is wanted.
 pub(crate) fn commit<S: Sink>(
-    world: &mut World<S>,
+    world: &mut World<MemStore, S>,
     alloc: Global,
     at: (usize, u64),
 ) -> Option<Committed> {
@@ -113,7 +115,8 @@ pub(crate) fn session(
     let groups = vec![in alloc; read_rules(alloc, RULES).ok()?.pop()?].ok()?;
     let sinks = one(alloc, one(alloc, Recorder::new(alloc, sink, 8))?)?;
     let limits = Limits::check(DEFAULT_LIMITS).ok()?;
-    let engine = WorldEngine::open(alloc, limits, 1, groups, sinks).ok()?;
+    let stores = one(alloc, MemStore::new(alloc))?;
+    let engine = WorldEngine::open(alloc, limits, stores, groups, sinks).ok()?;
     let mut session = Session::new(alloc, engine);
     Some(session.run_commands(text, out))
 }

@@ -1,11 +1,12 @@
 pub mod Absences
-pub mod Counting
+pub mod Counters
 pub mod Dividing
 pub mod Grouped
 pub mod Kept
 pub mod Maps
 pub mod Merging
 pub mod Ranked
-pub mod Tallies
+pub mod Scratched
+pub mod Tallying
 pub mod Thresholds
 mod Examples

@@ -1,4 +1,5 @@
 pub mod Absence
+pub mod Counter
 pub mod Evaluated
 pub mod Grouping
 pub mod GroupsMap
@@ -6,8 +7,8 @@ pub mod InRange
 pub mod Limited
 pub mod Partials
 pub mod Ratios
-pub mod Runs
 pub mod Tallies
 pub mod TotalsMap
 pub mod Vectors
+pub mod Waiting
 pub mod laws

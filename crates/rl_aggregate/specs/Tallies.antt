@@ -1,30 +1,53 @@
--- What lines add up to behind the stages of several terms that select and reach back alike.
-use Rattle.std.specs.Prelude.{◌≡◌, ℕ, List, [], ◌∷◌, map}
-use Rattle.rl_labels.specs.declared.entry.Entry.{Entry}
+-- What the lines of streams add up to behind the stages of one pipeline.
+use Rattle.std.specs.Prelude.{◌≡◌, ◌≤◌, ℕ, ◌+◌, List, [], map, length, if◌then◌else◌, option_to_list, refl}
+use Rattle.std.specs.Coded.{Coded, code_by, coded×, coded_list, coded_ℕ}
+use Rattle.rl_labels.specs.LabelSet.{LabelSet}
+use Rattle.rl_pipeline.specs.Running.{run}
 use Rattle.rl_query.specs.declared.query.Term.{Term}
 use Rattle.rl_query.specs.declared.stages.Stage.{Stage}
-use Rattle.rl_aggregate.specs.InRange.{element}
-use Rattle.rl_aggregate.specs.Partials.{merge, partial, partial_of}
-use Rattle.rl_aggregate.specs.Runs.{kept}
-use Rattle.rl_aggregate.specs.declared.tally.Tally.{Tally}
+use Rattle.rl_query.specs.contracts.stages.Stage as stage
+use Rattle.rl_aggregate.specs.InRange.{Element}
+use Rattle.rl_aggregate.specs.Limited.{IsWithin}
+use Rattle.rl_aggregate.specs.Partials.{has_error, merge, most_entries, partial_of}
+use Rattle.rl_aggregate.specs.TotalsMap.{TotalsMap, added, totals_code}
+use Rattle.rl_aggregate.specs.declared.total.Total.{Total}
+use Rattle.rl_aggregate.specs.declared.partial.Partial.{Partial}
 
 -- the streams and the window of two terms are the same
 abbrev pub IsAlike : Term → Term → Type 0
 IsAlike lead term = (term.range.seconds ≡ lead.range.seconds) × (term.range.selector ≡ lead.range.selector)
 
+-- the stages of a pipeline, and what the lines that were counted add up to behind them
+pub record TallyView : Type 0 where
+  pub running : List Stage
+  pub found : Partial
+
+-- as its parts, for a store
+abbrev pub tally_code : Coded TallyView
+tally_code =
+    code_by (List Stage × (ℕ × TotalsMap)) (coded× (coded_list stage.the_row.coded) (coded× coded_ℕ totals_code))
+    (λ tally. (tally.running, (tally.found.errors, tally.found.totals)))
+    (λ p. record { running = p.0; found = record { errors = p.1.0; totals = p.1.1 } })
+    (λ _. refl)
+
 -- no line so far
-abbrev pub nothing_counted : List Stage → Tally
+abbrev pub nothing_counted : List Stage → TallyView
 nothing_counted stages = record { running = stages; found = partial_of [] }
 
--- one line more, if it stays
-abbrev pub counted : Entry → Tally → Tally
-counted entry tally = record { running = tally.running; found = merge tally.found (partial_of (map (element tally.running) (kept tally.running (entry ∷ [])))) }
+-- what a line counts as behind stages: nothing, or an element with the labels that it has there
+abbrev pub elements_of : List Stage → LabelSet → List ℕ → List Element
+elements_of stages labels text = map (λ found. record { labels = found; bytes = length text }) (option_to_list (run stages text labels))
 
--- one after another
-abbrev pub counted_all : List Entry → Tally → Tally
-counted_all [] tally = tally
-counted_all (entry ∷ entries) tally = counted_all entries (counted entry tally)
+-- a tally of one line more
+abbrev pub with_line : LabelSet → List ℕ → TallyView → TallyView
+with_line labels text tally = record { running = tally.running; found = merge tally.found (partial_of (elements_of tally.running labels text)) }
 
--- what entries give in the range of a term
-abbrev pub tally_of : List Entry → (t : ℕ) → Term → Tally
-tally_of entries t term = record { running = term.range.stages; found = partial entries term t }
+-- what lines with these labels make of a partial, by how many they are and their bytes
+abbrev pub with_run : LabelSet → Total → Partial → Partial
+with_run labels total found =
+    if has_error labels then record { errors = found.errors + total.count; totals = found.totals }
+    else record { errors = found.errors; totals = added found.totals labels total }
+
+-- what is a partial of so many lines can grow by so many more
+abbrev pub HasRoom : ℕ → Partial → Type 0
+HasRoom more found = (lines : ℕ) × (lines + more ≤ most_entries) × IsWithin lines found

@@ -1,15 +1,17 @@
 //! Aggregations: what the range of a query's term has at a moment, what it adds up to, and what the query gives.
 //!
-//! `scratch` adds up entries anew, `scratch_all` does so for several terms that read the same lines, `merge` joins what shards added up, and `finish` makes the vector of it. The partial of
-//! one list of entries followed by another is the merge of their partials, and the order of entries does not matter.
+//! A `Counter` counts lines one by one for several terms that read the same lines, `scratch` adds up entries anew, `merge`
+//! joins what shards added up, and `finish` makes the vector of it. The partial of one list of entries followed by another is
+//! the merge of their partials, and the order of entries does not matter.
 //!
-//! - `total`, `totals`: counts and bytes, by label set. `partial`: `Partial`, `merge`. `range`: `scratch` and `scratch_all`. `tally`: what several terms count of the same lines.
+//! - `total`, `totals`: counts and bytes, by label set. `partial`: `Partial`, `merge`. `counter`: `Counter`, by a `tally` for each term. `range`: `scratch`, and what is built of terms.
 //! - `aggregation`: what vector aggregations make of a vector, with `group_labels` and `groups`, and `topk`. `ratio` and `threshold`: ratios of vectors, and what is left of them.
 //! - `outcome`: `Outcome`, `Sample`, `Fraction`. `absence`: what `absent_over_time` gives. `vector`: `finish`.
 #![tactic(auto)]
 
 pub mod absence;
 mod aggregation;
+pub mod counter;
 mod group_labels;
 mod groups;
 pub mod outcome;
@@ -23,9 +25,10 @@ pub mod total;
 pub mod totals;
 pub mod vector;
 
+pub use counter::Counter;
 pub use outcome::{Fraction, Outcome, Sample};
 pub use partial::{Partial, merge};
-pub use range::{scratch, scratch_all};
+pub use range::{pipelines_of, scratch, selector_of};
 pub use total::Total;
 pub use totals::Totals;
 pub use vector::finish;

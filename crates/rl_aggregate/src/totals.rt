@@ -91,7 +91,8 @@ impl Totals {
     // The same with a label set that is owned, which is sought once.
     pub(crate) fn add_owned(&mut self, labels: Labels, total: Total) -> Result<(), AllocError>
         requires { TotalFits (plus (total_at self.old labels) total) }
-        ensures { OnOk result (self.new ≡ added self.old labels total) }
+        ensures ok { OnOk result (self.new ≡ added self.old labels total) }
+        ensures err { OnErr result (self.new ≡ self.old) }
     {
         add_at(&mut self.by_labels, labels, total)
     }
@@ -143,7 +144,8 @@ fn add_at(
     total: Total,
 ) -> Result<(), AllocError>
     requires { TotalFits (plus (unwrap_or (tree.get label_set_cmp by_labels.old labels) no_total) total) }
-    ensures { OnOk result ((q : LabelSet) → tree.get label_set_cmp by_labels.new q ≡ (if is_at (label_set_cmp labels) q then Some (plus (unwrap_or (tree.get label_set_cmp by_labels.old labels) no_total) total) else tree.get label_set_cmp by_labels.old q)) }
+    ensures ok { OnOk result ((q : LabelSet) → tree.get label_set_cmp by_labels.new q ≡ (if is_at (label_set_cmp labels) q then Some (plus (unwrap_or (tree.get label_set_cmp by_labels.old labels) no_total) total) else tree.get label_set_cmp by_labels.old q)) }
+    ensures err { OnErr result (by_labels.new.entries ≡ by_labels.old.entries) }
 {
     let there = by_labels.entry(labels)?.or_insert(NOTHING);
     there.count += total.count;

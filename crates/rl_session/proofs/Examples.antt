@@ -9,6 +9,7 @@ use Rattle.rl_session.specs.Command.{pushes, evaluates}
 use Rattle.rl_session.specs.Engine.{Calls, number_named}
 use Rattle.rl_session.specs.Front.{IsCut}
 use Rattle.rl_session.specs.Names.{refusal_name}
+use Rattle.rl_session.specs.Printed.{pushed_text, asked_text}
 use Rattle.rl_session.specs.PushBody.{entries_of}
 use Rattle.rl_session.specs.PushForms.{EntryForm}
 use Rattle.rl_session.specs.Reading.{Reads, Tells}
@@ -34,6 +35,14 @@ not_told_past_the_longest told = absurd (omega (arith, told.0))
 
 name_of_a_busy_book : refusal_name (refusals.Book books.Busy) ≡ codes "Busy"
 name_of_a_busy_book = refl
+
+pushes_refused_for_a_store : pushed_text (Err refusals.Fault ∷ Err refusals.Damaged ∷ []) ≡ codes "accepted 0 refused 2\n  0 Fault\n  1 Damaged\n"
+unfolding digits
+pushes_refused_for_a_store = refl
+
+refused_by_the_second_shard : asked_text (Err (record { done = 1; refusal = refusals.NumbersSpent })) ≡ codes "partly 1 NumbersSpent\n"
+unfolding digits
+refused_by_the_second_shard = refl
 
 module _ {E : Type 0} (calls : Calls E) where
   push_without_memory : (engine : E) (json : List ℕ) (form : EntryForm) → entries_of json ≡ Ok (form ∷ []) → IsTold calls engine (Some (pushes json)) (codes "accepted 0 refused 1\n  0 Memory\n") Refused engine

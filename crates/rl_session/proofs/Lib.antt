@@ -5,7 +5,7 @@ pub mod Cut
 pub mod Gathering
 pub mod Lines
 mod Printing
-pub mod Standing
+pub mod Following
 pub mod LinesSoFar
 mod Texts
 mod Examples

@@ -1,5 +1,5 @@
 -- Lines that are written one by one.
-use Rattle.std.proofs.Common.{◌≡◌, ℕ, suc, ◌+◌, ◌<◌, List, [], ◌∷◌, ◌++◌, length, take, get_or, replicate, Option, None, Some, Result, sym, ap, subst, ◌∙◌, arith, append_assoc, append-nil, length-take-le}
+use Rattle.std.proofs.Common.{◌≡◌, ℕ, suc, ◌+◌, ◌<◌, List, [], ◌∷◌, ◌++◌, length, take, get_or, replicate, Option, Result, sym, ap, subst, ◌∙◌, arith, append_assoc, append-nil, length-take-le}
 use Rattle.std.specs.Io.KnownBytes.{Appends}
 use Rattle.std.proofs.lemmas.List.{take_more, replicate_more, length-replicate}
 use Rattle.std.proofs.KnownBytes.{Appends-trans}

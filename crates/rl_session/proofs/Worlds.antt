@@ -5,28 +5,18 @@ use Rattle.std.proofs.lemmas.List.{length-map, take_all}
 use Rattle.std.proofs.lemmas.Option.{slice_get-map}
 use Rattle.rl_labels.specs.Name.{is_text}
 use Rattle.rl_rules.specs.declared.rule.Group.{Group}
-use Rattle.rl_shard.specs.ShardState.{journalled}
 use Rattle.rl_sinks.specs.SinkState.{closed}
-use Rattle.rl_world.specs.WorldState.{BookState, WorldBooks, with_sinks_closed, world_of}
+use Rattle.rl_world.specs.WorldState.{BookState, WorldBooks, with_sinks_closed}
 use Rattle.rl_world.specs.declared.fault.Refusal.{Refusal}
 use Rattle.rl_session.specs.Engine.{Listed, number_named}
-use Rattle.rl_session.specs.WorldEngine.{IsEngine, IsGathered, AreGathered, name_at, listed}
+use Rattle.rl_session.specs.WorldEngine.{IsAskedFor, AreAskedFor, IsGathered, AreGathered, name_at, listed}
+use Rattle.rl_session.specs.declared.engine.Partly.{Partly}
+use Rattle.rl_session.specs.declared.engine.ShardsStep.{ShardsStep}
 
 -- books whose sinks were closed are listed as before
 pub closed_listed : (books : List BookState) → map listed (map with_sinks_closed books) ≡ map listed books
 closed_listed [] = refl
 closed_listed (book ∷ books) = λ i. record { name = book.history.group.name; sinks = length-map book.sinks closed i } ∷ closed_listed books i
-
-closed_histories : (books : List BookState) → map (λ (b : BookState). b.history) (map with_sinks_closed books) ≡ map (λ (b : BookState). b.history) books
-closed_histories [] = refl
-closed_histories (book ∷ books) = ap (λ rest. book.history ∷ rest) (closed_histories books)
-
--- and stand for the same lists
-pub closed_engine : (shards : ℕ) (old new : WorldBooks) → new ≡ record { shards = old.shards; books = map with_sinks_closed old.books } → IsEngine shards old → IsEngine shards new
-closed_engine shards old new is engine = subst (IsEngine shards) (sym is) (record {
-  shards_are = engine.shards_are;
-  stands = (engine.stands.0, (λ i. record { shards = map journalled old.shards; histories = closed_histories old.books i }) ∙ engine.stands.1);
-})
 
 -- worlds that are listed alike have the same names
 pub names_alike : (old new : WorldBooks) (group : ℕ) → map listed new.books ≡ map listed old.books → name_at new group ≡ name_at old group
@@ -58,6 +48,26 @@ gathered_stop old group from zero (suc all) at mid new refusal place below gathe
 gathered_stop old group from (suc left) (suc all) at mid new refusal place below (Ok done, first, begins, rest) stops =
     (Ok done, first, begins, gathered_stop first group (suc from) left all at mid new refusal (omega (arith, place)) (omega (arith, below)) rest stops)
 gathered_stop old group from (suc left) (suc all) at mid new refusal place below (Err other, first, begins, rest) stops = absurd (ok_err tt other rest.0)
+
+ok_partly : (partly : Partly) → ◌≡◌ {A = Result ⊤ Partly} (Ok tt) (Err partly) → ⊥
+ok_partly partly h = cc
+
+-- a shard more did a step
+pub asked_more : (old : WorldBooks) (step : ShardsStep) (from left at : ℕ) (mid new : WorldBooks) → at ≡ from + left → AreAskedFor old step from left (Ok tt) mid → IsAskedFor mid step at (Ok tt) new → AreAskedFor old step from (suc left) (Ok tt) new
+asked_more old step from zero at mid new place asked next =
+    (Ok tt, new, subst (λ n. IsAskedFor old step n (Ok tt) new) (omega (arith, place)) (subst (λ world. IsAskedFor world step at (Ok tt) new) asked.1 next), (refl, refl))
+asked_more old step from (suc left) at mid new place (Ok done, first, begins, rest) next =
+    (Ok done, first, begins, asked_more first step (suc from) left at mid new (omega (arith, place)) rest next)
+asked_more old step from (suc left) at mid new place (Err partly, first, begins, rest) next = absurd (ok_partly partly rest.0)
+
+-- a shard that refuses ends it
+pub asked_stop : (old : WorldBooks) (step : ShardsStep) (from left all at : ℕ) (mid new : WorldBooks) (partly : Partly) → at ≡ from + left → left < all → AreAskedFor old step from left (Ok tt) mid → IsAskedFor mid step at (Err partly) new → AreAskedFor old step from all (Err partly) new
+asked_stop old step from left zero at mid new partly place below asked stops = absurd (omega (arith, below))
+asked_stop old step from zero (suc all) at mid new partly place below asked stops =
+    (Err partly, new, subst (λ n. IsAskedFor old step n (Err partly) new) (omega (arith, place)) (subst (λ world. IsAskedFor world step at (Err partly) new) asked.1 stops), (refl, refl))
+asked_stop old step from (suc left) (suc all) at mid new partly place below (Ok done, first, begins, rest) stops =
+    (Ok done, first, begins, asked_stop first step (suc from) left all at mid new partly (omega (arith, place)) (omega (arith, below)) rest stops)
+asked_stop old step from (suc left) (suc all) at mid new partly place below (Err other, first, begins, rest) stops = absurd (ok_partly other rest.0)
 
 none_some : {X : Type 0} (x : X) → None ≡ Some x → ⊥
 none_some x h = cc

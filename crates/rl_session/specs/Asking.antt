@@ -12,6 +12,7 @@ use Rattle.rl_session.specs.Engine.{Calls, Shown, number_named}
 use Rattle.rl_session.specs.PushForms.{EntryForm, entry_form}
 use Rattle.rl_session.specs.declared.edit.EditRefusal.{EditRefusal}
 use Rattle.rl_session.specs.declared.edit.EditRefusal.TheVariants as causes
+use Rattle.rl_session.specs.declared.engine.ShardsStep.{ShardsStep}
 use Rattle.rl_session.specs.declared.push.PushFault.{PushFault}
 use Rattle.rl_session.specs.declared.telling.Got.{Got}
 use Rattle.rl_session.specs.declared.telling.Got.TheVariants as gots
@@ -35,6 +36,11 @@ module _ {E : Type 0} (calls : Calls E) where
   IsForPush old (Ok forms) (gots.Unpushed count) new = (count ≡ length forms) × (new ≡ old)
   IsForPush old (Err fault) (gots.Unread (errors.Fault other)) new = (other ≡ fault) × (new ≡ old)
   IsForPush old read got new = ⊥
+
+  -- each shard is asked for a step
+  abbrev pub IsForAll : E → ShardsStep → Got → E → Type 0
+  IsForAll old step (gots.Asked result) new = calls.asks_all old step result new
+  IsForAll old step got new = ⊥
 
   -- a group is evaluated, and what is answered is of that moment
   abbrev pub EvaluatesAt : E → ℕ → ℕ → Result Committed Refusal → E → Type 0

@@ -10,6 +10,8 @@ use Rattle.rl_session.specs.declared.command.Command.TheVariants as commands
 -- a command, with its texts as bytes and its moment as a number
 pub data Asked : Type 0 where
   pushes : (json : List ℕ) → Asked
+  cuts : Asked
+  flushes : Asked
   edits : (document : List ℕ) → Asked
   evaluates : (t : ℕ) (group : List ℕ) → Asked
   ticks : (now : ℕ) → Asked
@@ -18,6 +20,8 @@ pub data Asked : Type 0 where
 
 abbrev pub asked : Command → Asked
 asked (commands.Push json) = pushes json.now
+asked commands.Cut = cuts
+asked commands.Flush = flushes
 asked (commands.Edit document) = edits document.now
 asked (commands.Eval t group) = evaluates t group.now
 asked (commands.Tick now) = ticks now
@@ -52,7 +56,11 @@ command_of_words words =
 
 -- the command of a line, if it is one
 abbrev pub command_of : List ℕ → Option Asked
-command_of line = if is_text line (codes "end") then Some ends else option_and_then command_of_words (cut_at 32 line)
+command_of line =
+    if is_text line (codes "end") then Some ends
+    else (if is_text line (codes "cut") then Some cuts
+    else (if is_text line (codes "flush") then Some flushes
+    else option_and_then command_of_words (cut_at 32 line)))
 
 -- a space, a tab or a carriage return
 abbrev pub is_blank_byte : ℕ → Bool

@@ -1,5 +1,5 @@
 -- What the document of an edit gives: one group, or why it has not one.
-use Rattle.std.specs.Prelude.{◌≡◌, ℕ, List, [], ◌∷◌, Option, None, Some, Result, Ok, Err, map}
+use Rattle.std.specs.Prelude.{◌≡◌, ℕ, List, [], ◌∷◌, Option, None, Some, Result, Ok, Err}
 use Rattle.rl_plain.specs.declared.refusal.OrMemory.TheVariants as errors
 use Rattle.rl_rules.specs.Answering.{nowhere, cramped_by}
 use Rattle.rl_rules.specs.Document.{groups_of}

@@ -9,6 +9,7 @@ use Rattle.rl_world.specs.declared.step.Committed.{Committed}
 use Rattle.rl_shard.specs.declared.step.ShardReply.{ShardReply}
 use Rattle.rl_session.specs.Names.{push_error_name, push_refusal, refusal_name, edit_refusal_name}
 use Rattle.rl_session.specs.declared.edit.EditRefusal.{EditRefusal}
+use Rattle.rl_session.specs.declared.engine.Partly.{Partly}
 use Rattle.rl_session.specs.Engine.{Shown, kept_text}
 use Rattle.rl_session.specs.declared.telling.Answer.{Answer}
 use Rattle.rl_session.specs.declared.telling.Answer.TheVariants.{Taken, Refused}
@@ -73,6 +74,15 @@ abbrev pub ticked_text : List (Result Committed Refusal) → List ℕ
 ticked_text [] = codes "ok\n"
 ticked_text (result ∷ results) = flat_map evaluated_text (result ∷ results)
 
+-- the line of a step that not every shard did: how many did, and why the next one refused
+abbrev pub partly_line : ℕ → List ℕ → List ℕ
+partly_line done name = codes "partly " ++ decimal done ++ codes " " ++ name ++ codes "\n"
+
+-- what a step of every shard prints
+abbrev pub asked_text : Result ⊤ Partly → List ℕ
+asked_text (Ok done) = codes "ok\n"
+asked_text (Err partly) = partly_line partly.done (refusal_name partly.refusal)
+
 -- what an edit prints
 abbrev pub edited_text : Result ⊤ EditRefusal → List ℕ
 edited_text (Ok done) = codes "ok\n"
@@ -93,6 +103,7 @@ printed gots.Refused = refusal_line (codes "BadCommand")
 printed (gots.Unread error) = bad_push_line (push_error_name error)
 printed (gots.Pushed replies) = pushed_text replies.items
 printed (gots.Unpushed count) = pushed_text (none_pushed count)
+printed (gots.Asked result) = asked_text result
 printed (gots.Edited result) = edited_text result
 printed (gots.Evaluated result) = evaluated_text result
 printed (gots.Ticked results) = ticked_text results.items
@@ -105,6 +116,7 @@ answer_of refused = if refused then Refused else Taken
 abbrev pub answer_to : Got → Answer
 answer_to (gots.Pushed replies) = answer_of (list_any is_refused replies.items)
 answer_to (gots.Unpushed count) = answer_of (nat_lt 0 count)
+answer_to (gots.Asked result) = answer_of (is_err result)
 answer_to (gots.Edited result) = answer_of (is_err result)
 answer_to (gots.Evaluated result) = answer_of (is_err result)
 answer_to (gots.Ticked results) = answer_of (list_any is_err results.items)

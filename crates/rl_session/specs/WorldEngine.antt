@@ -3,13 +3,14 @@ use Rattle.std.specs.Prelude.{◌≡◌, ℕ, zero, suc, ⊤, Bool, false, List,
 use Rattle.rl_labels.specs.declared.entry.Entry.{Entry}
 use Rattle.rl_rules.specs.declared.rule.Group.{Group}
 use Rattle.rl_shard.specs.declared.step.ShardReply.{ShardReply}
-use Rattle.rl_shard.specs.declared.step.ShardStep.TheVariants.{Push}
+use Rattle.rl_shard.specs.declared.step.ShardStep.{ShardStep}
+use Rattle.rl_shard.specs.declared.step.ShardStep.TheVariants as shard_steps
 use Rattle.rl_sinks.specs.SinkState.{SinkState}
 use Rattle.rl_sinks.specs.declared.sink.SinkFault.{SinkFault}
 use Rattle.rl_world.specs.Closed.{BooksClosed}
 use Rattle.rl_world.specs.History.{is_due}
 use Rattle.rl_world.specs.WorldRun.{Turned}
-use Rattle.rl_world.specs.WorldState.{BookState, WorldBooks, StandsForSome, world_of, sink_at, with_sinks_closed}
+use Rattle.rl_world.specs.WorldState.{BookState, WorldBooks, sink_at, with_sinks_closed}
 use Rattle.rl_world.specs.declared.fault.Refusal.{Refusal}
 use Rattle.rl_world.specs.declared.step.Committed.{Committed}
 use Rattle.rl_world.specs.declared.step.Reply.{Reply}
@@ -17,11 +18,9 @@ use Rattle.rl_world.specs.declared.step.Reply.TheVariants as replies
 use Rattle.rl_world.specs.declared.step.Step.{Step}
 use Rattle.rl_world.specs.declared.step.Step.TheVariants as steps
 use Rattle.rl_session.specs.Engine.{Calls, Listed, Shown}
-
--- what holds of every engine: it asks each shard, and some lists may have been shown
-pub record IsEngine (shards : ℕ) (world : WorldBooks) : Type 0 where
-  pub shards_are : shards ≡ length world.shards
-  pub stands : StandsForSome (world_of world.shards world.books)
+use Rattle.rl_session.specs.declared.engine.Partly.{Partly}
+use Rattle.rl_session.specs.declared.engine.ShardsStep.{ShardsStep}
+use Rattle.rl_session.specs.declared.engine.ShardsStep.TheVariants as shards_steps
 
 -- a book as an engine lists it
 abbrev pub listed : BookState → Listed
@@ -41,8 +40,32 @@ name_at world group = option_map (λ book. book.history.group.name) (slice_get w
 
 -- an entry is a step of the first shard
 abbrev pub IsPushed : WorldBooks → Entry → Result ShardReply Refusal → WorldBooks → Type 0
-IsPushed old entry (Ok reply) new = (place : ℕ) × Turned old (steps.Shard 0 (Push entry)) (replies.Decided place reply) new
-IsPushed old entry (Err refusal) new = Turned old (steps.Shard 0 (Push entry)) (replies.Refused refusal) new
+IsPushed old entry (Ok reply) new = (place : ℕ) × Turned old (steps.Shard 0 (shard_steps.Push entry)) (replies.Decided place reply) new
+IsPushed old entry (Err refusal) new = Turned old (steps.Shard 0 (shard_steps.Push entry)) (replies.Refused refusal) new
+
+-- what a step of every shard asks of one
+abbrev pub shard_step : ShardsStep → ShardStep
+shard_step shards_steps.Cut = shard_steps.Cut
+shard_step shards_steps.Flush = shard_steps.Flush
+
+-- a shard is asked for a step; where it refuses, as many did it as have a lower number
+abbrev pub IsAskedFor : WorldBooks → ShardsStep → ℕ → Result ⊤ Partly → WorldBooks → Type 0
+IsAskedFor old step number (Ok done) new = (place : ℕ) × (reply : ShardReply) × Turned old (steps.Shard number (shard_step step)) (replies.Decided place reply) new
+IsAskedFor old step number (Err partly) new = (partly.done ≡ number) × Turned old (steps.Shard number (shard_step step)) (replies.Refused partly.refusal) new
+
+-- behind a step that was refused nothing is done
+abbrev pub IsBehind : {A F : Type 0} → Result ⊤ F → WorldBooks → (Result A F → WorldBooks → Type 0) → Result A F → WorldBooks → Type 0
+IsBehind (Ok done) mid Next answer new = Next answer new
+IsBehind (Err refusal) mid Next answer new = (answer ≡ Err refusal) × (new ≡ mid)
+
+-- so many shards are asked for a step in their order, from one on, up to the first that refuses
+abbrev pub AreAskedFor : WorldBooks → ShardsStep → ℕ → ℕ → Result ⊤ Partly → WorldBooks → Type 0
+AreAskedFor old step number zero answer new = (answer ≡ Ok tt) × (new ≡ old)
+AreAskedFor old step number (suc left) answer new = (first : Result ⊤ Partly) × (mid : WorldBooks) × IsAskedFor old step number first mid × IsBehind first mid (AreAskedFor mid step (suc number) left) answer new
+
+-- all shards are
+abbrev pub IsAskedOfAll : WorldBooks → ShardsStep → Result ⊤ Partly → WorldBooks → Type 0
+IsAskedOfAll old step answer new = AreAskedFor old step 0 (length old.shards) answer new
 
 -- an edit is a step
 abbrev pub IsEdited : WorldBooks → ℕ → Group → Result ⊤ Refusal → WorldBooks → Type 0
@@ -63,11 +86,6 @@ IsGathered old group number (Err refusal) new = Turned old (steps.Gather group n
 abbrev pub IsCommitted : WorldBooks → ℕ → Result Committed Refusal → WorldBooks → Type 0
 IsCommitted old group (Ok committed) new = Turned old (steps.Commit group) (replies.Committed committed) new
 IsCommitted old group (Err refusal) new = Turned old (steps.Commit group) (replies.Refused refusal) new
-
--- behind a step that was refused nothing is done
-abbrev pub IsBehind : {A : Type 0} → Result ⊤ Refusal → WorldBooks → (Result A Refusal → WorldBooks → Type 0) → Result A Refusal → WorldBooks → Type 0
-IsBehind (Ok done) mid Next answer new = Next answer new
-IsBehind (Err refusal) mid Next answer new = (answer ≡ Err refusal) × (new ≡ mid)
 
 -- so many shards are asked in their order, from one on, up to the first refusal
 abbrev pub AreGathered : WorldBooks → ℕ → ℕ → ℕ → Result ⊤ Refusal → WorldBooks → Type 0
@@ -103,6 +121,7 @@ abbrev pub world_calls : {S : Type 0} → (S → SinkState) → (S → Result �
 world_calls state Says = record {
   groups = λ world. map listed world.books;
   pushes = IsPushed;
+  asks_all = IsAskedOfAll;
   edits = IsEdited;
   evaluates = IsEvaluated;
   is_due = λ world group now due. due ≡ is_due_at (slice_get world.books group) now;

@@ -1,11 +1,11 @@
 //! What commands ask of an engine, and what they get.
 ghost use Rattle.std.specs.Prelude.{◌≡◌, ◌+◌, ◌<◌, ◌≤◌, length, IfOk, OnErr, vec_len, vec_capacity};
-ghost use Rattle.rl_session.specs.Asking.{IsForPush, IsForEdit, IsForTick, IsForEvaluation, PushesAll, EvaluatesDue, TakesTurn, PutsGroup};
+ghost use Rattle.rl_session.specs.Asking.{IsForPush, IsForAll, IsForEdit, IsForTick, IsForEvaluation, PushesAll, EvaluatesDue, TakesTurn, PutsGroup};
 ghost use Rattle.rl_session.specs.Engine.{number_named};
 ghost use Rattle.rl_session.specs.PushBody.{entries_of};
 
 use crate::edit::{EditRefusal, read_group};
-use crate::engine::Engine;
+use crate::engine::{Engine, ShardsStep};
 use crate::push::read_push;
 use crate::telling::Got;
 use rl_labels::{Entry, Ns};
@@ -57,6 +57,13 @@ fn share(alloc: Global, entries: Vec<Entry>) -> Result<Vec<Shared<Entry>>, Alloc
         shared.push(Shared::new(alloc, entry)?)?;
     }
     Ok(shared)
+}
+
+/// Asks each shard for a step.
+pub(crate) fn ask_all<E: Engine>(engine: &mut E, step: ShardsStep) -> Got
+    ensures { IsForAll E.calls engine.old step result engine.new }
+{
+    Got::Asked(engine.ask_all(step))
 }
 
 /// Evaluates the group with the name.

@@ -11,6 +11,10 @@ use rl_labels::{Decimal, Ns, number_of};
 pub enum Command<'a> {
     /// To take the entries of a JSON body.
     Push(&'a str),
+    /// To seal the head of each stream as a chunk.
+    Cut,
+    /// To write the sealed chunks to the stores.
+    Flush,
     /// To put the one group of a TOML document in the place of the group with its name.
     Edit(&'a str),
     /// To evaluate a group at a moment.
@@ -29,6 +33,12 @@ pub fn read_command(line: &str) -> Option<Command<'_>>
 {
     if line == "end" {
         return Some(Command::End);
+    }
+    if line == "cut" {
+        return Some(Command::Cut);
+    }
+    if line == "flush" {
+        return Some(Command::Flush);
     }
     let (word, rest) = cut_at(line, ' ')?;
     read_words(word, rest)

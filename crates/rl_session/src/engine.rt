@@ -10,6 +10,24 @@ use rl_world::{Committed, Refusal};
 use std::io;
 use std::io::Write;
 
+/// A step of every shard.
+#[derive(Clone, Copy, Debug)]
+pub enum ShardsStep {
+    /// Seals the heads as chunks.
+    Cut,
+    /// Writes the sealed chunks to the stores.
+    Flush,
+}
+
+/// Why a step was not done by every shard.
+#[derive(Clone, Copy, Debug)]
+pub struct Partly {
+    /// How many shards did it.
+    pub done: u64,
+    /// Why the next one refused.
+    pub refusal: Refusal,
+}
+
 /// Evaluates rule groups over shards: a world on one thread, or many threads behind locks. Groups and their sinks go by their
 /// number, counted from 0. None of them comes or goes, and no group gets another name.
 pub trait Engine: Drop {
@@ -27,6 +45,11 @@ pub trait Engine: Drop {
     /// Hands an entry to its shard.
     fn push(&mut self, entry: Shared<Entry>) -> Result<ShardReply, Refusal>
         ensures answer { calls.pushes self.old entry result self.new }
+        ensures groups { calls.groups self.new ≡ calls.groups self.old };
+
+    /// Asks each shard for a step, in their order, up to the first that refuses.
+    fn ask_all(&mut self, step: ShardsStep) -> Result<(), Partly>
+        ensures answer { calls.asks_all self.old step result self.new }
         ensures groups { calls.groups self.new ≡ calls.groups self.old };
 
     /// Puts a group of the same name in the place of the group at the number.

@@ -118,6 +118,6 @@ fn shard_refusal(reply: &ShardReply) -> Option<&'static str>
         ShardReply::Expired { .. } => Some("Expired"),
         ShardReply::TooFarBehind { .. } => Some("TooFarBehind"),
         ShardReply::Full => Some("Full"),
-        ShardReply::Accepted | ShardReply::Collected(_) => None,
+        ShardReply::Accepted | ShardReply::Done | ShardReply::Collected(_) => None,
     }
 }

@@ -5,9 +5,9 @@ ghost use Rattle.rl_session.specs.Engine.{number_named};
 ghost use Rattle.rl_session.specs.Session.{Tells, TellsLine, TellsText, TellsSession, ShowsTo, is_end, is_refusal, ended_by};
 ghost use Rattle.rl_session.specs.declared.session.RunError.TheVariants.{WriteFault, Memory};
 
-use crate::asking::{edit, eval, push, tick};
+use crate::asking::{ask_all, edit, eval, push, tick};
 use crate::command::{Command, is_blank, read_command};
-use crate::engine::Engine;
+use crate::engine::{Engine, ShardsStep};
 use crate::front::first_line;
 use crate::telling::{Answer, Got, tell, tell_closed};
 use rl_world::Refusal;
@@ -184,6 +184,8 @@ fn obey<E: Engine, W: Write>(
 {
     match command {
         Command::Push(json) => tell(&push(alloc, engine, json), out),
+        Command::Cut => tell(&ask_all(engine, ShardsStep::Cut), out),
+        Command::Flush => tell(&ask_all(engine, ShardsStep::Flush), out),
         Command::Edit(document) => tell(&edit(alloc, engine, document), out),
         Command::Eval { t, group } => tell(&eval(engine, t, group), out),
         Command::Tick { now } => tell(&tick(alloc, engine, now), out),

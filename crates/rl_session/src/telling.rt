@@ -2,9 +2,10 @@
 ghost use Rattle.std.specs.Prelude.{◌≡◌, flat_map, Some, OnOk, IfOk, is_err};
 ghost use Rattle.std.specs.List.{list_any};
 ghost use Rattle.std.specs.Io.KnownBytes.{Appends};
-ghost use Rattle.rl_session.specs.Printed.{refusal_line, bad_push_line, counts_line, entry_line, entry_lines, is_refused, evaluated_text, ticked_text, pushed_text, none_pushed, number_text, behind_line, committed_text, printed, answer_of, answer_to, closed_text, not_closed_line};
+ghost use Rattle.rl_session.specs.Printed.{refusal_line, bad_push_line, counts_line, entry_line, entry_lines, is_refused, evaluated_text, ticked_text, pushed_text, none_pushed, asked_text, partly_line, number_text, behind_line, committed_text, printed, answer_of, answer_to, closed_text, not_closed_line};
 
 use crate::edit::EditRefusal;
+use crate::engine::Partly;
 use crate::names::{edit_refusal_name, push_error_name, push_refusal, refusal_name};
 use crate::push::PushError;
 use rl_shard::ShardReply;
@@ -33,6 +34,8 @@ pub(crate) enum Got {
     Pushed(Vec<Result<ShardReply, Refusal>>),
     // No memory for the answers to so many entries, of which none was handed in.
     Unpushed(usize),
+    // Whether each shard did a step.
+    Asked(Result<(), Partly>),
     // Whether a group was edited.
     Edited(Result<(), EditRefusal>),
     // The evaluation that was committed, or the first refusal.
@@ -48,6 +51,7 @@ fn answer_to(got: &Got) -> Answer
     match got {
         Got::Pushed(answers) => answer_of(has_refused(answers)),
         Got::Unpushed(count) => answer_of(*count > 0),
+        Got::Asked(asked) => answer_of(asked.is_err()),
         Got::Edited(result) => answer_of(result.is_err()),
         Got::Evaluated(result) => answer_of(result.is_err()),
         Got::Ticked(results) => answer_of(has_failed(results)),
@@ -95,6 +99,7 @@ fn print<W: Write>(got: &Got, out: &mut W) -> io::Result<()>
         Got::Unread(error) => refuse_push(out, push_error_name(*error)),
         Got::Pushed(answers) => tell_pushed(answers, out),
         Got::Unpushed(count) => tell_none_pushed(*count, out),
+        Got::Asked(asked) => tell_asked(asked, out),
         Got::Edited(Ok(())) => out.write_all(b"ok\n"),
         Got::Edited(Err(refusal)) => refuse(out, edit_refusal_name(*refusal)),
         Got::Evaluated(result) => tell_evaluated(result, out),
@@ -174,6 +179,22 @@ fn tell_each_refused<W: Write>(count: usize, out: &mut W) -> io::Result<()>
         tell_refusal(number, "Memory", out)?;
     }
     Ok(())
+}
+
+// Tells whether each shard did a step, or how many did and why the next one refused.
+fn tell_asked<W: Write>(asked: &Result<(), Partly>, out: &mut W) -> io::Result<()>
+    ensures { OnOk result (Appends (W.contents out.old) (W.contents out.new) (asked_text asked.now)) }
+{
+    match asked {
+        Ok(()) => out.write_all(b"ok\n"),
+        Err(partly) => tell_partly(partly.done, refusal_name(partly.refusal), out),
+    }
+}
+
+fn tell_partly<W: Write>(done: u64, name: &str, out: &mut W) -> io::Result<()>
+    ensures { OnOk result (Appends (W.contents out.old) (W.contents out.new) (partly_line done name.now)) }
+{
+    writeln!(out, "partly {done} {name}")
 }
 
 // Tells what the groups that were due gave, if some were.

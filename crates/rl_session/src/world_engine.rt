@@ -1,17 +1,18 @@
 //! A world on one thread as an engine: a call is a step, and an evaluation a list of steps.
-ghost use Rattle.std.specs.Prelude.{◌≡◌, ◌≤◌, length, map, replicate, slice_get, option_map, is_some, Some, IsSome, IfOk, IfSome, OnOk, OnErr};
+ghost use Rattle.std.specs.Prelude.{◌≡◌, ◌≤◌, length, map, slice_get, option_map, is_some, Some, IsSome, IfOk, IfSome, OnOk, OnErr};
 ghost use Rattle.std.specs.List.{AllByRecursion, concat};
 ghost use Rattle.std.specs.Io.KnownBytes.{Appends};
-ghost use Rattle.rl_shard.specs.ShardState.{journalled, opened};
+ghost use Rattle.rl_shard.specs.ShardState.{opened_over};
 ghost use Rattle.rl_world.specs.BookCalls.{books_from, IsFresh};
 ghost use Rattle.rl_world.specs.Slots.{most_shards};
 ghost use Rattle.rl_world.specs.WorldRun.{Turned};
 ghost use Rattle.rl_world.specs.declared.step.Reply.TheVariants as replies;
 ghost use Rattle.rl_world.specs.declared.step.Step.TheVariants as steps;
 ghost use Rattle.rl_session.specs.Engine.{number_named, kept_text};
-ghost use Rattle.rl_session.specs.WorldEngine.{Tells, IsAlike, IsBegun, IsGathered, AreGathered, IsCommitted, IsFinished, listed, shown_of, name_at, open_moment};
+ghost use Rattle.rl_session.specs.WorldEngine.{Tells, IsAlike, IsAskedFor, AreAskedFor, shard_step, IsBegun, IsGathered, AreGathered, IsCommitted, IsFinished, listed, shown_of, name_at, open_moment};
 
-use crate::engine::Engine;
+use crate::engine::{Engine, Partly, ShardsStep};
+use rl_chunks::Store;
 use rl_labels::{Entry, Limits, Ns};
 use rl_plain::Shared;
 use rl_rules::Group;
@@ -25,12 +26,13 @@ use std::marker::Model;
 
 /// Shards and books on one thread. Entries go to the first shard, and an evaluation asks each. Contracts see its world.
 #[derive(Drop)]
-pub struct WorldEngine<S: Sink> {
-    world: World<S>,
+pub struct WorldEngine<D: Store, S: Sink> {
+    world: World<D, S>,
     shards: usize,
 }
 
-impl<S: Sink> Model for WorldEngine<S> {
+impl<D: Store, S: Sink> Model for WorldEngine<D, S> {
+    ghost use Rattle.std.specs.Prelude.{◌≡◌, length};
     ghost use Rattle.rl_world.specs.WorldState.{WorldBooks};
 
     ghost Value = { WorldBooks };
@@ -39,33 +41,32 @@ impl<S: Sink> Model for WorldEngine<S> {
     ghost use Rattle.rl_labels.specs.LabelSet.{label_set_code};
     ghost use Rattle.rl_aggregate.specs.contracts.totals.Totals as totals_type;
     ghost use Rattle.rl_query.specs.contracts.label_test.LabelTests as tests_type;
-    ghost use Rattle.rl_shard.specs.contracts.shard.Shard as shard_type;
+    ghost use Rattle.rl_shard.specs.ShardState.{shard_view_code};
 
-    ghost coded = { Prim.hlevel (codes, label_set_code, totals_type.the_row.coded, tests_type.the_row.coded, shard_type.the_row.coded) };
-
-    ghost use Rattle.rl_session.specs.WorldEngine.{IsEngine};
+    ghost coded = { Prim.hlevel (codes, label_set_code, totals_type.the_row.coded, tests_type.the_row.coded, shard_view_code) };
 
     ghost view = { λ a. a.world };
 
-    ghost invariant = { λ a. IsEngine a.shards a.world };
+    ghost invariant = { λ a. a.shards ≡ length a.world.shards };
 }
 
-impl<S: Sink> WorldEngine<S> {
-    /// Empty shards, and a book for each group with its sinks, which have taken nothing.
+impl<D: Store, S: Sink> WorldEngine<D, S> {
+    /// An empty shard over each store, and a book for each group with its sinks, which have taken nothing.
     pub fn open(
         alloc: Global,
         limits: Limits,
-        shards: usize,
+        stores: Vec<D>,
         groups: Vec<Group>,
         sinks: Vec<Vec<S>>,
     ) -> Result<Self, AllocError>
-        requires shards { shards ≤ most_shards }
+        requires shards { length stores.items ≤ most_shards }
         requires lists { length sinks.items ≡ length groups.items }
         requires fresh { AllByRecursion (λ own. AllByRecursion IsFresh (map S.state own.items)) sinks.items }
-        ensures shards { IfOk result (λ world. map journalled world.shards ≡ replicate shards (opened limits)) }
-        ensures books { IfOk result (λ world. world.books ≡ books_from 0 limits.records shards groups.items (map (λ own. map S.state own.items) sinks.items)) }
+        ensures shards { IfOk result (λ world. world.shards ≡ map (λ store. opened_over limits (D.seen store)) stores.items) }
+        ensures books { IfOk result (λ world. world.books ≡ books_from 0 limits.records (length stores.items) groups.items (map (λ own. map S.state own.items) sinks.items)) }
     {
-        let world = World::open(alloc, limits, shards, groups, sinks)?;
+        let shards = stores.len();
+        let world = World::open(alloc, limits, stores, groups, sinks)?;
         Ok(WorldEngine { world, shards })
     }
 
@@ -76,6 +77,32 @@ impl<S: Sink> WorldEngine<S> {
         ensures alike { IsAlike self.old self.new }
     {
         self.world.answer(step)
+    }
+
+    // Asks a shard for a step, behind those that did it.
+    fn ask(&mut self, number: usize, step: ShardsStep) -> Result<(), Partly>
+        ensures made { IsAskedFor self.old step number result self.new }
+        ensures alike { IsAlike self.old self.new }
+    {
+        let step = shard_step(step);
+        let done = number as u64;
+        match self.answer(Step::Shard { number, step }) {
+            Reply::Decided { reply: _reply, .. } => Ok(()),
+            Reply::Refused(refusal) => Err(Partly { done, refusal }),
+            _ => unreachable!(),
+        }
+    }
+
+    // Asks each shard in order.
+    fn ask_each(&mut self, step: ShardsStep) -> Result<(), Partly>
+        ensures made { AreAskedFor self.old step 0 (length self.old.shards) result self.new }
+        ensures alike { IsAlike self.old self.new }
+    {
+        let count = self.shards();
+        for number in 0..count {
+            self.ask(number, step)?;
+        }
+        Ok(())
     }
 
     // Opens an evaluation of the group at the moment.
@@ -163,7 +190,7 @@ impl<S: Sink> WorldEngine<S> {
     }
 }
 
-impl<S: Sink> Engine for WorldEngine<S> {
+impl<D: Store, S: Sink> Engine for WorldEngine<D, S> {
     ghost use Rattle.rl_session.specs.WorldEngine.{world_calls};
 
     ghost calls = { world_calls S.state S.close_answers };
@@ -183,6 +210,10 @@ impl<S: Sink> Engine for WorldEngine<S> {
             Reply::Refused(refusal) => Err(refusal),
             _ => unreachable!(),
         }
+    }
+
+    fn ask_all(&mut self, step: ShardsStep) -> Result<(), Partly> {
+        self.ask_each(step)
     }
 
     fn edit(&mut self, group: usize, to: Group) -> Result<(), Refusal> {
@@ -223,8 +254,18 @@ impl<S: Sink> Engine for WorldEngine<S> {
     }
 }
 
+// What a step of every shard asks of one.
+fn shard_step(step: ShardsStep) -> ShardStep
+    ensures { result ≡ shard_step step }
+{
+    match step {
+        ShardsStep::Cut => ShardStep::Cut,
+        ShardsStep::Flush => ShardStep::Flush,
+    }
+}
+
 // The number of the first group with the name.
-fn group_named<S: Sink>(world: &World<S>, name: &str) -> Option<usize>
+fn group_named<D: Store, S: Sink>(world: &World<D, S>, name: &str) -> Option<usize>
     ensures { result ≡ number_named name.now (map listed world.now.books) }
 {
     for number in 0..world.groups() {

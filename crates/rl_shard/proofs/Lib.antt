@@ -1,4 +1,3 @@
-pub mod Answered
-pub mod InOrder
-pub mod Raising
 mod Examples
+pub mod Terms
+pub mod Counted

@@ -1,4 +1,4 @@
-pub mod Deciding
+pub mod Collecting
 pub mod ShardFault
 pub mod ShardState
 pub mod ShardStep

@@ -1,22 +1,80 @@
--- When a shard may answer each fault.
-use Rattle.std.specs.Prelude.{Bool, true, false, IsTrue}
+-- When a shard may answer each fault, and what its steps leave of its store.
+use Rattle.std.specs.Prelude.{◌≡◌, ◌≤◌, Bool, true, false, IsTrue, Result, Ok, Err}
+use Rattle.rl_chunks.specs.StoreState.{greatest}
+use Rattle.rl_parts.specs.StoreUse.{FaultCame, Grown}
+use Rattle.rl_parts.specs.declared.fault.ReadFault.{ReadFault}
+use Rattle.rl_parts.specs.declared.fault.ReadFault.TheVariants as reads
+use Rattle.rl_parts.specs.declared.fault.FlushFault.{FlushFault}
+use Rattle.rl_parts.specs.declared.fault.FlushFault.TheVariants as flushes
+use Rattle.rl_streams.specs.StreamsState.{StreamsView}
+use Rattle.rl_streams.specs.declared.refusal.AddRefusal.{AddRefusal}
+use Rattle.rl_streams.specs.declared.refusal.AddRefusal.TheVariants as adding
 use Rattle.rl_shard.specs.ShardState.{ShardView, journalled}
 use Rattle.rl_shard.specs.ShardStep.{is_journal_full}
+use Rattle.rl_shard.specs.declared.step.ShardStep.{ShardStep}
+use Rattle.rl_shard.specs.declared.step.ShardStep.TheVariants as steps
+use Rattle.rl_shard.specs.declared.step.ShardReply.{ShardReply}
+use Rattle.rl_shard.specs.declared.step.ShardReply.TheVariants as replies
 use Rattle.rl_shard.specs.declared.step.ShardFault.{ShardFault}
 use Rattle.rl_shard.specs.declared.step.ShardFault.TheVariants as faults
 
--- a fault of the store in which a shard keeps its chunks
-abbrev pub is_store_fault : ShardFault → Bool
-is_store_fault faults.Fault = true
-is_store_fault faults.Damaged = true
-is_store_fault faults.NumbersSpent = true
-is_store_fault other = false
+-- how a shard tells why streams were not read, or not written
+abbrev pub told_of_read : ReadFault → ShardFault
+told_of_read reads.Fault = faults.Fault
+told_of_read reads.Damaged = faults.Damaged
+told_of_read reads.Memory = faults.Memory
+
+abbrev pub told_of_flush : FlushFault → ShardFault
+told_of_flush flushes.Fault = faults.Fault
+told_of_flush flushes.NumbersSpent = faults.NumbersSpent
+told_of_flush flushes.Memory = faults.Memory
+
+-- what becomes of an entry that streams refused
+abbrev pub refused : AddRefusal → Result ShardReply ShardFault
+refused (adding.Expired horizon) = Ok (replies.Expired horizon)
+refused (adding.TooFarBehind newest) = Ok (replies.TooFarBehind newest)
+refused adding.Full = Ok replies.Full
+refused (adding.Read fault) = Err (told_of_read fault)
+
+-- whether a step may meet a fault: one that reads meets the store's and damage, one that writes meets the store's and that the
+-- numbers are spent, and each meets a full journal and want of memory
+abbrev pub may_meet : ShardStep → ShardFault → Bool
+may_meet step faults.JournalFull = true
+may_meet step faults.Memory = true
+may_meet (steps.Push entry) faults.Fault = true
+may_meet (steps.Push entry) faults.Damaged = true
+may_meet steps.Flush faults.Fault = true
+may_meet steps.Flush faults.NumbersSpent = true
+may_meet (steps.Collect slot terms t) faults.Fault = true
+may_meet (steps.Collect slot terms t) faults.Damaged = true
+may_meet step other = false
+
+-- the store of a shard is honest
+abbrev pub IsHonest : ShardView → Type 0
+IsHonest shard = shard.streams.seen.honest ≡ true
+
+-- the store's fault was counted meanwhile; damage is met over a store that is not honest; the numbers are spent where only
+-- the greatest is left
+abbrev pub HasCause : StreamsView → ShardFault → StreamsView → Type 0
+HasCause old faults.JournalFull new = Unit {0}
+HasCause old faults.Fault new = FaultCame old.seen.faults new.seen.faults
+HasCause old faults.Damaged new = old.seen.honest ≡ false
+HasCause old faults.NumbersSpent new = new.next ≡ greatest
+HasCause old faults.Memory new = Unit {0}
 
 -- a step that met the first view and left the second may have been refused so: for its journal exactly where that is full,
--- for memory at any time; of a store nothing is known, since a view has none
-abbrev pub MayCome : ShardView → ShardFault → ShardView → Type 0
-MayCome old faults.JournalFull new = IsTrue (is_journal_full (journalled old))
-MayCome old faults.Fault new = Unit {0}
-MayCome old faults.Damaged new = Unit {0}
-MayCome old faults.NumbersSpent new = Unit {0}
-MayCome old faults.Memory new = Unit {0}
+-- for memory at any time, and for its store with a cause
+abbrev pub MayCome : ShardView → ShardStep → ShardFault → ShardView → Type 0
+MayCome old step fault new = IsTrue (may_meet step fault) × (fault ≡ faults.JournalFull → IsTrue (is_journal_full (journalled old))) × HasCause old.streams fault new.streams
+
+-- what is decided was done: a cut leaves no head, a flush no sealed part that the store does not have
+abbrev pub IsDone : ShardStep → StreamsView → Type 0
+IsDone steps.Cut new = new.loose ≡ 0
+IsDone steps.Flush new = new.unwritten ≡ 0
+IsDone step new = Unit {0}
+
+-- what any step leaves of the store: it is as honest as it was, faults and numbers never go down, and what stood below the next
+-- number still stands
+pub record Stored (old new : StreamsView) : Type 0 where
+  pub grown : Grown old.seen old.next new.seen
+  pub next : old.next ≤ new.next

@@ -1,16 +1,17 @@
-//! One shard: the entries that it holds, and a journal place for each step that it decided.
+//! One shard: its streams over a store, and a journal place for each step that it decided.
 //!
 //! `Shard::apply` answers a step exactly as the definition of the shard step says, and leaves exactly the state that it
-//! says. A step that is refused for a fault changes nothing.
+//! says, where its store is honest. A step that is refused for a fault changes nothing of what is held, over any store.
 //!
-//! - `step`: `ShardStep`, `ShardReply`, `ShardFault`. `shard`: `Shard`. `streams`: what it holds. `collecting`: what it shows of the ranges of terms.
+//! - `step`: `ShardStep`, `ShardReply`, `ShardFault`. `shard`: `Shard`. `deciding`: what becomes of each step. `collecting`, with
+//!   `lines`: what it shows of the ranges of terms.
 #![tactic(auto)]
 
 mod collecting;
-mod decision;
+mod deciding;
+mod lines;
 pub mod shard;
 pub mod step;
-mod streams;
 
 pub use shard::Shard;
 pub use step::{ShardFault, ShardReply, ShardStep};

@@ -1,66 +1,75 @@
 //! A shard, by its steps.
-ghost use Rattle.std.specs.Prelude.{◌≡◌, IsTrue, Err, false, IfOk, IfErr, OnOk, OnErr};
+ghost use Rattle.std.specs.Prelude.{◌≡◌, ◌+◌, ◌≤◌, IsTrue, Err, length, IfOk, IfErr, OnOk, OnErr};
 
-use crate::collecting::collect;
-use crate::decision::Decision;
+use crate::collecting::show_few;
+use crate::deciding::decide;
 use crate::step::{ShardFault, ShardReply, ShardStep};
-use crate::streams::{decide, hold};
-use rl_aggregate::Partial;
-use rl_labels::{Entry, Labels, Limits, Ns};
-use rl_plain::{PlainList, Shared};
-use rl_query::Term;
-use std::alloc::{AllocError, Global};
-use std::collections::BTreeMap;
+use rl_chunks::Store;
+use rl_labels::{Limits, Ns};
+use rl_streams::Streams;
+use std::alloc::Global;
 use std::marker::Model;
 
-/// One shard. Contracts see a `ShardView`; worlds speak of the part of it that is `journalled`.
+/// One shard. Contracts see a `ShardView`; worlds speak of the part of it that is `journalled`, and of its store.
 #[derive(Drop)]
-pub struct Shard {
-    limits: Limits,
-    // By label text, timestamp and line.
-    held: Vec<Shared<Entry>>,
-    newest: BTreeMap<Labels, Ns>,
-    // None until entries are first removed for their age.
-    horizon: Option<Ns>,
+pub struct Shard<S: Store> {
+    alloc: Global,
+    streams: Streams<S>,
+    // An entry below it is expired.
+    horizon: Ns,
     records: u64,
 }
 
-impl Model for Shard {
-    ghost use Rattle.std.specs.Prelude.{◌≤◌, length};
-    ghost use Rattle.std.specs.List.Sorted.{IsStrictlySortedBy};
-    ghost use Rattle.rl_labels.specs.EntryOrder.{entry_cmp};
-    ghost use Rattle.rl_shard.specs.ShardState.{ShardView, state_of, shard_view_code};
+impl<S: Store> Model for Shard<S> {
+    ghost use Rattle.std.specs.Prelude.{◌≤◌};
+    ghost use Rattle.rl_shard.specs.ShardState.{ShardView, shard_view_code};
 
     ghost Value = { ShardView };
 
     ghost coded = { shard_view_code };
 
-    ghost view = { λ a. record { limits = a.limits; state = state_of a.held.items a.newest.entries a.horizon; records = a.records } };
+    ghost view = { λ a. record { streams = a.streams; horizon = a.horizon; records = a.records } };
 
-    ghost invariant = { λ a. (IsStrictlySortedBy entry_cmp a.held.items) × ((length a.held.items ≤ a.limits.entries) × (a.records ≤ a.limits.records)) };
+    ghost use Rattle.rl_chunks.specs.StoreState.{greatest};
+
+    ghost invariant = { λ a. (a.records ≤ a.streams.limits.records) × (a.streams.next ≤ greatest) };
 }
 
-impl Shard {
-    ghost use Rattle.rl_shard.specs.ShardFault.{is_store_fault, MayCome};
-    ghost use Rattle.rl_shard.specs.ShardState.{journalled, opened};
-    ghost use Rattle.rl_shard.specs.ShardStep.{push_reply, after_push, step_reply, recorded, is_journal_full};
-    ghost use Rattle.rl_shard.specs.declared.step.ShardFault.TheVariants as faults;
-    ghost use Rattle.rl_shard.specs.declared.step.ShardReply.TheVariants as replies;
-    ghost use Rattle.rl_shard.specs.ShardState.{visible};
-    ghost use Rattle.rl_aggregate.specs.Partials.{partial};
-    ghost use Rattle.std.specs.Prelude.{map as map_list, length, ◌≤◌};
+// The first moment.
+fn first_moment() -> Ns
+    ensures { result ≡ 0 }
+{
+    match Ns::new(0) {
+        Some(moment) => moment,
+        None => unreachable!(),
+    }
+}
 
-    /// A shard that holds nothing, with an empty journal.
-    pub fn open(alloc: Global, limits: Limits) -> Self
-        ensures { journalled result ≡ opened limits }
+impl<S: Store> Shard<S> {
+    ghost use Rattle.rl_chunks.specs.StoreState.{greatest};
+    ghost use Rattle.rl_shard.specs.Collecting.{AreRead};
+    ghost use Rattle.rl_shard.specs.ShardFault.{IsDone, IsHonest, MayCome, Stored};
+    ghost use Rattle.rl_shard.specs.ShardState.{journalled, opened_over, visible};
+    ghost use Rattle.rl_shard.specs.ShardStep.{step_reply, recorded, is_journal_full, IsAnswered};
+    ghost use Rattle.rl_shard.specs.declared.step.ShardFault.TheVariants as faults;
+
+    /// A shard over a store that holds nothing, with an empty journal.
+    pub fn open(alloc: Global, store: S, limits: Limits) -> Self
+        ensures { result ≡ opened_over limits (S.seen store) }
     {
         Shard {
-            limits,
-            held: Vec::new(alloc),
-            newest: BTreeMap::new(alloc),
-            horizon: None,
+            alloc,
+            streams: Streams::new(alloc, store, limits),
+            horizon: first_moment(),
             records: 0,
         }
+    }
+
+    /// The store.
+    pub fn store(&self) -> &S
+        ensures { S.seen result.now ≡ self.now.streams.seen }
+    {
+        self.streams.store()
     }
 
     /// How many records the journal has.
@@ -74,69 +83,37 @@ impl Shard {
     pub fn is_journal_full(&self) -> bool
         ensures { result ≡ is_journal_full (journalled self.now) }
     {
-        self.records >= self.limits.records
+        self.records >= self.streams.limits().records
     }
 
     /// Decides a step, and answers its place in the journal, counted from 0, with the reply. JournalFull comes before
-    /// all else, and only memory can be refused besides. A step that is refused makes no record, and changes nothing.
+    /// all else. A step that is refused makes no record and changes nothing of what is held; parts that were written before a
+    /// fault stay in the store.
     pub fn apply(&mut self, step: ShardStep) -> Result<(u64, ShardReply), ShardFault>
-        ensures journal_full { IsTrue (is_journal_full (journalled self.old)) → result ≡ Err faults.JournalFull }
-        ensures may_come { IfErr result (λ fault. MayCome self.old fault self.new) }
-        ensures no_store { IfErr result (λ fault. is_store_fault fault ≡ false) }
-        ensures decided { IfOk result (λ answer. (answer.0 ≡ (journalled self.old).records) × (answer.1 ≡ step_reply (journalled self.old).limits (journalled self.old).state step)) }
-        ensures changed { OnOk result (journalled self.new ≡ recorded (journalled self.old) step) }
+        ensures journal_full { IsTrue (is_journal_full (journalled self.old)) → (result ≡ Err faults.JournalFull) × (self.new ≡ self.old) }
+        ensures may_come { IfErr result (λ fault. MayCome self.old step fault self.new) }
         ensures kept { OnErr result (journalled self.new ≡ journalled self.old) }
-        ensures same { OnErr result (self.new ≡ self.old) }
+        ensures stored { Stored self.old.streams self.new.streams }
+        ensures numbers { self.new.streams.next ≤ greatest }
+        // Over any store.
+        ensures place { IfOk result (λ answer. answer.0 ≡ (journalled self.old).records) }
+        ensures record { OnOk result (((journalled self.new).limits ≡ (journalled self.old).limits) × ((journalled self.new).records ≡ (journalled self.old).records + 1)) }
+        ensures answered { IfOk result (λ answer. IsAnswered (journalled self.old).limits (journalled self.old).state step answer.1 (journalled self.new).state) }
+        ensures done { OnOk result (IsDone step self.new.streams) }
+        // What is read of a chunk is told by bytes with the digest that was kept.
+        ensures read { IfOk result (λ answer. AreRead self.old.streams step answer.1) }
+        // Over an honest store.
+        ensures decided { IsHonest self.old → IfOk result (λ answer. answer.1 ≡ step_reply (journalled self.old).limits (journalled self.old).state step) }
+        ensures changed { IsHonest self.old → OnOk result (journalled self.new ≡ recorded (journalled self.old) step) }
         ensures few { length (visible (journalled self.old).state) ≤ (journalled self.old).limits.entries }
     {
+        show_few(&self.streams);
         if self.is_journal_full() {
             return Err(ShardFault::JournalFull);
         }
-        let reply = match step {
-            ShardStep::Push(entry) => self.push(entry)?,
-            ShardStep::Collect { slot: _, terms, t } => ShardReply::Collected(self.show(
-                &terms, t,
-            )?),
-        };
+        let reply = decide(self.alloc, &mut self.streams, self.horizon, step)?;
         let place = self.records;
         self.records += 1;
         Ok((place, reply))
-    }
-
-    // Takes an entry, or says why not.
-    fn push(&mut self, entry: Shared<Entry>) -> Result<ShardReply, AllocError>
-        ensures reply { IfOk result (λ reply. reply ≡ push_reply (journalled self.old).limits (journalled self.old).state entry) }
-        ensures state { OnOk result (journalled self.new ≡ after_push (journalled self.old) entry) }
-        ensures err { OnErr result (self.new ≡ self.old) }
-    {
-        match decide(
-            &self.limits,
-            &self.held,
-            &self.newest,
-            self.horizon,
-            entry.get(),
-        ) {
-            Decision::Answer(reply) => Ok(reply),
-            Decision::Hold(place) => {
-                hold(&mut self.held, &mut self.newest, entry, place)?;
-                Ok(ShardReply::Accepted)
-            }
-        }
-    }
-
-    // What the shard shows of each term's range.
-    fn show(
-        &self,
-        terms: &Shared<PlainList<Term>>,
-        t: Ns,
-    ) -> Result<PlainList<Shared<Partial>>, AllocError>
-        ensures { IfOk result (λ partials. partials ≡ map_list (λ term. partial (visible (journalled self.now).state) term t) terms.now) }
-    {
-        collect(
-            *self.held.allocator(),
-            &self.held,
-            terms.get().as_slice(),
-            t,
-        )
     }
 }

@@ -1,9 +1,13 @@
 //! What a shard can be asked, and what it answers.
 ghost use Rattle.std.specs.Prelude.{◌≡◌};
+ghost use Rattle.rl_parts.specs.declared.fault.ReadFault.{ReadFault};
+ghost use Rattle.rl_parts.specs.declared.fault.FlushFault.{FlushFault};
+ghost use Rattle.rl_shard.specs.ShardFault.{told_of_flush, told_of_read};
 ghost use Rattle.rl_shard.specs.declared.step.ShardFault.TheVariants.{Memory};
 
 use rl_aggregate::Partial;
 use rl_labels::{Entry, Ns};
+use rl_parts::{FlushFault, ReadFault};
 use rl_plain::{PlainList, Same, Shared, TryCopy};
 use rl_query::Term;
 use std::alloc::{AllocError, AllocFailed};
@@ -14,6 +18,10 @@ use thiserror::Error;
 pub enum ShardStep {
     /// Takes a log entry, which the shard holds as it is.
     Push(Shared<Entry>),
+    /// Seals the head of each stream as a chunk.
+    Cut,
+    /// Writes the sealed chunks to the store, and lets their lines go.
+    Flush,
     /// Answers what each term's range has at the moment.
     Collect {
         /// The number of the group that asks.
@@ -29,6 +37,8 @@ pub enum ShardStep {
 pub enum ShardReply {
     /// The entry is held, whether it was held before or not.
     Accepted,
+    /// All was done that the step asks for.
+    Done,
     /// The entry is older than the horizon.
     Expired { horizon: Ns },
     /// The entry is older than the newest of its stream by more than half of the age of a chunk.
@@ -39,7 +49,7 @@ pub enum ShardReply {
     Collected(PlainList<Shared<Partial>>),
 }
 
-/// Why a step was not decided. It made no record. No shard has a store yet, so the faults of one do not come.
+/// Why a step was not decided. It made no record.
 #[derive(Clone, Copy, Debug, Drop, Error)]
 pub enum ShardFault {
     #[error("the journal has as many records as it may have")]
@@ -59,6 +69,8 @@ impl TryCopy for ShardStep {
     fn try_copy(&self) -> Result<Self, AllocError> {
         match self {
             ShardStep::Push(entry) => Ok(ShardStep::Push(entry.try_copy()?)),
+            ShardStep::Cut => Ok(ShardStep::Cut),
+            ShardStep::Flush => Ok(ShardStep::Flush),
             ShardStep::Collect { slot, terms, t } => Ok(ShardStep::Collect {
                 slot: *slot,
                 terms: terms.try_copy()?,
@@ -72,6 +84,8 @@ impl Same for ShardStep {
     fn is_same(&self, other: &Self) -> bool {
         match (self, other) {
             (ShardStep::Push(left), ShardStep::Push(right)) => left.is_same(right),
+            (ShardStep::Cut, ShardStep::Cut) => true,
+            (ShardStep::Flush, ShardStep::Flush) => true,
             (
                 ShardStep::Collect { slot, terms, t },
                 ShardStep::Collect {
@@ -90,6 +104,7 @@ impl TryCopy for ShardReply {
     fn try_copy(&self) -> Result<Self, AllocError> {
         match self {
             ShardReply::Accepted => Ok(ShardReply::Accepted),
+            ShardReply::Done => Ok(ShardReply::Done),
             ShardReply::Expired { horizon } => Ok(ShardReply::Expired { horizon: *horizon }),
             ShardReply::TooFarBehind { newest } => {
                 Ok(ShardReply::TooFarBehind { newest: *newest })
@@ -104,6 +119,7 @@ impl Same for ShardReply {
     fn is_same(&self, other: &Self) -> bool {
         match (self, other) {
             (ShardReply::Accepted, ShardReply::Accepted) => true,
+            (ShardReply::Done, ShardReply::Done) => true,
             (ShardReply::Full, ShardReply::Full) => true,
             (ShardReply::Expired { horizon }, ShardReply::Expired { horizon: other }) => {
                 horizon.is_same(other)
@@ -130,5 +146,29 @@ impl<T: Drop> From<AllocFailed<T>> for ShardFault {
 
     fn from(_error: AllocFailed<T>) -> Self {
         ShardFault::Memory
+    }
+}
+
+impl From<ReadFault> for ShardFault {
+    ghost from_gives = { λ fault e. e ≡ told_of_read fault };
+
+    fn from(fault: ReadFault) -> Self {
+        match fault {
+            ReadFault::Fault => ShardFault::Fault,
+            ReadFault::Damaged => ShardFault::Damaged,
+            ReadFault::Memory => ShardFault::Memory,
+        }
+    }
+}
+
+impl From<FlushFault> for ShardFault {
+    ghost from_gives = { λ fault e. e ≡ told_of_flush fault };
+
+    fn from(fault: FlushFault) -> Self {
+        match fault {
+            FlushFault::Fault => ShardFault::Fault,
+            FlushFault::NumbersSpent => ShardFault::NumbersSpent,
+            FlushFault::Memory => ShardFault::Memory,
+        }
     }
 }

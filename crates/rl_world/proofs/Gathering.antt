@@ -1,12 +1,14 @@
 -- What a gather makes of a world.
-use Rattle.std.proofs.Common.{◌≡◌, inl, inr, ℕ, true, false, cond, List, map, length, Option, None, Some, Result, Ok, Err, OnOk, OnErr, option_map, slice_get, slice_set, refl, sym, ap, subst, ◌∙◌}
+use Rattle.std.proofs.Common.{◌≡◌, inl, inr, ℕ, ◌≤◌, true, false, cond, List, map, length, Option, None, Some, Result, Ok, Err, OnOk, OnErr, option_map, slice_get, slice_set, refl, sym, ap, subst, ◌∙◌}
 use Rattle.std.specs.List.{AllByRecursion}
 use Rattle.std.proofs.lemmas.List.{map-set, length-set}
 use Rattle.rl_aggregate.specs.declared.partial.Partial.{Partial}
 use Rattle.rl_query.specs.declared.query.Term.{Term}
-use Rattle.rl_shard.specs.ShardFault.{MayCome}
+use Rattle.rl_chunks.specs.StoreState.{greatest}
+use Rattle.rl_shard.specs.ShardFault.{MayCome, Stored}
 use Rattle.rl_shard.specs.ShardState.{ShardView, journalled, visible}
 use Rattle.rl_shard.specs.ShardStep.{recorded, is_journal_full}
+use Rattle.rl_shard.specs.declared.step.ShardReply.{ShardReply}
 use Rattle.rl_shard.specs.declared.step.ShardStep.TheVariants as shard_steps
 use Rattle.rl_shard.specs.declared.step.ShardFault.{ShardFault}
 use Rattle.rl_shard.specs.declared.step.ShardFault.TheVariants as shard_faults
@@ -14,15 +16,17 @@ use Rattle.rl_world.specs.BookCalls.{with_history}
 use Rattle.rl_world.specs.Evaluating.{group_terms}
 use Rattle.rl_world.specs.Kept.{partials_of}
 use Rattle.rl_world.specs.History.{gather_fault, gathered}
+use Rattle.rl_world.specs.ShardsTurn.{Decides, ShardsTurn}
+use Rattle.rl_world.specs.WorldRun.{IsShown}
 use Rattle.rl_world.specs.WorldState.{BookState, IsBookOf, world_of}
-use Rattle.rl_world.specs.WorldStep.{WorldStep, MayRefuse, partials, known, or_else, journal_refusal, refusal_of, told_of_shard}
+use Rattle.rl_world.specs.WorldStep.{WorldStep, IsRefused, MayRefuse, partials, known, or_else, journal_refusal, refusal_of, told_of_shard}
 use Rattle.rl_world.specs.declared.fault.BookFault.{BookFault}
 use Rattle.rl_world.specs.declared.fault.Refusal.{Refusal}
 use Rattle.rl_world.specs.declared.fault.Refusal.TheVariants as refusals
 use Rattle.rl_world.specs.declared.opened.OpenEvaluation.{OpenEvaluation}
 use Rattle.rl_world.specs.declared.step.Step.TheVariants as steps
 use Rattle.rl_world.specs.declared.step.Reply.TheVariants as replies
-use Rattle.rl_world.proofs.Turning.{each_set, history_at, not_true, shard_at, shard_kept}
+use Rattle.rl_world.proofs.Turning.{each_set, history_at, shard_at, shard_kept}
 
 -- the evaluation that is open, by its moment
 record OpenAt {X : Type 0} (slot : Option (OpenEvaluation X)) (t : ℕ) : Type 0 where
@@ -35,9 +39,6 @@ some_is a b h = cc
 
 none_some : {X : Type 0} (x : X) → None ≡ Some x → ⊥
 none_some x h = cc
-
-ok_err : {A E : Type 0} (x : A) (e : E) → Ok x ≡ Err e → ⊥
-ok_err x e h = cc
 
 open_at : {X : Type 0} (slot : Option (OpenEvaluation X)) (t : ℕ) → option_map (λ (o : OpenEvaluation X). o.t) slot ≡ Some t → OpenAt slot t
 open_at None t h = absurd (none_some t h)
@@ -76,28 +77,59 @@ module _ (shards : List ShardView) (books : List BookState) (group number : ℕ)
   gather_free free room = asked_free free ∙ ap (λ b. cond b (Some refusals.JournalFull) None) room
 
   -- the shard refused
-  pub gather_refused : (after : ShardView) (fault : ShardFault) (refusal : Refusal) → gather_fault book.history number ≡ None → is_journal_full (journalled shard) ≡ false → MayCome shard fault after → journalled after ≡ journalled shard → refusal ≡ told_of_shard fault
-      → WorldStep partials (world_of shards books) (steps.Gather group number) (replies.Refused refusal) (world_of (slice_set shards number after) books)
-  gather_refused after fault refusal free room came kept refusal_is = (
+  pub gather_refused : (after : ShardView) (slot t : ℕ) (terms : List Term) (fault : ShardFault) (refusal : Refusal) → gather_fault book.history number ≡ None → is_journal_full (journalled shard) ≡ false → MayCome shard (shard_steps.Collect slot terms t) fault after
+      → journalled after ≡ journalled shard → refusal ≡ told_of_shard fault → IsRefused (world_of shards books) (steps.Gather group number) refusal (world_of (slice_set shards number after) books)
+  gather_refused after slot t terms fault refusal free room came kept refusal_is = (
     subst (λ r. MayRefuse (world_of shards books) (steps.Gather group number) r) (sym refusal_is) (may fault came),
     shard_kept shards books number shard after shard_there kept,
   )
     where
-      may : (fault : ShardFault) → MayCome shard fault after → MayRefuse (world_of shards books) (steps.Gather group number) (told_of_shard fault)
-      may shard_faults.JournalFull full = inl (gather_full free full)
+      may : (fault : ShardFault) → MayCome shard (shard_steps.Collect slot terms t) fault after → MayRefuse (world_of shards books) (steps.Gather group number) (told_of_shard fault)
+      may shard_faults.JournalFull came = inl (gather_full free (came.1 refl))
       may shard_faults.Fault came = inr (gather_free free room, refl)
       may shard_faults.Damaged came = inr (gather_free free room, refl)
       may shard_faults.NumbersSpent came = inr (gather_free free room, refl)
       may shard_faults.Memory came = inr (gather_free free room, refl)
 
+  -- what became of the shards
+  pub stores_gathered : (after : ShardView) (t place : ℕ) (terms : List Term) (reply : ShardReply) → Stored shard.streams after.streams → after.streams.next ≤ greatest → Decides place (shard_steps.Collect group terms t) reply shard after
+      → ShardsTurn shards (steps.Gather group number) (replies.Gathered place) (slice_set shards number after)
+  stores_gathered after t place terms reply stored numbers decides = record {
+    before = shard;
+    there = shard_there;
+    after = after;
+    now = refl;
+    stored = stored;
+    numbers = numbers;
+    as_said = record { terms = terms; t = t; reply = reply; decides = decides };
+  }
+
+  pub stores_not_gathered : (after : ShardView) (t : ℕ) (terms : List Term) (fault : ShardFault) (refusal : Refusal) → Stored shard.streams after.streams → after.streams.next ≤ greatest → MayCome shard (shard_steps.Collect group terms t) fault after
+      → journalled after ≡ journalled shard → refusal ≡ told_of_shard fault → ShardsTurn shards (steps.Gather group number) (replies.Refused refusal) (slice_set shards number after)
+  stores_not_gathered after t terms fault refusal stored numbers came kept told = inr (record {
+    before = shard;
+    there = shard_there;
+    after = after;
+    now = refl;
+    stored = stored;
+    numbers = numbers;
+    as_said = record { terms = terms; t = t; faults = record { kept = kept; fault = fault; told = told; cause = came } };
+  })
+
+  -- what became of the book
+  pub book_shown : (after : BookState) (t place : ℕ) (shown : List Partial) → option_map (λ (o : OpenEvaluation (List Partial)). o.t) book.history.opened ≡ Some t → after ≡ with_history book (gathered book.history number place shown) → IsShown books group number place (slice_set books group after)
+  book_shown after t place shown moment after_is =
+      let here = open_at book.history.opened t moment in
+      record { before = book; there = there; opened = here.opened; open_is = here.is; shown = shown; now = ap (slice_set books group) after_is }
+
   -- the shard showed what it has, and the book keeps the partials
   pub gather_turn : (after_shard : ShardView) (after : BookState) (slot t place : ℕ) (terms : List Term) (shown : List Partial) → gather_fault book.history number ≡ None → option_map (λ (o : OpenEvaluation (List Partial)). o.t) book.history.opened ≡ Some t → terms ≡ group_terms book.history.group
-      → (is_journal_full (journalled shard) ≡ true → ◌≡◌ {A = Result (ℕ × List Partial) ShardFault} (Ok (place, shown)) (Err shard_faults.JournalFull)) → place ≡ (journalled shard).records → shown ≡ partials_of (visible (journalled shard).state) terms t
+      → is_journal_full (journalled shard) ≡ false → place ≡ (journalled shard).records → shown ≡ partials_of (visible (journalled shard).state) terms t
       → journalled after_shard ≡ recorded (journalled shard) (shard_steps.Collect slot terms t) → after ≡ with_history book (gathered book.history number place shown)
       → WorldStep partials (world_of shards books) (steps.Gather group number) (replies.Gathered place) (world_of (slice_set shards number after_shard) (slice_set books group after))
-  gather_turn after_shard after slot t place terms shown free moment terms_is full place_is shown_is after_shard_is after_is =
+  gather_turn after_shard after slot t place terms shown free moment terms_is room place_is shown_is after_shard_is after_is =
       let here = open_at book.history.opened t moment in (
-        asked_free free ∙ ap (λ b. cond b (Some refusals.JournalFull) None) (not_true (is_journal_full (journalled shard)) (λ h. ok_err (place, shown) shard_faults.JournalFull (full h))),
+        gather_free free room,
         record {
           history = book.history;
           there = history_at shards books group book there;

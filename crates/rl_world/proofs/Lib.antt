@@ -1,3 +1,5 @@
+pub mod Crossing
+pub mod Answering
 pub mod Closing
 pub mod Committing
 pub mod Counting

@@ -8,13 +8,13 @@ use Rattle.std.proofs.lemmas.List.Elements.{All-from_recursion}
 use Rattle.rl_labels.specs.LabelText.{label_set_cmp}
 use Rattle.rl_aggregate.specs.laws.Sums.{len-both_totals, counts-both_totals, bytes-both_totals, sum_of-empty, total_at-sum_of}
 use Rattle.rl_aggregate.specs.laws.Totals.{same_totals, get-both_totals}
-use Rattle.rl_aggregate.specs.Limited.{IsLimited}
+use Rattle.rl_aggregate.specs.Limited.{IsLimited, IsWithin}
 use Rattle.rl_aggregate.specs.Partials.{both_totals, merge, most_entries, Fits}
 use Rattle.rl_aggregate.specs.TotalsMap.{no_total, plus, total_at}
 use Rattle.rl_aggregate.specs.declared.total.Total.{Total}
 use Rattle.rl_aggregate.specs.declared.partial.Partial.{Partial}
 use Rattle.rl_world.specs.Kept.{no_partial, merged_from, merged_terms}
-use Rattle.rl_world.specs.Slots.{IsWithin, IsKept, HasTerm, most_in_shard, most_shards}
+use Rattle.rl_world.specs.Slots.{IsKept, HasTerm, most_in_shard, most_shards}
 use Rattle.rl_world.specs.declared.opened.Gathered.{Gathered}
 
 -- what is merged into no partial is itself

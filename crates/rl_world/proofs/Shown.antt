@@ -1,36 +1,46 @@
 -- What a shard shows is within what one shard may hold.
-use Rattle.std.proofs.Common.{◌≡◌, ℕ, ◌≤◌, List, [], ◌∷◌, length, sym, subst, ◌∙◌, arith}
+use Rattle.std.proofs.Common.{◌≡◌, ℕ, ◌≤◌, List, [], ◌∷◌, length, refl, subst}
 use Rattle.std.specs.List.{AllByRecursion}
-use Rattle.std.proofs.lemmas.List.{length-map}
-use Rattle.rl_labels.specs.declared.entry.Entry.{Entry}
-use Rattle.rl_query.specs.declared.query.Term.{Term}
-use Rattle.rl_aggregate.specs.laws.Sums.{len-partial, counts-partial, bytes-partial}
-use Rattle.rl_aggregate.specs.Partials.{partial}
+use Rattle.rl_aggregate.specs.Limited.{IsWithin}
 use Rattle.rl_aggregate.specs.declared.partial.Partial.{Partial}
+use Rattle.rl_labels.specs.declared.limits.Limits.{Limits}
+use Rattle.rl_query.specs.declared.query.Term.{Term}
+use Rattle.rl_shard.specs.Collecting.{AreRead}
+use Rattle.rl_shard.specs.ShardState.{ShardState, ShardView}
+use Rattle.rl_shard.specs.ShardStep.{AreWithin, IsAnswered}
 use Rattle.rl_shard.specs.declared.step.ShardReply.{ShardReply}
 use Rattle.rl_shard.specs.declared.step.ShardReply.TheVariants as replies
-use Rattle.rl_world.specs.Kept.{partials_of}
-use Rattle.rl_world.specs.Slots.{IsWithin, AreOfOneShard, most_in_shard}
+use Rattle.rl_shard.specs.declared.step.ShardStep.TheVariants as shard_steps
+use Rattle.rl_world.specs.Slots.{AreOfOneShard, most_in_shard}
+use Rattle.rl_world.proofs.Merging.{within-more}
 
-each_within : (entries : List Entry) (terms : List Term) (t : ℕ) → length entries ≤ most_in_shard → AllByRecursion (IsWithin most_in_shard) (partials_of entries terms t)
-each_within entries [] t few = tt
-each_within entries (term ∷ terms) t few = (
-  record {
-    sets = omega (arith, len-partial entries term t, few);
-    counts = omega (arith, counts-partial entries term t, few);
-    bytes = omega (arith, bytes-partial entries term t, few);
-  },
-  each_within entries terms t few,
-)
+each_within : (entries : ℕ) (partials : List Partial) → entries ≤ most_in_shard → AllByRecursion (IsWithin entries) partials → AllByRecursion (IsWithin most_in_shard) partials
+each_within entries [] few all = all
+each_within entries (partial ∷ partials) few all = (within-more entries most_in_shard partial few all.0, each_within entries partials few all.1)
 
-of_one_shard : (entries : List Entry) (terms : List Term) (t : ℕ) → length entries ≤ most_in_shard → AreOfOneShard (length terms) (partials_of entries terms t)
-of_one_shard entries terms t few = record { each = length-map terms (λ term. partial entries term t); within = each_within entries terms t few }
+-- what so many entries add up to at most
+pub of_one_shard : (entries terms : ℕ) (partials : List Partial) → entries ≤ most_in_shard → AreWithin entries terms partials → AreOfOneShard terms partials
+of_one_shard entries terms partials few are = record { each = are.each; within = each_within entries partials few are.within }
 
-collected_is : (a b : List Partial) → replies.Collected a ≡ replies.Collected b → a ≡ b
+-- two lists that were collected are one where the replies are
+pub collected_is : (a b : List Partial) → replies.Collected a ≡ replies.Collected b → a ≡ b
 collected_is a b h = cc
 
--- what was collected of so many entries at most
-pub collected_of_one_shard : (entries : List Entry) (terms : List Term) (t : ℕ) (reply : ShardReply) (shown : List Partial) → length entries ≤ most_in_shard
-    → reply ≡ replies.Collected (partials_of entries terms t) → reply ≡ replies.Collected shown → AreOfOneShard (length terms) shown
-collected_of_one_shard entries terms t reply shown few decided is =
-    subst (AreOfOneShard (length terms)) (collected_is (partials_of entries terms t) shown (sym decided ∙ is)) (of_one_shard entries terms t few)
+-- it was read
+pub collected_read : (shard : ShardView) (slot t : ℕ) (terms : List Term) (reply : ShardReply) (shown : List Partial) → AreRead shard.streams (shard_steps.Collect slot terms t) reply → reply ≡ replies.Collected shown
+    → AreRead shard.streams (shard_steps.Collect slot terms t) (replies.Collected shown)
+collected_read shard slot t terms reply shown read is = subst (AreRead shard.streams (shard_steps.Collect slot terms t)) is read
+
+-- a Collect is answered in no other way
+pub only_collected : (limits : Limits) (old new : ShardState) (slot t : ℕ) (terms : List Term) (reply : ShardReply) → IsAnswered limits old (shard_steps.Collect slot terms t) reply new → ((shown : List Partial) → reply ≡ replies.Collected shown → ⊥) → ⊥
+only_collected limits old new slot t terms (replies.Collected shown) answered none = none shown refl
+only_collected limits old new slot t terms reply answered none = answered
+
+module _ (limits : Limits) (old new : ShardState) (slot t : ℕ) (terms : List Term) (reply : ShardReply) (shown : List Partial) (answered : IsAnswered limits old (shard_steps.Collect slot terms t) reply new) (is : reply ≡ replies.Collected shown) where
+  -- what was collected is answered as over any store
+  pub collected_answered : IsAnswered limits old (shard_steps.Collect slot terms t) (replies.Collected shown) new
+  collected_answered = subst (λ r. IsAnswered limits old (shard_steps.Collect slot terms t) r new) is answered
+
+  -- and is of one shard
+  pub collected_of_one_shard : limits.entries ≤ most_in_shard → AreOfOneShard (length terms) shown
+  collected_of_one_shard few = of_one_shard limits.entries (length terms) shown few collected_answered.0

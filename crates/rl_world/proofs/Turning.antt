@@ -1,5 +1,5 @@
 -- What each turn makes of a world, by what the calls of its shards and books promise.
-use Rattle.std.proofs.Common.{◌≡◌, ◌⊎◌, inl, inr, ℕ, zero, suc, [], ◌∷◌, Bool, true, false, cond, List, map, length, Option, None, Some, Result, Ok, Err, option_map, slice_get, slice_set, refl, sym, ap, subst, ◌∙◌}
+use Rattle.std.proofs.Common.{◌≡◌, ◌⊎◌, inl, inr, ℕ, zero, suc, ◌+◌, ◌≤◌, [], ◌∷◌, Bool, true, false, cond, List, map, length, Option, None, Some, Result, Ok, Err, option_map, slice_get, slice_set, refl, sym, ap, subst, ◌∙◌}
 use Rattle.std.specs.List.{AllByRecursion}
 use Rattle.std.proofs.lemmas.List.{length-map, map-set, set-get_or}
 use Rattle.std.proofs.lemmas.Bool.{true≢false}
@@ -7,18 +7,21 @@ use Rattle.std.proofs.lemmas.Option.{slice_get-map, get_or_from_slice_get}
 use Rattle.std.proofs.Math.Seq.{map-set_same}
 use Rattle.rl_labels.specs.Name.{is_text}
 use Rattle.rl_rules.specs.declared.rule.Group.{Group}
-use Rattle.rl_shard.specs.ShardFault.{MayCome}
+use Rattle.rl_chunks.specs.StoreState.{greatest}
+use Rattle.rl_shard.specs.Collecting.{AreRead}
+use Rattle.rl_shard.specs.ShardFault.{IsDone, MayCome, Stored}
 use Rattle.rl_shard.specs.ShardState.{ShardView, journalled}
-use Rattle.rl_shard.specs.ShardStep.{step_reply, recorded, is_journal_full}
+use Rattle.rl_shard.specs.ShardStep.{step_reply, recorded, is_journal_full, IsAnswered}
 use Rattle.rl_shard.specs.declared.step.ShardStep.{ShardStep}
 use Rattle.rl_shard.specs.declared.step.ShardReply.{ShardReply}
 use Rattle.rl_shard.specs.declared.step.ShardFault.{ShardFault}
 use Rattle.rl_shard.specs.declared.step.ShardFault.TheVariants as shard_faults
 use Rattle.rl_world.specs.BookCalls.{Answers, Refuses, with_history}
 use Rattle.rl_world.specs.History.{begin_fault, commit_fault, abandon_fault, edit_fault, begun, abandoned, edited}
+use Rattle.rl_world.specs.ShardsTurn.{ShardsTurn}
 use Rattle.rl_world.specs.WorldRun.{told}
 use Rattle.rl_world.specs.WorldState.{BookState, world_of}
-use Rattle.rl_world.specs.WorldStep.{WorldStep, MayRefuse, may_fail, partials, known, edit_refusal, journal_refusal, refusal_of, may_want, told_of_shard, told_of_book}
+use Rattle.rl_world.specs.WorldStep.{WorldStep, IsRefused, MayRefuse, may_fail, partials, known, edit_refusal, journal_refusal, refusal_of, may_want, told_of_shard, told_of_book}
 use Rattle.rl_world.specs.declared.fault.BookFault.{BookFault}
 use Rattle.rl_plain.specs.declared.refusal.OrMemory.{OrMemory}
 use Rattle.rl_plain.specs.declared.refusal.OrMemory.TheVariants as errors
@@ -78,6 +81,33 @@ pub refused_ok : {A : Type 0} (fault : Option BookFault) (x : A) → Refuses fau
 refused_ok (Some f) x h = absurd (ok_apart x f h)
 refused_ok None x h = refl
 
+-- a shard decided a step, or met a fault
+pub stores_decided : (shards : List ShardView) (number place : ℕ) (step : ShardStep) (reply : ShardReply) (shard after : ShardView) → slice_get shards number ≡ Some shard → Stored shard.streams after.streams → after.streams.next ≤ greatest
+    → place ≡ (journalled shard).records → (journalled after).limits ≡ (journalled shard).limits → (journalled after).records ≡ (journalled shard).records + 1 → IsAnswered (journalled shard).limits (journalled shard).state step reply (journalled after).state
+    → IsDone step after.streams → AreRead shard.streams step reply
+    → ShardsTurn shards (steps.Shard number step) (replies.Decided place reply) (slice_set shards number after)
+stores_decided shards number place step reply shard after there stored numbers place_is limits records answered done read = record {
+  before = shard;
+  there = there;
+  after = after;
+  now = refl;
+  stored = stored;
+  numbers = numbers;
+  as_said = record { place_is = place_is; limits = limits; records = records; answered = answered; done = done; read = read };
+}
+
+pub stores_faulted : (shards : List ShardView) (number : ℕ) (step : ShardStep) (shard after : ShardView) (fault : ShardFault) (refusal : Refusal) → slice_get shards number ≡ Some shard → Stored shard.streams after.streams → after.streams.next ≤ greatest
+    → MayCome shard step fault after → journalled after ≡ journalled shard → refusal ≡ told_of_shard fault → ShardsTurn shards (steps.Shard number step) (replies.Refused refusal) (slice_set shards number after)
+stores_faulted shards number step shard after fault refusal there stored numbers came kept told = inr (record {
+  before = shard;
+  there = there;
+  after = after;
+  now = refl;
+  stored = stored;
+  numbers = numbers;
+  as_said = record { kept = kept; fault = fault; told = told; cause = came };
+})
+
 -- of the faults of a shard one is its journal's
 abbrev is_for_journal : ShardFault → Bool
 is_for_journal shard_faults.JournalFull = true
@@ -121,20 +151,20 @@ module _ (shards : List ShardView) (books : List BookState) where
   )
 
   pub shard_refused : (number : ℕ) (step : ShardStep) (shard after : ShardView) (fault : ShardFault) (refusal : Refusal) → slice_get shards number ≡ Some shard
-      → MayCome shard fault after → (is_journal_full (journalled shard) ≡ true → fault ≡ shard_faults.JournalFull) → journalled after ≡ journalled shard → refusal ≡ told_of_shard fault
-      → WorldStep partials (world_of shards books) (steps.Shard number step) (replies.Refused refusal) (world_of (slice_set shards number after) books)
+      → MayCome shard step fault after → (is_journal_full (journalled shard) ≡ true → fault ≡ shard_faults.JournalFull) → journalled after ≡ journalled shard → refusal ≡ told_of_shard fault
+      → IsRefused (world_of shards books) (steps.Shard number step) refusal (world_of (slice_set shards number after) books)
   shard_refused number step shard after fault refusal there came first kept refusal_is = (
     subst (λ r. MayRefuse (world_of shards books) (steps.Shard number step) r) (sym refusal_is) (may fault came first),
     shard_kept number shard after there kept,
   )
     where
-      free : (fault : ShardFault) → is_for_journal fault ≡ false → (is_journal_full (journalled shard) ≡ true → fault ≡ shard_faults.JournalFull) → refusal_of (world_of shards books) (steps.Shard number step) ≡ None
-      free fault other first =
+      free : (met : ShardFault) → is_for_journal met ≡ false → (is_journal_full (journalled shard) ≡ true → met ≡ shard_faults.JournalFull) → refusal_of (world_of shards books) (steps.Shard number step) ≡ None
+      free met other first =
           ap (λ s. known s journal_refusal) (shard_at number shard there)
           ∙ ap (λ b. cond b (Some refusals.JournalFull) None) (not_true (is_journal_full (journalled shard)) (λ full. true≢false (sym (ap is_for_journal (first full)) ∙ other)))
 
-      may : (fault : ShardFault) → MayCome shard fault after → (is_journal_full (journalled shard) ≡ true → fault ≡ shard_faults.JournalFull) → MayRefuse (world_of shards books) (steps.Shard number step) (told_of_shard fault)
-      may shard_faults.JournalFull full first = inl (ap (λ s. known s journal_refusal) (shard_at number shard there) ∙ ap (λ b. cond b (Some refusals.JournalFull) None) full)
+      may : (fault : ShardFault) → MayCome shard step fault after → (is_journal_full (journalled shard) ≡ true → fault ≡ shard_faults.JournalFull) → MayRefuse (world_of shards books) (steps.Shard number step) (told_of_shard fault)
+      may shard_faults.JournalFull came first = inl (ap (λ s. known s journal_refusal) (shard_at number shard there) ∙ ap (λ b. cond b (Some refusals.JournalFull) None) (came.1 refl))
       may shard_faults.Fault came first = inr (free shard_faults.Fault refl first, refl)
       may shard_faults.Damaged came first = inr (free shard_faults.Damaged refl first, refl)
       may shard_faults.NumbersSpent came first = inr (free shard_faults.NumbersSpent refl first, refl)

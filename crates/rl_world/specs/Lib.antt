@@ -5,7 +5,9 @@ pub mod History
 pub mod Kept
 pub mod Listings
 pub mod Offering
+pub mod ShardsTurn
 pub mod Slots
+pub mod Stores
 pub mod WorldRun
 pub mod WorldState
 pub mod WorldStep

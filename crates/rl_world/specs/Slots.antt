@@ -1,9 +1,7 @@
 -- What may be kept of a shard: partials whose numbers are within what a shard may hold.
-use Rattle.std.specs.Prelude.{◌≡◌, ℕ, ◌+◌, ◌*◌, ◌≤◌, ◌<◌, List, length, Option, IfSome}
+use Rattle.std.specs.Prelude.{◌≡◌, ℕ, ◌<◌, List, length, Option, IfSome}
 use Rattle.std.specs.List.{AllByRecursion}
-use Rattle.std.specs.FinMap.{len}
-use Rattle.rl_labels.specs.EntryParts.{longest_line}
-use Rattle.rl_aggregate.specs.Limited.{sum_of}
+use Rattle.rl_aggregate.specs.Limited.{IsWithin}
 use Rattle.rl_aggregate.specs.declared.partial.Partial.{Partial}
 use Rattle.rl_world.specs.declared.opened.Gathered.{Gathered}
 
@@ -13,12 +11,6 @@ most_in_shard = 67108864
 
 abbrev pub most_shards : ℕ
 most_shards = 16
-
--- label sets and numbers that at most so many entries give, of all label sets together
-pub record IsWithin (entries : ℕ) (partial : Partial) : Type 0 where
-  pub sets : len partial.totals ≤ entries
-  pub counts : partial.errors + sum_of (λ total. total.count) partial.totals ≤ entries
-  pub bytes : sum_of (λ total. total.bytes) partial.totals ≤ entries * longest_line
 
 -- one partial for each of so many terms, within what one shard may hold
 pub record AreOfOneShard (terms : ℕ) (partials : List Partial) : Type 0 where

@@ -90,10 +90,10 @@ abbrev pub may_fail : Step → Refusal → Bool
 may_fail step refusals.Memory = may_want step
 may_fail step refusal = asks_shard step && is_store_refusal refusal
 
--- a reply that tells of no store
-abbrev pub IsOfNoStore : Reply → Type 0
-IsOfNoStore (replies.Refused refusal) = is_store_refusal refusal ≡ false
-IsOfNoStore reply = Unit {0}
+-- what holds of the refusal, where the reply is one
+abbrev pub IfRefused : Reply → (Refusal → Type 0) → Type 0
+IfRefused (replies.Refused refusal) P = P refusal
+IfRefused reply P = Unit {0}
 
 module _ {X : Type 0} where
   -- a group is edited under its own name; another is no such group

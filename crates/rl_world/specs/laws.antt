@@ -1,3 +1,4 @@
 -- Laws and lemmas that the crates above rest on.
 pub mod RunLaws
 pub mod ShownLaws
+pub mod StoreLaws

@@ -35,7 +35,7 @@ impl From<BookFault> for BookError {
     }
 }
 
-/// Why a world refused a step, which counts as no step. No shard has a store yet, so what one refuses for does not come.
+/// Why a world refused a step, which counts as no step.
 #[derive(Clone, Copy, Debug, Drop, Error)]
 pub enum Refusal {
     #[error("no such shard or group")]

@@ -1,31 +1,36 @@
 //! The shards and the books of a world, as they are kept.
-ghost use Rattle.std.specs.Prelude.{◌≡◌, length, map};
+ghost use Rattle.std.specs.Prelude.{◌≡◌, length, map, false};
 ghost use Rattle.std.specs.List.{AllByRecursion};
 ghost use Rattle.std.proofs.Props.{props};
 ghost use Rattle.rl_world.specs.Closed.{BooksClosed};
-ghost use Rattle.rl_world.specs.WorldRun.{SinkStep};
+ghost use Rattle.rl_world.specs.ShardsTurn.{AreHonest, ShardsTurn};
+ghost use Rattle.rl_world.specs.WorldRun.{HistoriesTurn, SinkStep};
 ghost use Rattle.rl_world.specs.WorldState.{IsBookOf, with_sinks_closed, world_of};
-ghost use Rattle.rl_world.specs.WorldStep.{WorldStep, IsOfNoStore, partials};
+ghost use Rattle.rl_world.specs.WorldStep.{WorldStep, IfRefused, IsRefused, asks_shard, partials};
 
 use crate::book::Book;
 use crate::step::{Reply, Step};
+use rl_chunks::Store;
 use rl_shard::Shard;
 use rl_sinks::Sink;
 
 /// The shards, and the books of the rule groups.
 #[derive(Drop)]
-pub(crate) struct WorldParts<S: Sink> {
-    pub(crate) shards: Vec<Shard>,
+pub(crate) struct WorldParts<D: Store, S: Sink> {
+    pub(crate) shards: Vec<Shard<D>>,
     pub(crate) books: Vec<Book<S>>,
     ghost books_fit: { AllByRecursion (IsBookOf (length shards.items)) books.items } by { Prim.hlevel props },
 }
 
-impl<S: Sink> WorldParts<S> {
+impl<D: Store, S: Sink> WorldParts<D, S> {
     /// Answers one step.
     pub(crate) fn answer(&mut self, step: Step) -> Reply
-        ensures step { WorldStep partials (world_of self.old.shards.items self.old.books.items) step result (world_of self.new.shards.items self.new.books.items) }
+        ensures refused { IfRefused result (λ refusal. IsRefused (world_of self.old.shards.items self.old.books.items) step refusal (world_of self.new.shards.items self.new.books.items)) }
+        ensures on_kept { asks_shard step ≡ false → WorldStep partials (world_of self.old.shards.items self.old.books.items) step result (world_of self.new.shards.items self.new.books.items) }
+        ensures step { AreHonest self.old.shards.items → WorldStep partials (world_of self.old.shards.items self.old.books.items) step result (world_of self.new.shards.items self.new.books.items) }
         ensures sinks { SinkStep self.old.books.items step result self.new.books.items }
-        ensures no_store { IsOfNoStore result }
+        ensures stores { ShardsTurn self.old.shards.items step result self.new.shards.items }
+        ensures histories { HistoriesTurn self.old.books.items step result self.new.books.items }
     {
         match step {
             Step::Shard { number, step } => self.shard(number, step),

@@ -1,22 +1,25 @@
 //! What a world does at each kind of step.
-ghost use Rattle.std.specs.Prelude.{◌≡◌, length, Err, IsTrue, false, IfOk, IfErr, OnOk, OnErr};
+ghost use Rattle.std.specs.Prelude.{◌≡◌, ◌≤◌, length, IfOk, IfErr, OnOk, OnErr};
 ghost use Rattle.rl_labels.specs.Name.{is_text};
-ghost use Rattle.rl_shard.specs.ShardFault.{is_store_fault, MayCome};
+ghost use Rattle.rl_chunks.specs.StoreState.{greatest};
+ghost use Rattle.rl_shard.specs.ShardFault.{IsHonest, MayCome, Stored};
 ghost use Rattle.rl_shard.specs.ShardState.{journalled, visible};
-ghost use Rattle.rl_shard.specs.ShardStep.{recorded, is_journal_full};
+ghost use Rattle.rl_shard.specs.ShardStep.{recorded};
+ghost use Rattle.rl_shard.specs.declared.step.ShardReply.TheVariants as shard_replies;
 ghost use Rattle.rl_shard.specs.declared.step.ShardStep.TheVariants as shard_steps;
-ghost use Rattle.rl_shard.specs.declared.step.ShardFault.TheVariants as faults;
 ghost use Rattle.rl_world.specs.Kept.{partials_of};
+ghost use Rattle.rl_world.specs.ShardsTurn.{AreHonest, Decides, ShardsTurn};
 ghost use Rattle.rl_world.specs.Slots.{AreOfOneShard};
-ghost use Rattle.rl_world.specs.WorldRun.{SinkStep};
+ghost use Rattle.rl_world.specs.WorldRun.{HistoriesTurn, SinkStep};
 ghost use Rattle.rl_world.specs.WorldState.{world_of};
-ghost use Rattle.rl_world.specs.WorldStep.{WorldStep, IsOfNoStore, is_store_refusal, partials, told_of_shard, told_of_book};
+ghost use Rattle.rl_world.specs.WorldStep.{WorldStep, IfRefused, IsRefused, partials, told_of_shard, told_of_book};
 ghost use Rattle.rl_world.specs.declared.step.Step.TheVariants as steps;
 
 use crate::fault::{BookError, Refusal};
 use crate::parts::WorldParts;
 use crate::step::Reply;
 use rl_aggregate::Partial;
+use rl_chunks::Store;
 use rl_labels::Ns;
 use rl_plain::{PlainList, Shared, TryCopy};
 use rl_query::Term;
@@ -24,12 +27,14 @@ use rl_rules::Group;
 use rl_shard::{Shard, ShardFault, ShardReply, ShardStep};
 use rl_sinks::Sink;
 
-impl<S: Sink> WorldParts<S> {
+impl<D: Store, S: Sink> WorldParts<D, S> {
     // A shard decides a step.
     pub(crate) fn shard(&mut self, number: usize, step: ShardStep) -> Reply
-        ensures step { WorldStep partials (world_of self.old.shards.items self.old.books.items) (steps.Shard number step) result (world_of self.new.shards.items self.new.books.items) }
+        ensures refused { IfRefused result (λ refusal. IsRefused (world_of self.old.shards.items self.old.books.items) (steps.Shard number step) refusal (world_of self.new.shards.items self.new.books.items)) }
+        ensures step { AreHonest self.old.shards.items → WorldStep partials (world_of self.old.shards.items self.old.books.items) (steps.Shard number step) result (world_of self.new.shards.items self.new.books.items) }
         ensures sinks { SinkStep self.old.books.items (steps.Shard number step) result self.new.books.items }
-        ensures no_store { IsOfNoStore result }
+        ensures stores { ShardsTurn self.old.shards.items (steps.Shard number step) result self.new.shards.items }
+        ensures histories { HistoriesTurn self.old.books.items (steps.Shard number step) result self.new.books.items }
     {
         if number >= self.shards.len() {
             return Reply::Refused(Refusal::NoSuch);
@@ -45,7 +50,7 @@ impl<S: Sink> WorldParts<S> {
     pub(crate) fn edit(&mut self, group: usize, to: Group) -> Reply
         ensures step { WorldStep partials (world_of self.old.shards.items self.old.books.items) (steps.Edit group to) result (world_of self.new.shards.items self.new.books.items) }
         ensures sinks { SinkStep self.old.books.items (steps.Edit group to) result self.new.books.items }
-        ensures no_store { IsOfNoStore result }
+        ensures shards { self.new.shards.items ≡ self.old.shards.items }
     {
         if group >= self.books.len() {
             return Reply::Refused(Refusal::NoSuch);
@@ -64,7 +69,7 @@ impl<S: Sink> WorldParts<S> {
     pub(crate) fn begin(&mut self, group: usize, t: Ns) -> Reply
         ensures step { WorldStep partials (world_of self.old.shards.items self.old.books.items) (steps.Begin group t) result (world_of self.new.shards.items self.new.books.items) }
         ensures sinks { SinkStep self.old.books.items (steps.Begin group t) result self.new.books.items }
-        ensures no_store { IsOfNoStore result }
+        ensures shards { self.new.shards.items ≡ self.old.shards.items }
     {
         if group >= self.books.len() {
             return Reply::Refused(Refusal::NoSuch);
@@ -78,9 +83,11 @@ impl<S: Sink> WorldParts<S> {
 
     // A shard is asked for the open evaluation of a group.
     pub(crate) fn gather(&mut self, group: usize, number: usize) -> Reply
-        ensures step { WorldStep partials (world_of self.old.shards.items self.old.books.items) (steps.Gather group number) result (world_of self.new.shards.items self.new.books.items) }
+        ensures refused { IfRefused result (λ refusal. IsRefused (world_of self.old.shards.items self.old.books.items) (steps.Gather group number) refusal (world_of self.new.shards.items self.new.books.items)) }
+        ensures step { AreHonest self.old.shards.items → WorldStep partials (world_of self.old.shards.items self.old.books.items) (steps.Gather group number) result (world_of self.new.shards.items self.new.books.items) }
         ensures sinks { SinkStep self.old.books.items (steps.Gather group number) result self.new.books.items }
-        ensures no_store { IsOfNoStore result }
+        ensures stores { ShardsTurn self.old.shards.items (steps.Gather group number) result self.new.shards.items }
+        ensures histories { HistoriesTurn self.old.books.items (steps.Gather group number) result self.new.books.items }
     {
         if group >= self.books.len() || number >= self.shards.len() {
             return Reply::Refused(Refusal::NoSuch);
@@ -111,7 +118,7 @@ impl<S: Sink> WorldParts<S> {
     pub(crate) fn commit(&mut self, group: usize) -> Reply
         ensures step { WorldStep partials (world_of self.old.shards.items self.old.books.items) (steps.Commit group) result (world_of self.new.shards.items self.new.books.items) }
         ensures sinks { SinkStep self.old.books.items (steps.Commit group) result self.new.books.items }
-        ensures no_store { IsOfNoStore result }
+        ensures shards { self.new.shards.items ≡ self.old.shards.items }
     {
         if group >= self.books.len() {
             return Reply::Refused(Refusal::NoSuch);
@@ -127,7 +134,7 @@ impl<S: Sink> WorldParts<S> {
     pub(crate) fn abandon(&mut self, group: usize) -> Reply
         ensures step { WorldStep partials (world_of self.old.shards.items self.old.books.items) (steps.Abandon group) result (world_of self.new.shards.items self.new.books.items) }
         ensures sinks { SinkStep self.old.books.items (steps.Abandon group) result self.new.books.items }
-        ensures no_store { IsOfNoStore result }
+        ensures shards { self.new.shards.items ≡ self.old.shards.items }
     {
         if group >= self.books.len() {
             return Reply::Refused(Refusal::NoSuch);
@@ -141,19 +148,20 @@ impl<S: Sink> WorldParts<S> {
 }
 
 // Asks a shard what it shows of the terms at the moment: the place of the question in its journal, and the partials.
-fn ask(
-    shard: &mut Shard,
+fn ask<D: Store>(
+    shard: &mut Shard<D>,
     slot: u64,
     terms: Shared<PlainList<Term>>,
     t: Ns,
 ) -> Result<(u64, PlainList<Shared<Partial>>), ShardFault>
-    ensures journal_full { IsTrue (is_journal_full (journalled shard.old)) → result ≡ Err faults.JournalFull }
-    ensures may_come { IfErr result (λ fault. MayCome shard.old fault shard.new) }
-    ensures no_store { IfErr result (λ fault. is_store_fault fault ≡ false) }
-    ensures shown { IfOk result (λ answer. (answer.0 ≡ (journalled shard.old).records) × (answer.1 ≡ partials_of (visible (journalled shard.old).state) terms t)) }
-    ensures one_shard { IfOk result (λ answer. AreOfOneShard (length terms) answer.1) }
-    ensures ok { OnOk result (journalled shard.new ≡ recorded (journalled shard.old) (shard_steps.Collect slot terms t)) }
+    ensures may_come { IfErr result (λ fault. MayCome shard.old (shard_steps.Collect slot terms t) fault shard.new) }
     ensures kept { OnErr result (journalled shard.new ≡ journalled shard.old) }
+    ensures stored { Stored shard.old.streams shard.new.streams }
+    ensures numbers { shard.new.streams.next ≤ greatest }
+    ensures decides { IfOk result (λ answer. Decides answer.0 (shard_steps.Collect slot terms t) (shard_replies.Collected answer.1) shard.old shard.new) }
+    ensures one_shard { IfOk result (λ answer. AreOfOneShard (length terms) answer.1) }
+    ensures shown { IsHonest shard.old → IfOk result (λ answer. answer.1 ≡ partials_of (visible (journalled shard.old).state) terms t) }
+    ensures changed { IsHonest shard.old → OnOk result (journalled shard.new ≡ recorded (journalled shard.old) (shard_steps.Collect slot terms t)) }
 {
     let (place, reply) = shard.apply(ShardStep::Collect { slot, terms, t })?;
     match reply {
@@ -171,8 +179,7 @@ fn is_same_name(one: &Group, other: &Group) -> bool
 
 // A fault of a shard, as a world tells it.
 fn refusal_of_shard(fault: ShardFault) -> Refusal
-    ensures told { result ≡ told_of_shard fault }
-    ensures store { is_store_refusal result ≡ is_store_fault fault }
+    ensures { result ≡ told_of_shard fault }
 {
     match fault {
         ShardFault::JournalFull => Refusal::JournalFull,
@@ -185,8 +192,7 @@ fn refusal_of_shard(fault: ShardFault) -> Refusal
 
 // A refusal of a book, as a world tells it.
 fn refusal_of_book(error: BookError) -> Refusal
-    ensures told { result ≡ told_of_book error }
-    ensures store { is_store_refusal result ≡ false }
+    ensures { result ≡ told_of_book error }
 {
     match error {
         BookError::Fault(fault) => Refusal::Book(fault),

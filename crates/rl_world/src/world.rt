@@ -1,16 +1,17 @@
 //! A world: shards and books, by lists of steps.
-ghost use Rattle.std.specs.Prelude.{◌≡◌, ◌+◌, ◌≤◌, ◌++◌, ℕ, List, map, length, replicate, slice_get, vec_capacity, IsOk, IfOk, OnOk, OnErr};
+ghost use Rattle.std.specs.Prelude.{◌≡◌, ◌+◌, ◌≤◌, ◌++◌, map, length, slice_get, vec_capacity, IsOk, IfOk, OnOk, OnErr};
 ghost use Rattle.std.specs.List.{AllByRecursion};
 ghost use Rattle.std.specs.Option.{option_copied};
 ghost use Rattle.rl_world.specs.WorldState.{with_sinks_closed};
 ghost use Rattle.rl_world.specs.BookCalls.{books_from, IsFresh};
 ghost use Rattle.rl_world.specs.Closed.{BooksClosed};
 ghost use Rattle.rl_world.specs.Slots.{most_shards};
-ghost use Rattle.rl_shard.specs.ShardState.{journalled, opened};
+ghost use Rattle.rl_shard.specs.ShardState.{opened_over};
 
 use crate::book::Book;
 use crate::parts::WorldParts;
 use crate::step::{Reply, Step};
+use rl_chunks::Store;
 use rl_labels::Limits;
 use rl_rules::Group;
 use rl_shard::Shard;
@@ -20,11 +21,11 @@ use std::marker::Model;
 
 /// Shards, and a book for each rule group. The numbers of both are counted from 0. Contracts see a `WorldBooks`.
 #[derive(Drop)]
-pub struct World<S: Sink> {
-    parts: WorldParts<S>,
+pub struct World<D: Store, S: Sink> {
+    parts: WorldParts<D, S>,
 }
 
-impl<S: Sink> Model for World<S> {
+impl<D: Store, S: Sink> Model for World<D, S> {
     ghost use Rattle.rl_world.specs.WorldState.{WorldBooks};
 
     ghost Value = { WorldBooks };
@@ -33,37 +34,38 @@ impl<S: Sink> Model for World<S> {
     ghost use Rattle.rl_labels.specs.LabelSet.{label_set_code};
     ghost use Rattle.rl_aggregate.specs.contracts.totals.Totals as totals_type;
     ghost use Rattle.rl_query.specs.contracts.label_test.LabelTests as tests_type;
-    ghost use Rattle.rl_shard.specs.contracts.shard.Shard as shard_type;
+    ghost use Rattle.rl_shard.specs.ShardState.{shard_view_code};
 
-    ghost coded = { Prim.hlevel (codes, label_set_code, totals_type.the_row.coded, tests_type.the_row.coded, shard_type.the_row.coded) };
+    ghost coded = { Prim.hlevel (codes, label_set_code, totals_type.the_row.coded, tests_type.the_row.coded, shard_view_code) };
 
     ghost view = { λ a. record { shards = a.parts.shards.items; books = a.parts.books.items } };
 }
 
-impl<S: Sink> World<S> {
+impl<D: Store, S: Sink> World<D, S> {
     ghost use Rattle.rl_world.specs.Offering.{TookPrefix};
     ghost use Rattle.rl_world.specs.Listings.{SinksFollow};
+    ghost use Rattle.rl_world.specs.ShardsTurn.{AreHonest};
+    ghost use Rattle.rl_world.specs.Stores.{StoresFollow};
     ghost use Rattle.rl_world.specs.WorldRun.{Turned, Ran, Replays, gained};
     ghost use Rattle.rl_world.specs.WorldState.{world_of, StandsForSome};
-    ghost use Rattle.rl_world.specs.WorldStep.{IsOfNoStore};
 
-    /// A world with so many empty shards, and a book for each group with its sinks. The sinks have taken nothing.
+    /// A world with an empty shard over each store, and a book for each group with its sinks. The sinks have taken nothing.
     pub fn open(
         alloc: Global,
         limits: Limits,
-        shards: usize,
+        stores: Vec<D>,
         groups: Vec<Group>,
         sinks: Vec<Vec<S>>,
     ) -> Result<Self, AllocError>
-        requires shards { shards ≤ most_shards }
+        requires shards { length stores.items ≤ most_shards }
         requires lists { length sinks.items ≡ length groups.items }
         requires fresh { AllByRecursion (λ own. AllByRecursion IsFresh (map S.state own.items)) sinks.items }
-        ensures shards { IfOk result (λ world. map journalled world.shards ≡ replicate shards (opened limits)) }
-        ensures books { IfOk result (λ world. world.books ≡ books_from 0 limits.records shards groups.items (map (λ own. map S.state own.items) sinks.items)) }
+        ensures shards { IfOk result (λ world. world.shards ≡ map (λ store. opened_over limits (D.seen store)) stores.items) }
+        ensures books { IfOk result (λ world. world.books ≡ books_from 0 limits.records (length stores.items) groups.items (map (λ own. map S.state own.items) sinks.items)) }
         ensures shown { IfOk result (λ world. StandsForSome (world_of world.shards world.books)) }
     {
-        let books = open_books(alloc, limits.records, shards, groups, sinks)?;
-        let shards = open_shards(alloc, limits, shards)?;
+        let books = open_books(alloc, limits.records, stores.len(), groups, sinks)?;
+        let shards = open_shards(alloc, limits, stores)?;
         Ok(World {
             parts: WorldParts { shards, books },
         })
@@ -84,8 +86,8 @@ impl<S: Sink> World<S> {
         ensures capacity { vec_capacity out.old ≤ vec_capacity out.new }
         ensures replies { OnOk result (out.new.items ≡ out.old.items ++ gained out.old.items out.new.items) }
         ensures ran { OnOk result (Ran self.old steps.items (gained out.old.items out.new.items) self.new) }
-        ensures replays { OnOk result (Replays self.old steps.items (gained out.old.items out.new.items) self.new) }
-        ensures no_store { OnOk result (AllByRecursion IsOfNoStore (gained out.old.items out.new.items)) }
+        ensures replays { AreHonest self.old.shards → OnOk result (Replays self.old steps.items (gained out.old.items out.new.items) self.new) }
+        ensures stores { OnOk result (StoresFollow self.old.shards steps.items (gained out.old.items out.new.items) self.new.shards) }
         ensures follows { OnOk result (SinksFollow self.old.books steps.items (gained out.old.items out.new.items) self.new.books) }
         ensures prefixes { AllByRecursion (λ book. AllByRecursion (TookPrefix book.history.evaluations) book.sinks) self.new.books }
     {
@@ -111,6 +113,13 @@ impl<S: Sink> World<S> {
         Ok(())
     }
 
+    /// A shard by its number.
+    pub fn shard(&self, number: usize) -> Option<&Shard<D>>
+        ensures { option_copied result ≡ slice_get self.now.shards number }
+    {
+        self.parts.shards.get(number)
+    }
+
     /// How many groups it has.
     pub fn groups(&self) -> usize
         ensures { result ≡ length self.now.books }
@@ -134,13 +143,17 @@ impl<S: Sink> World<S> {
     }
 }
 
-// So many empty shards.
-fn open_shards(alloc: Global, limits: Limits, number: usize) -> Result<Vec<Shard>, AllocError>
-    ensures { IfOk result (λ shards. map journalled shards.items ≡ replicate number (opened limits)) }
+// An empty shard over each store.
+fn open_shards<D: Store>(
+    alloc: Global,
+    limits: Limits,
+    stores: Vec<D>,
+) -> Result<Vec<Shard<D>>, AllocError>
+    ensures { IfOk result (λ shards. shards.items ≡ map (λ store. opened_over limits (D.seen store)) stores.items) }
 {
-    let mut shards = Vec::with_capacity(alloc, number)?;
-    for _ in 0..number {
-        shards.push(Shard::open(alloc, limits))?;
+    let mut shards = Vec::with_capacity(alloc, stores.len())?;
+    for store in stores {
+        shards.push(Shard::open(alloc, store, limits))?;
     }
     Ok(shards)
 }

@@ -1,22 +1,25 @@
 //! The program: rules, a mark and commands from standard input, and what the commands print.
 //!
-//! What a session is stands in `rl_session`; here are the options, the status and the sinks of the process.
-//! `output` is standard output for a sink in a box.
+//! What a session is stands in `rl_session`; here are the status, the stores and the sinks of the process.
+//! `options` reads its options. `output` is standard output for a sink in a box.
 #![tactic(auto)]
 
-ghost use Rattle.std.specs.Prelude.{◌≡◌, ◌≢◌, length, map};
+ghost use Rattle.std.specs.Prelude.{◌≡◌, ◌≤◌, length, map, IfOk};
 ghost use Rattle.std.specs.List.{AllByRecursion};
 ghost use Rattle.std.specs.Process.{exit_status};
 ghost use Rattle.rl_world.specs.BookCalls.{IsFresh};
+ghost use Rattle.rl_world.specs.Slots.{most_shards};
 ghost use Rattle.rule_shell.specs.Statuses.{status_number, stop_at};
 ghost use Rattle.rule_shell.specs.declared.Stop.TheVariants.{Failed};
 
+mod options;
 mod output;
 
-use clap::Command;
-use clap::error::ErrorKind as OptionsFault;
+use options::{Options, read_options};
 use output::Output;
-use rl_labels::{DEFAULT_LIMITS, Limits};
+use rl_chunks::{DirStore, MemStore, Store};
+use rl_labels::Limits;
+use rl_plain::PlainText;
 use rl_rules::Group;
 use rl_session::names::front_fault_name;
 use rl_session::{
@@ -24,9 +27,9 @@ use rl_session::{
 };
 use rl_sinks::{Recorder, Sink};
 use std::alloc::{AllocError, AllocFailed, Global};
-use std::io::{BufWriter, ErrorKind, Write};
+use std::io::{BufWriter, Write};
 use std::process::ExitCode;
-use std::{env, mem};
+use std::{fs, mem};
 
 // How many shards there are.
 const SHARDS: usize = 1;
@@ -92,10 +95,10 @@ fn exit_code(ended: Result<Status, Stop>) -> ExitCode
 
 // Reads the options and the input, and runs the commands.
 fn run(rt: &HostRuntime) -> Result<Status, Stop> {
-    read_options(rt)?;
+    let options = read_options(rt)?;
     let mut reader = rt.reader();
     match read_front(rt.alloc(), &mut reader) {
-        Ok(front) => run_front(rt, front),
+        Ok(front) => run_front(rt, options, front),
         Err(error) => Err(stop_at(error)),
     }
 }
@@ -110,47 +113,61 @@ fn stop_at(error: FrontError) -> Stop
     }
 }
 
-// Refuses the options, of which there are none.
-fn read_options(rt: &HostRuntime) -> Result<(), Stop> {
-    let words: Vec<String> = words_of(rt)?;
-    let words = words.as_slice();
-    options_in(rt.alloc(), words)
-}
-
-// The program's name and the words behind it.
-fn words_of(rt: &HostRuntime) -> Result<Vec<String>, Stop> {
-    match env::args(rt) {
-        Ok(words) => Ok(words.collect(rt.alloc())?),
-        Err(error) if error.kind() == ErrorKind::OutOfMemory => Err(Stop::Failed),
-        Err(_error) => Err(Stop::BadOptions),
+// Runs the commands over stores in memory, or in folders.
+fn run_front(rt: &HostRuntime, options: Options, front: Front) -> Result<Status, Stop> {
+    let Options { limits, store } = options;
+    match store {
+        Some(folder) => run_over(rt, limits, folder_stores(rt, folder.as_str())?, front),
+        None => run_over(rt, limits, memory_stores(rt.alloc())?, front),
     }
 }
 
-fn options_in<'a>(alloc: Global, words: &'a [String]) -> Result<(), Stop> {
-    let command = Command::new(alloc, "rule_shell");
-    match command.try_get_matches_from(words) {
-        Ok(_matches) => Ok(()),
-        Err(error) => Err(stop_of(error.kind())),
-    }
-}
-
-// Why the program stops at a fault of its options.
-fn stop_of(kind: OptionsFault) -> Stop
-    ensures memory { kind ≡ OptionsFault.OutOfMemory → result ≡ Stop.Failed }
-    ensures other { kind ≢ OptionsFault.OutOfMemory → result ≡ Stop.BadOptions }
+// A store in memory for each shard.
+fn memory_stores(alloc: Global) -> Result<Vec<MemStore>, Stop>
+    ensures { IfOk result (λ stores. length stores.items ≡ 1) }
 {
-    match kind {
-        OptionsFault::OutOfMemory => Stop::Failed,
-        _ => Stop::BadOptions,
+    let mut stores = Vec::with_capacity(alloc, SHARDS)?;
+    for _ in 0..SHARDS {
+        stores.push(MemStore::new(alloc))?;
+    }
+    Ok(stores)
+}
+
+// A store for each shard, in the folder of its number.
+fn folder_stores(rt: &HostRuntime, folder: &str) -> Result<Vec<DirStore<HostRuntime>>, Stop>
+    ensures { IfOk result (λ stores. length stores.items ≡ 1) }
+{
+    let mut stores = Vec::with_capacity(rt.alloc(), SHARDS)?;
+    for number in 0..SHARDS {
+        let store = folder_store(rt, folder, number)?;
+        stores.push(store)?;
+    }
+    Ok(stores)
+}
+
+// The store of a shard, whose folder is made where it is not there.
+fn folder_store(
+    rt: &HostRuntime,
+    folder: &str,
+    number: usize,
+) -> Result<DirStore<HostRuntime>, Stop> {
+    let own = format!(in rt.alloc(); "{folder}/{number}")?;
+    match fs::create_dir_all(rt, own.as_str()) {
+        Ok(()) => Ok(DirStore::new(*rt, PlainText::from_string(own))),
+        Err(_error) => Err(Stop::Failed),
     }
 }
 
-// Runs the commands, with a recorder for each group.
-fn run_front(rt: &HostRuntime, front: Front) -> Result<Status, Stop> {
+// Runs the commands over the stores, with a recorder for each group.
+fn run_over<D: Store>(
+    rt: &HostRuntime,
+    limits: Limits,
+    stores: Vec<D>,
+    front: Front,
+) -> Result<Status, Stop>
+    requires { length stores.items ≤ most_shards }
+{
     let alloc = rt.alloc();
-    let Ok(limits) = Limits::check(DEFAULT_LIMITS) else {
-        return Err(Stop::Failed);
-    };
     let Front { groups, commands } = front;
     let mut sinks = Vec::with_capacity(alloc, groups.len())?;
     for _ in 0..groups.len() {
@@ -159,25 +176,35 @@ fn run_front(rt: &HostRuntime, front: Front) -> Result<Status, Stop> {
         sinks.push(vec![in alloc; boxed]?)?;
     }
     let mut out = BufWriter::new(alloc, Output::new(*rt)).map_err(|_| Stop::Failed)?;
-    match run_session(alloc, limits, groups, commands.as_str(), sinks, &mut out) {
+    match run_session(
+        alloc,
+        limits,
+        stores,
+        groups,
+        commands.as_str(),
+        sinks,
+        &mut out,
+    ) {
         Ok(status) => Ok(status),
         Err(RunError::WriteFault) | Err(RunError::Memory) => Err(Stop::Failed),
     }
 }
 
 // Runs the commands over a new world. Behind it the process ends, and gives all memory back at once.
-fn run_session<S: Sink, W: Write>(
+fn run_session<D: Store, S: Sink, W: Write>(
     alloc: Global,
     limits: Limits,
+    stores: Vec<D>,
     groups: Vec<Group>,
     commands: &str,
     sinks: Vec<Vec<S>>,
     out: &mut W,
 ) -> Result<Status, RunError>
+    requires shards { length stores.items ≤ most_shards }
     requires lists { length sinks.items ≡ length groups.items }
     requires fresh { AllByRecursion (λ own. AllByRecursion IsFresh (map S.state own.items)) sinks.items }
 {
-    let engine = WorldEngine::open(alloc, limits, SHARDS, groups, sinks)?;
+    let engine = WorldEngine::open(alloc, limits, stores, groups, sinks)?;
     let mut session = Session::new(alloc, engine);
     let ended = session.run_commands(commands, out);
     mem::forget(session);

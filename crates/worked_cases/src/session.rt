@@ -9,6 +9,7 @@ ghost use Rattle.rl_world.specs.BookCalls.{IsFresh};
 
 use crate::given::{limits_in, number_in};
 use crate::trouble::Trouble;
+use rl_chunks::MemStore;
 use rl_labels::Limits;
 use rl_rules::RulesFault;
 use rl_session::names::{front_fault_name, push_error_name};
@@ -95,7 +96,8 @@ fn run_session(
     if groups.len() != 1 {
         return Err(Trouble::BadInput);
     }
-    let engine = WorldEngine::open(alloc, limits, 1, groups, sinks)?;
+    let stores = vec![in alloc; MemStore::new(alloc)]?;
+    let engine = WorldEngine::open(alloc, limits, stores, groups, sinks)?;
     let mut session = Session::new(alloc, engine);
     let ended = session.run_commands(commands.as_str(), &mut written.printed);
     mem::forget(session);

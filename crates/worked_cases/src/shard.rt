@@ -1,11 +1,12 @@
 //! Steps of a shard, and what new shards reply to them.
 //!
-//! A case compares two steps. A step is `push` and an entry, or `collect`, the number of a group, a moment and a query, of
-//! which the first term is asked for.
+//! A case compares two steps. A step is `cut`, or `flush`, or `push` and an entry, or `collect`, the number of a group, a
+//! moment and a query, of which the first term is asked for.
 use crate::compared::halves;
 use crate::given::{entry_in, moment_in, number_in};
 use crate::query::query_in;
 use crate::trouble::Trouble;
+use rl_chunks::MemStore;
 use rl_labels::{DEFAULT_LIMITS, Limits};
 use rl_plain::{PlainList, Same, Shared, TryCopy};
 use rl_shard::{Shard, ShardReply, ShardStep};
@@ -31,6 +32,8 @@ fn steps(alloc: Global, input: &str) -> Result<String, Trouble> {
 
 fn step_in(alloc: Global, text: &str) -> Result<ShardStep, Trouble> {
     match text.split_once(' ') {
+        None if text == "cut" => Ok(ShardStep::Cut),
+        None if text == "flush" => Ok(ShardStep::Flush),
         Some(("push", entry)) => {
             let entry = entry_in(alloc, entry)?;
             Ok(ShardStep::Push(Shared::new(alloc, entry)?))
@@ -54,7 +57,7 @@ fn collect_in(alloc: Global, text: &str) -> Result<ShardStep, Trouble> {
 // What a new shard replies.
 fn reply_to(alloc: Global, step: ShardStep) -> Result<ShardReply, Trouble> {
     let limits = Limits::check(DEFAULT_LIMITS).ok().ok_or(Trouble::BadInput)?;
-    let mut shard = Shard::open(alloc, limits);
+    let mut shard = Shard::open(alloc, MemStore::new(alloc), limits);
     match shard.apply(step) {
         Ok((_, reply)) => Ok(reply),
         Err(_) => Err(Trouble::Memory),

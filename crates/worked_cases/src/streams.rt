@@ -44,8 +44,8 @@ fn run(alloc: Global, input: &str) -> Result<String, Trouble> {
     Ok(told)
 }
 
-// How reads are spoilt.
-fn plan_in(alloc: Global, text: &str) -> Result<PlainList<(u64, Spoil)>, Trouble> {
+/// How reads are spoilt.
+pub(crate) fn plan_in(alloc: Global, text: &str) -> Result<PlainList<(u64, Spoil)>, Trouble> {
     let mut plan = Vec::new(alloc);
     for word in text.split_whitespace() {
         let (read, how) = word.split_once(':').ok_or(Trouble::BadInput)?;

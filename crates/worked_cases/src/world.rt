@@ -2,8 +2,9 @@
 //!
 //! An input is a line of settings, a rule file, a line `%%`, and a step or a look-up in each line. The settings are how many
 //! shards there are, the number under which a book asks, the room of each recorder, as `1,8/-` for two of the first group
-//! and none of the second, and limits by their names.
-ghost use Rattle.std.specs.Prelude.{◌≤◌, IfOk, map};
+//! and none of the second, limits by their names, and behind a `|` how reads of the first shard's store are spoilt, as for
+//! streams.
+ghost use Rattle.std.specs.Prelude.{◌≡◌, ◌≤◌, IfOk, length, map};
 ghost use Rattle.std.specs.List.{AllByRecursion};
 ghost use Rattle.rl_sinks.specs.RecorderState.{recorder_state};
 ghost use Rattle.rl_world.specs.BookCalls.{IsFresh};
@@ -11,8 +12,10 @@ ghost use Rattle.rl_world.specs.Slots.{most_shards};
 
 use crate::given::{limits_in, number_in};
 use crate::rules::group_in;
+use crate::streams::plan_in;
 use crate::trouble::Trouble;
 use crate::world_steps::{Asking, push_lines};
+use rl_chunks::{MemStore, SpoilStore};
 use rl_labels::Limits;
 use rl_rules::read_rules;
 use rl_shard::ShardFault;
@@ -23,6 +26,9 @@ use std::mem;
 
 /// A recorder over a writer that nobody reads.
 pub(crate) type Sunk = Recorder<Vec<u8>>;
+
+/// A store in memory, whose reads may be spoilt.
+pub(crate) type Kept = SpoilStore<MemStore>;
 
 /// What a directive gives for its input.
 pub(crate) fn answer(alloc: Global, directive: &str, input: &str) -> Result<String, Trouble> {
@@ -77,6 +83,7 @@ struct Settings<'a> {
     slot: u64,
     caps: &'a str,
     limits: Limits,
+    spoils: &'a str,
     ghost few: { shards ≤ most_shards },
 }
 
@@ -88,6 +95,7 @@ fn parts_of<'a>(input: &'a str) -> Result<(Settings<'a>, &'a str, &'a str), Trou
 }
 
 fn settings_in<'a>(words: &'a str) -> Result<Settings<'a>, Trouble> {
+    let (words, spoils) = words.split_once('|').unwrap_or((words, ""));
     let (shards, words) = words.split_once(' ').ok_or(Trouble::BadInput)?;
     let (slot, words) = words.split_once(' ').ok_or(Trouble::BadInput)?;
     let (caps, limits) = words.split_once(' ').unwrap_or((words, ""));
@@ -100,17 +108,30 @@ fn settings_in<'a>(words: &'a str) -> Result<Settings<'a>, Trouble> {
         slot,
         caps,
         limits,
+        spoils,
     })
 }
 
-fn opened(alloc: Global, settings: Settings<'_>, file: &str) -> Result<World<Sunk>, Trouble> {
+fn opened(alloc: Global, settings: Settings<'_>, file: &str) -> Result<World<Kept, Sunk>, Trouble> {
     let sinks = sinks_in(alloc, settings.caps)?;
     let groups = read_rules(alloc, file).or(Err(Trouble::BadInput))?;
     if sinks.len() != groups.len() {
         return Err(Trouble::BadInput);
     }
-    let (limits, shards) = (settings.limits, settings.shards);
-    Ok(World::open(alloc, limits, shards, groups, sinks)?)
+    let stores = stores_of(alloc, settings.shards, settings.spoils)?;
+    Ok(World::open(alloc, settings.limits, stores, groups, sinks)?)
+}
+
+// So many stores, of which the first is spoilt.
+fn stores_of(alloc: Global, shards: usize, spoils: &str) -> Result<Vec<Kept>, Trouble>
+    ensures { IfOk result (λ stores. length stores.items ≡ shards) }
+{
+    let mut stores = Vec::with_capacity(alloc, shards)?;
+    for number in 0..shards {
+        let plan = plan_in(alloc, if number == 0 { spoils } else { "" })?;
+        stores.push(SpoilStore::new(MemStore::new(alloc), plan))?;
+    }
+    Ok(stores)
 }
 
 // A book of the one group, with the recorders of one.

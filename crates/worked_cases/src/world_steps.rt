@@ -4,7 +4,7 @@ ghost use Rattle.std.specs.Prelude.{◌≡◌};
 use crate::given::{entry_in, moment_in, number_in};
 use crate::rules::{group_in, push_alert};
 use crate::trouble::Trouble;
-use crate::world::Sunk;
+use crate::world::{Kept, Sunk};
 use rl_plain::{PlainList, Same, Shared};
 use rl_query::print_term;
 use rl_rules::Evaluation;
@@ -18,7 +18,7 @@ use std::mem;
 /// Tells what a world answers to each line. It is asked all steps up to a look-up at once.
 pub(crate) fn push_lines(
     told: &mut String,
-    world: &mut World<Sunk>,
+    world: &mut World<Kept, Sunk>,
     lines: &str,
 ) -> Result<(), Trouble> {
     let alloc = *told.allocator();
@@ -35,7 +35,7 @@ pub(crate) fn push_lines(
 }
 
 // Asks the world the steps, and tells what it answers.
-fn ask(told: &mut String, world: &mut World<Sunk>, steps: Vec<Step>) -> Result<(), Trouble> {
+fn ask(told: &mut String, world: &mut World<Kept, Sunk>, steps: Vec<Step>) -> Result<(), Trouble> {
     let mut replies = Vec::new(*told.allocator());
     let ran = world.run(steps, &mut replies);
     let ended = push_replies(told, replies.as_slice());
@@ -53,10 +53,11 @@ fn step_in(alloc: Global, line: &str) -> Result<Option<Step>, Trouble> {
     };
     Ok(Some(match word {
         "push" => {
-            let step = ShardStep::Push(Shared::new(alloc, entry_in(alloc, rest)?)?);
-            let number = group;
-            Step::Shard { number, step }
+            let entry = Shared::new(alloc, entry_in(alloc, rest)?)?;
+            shard_step(group, ShardStep::Push(entry))
         }
+        "cut" => shard_step(group, ShardStep::Cut),
+        "flush" => shard_step(group, ShardStep::Flush),
         "edit" => {
             let to = group_in(alloc, rest)?;
             Step::Edit { group, to }
@@ -73,6 +74,10 @@ fn step_in(alloc: Global, line: &str) -> Result<Option<Step>, Trouble> {
         "abandon" => Step::Abandon { group },
         _ => return Ok(None),
     }))
+}
+
+fn shard_step(number: usize, step: ShardStep) -> Step {
+    Step::Shard { number, step }
 }
 
 // The first word, and what stands behind its space.
@@ -103,6 +108,7 @@ fn push_replies(told: &mut String, replies: &[Reply]) -> Result<(), Trouble> {
 fn push_decision(told: &mut String, place: u64, reply: &ShardReply) -> Result<(), Trouble> {
     match reply {
         ShardReply::Accepted => writeln!(told, "{place} Accepted")?,
+        ShardReply::Done => writeln!(told, "{place} Done")?,
         ShardReply::Full => writeln!(told, "{place} Full")?,
         ShardReply::TooFarBehind { newest } => {
             writeln!(told, "{place} TooFarBehind {}", newest.get())?
@@ -150,17 +156,29 @@ fn push_refusal<F: Debug + Display>(told: &mut String, fault: &F) -> Result<(), 
 }
 
 // What a look-up finds in a world.
-fn look_at(told: &mut String, world: &mut World<Sunk>, line: &str) -> Result<(), Trouble> {
+fn look_at(told: &mut String, world: &mut World<Kept, Sunk>, line: &str) -> Result<(), Trouble> {
     let (word, rest) = words_of(line);
     let (group, rest) = words_of(rest);
     match word {
         "groups" => writeln!(told, "{}", world.groups())?,
         "close" => writeln!(told, "{} not written", world.close_sinks())?,
+        "store" => push_store(told, world, index_in(group)?)?,
         _ => match world.book(index_in(group)?) {
             Some(book) => look(told, book, word, rest)?,
             None => told.push_str("None\n")?,
         },
     }
+    Ok(())
+}
+
+// How many chunks the store of a shard has, and how often it was read.
+fn push_store(told: &mut String, world: &World<Kept, Sunk>, number: usize) -> Result<(), Trouble> {
+    let Some(shard) = world.shard(number) else {
+        told.push_str("None\n")?;
+        return Ok(());
+    };
+    let store = shard.store().inner();
+    writeln!(told, "{} chunks, {} reads", store.len(), store.reads())?;
     Ok(())
 }
 

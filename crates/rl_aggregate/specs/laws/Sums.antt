@@ -21,7 +21,7 @@ use Rattle.rl_labels.specs.declared.entry.Entry.{Entry}
 use Rattle.rl_query.specs.declared.query.Term.{Term}
 use Rattle.rl_aggregate.specs.InRange.{Element, element, is_in_range, in_range}
 use Rattle.rl_aggregate.specs.Limited.{sum_of, IsLimited}
-use Rattle.rl_aggregate.specs.Partials.{has_error, counts_for, total_of, totals_of, partial, both_totals}
+use Rattle.rl_aggregate.specs.Partials.{has_error, counts_for, total_of, totals_of, partial, partial_of, both_totals}
 use Rattle.rl_aggregate.specs.TotalsMap.{TotalsMap, no_total, plus, total_at}
 use Rattle.rl_aggregate.specs.laws.Totals.{label_set_eq-cmp, total_at-both_totals, total_at-totals_of, sum_by-within}
 use Rattle.rl_aggregate.specs.declared.total.Total.{Total}
@@ -274,6 +274,33 @@ with_or_without es = omega (
     one true = omega arith
     one false = omega arith
 
+-- how much elements add up to
+pub len-partial_of : (es : List Element) → len (partial_of es).totals ≤ length es
+len-partial_of es =
+    let good = filter (λ e. not (has_error e.labels)) es in
+    let entry : Element → LabelSet × Total = λ e. (e.labels, total_of es e.labels) in
+    omega (
+      arith,
+      len-from_entries (map entry good),
+      length-map good entry,
+      length-filter (λ e. not (has_error e.labels)) es,
+      count_by-le-length (λ e. not (has_error e.labels)) es,
+    )
+
+pub counts-partial_of : (es : List Element) → (partial_of es).errors + sum_of (λ total. total.count) (partial_of es).totals ≤ length es
+counts-partial_of es = omega (arith, sum_of-totals_of (λ e. 1) (λ total. total.count) es (λ q. refl), with_or_without es)
+
+pub bytes-partial_of : (es : List Element) → sum_of (λ total. total.bytes) (partial_of es).totals ≤ sum_by (λ e. e.bytes) es
+bytes-partial_of es = omega (
+  arith,
+  sum_of-totals_of (λ e. e.bytes) (λ total. total.bytes) es (λ q. refl),
+  sum_by-le-sum_by (λ e. cond (has_error e.labels) 0 e.bytes) (λ e. e.bytes) es (λ e. otherwise (has_error e.labels) e.bytes),
+)
+  where
+    otherwise : (b : Bool) (n : ℕ) → cond b 0 n ≤ n
+    otherwise true n = omega arith
+    otherwise false n = omega arith
+
 fewer-in_range : (stored : List Entry) (term : Term) (t : ℕ) → length (in_range stored term t) ≤ length stored
 fewer-in_range stored term t = omega (
   arith,
@@ -284,34 +311,13 @@ fewer-in_range stored term t = omega (
 
 -- how much the partial of so many stored adds up to
 pub len-partial : (stored : List Entry) (term : Term) (t : ℕ) → len (partial stored term t).totals ≤ length stored
-len-partial stored term t =
-    let es = in_range stored term t in
-    let good = filter (λ e. not (has_error e.labels)) es in
-    let entry : Element → LabelSet × Total = λ e. (e.labels, total_of es e.labels) in
-    omega (
-      arith,
-      len-from_entries (map entry good),
-      length-map good entry,
-      length-filter (λ e. not (has_error e.labels)) es,
-      count_by-le-length (λ e. not (has_error e.labels)) es,
-      fewer-in_range stored term t,
-    )
+len-partial stored term t = omega (arith, len-partial_of (in_range stored term t), fewer-in_range stored term t)
 
 pub counts-partial : (stored : List Entry) (term : Term) (t : ℕ) → (partial stored term t).errors + sum_of (λ total. total.count) (partial stored term t).totals ≤ length stored
-counts-partial stored term t =
-    let es = in_range stored term t in
-    omega (arith, sum_of-totals_of (λ e. 1) (λ total. total.count) es (λ q. refl), with_or_without es, fewer-in_range stored term t)
+counts-partial stored term t = omega (arith, counts-partial_of (in_range stored term t), fewer-in_range stored term t)
 
 pub bytes-partial : (stored : List Entry) (term : Term) (t : ℕ) → sum_of (λ total. total.bytes) (partial stored term t).totals ≤ length stored * longest_line
-bytes-partial stored term t = omega (
-  arith,
-  sum_of-totals_of (λ e. e.bytes) (λ total. total.bytes) (in_range stored term t) (λ q. refl),
-  sum_by-within (λ e. cond (has_error e.labels) 0 e.bytes) longest_line stored term t (λ e. otherwise-within (has_error (element term.range.stages e).labels) (length e.line) longest_line e.fits),
-)
-  where
-    otherwise-within : (b : Bool) (n m : ℕ) → n ≤ m → cond b 0 n ≤ m
-    otherwise-within true n m h = omega arith
-    otherwise-within false n m h = h
+bytes-partial stored term t = omega (arith, bytes-partial_of (in_range stored term t), sum_by-within (λ e. e.bytes) longest_line stored term t (λ e. e.fits))
 
 -- that of at most 2^30 entries is within the limits
 pub partial-limited : (stored : List Entry) (term : Term) (t : ℕ) → length stored ≤ 2 ^ 30 → IsLimited (partial stored term t)

@@ -21,6 +21,7 @@ use Rattle.rl_labels.specs.LabelText.{canonical_text, label_set_cmp, label_set_e
 use Rattle.rl_labels.specs.laws.TextLaws.{label_set_cmp_total, label_set_cmp-IsAntisymmetric, label_set_eq-true}
 use Rattle.rl_labels.specs.declared.entry.Entry.{Entry}
 use Rattle.rl_query.specs.declared.query.Term.{Term}
+use Rattle.rl_query.specs.declared.stages.Stage.{Stage}
 use Rattle.rl_aggregate.specs.InRange.{Element, element, is_in_range, in_range}
 use Rattle.rl_aggregate.specs.TotalsMap.{TotalsMap, no_total, plus, total_at}
 use Rattle.rl_aggregate.specs.Partials.{has_error, counts_for, total_of, totals_of, partial_of, partial, both_totals, merge, most_entries, Fits}
@@ -138,51 +139,55 @@ in_range-append first second term t =
 pub partial-append : (first second : List Entry) (term : Term) (t : ℕ) → partial (first ++ second) term t ≡ merge (partial first term t) (partial second term t)
 partial-append first second term t = ap partial_of (in_range-append first second term t) ∙ partial_of-append (in_range first term t) (in_range second term t)
 
--- a sum over the elements of a range is one over the entries
-sum_by-in_range : (f : Element → ℕ) (entries : List Entry) (term : Term) (t : ℕ) → sum_by f (in_range entries term t) ≡ sum_by (λ e. cond (is_in_range term t e) (f (element term.range.stages e)) 0) entries
-sum_by-in_range f [] term t = refl
-sum_by-in_range f (e ∷ es) term t =
-    elim (is_in_range term t e) as (λ b. sum_by f (map (element term.range.stages) (cond b (e ∷ filter (is_in_range term t) es) (filter (is_in_range term t) es))) ≡ cond b (f (element term.range.stages e)) 0 + sum_by (λ x. cond (is_in_range term t x) (f (element term.range.stages x)) 0) es) [
-      | true ↦ sum_by-cons f (element term.range.stages e) (in_range es term t) ∙ ap (λ n. f (element term.range.stages e) + n) (sum_by-in_range f es term t)
-      | false ↦ omega (arith, sum_by-in_range f es term t)
+-- a sum over the elements of entries that are kept is one over the entries
+sum_by-kept : (f : Element → ℕ) (keep : Entry → Bool) (stages : List Stage) (entries : List Entry) → sum_by f (map (element stages) (filter keep entries)) ≡ sum_by (λ e. cond (keep e) (f (element stages e)) 0) entries
+sum_by-kept f keep stages [] = refl
+sum_by-kept f keep stages (e ∷ es) =
+    elim (keep e) as (λ b. sum_by f (map (element stages) (cond b (e ∷ filter keep es) (filter keep es))) ≡ cond b (f (element stages e)) 0 + sum_by (λ x. cond (keep x) (f (element stages x)) 0) es) [
+      | true ↦ sum_by-cons f (element stages e) (map (element stages) (filter keep es)) ∙ ap (λ n. f (element stages e) + n) (sum_by-kept f keep stages es)
+      | false ↦ omega (arith, sum_by-kept f keep stages es)
     ]
-    ∙ sym (sum_by-cons (λ x. cond (is_in_range term t x) (f (element term.range.stages x)) 0) e es)
+    ∙ sym (sum_by-cons (λ x. cond (keep x) (f (element stages x)) 0) e es)
 
--- a test of the elements of a range is one of the entries
-list_any-in_range : (p : Element → Bool) (entries : List Entry) (term : Term) (t : ℕ) → list_any p (in_range entries term t) ≡ list_any (λ e. is_in_range term t e && p (element term.range.stages e)) entries
-list_any-in_range p [] term t = refl
-list_any-in_range p (e ∷ es) term t =
-    elim (is_in_range term t e) as (λ b. list_any p (map (element term.range.stages) (cond b (e ∷ filter (is_in_range term t) es) (filter (is_in_range term t) es))) ≡ ((b && p (element term.range.stages e)) || list_any (λ x. is_in_range term t x && p (element term.range.stages x)) es)) [
-      | true ↦ ap (λ b. p (element term.range.stages e) || b) (list_any-in_range p es term t)
-      | false ↦ list_any-in_range p es term t
+-- a test of their elements is one of the entries
+list_any-kept : (p : Element → Bool) (keep : Entry → Bool) (stages : List Stage) (entries : List Entry) → list_any p (map (element stages) (filter keep entries)) ≡ list_any (λ e. keep e && p (element stages e)) entries
+list_any-kept p keep stages [] = refl
+list_any-kept p keep stages (e ∷ es) =
+    elim (keep e) as (λ b. list_any p (map (element stages) (cond b (e ∷ filter keep es) (filter keep es))) ≡ ((b && p (element stages e)) || list_any (λ x. keep x && p (element stages x)) es)) [
+      | true ↦ ap (λ b. p (element stages e) || b) (list_any-kept p keep stages es)
+      | false ↦ list_any-kept p keep stages es
     ]
 
-sum_by-permuted : (f : Element → ℕ) (entries others : List Entry) (term : Term) (t : ℕ) → IsPermutation entries others → sum_by f (in_range entries term t) ≡ sum_by f (in_range others term t)
-sum_by-permuted f entries others term t moved =
-    sum_by-in_range f entries term t
-    ∙ sym (sum_by-IsPermutation (λ e. cond (is_in_range term t e) (f (element term.range.stages e)) 0) entries others moved)
-    ∙ sym (sum_by-in_range f others term t)
+sum_by-permuted : (f : Element → ℕ) (keep : Entry → Bool) (stages : List Stage) (entries others : List Entry) → IsPermutation entries others → sum_by f (map (element stages) (filter keep entries)) ≡ sum_by f (map (element stages) (filter keep others))
+sum_by-permuted f keep stages entries others moved =
+    sum_by-kept f keep stages entries
+    ∙ sym (sum_by-IsPermutation (λ e. cond (keep e) (f (element stages e)) 0) entries others moved)
+    ∙ sym (sum_by-kept f keep stages others)
 
-list_any-permuted : (p : Element → Bool) (entries others : List Entry) (term : Term) (t : ℕ) → IsPermutation entries others → list_any p (in_range entries term t) ≡ list_any p (in_range others term t)
-list_any-permuted p entries others term t moved =
-    list_any-in_range p entries term t
-    ∙ list_any-IsPermutation (λ e. is_in_range term t e && p (element term.range.stages e)) entries others moved
-    ∙ sym (list_any-in_range p others term t)
+list_any-permuted : (p : Element → Bool) (keep : Entry → Bool) (stages : List Stage) (entries others : List Entry) → IsPermutation entries others → list_any p (map (element stages) (filter keep entries)) ≡ list_any p (map (element stages) (filter keep others))
+list_any-permuted p keep stages entries others moved =
+    list_any-kept p keep stages entries
+    ∙ list_any-IsPermutation (λ e. keep e && p (element stages e)) entries others moved
+    ∙ sym (list_any-kept p keep stages others)
 
--- the order of entries does not matter
-pub partial-permuted : (entries others : List Entry) (term : Term) (t : ℕ) → IsPermutation entries others → partial entries term t ≡ partial others term t
-partial-permuted entries others term t moved =
-    let es = in_range entries term t in
-    let fs = in_range others term t in
+-- the order of the entries of which some are kept does not matter
+pub kept-permuted : (keep : Entry → Bool) (stages : List Stage) (entries others : List Entry) → IsPermutation entries others → partial_of (map (element stages) (filter keep entries)) ≡ partial_of (map (element stages) (filter keep others))
+kept-permuted keep stages entries others moved =
+    let es = map (element stages) (filter keep entries) in
+    let fs = map (element stages) (filter keep others) in
     let same : totals_of es ≡ totals_of fs = same_totals _ _ (λ q.
     let total : total_of es q ≡ total_of fs q = λ i. record {
-      count = sum_by-permuted (λ x. cond (counts_for q x) 1 0) entries others term t moved i;
-      bytes = sum_by-permuted (λ x. cond (counts_for q x) x.bytes 0) entries others term t moved i;
+      count = sum_by-permuted (λ x. cond (counts_for q x) 1 0) keep stages entries others moved i;
+      bytes = sum_by-permuted (λ x. cond (counts_for q x) x.bytes 0) keep stages entries others moved i;
     } in
     get-totals_of es q
-    ∙ (λ i. cond (list_any-permuted (counts_for q) entries others term t moved i) (Some (total i)) None)
+    ∙ (λ i. cond (list_any-permuted (counts_for q) keep stages entries others moved i) (Some (total i)) None)
     ∙ sym (get-totals_of fs q)) in
-    λ i. record { errors = sum_by-permuted (λ e. cond (has_error e.labels) 1 0) entries others term t moved i; totals = same i }
+    λ i. record { errors = sum_by-permuted (λ e. cond (has_error e.labels) 1 0) keep stages entries others moved i; totals = same i }
+
+-- so that of all entries does not
+pub partial-permuted : (entries others : List Entry) (term : Term) (t : ℕ) → IsPermutation entries others → partial entries term t ≡ partial others term t
+partial-permuted entries others term t moved = kept-permuted (is_in_range term t) term.range.stages entries others moved
 
 -- a sum over the elements of a range, each of them within a bound
 pub sum_by-within : (f : Element → ℕ) (m : ℕ) (entries : List Entry) (term : Term) (t : ℕ) → ((e : Entry) → f (element term.range.stages e) ≤ m) → sum_by f (in_range entries term t) ≤ length entries * m

@@ -1,6 +1,6 @@
 -- What follows of a run: a reply for each step, a replay by LogQL from scratch, and what it makes of each sink.
 use Rattle.std.proofs.Common.{◌≡◌, ℕ, zero, suc, ◌+◌, ◌<◌, ◌%◌, ◌^◌, Bool, true, false, cond, ◌||◌, List, [], ◌∷◌, map, length, Option, None, Some, MatchOption, option_map, option_and_then, slice_get, slice_set, nat_lt, nat_eq, refl, sym, ap, subst, ◌∙◌, arith}
-use Rattle.std.specs.List.{AllByRecursion, list_any, zip}
+use Rattle.std.specs.List.{list_any, zip}
 use Rattle.std.proofs.lemmas.List.Sums.{sum_by-cons}
 use Rattle.std.proofs.lemmas.Option.{slice_get-map}
 use Rattle.std.proofs.lemmas.Bool.{eqb-true, eqb-false, eq-eqb, ne_eqb}
@@ -8,9 +8,11 @@ use Rattle.rl_rules.specs.declared.evaluation.Evaluation.{Evaluation}
 use Rattle.rl_sinks.specs.SinkState.{SinkState}
 use Rattle.rl_world.specs.Offering.{Offered, AllOffered, is_behind, behind_from, behind_of}
 use Rattle.rl_world.specs.Listings.{SinksFollow, listing, listings, is_listed, latest, last_listing}
+use Rattle.rl_world.specs.ShardsTurn.{AreHonest}
+use Rattle.rl_world.specs.laws.StoreLaws.{get_set, get_set_other, still_honest}
 use Rattle.rl_world.specs.WorldRun.{CommitSinks, SinkStep, Ran, Replays, BookTold, told}
 use Rattle.rl_world.specs.WorldState.{BookState, WorldBooks, WorldState, world_of}
-use Rattle.rl_world.specs.WorldStep.{Keeping, Turn, WorldStep, IsOfNoStore, Replay, lists}
+use Rattle.rl_world.specs.WorldStep.{Keeping, Turn, WorldStep, Replay, lists}
 use Rattle.rl_world.specs.declared.step.Committed.{Committed}
 use Rattle.rl_world.specs.declared.step.Step.{Step}
 use Rattle.rl_world.specs.declared.step.Step.TheVariants as steps
@@ -24,22 +26,15 @@ ran_length old (step ∷ steps) (reply ∷ replies) new run = ap suc (ran_length
 ran_length old [] (reply ∷ replies) new run = absurd run
 ran_length old (step ∷ steps) [] new run = absurd run
 
--- a run is a replay by LogQL from scratch, of any lists that may have been shown
-pub ran_replays : (old : WorldBooks) (steps : List Step) (replies : List Reply) (new : WorldBooks) → Ran old steps replies new → Replays old steps replies new
-ran_replays old [] [] new run shown stands = (shown, ap (λ (world : WorldBooks). world_of world.shards world.books) run ∙ stands, refl)
-ran_replays old (step ∷ steps) (reply ∷ replies) new run shown stands =
-    let first = run.1.from_scratch shown stands in
-    let rest = ran_replays run.0 steps replies new run.2 first.0 first.1 in
+-- a run over honest stores is a replay by LogQL from scratch, of any lists that may have been shown
+pub ran_replays : (old : WorldBooks) (steps : List Step) (replies : List Reply) (new : WorldBooks) → AreHonest old.shards → Ran old steps replies new → Replays old steps replies new
+ran_replays old [] [] new honest run shown stands = (shown, ap (λ (world : WorldBooks). world_of world.shards world.books) run ∙ stands, refl)
+ran_replays old (step ∷ steps) (reply ∷ replies) new honest run shown stands =
+    let first = run.1.from_scratch honest shown stands in
+    let rest = ran_replays run.0 steps replies new (still_honest old.shards step reply run.0.shards run.1.stores honest) run.2 first.0 first.1 in
     (rest.0, rest.1, (first.0, first.2, rest.2))
-ran_replays old [] (reply ∷ replies) new run shown stands = absurd run
-ran_replays old (step ∷ steps) [] new run shown stands = absurd run
-
--- no reply tells of a store
-pub ran_no_store : (old : WorldBooks) (steps : List Step) (replies : List Reply) (new : WorldBooks) → Ran old steps replies new → AllByRecursion IsOfNoStore replies
-ran_no_store old [] [] new run = tt
-ran_no_store old (step ∷ steps) (reply ∷ replies) new run = (run.1.no_store, ran_no_store run.0 steps replies new run.2)
-ran_no_store old [] (reply ∷ replies) new run = absurd run
-ran_no_store old (step ∷ steps) [] new run = absurd run
+ran_replays old [] (reply ∷ replies) new honest run shown stands = absurd run
+ran_replays old (step ∷ steps) [] new honest run shown stands = absurd run
 
 some_is : {X : Type 0} (a b : X) → Some a ≡ Some b → a ≡ b
 some_is a b h = cc
@@ -49,19 +44,6 @@ none_some x h = cc
 
 true_false : true ≡ false → ⊥
 true_false h = cc
-
--- a look-up in a list of which one item was replaced
-get_set : {X : Type 0} (xs : List X) (k : ℕ) (x y : X) → slice_get xs k ≡ Some x → slice_get (slice_set xs k y) k ≡ Some y
-get_set [] k x y there = absurd (none_some x there)
-get_set (z ∷ xs) zero x y there = refl
-get_set (z ∷ xs) (suc k) x y there = get_set xs k x y there
-
-get_set_other : {X : Type 0} (xs : List X) (j k : ℕ) (y : X) → (j ≡ k → ⊥) → slice_get (slice_set xs j y) k ≡ slice_get xs k
-get_set_other [] j k y apart = refl
-get_set_other (z ∷ xs) zero zero y apart = absurd (apart refl)
-get_set_other (z ∷ xs) zero (suc k) y apart = refl
-get_set_other (z ∷ xs) (suc j) zero y apart = refl
-get_set_other (z ∷ xs) (suc j) (suc k) y apart = get_set_other xs j k y (λ h. apart (ap suc h))
 
 -- a sink among those that were offered
 record OfferedAt (evaluations : List Evaluation) (old : SinkState) (news : List SinkState) (k : ℕ) : Type 0 where
@@ -308,7 +290,7 @@ module _ {X : Type 0} (keeping : Keeping X) where
   replay_unlisted old (step ∷ steps) [] new replay = absurd replay
 
 -- a run whose replies are told without those lists is a replay all the same
-pub unlisted_replays : (old : WorldBooks) (steps : List Step) (replies told : List Reply) (new : WorldBooks) → Ran old steps replies new → told ≡ map unlisted replies → Replays old steps told new
-unlisted_replays old steps replies told new run is shown stands =
-    let replay = ran_replays old steps replies new run shown stands in
+pub unlisted_replays : (old : WorldBooks) (steps : List Step) (replies told : List Reply) (new : WorldBooks) → AreHonest old.shards → Ran old steps replies new → told ≡ map unlisted replies → Replays old steps told new
+unlisted_replays old steps replies told new honest run is shown stands =
+    let replay = ran_replays old steps replies new honest run shown stands in
     (replay.0, replay.1, subst (λ said. Replay lists shown steps said replay.0) (sym is) (replay_unlisted lists shown steps replies replay.0 replay.2))

@@ -1,6 +1,6 @@
 -- A label that a set has is not empty.
 use Rattle.std.proofs.Common.{◌∙◌}
-use Rattle.rl_aggregate.proofs.Counting.{has_error-found}
+use Rattle.rl_aggregate.proofs.Tallying.{has_error-found}
 use Rattle.rl_aggregate.proofs.tally.has_error.Goals as goal
 
 pub returns : goal.returns

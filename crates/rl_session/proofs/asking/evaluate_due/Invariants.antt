@@ -1,5 +1,5 @@
 -- The groups so far, and room for those that are left.
-use Rattle.std.proofs.Common.{◌≡◌, ◌+◌, ◌-◌, ◌≤◌, length}
+use Rattle.std.proofs.Common.{◌+◌, ◌-◌, ◌≤◌, length}
 use Rattle.std.specs.Prelude.{vec_len, vec_capacity}
 use Rattle.rl_session.specs.Asking.{EvaluatesDue}
 use Rattle.rl_session.proofs.asking.evaluate_due.Given as goal

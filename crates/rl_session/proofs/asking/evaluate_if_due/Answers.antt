@@ -1,5 +1,5 @@
 -- A group that is due, or not.
-use Rattle.std.proofs.Common.{[], ◌∷◌, true, false, refl, sym, subst, arith}
+use Rattle.std.proofs.Common.{[], ◌∷◌, true, false, refl, sym, subst}
 use Rattle.std.proofs.lemmas.List.{append-nil}
 use Rattle.rl_session.proofs.asking.evaluate_if_due.Goals as goal
 

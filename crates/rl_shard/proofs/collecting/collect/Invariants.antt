@@ -1,10 +1,12 @@
--- The partials of the terms so far, and those of the known ones.
-use Rattle.std.proofs.Common.{◌≡◌, take, map}
-use Rattle.rl_aggregate.specs.Partials.{partial}
+-- The partials of the terms so far, and those of the known ones. The streams were only looked at.
+use Rattle.std.proofs.Common.{take, map}
+use Rattle.rl_streams.specs.StreamsState.{Looks}
+use Rattle.rl_shard.specs.Collecting.{ArePartialsOf}
 use Rattle.rl_shard.proofs.collecting.collect.Given as goal
 
 abbrev pub invariant-loop-index : goal.invariant-loop-index
-invariant-loop-index l = record {
-  partials : l.partials.items ≡ map (λ term. partial l.held term l.t) (take l.index l.terms);
-  known : l.added_up.items ≡ map (λ one. partial l.held one.now l.t) l.known.items;
+invariant-loop-index g l = record {
+  looks : Looks l.fn.streams l.streams;
+  partials : ArePartialsOf l.streams (take l.index l.terms) l.t l.partials.items;
+  known : ArePartialsOf l.streams (map (λ one. one.now) l.known.items) l.t l.added_up.items;
 }

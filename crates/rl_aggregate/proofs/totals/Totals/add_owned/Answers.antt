@@ -1,13 +1,13 @@
 -- The tree has at the label set what it had there and the total.
 use Rattle.std.proofs.Common.{◌≡◌, refl, sym, ap, ◌∙◌, arith}
-use Rattle.std.proofs.lemmas.Result.{on_ok_weaker}
+use Rattle.std.proofs.lemmas.Result.{on_ok_weaker, on_err_weaker}
 use Rattle.std.specs.BTreeMap.{is_at}
 use Rattle.std.specs.Map.{lookup}
 use Rattle.std.specs.Option.{unwrap_or}
 use Rattle.rl_labels.specs.LabelText.{label_set_cmp}
 use Rattle.rl_aggregate.specs.TotalsMap.{no_total, total_at}
 use Rattle.rl_aggregate.specs.declared.total.Total.{Total}
-use Rattle.rl_aggregate.proofs.Maps.{total_at-totals_in, one_added}
+use Rattle.rl_aggregate.proofs.Maps.{totals_in, total_at-totals_in, one_added}
 use Rattle.rl_aggregate.proofs.totals.Totals.add_owned.Goals as goal
 
 pub add_at-requires : goal.add_at-requires
@@ -17,5 +17,8 @@ add_at-requires c =
       omega (arith, c.requires.1, ap (λ (t : Total). t.bytes) there),
     )
 
-pub returns : goal.returns
-returns c = on_ok_weaker c.add_at.result (λ answers. one_added c.args.self.now c.self.inside.by_labels.entries c.add_at.new.by_labels.entries c.args.labels (lookup (is_at (label_set_cmp c.args.labels)) c.self.inside.by_labels.entries) c.args.total c.self.view_is refl answers) c.add_at.ensures
+pub returns-clause-ok : goal.returns-clause-ok
+returns-clause-ok c = on_ok_weaker c.add_at.result (λ answers. one_added c.args.self.now c.self.inside.by_labels.entries c.add_at.new.by_labels.entries c.args.labels (lookup (is_at (label_set_cmp c.args.labels)) c.self.inside.by_labels.entries) c.args.total c.self.view_is refl answers) c.add_at.ensures.ok
+
+pub returns-clause-err : goal.returns-clause-err
+returns-clause-err c = on_err_weaker c.add_at.result (λ same. ap totals_in same ∙ c.self.view_is) c.add_at.ensures.err

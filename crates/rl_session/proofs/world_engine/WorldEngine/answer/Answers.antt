@@ -2,24 +2,21 @@
 use Rattle.std.proofs.Common.{sym, subst, ◌∙◌}
 use Rattle.rl_world.specs.WorldRun.{Turned}
 use Rattle.rl_session.specs.WorldEngine.{Tells, IsAlike}
-use Rattle.rl_session.proofs.Standing.{followed}
+use Rattle.rl_session.proofs.Following.{followed}
 use Rattle.rl_session.proofs.world_engine.WorldEngine.answer.Goals as goal
 
 pub invariant_of-self : goal.invariant_of-self
-invariant_of-self g c =
-    let engine = c.self.invariant in
-    let follows = followed c.self.inside.world c.args.step c.answer.result c.answer.new.self engine.stands c.answer.ensures.turned in
-    record { shards_are = engine.shards_are ∙ sym follows.alike.1; stands = follows.stands }
+invariant_of-self g c = c.self.invariant ∙ sym (followed c.self.inside.world c.args.step c.answer.result c.answer.new.self c.answer.ensures.turned).alike.1
 
 pub returns-clause-turned : goal.returns-clause-turned
 returns-clause-turned g c = subst (λ old. Turned old c.args.step c.answer.result c.answer.new.self) c.self.view_is c.answer.ensures.turned
 
 pub returns-clause-told : goal.returns-clause-told
 returns-clause-told g c =
-    let follows = followed c.self.inside.world c.args.step c.answer.result c.answer.new.self c.self.invariant.stands c.answer.ensures.turned in
-    subst (λ old. Tells old c.args.step c.answer.result c.answer.new.self) c.self.view_is follows.told
+    let follows = followed c.self.inside.world c.args.step c.answer.result c.answer.new.self c.answer.ensures.turned in
+    subst (λ old. Tells old c.args.step c.answer.result c.answer.new.self) c.self.view_is follows.tells
 
 pub returns-clause-alike : goal.returns-clause-alike
 returns-clause-alike g c =
-    let follows = followed c.self.inside.world c.args.step c.answer.result c.answer.new.self c.self.invariant.stands c.answer.ensures.turned in
+    let follows = followed c.self.inside.world c.args.step c.answer.result c.answer.new.self c.answer.ensures.turned in
     subst (λ old. IsAlike old c.answer.new.self) c.self.view_is follows.alike

@@ -1,5 +1,5 @@
 -- A shard more, or the first that refuses.
-use Rattle.std.proofs.Common.{◌+◌, suc, ◌≡◌, Ok, ap, subst, ◌∙◌, arith, length}
+use Rattle.std.proofs.Common.{◌+◌, suc, ◌≡◌, Ok, subst, ◌∙◌, arith, length}
 use Rattle.std.proofs.lemmas.Result.{err_from_is_err_and}
 use Rattle.rl_session.specs.WorldEngine.{AreGathered}
 use Rattle.rl_session.proofs.Worlds.{gathered_more, gathered_stop}

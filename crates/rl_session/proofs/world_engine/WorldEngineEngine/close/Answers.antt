@@ -1,12 +1,12 @@
--- Closed books stand for the same lists, and are listed as before.
-use Rattle.std.proofs.Common.{map, ap, ◌∙◌}
+-- Closed books are listed as before.
+use Rattle.std.proofs.Common.{map, length, sym, ap, ◌∙◌}
 use Rattle.rl_world.specs.WorldState.{WorldBooks}
 use Rattle.rl_session.specs.WorldEngine.{listed}
-use Rattle.rl_session.proofs.Worlds.{closed_listed, closed_engine}
+use Rattle.rl_session.proofs.Worlds.{closed_listed}
 use Rattle.rl_session.proofs.world_engine.WorldEngineEngine.close.Goals as goal
 
 pub invariant_of-self : goal.invariant_of-self
-invariant_of-self g c = closed_engine c.self.inside.shards c.self.inside.world c.close_sinks.new.self c.close_sinks.ensures.closed c.self.invariant
+invariant_of-self g c = c.self.invariant ∙ sym (ap (λ (world : WorldBooks). length world.shards) c.close_sinks.ensures.closed)
 
 pub returns-clause-groups : goal.returns-clause-groups
 returns-clause-groups g c =

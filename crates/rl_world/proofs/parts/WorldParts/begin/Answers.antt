@@ -23,4 +23,4 @@ pub returns-in-Err-clause-step : goal.returns-in-Err-clause-step
 returns-in-Err-clause-step g c =
     let books = c.args.self.now.books.items in
     let there = slice_get_read books c.len.result c.args.group c.index_mut-book.result.now (omega (arith, c.len.ensures, c.args.self.now.books.ok.0)) c.if-group-len.false c.index_mut-book.ensures.value in
-    begin_refused c.args.self.now.shards.items books c.args.group c.args.t c.index_mut-book.result.now c.begin.new.self c.in-Err.error c.refusal_of_book.result there c.in-Err.ensures.answer c.refusal_of_book.ensures.told c.in-Err.ensures.err
+    begin_refused c.args.self.now.shards.items books c.args.group c.args.t c.index_mut-book.result.now c.begin.new.self c.in-Err.error c.refusal_of_book.result there c.in-Err.ensures.answer c.refusal_of_book.ensures c.in-Err.ensures.err

@@ -34,4 +34,4 @@ returns-in-Err-clause-step g c =
     let books = c.args.self.now.books.items in
     let book = c.index_mut-book.result.now in
     let there = slice_get_read books c.len.result c.args.group book (omega (arith, c.len.ensures, c.args.self.now.books.ok.0)) c.if-group-len.false c.index_mut-book.ensures.value in
-    commit_refused c.args.self.now.shards.items books c.args.group book c.commit.new.self there c.in-Err.error c.refusal_of_book.result c.in-Err.ensures.answer c.refusal_of_book.ensures.told c.in-Err.ensures.err
+    commit_refused c.args.self.now.shards.items books c.args.group book c.commit.new.self there c.in-Err.error c.refusal_of_book.result c.in-Err.ensures.answer c.refusal_of_book.ensures c.in-Err.ensures.err

@@ -37,4 +37,4 @@ returns-in-Err-clause-step g c =
     let one = same_read books c.args.group book c.index.result.now there first in
     let same : c.is_same_name.result ≡ true = grind (arith, common_steps) in
     let named = ap (λ (b : BookState). is_text c.args.to.name b.history.group.name) one ∙ ap (λ (group : Group). is_text c.args.to.name group.name) (sym c.group.ensures.now) ∙ sym c.is_same_name.ensures ∙ same in
-    edit_refused c.args.self.now.shards.items books c.args.group c.args.to book c.edit.new.self c.in-Err.error c.refusal_of_book.result there named c.in-Err.ensures.answer c.refusal_of_book.ensures.told c.in-Err.ensures.err
+    edit_refused c.args.self.now.shards.items books c.args.group c.args.to book c.edit.new.self c.in-Err.error c.refusal_of_book.result there named c.in-Err.ensures.answer c.refusal_of_book.ensures c.in-Err.ensures.err

@@ -1,13 +1,14 @@
--- What follows of a run: it is a replay, and every sink follows its replies.
+-- What follows of a run: it is a replay over honest stores, and every store and every sink follows its replies.
 use Rattle.rl_world.specs.WorldRun.{gained}
-use Rattle.rl_world.specs.laws.RunLaws.{ran_replays, ran_follow, ran_no_store}
+use Rattle.rl_world.specs.laws.RunLaws.{ran_replays, ran_follow}
+use Rattle.rl_world.specs.laws.StoreLaws.{ran_stores}
 use Rattle.rl_world.proofs.world.World.run.Goals as goal
 
 pub returns-clause-replays : goal.returns-clause-replays
-returns-clause-replays g c = ran_replays c.args.self.now c.args.steps.items (gained c.args.out.now.items c.answer_all.new.out.items) c.answer_all.new.self c.in_ok-answer_all.ensures.turns
+returns-clause-replays g c = λ honest. ran_replays c.args.self.now c.args.steps.items (gained c.args.out.now.items c.answer_all.new.out.items) c.answer_all.new.self honest c.in_ok-answer_all.ensures.turns
 
-pub returns-clause-no_store : goal.returns-clause-no_store
-returns-clause-no_store g c = ran_no_store c.args.self.now c.args.steps.items (gained c.args.out.now.items c.answer_all.new.out.items) c.answer_all.new.self c.in_ok-answer_all.ensures.turns
+pub returns-clause-stores : goal.returns-clause-stores
+returns-clause-stores g c = ran_stores c.args.self.now c.args.steps.items (gained c.args.out.now.items c.answer_all.new.out.items) c.answer_all.new.self c.in_ok-answer_all.ensures.turns
 
 pub returns-clause-follows : goal.returns-clause-follows
 returns-clause-follows g c = ran_follow c.args.self.now c.args.steps.items (gained c.args.out.now.items c.answer_all.new.out.items) c.answer_all.new.self c.in_ok-answer_all.ensures.turns

@@ -1,0 +1,51 @@
+-- A line that stays is one element more, with the labels that it has behind the stages.
+use Rattle.std.proofs.Common.{◌≡◌, cond, None, Some, length, refl, sym, ap, ◌∙◌}
+use Rattle.std.proofs.lemmas.Result.{on_ok_weaker}
+use Rattle.rl_pipeline.specs.Lines.{StreamLine}
+use Rattle.rl_pipeline.specs.Running.{run}
+use Rattle.rl_aggregate.specs.Tallies.{with_line, with_run}
+use Rattle.rl_aggregate.specs.Waiting.{with_waiting}
+use Rattle.rl_aggregate.specs.declared.total.Total.{Total}
+use Rattle.rl_aggregate.proofs.Tallying.{line_stays, line_leaves}
+use Rattle.rl_aggregate.proofs.tally.Tally.count.Goals as goal
+
+pub returns-then-keeps-clause-ok : goal.returns-then-keeps-clause-ok
+returns-then-keeps-clause-ok c =
+    let labels = c.args.labels.now in
+    let text = c.args.text.now in
+    let stages = c.self.inside.running in
+    let ran : Some labels ≡ run stages text labels = sym (c.self.invariant.0 c.if-self.true text labels ∙ ap (λ b. cond b (Some labels) None) (sym c.if-keeps.ensures.answer)) in
+    on_ok_weaker c.add_line.result (λ ok.
+    (λ i. record { running = c.keeps.ensures.same i; found = (ok ∙ line_stays labels stages labels text (length text) (with_waiting c.self.inside.waiting c.self.inside.found) ran refl) i })
+    ∙ ap (with_line labels text) c.self.view_is) c.add_line.ensures.ok
+
+pub returns-then-self-clause-ok : goal.returns-then-self-clause-ok
+returns-then-self-clause-ok c =
+    let labels = c.args.labels.now in
+    let text = c.args.text.now in
+    let stages = c.self.inside.running in
+    let ran : None ≡ run stages text labels = sym (c.self.invariant.0 c.if-self.true text labels ∙ ap (λ b. cond b (Some labels) None) (sym c.if-keeps.ensures.answer)) in
+    (λ i. record { running = c.keeps.ensures.same i; found = line_leaves stages labels text (with_waiting c.self.inside.waiting c.self.inside.found) ran i })
+    ∙ ap (with_line labels text) c.self.view_is
+
+pub returns-in_default-clause-ok : goal.returns-in_default-clause-ok
+returns-in_default-clause-ok c =
+    let labels = c.args.labels.now in
+    let text = c.args.text.now in
+    let stages = c.self.inside.running in
+    let ran : None ≡ run stages text labels = sym c.in_default.is ∙ c.in_ok-behind.ensures.run ∙ ap (λ (line : StreamLine). run stages line.text line.labels) c.requires.line in
+    (λ i. record { running = c.in_ok-behind.ensures.same i; found = line_leaves stages labels text (with_waiting c.self.inside.waiting c.self.inside.found) ran i })
+    ∙ ap (with_line labels text) c.self.view_is
+
+pub returns-clause-ok : goal.returns-clause-ok
+returns-clause-ok c =
+    let labels = c.args.labels.now in
+    let text = c.args.text.now in
+    let stages = c.self.inside.running in
+    let behind = c.in-Some.behind in
+    let one : Total = record { count = 1; bytes = length text } in
+    let ran : Some behind ≡ run stages text labels = sym c.in-Some.is ∙ c.in_ok-behind.ensures.run ∙ ap (λ (line : StreamLine). run stages line.text line.labels) c.requires.line in
+    on_ok_weaker c.add_one.result (λ ok.
+    (λ i. record { running = c.in_ok-behind.ensures.same i; found = with_waiting (c.in_ok-add_waiting.ensures.none i) c.add_one.new.found })
+    ∙ (λ i. record { running = stages; found = (ok ∙ ap (with_run behind one) c.in_ok-add_waiting.ensures.ok ∙ line_stays behind stages labels text (length text) (with_waiting c.self.inside.waiting c.self.inside.found) ran refl) i })
+    ∙ ap (with_line labels text) c.self.view_is) c.add_one.ensures.ok

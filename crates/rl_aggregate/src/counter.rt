@@ -1,0 +1,123 @@
+//! Lines counted one by one, behind the stages of several pipelines.
+ghost use Rattle.std.specs.Prelude.{◌≡◌, ◌≤◌, ◌+◌, ℕ, false, map, length, IfOk, OnOk};
+ghost use Rattle.std.specs.List.{AllByRecursion};
+ghost use Rattle.rl_labels.specs.EntryParts.{longest_line};
+ghost use Rattle.rl_aggregate.specs.Counter.{counted_line};
+ghost use Rattle.rl_aggregate.specs.Limited.{IsWithin};
+ghost use Rattle.rl_aggregate.specs.Partials.{most_entries};
+ghost use Rattle.rl_aggregate.specs.Tallies.{nothing_counted, with_line, HasRoom};
+
+use crate::partial::Partial;
+use crate::tally::Tally;
+use rl_labels::Labels;
+use rl_labels::entry::MAX_LINE_LEN;
+use rl_pipeline::{Line, Meter, Pipeline};
+use std::alloc::{AllocError, Global};
+use std::marker::Model;
+
+/// Counts lines of streams one by one, behind the stages of several pipelines, so many at most. Lines that keep their labels
+/// are added together as long as they are of one stream.
+#[derive(Drop)]
+pub struct Counter<'a> {
+    most: u64,
+    left: u64,
+    is_over: bool,
+    tallies: Vec<Tally<'a>>,
+}
+
+impl<'a> Model for Counter<'a> {
+    ghost use Rattle.rl_aggregate.specs.Counter.{CounterView, IsCounter, counter_code};
+
+    ghost Value = { CounterView };
+
+    ghost coded = { counter_code };
+
+    ghost view = { λ a. record { most = a.most; left = a.left; is_over = a.is_over; tallies = a.tallies.items } };
+
+    ghost invariant = { λ a. IsCounter a.most a.left a.tallies.items };
+}
+
+impl<'a> Counter<'a> {
+    /// Nothing counted.
+    pub fn new(
+        alloc: Global,
+        pipelines: &'a [Pipeline],
+        most: u64,
+    ) -> Result<Counter<'a>, AllocError>
+        requires few { most ≤ most_entries }
+        ensures { IfOk result (λ counter. counter ≡ record { most = most; left = most; is_over = false; tallies = map nothing_counted pipelines.now }) }
+    {
+        let tallies = tallies_of(alloc, pipelines)?;
+        Ok(Counter {
+            most,
+            left: most,
+            is_over: false,
+            tallies,
+        })
+    }
+
+    /// Counts a line of a stream with these labels, as far as it stays.
+    pub fn count(&mut self, labels: &Labels, text: &str) -> Result<(), AllocError>
+        ensures { OnOk result (self.new ≡ counted_line labels.now text.now self.old) }
+    {
+        if self.left == 0 || text.len() > MAX_LINE_LEN {
+            self.is_over = true;
+            return Ok(());
+        }
+        self.left -= 1;
+        count_in_each(&mut self.tallies, labels, text)
+    }
+
+    /// Whether a line came that it may not count.
+    pub fn is_over(&self) -> bool
+        ensures { result ≡ self.now.is_over }
+    {
+        self.is_over
+    }
+
+    /// What each pipeline has counted. Whatever lines came, it is within what so many of them add up to.
+    pub fn partials(self, alloc: Global) -> Result<Vec<Partial>, AllocError>
+        ensures found { IfOk result (λ partials. partials.items ≡ map (λ tally. tally.found) self.entry.tallies) }
+        ensures within { IfOk result (λ partials. AllByRecursion (IsWithin self.entry.most) partials.items) }
+    {
+        partials_of(alloc, self.tallies)
+    }
+}
+
+// A tally of each pipeline, in which nothing is counted.
+fn tallies_of<'a>(alloc: Global, pipelines: &'a [Pipeline]) -> Result<Vec<Tally<'a>>, AllocError>
+    ensures { IfOk result (λ tallies. tallies.items ≡ map nothing_counted pipelines.now) }
+{
+    let mut tallies = Vec::with_capacity(alloc, pipelines.len())?;
+    for pipeline in pipelines {
+        tallies.push(Tally::new(alloc, pipeline)?)?;
+    }
+    Ok(tallies)
+}
+
+// Counts a line in each tally, as far as it stays there.
+fn count_in_each(tallies: &mut [Tally<'_>], labels: &Labels, text: &str) -> Result<(), AllocError>
+    requires room { AllByRecursion (λ tally. HasRoom 1 tally.found) tallies.old }
+    requires fits { length text.now ≤ longest_line }
+    ensures counted { OnOk result (tallies.new ≡ map (with_line labels.now text.now) tallies.old) }
+    ensures within { (lines : ℕ) → AllByRecursion (λ tally. IsWithin lines tally.found) tallies.old → AllByRecursion (λ tally. IsWithin (lines + 1) tally.found) tallies.new }
+{
+    let mut meter = Meter::new();
+    let mut line = Line::new(labels, text);
+    for index in 0..tallies.len() {
+        tallies[index].count(&mut meter, &mut line, labels, text)?;
+    }
+    Ok(())
+}
+
+// What was counted in each.
+fn partials_of(alloc: Global, tallies: Vec<Tally<'_>>) -> Result<Vec<Partial>, AllocError>
+    requires { AllByRecursion (λ tally. HasRoom 0 tally.found) tallies.items }
+    ensures { IfOk result (λ partials. partials.items ≡ map (λ tally. tally.found) tallies.entry.items) }
+{
+    let mut partials = Vec::with_capacity(alloc, tallies.len())?;
+    for tally in tallies {
+        partials.push(tally.partial()?)?;
+    }
+    Ok(partials)
+}

@@ -1,0 +1,62 @@
+-- What is added up for the terms of a Collect.
+use Rattle.std.specs.Prelude.{◌≡◌, ℕ, nat_le, ◌&&◌, true, List, [], map, length}
+use Rattle.std.specs.List.{AllByRecursion, AllZip}
+use Rattle.std.specs.FinMap.{keys}
+use Rattle.rl_labels.specs.LabelSet.{LabelSet}
+use Rattle.rl_chunks.specs.declared.line.Line.{Line}
+use Rattle.rl_query.specs.declared.query.LogRange.{LogRange}
+use Rattle.rl_query.specs.declared.query.Term.{Term}
+use Rattle.rl_query.specs.declared.stages.Stage.{Stage}
+use Rattle.rl_aggregate.specs.InRange.{in_window}
+use Rattle.rl_aggregate.specs.Limited.{IsWithin}
+use Rattle.rl_aggregate.specs.Partials.{merge, partial, partial_of}
+use Rattle.rl_aggregate.specs.Tallies.{elements_of}
+use Rattle.rl_aggregate.specs.declared.partial.Partial.{Partial}
+use Rattle.rl_streams.specs.Asking.{AreTold}
+use Rattle.rl_streams.specs.StreamRows.{Row}
+use Rattle.rl_streams.specs.StreamsState.{StreamsView}
+use Rattle.rl_shard.specs.declared.step.ShardStep.{ShardStep}
+use Rattle.rl_shard.specs.declared.step.ShardStep.TheVariants as steps
+use Rattle.rl_shard.specs.declared.step.ShardReply.{ShardReply}
+use Rattle.rl_shard.specs.declared.step.ShardReply.TheVariants as replies
+use Rattle.rl_shard.specs.declared.step.ShardFault.{ShardFault}
+use Rattle.rl_shard.specs.declared.step.ShardFault.TheVariants as faults
+
+-- a moment from which on a window is reached, up to its end
+abbrev pub IsStartOf : ℕ → ℕ → ℕ → Type 0
+IsStartOf seconds t start = (timestamp : ℕ) → in_window seconds t timestamp ≡ (nat_le start timestamp && nat_le timestamp t)
+
+-- what a line makes of a partial behind stages
+abbrev pub counting : List Stage → Partial → LabelSet × Line → Partial
+counting stages found line = merge found (partial_of (elements_of stages line.0 line.1.text))
+
+-- what the lines of a range add up to that streams hand out over any store: what is read of a part is told by bytes with its digest
+pub record IsRead (rows : List Row) (range : LogRange) (t : ℕ) (found : Partial) : Type 0 where
+  pub start : ℕ
+  pub starts : IsStartOf range.seconds t start
+  pub told : AreTold (counting range.stages) range.selector.matchers start t rows (partial_of []) found
+
+-- partials of terms, one for each: within what may be held add up to, read from the store, and over an honest one right
+pub record ArePartialsOf (streams : StreamsView) (terms : List Term) (t : ℕ) (partials : List Partial) : Type 0 where
+  pub each : length partials ≡ length terms
+  pub within : AllByRecursion (IsWithin streams.limits.entries) partials
+  pub read : AllZip (λ term found. IsRead streams.rows term.range t found) terms partials
+  pub exact : streams.seen.honest ≡ true → partials ≡ map (λ term. partial (keys streams.held) term t) terms
+
+-- the partial of a term: the same
+pub record IsPartialOf (streams : StreamsView) (term : Term) (t : ℕ) (found : Partial) : Type 0 where
+  pub within : IsWithin streams.limits.entries found
+  pub read : IsRead streams.rows term.range t found
+  pub exact : streams.seen.honest ≡ true → found ≡ partial (keys streams.held) term t
+
+-- what is collected was read
+abbrev pub AreRead : StreamsView → ShardStep → ShardReply → Type 0
+AreRead streams (steps.Collect slot terms t) (replies.Collected partials) = AllZip (λ term found. IsRead streams.rows term.range t found) terms partials
+AreRead streams step reply = Unit {0}
+
+-- a fault that reading may meet
+abbrev pub IsOfReading : ShardFault → Type 0
+IsOfReading faults.Fault = Unit {0}
+IsOfReading faults.Damaged = Unit {0}
+IsOfReading faults.Memory = Unit {0}
+IsOfReading other = ⊥

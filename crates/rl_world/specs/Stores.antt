@@ -1,0 +1,59 @@
+-- What the replies of a run tell of the stores of its shards.
+use Rattle.std.specs.Prelude.{◌≡◌, ◌==◌, ℕ, ◌<◌, Bool, true, false, ◌&&◌, List, Some, slice_get, zip}
+use Rattle.std.specs.List.{list_any}
+use Rattle.rl_chunks.specs.StoreState.{greatest}
+use Rattle.rl_parts.specs.StoreUse.{FaultsRise}
+use Rattle.rl_shard.specs.ShardFault.{IsHonest}
+use Rattle.rl_shard.specs.ShardState.{ShardView}
+use Rattle.rl_world.specs.declared.fault.Refusal.TheVariants as refusals
+use Rattle.rl_world.specs.declared.step.Step.{Step}
+use Rattle.rl_world.specs.declared.step.Step.TheVariants as steps
+use Rattle.rl_world.specs.declared.step.Reply.{Reply}
+use Rattle.rl_world.specs.declared.step.Reply.TheVariants as replies
+
+-- whether a step asks the shard
+abbrev pub asks : ℕ → Step → Bool
+asks number (steps.Shard shard step) = shard == number
+asks number (steps.Gather group shard) = shard == number
+asks number step = false
+
+-- whether a reply tells that the device failed, that a chunk was damaged, or that no number is left
+abbrev pub tells_fault : Reply → Bool
+tells_fault (replies.Refused refusals.Fault) = true
+tells_fault reply = false
+
+abbrev pub tells_damage : Reply → Bool
+tells_damage (replies.Refused refusals.Damaged) = true
+tells_damage reply = false
+
+abbrev pub tells_spent : Reply → Bool
+tells_spent (replies.Refused refusals.NumbersSpent) = true
+tells_spent reply = false
+
+-- whether a reply to a step that asks the shard tells so
+abbrev pub is_told : ℕ → (Reply → Bool) → Step × Reply → Bool
+is_told number tells turn = asks number turn.0 && tells turn.1
+
+-- whether one of them does
+abbrev pub was_told : ℕ → (Reply → Bool) → List (Step × Reply) → Bool
+was_told number tells turns = list_any (λ turn. is_told number tells turn) turns
+
+-- what a run tells of the store of a shard: it is as honest as before, and its faults never go down; where none was counted and
+-- more can be, no reply tells of one; where one tells that the numbers are spent, only the greatest is left; and over an honest
+-- store none tells of damage
+pub record StoreFollows (number : ℕ) (turns : List (Step × Reply)) (before after : ShardView) : Type 0 where
+  pub honest : after.streams.seen.honest ≡ before.streams.seen.honest
+  pub faults : FaultsRise before.streams.seen.faults after.streams.seen.faults
+  pub no_fault : after.streams.seen.faults ≡ before.streams.seen.faults → before.streams.seen.faults < greatest → was_told number tells_fault turns ≡ false
+  pub spent : was_told number tells_spent turns ≡ true → after.streams.next ≡ greatest
+  pub undamaged : IsHonest before → was_told number tells_damage turns ≡ false
+
+-- the shard is still there, and its store follows
+pub record StoreFollowsIn (number : ℕ) (turns : List (Step × Reply)) (before : ShardView) (shards : List ShardView) : Type 0 where
+  pub after : ShardView
+  pub there : slice_get shards number ≡ Some after
+  pub follows : StoreFollows number turns before after
+
+-- the store of each shard
+abbrev pub StoresFollow : List ShardView → List Step → List Reply → List ShardView → Type 0
+StoresFollow old steps replies new = (number : ℕ) (before : ShardView) → slice_get old number ≡ Some before → StoreFollowsIn number (zip steps replies) before new

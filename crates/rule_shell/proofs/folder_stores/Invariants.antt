@@ -1,0 +1,6 @@
+-- A store for each shard so far.
+use Rattle.std.proofs.Common.{◌≡◌, length}
+use Rattle.rule_shell.proofs.folder_stores.Given as goal
+
+abbrev pub invariant-loop-number : goal.invariant-loop-number
+invariant-loop-number l = length l.stores.items ≡ l.number
