@@ -2,7 +2,7 @@
 
 use crate::matcher::MatcherCode;
 use crate::selector::SelectorCode;
-use rl_patterns::sending::is_sendable;
+use rl_plain::sending::is_sendable;
 
 /// Built matchers are such values, which is all that this says.
 pub fn code_is_sendable(matcher: &MatcherCode, selector: &SelectorCode) {

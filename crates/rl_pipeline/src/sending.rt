@@ -2,7 +2,7 @@
 
 use crate::pipeline::Pipeline;
 use crate::sieve::SieveCode;
-use rl_patterns::sending::is_sendable;
+use rl_plain::sending::is_sendable;
 
 /// Built pipelines and sieves are such values, which is all that this says.
 pub fn code_is_sendable(pipeline: &Pipeline, sieve: &SieveCode) {

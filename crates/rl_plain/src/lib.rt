@@ -7,6 +7,7 @@
 //! - `escape`: texts as they are written between quotes, by a table of escapes.
 //! - `refusal`: `OrMemory`, a fault or want of memory.
 //! - `sameness`: `Same`, whose answer is true exactly when the two values are one.
+//! - `sending`: probes for what may cross to another thread.
 //! - `shared`: `Shared<T>`, whose copies are one block.
 #![tactic(auto)]
 
@@ -15,6 +16,7 @@ pub mod escape;
 pub mod list;
 pub mod refusal;
 pub mod sameness;
+pub mod sending;
 pub mod shared;
 pub mod text;
 

@@ -1,5 +1,5 @@
 //! A value that its copies share.
-ghost use Rattle.std.specs.Prelude.{◌≡◌, IfOk};
+ghost use Rattle.std.specs.Prelude.{◌≡◌, IfOk, IfErr};
 
 use crate::copying::TryCopy;
 use crate::sameness::Same;
@@ -37,6 +37,17 @@ impl<T: Drop> Shared<T> {
     {
         let value = Arc::new(alloc, value)?;
         Ok(Shared { value })
+    }
+
+    /// The value itself, where no copy shares it, and else this copy again.
+    pub fn try_unwrap(self) -> Result<T, Self>
+        ensures ok { IfOk result (λ value. value ≡ self) }
+        ensures err { IfErr result (λ shared. shared ≡ self) }
+    {
+        match Arc::try_unwrap(self.value) {
+            Ok(value) => Ok(value),
+            Err(value) => Err(Shared { value }),
+        }
     }
 }
 

@@ -2,8 +2,8 @@
 
 use crate::evaluation::Evaluation;
 use crate::rule::Group;
+use rl_plain::sending::is_shareable;
 use rl_plain::{PlainList, Shared};
-use rl_query::sending::is_shareable;
 
 /// Groups and evaluations are such values, shared ones and lists of shared ones: that is all that this says.
 pub fn group_is_shareable(
