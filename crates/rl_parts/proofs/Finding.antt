@@ -9,7 +9,7 @@ use Rattle.std.specs.Cmp.{IsTotalOrder}
 use Rattle.std.proofs.lemmas.Bool.{cases_lt}
 use Rattle.std.proofs.lemmas.List.{length-map, get_or-map, take_all, take_more}
 use Rattle.std.proofs.lemmas.List.Concat.{flat_map-append}
-use Rattle.std.proofs.lemmas.List.Elements.{All-contains, All-weaker, Contains-append_left, Contains-append_right, Contains-append_cases, Contains-push_cases}
+use Rattle.std.proofs.lemmas.List.Elements.{All-contains, Contains-append_left, Contains-append_right, Contains-append_cases, Contains-push_cases}
 use Rattle.rl_labels.specs.LabelSet.{LabelSet}
 use Rattle.rl_labels.specs.laws.OrderLaws.{same_entry}
 use Rattle.rl_labels.specs.declared.entry.Entry.{Entry}
@@ -166,10 +166,8 @@ one_more P xs i x within is before here =
 -- no part has an entry that is newer than all of them, wherever its entries are
 pub without_above : (top : Option ℕ) (parts : List PartView) (entry : Entry) → AreSealedUpTo top parts → unwrap_or top 0 < entry.timestamp → AllByRecursion (IsWithout entry) parts
 without_above top [] entry up_to lt = tt
-without_above top (part ∷ parts) entry up_to lt =
-    let before : All (λ e. e.timestamp < entry.timestamp) part.entries = All-weaker (λ e. e.timestamp ≤ unwrap_or top 0) (λ e. e.timestamp < entry.timestamp) (λ e le. omega arith) part.entries up_to.0 in
-    (at before part.note, without_above top parts entry up_to.1 lt)
+without_above top (part ∷ parts) entry up_to lt = (at part.note, without_above top parts entry up_to.1 lt)
   where
-    at : All (λ e. e.timestamp < entry.timestamp) part.entries → (note : Option Note) → IsWithout entry (record { entries = part.entries; note = note })
-    at before None = tt
-    at before (Some note) = inl (inl before)
+    at : (note : Option Note) → IsWithout entry (record { entries = part.entries; note = note })
+    at None = tt
+    at (Some note) = inl (λ there. let le = All-contains (λ e. e.timestamp ≤ unwrap_or top 0) part.entries entry up_to.0 there in omega arith)

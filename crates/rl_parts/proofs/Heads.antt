@@ -71,5 +71,8 @@ in_order_sealed set parts head newest old new are up_to run some few is =
       up_to = one_behind (λ part. All (λ e. e.timestamp ≤ unwrap_or new 0) part.entries) parts (unwritten head) (up_to_later old new parts (omega arith) up_to) ends;
     }
 
-pub none_in_order : (set : LabelSet) (newest : ℕ) → IsInOrder (record { labels = set; parts = []; head = []; newest = newest }) None
-none_in_order set newest = record { parts = record { sealed = tt; growing = run_none set; few = lit< tt }; up_to = tt }
+-- and so is one of a single entry
+pub one_in_order : (set : LabelSet) (entry : Entry) (newest : ℕ) → entry.labels ≡ set → IsInOrder (record { labels = set; parts = []; head = entry ∷ []; newest = newest }) None
+one_in_order set entry newest of =
+    let put : IsPut [] entry (entry ∷ []) = record { place = 0; belongs = record { within = omega arith; before = λ k d low high. absurd (omega (arith, low, high)); after = λ k d low high. absurd (omega (arith, high)) }; is = refl } in
+    record { parts = record { sealed = tt; growing = run_put set [] entry (entry ∷ []) (run_none set) of put; few = lit< tt }; up_to = tt }

@@ -1,8 +1,10 @@
+pub mod Crossing
 pub mod Finding
 pub mod Handing
 pub mod Heads
 pub mod InOrder
 pub mod Lines
+pub mod Marked
 pub mod Puts
 pub mod Refusals
 pub mod Times

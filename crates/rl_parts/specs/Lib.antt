@@ -1,4 +1,5 @@
 pub mod Changes
+pub mod Marks
 pub mod PartState
 pub mod Reading
 pub mod StoreUse

@@ -6,6 +6,7 @@ use Rattle.rl_labels.specs.declared.entry.Entry.{Entry}
 use Rattle.rl_chunks.specs.StoreState.{Seen}
 use Rattle.rl_parts.specs.StreamParts.{Note, PartView, chunk_of}
 use Rattle.rl_parts.specs.StoreUse.{IsNoteOf}
+use Rattle.rl_parts.specs.Marks.{AreMarks}
 use Rattle.rl_parts.specs.declared.part.Written.{Written}
 use Rattle.rl_parts.specs.declared.part.Place.{Place}
 use Rattle.rl_parts.specs.declared.part.Place.TheVariants.{Here, InStore}
@@ -30,14 +31,15 @@ pub record IsRange (entries : List Entry) (first last : ℕ) : Type 0 where
   pub start : first ≡ timestamp_at entries 0
   pub end : last ≡ timestamp_at entries (length entries - 1)
 
--- what is kept of a written part's range is its range
-abbrev pub RangeIsKept : Place → Type 0
-RangeIsKept (Here entries) = Unit {0}
-RangeIsKept (InStore written) = IsRange written.entries.value written.first written.last
+-- what is kept of a written part's range and marks are its own
+abbrev pub RangeAndMarksAreKept : Place → Type 0
+RangeAndMarksAreKept (Here entries) = Unit {0}
+RangeAndMarksAreKept (InStore written) = IsRange written.entries.value written.first written.last × AreMarks written.entries.value written.marks
 
 -- what is kept of entries that were written under a number, over what a store then has
 pub record IsWritten (seen : Seen) (labels : LabelSet) (entries : List Entry) (number : ℕ) (written : Written) : Type 0 where
   pub entries_are : written.entries.value ≡ entries
   pub range : IsRange entries written.first written.last
+  pub marks : AreMarks entries written.marks
   pub number_is : written.number ≡ number
   pub note : IsNoteOf seen (number + 1) (chunk_of labels entries) (record { number = written.number; digest = written.digest })

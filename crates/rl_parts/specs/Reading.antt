@@ -54,9 +54,9 @@ entries_here stream = flat_map in_memory stream.parts ++ stream.head
 abbrev pub IsReadAs : List ℕ → Chunk → Type 0
 IsReadAs digest chunk = (bytes : List ℕ) × IsChunkText bytes chunk × (sha256 bytes ≡ digest)
 
--- a store has no such entry in the part: its entries are apart in time, or bytes with the digest are a chunk without the line
+-- a store has no such entry in the part: it is none of its entries, or bytes with the digest are a chunk without the line
 abbrev pub IsWithout : Entry → PartView → Type 0
-IsWithout entry part = IfSome part.note (λ note. IsApart entry.timestamp entry.timestamp part.entries ⊎ ((chunk : Chunk) × IsReadAs note.digest chunk × (Contains chunk.lines (line_of entry) → ⊥)))
+IsWithout entry part = IfSome part.note (λ note. (Contains part.entries entry → ⊥) ⊎ ((chunk : Chunk) × IsReadAs note.digest chunk × (Contains chunk.lines (line_of entry) → ⊥)))
 
 -- bytes with the digest are a chunk with the line
 abbrev pub IsWith : Entry → PartView → Type 0

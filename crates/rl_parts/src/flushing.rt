@@ -9,6 +9,7 @@ ghost use Rattle.rl_parts.specs.Changes.{AreNoted, unwritten_count};
 
 use crate::fault::FlushFault;
 use crate::held::Held;
+use crate::marks::marks_of;
 use crate::part::{Part, Written};
 use rl_chunks::{AsLine, Store, StoreFault, encode};
 use rl_labels::{Labels, Ns};
@@ -60,6 +61,7 @@ pub(crate) fn write_entries<S: Store>(
     }
     let bytes = encode(alloc, labels, entries.as_slice())?;
     let digest = Sha256::digest(bytes.as_slice());
+    let marks = marks_of(alloc, entries.as_slice())?;
     put_bytes(store, number, bytes)?;
     *next = number + 1;
     let (first, last) = range_of(entries.as_slice());
@@ -68,6 +70,7 @@ pub(crate) fn write_entries<S: Store>(
         digest,
         first,
         last,
+        marks,
         entries: Snapshot::of(entries),
     })
 }

@@ -1,11 +1,12 @@
 //! An entry of a stream, with its timestamp beside it.
-ghost use Rattle.std.specs.Prelude.{◌≡◌};
+ghost use Rattle.std.specs.Prelude.{◌≡◌, IfOk};
 ghost use Rattle.rl_chunks.specs.ChunkText.{line_cmp};
 ghost use Rattle.rl_chunks.specs.EntryLines.{line_of};
 
 use rl_chunks::AsLine;
-use rl_labels::{Entry, Ns};
-use rl_plain::Shared;
+use rl_labels::{Entry, Labels, Ns};
+use rl_plain::{Shared, TryCopy};
+use std::alloc::{AllocError, Global};
 use std::cmp::Ordering;
 use std::marker::Model;
 
@@ -57,5 +58,28 @@ impl AsLine for Held {
 
     fn text(&self) -> &str {
         self.entry.get().line.as_str()
+    }
+}
+
+// The entry with these labels in place of its own, which are the same, unless others share it. So the entries of a stream
+// share one label set.
+pub(crate) fn with_labels(
+    alloc: Global,
+    entry: Shared<Entry>,
+    labels: &Labels,
+) -> Result<Shared<Entry>, AllocError>
+    requires { entry.labels ≡ labels.now }
+    ensures { IfOk result (λ own. own ≡ entry) }
+{
+    match entry.try_unwrap() {
+        Ok(entry) => Shared::new(
+            alloc,
+            Entry {
+                labels: labels.try_copy()?,
+                timestamp: entry.timestamp,
+                line: entry.line,
+            },
+        ),
+        Err(entry) => Ok(entry),
     }
 }

@@ -4,7 +4,7 @@
 //!   there. `part`: `Part`, sealed entries, in memory or in a store.
 //! - `fetching`: `fetch`, a chunk of a store whose bytes have a digest.
 //! - `taker`: `Taker`, what is handed the lines of a stream.
-//! - `fault`: why reading or writing was refused.
+//! - `fault`: why reading or writing was refused. `sending`: a probe for what may cross to another thread.
 #![tactic(auto)]
 
 pub mod fault;
@@ -12,9 +12,11 @@ pub mod fetching;
 mod flushing;
 mod handing_out;
 mod held;
+mod marks;
 pub mod part;
 mod sealing;
 mod searching;
+pub mod sending;
 pub mod stream;
 pub mod taker;
 

@@ -19,6 +19,8 @@ pub(crate) struct Written {
     pub(crate) digest: [u8; 32],
     pub(crate) first: Ns,
     pub(crate) last: Ns,
+    // Of all entries, in rising order. The store is read for an entry only where its mark is one of them.
+    pub(crate) marks: PlainList<u64>,
     pub(crate) entries: Snapshot<PlainList<Held>>,
 }
 
@@ -42,11 +44,11 @@ impl Model for Part {
 
     ghost coded = { part_code };
 
-    ghost use Rattle.rl_parts.specs.PartState.{part_at, RangeIsKept};
+    ghost use Rattle.rl_parts.specs.PartState.{part_at, RangeAndMarksAreKept};
 
     ghost view = { λ a. part_at a.place };
 
-    ghost invariant = { λ a. RangeIsKept a.place };
+    ghost invariant = { λ a. RangeAndMarksAreKept a.place };
 }
 
 impl Part {

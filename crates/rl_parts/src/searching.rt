@@ -5,6 +5,7 @@ ghost use Rattle.std.specs.List.{AllByRecursion, Contains, flat_map};
 ghost use Rattle.rl_chunks.specs.EntryLines.{line_of};
 ghost use Rattle.rl_parts.specs.StreamParts.{PartView, IsPart, IsRun, unwritten, chunk_of};
 ghost use Rattle.rl_chunks.specs.declared.chunk.Chunk.{Chunk};
+ghost use Rattle.rl_parts.specs.Marks.{AreMarks};
 ghost use Rattle.rl_parts.specs.PartState.{IsRange};
 ghost use Rattle.rl_parts.specs.StoreUse.{Looked, IsKept, IsNoteOf, Right, ReadCause};
 ghost use Rattle.rl_parts.specs.Reading.{IsApart, IsOutside, IsReadAs, IsWith, IsWithout, in_memory, in_store};
@@ -12,6 +13,7 @@ ghost use Rattle.rl_parts.specs.Reading.{IsApart, IsOutside, IsReadAs, IsWith, I
 use crate::fault::ReadFault;
 use crate::fetching::fetch;
 use crate::held::Held;
+use crate::marks::{has_mark, mark_of};
 use crate::part::{Part, Written};
 use crate::sealing::search;
 use rl_chunks::{Line, Store};
@@ -66,8 +68,23 @@ pub(crate) fn is_outside(written: &Written, from: Ns, to: Ns) -> bool
     written.last < from || to < written.first
 }
 
+// Whether the entry may be one of a written part's: its timestamp is in the range of time, and its mark is one of the marks.
+fn may_have(written: &Written, entry: &Entry) -> bool
+    requires part { IsPart entry.now.labels (unwritten written.now.entries.value) }
+    requires range { IsRange written.now.entries.value written.now.first written.now.last }
+    requires marks { AreMarks written.now.entries.value written.now.marks }
+    ensures absent { result ≡ false → Contains written.now.entries.value entry.now → ⊥ }
+    ensures reaches { result ≡ true → IsApart entry.now.timestamp entry.now.timestamp written.now.entries.value → ⊥ }
+{
+    if is_outside(written, entry.timestamp, entry.timestamp) {
+        return false;
+    }
+    let mark = mark_of(entry.timestamp, entry.line.as_str());
+    has_mark(written.marks.as_slice(), mark)
+}
+
 // Whether the entry is among those that a store has of a part. The store is read only where the part's range of time has
-// the entry's timestamp.
+// the entry's timestamp, and one of its entries the same mark.
 pub(crate) fn has_written<S: Store>(
     alloc: Global,
     store: &mut S,
@@ -76,14 +93,15 @@ pub(crate) fn has_written<S: Store>(
 ) -> Result<bool, ReadFault>
     requires part { IsPart entry.now.labels (unwritten written.now.entries.value) }
     requires range { IsRange written.now.entries.value written.now.first written.now.last }
+    requires marks { AreMarks written.now.entries.value written.now.marks }
     ensures looked { Looked (S.seen store.old) (S.seen store.new) }
     ensures cause { IfErr result (ReadCause (S.seen store.old) (S.seen store.new)) }
     ensures unread { IsApart entry.now.timestamp entry.now.timestamp written.now.entries.value → S.seen store.new ≡ S.seen store.old }
     ensures yes { IfOk result (λ found. found ≡ true → (chunk : Chunk) × IsReadAs written.now.digest chunk × Contains chunk.lines (line_of entry.now)) }
-    ensures no { IfOk result (λ found. found ≡ false → IsApart entry.now.timestamp entry.now.timestamp written.now.entries.value ⊎ ((chunk : Chunk) × IsReadAs written.now.digest chunk × (Contains chunk.lines (line_of entry.now) → ⊥))) }
+    ensures no { IfOk result (λ found. found ≡ false → (Contains written.now.entries.value entry.now → ⊥) ⊎ ((chunk : Chunk) × IsReadAs written.now.digest chunk × (Contains chunk.lines (line_of entry.now) → ⊥))) }
     ensures right { (next : ℕ) → IsNoteOf (S.seen store.old) next (chunk_of entry.now.labels written.now.entries.value) (record { number = written.now.number; digest = written.now.digest }) → (S.seen store.old).honest ≡ true → Right result (λ found. IsTrue found ↔ Contains written.now.entries.value entry.now) }
 {
-    if is_outside(written, entry.timestamp, entry.timestamp) {
+    if !may_have(written, entry) {
         return Ok(false);
     }
     let chunk = fetch(alloc, store, written.number, &written.digest)?;

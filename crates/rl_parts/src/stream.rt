@@ -4,7 +4,7 @@ ghost use Rattle.std.specs.Prelude.{◌≡◌, ℕ, ◌<◌, ◌≤◌, ◌⊎�
 use crate::fault::{FlushFault, ReadFault};
 use crate::flushing::write_parts;
 use crate::handing_out::{hand_all, hand_parts};
-use crate::held::Held;
+use crate::held::{Held, with_labels};
 use crate::part::Part;
 use crate::sealing::{later, put, seal_head};
 use crate::searching::{any_here, any_there, has_entry, is_above};
@@ -62,14 +62,19 @@ impl Stream {
         ensures head { 1 < most → IfOk result (λ stream. stream.parts ≡ []) }
     {
         let labels = entry.get().labels.try_copy()?;
+        let newest = entry.get().timestamp;
+        let mut head = Vec::new(alloc);
+        head.push(Held::new(entry))?;
         let mut stream = Stream {
             labels,
             parts: Vec::new(alloc),
-            head: Vec::new(alloc),
-            newest: entry.get().timestamp,
+            head,
+            newest,
             sealed_to: None,
         };
-        stream.hold(entry, most)?;
+        if most == 1 {
+            stream.seal()?;
+        }
         Ok(stream)
     }
 
@@ -87,8 +92,8 @@ impl Stream {
         self.newest
     }
 
-    /// Takes an entry of the stream that is not in the head. A head of so many entries becomes a part. A refusal changes
-    /// nothing.
+    /// Takes an entry of the stream that is not in the head, and keeps it with the stream's own label set where no one else
+    /// shares the entry. A head of so many entries becomes a part. A refusal changes nothing.
     pub fn hold(&mut self, entry: Shared<Entry>, most: u64) -> Result<(), AllocError>
         requires labels { entry.labels ≡ self.old.labels }
         requires new { Contains self.old.head entry → ⊥ }
@@ -104,6 +109,7 @@ impl Stream {
     {
         let timestamp = entry.get().timestamp;
         self.parts.reserve(1)?;
+        let entry = with_labels(*self.head.allocator(), entry, &self.labels)?;
         put(&mut self.head, entry)?;
         self.newest = later(Some(self.newest), timestamp);
         if (self.head.len() as u64) < most {
@@ -153,7 +159,8 @@ impl Stream {
     }
 
     /// Whether the stream has an entry with its labels. Entries in memory are found first, whatever the store does. A part
-    /// that a store has is read only where its range of time, both ends included, has the entry's timestamp.
+    /// that a store has is read only where its range of time, both ends included, has the entry's timestamp, and one of its
+    /// entries the same mark, a hash of the line.
     pub fn holds<S: Store>(
         &self,
         alloc: Global,

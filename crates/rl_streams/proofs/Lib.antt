@@ -1,5 +1,6 @@
 pub mod Sealed
 pub mod Added
+pub mod Crossing
 pub mod Held
 pub mod Offered
 pub mod Kept

@@ -1,7 +1,7 @@
 //! All streams of a shard as one set of log entries, over a store that may have parts of them.
 //!
 //! - `streams`: `Streams`. It takes entries, seals what it holds and writes it to the store, and reads it again.
-//! - `refusal`: `AddRefusal`, why an entry is not taken.
+//! - `refusal`: `AddRefusal`, why an entry is not taken. `sending`: a probe for what may cross to another thread.
 #![tactic(auto)]
 
 mod adding;
@@ -11,6 +11,7 @@ mod flushing;
 mod lines;
 mod reading;
 pub mod refusal;
+pub mod sending;
 pub mod streams;
 
 pub use cursor::Cursor;

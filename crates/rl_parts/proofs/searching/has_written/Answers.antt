@@ -1,4 +1,4 @@
--- The range of time tells, and else the lines of the chunk.
+-- The range of time and the marks tell, and else the lines of the chunk.
 use Rattle.std.proofs.Common.{◌≡◌, List, map, inl, inr, refl, sym, ap, subst, ◌∙◌}
 use Rattle.std.specs.Prelude.{IsTrue, ◌↔◌}
 use Rattle.std.specs.List.{Contains}
@@ -10,18 +10,14 @@ use Rattle.rl_chunks.specs.declared.format.Format.TheVariants.{Short}
 use Rattle.rl_chunks.specs.declared.line.Line.{Line}
 use Rattle.rl_parts.specs.StreamParts.{chunk_of}
 use Rattle.rl_parts.proofs.Finding.{no, not_both, line_found, line_there}
-use Rattle.rl_parts.proofs.Times.{outside, reaches, apart_from}
 use Rattle.rl_parts.proofs.Refusals.{right_on}
 use Rattle.rl_parts.proofs.searching.has_written.Goals as goal
 
-pub returns-then-is_outside-clause-right : goal.returns-then-is_outside-clause-right
-returns-then-is_outside-clause-right g c = λ next is honest.
-    no (outside c.args.entry.now.labels c.args.written.now.entries.value c.args.written.now.first c.args.written.now.last c.args.entry.now c.requires.part.run c.requires.range (c.is_outside.ensures.out c.if-is_outside.true))
+pub returns-then-not-may_have-clause-right : goal.returns-then-not-may_have-clause-right
+returns-then-not-may_have-clause-right g c = λ next is honest. no (c.may_have.ensures.absent c.if-not-may_have.true)
 
 pub returns-in_err-chunk-clause-unread : goal.returns-in_err-chunk-clause-unread
-returns-in_err-chunk-clause-unread g c = λ apart.
-    let within = c.is_outside.ensures.reaches c.if-is_outside.false in
-    absurd (reaches c.args.written.now.entries.value c.args.written.now.first c.args.written.now.last c.args.entry.now.timestamp c.args.entry.now.timestamp c.requires.range c.requires.part.some within.0 within.1 apart)
+returns-in_err-chunk-clause-unread g c = λ apart. absurd (c.may_have.ensures.reaches c.if-not-may_have.false apart)
 
 pub returns-in_err-chunk-clause-right : goal.returns-in_err-chunk-clause-right
 returns-in_err-chunk-clause-right g c = λ next is honest.
@@ -30,9 +26,7 @@ returns-in_err-chunk-clause-right g c = λ next is honest.
     rw (p.1, p.2) (right_on c.in_err-chunk.field-0.0 _ _ (c.in_err-chunk.ensures.right (chunk_text Short chunk) chunk honest (is.kept honest) (sym is.digest) is.read))
 
 pub returns-clause-unread : goal.returns-clause-unread
-returns-clause-unread g c = λ apart.
-    let within = c.is_outside.ensures.reaches c.if-is_outside.false in
-    absurd (reaches c.args.written.now.entries.value c.args.written.now.first c.args.written.now.last c.args.entry.now.timestamp c.args.entry.now.timestamp c.requires.range c.requires.part.some within.0 within.1 apart)
+returns-clause-unread g c = λ apart. absurd (c.may_have.ensures.reaches c.if-not-may_have.false apart)
 
 pub returns-clause-right : goal.returns-clause-right
 returns-clause-right g c = λ next is honest.
@@ -44,9 +38,8 @@ returns-clause-right g c = λ next is honest.
     let told : IsTrue c.has_line.result ↔ Contains (map line_of entries) (line_of entry) = subst (λ (ls : List Line). IsTrue c.has_line.result ↔ Contains ls (line_of entry)) lines c.has_line.ensures in
     (λ t. line_found entry.labels entries entry c.requires.part.run.labels refl (told.0 t), λ there. told.1 (line_there entries entry there))
 
-pub returns-then-is_outside-clause-no : goal.returns-then-is_outside-clause-no
-returns-then-is_outside-clause-no g c = λ found.
-    inl (apart_from c.args.entry.now.labels c.args.written.now.entries.value c.args.written.now.first c.args.written.now.last c.args.entry.now.timestamp c.args.entry.now.timestamp c.requires.part.run c.requires.range (c.is_outside.ensures.out c.if-is_outside.true))
+pub returns-then-not-may_have-clause-no : goal.returns-then-not-may_have-clause-no
+returns-then-not-may_have-clause-no g c = λ found. inl (c.may_have.ensures.absent c.if-not-may_have.true)
 
 pub returns-clause-yes : goal.returns-clause-yes
 returns-clause-yes g c = λ found.

@@ -1,0 +1,25 @@
+-- The range of time tells, and else the mark.
+use Rattle.std.proofs.Common.{◌≡◌, sym, ap, subst, ◌∙◌}
+use Rattle.std.specs.List.{Contains}
+use Rattle.rl_chunks.specs.EntryLines.{line_of}
+use Rattle.rl_parts.specs.Marks.{mark}
+use Rattle.rl_parts.proofs.Finding.{not_both}
+use Rattle.rl_parts.proofs.Marked.{mark_there}
+use Rattle.rl_parts.proofs.Times.{outside, reaches}
+use Rattle.rl_parts.proofs.searching.may_have.Goals as goal
+
+pub returns-then-is_outside-clause-absent : goal.returns-then-is_outside-clause-absent
+returns-then-is_outside-clause-absent c = λ _ there.
+    outside c.args.entry.now.labels c.args.written.now.entries.value c.args.written.now.first c.args.written.now.last c.args.entry.now c.requires.part.run c.requires.range (c.is_outside.ensures.out c.if-is_outside.true) there
+
+pub returns-clause-absent : goal.returns-clause-absent
+returns-clause-absent c = λ not_there there.
+    let own : c.mark_of-mark.result ≡ mark (line_of c.args.entry.now) = c.mark_of-mark.ensures ∙ ap (λ text. mark (record { timestamp = c.args.entry.now.timestamp; text = text })) c.as_str.ensures in
+    let marked : Contains c.as_slice.result.now c.mark_of-mark.result = subst (λ marks. Contains marks c.mark_of-mark.result) (sym c.as_slice.ensures)
+    (subst (λ m. Contains c.args.written.now.marks m) (sym own) (mark_there c.args.written.now.entries.value c.args.written.now.marks c.args.entry.now c.requires.marks there)) in
+    not_both (c.has_mark.ensures.1 marked) not_there
+
+pub returns-clause-reaches : goal.returns-clause-reaches
+returns-clause-reaches c = λ _ apart.
+    let within = c.is_outside.ensures.reaches c.if-is_outside.false in
+    reaches c.args.written.now.entries.value c.args.written.now.first c.args.written.now.last c.args.entry.now.timestamp c.args.entry.now.timestamp c.requires.range c.requires.part.some within.0 within.1 apart

@@ -1,0 +1,23 @@
+-- Marks of entries, by which a part that a store has tells that an entry is not in it.
+use Rattle.std.specs.Prelude.{ℕ, List, map}
+use Rattle.std.specs.Hash as fed
+use Rattle.std.specs.Hash.FoldHasher as folding
+use Rattle.std.specs.List.{fold}
+use Rattle.std.specs.List.Sorted.{IsPermutation, IsSorted}
+use Rattle.std.specs.Ordering.{nat_cmp}
+use Rattle.rl_labels.specs.declared.entry.Entry.{Entry}
+use Rattle.rl_chunks.specs.EntryLines.{line_of}
+use Rattle.rl_chunks.specs.declared.line.Line.{Line}
+
+-- a hash of the timestamp and of the text
+abbrev pub mark : Line → ℕ
+mark line = folding.finish (folding.write (fold folding.write folding.initial (fed.u64 line.timestamp)) line.text)
+
+-- the mark of each entry
+abbrev pub marks_of : List Entry → List ℕ
+marks_of entries = map (λ entry. mark (line_of entry)) entries
+
+-- the marks of all entries, in rising order
+pub record AreMarks (entries : List Entry) (marks : List ℕ) : Type 0 where
+  pub all : IsPermutation (marks_of entries) marks
+  pub rising : IsSorted nat_cmp marks
