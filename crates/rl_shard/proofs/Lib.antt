@@ -1,3 +1,4 @@
 mod Examples
 pub mod Terms
 pub mod Counted
+pub mod Crossing
