@@ -1,5 +1,5 @@
 pub mod Crossing
-pub mod JsonData
+pub mod Leaves
 pub mod LogfmtTexts
 pub mod LogfmtTurns
 pub mod Names

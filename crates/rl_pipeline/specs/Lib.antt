@@ -2,7 +2,6 @@ pub mod Building
 pub mod Drafts
 pub mod Extracting
 pub mod Filtering
-pub mod JsonData
 pub mod JsonLeaves
 pub mod LabelTests
 pub mod Lent

@@ -5,14 +5,13 @@ ghost use Rattle.json.specs.Value.{value_view, members_view};
 ghost use Rattle.serde_json.specs.Data.{no_members, null, number};
 ghost use Rattle.serde_json.specs.Read.{number_of};
 ghost use Rattle.rl_pipeline.specs.Extracting.{with_pairs};
-ghost use Rattle.rl_pipeline.specs.JsonData.{data_of, members_data};
-ghost use Rattle.rl_pipeline.specs.JsonLeaves.{below, leaves_at, leaves_below};
+ghost use Rattle.rl_json.specs.JsonData.{data_of, members_data};
+ghost use Rattle.rl_pipeline.specs.JsonLeaves.{below, leaves_at, leaves_below, json_leaves};
 ghost use Rattle.rl_pipeline.specs.Parsed.{json_labels};
 
 use crate::extracting::{add_error, add_pair};
-use crate::json_data::{object_of, sorted};
-use crate::json_number::{Number, number_of};
 use json::{Scratch, Value};
+use rl_json::{Number, number_of, read, sorted};
 use rl_labels::{Labels, LabelsBuilder};
 use std::alloc::{AllocError, Global};
 
@@ -34,6 +33,21 @@ pub(crate) fn json_labels<'v>(
         None => add_error(&mut all, JSON_PARSER_ERROR)?,
     }
     Ok(all)
+}
+
+// The members of the object that a line is.
+#[tactic(auto, using(crate::proofs::Leaves::number_leaves))]
+fn object_of<'v>(
+    alloc: Global,
+    line: &'v str,
+    scratch: &'v mut Scratch,
+) -> Result<Option<Vec<(&'v str, Value<'v>)>>, AllocError>
+    ensures { IfOk result (λ found. option_map (λ members. leaves_below None (members_data (members_view members.items) no_members)) found ≡ json_leaves line.now) }
+{
+    match read(alloc, line, scratch)? {
+        Some(Value::Object(members)) => Ok(Some(members)),
+        _ => Ok(None),
+    }
 }
 
 // Adds the leaves of the members of a line.

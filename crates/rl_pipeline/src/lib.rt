@@ -5,7 +5,6 @@
 //!
 //! - `filter`: `FilterCode`, a built line filter. `search`: `Search`, which asks many lines for one filter.
 //! - `json_labels`, `logfmt`: what the parsers find in a line. `lent`: texts that a line lends. `extracting`: the labels that it becomes. `parsing`: either of both.
-//! - `json_data`: lines that are JSON, with borrowed texts. `json_number`: the numbers in them.
 //! - `label_tests`: built label tests. `testing`: what asks many lines for them. `comparing`: tests by quantity, and `holds`, the comparison of numbers.
 //! - `line`: `Line`, which several pipelines have read once. `draft`: the labels of a line on its way through the stages. `meter`: `Meter`, which counts the runs.
 //! - `pipeline`: `Pipeline`, built stages. `running`: `Running`, which sends many lines through them with one set of caches.
@@ -16,9 +15,7 @@ pub(crate) mod comparing;
 pub(crate) mod draft;
 pub mod extracting;
 pub mod filter;
-pub(crate) mod json_data;
 pub mod json_labels;
-pub(crate) mod json_number;
 pub mod label_tests;
 pub(crate) mod lent;
 pub mod line;

@@ -1,50 +1,49 @@
--- What the bytes of a document are, and what its values have.
-use Rattle.std.proofs.Common.{String, BTreeMap, Global, Option, option_map, IsTrue, ◌<◌, ◌≤◌, arith, true≢false, ◌≡◌, ℕ, List, [], ◌∷◌, length, cond, Bool, true, false, Some, None, Ok, Err, refl, sym, ap, ◌∙◌}
-use Rattle.std.specs.Str.{IsUtf8, is_utf8}
-use Rattle.std.proofs.lemmas.Str.{IsUtf8-from_is_utf8, is_utf8-from_IsUtf8}
-use Rattle.std.specs.BTreeMap.{get_by_text}
-use Rattle.serde_json.specs.Data.{Data}
-use Rattle.serde_json.specs.Read.{read}
-use Rattle.serde_json.specs.Find.{get}
-use Rattle.serde_json.specs.View.{view, items_view, members_view}
-use Rattle.serde_json.specs.declared.value.Value.{Value, Object}
-use Rattle.serde_json.proofs.Views.{Entry, view-Object, view-lookup}
+-- What the values of a document have.
+use Rattle.std.proofs.Common.{◌==◌, ◌∙◌, ◌<◌, ◌≤◌, arith, true≢false, ◌≡◌, ℕ, List, [], ◌∷◌, length, Bool, true, false, Some, Err, Bor, Less, Equal, Greater, nat_cmp, refl, sym}
+use Rattle.std.proofs.lemmas.Bool.{ne_eqb}
+use Rattle.std.specs.Cmp.Lexicographic.{slice_cmp}
+use Rattle.std.specs.Ordering.{match_ordering}
+use Rattle.json.specs.Json as json
+use Rattle.json.specs.Value.{value_view, items_view, members_view}
+use Rattle.json.specs.declared.value.Value.{Value}
+use Rattle.serde_json.specs.Data.{Data, Members, no_members, member, put}
+use Rattle.rl_json.specs.JsonData.{data_of, items_data, members_data}
 use Rattle.rl_session.specs.declared.push.PushFault.TheVariants as faults
-use Rattle.rl_session.specs.PushBody.{required, document_of, is_empty_object, parts_in, metadata_in}
+use Rattle.rl_session.specs.PushBody.{is_empty_object, parts_in, metadata_in}
 
--- bytes that JSON reads
-pub document_read : (bytes : List ℕ) (document : Data) → IsUtf8 bytes → read bytes ≡ Some document → document_of bytes ≡ Ok document
-document_read bytes document text is =
-    ap (λ b. required faults.NotJson (cond b (read bytes) None)) (is_utf8-from_IsUtf8 bytes text) ∙ ap (required faults.NotJson) is
+abbrev has_some : Members → Bool
+has_some no_members = false
+has_some (member name value _) = true
 
--- bytes that are no text, or no JSON
-pub no_document : (bytes : List ℕ) → (IsUtf8 bytes → read bytes ≡ None) → document_of bytes ≡ Err faults.NotJson
-no_document bytes refused =
-    elim (is_utf8 bytes) as (λ b. is_utf8 bytes ≡ b → required faults.NotJson (cond b (read bytes) None) ≡ Err faults.NotJson) [
-      | true ↦ λ is. ap (required faults.NotJson) (refused (IsUtf8-from_is_utf8 bytes is))
-      | false ↦ λ _. refl
-    ] refl
+put_leaves_some : (name : List ℕ) (value : Data) (members : Members) → has_some (put name value members) ≡ true
+put_leaves_some name value no_members = refl
+put_leaves_some name value (member other at members) = elim (slice_cmp nat_cmp name other) as (λ o. has_some (match_ordering o (member name value (member other at members)) (member other value members) (member other at (put name value members))) ≡ true) [
+  | Less ↦ refl
+  | Equal ↦ refl
+  | Greater ↦ refl
+]
 
--- a map without entries is an object without members
-pub is_empty_object_map : (b : Bool) (es : List Entry) → (IsTrue b → length es ≡ 0) → (length es ≡ 0 → IsTrue b) → b ≡ is_empty_object (Some (members_view es))
-is_empty_object_map true [] f g = refl
-is_empty_object_map true (e ∷ es) f g = absurd (omega (arith, f refl))
-is_empty_object_map false [] f g = absurd (true≢false (sym (g refl)))
-is_empty_object_map false (e ∷ es) f g = refl
+some_stay : (members : json.Members) (found : Members) → has_some found ≡ true → has_some (members_data members found) ≡ true
+some_stay json.no_members found some = some
+some_stay (json.member name value members) found some = some_stay members (put name (data_of value) found) (put_leaves_some name (data_of value) found)
 
--- the value at a name, moved out of an object
-pub value_at : (name : List ℕ) (object : Value) (members : BTreeMap (String Global) Value) (found : Option Value) → object ≡ Object members → found ≡ get_by_text members name → option_map view found ≡ get name (view object)
-value_at name object members found is here =
-    ap (option_map view) here ∙ view-lookup name members.entries ∙ sym (ap (λ o. get name (view o)) is ∙ ap (get name) (view-Object members))
+is_some_object : (members : Members) → has_some members ≡ true → false ≡ is_empty_object (Some members)
+is_some_object no_members some = absurd (true≢false (sym some))
+is_some_object (member name value _) some = refl
+
+-- an object is empty where it is read of no members
+pub is_empty_object_of : {A : Type 0} (b : Bool) (members : List (Bor (List ℕ) × Value A)) → b ≡ (length members == 0) → b ≡ is_empty_object (Some (members_data (members_view members) no_members))
+is_empty_object_of b [] is = is
+is_empty_object_of b (m ∷ ms) is = is ∙ ne_eqb (length (m ∷ ms)) 0 (λ none. omega (arith, none)) ∙ is_some_object _ (some_stay (members_view ms) (put m.0.now (data_of (value_view m.1)) no_members) (put_leaves_some m.0.now (data_of (value_view m.1)) no_members))
 
 -- fewer items than two
-pub few_items : (vs : List Value) → length vs < 2 → parts_in (items_view vs) ≡ Err faults.Shape
+pub few_items : {A : Type 0} (vs : List (Value A)) → length vs < 2 → parts_in (items_data (items_view vs)) ≡ Err faults.Shape
 few_items [] few = refl
 few_items (v ∷ []) few = refl
 few_items (v ∷ w ∷ vs) few = absurd (omega arith)
 
 -- more items than one behind the line
-pub many_items : (vs : List Value) → 2 ≤ length vs → metadata_in (items_view vs) ≡ Err faults.Shape
+pub many_items : {A : Type 0} (vs : List (Value A)) → 2 ≤ length vs → metadata_in (items_data (items_view vs)) ≡ Err faults.Shape
 many_items [] many = absurd (omega arith)
 many_items (v ∷ []) many = absurd (omega arith)
 many_items (v ∷ w ∷ vs) many = refl

@@ -1,10 +1,16 @@
 -- Entries without the facts that their type keeps, and the parts of a value.
 use Rattle.std.specs.Prelude.{ℕ, List, Option, option_map}
+use Rattle.json.specs.Value.{value_view}
+use Rattle.json.specs.declared.value.Value.{Value}
 use Rattle.serde_json.specs.Data.{Data}
-use Rattle.serde_json.specs.View.{view}
+use Rattle.rl_json.specs.JsonData.{data_of}
 use Rattle.rl_labels.specs.LabelSet.{LabelSet}
 use Rattle.rl_labels.specs.declared.entry.Entry.{Entry}
 use Rattle.rl_session.specs.declared.push.Parts.{Parts}
+
+-- a value as the data that `serde_json` reads
+abbrev pub datum : {A : Type 0} → Value A → Data
+datum value = data_of (value_view value)
 
 pub record EntryForm : Type 0 where
   pub labels : LabelSet
@@ -21,4 +27,4 @@ pub record ValueParts : Type 0 where
   pub metadata : Option Data
 
 abbrev pub parts_form : Parts → ValueParts
-parts_form parts = record { time = parts.time.now; line = parts.line.now; metadata = option_map (λ value. view value.now) parts.metadata }
+parts_form parts = record { time = parts.time.now; line = parts.line.now; metadata = option_map (λ value. datum value.now) parts.metadata }

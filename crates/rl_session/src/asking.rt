@@ -6,7 +6,7 @@ ghost use Rattle.rl_session.specs.PushBody.{entries_of};
 
 use crate::edit::{EditRefusal, read_group};
 use crate::engine::{Engine, ShardsStep};
-use crate::push::read_push;
+use crate::push::PushReader;
 use crate::telling::Got;
 use rl_labels::{Entry, Ns};
 use rl_plain::Shared;
@@ -16,10 +16,15 @@ use rl_world::{Committed, Refusal};
 use std::alloc::{AllocError, Global};
 
 /// Hands in the entries of a push body, in their order.
-pub(crate) fn push<E: Engine>(alloc: Global, engine: &mut E, json: &str) -> Got
+pub(crate) fn push<E: Engine>(
+    alloc: Global,
+    reader: &mut PushReader,
+    engine: &mut E,
+    json: &str,
+) -> Got
     ensures { IsForPush E.calls engine.old (entries_of json.now) result engine.new }
 {
-    let entries = match read_push(alloc, json.as_bytes()) {
+    let entries = match reader.read(json.as_bytes()) {
         Ok(entries) => entries,
         Err(error) => return Got::Unread(error),
     };

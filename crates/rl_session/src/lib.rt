@@ -1,6 +1,6 @@
 //! Sessions: rules, a mark and commands as they are read, and what the commands print.
 //!
-//! - `front`: `read_front`, what stands before the mark and behind it. `push`: `read_push`, entries from JSON.
+//! - `front`: `read_front`, what stands before the mark and behind it. `push`: `PushReader` and `read_push`, entries from JSON.
 //! - `engine`: `Engine`, what evaluates the groups. `world_engine`: `WorldEngine`, a world on one thread.
 //! - `command`: `Command`, one line. `edit`: the group of an edit. `asking`: what commands ask of an engine, and what they get.
 //! - `telling`: what is printed of that. `session`: `Session`, many lines.
@@ -21,6 +21,6 @@ pub mod world_engine;
 pub use command::{Command, is_blank, read_command};
 pub use engine::{Engine, Partly, ShardsStep};
 pub use front::{Commands, Front, FrontError, FrontFault, read_front};
-pub use push::{PushError, PushFault, read_push};
+pub use push::{PushError, PushFault, PushReader, read_push};
 pub use session::{RunError, Session, Status};
 pub use world_engine::WorldEngine;

@@ -1,17 +1,20 @@
 //! Push bodies: log entries from the JSON that a Loki client sends.
 ghost use Rattle.std.specs.Prelude.{◌≡◌, IsTrue, IfOk, codes, map, option_map, string_bytes};
-ghost use Rattle.serde_json.specs.View.{view, items_view, members_view};
+ghost use Rattle.json.specs.Value.{items_view, members_view};
+ghost use Rattle.serde_json.specs.Data.{no_members};
 ghost use Rattle.serde_json.specs.Find.{get, as_str, as_object};
 ghost use Rattle.rl_plain.specs.Answers.{Gives, Answers, with_front};
 ghost use Rattle.rl_plain.specs.declared.refusal.OrMemory.TheVariants.{Fault};
 ghost use Rattle.rl_labels.specs.EntryParts.{is_stream};
-ghost use Rattle.rl_session.specs.PushForms.{entry_form, parts_form};
+ghost use Rattle.rl_json.specs.JsonData.{items_data, members_data};
+ghost use Rattle.rl_session.specs.PushForms.{datum, entry_form, parts_form};
 ghost use Rattle.rl_session.specs.PushBody.{entries_of, document_of, array_of, object_of, pair_of, pairs_of, labels_of, metadata_in, parts_in, parts_of, required, moment_of, is_empty_object, has_no_metadata, entry_of, value_entry, entries_from, stream_entries, streams_entries};
 
+use json::{Scratch, Value};
+use rl_json::{read_bytes, sorted, value_at};
 use rl_labels::entry::MAX_LINE_LEN;
 use rl_labels::{Entry, Labels, Ns, number_of};
 use rl_plain::{OrMemory, PlainText, TryCopy};
-use serde_json::{Map, Value};
 use std::alloc::Global;
 use thiserror::Error;
 
@@ -45,59 +48,75 @@ impl From<PushFault> for PushError {
 
 // What a value has, before it is looked at.
 #[derive(Clone, Copy)]
-struct Parts<'a> {
-    time: &'a str,
-    line: &'a str,
-    metadata: Option<&'a Value>,
+struct Parts<'m, 'v> {
+    time: &'v str,
+    line: &'v str,
+    metadata: Option<&'m Value<'v>>,
 }
 
-/// The entries of a push body in its order, unless it has a fault.
-#[tactic(auto, unfolding(crate::specs::PushBody::entries_of))]
-pub fn read_push(alloc: Global, bytes: &[u8]) -> Result<Vec<Entry>, PushError>
-    ensures { Gives (λ entries. map entry_form entries.items) result (entries_of bytes.now) }
-{
-    let document = document_of(alloc, bytes)?;
-    let streams = array_of(member_at(document, "streams"))?;
-    let mut entries = Vec::new(alloc);
-    push_streams(alloc, &mut entries, streams)?;
-    Ok(entries)
+/// Reads push bodies. The memory that reading needs is lent from one to the next.
+#[derive(Drop)]
+pub struct PushReader {
+    alloc: Global,
+    scratch: Scratch,
 }
 
-// The document that the bytes are.
-fn document_of(alloc: Global, bytes: &[u8]) -> Result<Value, PushError>
-    ensures { Gives view result (document_of bytes.now) }
-{
-    match Value::from_slice(alloc, bytes) {
-        Ok(document) => Ok(document),
-        Err(error) if error.is_memory() => Err(OrMemory::Memory),
-        Err(_) => Err(OrMemory::Fault(PushFault::NotJson)),
+impl PushReader {
+    /// A reader that has read none.
+    pub fn new(alloc: Global) -> Self {
+        PushReader {
+            alloc,
+            scratch: Scratch::new(alloc),
+        }
+    }
+
+    /// The entries of a push body in its order, unless it has a fault.
+    #[tactic(auto, unfolding(crate::specs::PushBody::entries_of))]
+    pub fn read(&mut self, bytes: &[u8]) -> Result<Vec<Entry>, PushError>
+        ensures { Gives (λ entries. map entry_form entries.items) result (entries_of bytes.now) }
+    {
+        let document = document_of(self.alloc, bytes, &mut self.scratch)?;
+        let streams = array_of(member_of(&document, "streams"))?;
+        let mut entries = Vec::new(self.alloc);
+        push_streams(self.alloc, &mut entries, streams)?;
+        Ok(entries)
     }
 }
 
-// The value at a key, moved out of its object.
-fn member_at(object: Value, key: &str) -> Option<Value>
-    ensures { option_map view result ≡ get key.now (view object) }
+/// The entries of one push body, as `PushReader` reads them.
+pub fn read_push(alloc: Global, bytes: &[u8]) -> Result<Vec<Entry>, PushError>
+    ensures { Gives (λ entries. map entry_form entries.items) result (entries_of bytes.now) }
 {
-    match object {
-        Value::Object(mut members) => members.remove(key),
+    PushReader::new(alloc).read(bytes)
+}
+
+// The document that the bytes are.
+fn document_of<'v>(
+    alloc: Global,
+    bytes: &'v [u8],
+    scratch: &'v mut Scratch,
+) -> Result<Value<'v>, PushError>
+    ensures { Gives datum result (document_of bytes.now) }
+{
+    match read_bytes(alloc, bytes, scratch)? {
+        Some(document) => Ok(document),
+        None => Err(OrMemory::Fault(PushFault::NotJson)),
+    }
+}
+
+// The value at a key, if this is an object that has it.
+fn member_of<'m, 'v>(value: &'m Value<'v>, key: &str) -> Option<&'m Value<'v>>
+    ensures { option_map (λ member. datum member.now) result ≡ get key.now (datum value.now) }
+{
+    match value {
+        Value::Object(members) => value_at(members, key),
         _ => None,
     }
 }
 
-// The labels and the values of a stream, moved out of it.
-fn stream_parts(stream: Value) -> (Option<Value>, Option<Value>)
-    ensures labels { option_map view result.0 ≡ get (codes "stream") (view stream) }
-    ensures values { option_map view result.1 ≡ get (codes "values") (view stream) }
-{
-    match stream {
-        Value::Object(mut members) => (members.remove("stream"), members.remove("values")),
-        _ => (None, None),
-    }
-}
-
 // The array that was found.
-fn array_of(found: Option<Value>) -> Result<Vec<Value>, PushFault>
-    ensures { Answers (λ items. items_view items.items) result (array_of (option_map view found)) }
+fn array_of<'m, 'v>(found: Option<&'m Value<'v>>) -> Result<&'m [Value<'v>], PushFault>
+    ensures { Answers (λ items. items_data (items_view items.now)) result (array_of (option_map (λ value. datum value.now) found.entry)) }
 {
     match found {
         Some(Value::Array(items)) => Ok(items),
@@ -106,8 +125,8 @@ fn array_of(found: Option<Value>) -> Result<Vec<Value>, PushFault>
 }
 
 // The object that was found.
-fn object_of(found: Option<Value>) -> Result<Map<String, Value>, PushFault>
-    ensures { Answers (λ members. members_view members.entries) result (object_of (option_map view found)) }
+fn object_of<'m, 'v>(found: Option<&'m Value<'v>>) -> Result<&'m [(&'v str, Value<'v>)], PushFault>
+    ensures { Answers (λ members. members_data (members_view members.now) no_members) result (object_of (option_map (λ value. datum value.now) found.entry)) }
 {
     match found {
         Some(Value::Object(members)) => Ok(members),
@@ -119,9 +138,9 @@ fn object_of(found: Option<Value>) -> Result<Map<String, Value>, PushFault>
 fn push_streams(
     alloc: Global,
     entries: &mut Vec<Entry>,
-    streams: Vec<Value>,
+    streams: &[Value<'_>],
 ) -> Result<(), PushError>
-    ensures { Gives (λ _. map entry_form entries.new.items) result (with_front (map entry_form entries.old.items) (streams_entries (items_view streams.items))) }
+    ensures { Gives (λ _. map entry_form entries.new.items) result (with_front (map entry_form entries.old.items) (streams_entries (items_data (items_view streams.now)))) }
 {
     for stream in streams {
         push_stream(alloc, entries, stream)?;
@@ -130,13 +149,12 @@ fn push_streams(
 }
 
 // Adds the entries of a stream.
-fn push_stream(alloc: Global, entries: &mut Vec<Entry>, stream: Value) -> Result<(), PushError>
-    ensures { Gives (λ _. map entry_form entries.new.items) result (with_front (map entry_form entries.old.items) (stream_entries (view stream))) }
+fn push_stream(alloc: Global, entries: &mut Vec<Entry>, stream: &Value<'_>) -> Result<(), PushError>
+    ensures { Gives (λ _. map entry_form entries.new.items) result (with_front (map entry_form entries.old.items) (stream_entries (datum stream.now))) }
 {
-    let (labels, values) = stream_parts(stream);
-    let labels = labels_of(alloc, labels)?;
-    let values = array_of(values)?;
-    push_values(alloc, entries, &labels, &values)
+    let labels = labels_of(alloc, member_of(stream, "stream"))?;
+    let values = array_of(member_of(stream, "values"))?;
+    push_values(alloc, entries, &labels, values)
 }
 
 // Adds the entry of each value, with the labels.
@@ -144,10 +162,10 @@ fn push_values(
     alloc: Global,
     entries: &mut Vec<Entry>,
     labels: &Labels,
-    values: &[Value],
+    values: &[Value<'_>],
 ) -> Result<(), PushError>
     requires { IsTrue (is_stream labels.now) }
-    ensures { Gives (λ _. map entry_form entries.new.items) result (with_front (map entry_form entries.old.items) (entries_from labels.now (items_view values.now))) }
+    ensures { Gives (λ _. map entry_form entries.new.items) result (with_front (map entry_form entries.old.items) (entries_from labels.now (items_data (items_view values.now)))) }
 {
     entries.reserve(values.len())?;
     for value in values {
@@ -158,17 +176,17 @@ fn push_values(
 }
 
 // The entry of a value, with the labels.
-fn value_entry(alloc: Global, labels: &Labels, value: &Value) -> Result<Entry, PushError>
+fn value_entry(alloc: Global, labels: &Labels, value: &Value<'_>) -> Result<Entry, PushError>
     requires { IsTrue (is_stream labels.now) }
-    ensures { Gives entry_form result (value_entry labels.now (view value.now)) }
+    ensures { Gives entry_form result (value_entry labels.now (datum value.now)) }
 {
     let parts = parts_of(value)?;
     entry_of(alloc, labels, parts)
 }
 
 // The labels that were found.
-fn labels_of(alloc: Global, found: Option<Value>) -> Result<Labels, PushError>
-    ensures labels { Gives (λ labels. labels) result (labels_of (option_map view found)) }
+fn labels_of(alloc: Global, found: Option<&Value<'_>>) -> Result<Labels, PushError>
+    ensures labels { Gives (λ labels. labels) result (labels_of (option_map (λ value. datum value.now) found.entry)) }
     ensures of_stream { IfOk result (λ labels. IsTrue (is_stream labels)) }
 {
     let pairs = pairs_of(alloc, object_of(found)?)?;
@@ -181,43 +199,47 @@ fn labels_of(alloc: Global, found: Option<Value>) -> Result<Labels, PushError>
 }
 
 // The names with their values, which are texts.
-fn pairs_of(
+fn pairs_of<'m, 'v>(
     alloc: Global,
-    members: Map<String, Value>,
+    members: &'m [(&'v str, Value<'v>)],
 ) -> Result<Vec<(PlainText, PlainText)>, PushError>
-    ensures { Gives (λ pairs. pairs.items) result (pairs_of (members_view members.entries)) }
+    ensures { Gives (λ pairs. pairs.items) result (pairs_of (members_data (members_view members.now) no_members)) }
 {
+    let members = sorted(alloc, members)?;
     let mut pairs = Vec::with_capacity(alloc, members.len())?;
     for (name, value) in members {
-        let pair = pair_of(name, value)?;
+        let pair = pair_of(alloc, name, value)?;
         pairs.push(pair)?;
     }
     Ok(pairs)
 }
 
 // The name with its value, which is a text.
-fn pair_of(name: String, value: Value) -> Result<(PlainText, PlainText), PushFault>
-    ensures { Answers (λ pair. pair) result (pair_of (string_bytes name) (view value)) }
+fn pair_of(
+    alloc: Global,
+    name: &str,
+    value: &Value<'_>,
+) -> Result<(PlainText, PlainText), PushError>
+    ensures { Gives (λ pair. pair) result (pair_of name.now (datum value.now)) }
+{
+    let text = text_of(value)?;
+    let name = PlainText::from_str(alloc, name)?;
+    Ok((name, PlainText::from_str(alloc, text)?))
+}
+
+// The parts of a value.
+fn parts_of<'m, 'v>(value: &'m Value<'v>) -> Result<Parts<'m, 'v>, PushFault>
+    ensures { Answers parts_form result (parts_of (datum value.now)) }
 {
     match value {
-        Value::String(text) => Ok((PlainText::from_string(name), PlainText::from_string(text))),
+        Value::Array(items) => parts_in(items),
         _ => Err(PushFault::Shape),
     }
 }
 
-// The parts of a value.
-fn parts_of(value: &Value) -> Result<Parts<'_>, PushFault>
-    ensures { Answers parts_form result (parts_of (view value.now)) }
-{
-    match value.as_array() {
-        Some(items) => parts_in(items.as_slice()),
-        None => Err(PushFault::Shape),
-    }
-}
-
 // A time and a line as texts, and metadata.
-fn parts_in(items: &[Value]) -> Result<Parts<'_>, PushFault>
-    ensures { Answers parts_form result (parts_in (items_view items.now)) }
+fn parts_in<'m, 'v>(items: &'m [Value<'v>]) -> Result<Parts<'m, 'v>, PushFault>
+    ensures { Answers parts_form result (parts_in (items_data (items_view items.now))) }
 {
     let [time, line, rest @ ..] = items else {
         return Err(PushFault::Shape);
@@ -233,15 +255,18 @@ fn parts_in(items: &[Value]) -> Result<Parts<'_>, PushFault>
 }
 
 // The text that a value is.
-fn text_of(value: &Value) -> Result<&str, PushFault>
-    ensures { Answers (λ text. text.now) result (required PushFault.Shape (as_str (view value.now))) }
+fn text_of<'v>(value: &Value<'v>) -> Result<&'v str, PushFault>
+    ensures { Answers (λ text. text.now) result (required PushFault.Shape (as_str (datum value.now))) }
 {
-    value.as_str().ok_or(PushFault::Shape)
+    match value {
+        Value::String(text) => Ok(text),
+        _ => Err(PushFault::Shape),
+    }
 }
 
 // What stands behind the line: metadata, or nothing.
-fn metadata_in(rest: &[Value]) -> Result<Option<&Value>, PushFault>
-    ensures { Answers (option_map (λ value. view value.now)) result (metadata_in (items_view rest.now)) }
+fn metadata_in<'m, 'v>(rest: &'m [Value<'v>]) -> Result<Option<&'m Value<'v>>, PushFault>
+    ensures { Answers (option_map (λ value. datum value.now)) result (metadata_in (items_data (items_view rest.now))) }
 {
     match rest {
         [] => Ok(None),
@@ -250,8 +275,8 @@ fn metadata_in(rest: &[Value]) -> Result<Option<&Value>, PushFault>
     }
 }
 
-// The entry of a value's parts, with the labels. The line is copied, so that the document goes back as a whole.
-fn entry_of(alloc: Global, labels: &Labels, parts: Parts<'_>) -> Result<Entry, PushError>
+// The entry of a value's parts, with the labels.
+fn entry_of(alloc: Global, labels: &Labels, parts: Parts<'_, '_>) -> Result<Entry, PushError>
     requires { IsTrue (is_stream labels.now) }
     ensures { Gives entry_form result (entry_of labels.now (parts_form parts.entry)) }
 {
@@ -280,8 +305,8 @@ fn moment_of(text: &str) -> Result<Ns, PushFault>
 }
 
 // Whether there is none, or an empty object.
-fn has_no_metadata(metadata: Option<&Value>) -> bool
-    ensures { result ≡ has_no_metadata (option_map (λ value. view value.now) metadata.entry) }
+fn has_no_metadata(metadata: Option<&Value<'_>>) -> bool
+    ensures { result ≡ has_no_metadata (option_map (λ value. datum value.now) metadata.entry) }
 {
     match metadata {
         Some(value) => is_empty_object(value),
@@ -289,11 +314,11 @@ fn has_no_metadata(metadata: Option<&Value>) -> bool
     }
 }
 
-fn is_empty_object(value: &Value) -> bool
-    ensures { result ≡ is_empty_object (as_object (view value.now)) }
+fn is_empty_object(value: &Value<'_>) -> bool
+    ensures { result ≡ is_empty_object (as_object (datum value.now)) }
 {
-    match value.as_object() {
-        Some(members) => members.is_empty(),
-        None => false,
+    match value {
+        Value::Object(members) => members.is_empty(),
+        _ => false,
     }
 }

@@ -9,6 +9,7 @@ use crate::asking::{ask_all, edit, eval, push, tick};
 use crate::command::{Command, is_blank, read_command};
 use crate::engine::{Engine, ShardsStep};
 use crate::front::first_line;
+use crate::push::PushReader;
 use crate::telling::{Answer, Got, tell, tell_closed};
 use rl_world::Refusal;
 use std::alloc::{AllocError, AllocFailed, Global};
@@ -114,11 +115,12 @@ fn answer_lines<E: Engine, W: Write>(
 ) -> io::Result<bool>
     ensures { TellsText E.calls engine.old commands.now (W.contents out.old) result (W.contents out.new) engine.new }
 {
+    let mut reader = PushReader::new(alloc);
     let mut refused = false;
     let mut rest = commands;
     loop {
         let (line, behind) = first_line(rest);
-        let answer = answer_line(alloc, engine, line, out)?;
+        let answer = answer_line(alloc, &mut reader, engine, line, out)?;
         if is_end(answer) {
             return Ok(refused);
         }
@@ -145,6 +147,7 @@ fn is_refusal(answer: Answer) -> bool
 // Answers a line, and passes over a blank one.
 fn answer_line<E: Engine, W: Write>(
     alloc: Global,
+    reader: &mut PushReader,
     engine: &mut E,
     line: &str,
     out: &mut W,
@@ -154,7 +157,7 @@ fn answer_line<E: Engine, W: Write>(
     if is_blank(line) {
         return Ok(Answer::Taken);
     }
-    let answer = answer_command(alloc, engine, line, out)?;
+    let answer = answer_command(alloc, reader, engine, line, out)?;
     out.flush()?;
     Ok(answer)
 }
@@ -162,6 +165,7 @@ fn answer_line<E: Engine, W: Write>(
 // Carries out the command of a line, and tells what it got.
 fn answer_command<E: Engine, W: Write>(
     alloc: Global,
+    reader: &mut PushReader,
     engine: &mut E,
     line: &str,
     out: &mut W,
@@ -169,13 +173,14 @@ fn answer_command<E: Engine, W: Write>(
     ensures { Tells E.calls engine.old (command_of line.now) (W.contents out.old) result (W.contents out.new) engine.new }
 {
     match read_command(line) {
-        Some(command) => obey(alloc, engine, command, out),
+        Some(command) => obey(alloc, reader, engine, command, out),
         None => tell(&Got::Refused, out),
     }
 }
 
 fn obey<E: Engine, W: Write>(
     alloc: Global,
+    reader: &mut PushReader,
     engine: &mut E,
     command: Command<'_>,
     out: &mut W,
@@ -183,7 +188,7 @@ fn obey<E: Engine, W: Write>(
     ensures { Tells E.calls engine.old (Some (asked command.entry)) (W.contents out.old) result (W.contents out.new) engine.new }
 {
     match command {
-        Command::Push(json) => tell(&push(alloc, engine, json), out),
+        Command::Push(json) => tell(&push(alloc, reader, engine, json), out),
         Command::Cut => tell(&ask_all(engine, ShardsStep::Cut), out),
         Command::Flush => tell(&ask_all(engine, ShardsStep::Flush), out),
         Command::Edit(document) => tell(&edit(alloc, engine, document), out),

@@ -3,7 +3,7 @@ use Rattle.std.proofs.Common.{◌≡◌, ◌*◌, ◌+◌, ◌≤◌, option_map
 use Rattle.json.specs.Value.{value_view, members_view}
 use Rattle.serde_json.specs.Data.{depth, members_depth, no_members}
 use Rattle.rl_pipeline.specs.Extracting.{with_pairs}
-use Rattle.rl_pipeline.specs.JsonData.{data_of, members_data, referred}
+use Rattle.rl_json.specs.JsonData.{data_of, members_data, referred}
 use Rattle.rl_pipeline.specs.JsonLeaves.{leaves_below}
 use Rattle.rl_pipeline.proofs.json_labels.+leaves.Given as goal
 

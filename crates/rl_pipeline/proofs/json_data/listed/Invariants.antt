@@ -1,6 +1,0 @@
--- The members so far, and those that are left.
-use Rattle.std.proofs.Common.{◌≡◌, ◌++◌}
-use Rattle.rl_pipeline.proofs.json_data.listed.Given as goal
-
-abbrev pub invariant-loop-key : goal.invariant-loop-key
-invariant-loop-key l = l.all.items ++ l.key-iterator ≡ l.fn.members.entries

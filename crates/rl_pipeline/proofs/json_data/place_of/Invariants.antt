@@ -1,6 +1,0 @@
--- The key is above the members so far.
-use Rattle.rl_pipeline.proofs.JsonData.{Above}
-use Rattle.rl_pipeline.proofs.json_data.place_of.Given as goal
-
-abbrev pub invariant-loop-index : goal.invariant-loop-index
-invariant-loop-index l = Above l.key l.found l.index
