@@ -1,0 +1,157 @@
+-- Delete requests: what they cover, and what becomes of them.
+use Rattle.std.specs.Prelude.{◌≡◌, ℕ, ◌+◌, ◌*◌, ◌^◌, nat_lt, nat_le, Bool, true, false, ◌&&◌, Option, None, Some, Result, Ok, Err, if◌then◌else◌}
+use Rattle.std.specs.List.{list_any}
+use Rattle.std.specs.FinMap as map
+use Rattle.std.specs.FinMap.{FinMap}
+use Rattle.std.specs.Ordering.{nat_cmp}
+use Rattle.rl_plain.specs.declared.refusal.OrMemory.{OrMemory}
+use Rattle.rl_plain.specs.declared.refusal.OrMemory.TheVariants.{Fault, Memory}
+use Rattle.rl_labels.specs.declared.entry.Entry.{Entry}
+use Rattle.rl_query.specs.declared.filter.Sieve.{Sieve}
+use Rattle.rl_pipeline.specs.Sieving.{sieve_selects}
+use Rattle.rl_deletes.specs.declared.request.Phase.{Phase}
+use Rattle.rl_deletes.specs.declared.request.Phase.TheVariants.{Received, Cancelled, Processed}
+use Rattle.rl_deletes.specs.declared.request.Request.{Request}
+use Rattle.rl_deletes.specs.declared.fault.ReceiveFault.{ReceiveFault}
+use Rattle.rl_deletes.specs.declared.fault.ReceiveFault.TheVariants.{IdTaken, Full}
+use Rattle.rl_deletes.specs.declared.fault.CancelFault.{CancelFault}
+use Rattle.rl_deletes.specs.declared.fault.CancelFault.TheVariants as cancelling
+use Rattle.rl_deletes.specs.declared.fault.ProcessFault.{ProcessFault}
+use Rattle.rl_deletes.specs.declared.fault.ProcessFault.TheVariants as processing
+
+-- requests by their numbers, and how long after its making each can be cancelled, in seconds
+pub record RequestsView : Type 0 where
+  pub requests : FinMap nat_cmp Request
+  pub cancel : ℕ
+
+-- the most requests, in whatever phase
+abbrev pub most_requests : ℕ
+most_requests = 65536
+
+abbrev pub is_in_force : Phase → Bool
+is_in_force Received = true
+is_in_force Cancelled = false
+is_in_force Processed = false
+
+-- it was neither cancelled nor processed
+abbrev pub is_received : Request → Bool
+is_received request = is_in_force request.phase
+
+-- the sieve selects the entry, and its timestamp is from the start to the end
+abbrev pub covers_one : Request → Entry → Bool
+covers_one request entry = nat_le request.start entry.timestamp && nat_le entry.timestamp request.end && sieve_selects request.sieve entry
+
+-- some received request covers it
+abbrev pub covered : RequestsView → Entry → Bool
+covered all entry = list_any (λ request. is_received request && covers_one request entry) (map.values all.requests)
+
+-- some received request but that with the number covers it
+abbrev pub covered_beside : RequestsView → ℕ → Entry → Bool
+covered_beside all id entry = covered (record { requests = map.remove all.requests id; cancel = all.cancel }) entry
+
+-- the request, if it is received
+abbrev pub if_received : Option Request → Option Request
+if_received None = None
+if_received (Some request) = if is_received request then Some request else None
+
+-- the received request with the number
+abbrev pub received_at : RequestsView → ℕ → Option Request
+received_at all id = if_received (map.get all.requests id)
+
+-- with the request under the number
+abbrev pub with_request : RequestsView → ℕ → Request → RequestsView
+with_request all id request = record { requests = map.insert all.requests id request; cancel = all.cancel }
+
+-- RECEIVING
+
+-- a request as it is received
+abbrev pub asked : (sieve : Sieve) (start end created : ℕ) → Request
+asked sieve start end created = record { sieve = sieve; start = start; end = end; created = created; phase = Received }
+
+-- the known request is received and covers what the other asks for
+pub record IsRepeat (request known : Request) : Type 0 where
+  pub received : is_received known ≡ true
+  pub sieve : known.sieve ≡ request.sieve
+  pub start : known.start ≡ request.start
+  pub end : known.end ≡ request.end
+
+-- one is known by the number
+abbrev pub IsTakenFault : (request known : Request) → Option ReceiveFault → Type 0
+IsTakenFault request known None = IsRepeat request known
+IsTakenFault request known (Some IdTaken) = ¬ (IsRepeat request known)
+IsTakenFault request known (Some Full) = ⊥
+
+-- none is, and there are so many
+abbrev pub room_fault : ℕ → Option ReceiveFault
+room_fault count = if nat_le most_requests count then Some Full else None
+
+abbrev pub IsFaultBeside : Option Request → (count : ℕ) → Request → Option ReceiveFault → Type 0
+IsFaultBeside None count request fault = fault ≡ room_fault count
+IsFaultBeside (Some known) count request fault = IsTakenFault request known fault
+
+-- why the request is not received under the number, if it is not
+abbrev pub IsReceiveFault : RequestsView → ℕ → Request → Option ReceiveFault → Type 0
+IsReceiveFault all id request fault = IsFaultBeside (map.get all.requests id) (map.len all.requests) request fault
+
+-- an answer with a fault has that fault; want of memory says nothing
+abbrev pub IsReceiveAnswer : RequestsView → ℕ → Request → Result Unit (OrMemory ReceiveFault) → Type 0
+IsReceiveAnswer all id request (Ok _) = Unit {0}
+IsReceiveAnswer all id request (Err Memory) = Unit {0}
+IsReceiveAnswer all id request (Err (Fault fault)) = IsReceiveFault all id request (Some fault)
+
+abbrev pub received_beside : Option Request → RequestsView → ℕ → Request → RequestsView
+received_beside None all id request = with_request all id request
+received_beside (Some known) all id request = all
+
+-- the request is there; one that was there stays as it was first received
+abbrev pub received : RequestsView → ℕ → Request → RequestsView
+received all id request = received_beside (map.get all.requests id) all id request
+
+-- CANCELLING AND PROCESSING
+
+abbrev pub in_phase : Phase → Request → Request
+in_phase phase request = record request { phase = phase }
+
+abbrev pub ended_from : Option Request → Phase → RequestsView → ℕ → RequestsView
+ended_from None phase all id = all
+ended_from (Some request) phase all id = if is_received request then with_request all id (in_phase phase request) else all
+
+-- the request with the number is in the phase from now on, if it was received
+abbrev pub ended : Phase → RequestsView → ℕ → RequestsView
+ended phase all id = ended_from (map.get all.requests id) phase all id
+
+abbrev pub cancel_fault_in : Phase → Option CancelFault
+cancel_fault_in Received = None
+cancel_fault_in Cancelled = None
+cancel_fault_in Processed = Some cancelling.AlreadyProcessed
+
+abbrev pub cancel_fault_of : Option Request → Option CancelFault
+cancel_fault_of None = Some cancelling.NoSuchRequest
+cancel_fault_of (Some request) = cancel_fault_in request.phase
+
+-- why the request with the number is not cancelled, if it is not
+abbrev pub cancel_fault : RequestsView → ℕ → Option CancelFault
+cancel_fault all id = cancel_fault_of (map.get all.requests id)
+
+abbrev pub cancelled : RequestsView → ℕ → RequestsView
+cancelled all id = ended Cancelled all id
+
+-- from when on a request that was made at the moment can no longer be cancelled, in nanoseconds
+abbrev pub due : RequestsView → (created : ℕ) → ℕ
+due all created = created + all.cancel * 10 ^ 9
+
+abbrev pub process_fault_in : Phase → (due now : ℕ) → Option ProcessFault
+process_fault_in Received due now = if nat_lt now due then Some processing.TooEarly else None
+process_fault_in Cancelled due now = Some processing.WasCancelled
+process_fault_in Processed due now = None
+
+abbrev pub process_fault_of : Option Request → RequestsView → (now : ℕ) → Option ProcessFault
+process_fault_of None all now = Some processing.NoSuchRequest
+process_fault_of (Some request) all now = process_fault_in request.phase (due all request.created) now
+
+-- why the request with the number is not processed at the moment, if it is not
+abbrev pub process_fault : RequestsView → ℕ → (now : ℕ) → Option ProcessFault
+process_fault all id now = process_fault_of (map.get all.requests id) all now
+
+abbrev pub processed : RequestsView → ℕ → RequestsView
+processed all id = ended Processed all id

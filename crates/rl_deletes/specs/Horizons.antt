@@ -1,0 +1,6 @@
+-- Where the horizon of retention goes.
+use Rattle.std.specs.Prelude.{ℕ, ◌-◌, ◌*◌, ◌^◌, max, ◌==◌, if◌then◌else◌}
+
+-- what is kept is kept for so many seconds; with 0 seconds, for ever, and the horizon stays. It is never lowered
+abbrev pub advanced : (keep horizon now : ℕ) → ℕ
+advanced keep horizon now = if keep == 0 then horizon else max horizon (now - keep * 10 ^ 9)

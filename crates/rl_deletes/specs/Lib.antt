@@ -1,0 +1,4 @@
+pub mod Deletes
+pub mod Horizons
+pub mod Views
+pub mod laws

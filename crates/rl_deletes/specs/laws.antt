@@ -1,0 +1,3 @@
+-- Laws and lemmas that the crates above rest on.
+pub mod Covering
+pub mod Passing

@@ -1,0 +1,57 @@
+//! A received request with its built sieve, which tells what it covers.
+ghost use Rattle.std.specs.Prelude.{◌≡◌, IfOk};
+ghost use Rattle.rl_deletes.specs.Deletes.{asked};
+
+use crate::request::Request;
+use rl_labels::{Entry, Ns};
+use rl_pipeline::{Covers, SieveCode};
+use std::alloc::{AllocError, Global};
+use std::marker::Model;
+
+/// A received request, built. Contracts see the request.
+#[derive(Drop)]
+pub struct Acting {
+    code: SieveCode,
+    start: Ns,
+    end: Ns,
+    created: Ns,
+}
+
+impl Model for Acting {
+    ghost use Rattle.rl_deletes.specs.declared.request.Request.{Request};
+    ghost use Rattle.rl_deletes.specs.Deletes.{asked};
+
+    ghost Value = { Request };
+
+    ghost view = { λ a. asked a.code a.start a.end a.created };
+}
+
+impl Acting {
+    // The request built, as it is received. A pattern that no longer builds is answered as want of memory.
+    pub(crate) fn build(alloc: Global, request: &Request) -> Result<Acting, AllocError>
+        ensures { IfOk result (λ acting. acting ≡ asked request.now.sieve request.now.start request.now.end request.now.created) }
+    {
+        match SieveCode::build(alloc, &request.sieve) {
+            Ok(code) => Ok(Acting {
+                code,
+                start: request.start,
+                end: request.end,
+                created: request.created,
+            }),
+            Err(_) => Err(AllocError),
+        }
+    }
+}
+
+impl Covers for Acting {
+    ghost use Rattle.rl_deletes.specs.Deletes.{covers_one};
+
+    ghost covers = { covers_one };
+
+    fn covers(&self, entry: &Entry) -> Result<bool, AllocError> {
+        if entry.timestamp < self.start || self.end < entry.timestamp {
+            return Ok(false);
+        }
+        self.code.covers(entry)
+    }
+}

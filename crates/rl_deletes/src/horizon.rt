@@ -1,0 +1,67 @@
+//! The horizon of retention.
+ghost use Rattle.std.specs.Prelude.{◌≡◌, ◌≤◌};
+ghost use Rattle.rl_labels.specs.Quantity.{greatest_moment};
+ghost use Rattle.rl_deletes.specs.Horizons.{advanced};
+
+use rl_labels::Ns;
+use std::marker::Model;
+
+// Nanoseconds in a second.
+const SECOND: u64 = 1_000_000_000;
+
+/// The moment below which entries are expired. Contracts see the moment.
+#[derive(Clone, Copy, Debug)]
+pub struct Horizon {
+    moment: Ns,
+}
+
+impl Model for Horizon {
+    ghost use Rattle.std.specs.Prelude.{ℕ};
+
+    ghost Value = { ℕ };
+
+    ghost view = { λ a. a.moment };
+
+    ghost inverse = { λ n. record { moment = n } };
+}
+
+impl Horizon {
+    /// The horizon under which nothing is expired.
+    pub fn first() -> Horizon
+        ensures { result ≡ 0 }
+    {
+        Horizon {
+            moment: moment_of(0),
+        }
+    }
+
+    pub fn moment(self) -> Ns
+        ensures { result ≡ self }
+    {
+        self.moment
+    }
+
+    /// The horizon from a moment on, where entries are kept for so many seconds; with 0, for ever. It never goes down.
+    pub fn advance(self, now: Ns, keep: u64) -> Horizon
+        ensures moment { result ≡ advanced keep self now }
+        ensures rises { self ≤ result }
+    {
+        let lowest = now.get().saturating_sub(keep.saturating_mul(SECOND));
+        if keep == 0 || lowest <= self.moment.get() {
+            return self;
+        }
+        Horizon {
+            moment: moment_of(lowest),
+        }
+    }
+}
+
+fn moment_of(nanoseconds: u64) -> Ns
+    requires { nanoseconds ≤ greatest_moment }
+    ensures { result ≡ nanoseconds }
+{
+    match Ns::new(nanoseconds) {
+        Some(moment) => moment,
+        None => unreachable!(),
+    }
+}

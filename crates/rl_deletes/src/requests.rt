@@ -1,0 +1,219 @@
+//! All requests of a shard.
+ghost use Rattle.std.specs.Prelude.{◌≡◌, None, Some, IfOk, OnOk, OnErr, IsSome, MatchResult, cond, false, ℕ};
+ghost use Rattle.std.specs.BTreeMap.{is_at};
+ghost use Rattle.std.specs.FinMap as map;
+ghost use Rattle.std.specs.Map.{lookup};
+ghost use Rattle.std.specs.Option.{option_map};
+ghost use Rattle.std.specs.Ordering.{nat_cmp};
+ghost use Rattle.rl_deletes.specs.Deletes.{asked, cancel_fault, cancelled, covered_beside, ended, is_in_force, process_fault, processed, received, received_at, with_request, in_phase, IsReceiveAnswer, IsReceiveFault};
+
+use crate::acting::Acting;
+use crate::fault::{CancelFault, ProcessFault, ReceiveError, ReceiveFault};
+use crate::request::{Phase, Request};
+use rl_labels::{Entry, Limits, Ns};
+use rl_pipeline::Covers;
+use rl_plain::OrMemory;
+use rl_query::Sieve;
+use std::alloc::{AllocError, Global};
+use std::collections::BTreeMap;
+use std::marker::Model;
+
+/// The most requests, in whatever phase.
+pub const MOST_REQUESTS: usize = 65_536;
+
+// Nanoseconds in a second.
+const SECOND: u64 = 1_000_000_000;
+
+/// Delete requests by their numbers. Contracts see a finite map, and how long after its making a request can be cancelled.
+#[derive(Drop)]
+pub struct Requests {
+    alloc: Global,
+    cancel: u64,
+    requests: BTreeMap<u64, Request>,
+    // Those that are received.
+    acting: BTreeMap<u64, Acting>,
+}
+
+impl Model for Requests {
+    ghost use Rattle.rl_deletes.specs.Deletes.{RequestsView};
+    ghost use Rattle.rl_deletes.specs.Views.{requests_code, view_of, AreBuilt};
+
+    ghost Value = { RequestsView };
+
+    ghost coded = { requests_code };
+
+    ghost view = { λ a. view_of a.cancel a.requests.entries };
+
+    ghost invariant = { λ a. AreBuilt a.cancel a.requests.entries a.acting.entries };
+}
+
+impl Requests {
+    /// No requests. Each can be cancelled for as long as the limits say.
+    pub fn new(alloc: Global, limits: &Limits) -> Requests
+        ensures { result ≡ record { requests = map.empty; cancel = limits.now.cancel } }
+    {
+        Requests {
+            alloc,
+            cancel: limits.cancel,
+            requests: BTreeMap::new(alloc),
+            acting: BTreeMap::new(alloc),
+        }
+    }
+
+    /// Receives a request. One that is received already, with that sieve, start and end, stays as it is.
+    pub fn receive(
+        &mut self,
+        id: u64,
+        sieve: Sieve,
+        start: Ns,
+        end: Ns,
+        created: Ns,
+    ) -> Result<(), ReceiveError>
+        ensures ok { OnOk result (IsReceiveFault self.old id (asked sieve start end created) None × (self.new ≡ received self.old id (asked sieve start end created))) }
+        ensures fault { IsReceiveAnswer self.old id (asked sieve start end created) result }
+        ensures err { OnErr result (self.new ≡ self.old) }
+    {
+        let phase = Phase::Received;
+        let request = Request {
+            sieve,
+            start,
+            end,
+            created,
+            phase,
+        };
+        if let Some(known) = self.request(id) {
+            if request.repeats(known) {
+                return Ok(());
+            }
+            return Err(OrMemory::Fault(ReceiveFault::IdTaken));
+        }
+        if self.len() >= MOST_REQUESTS {
+            return Err(OrMemory::Fault(ReceiveFault::Full));
+        }
+        self.add(id, request)?;
+        Ok(())
+    }
+
+    /// Cancels a request, which then covers nothing. A repeat changes nothing.
+    pub fn cancel(&mut self, id: u64) -> Result<(), CancelFault>
+        ensures { MatchResult result (λ _. (cancel_fault self.old id ≡ None) × (self.new ≡ cancelled self.old id)) (λ fault. (cancel_fault self.old id ≡ Some fault) × (self.new ≡ self.old)) }
+    {
+        let Some(request) = self.request(id) else {
+            return Err(CancelFault::NoSuchRequest);
+        };
+        match request.phase {
+            Phase::Received => {}
+            Phase::Cancelled => return Ok(()),
+            Phase::Processed => return Err(CancelFault::AlreadyProcessed),
+        }
+        self.retire(id, Phase::Cancelled);
+        Ok(())
+    }
+
+    /// Takes note that what a request covered is removed, once it can no longer be cancelled. A repeat changes nothing.
+    pub fn process(&mut self, id: u64, now: Ns) -> Result<(), ProcessFault>
+        ensures { MatchResult result (λ _. (process_fault self.old id now ≡ None) × (self.new ≡ processed self.old id)) (λ fault. (process_fault self.old id now ≡ Some fault) × (self.new ≡ self.old)) }
+    {
+        let Some(request) = self.request(id) else {
+            return Err(ProcessFault::NoSuchRequest);
+        };
+        match request.phase {
+            Phase::Received => {}
+            Phase::Cancelled => return Err(ProcessFault::WasCancelled),
+            Phase::Processed => return Ok(()),
+        }
+        if now.get() < request.created.get() + self.cancel * SECOND {
+            return Err(ProcessFault::TooEarly);
+        }
+        self.retire(id, Phase::Processed);
+        Ok(())
+    }
+
+    /// The request with the number, in whatever phase.
+    pub fn request(&self, id: u64) -> Option<&Request>
+        ensures { option_map (λ request. request.now) result ≡ map.get self.now.requests id }
+    {
+        self.requests.get(&id)
+    }
+
+    /// The received request with the number.
+    pub fn only(&self, id: u64) -> Option<&Acting>
+        ensures { option_map (λ acting. acting.now) result ≡ received_at self.now id }
+    {
+        self.acting.get(&id)
+    }
+
+    /// Whether a received request covers the entry, but for the one with the number.
+    pub fn covers_beside(&self, id: u64, entry: &Entry) -> Result<bool, AllocError>
+        ensures { IfOk result (λ answer. answer ≡ covered_beside self.now id entry.now) }
+    {
+        for (number, acting) in self.acting.iter() {
+            if *number == id {
+                continue;
+            }
+            if acting.covers(entry)? {
+                return Ok(true);
+            }
+        }
+        Ok(false)
+    }
+
+    // How many requests there are, in whatever phase.
+    fn len(&self) -> usize
+        ensures { result ≡ map.len self.now.requests }
+    {
+        self.requests.len()
+    }
+
+    // Adds a request whose number is new, built.
+    fn add(&mut self, id: u64, request: Request) -> Result<(), AllocError>
+        requires new { map.get self.old.requests id ≡ None }
+        requires received { request ≡ asked request.sieve request.start request.end request.created }
+        ensures ok { OnOk result (self.new ≡ with_request self.old id request) }
+        ensures err { OnErr result (self.new ≡ self.old) }
+    {
+        let acting = Acting::build(self.alloc, &request)?;
+        self.acting.insert(id, acting)?;
+        match self.requests.insert(id, request) {
+            Ok(_) => Ok(()),
+            Err(refused) => {
+                self.acting.remove(&id);
+                Err(refused.into())
+            }
+        }
+    }
+
+    // Ends a received request.
+    fn retire(&mut self, id: u64, phase: Phase)
+        requires received { IsSome (received_at self.old id) }
+        requires ends { is_in_force phase ≡ false }
+        ensures { self.new ≡ ended phase self.old id }
+    {
+        set_phase(&mut self.requests, id, phase);
+        self.acting.remove(&id);
+    }
+}
+
+impl Covers for Requests {
+    ghost use Rattle.rl_deletes.specs.Deletes.{covered};
+
+    ghost covers = { covered };
+
+    fn covers(&self, entry: &Entry) -> Result<bool, AllocError> {
+        for acting in self.acting.values() {
+            if acting.covers(entry)? {
+                return Ok(true);
+            }
+        }
+        Ok(false)
+    }
+}
+
+// The request with the number is in the phase.
+fn set_phase(requests: &mut BTreeMap<u64, Request>, id: u64, phase: Phase)
+    ensures { (q : ℕ) → lookup (is_at (nat_cmp q)) requests.new.entries ≡ cond (is_at (nat_cmp id) q) (option_map (in_phase phase) (lookup (is_at (nat_cmp id)) requests.old.entries)) (lookup (is_at (nat_cmp q)) requests.old.entries) }
+{
+    if let Some(request) = requests.get_mut(&id) {
+        request.phase = phase;
+    }
+}
