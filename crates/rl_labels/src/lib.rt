@@ -6,6 +6,7 @@
 //! - `labels`: `Labels`, made from pairs with named refusals. `builder`: `LabelsBuilder`, label sets that grow. `label_tree`: many labels, in a tree.
 //! - `entry`: `Entry`, labels with a moment and a line.
 //! - `matcher`: `Matcher`, and its built code that accepts label sets. `selector`: the same of many that must all accept.
+//! - `covers`: what covers entries, as delete requests do.
 //! - `short`: texts that lie in the value itself where they are short.
 //! - `decimal`: rows of digits, and `Decimal`. `quantity`: `Duration`, `Size`, and `Signed`, which labels' values are.
 //! - `sending`: built matchers may be sent to another thread.
@@ -14,6 +15,7 @@
 #![tactic(auto)]
 
 pub mod builder;
+pub mod covers;
 pub mod decimal;
 pub mod entry;
 mod label_tree;
@@ -27,6 +29,7 @@ pub mod sending;
 mod short;
 
 pub use builder::LabelsBuilder;
+pub use covers::Covers;
 pub use decimal::{Decimal, NotOne, number_of};
 pub use entry::{Entry, EntryFault, RefusedEntry};
 pub use labels::{Labels, LabelsError, LabelsFault};
