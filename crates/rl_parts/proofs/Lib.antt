@@ -3,9 +3,11 @@ pub mod Finding
 pub mod Handing
 pub mod Heads
 pub mod InOrder
+pub mod Leaving
 pub mod Lines
 pub mod Marked
 pub mod Puts
 pub mod Refusals
+pub mod Rereading
 pub mod Times
 pub mod Writes

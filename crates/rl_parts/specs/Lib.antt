@@ -2,6 +2,8 @@ pub mod Changes
 pub mod Marks
 pub mod PartState
 pub mod Reading
+pub mod RewriteFaults
+pub mod Rewriting
 pub mod StoreUse
 pub mod StreamParts
 pub mod StreamState

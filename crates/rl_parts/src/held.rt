@@ -39,6 +39,20 @@ impl Held {
         Held { timestamp, entry }
     }
 
+    pub(crate) fn entry(&self) -> &Entry
+        ensures { result.now ≡ self.now }
+    {
+        self.entry.get()
+    }
+
+    // One owner more.
+    pub(crate) fn share(&self) -> Result<Held, AllocError>
+        ensures { IfOk result (λ held. held ≡ self.now) }
+    {
+        let entry = self.entry.try_copy()?;
+        Ok(Held::new(entry))
+    }
+
     // How it stands to another entry of its stream: by timestamp, and then by line.
     pub(crate) fn order(&self, other: &Entry) -> Ordering
         ensures { result ≡ line_cmp (line_of self.now) (line_of other.now) }

@@ -2,9 +2,10 @@
 //!
 //! - `stream`: `Stream`, made of its first entry. It holds entries, seals its head, writes its parts to a store and reads them
 //!   there. `part`: `Part`, sealed entries, in memory or in a store.
+//! - `plan`: `Plan`, what a stream becomes without entries that are covered. It is made first, and then carried out.
 //! - `fetching`: `fetch`, a chunk of a store whose bytes have a digest.
 //! - `taker`: `Taker`, what is handed the lines of a stream.
-//! - `fault`: why reading or writing was refused. `sending`: a probe for what may cross to another thread.
+//! - `fault`: why reading, writing or rewriting was refused. `sending`: a probe for what may cross to another thread.
 #![tactic(auto)]
 
 pub mod fault;
@@ -14,14 +15,17 @@ mod handing_out;
 mod held;
 mod marks;
 pub mod part;
+pub mod plan;
+mod rewriting;
 mod sealing;
 mod searching;
 pub mod sending;
 pub mod stream;
 pub mod taker;
 
-pub use fault::{FlushFault, ReadFault};
+pub use fault::{FlushFault, ReadFault, RewriteFault};
 pub use fetching::fetch;
 pub use part::Part;
+pub use plan::Plan;
 pub use stream::Stream;
 pub use taker::Taker;

@@ -1,12 +1,14 @@
 //! Sealed entries of a stream, in memory or in a store.
-use crate::fault::{FlushFault, ReadFault};
+use crate::fault::{FlushFault, ReadFault, RewriteFault};
 use crate::flushing::write_entries;
 use crate::handing_out::{hand_all, hand_written};
 use crate::held::Held;
+use crate::plan::Change;
+use crate::rewriting::{rewrite_here, rewrite_written};
 use crate::searching::{has_entry, has_written};
 use crate::taker::Taker;
 use rl_chunks::Store;
-use rl_labels::{Entry, Labels, Ns};
+use rl_labels::{Covers, Entry, Labels, Ns};
 use rl_plain::PlainList;
 use std::alloc::Global;
 use std::marker::Model;
@@ -52,12 +54,16 @@ impl Model for Part {
 }
 
 impl Part {
-    ghost use Rattle.std.specs.Prelude.{◌≡◌, ℕ, true, false, [], ◌∷◌, IsTrue, ◌↔◌, IfOk, IfErr, OnOk, IsSome};
+    ghost use Rattle.std.specs.Prelude.{◌≡◌, ℕ, ◌≤◌, length, true, false, Some, [], ◌∷◌, IsTrue, ◌↔◌, IfOk, IfErr, IsErrOf, OnOk, IsSome};
+    ghost use Rattle.std.specs.Option.{option_map};
     ghost use Rattle.std.specs.List.{Contains, fold};
     ghost use Rattle.rl_parts.specs.StreamParts.{IsPart, unwritten};
     ghost use Rattle.rl_parts.specs.StoreUse.{Looked, Grown, IsKept, Right, ReadCause, FlushCause};
     ghost use Rattle.rl_parts.specs.Reading.{IsOutside, IsWith, IsWithout, IsHandedOut, in_memory, in_store, told_in_range};
     ghost use Rattle.rl_parts.specs.Changes.{AreNoted};
+    ghost use Rattle.rl_parts.specs.Marks.{AreMarks};
+    ghost use Rattle.rl_parts.specs.PartState.{IsRange};
+    ghost use Rattle.rl_parts.specs.Rewriting.{AreRewritten, RewriteCause, gone_by, left_by};
 
     // A part that no store has.
     pub(crate) fn new(entries: Vec<Held>) -> Part
@@ -65,6 +71,37 @@ impl Part {
     {
         let place = Place::Here(PlainList::from_vec(entries));
         Part { place }
+    }
+
+    // A part that a store has.
+    pub(crate) fn kept(written: Written) -> Part
+        requires range { IsRange written.entries.value written.first written.last }
+        requires marks { AreMarks written.entries.value written.marks }
+        ensures { result ≡ record { entries = written.entries.value; note = Some (record { number = written.number; digest = written.digest }) } }
+    {
+        Part {
+            place: Place::InStore(written),
+        }
+    }
+
+    // How many entries it has.
+    pub(crate) fn len(&self) -> usize
+        ensures { result ≡ length self.now.entries }
+    {
+        match &self.place {
+            Place::Here(entries) => entries.len(),
+            Place::InStore(written) => written.marks.len(),
+        }
+    }
+
+    // The number under which a store has the part.
+    pub(crate) fn number(&self) -> Option<u64>
+        ensures { result ≡ option_map (λ note. note.number) self.now.note }
+    {
+        match &self.place {
+            Place::Here(_) => None,
+            Place::InStore(written) => Some(written.number),
+        }
     }
 
     // Writes the part under the next number, unless a store has it.
@@ -147,5 +184,33 @@ impl Part {
             }
         }
         Ok(())
+    }
+
+    // What becomes of the part without its covered entries. It is read only where an entry of its range of time may be
+    // covered; what is left of it is put into the store under the next number.
+    pub(crate) fn rewrite<S: Store, C: Covers>(
+        &self,
+        alloc: Global,
+        store: &mut S,
+        covered: &C,
+        labels: &Labels,
+        next: &mut u64,
+    ) -> Result<Change, RewriteFault>
+        requires { IsPart labels.now self.now }
+        ensures rewritten { IfOk result (λ change. AreRewritten (C.covers covered.now) labels.now (self.now ∷ []) next.old (S.seen store.old) (left_by self.now change) (gone_by self.now change) next.new (S.seen store.new)) }
+        ensures undamaged { IsKept (S.seen store.old) next.old labels.now self.now → (S.seen store.old).honest ≡ true → IsErrOf result RewriteFault.Damaged → ⊥ }
+        ensures next { next.old ≤ next.new }
+        ensures grown { Grown (S.seen store.old) next.old (S.seen store.new) }
+        ensures cause { IfErr result (RewriteCause (S.seen store.old) (S.seen store.new) next.new) }
+    {
+        match &self.place {
+            Place::Here(entries) => {
+                let change = rewrite_here(alloc, covered, entries.as_slice())?;
+                Ok(change)
+            }
+            Place::InStore(written) => rewrite_written(
+                alloc, store, covered, labels, written, next,
+            ),
+        }
     }
 }

@@ -1,19 +1,23 @@
 //! One stream as its parts.
-ghost use Rattle.std.specs.Prelude.{◌≡◌, ℕ, ◌<◌, ◌≤◌, ◌⊎◌, max, true, false, [], ◌∷◌, length, IsTrue, ◌↔◌, Ok, OnOk, OnErr, IfOk, IfErr};
+ghost use Rattle.std.specs.Prelude.{◌≡◌, ℕ, ◌<◌, ◌≤◌, ◌^◌, ◌⊎◌, max, true, false, [], ◌∷◌, length, IsTrue, ◌↔◌, Ok, OnOk, OnErr, IfOk, IfErr, IsErrOf};
 
-use crate::fault::{FlushFault, ReadFault};
+use crate::fault::{FlushFault, ReadFault, RewriteFault};
 use crate::flushing::write_parts;
 use crate::handing_out::{hand_all, hand_parts};
 use crate::held::{Held, with_labels};
 use crate::part::Part;
+use crate::plan::{Plan, carry, count_parts, plan_parts};
+use crate::rewriting::uncovered;
 use crate::sealing::{later, put, seal_head};
 use crate::searching::{any_here, any_there, has_entry, is_above};
 use crate::taker::Taker;
 use rl_chunks::Store;
-use rl_labels::{Entry, Labels, Ns};
+use rl_labels::{Covers, Entry, Labels, Ns};
 use rl_plain::{Shared, TryCopy};
 use std::alloc::{AllocError, Global};
 use std::marker::Model;
+use std::mem;
+use std::snapshot::Snapshot;
 
 /// The most entries that a part can have.
 pub const MAX_PART_LEN: u64 = 1_048_576;
@@ -45,11 +49,12 @@ impl Model for Stream {
 }
 
 impl Stream {
-    ghost use Rattle.std.specs.List.{AllByRecursion, Contains, fold};
+    ghost use Rattle.std.specs.List.{All, AllByRecursion, Contains, fold};
     ghost use Rattle.rl_parts.specs.StreamParts.{PartView, entries_of, notes_of, most_entries};
     ghost use Rattle.rl_parts.specs.StoreUse.{Looked, Grown, AreKept, Right, ReadCause, FlushCause};
     ghost use Rattle.rl_parts.specs.Reading.{NoneReaches, IsWith, IsWithout, IsHandedOut, entries_here, told_in_range};
     ghost use Rattle.rl_parts.specs.Changes.{IsInserted, IsHeld, AreSealed, AreNoted, sealed_parts, unwritten_count};
+    ghost use Rattle.rl_parts.specs.Rewriting.{AreLeft, AreRenumbered, RewriteCause, note_numbers, uncovered};
 
     /// A stream of one entry. It is sealed at once where a part has no more than one.
     pub fn start(alloc: Global, entry: Shared<Entry>, most: u64) -> Result<Stream, AllocError>
@@ -83,6 +88,14 @@ impl Stream {
         ensures { result.now ≡ self.now.labels }
     {
         &self.labels
+    }
+
+    /// How many entries it has, wherever they are.
+    pub fn len(&self) -> u64
+        requires { length (entries_of self.now) < 2 ^ 64 }
+        ensures { result ≡ length (entries_of self.now) }
+    {
+        count_parts(&self.parts) + self.head.len() as u64
     }
 
     /// The newest timestamp that it ever had.
@@ -210,5 +223,58 @@ impl Stream {
         hand_parts(alloc, store, &self.labels, &self.parts, from, to, taker)?;
         hand_all(&self.labels, &self.head, from, to, taker)?;
         Ok(())
+    }
+
+    /// What the stream becomes without its covered entries. A part that a store has is read only where an entry of its range
+    /// of time may be covered; what is left of it is put into the store under the next number. What was put before a fault
+    /// stays there unused. The greatest number is never given.
+    pub fn plan<S: Store, C: Covers>(
+        &self,
+        alloc: Global,
+        store: &mut S,
+        covered: &C,
+        next: &mut u64,
+    ) -> Result<Plan, RewriteFault>
+        ensures of { IfOk result (λ plan. plan.of ≡ self.now) }
+        ensures labels { IfOk result (λ plan. plan.becomes.labels ≡ self.now.labels) }
+        ensures newest { IfOk result (λ plan. plan.becomes.newest ≡ self.now.newest) }
+        ensures head { IfOk result (λ plan. plan.becomes.head ≡ uncovered (C.covers covered.now) self.now.head) }
+        ensures own { IfOk result (λ plan. All (λ entry. entry.labels ≡ self.now.labels) (entries_of plan.becomes)) }
+        // What is left of a part that a store has is told by bytes with the digest, whatever the store does.
+        ensures parts { IfOk result (λ plan. AreLeft (C.covers covered.now) self.now.labels self.now.parts plan.becomes.parts) }
+        ensures fewer { IfOk result (λ plan. length (entries_of plan.becomes) ≤ length (entries_of self.now)) }
+        ensures numbers { IfOk result (λ plan. AreRenumbered (note_numbers self.now.parts) next.old next.new (note_numbers plan.becomes.parts) plan.gone) }
+        ensures kept { AreKept (S.seen store.old) next.old self.now → IfOk result (λ plan. AreKept (S.seen store.new) next.new plan.becomes) }
+        ensures right { (S.seen store.old).honest ≡ true → AreKept (S.seen store.old) next.old self.now → IfOk result (λ plan. entries_of plan.becomes ≡ uncovered (C.covers covered.now) (entries_of self.now)) }
+        ensures undamaged { (S.seen store.old).honest ≡ true → AreKept (S.seen store.old) next.old self.now → IsErrOf result RewriteFault.Damaged → ⊥ }
+        ensures next { next.old ≤ next.new }
+        ensures grown { Grown (S.seen store.old) next.old (S.seen store.new) }
+        ensures cause { IfErr result (RewriteCause (S.seen store.old) (S.seen store.new) next.new) }
+    {
+        let head = uncovered(alloc, covered, &self.head)?;
+        let room = Vec::with_capacity(alloc, self.parts.len())?;
+        let (changes, gone) = plan_parts(alloc, store, covered, &self.labels, &self.parts, next)?;
+        Ok(Plan {
+            of: Snapshot::of(self),
+            changes,
+            room,
+            head,
+            sealed_to: self.sealed_to,
+            gone,
+        })
+    }
+
+    /// Becomes what the plan of this stream says, without memory. Answers the numbers that are no longer used.
+    pub fn carry_out(&mut self, plan: Plan) -> Vec<u64>
+        requires { plan.of ≡ self.old }
+        ensures stream { self.new ≡ plan.becomes }
+        ensures gone { result.items ≡ plan.gone }
+    {
+        let none = Vec::new(*self.parts.allocator());
+        let parts = mem::replace(&mut self.parts, none);
+        self.parts = carry(parts, plan.changes, plan.room);
+        self.head = plan.head;
+        self.sealed_to = plan.sealed_to;
+        plan.gone
     }
 }

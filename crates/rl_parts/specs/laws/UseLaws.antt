@@ -11,6 +11,9 @@ use Rattle.rl_parts.specs.declared.fault.ReadFault.{ReadFault}
 use Rattle.rl_parts.specs.declared.fault.ReadFault.TheVariants as reads
 use Rattle.rl_parts.specs.declared.fault.FlushFault.{FlushFault}
 use Rattle.rl_parts.specs.declared.fault.FlushFault.TheVariants as flushes
+use Rattle.rl_parts.specs.Rewriting.{RewriteCause}
+use Rattle.rl_parts.specs.declared.fault.RewriteFault.{RewriteFault}
+use Rattle.rl_parts.specs.declared.fault.RewriteFault.TheVariants as rewrites
 
 -- no call at all
 pub Looked-none : (seen : Seen) → Looked seen seen
@@ -31,6 +34,10 @@ Grown-then a below b higher c le p q =
     let first : FaultsRise a.faults b.faults = p.faults in
     let second : FaultsRise b.faults c.faults = q.faults in
     record { honest = q.honest ∙ p.honest; faults = omega arith; others = λ number lt. q.others number (omega arith) ∙ p.others number lt }
+
+-- reads leave what puts may leave
+pub Grown-looked : (a b : Seen) (below : ℕ) → Looked a b → Grown a below b
+Grown-looked a b below looked = record { honest = looked.honest; faults = looked.faults; others = λ number lt. ap (λ blobs. map.get blobs number) looked.blobs }
 
 -- a fault that came stays one, before and behind other calls
 pub FaultCame-after : (a b c : ℕ) → FaultsRise a b → FaultCame b c → FaultCame a c
@@ -105,3 +112,9 @@ pub FlushCause-after : (a b c : Seen) (next : ℕ) (fault : FlushFault) → Faul
 FlushCause-after a b c next flushes.Fault rise cause = FaultCame-after a.faults b.faults c.faults rise cause
 FlushCause-after a b c next flushes.NumbersSpent rise cause = cause
 FlushCause-after a b c next flushes.Memory rise cause = tt
+
+pub RewriteCause-after : (a b c : Seen) (next : ℕ) (fault : RewriteFault) → FaultsRise a.faults b.faults → RewriteCause b c next fault → RewriteCause a c next fault
+RewriteCause-after a b c next rewrites.Fault rise cause = FaultCame-after a.faults b.faults c.faults rise cause
+RewriteCause-after a b c next rewrites.Damaged rise cause = tt
+RewriteCause-after a b c next rewrites.NumbersSpent rise cause = cause
+RewriteCause-after a b c next rewrites.Memory rise cause = tt

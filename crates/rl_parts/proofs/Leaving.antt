@@ -1,0 +1,267 @@
+-- What is left of parts without their covered entries.
+use Rattle.std.proofs.Common.{◌≡◌, ℕ, zero, suc, ◌+◌, ◌-◌, ◌<◌, ◌≤◌, cond, not, Bool, true, false, List, [], ◌∷◌, ◌++◌, length, get_or, take, map, Option, refl, sym, ap, subst, ◌∙◌, append-nil, append_assoc, arith}
+use Rattle.std.specs.Option.{unwrap_or}
+use Rattle.std.specs.List.{All, AllByRecursion, filter, range_with_len}
+use Rattle.std.specs.List.Sorted.{IsStrictlySortedBy}
+use Rattle.std.specs.declared.cmp.Ordering.TheVariants.{Less}
+use Rattle.std.proofs.lemmas.List.{length-append, length-map, length-take, map-append, take_more}
+use Rattle.std.proofs.lemmas.List.Concat.{flat_map-append}
+use Rattle.std.proofs.lemmas.List.Elements.{All-append, All-filter, All-from_recursion, filter-append, recursion_from_All}
+use Rattle.std.proofs.lemmas.List.Kept.{IsStrictlySortedBy-filter}
+use Rattle.std.proofs.lemmas.List.Sorted.{length_permutation}
+use Rattle.rl_labels.specs.LabelSet.{LabelSet}
+use Rattle.rl_labels.specs.EntryOrder.{entry_cmp}
+use Rattle.rl_labels.specs.laws.OrderLaws.{same_entry}
+use Rattle.rl_labels.specs.declared.entry.Entry.{Entry}
+use Rattle.rl_chunks.specs.ChunkText.{line_cmp}
+use Rattle.rl_chunks.specs.EntryLines.{line_of}
+use Rattle.rl_chunks.specs.StoreState.{Seen}
+use Rattle.rl_chunks.specs.declared.line.Line.{Line}
+use Rattle.rl_parts.specs.StreamParts.{PartView, IsRun, IsPart, listed, notes_of, unwritten}
+use Rattle.rl_parts.specs.StreamState.{AreSealedUpTo, IsInOrder}
+use Rattle.rl_parts.specs.StoreUse.{Grown, IsKept}
+use Rattle.rl_parts.specs.Rewriting.{AreLeft, AreOfLines, AreRenumbered, AreRewritten, IsChangedHere, IsLeft, IsOneMore, carried, entries_in, gone_by, left_by, note_numbers, uncovered}
+use Rattle.rl_parts.specs.declared.plan.Change.{Change}
+use Rattle.rl_parts.specs.declared.plan.Change.TheVariants.{Stays, Goes, Becomes}
+use Rattle.rl_parts.specs.Marks.{AreMarks, mark, marks_of}
+use Rattle.rl_parts.specs.laws.RewriteLaws.{AreRenumbered-all, AreRenumbered-none, AreRenumbered-then, range-none}
+use Rattle.rl_parts.specs.laws.TakerLaws.{AllZip-append}
+use Rattle.rl_parts.specs.laws.UseLaws.{Grown-none, each_part, IsKept-grown}
+use Rattle.rl_parts.proofs.Lines.{lines_compare}
+
+pub filter_le : {A : Type 0} (p : A → Bool) (xs : List A) → length (filter p xs) ≤ length xs
+filter_le p [] = omega arith
+filter_le {A} p (x ∷ xs) = at (p x) (filter_le p xs)
+  where
+    at : (b : Bool) → length (filter p xs) ≤ length xs → length (cond b (x ∷ filter p xs) (filter p xs)) ≤ suc (length xs)
+    at true h = omega (arith, h)
+    at false h = omega (arith, h)
+
+-- a filter that leaves as many leaves all
+pub filter_all : {A : Type 0} (p : A → Bool) (xs : List A) → length (filter p xs) ≡ length xs → filter p xs ≡ xs
+filter_all p [] h = refl
+filter_all {A} p (x ∷ xs) h = at (filter_all p xs) (filter_le p xs) (p x) h
+  where
+    at : (length (filter p xs) ≡ length xs → filter p xs ≡ xs) → length (filter p xs) ≤ length xs → (b : Bool) → length (cond b (x ∷ filter p xs) (filter p xs)) ≡ suc (length xs) → cond b (x ∷ filter p xs) (filter p xs) ≡ x ∷ xs
+    at others le true h = ap (λ ys. x ∷ ys) (others (omega (arith, h)))
+    at others le false h = absurd (omega (arith, h, le))
+
+-- where none is covered all are left
+pub none_covered : (covers : Entry → Bool) (entries : List Entry) → AllByRecursion (λ entry. covers entry ≡ false) entries → uncovered covers entries ≡ entries
+none_covered covers [] h = refl
+none_covered covers (entry ∷ entries) h =
+    ap (λ b. cond (not b) (entry ∷ uncovered covers entries) (uncovered covers entries)) h.0 ∙ ap (λ es. entry ∷ es) (none_covered covers entries h.1)
+
+pub uncovered-append : (covers : Entry → Bool) (xs ys : List Entry) → uncovered covers (xs ++ ys) ≡ uncovered covers xs ++ uncovered covers ys
+uncovered-append covers xs ys = filter-append (λ entry. not (covers entry)) xs ys
+
+pub entries_in-append : (xs ys : List PartView) → entries_in (xs ++ ys) ≡ entries_in xs ++ entries_in ys
+entries_in-append xs ys = flat_map-append (λ (part : PartView). part.entries) xs ys
+
+pub numbers-append : (xs ys : List PartView) → note_numbers (xs ++ ys) ≡ note_numbers xs ++ note_numbers ys
+numbers-append xs ys =
+    ap (map (λ note. note.number)) (flat_map-append (λ (part : PartView). listed part.note) xs ys)
+    ∙ map-append (λ note. note.number) (notes_of xs) (notes_of ys)
+
+-- what holds of each of two lists, and of both
+pub all_both : {A : Type 0} (P : A → Type 0) (xs ys : List A) → AllByRecursion P xs → AllByRecursion P ys → AllByRecursion P (xs ++ ys)
+all_both P [] ys h k = k
+all_both P (x ∷ xs) ys h k = (h.0, all_both P xs ys h.1 k)
+
+pub all_front : {A : Type 0} (P : A → Type 0) (xs ys : List A) → AllByRecursion P (xs ++ ys) → AllByRecursion P xs
+all_front P [] ys h = tt
+all_front P (x ∷ xs) ys h = (h.0, all_front P xs ys h.1)
+
+pub all_behind : {A : Type 0} (P : A → Type 0) (xs ys : List A) → AllByRecursion P (xs ++ ys) → AllByRecursion P ys
+all_behind P [] ys h = h
+all_behind P (x ∷ xs) ys h = all_behind P xs ys h.1
+
+-- what is left of a run is one
+pub run_left : (covers : Entry → Bool) (set : LabelSet) (entries : List Entry) → IsRun set entries → IsRun set (uncovered covers entries)
+run_left covers set entries run = record {
+  labels = All-filter (λ entry. not (covers entry)) (λ entry. entry.labels ≡ set) entries run.labels;
+  rising = IsStrictlySortedBy-filter entry_cmp (λ entry. not (covers entry)) entries run.rising;
+}
+
+pub part_left : (covers : Entry → Bool) (set : LabelSet) (entries : List Entry) → IsPart set (unwritten entries) → 0 < length (uncovered covers entries) → IsPart set (unwritten (uncovered covers entries))
+part_left covers set entries is some = record { run = run_left covers set entries is.run; some = some; few = omega (arith, is.few, filter_le (λ entry. not (covers entry)) entries) }
+
+-- entries of a stream whose lines rise are a run
+below : (set : LabelSet) (x : Entry) (entries : List Entry) → x.labels ≡ set → AllByRecursion (λ entry. entry.labels ≡ set) entries → AllByRecursion (λ y. line_cmp (line_of x) y ≡ Less) (map line_of entries) → AllByRecursion (λ y. entry_cmp x y ≡ Less) entries
+below set x [] of same less = tt
+below set x (y ∷ ys) of same less = (lines_compare x y (of ∙ sym same.0) ∙ less.0, below set x ys of same.1 less.1)
+
+rising : (set : LabelSet) (entries : List Entry) → AllByRecursion (λ entry. entry.labels ≡ set) entries → IsStrictlySortedBy line_cmp (map line_of entries) → IsStrictlySortedBy entry_cmp entries
+unfolding IsStrictlySortedBy
+rising set [] same rises = tt
+rising set (x ∷ xs) same rises = (below set x xs same.0 same.1 rises.0, rising set xs same.1 rises.1)
+
+pub run_of_lines : (set : LabelSet) (lines : List Line) (entries : List Entry) → AreOfLines set lines entries → IsStrictlySortedBy line_cmp lines → IsRun set entries
+run_of_lines set lines entries are rises = record {
+  labels = All-from_recursion (λ entry. entry.labels ≡ set) entries are.own;
+  rising = rising set entries are.own (subst (IsStrictlySortedBy line_cmp) (sym are.same) rises);
+}
+
+-- no line
+pub lines_none : (set : LabelSet) → AreOfLines set [] []
+lines_none set = record { own = tt; same = refl }
+
+-- one line more
+pub lines_more : (set : LabelSet) (lines : List Line) (entries : List Entry) (line : Line) (entry : Entry) → AreOfLines set lines entries → entry.labels ≡ set → line_of entry ≡ line → AreOfLines set (lines ++ line ∷ []) (entries ++ entry ∷ [])
+lines_more set lines entries line entry are own same = record {
+  own = all_both (λ e. e.labels ≡ set) entries (entry ∷ []) are.own (own, tt);
+  same = map-append line_of entries (entry ∷ []) ∙ (λ i. are.same i ++ same i ∷ []);
+}
+
+-- entries of the stream with the same lines are the same
+same_by_line : (set : LabelSet) (xs ys : List Entry) → AllByRecursion (λ entry. entry.labels ≡ set) xs → AllByRecursion (λ entry. entry.labels ≡ set) ys → map line_of xs ≡ map line_of ys → xs ≡ ys
+same_by_line set [] [] own of same = refl
+same_by_line set [] (y ∷ ys) own of same = cc
+same_by_line set (x ∷ xs) [] own of same = cc
+same_by_line set (x ∷ xs) (y ∷ ys) own of same =
+    let front : line_of x ≡ line_of y = cc in
+    let rest : map line_of xs ≡ map line_of ys = cc in
+    let first : x ≡ y = same_entry x y (own.0 ∙ sym of.0) (ap (λ (l : Line). l.timestamp) front) (ap (λ (l : Line). l.text) front) in
+    λ i. first i ∷ same_by_line set xs ys own.1 of.1 rest i
+
+pub read_is : (set : LabelSet) (lines : List Line) (read entries : List Entry) → AreOfLines set lines read → All (λ entry. entry.labels ≡ set) entries → lines ≡ map line_of entries → read ≡ entries
+read_is set lines read entries are of same = same_by_line set read entries are.own (recursion_from_All (λ entry. entry.labels ≡ set) entries of) (are.same ∙ same)
+
+-- a part that stays
+pub rewritten_stays : (covers : Entry → Bool) (set : LabelSet) (part : PartView) (first : ℕ) (start seen : Seen) → Grown start first seen → IsPart set part → IsLeft covers set part (part ∷ []) → (start.honest ≡ true → IsKept start first set part → uncovered covers part.entries ≡ part.entries)
+    → AreRewritten covers set (part ∷ []) first start (part ∷ []) [] first seen
+rewritten_stays covers set part first start seen grown is left right = record {
+  numbers = AreRenumbered-none (note_numbers (part ∷ [])) first;
+  left = record { lefts = (part ∷ []) ∷ []; each = (left, tt); are = refl };
+  sealed = (is, tt);
+  fewer = omega arith;
+  up_to = λ top h. h;
+  kept = λ h. (IsKept-grown start seen first first set grown (omega arith) part h.0, tt);
+  right = λ honest kept. append-nil part.entries ∙ sym (right honest kept.0) ∙ ap (uncovered covers) (sym (append-nil part.entries));
+}
+
+-- a part in the place of which others are, or none
+pub rewritten_to : (covers : Entry → Bool) (set : LabelSet) (part : PartView) (first : ℕ) (start : Seen) (now : List PartView) (next : ℕ) (seen : Seen) → first ≤ next → note_numbers now ≡ range_with_len first (next - first) → IsLeft covers set part now → AllByRecursion (IsPart set) now → length (entries_in now) ≤ length part.entries
+    → ((top : Option ℕ) → All (λ entry. entry.timestamp ≤ unwrap_or top 0) part.entries → AreSealedUpTo top now) → AllByRecursion (IsKept seen next set) now → (start.honest ≡ true → IsKept start first set part → entries_in now ≡ uncovered covers part.entries)
+    → AreRewritten covers set (part ∷ []) first start now (note_numbers (part ∷ [])) next seen
+rewritten_to covers set part first start now next seen le numbers left sealed fewer up_to kept right = record {
+  numbers = subst (λ ns. AreRenumbered (note_numbers (part ∷ [])) first next ns (note_numbers (part ∷ []))) (sym numbers) (AreRenumbered-all (note_numbers (part ∷ [])) first next le);
+  left = record { lefts = now ∷ []; each = (left, tt); are = sym (append-nil now) };
+  sealed = sealed;
+  fewer = subst (λ es. length (entries_in now) ≤ length es) (sym (append-nil part.entries)) fewer;
+  up_to = λ top h. up_to top h.0;
+  kept = λ h. kept;
+  right = λ honest were. right honest were.0 ∙ ap (uncovered covers) (sym (append-nil part.entries));
+}
+
+-- no part
+pub rewritten_none : (covers : Entry → Bool) (set : LabelSet) (first : ℕ) (start : Seen) → AreRewritten covers set [] first start [] [] first start
+rewritten_none covers set first start = record {
+  numbers = AreRenumbered-none [] first;
+  left = record { lefts = []; each = tt; are = refl };
+  sealed = tt;
+  fewer = omega arith;
+  up_to = λ top h. tt;
+  kept = λ h. tt;
+  right = λ honest kept. refl;
+}
+
+left_then : (covers : Entry → Bool) (set : LabelSet) (xs ys us vs : List PartView) → AreLeft covers set xs us → AreLeft covers set ys vs → AreLeft covers set (xs ++ ys) (us ++ vs)
+left_then covers set xs ys us vs p q = record {
+  lefts = p.lefts ++ q.lefts;
+  each = AllZip-append (IsLeft covers set) xs p.lefts ys q.lefts p.each q.each;
+  are = (λ i. p.are i ++ q.are i) ∙ sym (flat_map-append (λ left. left) p.lefts q.lefts);
+}
+
+-- some parts, and then others
+pub rewritten_then : (covers : Entry → Bool) (set : LabelSet) (xs : List PartView) (first : ℕ) (start : Seen) (us : List PartView) (gone : List ℕ) (mid : ℕ) (seen : Seen) (ys vs : List PartView) (away : List ℕ) (next : ℕ) (after : Seen)
+    → AreRewritten covers set xs first start us gone mid seen → Grown start first seen → AreRewritten covers set ys mid seen vs away next after → Grown seen mid after → AreRewritten covers set (xs ++ ys) first start (us ++ vs) (gone ++ away) next after
+rewritten_then covers set xs first start us gone mid seen ys vs away next after p grown q more =
+    let later = λ (h : AllByRecursion (IsKept start first set) (xs ++ ys)). each_part (IsKept start first set) (IsKept seen mid set) (IsKept-grown start seen first mid set grown p.numbers.up) ys (all_behind (IsKept start first set) xs ys h) in
+    record {
+      numbers = subst (λ ns. AreRenumbered ns first next (note_numbers (us ++ vs)) (gone ++ away)) (sym (numbers-append xs ys))
+          (subst (λ ns. AreRenumbered (note_numbers xs ++ note_numbers ys) first next ns (gone ++ away)) (sym (numbers-append us vs))
+          (AreRenumbered-then (note_numbers xs) (note_numbers us) gone first mid (note_numbers ys) (note_numbers vs) away next p.numbers q.numbers));
+      left = left_then covers set xs ys us vs p.left q.left;
+      sealed = all_both (IsPart set) us vs p.sealed q.sealed;
+      fewer = omega (arith, p.fewer, q.fewer, ap length (entries_in-append us vs), ap length (entries_in-append xs ys), length-append (entries_in us) (entries_in vs), length-append (entries_in xs) (entries_in ys));
+      up_to = λ top h. all_both (λ part. All (λ entry. entry.timestamp ≤ unwrap_or top 0) part.entries) us vs (p.up_to top (all_front (λ part. All (λ entry. entry.timestamp ≤ unwrap_or top 0) part.entries) xs ys h)) (q.up_to top (all_behind (λ part. All (λ entry. entry.timestamp ≤ unwrap_or top 0) part.entries) xs ys h));
+      kept = λ h. all_both (IsKept after next set) us vs
+          (each_part (IsKept seen mid set) (IsKept after next set) (IsKept-grown seen after mid next set more q.numbers.up) us (p.kept (all_front (IsKept start first set) xs ys h)))
+          (q.kept (later h));
+      right = λ honest h.
+          entries_in-append us vs
+          ∙ (λ i. p.right honest (all_front (IsKept start first set) xs ys h) i ++ q.right (grown.honest ∙ honest) (later h) i)
+          ∙ sym (ap (uncovered covers) (entries_in-append xs ys) ∙ uncovered-append covers (entries_in xs) (entries_in ys));
+    }
+
+-- one change more
+pub carried_more : (parts : List PartView) (changes : List Change) (part : PartView) (change : Change) → length parts ≡ length changes → carried (parts ++ part ∷ []) (changes ++ change ∷ []) ≡ carried parts changes ++ left_by part change
+carried_more [] [] part change many = append-nil (left_by part change)
+carried_more [] (c ∷ changes) part change many = cc
+carried_more (p ∷ parts) [] part change many = cc
+carried_more (p ∷ parts) (c ∷ changes) part change many =
+    ap (λ ps. left_by p c ++ ps) (carried_more parts changes part change (omega (arith, many))) ∙ sym (append_assoc (left_by p c) (carried parts changes) (left_by part change))
+
+-- one part more is planned
+pub planned_more : (covers : Entry → Bool) (set : LabelSet) (parts : List PartView) (i : ℕ) (p : PartView) (first : ℕ) (start : Seen) (changes : List Change) (gone : List ℕ) (mid : ℕ) (seen : Seen) (next : ℕ) (after : Seen) (now : List Change) (away : List ℕ) → i < length parts → p ≡ get_or parts i p → length changes ≡ i
+    → AreRewritten covers set (take i parts) first start (carried (take i parts) changes) gone mid seen → Grown start first seen → IsOneMore covers set p mid seen next after changes now gone away → Grown seen mid after
+    → AreRewritten covers set (take (i + 1) parts) first start (carried (take (i + 1) parts) now) away next after
+planned_more covers set parts i p first start changes gone mid seen next after now away within is many so_far grown one more =
+    let front : take (i + 1) parts ≡ take i parts ++ p ∷ [] = take_more parts i p within ∙ ap (λ x. take i parts ++ x ∷ []) (sym is) in
+    let all : carried (take i parts ++ p ∷ []) now ≡ carried (take i parts) changes ++ left_by p one.change = ap (carried (take i parts ++ p ∷ [])) one.behind ∙ carried_more (take i parts) changes p one.change (omega (arith, length-take i parts, many, within)) in
+    subst (λ (ps : List PartView). AreRewritten covers set ps first start (carried ps now) away next after) (sym front)
+    (subst (λ (us : List PartView). AreRewritten covers set (take i parts ++ p ∷ []) first start us away next after) (sym all)
+    (subst (λ ns. AreRewritten covers set (take i parts ++ p ∷ []) first start (carried (take i parts) changes ++ left_by p one.change) ns next after) (sym one.gone_behind)
+    (rewritten_then covers set (take i parts) first start (carried (take i parts) changes) gone mid seen (p ∷ []) (left_by p one.change) (gone_by p one.change) next after so_far grown one.rewritten more)))
+
+-- the entries of a part and of those before it are no more than all
+pub count_up_to : (parts : List PartView) (i : ℕ) (p : PartView) → i < length parts → p ≡ get_or parts i p → length (entries_in (take i parts)) + length p.entries ≤ length (entries_in parts)
+count_up_to [] i p within is = absurd (omega (arith, within))
+count_up_to (q ∷ parts) zero p within is = omega (arith, ap (λ (part : PartView). length part.entries) is, length-append q.entries (entries_in parts))
+count_up_to (q ∷ parts) (suc i) p within is =
+    let others = count_up_to parts i p (omega (arith, within)) is in
+    omega (arith, others, length-append q.entries (entries_in parts), length-append q.entries (entries_in (take i parts)))
+
+-- marks are as many as the entries
+pub marks_len : (entries : List Entry) (marks : List ℕ) → AreMarks entries marks → length marks ≡ length entries
+marks_len entries marks are = length_permutation (marks_of entries) marks are.all ∙ length-map entries (λ entry. mark (line_of entry))
+
+-- what becomes of entries in memory
+pub here_rewritten : (covers : Entry → Bool) (set : LabelSet) (entries : List Entry) (change : Change) (first : ℕ) (start : Seen) → IsPart set (unwritten entries) → IsChangedHere covers entries change
+    → AreRewritten covers set (unwritten entries ∷ []) first start (left_by (unwritten entries) change) (gone_by (unwritten entries) change) first start
+here_rewritten covers set entries Stays first start is none =
+    rewritten_stays covers set (unwritten entries) first start start (Grown-none start first) is (append-nil entries ∙ sym none, refl) (λ honest kept. none)
+here_rewritten covers set entries Goes first start is all =
+    rewritten_to covers set (unwritten entries) first start [] first start (omega arith) (sym (range-none first)) (sym all, refl) tt (omega arith) (λ top h. tt) tt (λ honest kept. sym all)
+here_rewritten covers set entries (Becomes now) first start is some =
+    let left = uncovered covers entries in
+    subst (λ (p : PartView). AreRewritten covers set (unwritten entries ∷ []) first start (p ∷ []) [] first start) (sym some.0)
+    (rewritten_to covers set (unwritten entries) first start (unwritten left ∷ []) first start (omega arith) (sym (range-none first)) (append-nil left, refl) (part_left covers set entries is some.1, tt)
+    (omega (arith, ap length (append-nil left), filter_le (λ entry. not (covers entry)) entries))
+    (λ top h. (All-filter (λ entry. not (covers entry)) (λ entry. entry.timestamp ≤ unwrap_or top 0) entries h, tt)) (tt, tt) (λ honest kept. append-nil left))
+
+module _ (covers : Entry → Bool) (set : LabelSet) (old new : List PartView) (head left : List Entry) (newest : ℕ) (top : Option ℕ) (order : IsInOrder (record { labels = set; parts = old; head = head; newest = newest }) top)
+    (sealed : AllByRecursion (IsPart set) new) (is_left : left ≡ uncovered covers head) where
+  -- a stream stays in order
+  pub order_left : AreSealedUpTo top new → IsInOrder (record { labels = set; parts = new; head = left; newest = newest }) top
+  order_left up_to = record {
+    parts = record {
+      sealed = sealed;
+      growing = subst (IsRun set) (sym is_left) (run_left covers set head order.parts.growing);
+      few = omega (arith, order.parts.few, ap length is_left, filter_le (λ entry. not (covers entry)) head);
+    };
+    up_to = up_to;
+  }
+
+  -- its entries are its own
+  pub own_left : All (λ entry. entry.labels ≡ set) (entries_in new ++ left)
+  own_left = All-append (λ entry. entry.labels ≡ set) (entries_in new) left (of_parts new sealed) (subst (IsRun set) (sym is_left) (run_left covers set head order.parts.growing)).labels
+    where
+      of_parts : (parts : List PartView) → AllByRecursion (IsPart set) parts → All (λ entry. entry.labels ≡ set) (entries_in parts)
+      of_parts [] h = λ k d within. absurd (omega (arith, within))
+      of_parts (part ∷ parts) h = All-append (λ entry. entry.labels ≡ set) part.entries (entries_in parts) h.0.run.labels (of_parts parts h.1)
+
+  -- and no more
+  pub fewer_left : length (entries_in new) ≤ length (entries_in old) → length (entries_in new ++ left) ≤ length (entries_in old ++ head)
+  fewer_left fewer = omega (arith, fewer, ap length is_left, filter_le (λ entry. not (covers entry)) head, length-append (entries_in new) left, length-append (entries_in old) head)
