@@ -1,11 +1,14 @@
-pub mod Sealed
 pub mod Added
 pub mod Crossing
 pub mod Held
-pub mod Offered
 pub mod Kept
+pub mod Leaving
 pub mod Numbers
+pub mod Offered
+pub mod Plans
+pub mod Removed
 pub mod RowChanges
+pub mod Sealed
 pub mod Steps
 pub mod Told
 pub mod Whole

@@ -15,7 +15,7 @@ use Rattle.rl_streams.specs.declared.refusal.AddRefusal.{AddRefusal}
 use Rattle.rl_streams.specs.declared.refusal.AddRefusal.TheVariants.{Expired, TooFarBehind, Full, Read}
 use Rattle.rl_labels.specs.declared.limits.Limits.{Limits}
 use Rattle.rl_chunks.specs.StoreState.{Seen}
-use Rattle.rl_streams.specs.StreamRows.{Row, joined, by_stream, newest_in, newest_map, loose_in, unwritten_in, is_among}
+use Rattle.rl_streams.specs.StreamRows.{Row, joined, newest_in, newest_map, loose_in, unwritten_in, is_among}
 use Rattle.rl_streams.specs.StreamsState.{StreamsView, IsWhole, Cuts, Looks, Takes, IsDecided, view_of}
 use Rattle.rl_streams.specs.HeldSet.{set_of}
 use Rattle.rl_streams.specs.RowSteps.{AreCut, AreAdded, IsOfferedRight}

@@ -1,6 +1,7 @@
 pub mod Asking
 pub mod CursorState
 pub mod HeldSet
+pub mod Rewritten
 pub mod RowSteps
 pub mod StreamRows
 pub mod StreamsState

@@ -1,6 +1,7 @@
 //! All streams of a shard as one set of log entries, over a store that may have parts of them.
 //!
-//! - `streams`: `Streams`. It takes entries, seals what it holds and writes it to the store, and reads it again.
+//! - `streams`: `Streams`. It takes entries, seals what it holds and writes it to the store, reads it again, and
+//!   takes out what is covered.
 //! - `refusal`: `AddRefusal`, why an entry is not taken. `sending`: a probe for what may cross to another thread.
 #![tactic(auto)]
 
@@ -11,6 +12,7 @@ mod flushing;
 mod lines;
 mod reading;
 pub mod refusal;
+mod rewriting;
 pub mod sending;
 pub mod streams;
 

@@ -1,16 +1,16 @@
 //! All streams of a shard.
-ghost use Rattle.std.specs.Prelude.{◌≡◌, ◌⊎◌, ◌<◌, ◌≤◌, ◌++◌, [], ◌∷◌, length, true, false, None, Ok, Err, IfErr, MatchOption, OnErr, OnOk};
+ghost use Rattle.std.specs.Prelude.{◌≡◌, ◌⊎◌, ◌<◌, ◌≤◌, ◌++◌, [], ◌∷◌, length, true, false, None, Ok, Err, IfErr, IsErrOf, MatchOption, OnErr, OnOk};
 ghost use Rattle.rl_chunks.specs.StoreState.{greatest};
 
 use crate::adding::{age_refusal, place_of, put};
 use crate::cursor::Cursor;
 use crate::lines::Lines;
 use crate::refusal::AddRefusal;
-use crate::{cutting, flushing, reading};
+use crate::{cutting, flushing, reading, rewriting};
 use indexmap::IndexMap;
 use rl_chunks::Store;
-use rl_labels::{Entry, Labels, Limits, Ns, SelectorCode};
-use rl_parts::{FlushFault, ReadFault, Stream, Taker};
+use rl_labels::{Covers, Entry, Labels, Limits, Ns, SelectorCode};
+use rl_parts::{FlushFault, ReadFault, RewriteFault, Stream, Taker};
 use rl_plain::Shared;
 use std::alloc::{AllocError, Global};
 use std::marker::Model;
@@ -43,6 +43,8 @@ impl<S: Store> Model for Streams<S> {
 impl<S: Store> Streams<S> {
     ghost use Rattle.std.specs.FinMap.{contains_key, get, len};
     ghost use Rattle.rl_parts.specs.StoreUse.{FlushCause, ReadCause, Right};
+    ghost use Rattle.rl_parts.specs.Rewriting.{RewriteCause};
+    ghost use Rattle.rl_streams.specs.Rewritten.{AreLeftIn, Rewrites, Stays, without};
     ghost use Rattle.rl_streams.specs.Asking.{AreTold, AreToldOnce, NoneSelected, told_at};
     ghost use Rattle.rl_streams.specs.CursorState.{left_in};
     ghost use Rattle.rl_streams.specs.StreamsState.{no_streams, age_refusal, order_of, AddCause, Cuts, Flushes, IsDecided, IsNoAge, Looks, Takes};
@@ -133,6 +135,28 @@ impl<S: Store> Streams<S> {
         );
         show_bound(self.next);
         flushed
+    }
+
+    /// Takes out the entries that are covered. A part that the store has is read only where an entry of its range of time may
+    /// be covered. A refusal changes nothing that is held; what was put into the store until then stays there unused. What
+    /// the store refuses to remove stays there unused too.
+    pub fn rewrite<C: Covers>(&mut self, covered: &C) -> Result<(), RewriteFault>
+        ensures refused { OnErr result (Stays self.old self.new) }
+        ensures rewritten { OnOk result (Rewrites self.old self.new) }
+        // What is left of a part that the store has is told by bytes with its digest, over any store.
+        ensures told { OnOk result (AreLeftIn (C.covers covered.now) self.old.rows self.new.rows) }
+        ensures right { self.old.seen.honest ≡ true → OnOk result (self.new.held ≡ without (C.covers covered.now) self.old.held) }
+        ensures undamaged { self.old.seen.honest ≡ true → IsErrOf result RewriteFault.Damaged → ⊥ }
+        ensures cause { IfErr result (RewriteCause self.old.seen self.new.seen self.new.next) }
+        ensures numbers { self.new.next ≤ greatest }
+    {
+        let (store, streams) = (&mut self.store, &self.streams);
+        let planned = rewriting::plan_all(self.alloc, store, streams, covered, &mut self.next);
+        show_bound(self.next);
+        let plans = planned?;
+        rewriting::carry_out_all(&mut self.store, &mut self.streams, plans);
+        self.count = rewriting::count(&self.streams, self.count);
+        Ok(())
     }
 
     /// Whether the entry is held. Where no stream has its labels, nothing is read. A store that is not honest may hide an

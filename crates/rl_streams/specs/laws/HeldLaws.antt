@@ -1,17 +1,18 @@
 -- Lists and their sets: what a set has, that order does not matter, and that a list with no item twice is its set in another order.
-use Rattle.std.proofs.Common.{◌≡◌, ℕ, suc, ◌+◌, ◌≤◌, Bool, true, false, cond, is_some, ◌||◌, Some, None, List, [], ◌∷◌, ◌++◌, length, map, filter, refl, sym, ap, subst, ◌∙◌, true≢false, arith}
+use Rattle.std.proofs.Common.{◌≡◌, ℕ, suc, ◌+◌, ◌≤◌, Bool, true, false, cond, is_some, ◌||◌, ◌&&◌, Some, None, List, [], ◌∷◌, ◌++◌, length, map, filter, refl, sym, ap, subst, ◌∙◌, true≢false, arith}
 use Rattle.std.specs.List.{list_any, AllByRecursion, IsDistinct}
 use Rattle.std.specs.List.Sorted.{IsPermutation, IsStrictlySortedBy}
 use Rattle.std.specs.Ordering.{eq_by_cmp, is_eq}
 use Rattle.std.specs.declared.cmp.Ordering.{Ordering}
 use Rattle.std.specs.declared.cmp.Ordering.TheVariants.{Less, Equal, Greater}
-use Rattle.std.specs.Cmp.{IsTotalOrder}
-use Rattle.std.specs.FinMap.{IsAntisymmetric, entries, keys, len, contains_key, get, from_entries, get-entries, get-from_entries, entries-insert, len-insert, len-empty, same_map}
+use Rattle.std.specs.Cmp.{Equal-is, IsTotalOrder}
+use Rattle.std.specs.FinMap.{IsAntisymmetric, entries, keys, len, contains_key, get, from_entries, get-entries, get-from_entries, get-retain_keys, retain_keys, entries-insert, len-insert, len-empty, same_map}
 use Rattle.std.specs.FinMap.Entries.{find, put, by_order}
 use Rattle.std.proofs.lemmas.List.Elements.{filter-append}
 use Rattle.std.proofs.lemmas.List.Sorted.{IsPermutation-refl, IsPermutation-sym, IsPermutation-trans, IsPermutation-cons, IsPermutation-middle, list_any-IsPermutation}
 use Rattle.std.proofs.lemmas.List.{map-append}
 use Rattle.std.proofs.lemmas.Map.Keys.{IsDistinct-head, IsDistinct-tail}
+use Rattle.std.proofs.lemmas.Map.Views.{any-filter_same}
 use Rattle.rl_plain.specs.laws.TreeMaps.{entries-of_tree}
 use Rattle.rl_streams.specs.HeldSet.{mark}
 
@@ -94,6 +95,18 @@ module _ {K : Type 0} {R : K → K → Ordering} (o : IsTotalOrder R) where
     pub set-permuted : (xs ys : List K) → IsPermutation xs ys → from_entries {R = R} (map mark ys) ≡ from_entries (map mark xs)
     set-permuted xs ys moved = same_map o same _ _ (λ q.
         get_marked ys q ∙ ap (λ b. cond b (Some tt) None) (sym (list_any-IsPermutation (eq_by_cmp R q) xs ys moved)) ∙ sym (get_marked xs q))
+
+    -- the set of what passes a test
+    pub set-filter : (p : K → Bool) (xs : List K) → from_entries {R = R} (map mark (filter p xs)) ≡ retain_keys (from_entries (map mark xs)) p
+    set-filter p xs = same_map o same _ _ (λ q.
+        get_marked (filter p xs) q
+        ∙ ap (λ b. cond b (Some tt) None) (any-filter_same (eq_by_cmp R q) p (p q) (λ k tied. ap p (sym (same q k ((Equal-is (R q k)).0 tied)))) xs)
+        ∙ both (p q) (list_any (eq_by_cmp R q) xs)
+        ∙ sym (get-retain_keys (from_entries {R = R} (map mark xs)) p q (λ x tied. ap p (sym (same q x tied))) ∙ ap (λ found. cond (p q) found None) (get_marked xs q)))
+      where
+        both : (b c : Bool) → cond (b && c) (Some (tt {0})) None ≡ cond b (cond c (Some (tt {0})) None) None
+        both true c = refl
+        both false c = refl
 
     empty_keys : keys (from_entries {R = R} (map mark [])) ≡ []
     unfolding IsStrictlySortedBy

@@ -1,0 +1,132 @@
+-- What a store keeps of streams once numbers are removed that they no longer use.
+use Rattle.std.proofs.Common.{◌≡◌, ℕ, ◌-◌, cond, not, Bool, true, false, List, [], ◌∷◌, ◌++◌, map, length, Option, Some, None, refl, sym, ap, subst, ◌∙◌, inl, inr, arith, ◌+◌, ◌<◌, get_or, take, Result, Ok, Err, eq-eqb, true≢false}
+use Rattle.std.specs.Prelude.{IfSome, OnErr, OnOk, nat_eq}
+use Rattle.std.specs.FinMap as finite
+use Rattle.std.specs.Cmp.{nat_eq_equiv, unsigned_tied}
+use Rattle.std.proofs.lemmas.Cmp.{nat_cmp_total}
+use Rattle.std.proofs.lemmas.List.{take_more}
+use Rattle.rl_chunks.specs.StoreState.{KeepsReads, LeavesOthers, MayRise}
+use Rattle.rl_chunks.specs.declared.store.StoreFault.{StoreFault}
+use Rattle.std.specs.List.{AllByRecursion, IsDistinct, filter, range_with_len}
+use Rattle.std.specs.Ordering.{eq_by_cmp}
+use Rattle.std.proofs.lemmas.Map.Keys.{IsDistinct-IsPermutation, IsDistinct-cons, IsDistinct-head, IsDistinct-tail}
+use Rattle.rl_labels.specs.LabelSet.{LabelSet}
+use Rattle.rl_labels.specs.LabelText.{label_set_eq}
+use Rattle.rl_labels.specs.EntryOrder.{entry_cmp}
+use Rattle.rl_labels.specs.declared.entry.Entry.{Entry}
+use Rattle.rl_chunks.specs.StoreState.{Seen}
+use Rattle.rl_parts.specs.StreamParts.{Note, PartView, chunk_of, listed, notes_of}
+use Rattle.rl_parts.specs.StoreUse.{AreKept, FaultsRise, IsKept, IsNoteOf}
+use Rattle.rl_parts.specs.Rewriting.{PlanView, note_numbers, uncovered}
+use Rattle.rl_parts.specs.laws.RewriteLaws.{AreRenumbered-both}
+use Rattle.rl_streams.specs.StreamRows.{AreStreams, Row, joined, numbers_in}
+use Rattle.rl_streams.specs.Rewritten.{AreOf, ArePlanned, AreRemoved, numbers_before, numbers_behind, numbers_gone, rewritten}
+use Rattle.rl_streams.proofs.Numbers.{all_below, row_apart}
+use Rattle.rl_streams.proofs.Plans.{all_behind, all_front, joined_rewritten, keys_rewritten, numbers_of_rows, numbers_rewritten, of_rows, own_rewritten, to_rows}
+
+-- a number is none of these
+abbrev IsApart : List ℕ → ℕ → Type 0
+IsApart numbers number = AllByRecursion (λ other. nat_eq number other ≡ false) numbers
+
+distinct_front : (xs ys : List ℕ) → IsDistinct nat_eq (xs ++ ys) → IsDistinct nat_eq xs
+unfolding IsDistinct
+distinct_front [] ys h = tt
+distinct_front (x ∷ xs) ys h =
+    IsDistinct-cons nat_eq x xs (all_front (λ y. nat_eq x y ≡ false) xs ys (IsDistinct-head nat_eq x (xs ++ ys) h)) (distinct_front xs ys (IsDistinct-tail nat_eq x (xs ++ ys) h))
+
+all_apart : (xs ys : List ℕ) → IsDistinct nat_eq (xs ++ ys) → AllByRecursion (IsApart ys) xs
+all_apart [] ys h = tt
+all_apart (x ∷ xs) ys h = (all_behind (λ y. nat_eq x y ≡ false) xs ys (IsDistinct-head nat_eq x (xs ++ ys) h), all_apart xs ys (IsDistinct-tail nat_eq x (xs ++ ys) h))
+
+all_left : {A : Type 0} (P : A → Type 0) (p : A → Bool) (xs : List A) → AllByRecursion P xs → AllByRecursion P (filter p xs)
+all_left P p [] h = tt
+all_left {A} P p (x ∷ xs) h = by (p x) (all_left P p xs h.1)
+  where
+    by : (b : Bool) → AllByRecursion P (filter p xs) → AllByRecursion P (cond b (x ∷ filter p xs) (filter p xs))
+    by true others = (h.0, others)
+    by false others = others
+
+-- a filter leaves items apart
+distinct_left : {A : Type 0} (eq : A → A → Bool) (p : A → Bool) (xs : List A) → IsDistinct eq xs → IsDistinct eq (filter p xs)
+distinct_left eq p [] h = h
+distinct_left {A} eq p (x ∷ xs) h = by (p x) (distinct_left eq p xs (IsDistinct-tail eq x xs h))
+  where
+    by : (b : Bool) → IsDistinct eq (filter p xs) → IsDistinct eq (cond b (x ∷ filter p xs) (filter p xs))
+    by true others = IsDistinct-cons eq x (filter p xs) (all_left (λ y. eq x y ≡ false) p xs (IsDistinct-head eq x xs h)) others
+    by false others = others
+
+-- nothing removed
+pub removed_none : (seen : Seen) → AreRemoved seen [] seen
+removed_none seen = record { honest = refl; faults = omega arith; others = λ number apart. refl }
+
+-- some numbers, and then others
+pub removed_then : (a : Seen) (xs : List ℕ) (b : Seen) (ys : List ℕ) (c : Seen) → AreRemoved a xs b → AreRemoved b ys c → AreRemoved a (xs ++ ys) c
+removed_then a xs b ys c p q =
+    let first : FaultsRise a.faults b.faults = p.faults in
+    let second : FaultsRise b.faults c.faults = q.faults in
+    record {
+      honest = q.honest ∙ p.honest;
+      faults = omega arith;
+      others = λ number apart. q.others number (all_behind (λ other. nat_eq number other ≡ false) xs ys apart) ∙ p.others number (all_front (λ other. nat_eq number other ≡ false) xs ys apart);
+    }
+
+-- parts whose numbers are not removed are kept
+parts_removed : (old new : Seen) (gone : List ℕ) (next : ℕ) (labels : LabelSet) (parts : List PartView) → AreRemoved old gone new → AllByRecursion (IsApart gone) (note_numbers parts) → AllByRecursion (IsKept old next labels) parts → AllByRecursion (IsKept new next labels) parts
+parts_removed old new gone next labels [] removed apart kept = tt
+parts_removed old new gone next labels (part ∷ parts) removed apart kept = by (λ away. parts_removed old new gone next labels parts removed away kept.1) part.note apart kept.0
+  where
+    by : (AllByRecursion (IsApart gone) (note_numbers parts) → AllByRecursion (IsKept new next labels) parts) → (note : Option Note) → AllByRecursion (IsApart gone) (map (λ note. note.number) (listed note ++ notes_of parts)) → IfSome note (IsNoteOf old next (chunk_of labels part.entries))
+        → IfSome note (IsNoteOf new next (chunk_of labels part.entries)) × AllByRecursion (IsKept new next labels) parts
+    by others None away is = (tt, others away)
+    by others (Some note) away is = (record { given = is.given; digest = is.digest; read = is.read; kept = λ honest. removed.others note.number away.0 ∙ is.kept (sym removed.honest ∙ honest) }, others away.1)
+
+all_removed : (old new : Seen) (gone : List ℕ) (next : ℕ) (plans : List PlanView) → AreRemoved old gone new → AllByRecursion (IsApart gone) (numbers_behind plans) → AllByRecursion (λ plan. AreKept old next plan.becomes) plans → AllByRecursion (λ plan. AreKept new next plan.becomes) plans
+all_removed old new gone next [] removed apart kept = tt
+all_removed old new gone next (plan ∷ plans) removed apart kept = (
+  parts_removed old new gone next plan.becomes.labels plan.becomes.parts removed (all_front (IsApart gone) (note_numbers plan.becomes.parts) (numbers_behind plans) apart) kept.0,
+  all_removed old new gone next plans removed (all_behind (IsApart gone) (note_numbers plan.becomes.parts) (numbers_behind plans) apart) kept.1,
+)
+
+-- what is always true of streams is true of them without their covered entries
+module _ (covers : Entry → Bool) (rows : List Row) (first : ℕ) (before : Seen) (plans : List PlanView) (next : ℕ) (seen after : Seen)
+    (are : AreStreams rows before first) (of : AreOf rows plans) (planned : ArePlanned covers first before plans next seen) (honest_same : seen.honest ≡ before.honest) (removed : AreRemoved seen (numbers_gone plans) after) where
+  kept_before : AllByRecursion (λ plan. AreKept before first plan.of) plans
+  kept_before = of_rows (AreKept before first) rows plans of are.kept
+
+  all_distinct : IsDistinct nat_eq (numbers_behind plans ++ numbers_gone plans)
+  all_distinct =
+      let old = numbers_before plans in
+      IsDistinct-IsPermutation nat_eq nat_eq_equiv.symm (range_with_len first (next - first) ++ old) (numbers_behind plans ++ numbers_gone plans) (AreRenumbered-both old first next (numbers_behind plans) (numbers_gone plans) planned.numbers)
+      (subst (λ ns. IsDistinct nat_eq (range_with_len first (next - first) ++ ns)) (numbers_of_rows rows plans of) (row_apart first first (next - first) (numbers_in rows) (omega arith) (all_below before first rows are.kept) are.numbers))
+
+  pub joined_left : before.honest ≡ true → joined (rewritten rows plans) ≡ uncovered covers (joined rows)
+  joined_left honest = joined_rewritten covers rows plans of (planned.right honest kept_before)
+
+  pub streams_rewritten : AreStreams (rewritten rows plans) after next
+  streams_rewritten = record {
+    own = own_rewritten rows plans of planned.sound are.own;
+    apart = subst (IsDistinct label_set_eq) (sym (keys_rewritten rows plans of)) are.apart;
+    kept = to_rows (AreKept after next) rows plans of (all_removed seen after (numbers_gone plans) next plans removed (all_apart (numbers_behind plans) (numbers_gone plans) all_distinct) (planned.kept kept_before));
+    numbers = subst (IsDistinct nat_eq) (sym (numbers_rewritten rows plans of)) (distinct_front (numbers_behind plans) (numbers_gone plans) all_distinct);
+    once = λ honest.
+        let was : before.honest ≡ true = sym honest_same ∙ sym removed.honest ∙ honest in
+        subst (IsDistinct (eq_by_cmp entry_cmp)) (sym (joined_left was)) (distinct_left (eq_by_cmp entry_cmp) (λ entry. not (covers entry)) (joined rows) (are.once was));
+  }
+
+-- one number, removed or refused
+pub one_removed : (old new : Seen) (number : ℕ) (result : Result (Unit {0}) StoreFault) → OnOk result (new.blobs ≡ finite.remove old.blobs number) → OnErr result (LeavesOthers number old.blobs new.blobs) → KeepsReads old new → AreRemoved old (number ∷ []) new
+one_removed old new number result ok err keeps = record { honest = keeps.honest; faults = rise keeps.faults; others = λ other apart. by result ok err other apart.0 }
+  where
+    rise : MayRise old.faults new.faults → FaultsRise old.faults new.faults
+    rise (inl same) = omega arith
+    rise (inr more) = omega arith
+
+    by : (result : Result (Unit {0}) StoreFault) → OnOk result (new.blobs ≡ finite.remove old.blobs number) → OnErr result (LeavesOthers number old.blobs new.blobs) → (other : ℕ) → nat_eq other number ≡ false → finite.get new.blobs other ≡ finite.get old.blobs other
+    by (Ok x) ok err other apart = ap (λ blobs. finite.get blobs other) ok ∙ finite.get-remove nat_cmp_total old.blobs number other ∙ ap (λ b. cond b None (finite.get old.blobs other)) (unsigned_tied other number ∙ apart)
+    by (Err fault) ok err other apart = err other (λ e. true≢false (sym (eq-eqb other number e) ∙ apart))
+
+-- one number more
+pub removed_more : (numbers : List ℕ) (i : ℕ) (number : ℕ) (start seen after : Seen) → i < length numbers → number ≡ get_or numbers i number → AreRemoved start (take i numbers) seen → AreRemoved seen (number ∷ []) after → AreRemoved start (take (i + 1) numbers) after
+removed_more numbers i number start seen after within is before one =
+    let front : take (i + 1) numbers ≡ take i numbers ++ number ∷ [] = take_more numbers i number within ∙ ap (λ n. take i numbers ++ n ∷ []) (sym is) in
+    subst (λ ns. AreRemoved start ns after) (sym front) (removed_then start (take i numbers) seen (number ∷ []) after before one)

@@ -1,0 +1,7 @@
+-- The entries of the streams so far are counted.
+use Rattle.std.proofs.Common.{◌≡◌, length, take}
+use Rattle.rl_streams.specs.StreamRows.{joined}
+use Rattle.rl_streams.proofs.rewriting.count.Given as goal
+
+abbrev pub invariant-loop-place : goal.invariant-loop-place
+invariant-loop-place l = l.count ≡ length (joined (take l.place l.streams.entries))

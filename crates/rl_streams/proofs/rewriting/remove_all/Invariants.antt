@@ -1,0 +1,7 @@
+-- The numbers so far are removed.
+use Rattle.std.proofs.Common.{take}
+use Rattle.rl_streams.specs.Rewritten.{AreRemoved}
+use Rattle.rl_streams.proofs.rewriting.remove_all.Given as goal
+
+abbrev pub invariant-loop-number : goal.invariant-loop-number
+invariant-loop-number g l = AreRemoved (g.S.Store.seen l.fn.store) (take l.number-index l.numbers) (g.S.Store.seen l.store)

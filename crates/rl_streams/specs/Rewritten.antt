@@ -1,0 +1,87 @@
+-- Streams without their covered entries: how that is planned for all of them, and what it makes of them.
+use Rattle.std.specs.Prelude.{◌≡◌, ℕ, ◌≤◌, nat_eq, not, Bool, true, false, List, [], ◌∷◌, length, map}
+use Rattle.std.specs.FinMap.{retain_keys}
+use Rattle.std.specs.FinMap as finite
+use Rattle.std.specs.List.{All, AllByRecursion, AllZip, flat_map}
+use Rattle.std.specs.Map.{values_of}
+use Rattle.rl_labels.specs.EntryOrder.{EntrySet}
+use Rattle.rl_labels.specs.declared.entry.Entry.{Entry}
+use Rattle.rl_chunks.specs.StoreState.{Seen}
+use Rattle.rl_parts.specs.StreamParts.{StreamView, entries_of}
+use Rattle.rl_parts.specs.StoreUse.{AreKept, FaultsRise, Grown}
+use Rattle.rl_parts.specs.Rewriting.{AreLeft, AreRenumbered, PlanView, note_numbers, uncovered}
+use Rattle.rl_streams.specs.StreamRows.{Row}
+use Rattle.rl_streams.specs.StreamsState.{StreamsView}
+
+-- the entries of a set that are not covered
+abbrev pub without : (Entry → Bool) → EntrySet → EntrySet
+without covers held = retain_keys held (λ entry. not (covers entry))
+
+-- a call that was refused, and may have put chunks that are not used under numbers from the next one on
+pub record Stays (old new : StreamsView) : Type 0 where
+  pub limits : new.limits ≡ old.limits
+  pub held : new.held ≡ old.held
+  pub newest : new.newest ≡ old.newest
+  pub next : old.next ≤ new.next
+  pub loose : new.loose ≡ old.loose
+  pub unwritten : new.unwritten ≡ old.unwritten
+  pub rows : new.rows ≡ old.rows
+  pub seen : Grown old.seen old.next new.seen
+
+-- a call that takes entries out: the newest timestamps stay
+pub record Rewrites (old new : StreamsView) : Type 0 where
+  pub limits : new.limits ≡ old.limits
+  pub newest : new.newest ≡ old.newest
+  pub next : old.next ≤ new.next
+  pub honest : new.seen.honest ≡ old.seen.honest
+  pub faults : FaultsRise old.seen.faults new.seen.faults
+
+-- what each plan keeps of its stream
+pub record IsSound (plan : PlanView) : Type 0 where
+  pub labels : plan.becomes.labels ≡ plan.of.labels
+  pub newest : plan.becomes.newest ≡ plan.of.newest
+  pub own : All (λ entry. entry.labels ≡ plan.of.labels) (entries_of plan.becomes)
+  pub fewer : length (entries_of plan.becomes) ≤ length (entries_of plan.of)
+
+-- what is left of a stream, over any store: of each part as its bytes tell, and of the head
+pub record IsLeftIn (covers : Entry → Bool) (old new : StreamView) : Type 0 where
+  pub parts : AreLeft covers old.labels old.parts new.parts
+  pub head : new.head ≡ uncovered covers old.head
+
+-- the same of each stream in turn, under its labels
+abbrev pub AreLeftIn : (Entry → Bool) → List Row → List Row → Type 0
+AreLeftIn covers old new = AllZip (λ row now. (now.0 ≡ row.0) × IsLeftIn covers row.1 now.1) old new
+
+-- the numbers of what plans are of, of what they make of it, and those that are gone
+abbrev pub numbers_before : List PlanView → List ℕ
+numbers_before plans = flat_map (λ plan. note_numbers plan.of.parts) plans
+
+abbrev pub numbers_behind : List PlanView → List ℕ
+numbers_behind plans = flat_map (λ plan. note_numbers plan.becomes.parts) plans
+
+abbrev pub numbers_gone : List PlanView → List ℕ
+numbers_gone plans = flat_map (λ plan. plan.gone) plans
+
+-- plans that were made in turn. Over an honest store that keeps the streams they leave what is not covered
+pub record ArePlanned (covers : Entry → Bool) (first : ℕ) (before : Seen) (plans : List PlanView) (next : ℕ) (seen : Seen) : Type 0 where
+  pub sound : AllByRecursion IsSound plans
+  pub told : AllByRecursion (λ plan. IsLeftIn covers plan.of plan.becomes) plans
+  pub numbers : AreRenumbered (numbers_before plans) first next (numbers_behind plans) (numbers_gone plans)
+  pub kept : AllByRecursion (λ plan. AreKept before first plan.of) plans → AllByRecursion (λ plan. AreKept seen next plan.becomes) plans
+  pub right : before.honest ≡ true → AllByRecursion (λ plan. AreKept before first plan.of) plans → AllByRecursion (λ plan. entries_of plan.becomes ≡ uncovered covers (entries_of plan.of)) plans
+
+-- the plans are those of the rows
+abbrev pub AreOf : List Row → List PlanView → Type 0
+AreOf rows plans = map (λ plan. plan.of) plans ≡ values_of rows
+
+-- the rows with the plans carried out
+abbrev pub rewritten : List Row → List PlanView → List Row
+rewritten [] plans = []
+rewritten (row ∷ rows) [] = row ∷ rows
+rewritten (row ∷ rows) (plan ∷ plans) = (row.0, plan.becomes) ∷ rewritten rows plans
+
+-- what removals of these numbers leave
+pub record AreRemoved (old : Seen) (numbers : List ℕ) (new : Seen) : Type 0 where
+  pub honest : new.honest ≡ old.honest
+  pub faults : FaultsRise old.faults new.faults
+  pub others : (number : ℕ) → AllByRecursion (λ gone. nat_eq number gone ≡ false) numbers → finite.get new.blobs number ≡ finite.get old.blobs number

@@ -1,0 +1,75 @@
+//! Taking covered entries out of all streams.
+ghost use Rattle.std.specs.Prelude.{◌≡◌, ◌≤◌, IfErr, IfOk, IsErrOf, length, true};
+ghost use Rattle.std.specs.List.{AllByRecursion};
+ghost use Rattle.rl_parts.specs.Rewriting.{RewriteCause};
+ghost use Rattle.rl_parts.specs.StoreUse.{AreKept, Grown};
+ghost use Rattle.rl_streams.specs.Rewritten.{AreOf, ArePlanned, AreRemoved, numbers_gone, rewritten};
+ghost use Rattle.rl_streams.specs.StreamRows.{joined};
+
+use indexmap::IndexMap;
+use rl_chunks::Store;
+use rl_labels::{Covers, Labels};
+use rl_parts::{Plan, RewriteFault, Stream};
+use std::alloc::Global;
+
+// What each stream in turn becomes without its covered entries.
+pub(crate) fn plan_all<S: Store, C: Covers>(
+    alloc: Global,
+    store: &mut S,
+    streams: &IndexMap<Labels, Stream>,
+    covered: &C,
+    next: &mut u64,
+) -> Result<Vec<Plan>, RewriteFault>
+    ensures of { IfOk result (λ plans. AreOf streams.now.entries plans.items) }
+    ensures planned { IfOk result (λ plans. ArePlanned (C.covers covered.now) next.old (S.seen store.old) plans.items next.new (S.seen store.new)) }
+    ensures undamaged { (S.seen store.old).honest ≡ true → AllByRecursion (λ row. AreKept (S.seen store.old) next.old row.1) streams.now.entries → IsErrOf result RewriteFault.Damaged → ⊥ }
+    ensures next { next.old ≤ next.new }
+    ensures grown { Grown (S.seen store.old) next.old (S.seen store.new) }
+    ensures cause { IfErr result (RewriteCause (S.seen store.old) (S.seen store.new) next.new) }
+{
+    let mut plans = Vec::with_capacity(alloc, streams.len())?;
+    for place in 0..streams.len() {
+        let plan = streams[place].plan(alloc, store, covered, next)?;
+        plans.push(plan)?;
+    }
+    Ok(plans)
+}
+
+// Removes what the numbers have. What the store refuses to remove stays there unused.
+fn remove_all<S: Store>(store: &mut S, numbers: &[u64])
+    ensures { AreRemoved (S.seen store.old) numbers.now (S.seen store.new) }
+{
+    for number in numbers {
+        let _ = store.remove(*number);
+    }
+}
+
+// Carries out the plans of all streams, and removes what is no longer used.
+pub(crate) fn carry_out_all<S: Store>(
+    store: &mut S,
+    streams: &mut IndexMap<Labels, Stream>,
+    plans: Vec<Plan>,
+)
+    requires { AreOf streams.old.entries plans.items }
+    ensures streams { streams.new.entries ≡ rewritten streams.old.entries plans.items }
+    ensures removed { AreRemoved (S.seen store.old) (numbers_gone plans.items) (S.seen store.new) }
+{
+    let mut place = 0;
+    for plan in plans {
+        let gone = streams[place].carry_out(plan);
+        remove_all(store, &gone);
+        place += 1;
+    }
+}
+
+// How many entries there are in all streams, which are no more than this.
+pub(crate) fn count(streams: &IndexMap<Labels, Stream>, most: u64) -> u64
+    requires { length (joined streams.now.entries) ≤ most }
+    ensures { result ≡ length (joined streams.now.entries) }
+{
+    let mut count = 0;
+    for place in 0..streams.len() {
+        count += streams[place].len();
+    }
+    count
+}
