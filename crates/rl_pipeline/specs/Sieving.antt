@@ -1,6 +1,7 @@
 -- Which entries a sieve selects.
-use Rattle.std.specs.Prelude.{Bool, not, ◌&&◌, ◌||◌, List}
+use Rattle.std.specs.Prelude.{ℕ, Bool, not, ◌&&◌, ◌||◌, List}
 use Rattle.std.specs.List.{list_all, list_any}
+use Rattle.rl_labels.specs.LabelSet.{LabelSet}
 use Rattle.rl_labels.specs.Selects.{selects, are_by_text}
 use Rattle.rl_labels.specs.declared.entry.Entry.{Entry}
 use Rattle.rl_query.specs.declared.filter.LineFilter.{LineFilter}
@@ -9,8 +10,12 @@ use Rattle.rl_pipeline.specs.Building.{is_by_pattern}
 use Rattle.rl_pipeline.specs.Filtering.{passes}
 
 -- its selector selects the labels, and each line filter lets the line pass
+abbrev pub selects_line : Sieve → LabelSet → List ℕ → Bool
+selects_line sieve labels line = selects sieve.selector.matchers labels && list_all (λ filter. passes filter line) sieve.filters
+
+-- the same of an entry
 abbrev pub sieve_selects : Sieve → Entry → Bool
-sieve_selects sieve entry = selects sieve.selector.matchers entry.labels && list_all (λ filter. passes filter entry.line) sieve.filters
+sieve_selects sieve entry = selects_line sieve entry.labels entry.line
 
 -- some line filter is by pattern
 abbrev pub are_by_pattern : List LineFilter → Bool

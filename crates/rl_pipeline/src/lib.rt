@@ -8,7 +8,7 @@
 //! - `label_tests`: built label tests. `testing`: what asks many lines for them. `comparing`: tests by quantity, and `holds`, the comparison of numbers.
 //! - `line`: `Line`, which several pipelines have read once. `draft`: the labels of a line on its way through the stages. `meter`: `Meter`, which counts the runs.
 //! - `pipeline`: `Pipeline`, built stages. `running`: `Running`, which sends many lines through them with one set of caches.
-//! - `sieve`: `SieveCode`, a built sieve, and `Covers`. `sending`: what may be sent to another thread.
+//! - `sieve`: `SieveCode`, a built sieve. `sending`: what may be sent to another thread.
 #![tactic(auto)]
 
 pub(crate) mod comparing;
@@ -37,4 +37,4 @@ pub use parsing::parsed;
 pub use pipeline::Pipeline;
 pub use running::Running;
 pub use search::Search;
-pub use sieve::{Covers, SieveCode};
+pub use sieve::SieveCode;

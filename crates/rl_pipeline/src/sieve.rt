@@ -1,27 +1,18 @@
 //! Built sieves, which tell what delete requests cover.
-ghost use Rattle.std.specs.Prelude.{◌≡◌, ◌&&◌, Bool, IfOk, IfErr};
+ghost use Rattle.std.specs.Prelude.{◌≡◌, IfOk, IfErr};
 ghost use Rattle.std.specs.List.{list_all};
-ghost use Rattle.rl_labels.specs.declared.entry.Entry.{Entry};
+ghost use Rattle.rl_labels.specs.Selects.{selects};
 ghost use Rattle.rl_pipeline.specs.Building.{IsUnbuilt};
 ghost use Rattle.rl_pipeline.specs.Filtering.{passes};
-ghost use Rattle.rl_pipeline.specs.Sieving.{are_by_pattern, sieve_by_pattern};
+ghost use Rattle.rl_pipeline.specs.Sieving.{are_by_pattern, selects_line, sieve_by_pattern};
 
 use crate::filter::FilterCode;
-use rl_labels::{Entry, SelectorCode};
+use rl_labels::{Covers, Entry, Labels, Ns, SelectorCode};
 use rl_patterns::{PatternError, PatternFault};
 use rl_plain::{OrMemory, TryCopy};
 use rl_query::{LineFilter, Sieve};
 use std::alloc::{AllocError, Global};
 use std::marker::Model;
-
-/// What covers entries, as delete requests do.
-pub trait Covers {
-    ghost covers: { Self → Entry → Bool };
-
-    /// Whether the entry is covered.
-    fn covers(&self, entry: &Entry) -> Result<bool, AllocError>
-        ensures { IfOk result (λ answer. answer ≡ covers self.now entry.now) };
-}
 
 /// A built sieve. Contracts see the sieve.
 #[derive(Drop)]
@@ -57,6 +48,23 @@ impl SieveCode {
             filters,
         })
     }
+
+    /// Whether the selector selects the stream.
+    pub fn selects_stream(&self, labels: &Labels) -> Result<bool, AllocError>
+        ensures { IfOk result (λ answer. answer ≡ selects self.now.selector.matchers labels.now) }
+    {
+        self.selector.accepts(labels)
+    }
+
+    /// Whether the sieve selects the line of the stream.
+    pub fn selects(&self, labels: &Labels, line: &str) -> Result<bool, AllocError>
+        ensures { IfOk result (λ answer. answer ≡ selects_line self.now labels.now line.now) }
+    {
+        if !self.selects_stream(labels)? {
+            return Ok(false);
+        }
+        all_pass(&self.filters, line)
+    }
 }
 
 impl Covers for SieveCode {
@@ -65,10 +73,11 @@ impl Covers for SieveCode {
     ghost covers = { sieve_selects };
 
     fn covers(&self, entry: &Entry) -> Result<bool, AllocError> {
-        if !self.selector.accepts(&entry.labels)? {
-            return Ok(false);
-        }
-        all_pass(&self.filters, entry.line.as_str())
+        self.selects(&entry.labels, entry.line.as_str())
+    }
+
+    fn may_cover(&self, labels: &Labels, _from: Ns, _to: Ns) -> Result<bool, AllocError> {
+        self.selects_stream(labels)
     }
 }
 
