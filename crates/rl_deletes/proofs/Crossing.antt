@@ -8,6 +8,7 @@ use Rattle.std.proofs.Crossing as heap
 use Rattle.std.proofs.alloc.Global.TheSendSync as global
 use Rattle.std.proofs.collections.BTreeMap.TheSendSync as tree
 use Rattle.rl_pipeline.proofs.Crossing as pipeline
+use Rattle.rl_plain.proofs.shared.Shared.TheSendSync as shared
 use Rattle.rl_query.proofs.filter.Sieve.TheSendSync as sieve
 use Rattle.rl_deletes.specs.contracts.acting.Acting as Acting
 use Rattle.rl_deletes.specs.contracts.request.Request as Request
@@ -18,7 +19,7 @@ Acting-send : IsSend Acting.the_row
 Acting-send = search (pipeline.crosses, sendable, heap.crosses) depth 20
 
 Request-send : IsSend Request.the_row
-Request-send = search (sieve.the_field_send, sendable, heap.crosses) depth 20
+Request-send = search (sieve.the_send, sieve.the_sync, shared.the_send, sendable, heap.crosses) depth 20
 
 fields-send : IsSend inside.the_row
 fields-send =

@@ -1,5 +1,5 @@
 -- Requests in a tree, those of them that are received, and what these cover.
-use Rattle.std.proofs.Common.{◌≡◌, ℕ, Bool, true, false, cond, not, ◌&&◌, List, Option, None, Some, IsSome, refl, sym, ap, ◌∙◌}
+use Rattle.std.proofs.Common.{◌≡◌, ℕ, Bool, true, false, cond, not, ◌&&◌, List, [], ◌∷◌, length, Option, None, Some, IsSome, refl, sym, ap, ◌∙◌, arith}
 use Rattle.std.specs.Prelude.{◌==◌}
 use Rattle.std.specs.BTreeMap.{is_at}
 use Rattle.std.specs.Cmp.{unsigned_tied}
@@ -25,6 +25,11 @@ Tree = List (ℕ × Request)
 
 abbrev pub map_of : Tree → FinMap nat_cmp Request
 map_of es = from_entries es
+
+-- of no requests none passes a test
+pub none_pass : (p : Request → Bool) (es : Tree) → length es ≡ 0 → list_any p (values_of es) ≡ false
+none_pass p [] none = refl
+none_pass p (e ∷ es) none = absurd (omega (arith, none))
 
 -- what the tree finds at a number
 pub found_at : (es : Tree) (q : ℕ) → lookup (is_at (nat_cmp q)) es ≡ map.get (map_of es) q

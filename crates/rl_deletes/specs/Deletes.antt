@@ -1,14 +1,16 @@
 -- Delete requests: what they cover, and what becomes of them.
-use Rattle.std.specs.Prelude.{◌≡◌, ℕ, ◌+◌, ◌*◌, ◌^◌, nat_lt, nat_le, Bool, true, false, ◌&&◌, Option, None, Some, Result, Ok, Err, if◌then◌else◌}
+use Rattle.std.specs.Prelude.{◌≡◌, ℕ, ◌+◌, ◌*◌, ◌^◌, nat_lt, nat_le, Bool, true, false, ◌&&◌, List, Option, None, Some, Result, Ok, Err, if◌then◌else◌}
 use Rattle.std.specs.List.{list_any}
 use Rattle.std.specs.FinMap as map
 use Rattle.std.specs.FinMap.{FinMap}
 use Rattle.std.specs.Ordering.{nat_cmp}
 use Rattle.rl_plain.specs.declared.refusal.OrMemory.{OrMemory}
 use Rattle.rl_plain.specs.declared.refusal.OrMemory.TheVariants.{Fault, Memory}
+use Rattle.rl_labels.specs.LabelSet.{LabelSet}
 use Rattle.rl_labels.specs.declared.entry.Entry.{Entry}
+use Rattle.rl_labels.specs.declared.limits.Limits.{Limits}
 use Rattle.rl_query.specs.declared.filter.Sieve.{Sieve}
-use Rattle.rl_pipeline.specs.Sieving.{sieve_selects}
+use Rattle.rl_pipeline.specs.Sieving.{selects_line}
 use Rattle.rl_deletes.specs.declared.request.Phase.{Phase}
 use Rattle.rl_deletes.specs.declared.request.Phase.TheVariants.{Received, Cancelled, Processed}
 use Rattle.rl_deletes.specs.declared.request.Request.{Request}
@@ -24,6 +26,10 @@ pub record RequestsView : Type 0 where
   pub requests : FinMap nat_cmp Request
   pub cancel : ℕ
 
+-- no requests: each can be cancelled for as long as the limits say
+abbrev pub no_requests : Limits → RequestsView
+no_requests limits = record { requests = map.empty; cancel = limits.cancel }
+
 -- the most requests, in whatever phase
 abbrev pub most_requests : ℕ
 most_requests = 65536
@@ -37,13 +43,21 @@ is_in_force Processed = false
 abbrev pub is_received : Request → Bool
 is_received request = is_in_force request.phase
 
--- the sieve selects the entry, and its timestamp is from the start to the end
+-- the sieve selects the line of the stream, and its timestamp is from the start to the end
+abbrev pub covers_line : Request → LabelSet → (timestamp : ℕ) → List ℕ → Bool
+covers_line request labels timestamp line = nat_le request.start timestamp && nat_le timestamp request.end && selects_line request.sieve labels line
+
+-- the same of an entry
 abbrev pub covers_one : Request → Entry → Bool
-covers_one request entry = nat_le request.start entry.timestamp && nat_le entry.timestamp request.end && sieve_selects request.sieve entry
+covers_one request entry = covers_line request entry.labels entry.timestamp entry.line
 
 -- some received request covers it
+abbrev pub covered_line : RequestsView → LabelSet → (timestamp : ℕ) → List ℕ → Bool
+covered_line all labels timestamp line = list_any (λ request. is_received request && covers_line request labels timestamp line) (map.values all.requests)
+
+-- the same of an entry
 abbrev pub covered : RequestsView → Entry → Bool
-covered all entry = list_any (λ request. is_received request && covers_one request entry) (map.values all.requests)
+covered all entry = covered_line all entry.labels entry.timestamp entry.line
 
 -- some received request but that with the number covers it
 abbrev pub covered_beside : RequestsView → ℕ → Entry → Bool

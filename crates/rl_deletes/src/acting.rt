@@ -1,10 +1,10 @@
 //! A received request with its built sieve, which tells what it covers.
 ghost use Rattle.std.specs.Prelude.{◌≡◌, IfOk};
-ghost use Rattle.rl_deletes.specs.Deletes.{asked};
+ghost use Rattle.rl_deletes.specs.Deletes.{asked, covers_line};
 
 use crate::request::Request;
-use rl_labels::{Entry, Ns};
-use rl_pipeline::{Covers, SieveCode};
+use rl_labels::{Covers, Entry, Labels, Ns};
+use rl_pipeline::SieveCode;
 use std::alloc::{AllocError, Global};
 use std::marker::Model;
 
@@ -31,7 +31,7 @@ impl Acting {
     pub(crate) fn build(alloc: Global, request: &Request) -> Result<Acting, AllocError>
         ensures { IfOk result (λ acting. acting ≡ asked request.now.sieve request.now.start request.now.end request.now.created) }
     {
-        match SieveCode::build(alloc, &request.sieve) {
+        match SieveCode::build(alloc, request.sieve.get()) {
             Ok(code) => Ok(Acting {
                 code,
                 start: request.start,
@@ -41,6 +41,21 @@ impl Acting {
             Err(_) => Err(AllocError),
         }
     }
+
+    // Whether it covers an entry with these parts. The time is asked first, then the stream, then the line.
+    pub(crate) fn covers_line(
+        &self,
+        labels: &Labels,
+        timestamp: Ns,
+        line: &str,
+    ) -> Result<bool, AllocError>
+        ensures { IfOk result (λ answer. answer ≡ covers_line self.now labels.now timestamp line.now) }
+    {
+        if timestamp < self.start || self.end < timestamp {
+            return Ok(false);
+        }
+        self.code.selects(labels, line)
+    }
 }
 
 impl Covers for Acting {
@@ -49,9 +64,13 @@ impl Covers for Acting {
     ghost covers = { covers_one };
 
     fn covers(&self, entry: &Entry) -> Result<bool, AllocError> {
-        if entry.timestamp < self.start || self.end < entry.timestamp {
+        self.covers_line(&entry.labels, entry.timestamp, entry.line.as_str())
+    }
+
+    fn may_cover(&self, labels: &Labels, from: Ns, to: Ns) -> Result<bool, AllocError> {
+        if to < self.start || self.end < from {
             return Ok(false);
         }
-        self.code.covers(entry)
+        self.code.selects_stream(labels)
     }
 }

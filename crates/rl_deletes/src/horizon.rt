@@ -3,7 +3,8 @@ ghost use Rattle.std.specs.Prelude.{◌≡◌, ◌≤◌};
 ghost use Rattle.rl_labels.specs.Quantity.{greatest_moment};
 ghost use Rattle.rl_deletes.specs.Horizons.{advanced};
 
-use rl_labels::Ns;
+use rl_labels::{Covers, Entry, Labels, Ns};
+use std::alloc::AllocError;
 use std::marker::Model;
 
 // Nanoseconds in a second.
@@ -53,6 +54,20 @@ impl Horizon {
         Horizon {
             moment: moment_of(lowest),
         }
+    }
+}
+
+impl Covers for Horizon {
+    ghost use Rattle.rl_deletes.specs.Horizons.{is_below};
+
+    ghost covers = { is_below };
+
+    fn covers(&self, entry: &Entry) -> Result<bool, AllocError> {
+        Ok(entry.timestamp < self.moment)
+    }
+
+    fn may_cover(&self, _labels: &Labels, from: Ns, _to: Ns) -> Result<bool, AllocError> {
+        Ok(from < self.moment)
     }
 }
 

@@ -3,7 +3,7 @@ ghost use Rattle.std.specs.Prelude.{◌≡◌, ◌↔◌, IsTrue};
 ghost use Rattle.rl_deletes.specs.Deletes.{is_received, IsRepeat};
 
 use rl_labels::Ns;
-use rl_plain::Same;
+use rl_plain::{Same, Shared};
 use rl_query::Sieve;
 
 /// What became of a request.
@@ -20,7 +20,7 @@ pub enum Phase {
 /// A request to delete the entries that a sieve selects, from one moment to another, both included (Loki's log deletion).
 #[derive(Drop)]
 pub struct Request {
-    pub sieve: Sieve,
+    pub sieve: Shared<Sieve>,
     pub start: Ns,
     pub end: Ns,
     pub created: Ns,

@@ -5,14 +5,13 @@ ghost use Rattle.std.specs.FinMap as map;
 ghost use Rattle.std.specs.Map.{lookup};
 ghost use Rattle.std.specs.Option.{option_map};
 ghost use Rattle.std.specs.Ordering.{nat_cmp};
-ghost use Rattle.rl_deletes.specs.Deletes.{asked, cancel_fault, cancelled, covered_beside, ended, is_in_force, process_fault, processed, received, received_at, with_request, in_phase, IsReceiveAnswer, IsReceiveFault};
+ghost use Rattle.rl_deletes.specs.Deletes.{asked, cancel_fault, cancelled, covered_beside, covered_line, ended, is_in_force, no_requests, process_fault, processed, received, received_at, with_request, in_phase, IsReceiveAnswer, IsReceiveFault};
 
 use crate::acting::Acting;
 use crate::fault::{CancelFault, ProcessFault, ReceiveError, ReceiveFault};
 use crate::request::{Phase, Request};
-use rl_labels::{Entry, Limits, Ns};
-use rl_pipeline::Covers;
-use rl_plain::OrMemory;
+use rl_labels::{Covers, Entry, Labels, Limits, Ns};
+use rl_plain::{OrMemory, Shared};
 use rl_query::Sieve;
 use std::alloc::{AllocError, Global};
 use std::collections::BTreeMap;
@@ -50,7 +49,7 @@ impl Model for Requests {
 impl Requests {
     /// No requests. Each can be cancelled for as long as the limits say.
     pub fn new(alloc: Global, limits: &Limits) -> Requests
-        ensures { result ≡ record { requests = map.empty; cancel = limits.now.cancel } }
+        ensures { result ≡ no_requests limits.now }
     {
         Requests {
             alloc,
@@ -64,7 +63,7 @@ impl Requests {
     pub fn receive(
         &mut self,
         id: u64,
-        sieve: Sieve,
+        sieve: Shared<Sieve>,
         start: Ns,
         end: Ns,
         created: Ns,
@@ -114,19 +113,28 @@ impl Requests {
     pub fn process(&mut self, id: u64, now: Ns) -> Result<(), ProcessFault>
         ensures { MatchResult result (λ _. (process_fault self.old id now ≡ None) × (self.new ≡ processed self.old id)) (λ fault. (process_fault self.old id now ≡ Some fault) × (self.new ≡ self.old)) }
     {
+        if self.due(id, now)?.is_some() {
+            self.retire(id, Phase::Processed);
+        }
+        Ok(())
+    }
+
+    /// The request that a process at the moment would end; none where it was processed before.
+    pub fn due(&self, id: u64, now: Ns) -> Result<Option<&Acting>, ProcessFault>
+        ensures { MatchResult result (λ due. (process_fault self.now id now ≡ None) × (option_map (λ acting. acting.now) due ≡ received_at self.now id)) (λ fault. process_fault self.now id now ≡ Some fault) }
+    {
         let Some(request) = self.request(id) else {
             return Err(ProcessFault::NoSuchRequest);
         };
         match request.phase {
             Phase::Received => {}
             Phase::Cancelled => return Err(ProcessFault::WasCancelled),
-            Phase::Processed => return Ok(()),
+            Phase::Processed => return Ok(None),
         }
         if now.get() < request.created.get() + self.cancel * SECOND {
             return Err(ProcessFault::TooEarly);
         }
-        self.retire(id, Phase::Processed);
-        Ok(())
+        Ok(self.received(id))
     }
 
     /// The request with the number, in whatever phase.
@@ -136,8 +144,8 @@ impl Requests {
         self.requests.get(&id)
     }
 
-    /// The received request with the number.
-    pub fn only(&self, id: u64) -> Option<&Acting>
+    // The received request with the number.
+    fn received(&self, id: u64) -> Option<&Acting>
         ensures { option_map (λ acting. acting.now) result ≡ received_at self.now id }
     {
         self.acting.get(&id)
@@ -152,6 +160,26 @@ impl Requests {
                 continue;
             }
             if acting.covers(entry)? {
+                return Ok(true);
+            }
+        }
+        Ok(false)
+    }
+
+    /// Whether a received request covers an entry with these parts.
+    pub fn covers_line(
+        &self,
+        labels: &Labels,
+        timestamp: Ns,
+        line: &str,
+    ) -> Result<bool, AllocError>
+        ensures { IfOk result (λ answer. answer ≡ covered_line self.now labels.now timestamp line.now) }
+    {
+        if self.acting.len() == 0 {
+            return Ok(false);
+        }
+        for acting in self.acting.values() {
+            if acting.covers_line(labels, timestamp, line)? {
                 return Ok(true);
             }
         }
@@ -200,8 +228,12 @@ impl Covers for Requests {
     ghost covers = { covered };
 
     fn covers(&self, entry: &Entry) -> Result<bool, AllocError> {
+        self.covers_line(&entry.labels, entry.timestamp, entry.line.as_str())
+    }
+
+    fn may_cover(&self, labels: &Labels, from: Ns, to: Ns) -> Result<bool, AllocError> {
         for acting in self.acting.values() {
-            if acting.covers(entry)? {
+            if acting.may_cover(labels, from, to)? {
                 return Ok(true);
             }
         }

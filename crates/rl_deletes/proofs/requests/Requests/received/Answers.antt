@@ -2,7 +2,7 @@
 use Rattle.std.proofs.Common.{ap, ◌∙◌}
 use Rattle.rl_deletes.specs.Deletes.{received_at}
 use Rattle.rl_deletes.proofs.Received.{built_at}
-use Rattle.rl_deletes.proofs.requests.Requests.only.Goals as goal
+use Rattle.rl_deletes.proofs.requests.Requests.received.Goals as goal
 
 pub returns : goal.returns
 returns c =
