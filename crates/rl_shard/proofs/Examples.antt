@@ -7,6 +7,7 @@ use Rattle.rl_labels.specs.LabelSet.{LabelSet}
 use Rattle.rl_labels.specs.LabelText.{label_set_cmp}
 use Rattle.rl_labels.specs.declared.entry.Entry.{Entry}
 use Rattle.rl_labels.specs.declared.limits.Limits.{Limits}
+use Rattle.rl_deletes.specs.Deletes.{no_requests}
 use Rattle.rl_shard.specs.ShardState.{ShardState}
 use Rattle.rl_shard.specs.ShardStep.{is_expired, push_reply, pushed}
 use Rattle.rl_shard.specs.declared.step.ShardReply.TheVariants.{Expired}
@@ -15,7 +16,7 @@ use Rattle.rl_shard.specs.declared.step.ShardReply.TheVariants.{Expired}
 module _ (limits : Limits) (held : EntrySet) (newest : FinMap label_set_cmp ℕ) (labels : LabelSet) (of_stream : IsTrue (is_stream labels)) (line : List ℕ) (fits : length line ≤ longest_line) where
   -- the horizon is at 10
   abbrev shard : ShardState
-  shard = record { held = held; newest = newest; horizon = 10 }
+  shard = record { held = held; newest = newest; requests = no_requests limits; horizon = 10 }
 
   abbrev entry_at : ℕ → Entry
   entry_at timestamp = record { labels = labels; timestamp = timestamp; line = line; of_stream = of_stream; fits = fits }

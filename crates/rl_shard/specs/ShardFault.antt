@@ -1,16 +1,21 @@
 -- When a shard may answer each fault, and what its steps leave of its store.
 use Rattle.std.specs.Prelude.{◌≡◌, ◌≤◌, Bool, true, false, IsTrue, Result, Ok, Err}
 use Rattle.rl_chunks.specs.StoreState.{greatest}
-use Rattle.rl_parts.specs.StoreUse.{FaultCame, Grown}
+use Rattle.std.specs.Option.{MatchOption}
+use Rattle.rl_labels.specs.declared.limits.Limits.{Limits}
+use Rattle.rl_parts.specs.StoreUse.{FaultCame, FaultsRise, Grown}
 use Rattle.rl_parts.specs.declared.fault.ReadFault.{ReadFault}
 use Rattle.rl_parts.specs.declared.fault.ReadFault.TheVariants as reads
 use Rattle.rl_parts.specs.declared.fault.FlushFault.{FlushFault}
 use Rattle.rl_parts.specs.declared.fault.FlushFault.TheVariants as flushes
+use Rattle.rl_parts.specs.declared.fault.RewriteFault.{RewriteFault}
+use Rattle.rl_parts.specs.declared.fault.RewriteFault.TheVariants as rewrites
+use Rattle.rl_streams.specs.Rewritten.{AreLeftIn}
 use Rattle.rl_streams.specs.StreamsState.{StreamsView}
 use Rattle.rl_streams.specs.declared.refusal.AddRefusal.{AddRefusal}
 use Rattle.rl_streams.specs.declared.refusal.AddRefusal.TheVariants as adding
-use Rattle.rl_shard.specs.ShardState.{ShardView, journalled}
-use Rattle.rl_shard.specs.ShardStep.{is_journal_full}
+use Rattle.rl_shard.specs.ShardState.{ShardState, ShardView, journalled}
+use Rattle.rl_shard.specs.ShardStep.{is_journal_full, removes}
 use Rattle.rl_shard.specs.declared.step.ShardStep.{ShardStep}
 use Rattle.rl_shard.specs.declared.step.ShardStep.TheVariants as steps
 use Rattle.rl_shard.specs.declared.step.ShardReply.{ShardReply}
@@ -29,6 +34,12 @@ told_of_flush flushes.Fault = faults.Fault
 told_of_flush flushes.NumbersSpent = faults.NumbersSpent
 told_of_flush flushes.Memory = faults.Memory
 
+abbrev pub told_of_rewrite : RewriteFault → ShardFault
+told_of_rewrite rewrites.Fault = faults.Fault
+told_of_rewrite rewrites.Damaged = faults.Damaged
+told_of_rewrite rewrites.NumbersSpent = faults.NumbersSpent
+told_of_rewrite rewrites.Memory = faults.Memory
+
 -- what becomes of an entry that streams refused
 abbrev pub refused : AddRefusal → Result ShardReply ShardFault
 refused (adding.Expired horizon) = Ok (replies.Expired horizon)
@@ -37,7 +48,7 @@ refused adding.Full = Ok replies.Full
 refused (adding.Read fault) = Err (told_of_read fault)
 
 -- whether a step may meet a fault: one that reads meets the store's and damage, one that writes meets the store's and that the
--- numbers are spent, and each meets a full journal and want of memory
+-- numbers are spent, one that removes entries does both, and each meets a full journal and want of memory
 abbrev pub may_meet : ShardStep → ShardFault → Bool
 may_meet step faults.JournalFull = true
 may_meet step faults.Memory = true
@@ -45,9 +56,20 @@ may_meet (steps.Push entry) faults.Fault = true
 may_meet (steps.Push entry) faults.Damaged = true
 may_meet steps.Flush faults.Fault = true
 may_meet steps.Flush faults.NumbersSpent = true
+may_meet (steps.Process id now) faults.Fault = true
+may_meet (steps.Process id now) faults.Damaged = true
+may_meet (steps.Process id now) faults.NumbersSpent = true
+may_meet (steps.Retain now) faults.Fault = true
+may_meet (steps.Retain now) faults.Damaged = true
+may_meet (steps.Retain now) faults.NumbersSpent = true
 may_meet (steps.Collect slot terms t) faults.Fault = true
 may_meet (steps.Collect slot terms t) faults.Damaged = true
 may_meet step other = false
+
+-- a fault that removing entries may meet
+abbrev pub IsOfRemoving : ShardFault → Type 0
+IsOfRemoving faults.JournalFull = ⊥
+IsOfRemoving other = Unit {0}
 
 -- the store of a shard is honest
 abbrev pub IsHonest : ShardView → Type 0
@@ -67,14 +89,20 @@ HasCause old faults.Memory new = Unit {0}
 abbrev pub MayCome : ShardView → ShardStep → ShardFault → ShardView → Type 0
 MayCome old step fault new = IsTrue (may_meet step fault) × (fault ≡ faults.JournalFull → IsTrue (is_journal_full (journalled old))) × HasCause old.streams fault new.streams
 
--- what is decided was done: a cut leaves no head, a flush no sealed part that the store does not have
-abbrev pub IsDone : ShardStep → StreamsView → Type 0
-IsDone steps.Cut new = new.loose ≡ 0
-IsDone steps.Flush new = new.unwritten ≡ 0
-IsDone step new = Unit {0}
+-- a cut leaves no head, a flush no sealed part that the store does not have
+abbrev pub IsWritten : ShardStep → StreamsView → Type 0
+IsWritten steps.Cut new = new.loose ≡ 0
+IsWritten steps.Flush new = new.unwritten ≡ 0
+IsWritten step new = Unit {0}
 
--- what any step leaves of the store: it is as honest as it was, faults and numbers never go down, and what stood below the next
--- number still stands
+-- what is decided was done, over any store. A step that removes no entry leaves what stood in the store below the next number;
+-- and what is left where entries are removed is told by bytes with the digests that were kept
+pub record IsDone (limits : Limits) (shard : ShardState) (step : ShardStep) (old new : StreamsView) : Type 0 where
+  pub written : IsWritten step new
+  pub left : MatchOption (removes limits shard step) (Grown old.seen old.next new.seen) (λ covers. AreLeftIn covers old.rows new.rows)
+
+-- what any step leaves of the store: it is as honest as it was, and faults and numbers never go down
 pub record Stored (old new : StreamsView) : Type 0 where
-  pub grown : Grown old.seen old.next new.seen
+  pub honest : new.seen.honest ≡ old.seen.honest
+  pub faults : FaultsRise old.seen.faults new.seen.faults
   pub next : old.next ≤ new.next

@@ -7,6 +7,9 @@ use Rattle.rl_labels.specs.EntryOrder.{EntrySet}
 use Rattle.rl_labels.specs.declared.entry.Entry.{Entry}
 use Rattle.rl_labels.specs.declared.limits.Limits.{Limits}
 use Rattle.rl_chunks.specs.StoreState.{Seen}
+use Rattle.rl_deletes.specs.Deletes.{RequestsView, covered, no_requests}
+use Rattle.rl_deletes.specs.Views.{requests_code}
+use Rattle.rl_parts.specs.Rewriting.{uncovered}
 use Rattle.rl_streams.specs.StreamsState.{StreamsView, streams_code, no_streams}
 
 pub record ShardState : Type 0 where
@@ -14,15 +17,17 @@ pub record ShardState : Type 0 where
   pub held : EntrySet
   -- the newest timestamp that each stream ever had, in nanoseconds
   pub newest : FinMap label_set_cmp ℕ
+  -- the delete requests, in whatever phase
+  pub requests : RequestsView
   -- an entry below it is expired, in nanoseconds
   pub horizon : ℕ
 
-abbrev pub empty_shard : ShardState
-empty_shard = record { held = empty; newest = empty; horizon = 0 }
+abbrev pub empty_shard : Limits → ShardState
+empty_shard limits = record { held = empty; newest = empty; requests = no_requests limits; horizon = 0 }
 
--- the entries that a query sees, by label text, timestamp and line
+-- the entries that a query sees, by label text, timestamp and line: those that no received request covers
 abbrev pub visible : ShardState → List Entry
-visible shard = keys shard.held
+visible shard = uncovered (covered shard.requests) (keys shard.held)
 
 -- what is promised of a shard: its limits, what it holds, and how many records its journal has
 pub record Journalled : Type 0 where
@@ -32,29 +37,30 @@ pub record Journalled : Type 0 where
 
 -- an empty shard of these limits, with an empty journal
 abbrev pub opened : Limits → Journalled
-opened limits = record { limits = limits; state = empty_shard; records = 0 }
+opened limits = record { limits = limits; state = empty_shard limits; records = 0 }
 
--- a shard as it is seen: its streams with their store, the horizon, and how many records its journal has
+-- a shard as it is seen: its streams with their store, the requests, the horizon, and how many records its journal has
 pub record ShardView : Type 0 where
   pub streams : StreamsView
+  pub requests : RequestsView
   pub horizon : ℕ
   pub records : ℕ
 
--- what streams hold, behind a horizon
-abbrev pub state_of : StreamsView → ℕ → ShardState
-state_of streams horizon = record { held = streams.held; newest = streams.newest; horizon = horizon }
+-- what streams hold, under requests and behind a horizon
+abbrev pub state_of : StreamsView → RequestsView → ℕ → ShardState
+state_of streams requests horizon = record { held = streams.held; newest = streams.newest; requests = requests; horizon = horizon }
 
 -- the part of it that is promised
 abbrev pub journalled : ShardView → Journalled
-journalled shard = record { limits = shard.streams.limits; state = state_of shard.streams shard.horizon; records = shard.records }
+journalled shard = record { limits = shard.streams.limits; state = state_of shard.streams shard.requests shard.horizon; records = shard.records }
 
 -- an empty shard over a store
 abbrev pub opened_over : Limits → Seen → ShardView
-opened_over limits seen = record { streams = no_streams limits seen; horizon = 0; records = 0 }
+opened_over limits seen = record { streams = no_streams limits seen; requests = no_requests limits; horizon = 0; records = 0 }
 
 -- a shard as numbers, for a store
 abbrev pub shard_view_code : Coded ShardView
-shard_view_code = code_by (StreamsView × (ℕ × ℕ)) (coded× streams_code (coded× coded_ℕ coded_ℕ))
-    (λ s. (s.streams, (s.horizon, s.records)))
-    (λ p. record { streams = p.0; horizon = p.1.0; records = p.1.1 })
+shard_view_code = code_by (StreamsView × (RequestsView × (ℕ × ℕ))) (coded× streams_code (coded× requests_code (coded× coded_ℕ coded_ℕ)))
+    (λ s. (s.streams, (s.requests, (s.horizon, s.records))))
+    (λ p. record { streams = p.0; requests = p.1.0; horizon = p.1.1.0; records = p.1.1.1 })
     (λ _. refl)

@@ -1,14 +1,25 @@
 -- What a shard answers to a step, and what it holds afterwards.
-use Rattle.std.specs.Prelude.{◌≡◌, ◌⊎◌, ℕ, ◌+◌, nat_lt, nat_le, Bool, List, map, length, if◌then◌else◌, Option, None, Some}
-use Rattle.std.specs.Option.{MatchOption, is_none, unwrap_or}
+use Rattle.std.specs.Prelude.{◌≡◌, ◌⊎◌, ℕ, ◌+◌, ◌==◌, nat_lt, nat_le, Bool, List, map, length, if◌then◌else◌, Option, None, Some}
+use Rattle.std.specs.Option.{MatchOption, is_none, option_map, unwrap_or}
 use Rattle.std.specs.List.{AllByRecursion}
 use Rattle.std.specs.FinMap.{insert, contains_key, len}
+use Rattle.rl_labels.specs.EntryOrder.{EntrySet}
 use Rattle.rl_labels.specs.LabelSet.{LabelSet}
 use Rattle.rl_labels.specs.declared.entry.Entry.{Entry}
 use Rattle.rl_labels.specs.declared.limits.Limits.{Limits}
 use Rattle.rl_aggregate.specs.Limited.{IsWithin}
 use Rattle.rl_aggregate.specs.Partials.{partial}
 use Rattle.rl_aggregate.specs.declared.partial.Partial.{Partial}
+use Rattle.rl_deletes.specs.Deletes.{RequestsView, asked, cancel_fault, cancelled, covers_one, most_requests, process_fault, processed, received, received_at, IsReceiveFault}
+use Rattle.rl_deletes.specs.Horizons.{advanced, is_below}
+use Rattle.rl_deletes.specs.declared.fault.CancelFault.{CancelFault}
+use Rattle.rl_deletes.specs.declared.fault.CancelFault.TheVariants as cancelling
+use Rattle.rl_deletes.specs.declared.fault.ProcessFault.{ProcessFault}
+use Rattle.rl_deletes.specs.declared.fault.ProcessFault.TheVariants as processing
+use Rattle.rl_deletes.specs.declared.fault.ReceiveFault.{ReceiveFault}
+use Rattle.rl_deletes.specs.declared.fault.ReceiveFault.TheVariants as receiving
+use Rattle.rl_deletes.specs.declared.request.Request.{Request}
+use Rattle.rl_streams.specs.Rewritten.{without}
 use Rattle.rl_streams.specs.StreamRows.{newest_at, raised}
 use Rattle.rl_streams.specs.StreamsState.{is_far_behind}
 use Rattle.rl_shard.specs.ShardState.{ShardState, Journalled, visible}
@@ -57,22 +68,94 @@ is_taken limits shard entry = is_none (push_answer limits shard entry)
 
 -- with the entry, and the newest of its stream
 abbrev pub with_entry : ShardState → Entry → ShardState
-with_entry shard entry = record { held = insert shard.held entry tt; newest = raised shard.newest entry.labels entry.timestamp; horizon = shard.horizon }
+with_entry shard entry = record { held = insert shard.held entry tt; newest = raised shard.newest entry.labels entry.timestamp; requests = shard.requests; horizon = shard.horizon }
 
 abbrev pub pushed : Limits → ShardState → Entry → ShardState
 pushed limits shard entry = if is_taken limits shard entry then with_entry shard entry else shard
 
--- a Collect answers one partial for each term, of what the shard shows
-abbrev pub step_reply : Limits → ShardState → ShardStep → ShardReply
-step_reply limits shard (steps.Push entry) = push_reply limits shard entry
-step_reply limits shard steps.Cut = replies.Done
-step_reply limits shard steps.Flush = replies.Done
-step_reply limits shard (steps.Collect slot terms t) = replies.Collected (map (λ term. partial (visible shard) term t) terms)
+-- REQUESTS AND RETENTION
 
--- only a push changes what is held
+-- what becomes of a request is answered so
+abbrev pub told_of_receive : Option ReceiveFault → ShardReply
+told_of_receive None = replies.Done
+told_of_receive (Some receiving.IdTaken) = replies.IdTaken
+told_of_receive (Some receiving.Full) = replies.RequestsFull
+
+abbrev pub told_of_cancel : Option CancelFault → ShardReply
+told_of_cancel None = replies.Done
+told_of_cancel (Some cancelling.NoSuchRequest) = replies.NoSuchRequest
+told_of_cancel (Some cancelling.AlreadyProcessed) = replies.AlreadyProcessed
+
+abbrev pub told_of_process : Option ProcessFault → ShardReply
+told_of_process None = replies.Done
+told_of_process (Some processing.NoSuchRequest) = replies.NoSuchRequest
+told_of_process (Some processing.WasCancelled) = replies.WasCancelled
+told_of_process (Some processing.TooEarly) = replies.TooEarly
+
+-- the reply to a delete, as receiving its request is answered
+pub record IsDeleteReply (requests : RequestsView) (id : ℕ) (request : Request) (reply : ShardReply) : Type 0 where
+  pub fault : Option ReceiveFault
+  pub is : IsReceiveFault requests id request fault
+  pub told : reply ≡ told_of_receive fault
+
+-- the requests behind a delete: one more where its number is new and there is room
+abbrev pub deleted : RequestsView → ℕ → Request → RequestsView
+deleted requests id request = if nat_le most_requests (len requests.requests) then requests else received requests id request
+
+-- the requests behind a process that is refused so, or is not
+abbrev pub processed_if : Option ProcessFault → RequestsView → ℕ → RequestsView
+processed_if None requests id = processed requests id
+processed_if (Some fault) requests id = requests
+
+-- what a process removes that is refused so, or is not: what the request covers, if it is received
+abbrev pub removed_if : Option ProcessFault → RequestsView → ℕ → Option (Entry → Bool)
+removed_if None requests id = option_map covers_one (received_at requests id)
+removed_if (Some fault) requests id = None
+
+-- what retention removes at a moment: what is expired then, unless all is kept for ever
+abbrev pub removed_by : Limits → (horizon now : ℕ) → Option (Entry → Bool)
+removed_by limits horizon now = if limits.keep == 0 then None else Some (is_below (advanced limits.keep horizon now))
+
+-- which entries a step removes, if it removes any
+abbrev pub removes : Limits → ShardState → ShardStep → Option (Entry → Bool)
+removes limits shard (steps.Process id now) = removed_if (process_fault shard.requests id now) shard.requests id
+removes limits shard (steps.Retain now) = removed_by limits shard.horizon now
+removes limits shard step = None
+
+-- what is left of entries of which these are removed
+abbrev pub left_of : Option (Entry → Bool) → EntrySet → EntrySet
+left_of None held = held
+left_of (Some covers) held = without covers held
+
+-- the requests behind a step
+abbrev pub requests_after : ShardState → ShardStep → RequestsView
+requests_after shard (steps.Delete id sieve start end created) = deleted shard.requests id (asked sieve start end created)
+requests_after shard (steps.Cancel id) = cancelled shard.requests id
+requests_after shard (steps.Process id now) = processed_if (process_fault shard.requests id now) shard.requests id
+requests_after shard step = shard.requests
+
+-- the horizon behind a step
+abbrev pub horizon_after : Limits → ShardState → ShardStep → ℕ
+horizon_after limits shard (steps.Retain now) = advanced limits.keep shard.horizon now
+horizon_after limits shard step = shard.horizon
+
+-- ANSWERS
+
+-- what is answered to a step. A Collect has one partial for each term, of what the shard shows
+abbrev pub IsReply : Limits → ShardState → ShardStep → ShardReply → Type 0
+IsReply limits shard (steps.Push entry) reply = reply ≡ push_reply limits shard entry
+IsReply limits shard steps.Cut reply = reply ≡ replies.Done
+IsReply limits shard steps.Flush reply = reply ≡ replies.Done
+IsReply limits shard (steps.Delete id sieve start end created) reply = IsDeleteReply shard.requests id (asked sieve start end created) reply
+IsReply limits shard (steps.Cancel id) reply = reply ≡ told_of_cancel (cancel_fault shard.requests id)
+IsReply limits shard (steps.Process id now) reply = reply ≡ told_of_process (process_fault shard.requests id now)
+IsReply limits shard (steps.Retain now) reply = reply ≡ replies.Done
+IsReply limits shard (steps.Collect slot terms t) reply = reply ≡ replies.Collected (map (λ term. partial (visible shard) term t) terms)
+
+-- what a step leaves. The newest timestamps are never lowered
 abbrev pub stepped : Limits → ShardState → ShardStep → ShardState
 stepped limits shard (steps.Push entry) = pushed limits shard entry
-stepped limits shard step = shard
+stepped limits shard step = record { held = left_of (removes limits shard step) shard.held; newest = shard.newest; requests = requests_after shard step; horizon = horizon_after limits shard step }
 
 -- the journal has as many records as it may have
 abbrev pub is_journal_full : Journalled → Bool
@@ -93,11 +176,17 @@ pub record AreWithin (entries terms : ℕ) (partials : List Partial) : Type 0 wh
   pub each : length partials ≡ terms
   pub within : AllByRecursion (IsWithin entries) partials
 
--- a step that is decided, over any store: an entry is refused for its age exactly where it is too old; but for an entry that is
--- taken nothing changes of what is held
+-- a step that takes no entry, over any store: all is as it should be but what is held, and that too where nothing is removed
+pub record IsLeft (limits : Limits) (old : ShardState) (step : ShardStep) (new : ShardState) : Type 0 where
+  pub held : removes limits old step ≡ None → new.held ≡ old.held
+  pub newest : new.newest ≡ old.newest
+  pub requests : new.requests ≡ requests_after old step
+  pub horizon : new.horizon ≡ horizon_after limits old step
+
+-- a step that is decided, over any store: an entry is refused for its age exactly where it is too old, and a step that neither
+-- takes an entry nor asks for partials is answered as it should be
 abbrev pub IsAnswered : Limits → ShardState → ShardStep → ShardReply → ShardState → Type 0
 IsAnswered limits old (steps.Push entry) reply new = MatchOption (age_answer limits old entry) (IsTaken old entry reply new) (λ answer. (reply ≡ answer) × (new ≡ old))
-IsAnswered limits old steps.Cut reply new = (reply ≡ replies.Done) × (new ≡ old)
-IsAnswered limits old steps.Flush reply new = (reply ≡ replies.Done) × (new ≡ old)
 IsAnswered limits old (steps.Collect slot terms t) (replies.Collected partials) new = AreWithin limits.entries (length terms) partials × (new ≡ old)
 IsAnswered limits old (steps.Collect slot terms t) other new = ⊥
+IsAnswered limits old step reply new = IsReply limits old step reply × IsLeft limits old step new

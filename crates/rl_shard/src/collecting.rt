@@ -6,13 +6,14 @@ ghost use Rattle.std.specs.Option.{option_map};
 ghost use Rattle.rl_query.specs.Limits.{longest_range};
 ghost use Rattle.rl_aggregate.specs.Tallies.{IsAlike};
 ghost use Rattle.rl_streams.specs.StreamsState.{Looks};
-ghost use Rattle.rl_shard.specs.Collecting.{ArePartialsOf, IsOfReading, IsPartialOf, IsStartOf};
+ghost use Rattle.rl_shard.specs.Collecting.{shown, ArePartialsOf, IsOfReading, IsPartialOf, IsStartOf};
 ghost use Rattle.rl_shard.specs.ShardFault.{HasCause};
 
 use crate::lines::Lines;
 use crate::step::ShardFault;
 use rl_aggregate::{Counter, Partial, pipelines_of, selector_of};
 use rl_chunks::Store;
+use rl_deletes::Requests;
 use rl_labels::Ns;
 use rl_plain::{PlainList, Same, Shared, TryCopy};
 use rl_query::{LogRange, Stage, Term};
@@ -25,24 +26,34 @@ const SECOND: u64 = 1_000_000_000;
 // So many terms go through the lines together, so that what all of them add up stays near.
 const MOST_TOGETHER: usize = 8;
 
-// What the entries in each term's range add up to. A range that stands twice is added up once.
+// What the entries in each term's range add up to that no received request covers. A range that stands twice is added up once.
 pub(crate) fn collect<S: Store>(
     alloc: Global,
     streams: &mut Streams<S>,
+    requests: &Requests,
     terms: &[Term],
     t: Ns,
 ) -> Result<PlainList<Shared<Partial>>, ShardFault>
     ensures same { Looks streams.old streams.new }
     ensures meets { IfErr result IsOfReading }
     ensures cause { IfErr result (λ fault. HasCause streams.old fault streams.new) }
-    ensures partials { IfOk result (ArePartialsOf streams.old terms.now t) }
+    ensures partials { IfOk result (ArePartialsOf streams.old requests.now terms.now t) }
 {
     let mut known = Vec::new(alloc);
     let mut added_up = Vec::new(alloc);
     let mut partials = Vec::with_capacity(alloc, terms.len())?;
     for (index, term) in terms.iter().enumerate() {
         let behind = &terms[index + 1..];
-        let partial = next_partial(alloc, streams, term, behind, t, &mut known, &mut added_up)?;
+        let partial = next_partial(
+            alloc,
+            streams,
+            requests,
+            term,
+            behind,
+            t,
+            &mut known,
+            &mut added_up,
+        )?;
         partials.push(partial)?;
     }
     Ok(PlainList::from_vec(partials))
@@ -53,24 +64,25 @@ pub(crate) fn collect<S: Store>(
 fn next_partial<'a, S: Store>(
     alloc: Global,
     streams: &mut Streams<S>,
+    requests: &Requests,
     term: &'a Term,
     behind: &'a [Term],
     t: Ns,
     known: &mut Vec<&'a Term>,
     added_up: &mut Vec<Shared<Partial>>,
 ) -> Result<Shared<Partial>, ShardFault>
-    requires known { ArePartialsOf streams.old (map (λ one. one.now) known.old.items) t added_up.old.items }
+    requires known { ArePartialsOf streams.old requests.now (map (λ one. one.now) known.old.items) t added_up.old.items }
     ensures same { Looks streams.old streams.new }
     ensures meets { IfErr result IsOfReading }
     ensures cause { IfErr result (λ fault. HasCause streams.old fault streams.new) }
-    ensures found { IfOk result (IsPartialOf streams.old term.now t) }
-    ensures known { OnOk result (ArePartialsOf streams.new (map (λ one. one.now) known.new.items) t added_up.new.items) }
+    ensures found { IfOk result (IsPartialOf streams.old requests.now term.now t) }
+    ensures known { OnOk result (ArePartialsOf streams.new requests.now (map (λ one. one.now) known.new.items) t added_up.new.items) }
 {
     if let Some(place) = place_of(known, term) {
         return Ok(added_up[place].try_copy()?);
     }
     let place = known.len();
-    add_term(alloc, streams, term, behind, t, known, added_up)?;
+    add_term(alloc, streams, requests, term, behind, t, known, added_up)?;
     Ok(added_up[place].try_copy()?)
 }
 
@@ -78,21 +90,22 @@ fn next_partial<'a, S: Store>(
 fn add_term<'a, S: Store>(
     alloc: Global,
     streams: &mut Streams<S>,
+    requests: &Requests,
     term: &'a Term,
     behind: &'a [Term],
     t: Ns,
     known: &mut Vec<&'a Term>,
     added_up: &mut Vec<Shared<Partial>>,
 ) -> Result<(), ShardFault>
-    requires known { ArePartialsOf streams.old (map (λ one. one.now) known.old.items) t added_up.old.items }
+    requires known { ArePartialsOf streams.old requests.now (map (λ one. one.now) known.old.items) t added_up.old.items }
     ensures same { Looks streams.old streams.new }
     ensures meets { IfErr result IsOfReading }
     ensures cause { IfErr result (λ fault. HasCause streams.old fault streams.new) }
-    ensures known { OnOk result (ArePartialsOf streams.new (map (λ one. one.now) known.new.items) t added_up.new.items) }
+    ensures known { OnOk result (ArePartialsOf streams.new requests.now (map (λ one. one.now) known.new.items) t added_up.new.items) }
     ensures place { OnOk result (option_map (λ one. one.now.range) (slice_get known.new.items (length known.old.items)) ≡ Some term.now.range) }
 {
     let group = alike(alloc, term, behind)?;
-    let partials = add_up(alloc, streams, term, &group, t)?;
+    let partials = add_up(alloc, streams, requests, term, &group, t)?;
     push_terms(known, &group)?;
     push_shared(added_up, alloc, partials)?;
     Ok(())
@@ -109,6 +122,7 @@ fn place_of(known: &[&Term], term: &Term) -> Option<usize>
 fn add_up<S: Store>(
     alloc: Global,
     streams: &mut Streams<S>,
+    requests: &Requests,
     first: &Term,
     terms: &[&Term],
     t: Ns,
@@ -117,13 +131,13 @@ fn add_up<S: Store>(
     ensures same { Looks streams.old streams.new }
     ensures meets { IfErr result IsOfReading }
     ensures cause { IfErr result (λ fault. HasCause streams.old fault streams.new) }
-    ensures partials { IfOk result (λ partials. ArePartialsOf streams.old (map (λ term. term.now) terms.now) t partials.items) }
+    ensures partials { IfOk result (λ partials. ArePartialsOf streams.old requests.now (map (λ term. term.now) terms.now) t partials.items) }
 {
     let selector = selector_of(alloc, first)?;
     let pipelines = pipelines_of(alloc, terms)?;
-    show_few(streams);
+    show_few(streams, requests);
     let counter = Counter::new(alloc, &pipelines, streams.limits().entries)?;
-    let mut lines = Lines { counter };
+    let mut lines = Lines { counter, requests };
     let start = start_of(first.range.seconds, t);
     streams.each(&selector, start, t, &mut lines)?;
     if lines.counter.is_over() {
@@ -133,9 +147,10 @@ fn add_up<S: Store>(
     Ok(lines.counter.partials(alloc)?)
 }
 
-// Shows contracts that no more is held than may be.
-pub(crate) fn show_few<S: Store>(streams: &Streams<S>)
-    ensures { length (keys streams.now.held) ≤ streams.now.limits.entries }
+// Shows contracts that no more is held than may be, nor is shown.
+pub(crate) fn show_few<S: Store>(streams: &Streams<S>, _requests: &Requests)
+    ensures held { length (keys streams.now.held) ≤ streams.now.limits.entries }
+    ensures shown { length (shown streams.now _requests.now) ≤ streams.now.limits.entries }
 {
     streams.len();
 }

@@ -1,26 +1,30 @@
 //! What becomes of each step.
 ghost use Rattle.std.specs.Prelude.{◌≡◌, ◌≤◌, true, IfOk, IfErr, OnErr, OnOk, IsTrue};
+ghost use Rattle.rl_parts.specs.StoreUse.{Grown};
 ghost use Rattle.rl_chunks.specs.StoreState.{greatest};
 ghost use Rattle.rl_shard.specs.Collecting.{AreRead};
 ghost use Rattle.rl_shard.specs.ShardFault.{HasCause, IsDone, Stored, may_meet, refused};
 ghost use Rattle.rl_shard.specs.ShardState.{state_of};
-ghost use Rattle.rl_shard.specs.ShardStep.{step_reply, stepped, IsAnswered};
+ghost use Rattle.rl_shard.specs.ShardStep.{stepped, IsAnswered, IsReply};
 ghost use Rattle.rl_shard.specs.declared.step.ShardFault.TheVariants as faults;
 ghost use Rattle.rl_shard.specs.declared.step.ShardStep.TheVariants as steps;
 
 use crate::collecting::collect;
+use crate::deleting::{cancel, delete, process, retain};
 use crate::step::{ShardFault, ShardReply, ShardStep};
 use rl_chunks::Store;
+use rl_deletes::{Horizon, Requests};
 use rl_labels::{Entry, Ns};
 use rl_plain::Shared;
 use rl_streams::{AddRefusal, Streams};
 use std::alloc::Global;
 
-// Decides a step over streams behind a horizon.
+// Decides a step over streams, under requests and behind a horizon.
 pub(crate) fn decide<S: Store>(
     alloc: Global,
     streams: &mut Streams<S>,
-    horizon: Ns,
+    requests: &mut Requests,
+    horizon: &mut Horizon,
     step: ShardStep,
 ) -> Result<ShardReply, ShardFault>
     requires { streams.old.next ≤ greatest }
@@ -29,15 +33,16 @@ pub(crate) fn decide<S: Store>(
     ensures cause { IfErr result (λ fault. HasCause streams.old fault streams.new) }
     ensures limits { streams.new.limits ≡ streams.old.limits }
     ensures stored { Stored streams.old streams.new }
-    ensures kept { OnErr result (state_of streams.new horizon ≡ state_of streams.old horizon) }
-    ensures answered { IfOk result (λ reply. IsAnswered streams.old.limits (state_of streams.old horizon) step reply (state_of streams.new horizon)) }
-    ensures done { OnOk result (IsDone step streams.new) }
-    ensures read { IfOk result (AreRead streams.old step) }
-    ensures decided { streams.old.seen.honest ≡ true → IfOk result (λ reply. reply ≡ step_reply streams.old.limits (state_of streams.old horizon) step) }
-    ensures changed { streams.old.seen.honest ≡ true → OnOk result (state_of streams.new horizon ≡ stepped streams.old.limits (state_of streams.old horizon) step) }
+    ensures grown { OnErr result (Grown streams.old.seen streams.old.next streams.new.seen) }
+    ensures kept { OnErr result (state_of streams.new requests.new horizon.new ≡ state_of streams.old requests.old horizon.old) }
+    ensures answered { IfOk result (λ reply. IsAnswered streams.old.limits (state_of streams.old requests.old horizon.old) step reply (state_of streams.new requests.new horizon.new)) }
+    ensures done { OnOk result (IsDone streams.old.limits (state_of streams.old requests.old horizon.old) step streams.old streams.new) }
+    ensures read { IfOk result (AreRead streams.old requests.old step) }
+    ensures decided { streams.old.seen.honest ≡ true → IfOk result (λ reply. IsReply streams.old.limits (state_of streams.old requests.old horizon.old) step reply) }
+    ensures changed { streams.old.seen.honest ≡ true → OnOk result (state_of streams.new requests.new horizon.new ≡ stepped streams.old.limits (state_of streams.old requests.old horizon.old) step) }
 {
     match step {
-        ShardStep::Push(entry) => push(streams, horizon, entry),
+        ShardStep::Push(entry) => push(streams, requests, horizon.moment(), entry),
         ShardStep::Cut => {
             streams.cut()?;
             Ok(ShardReply::Done)
@@ -46,8 +51,18 @@ pub(crate) fn decide<S: Store>(
             streams.flush()?;
             Ok(ShardReply::Done)
         }
+        ShardStep::Delete {
+            id,
+            sieve,
+            start,
+            end,
+            created,
+        } => delete(requests, id, sieve, start, end, created),
+        ShardStep::Cancel { id } => Ok(cancel(requests, id)),
+        ShardStep::Process { id, now } => process(streams, requests, id, now),
+        ShardStep::Retain { now } => retain(streams, horizon, now),
         ShardStep::Collect { slot: _, terms, t } => {
-            let partials = collect(alloc, streams, terms.get().as_slice(), t)?;
+            let partials = collect(alloc, streams, requests, terms.get().as_slice(), t)?;
             Ok(ShardReply::Collected(partials))
         }
     }
@@ -56,6 +71,7 @@ pub(crate) fn decide<S: Store>(
 // Takes an entry, or says why not.
 fn push<S: Store>(
     streams: &mut Streams<S>,
+    requests: &Requests,
     horizon: Ns,
     entry: Shared<Entry>,
 ) -> Result<ShardReply, ShardFault>
@@ -64,10 +80,11 @@ fn push<S: Store>(
     ensures cause { IfErr result (λ fault. HasCause streams.old fault streams.new) }
     ensures limits { streams.new.limits ≡ streams.old.limits }
     ensures stored { Stored streams.old streams.new }
-    ensures kept { OnErr result (state_of streams.new horizon ≡ state_of streams.old horizon) }
-    ensures answered { IfOk result (λ reply. IsAnswered streams.old.limits (state_of streams.old horizon) (steps.Push entry) reply (state_of streams.new horizon)) }
-    ensures decided { streams.old.seen.honest ≡ true → IfOk result (λ reply. reply ≡ step_reply streams.old.limits (state_of streams.old horizon) (steps.Push entry)) }
-    ensures changed { streams.old.seen.honest ≡ true → OnOk result (state_of streams.new horizon ≡ stepped streams.old.limits (state_of streams.old horizon) (steps.Push entry)) }
+    ensures grown { Grown streams.old.seen streams.old.next streams.new.seen }
+    ensures kept { OnErr result (state_of streams.new requests.now horizon ≡ state_of streams.old requests.now horizon) }
+    ensures answered { IfOk result (λ reply. IsAnswered streams.old.limits (state_of streams.old requests.now horizon) (steps.Push entry) reply (state_of streams.new requests.now horizon)) }
+    ensures decided { streams.old.seen.honest ≡ true → IfOk result (λ reply. IsReply streams.old.limits (state_of streams.old requests.now horizon) (steps.Push entry) reply) }
+    ensures changed { streams.old.seen.honest ≡ true → OnOk result (state_of streams.new requests.now horizon ≡ stepped streams.old.limits (state_of streams.old requests.now horizon) (steps.Push entry)) }
 {
     match streams.add(entry, horizon) {
         Ok(()) => Ok(ShardReply::Accepted),

@@ -1,14 +1,15 @@
-//! One shard: its streams over a store, and a journal place for each step that it decided.
+//! One shard: its streams over a store, its delete requests and the horizon of retention, and a journal place for each step that it decided.
 //!
 //! `Shard::apply` answers a step exactly as the definition of the shard step says, and leaves exactly the state that it
 //! says, where its store is honest. A step that is refused for a fault changes nothing of what is held, over any store.
 //!
-//! - `step`: `ShardStep`, `ShardReply`, `ShardFault`. `shard`: `Shard`. `deciding`: what becomes of each step. `collecting`, with
+//! - `step`: `ShardStep`, `ShardReply`, `ShardFault`. `shard`: `Shard`. `deciding`, with `deleting`: what becomes of each step. `collecting`, with
 //!   `lines`: what it shows of the ranges of terms. `sending`: a probe for what may cross to another thread.
 #![tactic(auto)]
 
 mod collecting;
 mod deciding;
+mod deleting;
 mod lines;
 pub mod sending;
 pub mod shard;

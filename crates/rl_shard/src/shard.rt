@@ -5,7 +5,8 @@ use crate::collecting::show_few;
 use crate::deciding::decide;
 use crate::step::{ShardFault, ShardReply, ShardStep};
 use rl_chunks::Store;
-use rl_labels::{Limits, Ns};
+use rl_deletes::{Horizon, Requests};
+use rl_labels::Limits;
 use rl_streams::Streams;
 use std::alloc::Global;
 use std::marker::Model;
@@ -15,8 +16,8 @@ use std::marker::Model;
 pub struct Shard<S: Store> {
     alloc: Global,
     streams: Streams<S>,
-    // An entry below it is expired.
-    horizon: Ns,
+    requests: Requests,
+    horizon: Horizon,
     records: u64,
 }
 
@@ -28,21 +29,11 @@ impl<S: Store> Model for Shard<S> {
 
     ghost coded = { shard_view_code };
 
-    ghost view = { λ a. record { streams = a.streams; horizon = a.horizon; records = a.records } };
+    ghost view = { λ a. record { streams = a.streams; requests = a.requests; horizon = a.horizon; records = a.records } };
 
     ghost use Rattle.rl_chunks.specs.StoreState.{greatest};
 
     ghost invariant = { λ a. (a.records ≤ a.streams.limits.records) × (a.streams.next ≤ greatest) };
-}
-
-// The first moment.
-fn first_moment() -> Ns
-    ensures { result ≡ 0 }
-{
-    match Ns::new(0) {
-        Some(moment) => moment,
-        None => unreachable!(),
-    }
 }
 
 impl<S: Store> Shard<S> {
@@ -50,7 +41,8 @@ impl<S: Store> Shard<S> {
     ghost use Rattle.rl_shard.specs.Collecting.{AreRead};
     ghost use Rattle.rl_shard.specs.ShardFault.{IsDone, IsHonest, MayCome, Stored};
     ghost use Rattle.rl_shard.specs.ShardState.{journalled, opened_over, visible};
-    ghost use Rattle.rl_shard.specs.ShardStep.{step_reply, recorded, is_journal_full, IsAnswered};
+    ghost use Rattle.rl_parts.specs.StoreUse.{Grown};
+    ghost use Rattle.rl_shard.specs.ShardStep.{recorded, is_journal_full, IsAnswered, IsReply};
     ghost use Rattle.rl_shard.specs.declared.step.ShardFault.TheVariants as faults;
 
     /// A shard over a store that holds nothing, with an empty journal.
@@ -59,8 +51,9 @@ impl<S: Store> Shard<S> {
     {
         Shard {
             alloc,
+            requests: Requests::new(alloc, &limits),
             streams: Streams::new(alloc, store, limits),
-            horizon: first_moment(),
+            horizon: Horizon::first(),
             records: 0,
         }
     }
@@ -87,31 +80,38 @@ impl<S: Store> Shard<S> {
     }
 
     /// Decides a step, and answers its place in the journal, counted from 0, with the reply. JournalFull comes before
-    /// all else. A step that is refused makes no record and changes nothing of what is held; parts that were written before a
-    /// fault stay in the store.
+    /// all else. A step that is refused makes no record and changes nothing of what is held, the requests or the horizon; parts that
+    /// were written before a fault stay in the store.
     pub fn apply(&mut self, step: ShardStep) -> Result<(u64, ShardReply), ShardFault>
         ensures journal_full { IsTrue (is_journal_full (journalled self.old)) → (result ≡ Err faults.JournalFull) × (self.new ≡ self.old) }
         ensures may_come { IfErr result (λ fault. MayCome self.old step fault self.new) }
         ensures kept { OnErr result (journalled self.new ≡ journalled self.old) }
+        ensures grown { OnErr result (Grown self.old.streams.seen self.old.streams.next self.new.streams.seen) }
         ensures stored { Stored self.old.streams self.new.streams }
         ensures numbers { self.new.streams.next ≤ greatest }
         // Over any store.
         ensures place { IfOk result (λ answer. answer.0 ≡ (journalled self.old).records) }
         ensures record { OnOk result (((journalled self.new).limits ≡ (journalled self.old).limits) × ((journalled self.new).records ≡ (journalled self.old).records + 1)) }
         ensures answered { IfOk result (λ answer. IsAnswered (journalled self.old).limits (journalled self.old).state step answer.1 (journalled self.new).state) }
-        ensures done { OnOk result (IsDone step self.new.streams) }
+        ensures done { OnOk result (IsDone (journalled self.old).limits (journalled self.old).state step self.old.streams self.new.streams) }
         // What is read of a chunk is told by bytes with the digest that was kept.
-        ensures read { IfOk result (λ answer. AreRead self.old.streams step answer.1) }
+        ensures read { IfOk result (λ answer. AreRead self.old.streams self.old.requests step answer.1) }
         // Over an honest store.
-        ensures decided { IsHonest self.old → IfOk result (λ answer. answer.1 ≡ step_reply (journalled self.old).limits (journalled self.old).state step) }
+        ensures decided { IsHonest self.old → IfOk result (λ answer. IsReply (journalled self.old).limits (journalled self.old).state step answer.1) }
         ensures changed { IsHonest self.old → OnOk result (journalled self.new ≡ recorded (journalled self.old) step) }
         ensures few { length (visible (journalled self.old).state) ≤ (journalled self.old).limits.entries }
     {
-        show_few(&self.streams);
+        show_few(&self.streams, &self.requests);
         if self.is_journal_full() {
             return Err(ShardFault::JournalFull);
         }
-        let reply = decide(self.alloc, &mut self.streams, self.horizon, step)?;
+        let reply = decide(
+            self.alloc,
+            &mut self.streams,
+            &mut self.requests,
+            &mut self.horizon,
+            step,
+        )?;
         let place = self.records;
         self.records += 1;
         Ok((place, reply))

@@ -2,14 +2,15 @@
 ghost use Rattle.std.specs.Prelude.{◌≡◌};
 ghost use Rattle.rl_parts.specs.declared.fault.ReadFault.{ReadFault};
 ghost use Rattle.rl_parts.specs.declared.fault.FlushFault.{FlushFault};
-ghost use Rattle.rl_shard.specs.ShardFault.{told_of_flush, told_of_read};
+ghost use Rattle.rl_parts.specs.declared.fault.RewriteFault.{RewriteFault};
+ghost use Rattle.rl_shard.specs.ShardFault.{told_of_flush, told_of_read, told_of_rewrite};
 ghost use Rattle.rl_shard.specs.declared.step.ShardFault.TheVariants.{Memory};
 
 use rl_aggregate::Partial;
 use rl_labels::{Entry, Ns};
-use rl_parts::{FlushFault, ReadFault};
+use rl_parts::{FlushFault, ReadFault, RewriteFault};
 use rl_plain::{PlainList, Same, Shared, TryCopy};
-use rl_query::Term;
+use rl_query::{Sieve, Term};
 use std::alloc::{AllocError, AllocFailed};
 use thiserror::Error;
 
@@ -22,6 +23,28 @@ pub enum ShardStep {
     Cut,
     /// Writes the sealed chunks to the store, and lets their lines go.
     Flush,
+    /// Receives a request, made at the moment, to delete the entries that the sieve selects from the start to the end: they are
+    /// hidden (Loki's log deletion).
+    Delete {
+        id: u64,
+        sieve: Shared<Sieve>,
+        start: Ns,
+        end: Ns,
+        created: Ns,
+    },
+    /// Cancels a request: what it alone covers is shown again.
+    Cancel {
+        id: u64,
+    },
+    /// Removes what a request covers, once it can no longer be cancelled.
+    Process {
+        id: u64,
+        now: Ns,
+    },
+    /// Raises the horizon to where retention wants it at the moment, and removes the entries below it.
+    Retain {
+        now: Ns,
+    },
     /// Answers what each term's range has at the moment.
     Collect {
         /// The number of the group that asks.
@@ -45,6 +68,18 @@ pub enum ShardReply {
     TooFarBehind { newest: Ns },
     /// The shard holds as many entries as it may.
     Full,
+    /// The number is that of another request, or of one that was cancelled or processed.
+    IdTaken,
+    /// The shard has as many requests as it may.
+    RequestsFull,
+    /// No request has the number.
+    NoSuchRequest,
+    /// The request was processed, and cannot be cancelled.
+    AlreadyProcessed,
+    /// The request was cancelled, and cannot be processed.
+    WasCancelled,
+    /// The request can still be cancelled.
+    TooEarly,
     /// One partial for each term.
     Collected(PlainList<Shared<Partial>>),
 }
@@ -65,12 +100,28 @@ pub enum ShardFault {
 }
 
 impl TryCopy for ShardStep {
-    /// Shares the entry or the terms, and takes no memory.
+    /// Shares the entry, the sieve or the terms, and takes no memory.
     fn try_copy(&self) -> Result<Self, AllocError> {
         match self {
             ShardStep::Push(entry) => Ok(ShardStep::Push(entry.try_copy()?)),
             ShardStep::Cut => Ok(ShardStep::Cut),
             ShardStep::Flush => Ok(ShardStep::Flush),
+            ShardStep::Delete {
+                id,
+                sieve,
+                start,
+                end,
+                created,
+            } => Ok(ShardStep::Delete {
+                id: *id,
+                sieve: sieve.try_copy()?,
+                start: *start,
+                end: *end,
+                created: *created,
+            }),
+            ShardStep::Cancel { id } => Ok(ShardStep::Cancel { id: *id }),
+            ShardStep::Process { id, now } => Ok(ShardStep::Process { id: *id, now: *now }),
+            ShardStep::Retain { now } => Ok(ShardStep::Retain { now: *now }),
             ShardStep::Collect { slot, terms, t } => Ok(ShardStep::Collect {
                 slot: *slot,
                 terms: terms.try_copy()?,
@@ -86,6 +137,37 @@ impl Same for ShardStep {
             (ShardStep::Push(left), ShardStep::Push(right)) => left.is_same(right),
             (ShardStep::Cut, ShardStep::Cut) => true,
             (ShardStep::Flush, ShardStep::Flush) => true,
+            (
+                ShardStep::Delete {
+                    id,
+                    sieve,
+                    start,
+                    end,
+                    created,
+                },
+                ShardStep::Delete {
+                    id: other_id,
+                    sieve: other_sieve,
+                    start: other_start,
+                    end: other_end,
+                    created: other_created,
+                },
+            ) => {
+                id == other_id
+                    && start.is_same(other_start)
+                    && end.is_same(other_end)
+                    && created.is_same(other_created)
+                    && sieve.is_same(other_sieve)
+            }
+            (ShardStep::Cancel { id }, ShardStep::Cancel { id: other }) => id == other,
+            (
+                ShardStep::Process { id, now },
+                ShardStep::Process {
+                    id: other_id,
+                    now: other_now,
+                },
+            ) => id == other_id && now.is_same(other_now),
+            (ShardStep::Retain { now }, ShardStep::Retain { now: other }) => now.is_same(other),
             (
                 ShardStep::Collect { slot, terms, t },
                 ShardStep::Collect {
@@ -110,6 +192,12 @@ impl TryCopy for ShardReply {
                 Ok(ShardReply::TooFarBehind { newest: *newest })
             }
             ShardReply::Full => Ok(ShardReply::Full),
+            ShardReply::IdTaken => Ok(ShardReply::IdTaken),
+            ShardReply::RequestsFull => Ok(ShardReply::RequestsFull),
+            ShardReply::NoSuchRequest => Ok(ShardReply::NoSuchRequest),
+            ShardReply::AlreadyProcessed => Ok(ShardReply::AlreadyProcessed),
+            ShardReply::WasCancelled => Ok(ShardReply::WasCancelled),
+            ShardReply::TooEarly => Ok(ShardReply::TooEarly),
             ShardReply::Collected(partials) => Ok(ShardReply::Collected(partials.try_copy()?)),
         }
     }
@@ -121,6 +209,12 @@ impl Same for ShardReply {
             (ShardReply::Accepted, ShardReply::Accepted) => true,
             (ShardReply::Done, ShardReply::Done) => true,
             (ShardReply::Full, ShardReply::Full) => true,
+            (ShardReply::IdTaken, ShardReply::IdTaken) => true,
+            (ShardReply::RequestsFull, ShardReply::RequestsFull) => true,
+            (ShardReply::NoSuchRequest, ShardReply::NoSuchRequest) => true,
+            (ShardReply::AlreadyProcessed, ShardReply::AlreadyProcessed) => true,
+            (ShardReply::WasCancelled, ShardReply::WasCancelled) => true,
+            (ShardReply::TooEarly, ShardReply::TooEarly) => true,
             (ShardReply::Expired { horizon }, ShardReply::Expired { horizon: other }) => {
                 horizon.is_same(other)
             }
@@ -169,6 +263,19 @@ impl From<FlushFault> for ShardFault {
             FlushFault::Fault => ShardFault::Fault,
             FlushFault::NumbersSpent => ShardFault::NumbersSpent,
             FlushFault::Memory => ShardFault::Memory,
+        }
+    }
+}
+
+impl From<RewriteFault> for ShardFault {
+    ghost from_gives = { λ fault e. e ≡ told_of_rewrite fault };
+
+    fn from(fault: RewriteFault) -> Self {
+        match fault {
+            RewriteFault::Fault => ShardFault::Fault,
+            RewriteFault::Damaged => ShardFault::Damaged,
+            RewriteFault::NumbersSpent => ShardFault::NumbersSpent,
+            RewriteFault::Memory => ShardFault::Memory,
         }
     }
 }

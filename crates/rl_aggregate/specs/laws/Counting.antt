@@ -46,7 +46,7 @@ pub counted_entries : (stages : List Stage) (entries : List Entry) → fold with
 counted_entries stages entries = counted_behind stages [] entries
 
 -- a test among those that pass another
-filter-both : {X : Type 0} (p q : X → Bool) (xs : List X) → filter q (filter p xs) ≡ filter (λ x. p x && q x) xs
+pub filter-both : {X : Type 0} (p q : X → Bool) (xs : List X) → filter q (filter p xs) ≡ filter (λ x. p x && q x) xs
 filter-both p q [] = refl
 filter-both p q (x ∷ xs) = elim (p x) as (λ b. filter q (cond b (x ∷ filter p xs) (filter p xs)) ≡ cond (b && q x) (x ∷ filter (λ y. p y && q y) xs) (filter (λ y. p y && q y) xs)) [
   | true ↦ ap (λ rest. cond (q x) (x ∷ rest) rest) (filter-both p q xs)

@@ -7,6 +7,6 @@ use Rattle.rl_shard.proofs.collecting.collect.Given as goal
 abbrev pub invariant-loop-index : goal.invariant-loop-index
 invariant-loop-index g l = record {
   looks : Looks l.fn.streams l.streams;
-  partials : ArePartialsOf l.streams (take l.index l.terms) l.t l.partials.items;
-  known : ArePartialsOf l.streams (map (λ one. one.now) l.known.items) l.t l.added_up.items;
+  partials : ArePartialsOf l.streams l.requests (take l.index l.terms) l.t l.partials.items;
+  known : ArePartialsOf l.streams l.requests (map (λ one. one.now) l.known.items) l.t l.added_up.items;
 }

@@ -1,11 +1,16 @@
--- A set has as many members as it is long.
-use Rattle.std.proofs.Common.{◌≡◌, length, arith}
+-- A set has as many members as it is long, and no more are shown than there are.
+use Rattle.std.proofs.Common.{◌≡◌, not, length, arith}
 use Rattle.std.specs.FinMap.{entries, keys, len-entries}
 use Rattle.std.proofs.lemmas.List.{length-map}
+use Rattle.rl_deletes.specs.Deletes.{covered}
+use Rattle.rl_shard.proofs.Counted.{few_pass}
 use Rattle.rl_shard.proofs.collecting.show_few.Goals as goal
 
-pub returns : goal.returns
-returns g c =
+pub returns-clause-held : goal.returns-clause-held
+returns-clause-held g c =
     let held = c.args.streams.now.held in
     let many : length (keys held) ≡ length (entries held) = length-map (entries held) (λ e. e.0) in
     omega (arith, many, len-entries held, c.len.ensures.room)
+
+pub returns-clause-shown : goal.returns-clause-shown
+returns-clause-shown g c = omega (arith, few_pass (λ entry. not (covered c.args._requests.now entry)) (keys c.args.streams.now.held), returns-clause-held g c)

@@ -1,0 +1,129 @@
+//! What becomes of the steps that hide entries, show them again, or remove them.
+ghost use Rattle.std.specs.Prelude.{◌≡◌, ◌≤◌, IfErr, IfOk, None, OnErr, OnOk, Some, true};
+ghost use Rattle.std.specs.Option.{MatchOption};
+ghost use Rattle.rl_chunks.specs.StoreState.{greatest};
+ghost use Rattle.rl_deletes.specs.Deletes.{asked, cancel_fault, cancelled, process_fault};
+ghost use Rattle.rl_deletes.specs.Horizons.{advanced};
+ghost use Rattle.rl_parts.specs.StoreUse.{Grown};
+ghost use Rattle.rl_shard.specs.ShardFault.{HasCause, IsOfRemoving, Stored};
+ghost use Rattle.rl_shard.specs.ShardStep.{deleted, left_of, processed_if, removed_by, removed_if, told_of_cancel, told_of_process, IsDeleteReply};
+ghost use Rattle.rl_shard.specs.declared.step.ShardFault.TheVariants as faults;
+ghost use Rattle.rl_shard.specs.declared.step.ShardReply.TheVariants as replies;
+ghost use Rattle.rl_streams.specs.Rewritten.{AreLeftIn};
+
+use crate::step::{ShardFault, ShardReply};
+use rl_chunks::Store;
+use rl_deletes::{CancelFault, Horizon, ProcessFault, ReceiveFault, Requests};
+use rl_labels::Ns;
+use rl_plain::{OrMemory, Shared};
+use rl_query::Sieve;
+use rl_streams::Streams;
+
+// Receives a request.
+pub(crate) fn delete(
+    requests: &mut Requests,
+    id: u64,
+    sieve: Shared<Sieve>,
+    start: Ns,
+    end: Ns,
+    created: Ns,
+) -> Result<ShardReply, ShardFault>
+    ensures reply { IfOk result (IsDeleteReply requests.old id (asked sieve start end created)) }
+    ensures deleted { OnOk result (requests.new ≡ deleted requests.old id (asked sieve start end created)) }
+    ensures fault { IfErr result (λ fault. fault ≡ faults.Memory) }
+    ensures kept { OnErr result (requests.new ≡ requests.old) }
+{
+    match requests.receive(id, sieve, start, end, created) {
+        Ok(()) => Ok(ShardReply::Done),
+        Err(OrMemory::Fault(ReceiveFault::IdTaken)) => Ok(ShardReply::IdTaken),
+        Err(OrMemory::Fault(ReceiveFault::Full)) => Ok(ShardReply::RequestsFull),
+        Err(OrMemory::Memory) => Err(ShardFault::Memory),
+    }
+}
+
+// Cancels a request.
+pub(crate) fn cancel(requests: &mut Requests, id: u64) -> ShardReply
+    ensures reply { result ≡ told_of_cancel (cancel_fault requests.old id) }
+    ensures cancelled { requests.new ≡ cancelled requests.old id }
+{
+    match requests.cancel(id) {
+        Ok(()) => ShardReply::Done,
+        Err(CancelFault::NoSuchRequest) => ShardReply::NoSuchRequest,
+        Err(CancelFault::AlreadyProcessed) => ShardReply::AlreadyProcessed,
+    }
+}
+
+// Removes what a request covers that is due. The streams are rewritten first, so that a fault leaves the request received.
+pub(crate) fn process<S: Store>(
+    streams: &mut Streams<S>,
+    requests: &mut Requests,
+    id: u64,
+    now: Ns,
+) -> Result<ShardReply, ShardFault>
+    requires { streams.old.next ≤ greatest }
+    ensures numbers { streams.new.next ≤ greatest }
+    ensures meets { IfErr result IsOfRemoving }
+    ensures cause { IfErr result (λ fault. HasCause streams.old fault streams.new) }
+    ensures limits { streams.new.limits ≡ streams.old.limits }
+    ensures newest { streams.new.newest ≡ streams.old.newest }
+    ensures stored { Stored streams.old streams.new }
+    ensures grown { OnErr result (Grown streams.old.seen streams.old.next streams.new.seen) }
+    ensures kept { OnErr result ((streams.new.held ≡ streams.old.held) × (requests.new ≡ requests.old)) }
+    ensures reply { IfOk result (λ reply. reply ≡ told_of_process (process_fault requests.old id now)) }
+    ensures requests { OnOk result (requests.new ≡ processed_if (process_fault requests.old id now) requests.old id) }
+    ensures unless { OnOk result (removed_if (process_fault requests.old id now) requests.old id ≡ None → streams.new.held ≡ streams.old.held) }
+    ensures left { OnOk result (MatchOption (removed_if (process_fault requests.old id now) requests.old id) (Grown streams.old.seen streams.old.next streams.new.seen) (λ covers. AreLeftIn covers streams.old.rows streams.new.rows)) }
+    ensures right { streams.old.seen.honest ≡ true → OnOk result (streams.new.held ≡ left_of (removed_if (process_fault requests.old id now) requests.old id) streams.old.held) }
+{
+    match requests.due(id, now) {
+        Ok(None) => return Ok(ShardReply::Done),
+        Ok(Some(request)) => streams.rewrite(request)?,
+        Err(fault) => return Ok(not_processed(fault)),
+    }
+    match requests.process(id, now) {
+        Ok(()) => Ok(ShardReply::Done),
+        Err(fault) => Ok(not_processed(fault)),
+    }
+}
+
+// Why a request was not processed.
+fn not_processed(fault: ProcessFault) -> ShardReply
+    ensures { result ≡ told_of_process (Some fault) }
+{
+    match fault {
+        ProcessFault::NoSuchRequest => ShardReply::NoSuchRequest,
+        ProcessFault::WasCancelled => ShardReply::WasCancelled,
+        ProcessFault::TooEarly => ShardReply::TooEarly,
+    }
+}
+
+// Removes what is expired at the moment. The streams are rewritten first, so that a fault leaves the horizon where it was.
+pub(crate) fn retain<S: Store>(
+    streams: &mut Streams<S>,
+    horizon: &mut Horizon,
+    now: Ns,
+) -> Result<ShardReply, ShardFault>
+    requires { streams.old.next ≤ greatest }
+    ensures numbers { streams.new.next ≤ greatest }
+    ensures meets { IfErr result IsOfRemoving }
+    ensures cause { IfErr result (λ fault. HasCause streams.old fault streams.new) }
+    ensures limits { streams.new.limits ≡ streams.old.limits }
+    ensures newest { streams.new.newest ≡ streams.old.newest }
+    ensures stored { Stored streams.old streams.new }
+    ensures grown { OnErr result (Grown streams.old.seen streams.old.next streams.new.seen) }
+    ensures kept { OnErr result ((streams.new.held ≡ streams.old.held) × (horizon.new ≡ horizon.old)) }
+    ensures reply { IfOk result (λ reply. reply ≡ replies.Done) }
+    ensures horizon { OnOk result (horizon.new ≡ advanced streams.old.limits.keep horizon.old now) }
+    ensures unless { OnOk result (removed_by streams.old.limits horizon.old now ≡ None → streams.new.held ≡ streams.old.held) }
+    ensures left { OnOk result (MatchOption (removed_by streams.old.limits horizon.old now) (Grown streams.old.seen streams.old.next streams.new.seen) (λ covers. AreLeftIn covers streams.old.rows streams.new.rows)) }
+    ensures right { streams.old.seen.honest ≡ true → OnOk result (streams.new.held ≡ left_of (removed_by streams.old.limits horizon.old now) streams.old.held) }
+{
+    let keep = streams.limits().keep;
+    if keep == 0 {
+        return Ok(ShardReply::Done);
+    }
+    let raised = horizon.advance(now, keep);
+    streams.rewrite(&raised)?;
+    *horizon = raised;
+    Ok(ShardReply::Done)
+}
