@@ -5,6 +5,7 @@ use Rattle.std.proofs.lemmas.List.{map-set, length-set}
 use Rattle.rl_aggregate.specs.declared.partial.Partial.{Partial}
 use Rattle.rl_query.specs.declared.query.Term.{Term}
 use Rattle.rl_chunks.specs.StoreState.{greatest}
+use Rattle.rl_parts.specs.StoreUse.{Grown}
 use Rattle.rl_shard.specs.ShardFault.{MayCome, Stored}
 use Rattle.rl_shard.specs.ShardState.{ShardView, journalled, visible}
 use Rattle.rl_shard.specs.ShardStep.{recorded, is_journal_full}
@@ -105,15 +106,15 @@ module _ (shards : List ShardView) (books : List BookState) (group number : ℕ)
   }
 
   pub stores_not_gathered : (after : ShardView) (t : ℕ) (terms : List Term) (fault : ShardFault) (refusal : Refusal) → Stored shard.streams after.streams → after.streams.next ≤ greatest → MayCome shard (shard_steps.Collect group terms t) fault after
-      → journalled after ≡ journalled shard → refusal ≡ told_of_shard fault → ShardsTurn shards (steps.Gather group number) (replies.Refused refusal) (slice_set shards number after)
-  stores_not_gathered after t terms fault refusal stored numbers came kept told = inr (record {
+      → Grown shard.streams.seen shard.streams.next after.streams.seen → journalled after ≡ journalled shard → refusal ≡ told_of_shard fault → ShardsTurn shards (steps.Gather group number) (replies.Refused refusal) (slice_set shards number after)
+  stores_not_gathered after t terms fault refusal stored numbers came grown kept told = inr (record {
     before = shard;
     there = shard_there;
     after = after;
     now = refl;
     stored = stored;
     numbers = numbers;
-    as_said = record { terms = terms; t = t; faults = record { kept = kept; fault = fault; told = told; cause = came } };
+    as_said = record { terms = terms; t = t; faults = record { kept = kept; fault = fault; told = told; cause = came; grown = grown } };
   })
 
   -- what became of the book

@@ -8,10 +8,11 @@ use Rattle.std.proofs.Math.Seq.{map-set_same}
 use Rattle.rl_labels.specs.Name.{is_text}
 use Rattle.rl_rules.specs.declared.rule.Group.{Group}
 use Rattle.rl_chunks.specs.StoreState.{greatest}
+use Rattle.rl_parts.specs.StoreUse.{Grown}
 use Rattle.rl_shard.specs.Collecting.{AreRead}
 use Rattle.rl_shard.specs.ShardFault.{IsDone, MayCome, Stored}
 use Rattle.rl_shard.specs.ShardState.{ShardView, journalled}
-use Rattle.rl_shard.specs.ShardStep.{step_reply, recorded, is_journal_full, IsAnswered}
+use Rattle.rl_shard.specs.ShardStep.{recorded, is_journal_full, IsAnswered, IsReply}
 use Rattle.rl_shard.specs.declared.step.ShardStep.{ShardStep}
 use Rattle.rl_shard.specs.declared.step.ShardReply.{ShardReply}
 use Rattle.rl_shard.specs.declared.step.ShardFault.{ShardFault}
@@ -84,7 +85,7 @@ refused_ok None x h = refl
 -- a shard decided a step, or met a fault
 pub stores_decided : (shards : List ShardView) (number place : ℕ) (step : ShardStep) (reply : ShardReply) (shard after : ShardView) → slice_get shards number ≡ Some shard → Stored shard.streams after.streams → after.streams.next ≤ greatest
     → place ≡ (journalled shard).records → (journalled after).limits ≡ (journalled shard).limits → (journalled after).records ≡ (journalled shard).records + 1 → IsAnswered (journalled shard).limits (journalled shard).state step reply (journalled after).state
-    → IsDone step after.streams → AreRead shard.streams step reply
+    → IsDone (journalled shard).limits (journalled shard).state step shard.streams after.streams → AreRead shard.streams shard.requests step reply
     → ShardsTurn shards (steps.Shard number step) (replies.Decided place reply) (slice_set shards number after)
 stores_decided shards number place step reply shard after there stored numbers place_is limits records answered done read = record {
   before = shard;
@@ -97,15 +98,15 @@ stores_decided shards number place step reply shard after there stored numbers p
 }
 
 pub stores_faulted : (shards : List ShardView) (number : ℕ) (step : ShardStep) (shard after : ShardView) (fault : ShardFault) (refusal : Refusal) → slice_get shards number ≡ Some shard → Stored shard.streams after.streams → after.streams.next ≤ greatest
-    → MayCome shard step fault after → journalled after ≡ journalled shard → refusal ≡ told_of_shard fault → ShardsTurn shards (steps.Shard number step) (replies.Refused refusal) (slice_set shards number after)
-stores_faulted shards number step shard after fault refusal there stored numbers came kept told = inr (record {
+    → MayCome shard step fault after → Grown shard.streams.seen shard.streams.next after.streams.seen → journalled after ≡ journalled shard → refusal ≡ told_of_shard fault → ShardsTurn shards (steps.Shard number step) (replies.Refused refusal) (slice_set shards number after)
+stores_faulted shards number step shard after fault refusal there stored numbers came grown kept told = inr (record {
   before = shard;
   there = there;
   after = after;
   now = refl;
   stored = stored;
   numbers = numbers;
-  as_said = record { kept = kept; fault = fault; told = told; cause = came };
+  as_said = record { kept = kept; fault = fault; told = told; cause = came; grown = grown };
 })
 
 -- of the faults of a shard one is its journal's
@@ -137,7 +138,7 @@ module _ (shards : List ShardView) (books : List BookState) where
       ∙ (λ i. record { shards = (ap (slice_set (map journalled shards) number) kept ∙ set_same (map journalled shards) number (journalled shard) (shard_at number shard there)) i; histories = map (λ (b : BookState). b.history) books })
 
   pub shard_decided : (number : ℕ) (step : ShardStep) (shard after : ShardView) (place : ℕ) (reply : ShardReply) → slice_get shards number ≡ Some shard
-      → (is_journal_full (journalled shard) ≡ true → ◌≡◌ {A = Result (ℕ × ShardReply) ShardFault} (Ok (place, reply)) (Err shard_faults.JournalFull)) → place ≡ (journalled shard).records → reply ≡ step_reply (journalled shard).limits (journalled shard).state step → journalled after ≡ recorded (journalled shard) step
+      → (is_journal_full (journalled shard) ≡ true → ◌≡◌ {A = Result (ℕ × ShardReply) ShardFault} (Ok (place, reply)) (Err shard_faults.JournalFull)) → place ≡ (journalled shard).records → IsReply (journalled shard).limits (journalled shard).state step reply → journalled after ≡ recorded (journalled shard) step
       → WorldStep partials (world_of shards books) (steps.Shard number step) (replies.Decided place reply) (world_of (slice_set shards number after) books)
   shard_decided number step shard after place reply there full place_is reply_is after_is = (
     ap (λ s. known s journal_refusal) (shard_at number shard there) ∙ ap (λ b. cond b (Some refusals.JournalFull) None) (not_true (is_journal_full (journalled shard)) (λ h. ok_apart (place, reply) shard_faults.JournalFull (full h))),

@@ -2,6 +2,7 @@
 use Rattle.std.specs.Prelude.{◌≡◌, ◌⊎◌, ℕ, ◌+◌, ◌≤◌, false, List, Some, slice_get, slice_set}
 use Rattle.std.specs.List.{AllByRecursion}
 use Rattle.rl_chunks.specs.StoreState.{greatest}
+use Rattle.rl_parts.specs.StoreUse.{Grown}
 use Rattle.rl_query.specs.declared.query.Term.{Term}
 use Rattle.rl_shard.specs.Collecting.{AreRead}
 use Rattle.rl_shard.specs.ShardFault.{IsDone, IsHonest, MayCome, Stored}
@@ -38,15 +39,16 @@ pub record Decides (place : ℕ) (step : ShardStep) (reply : ShardReply) (before
   pub limits : (journalled after).limits ≡ (journalled before).limits
   pub records : (journalled after).records ≡ (journalled before).records + 1
   pub answered : IsAnswered (journalled before).limits (journalled before).state step reply (journalled after).state
-  pub done : IsDone step after.streams
-  pub read : AreRead before.streams step reply
+  pub done : IsDone (journalled before).limits (journalled before).state step before.streams after.streams
+  pub read : AreRead before.streams before.requests step reply
 
--- a fault makes none, changes nothing that is held, and has its cause
+-- a fault makes none, changes nothing that is held nor what stood in the store, and has its cause
 pub record Faults (step : ShardStep) (refusal : Refusal) (before after : ShardView) : Type 0 where
   pub kept : journalled after ≡ journalled before
   pub fault : ShardFault
   pub told : refusal ≡ told_of_shard fault
   pub cause : MayCome before step fault after
+  pub grown : Grown before.streams.seen before.streams.next after.streams.seen
 
 -- a shard was asked for a group, about some terms at some moment: it decided that
 pub record CollectDecides (group place : ℕ) (before after : ShardView) : Type 0 where

@@ -5,7 +5,7 @@ use Rattle.rl_labels.specs.declared.entry.Entry.{Entry}
 use Rattle.rl_query.specs.declared.query.Term.{Term}
 use Rattle.rl_aggregate.specs.declared.partial.Partial.{Partial}
 use Rattle.rl_shard.specs.ShardState.{Journalled, visible}
-use Rattle.rl_shard.specs.ShardStep.{step_reply, recorded, is_journal_full}
+use Rattle.rl_shard.specs.ShardStep.{recorded, is_journal_full, IsReply}
 use Rattle.rl_shard.specs.declared.step.ShardStep.{ShardStep}
 use Rattle.rl_shard.specs.declared.step.ShardStep.TheVariants as shard_steps
 use Rattle.rl_shard.specs.declared.step.ShardReply.{ShardReply}
@@ -128,7 +128,7 @@ module _ {X : Type 0} where
     pub shard : Journalled
     pub there : slice_get old.shards number ≡ Some shard
     pub place_is : place ≡ shard.records
-    pub reply_is : reply ≡ step_reply shard.limits shard.state step
+    pub reply_is : IsReply shard.limits shard.state step reply
     pub after : new ≡ with_shard old number (recorded shard step)
 
   -- a group's history changes, and nothing else

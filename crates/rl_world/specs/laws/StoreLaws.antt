@@ -68,7 +68,7 @@ honest_set (shard ∷ shards) zero before after there same all = (same ∙ subst
 honest_set (shard ∷ shards) (suc number) before after there same all = (all.0, honest_set shards number before after there same all.1)
 
 asked_honest : (old : List ShardView) (number : ℕ) (new : List ShardView) (becomes : ShardView → ShardView → Type 0) → IsAsked old number new becomes → AreHonest old → AreHonest new
-asked_honest old number new becomes asked all = subst AreHonest (sym asked.now) (honest_set old number asked.before asked.after asked.there asked.stored.grown.honest all)
+asked_honest old number new becomes asked all = subst AreHonest (sym asked.now) (honest_set old number asked.before asked.after asked.there asked.stored.honest all)
 
 -- honest stores stay honest
 pub still_honest : (old : List ShardView) (step : Step) (reply : Reply) (new : List ShardView) → ShardsTurn old step reply new → AreHonest old → AreHonest new
@@ -126,8 +126,8 @@ store_asked number asked step reply before old new becomes asks_is there is tell
         subst (λ b. StoreTurn number step reply b new) own (record {
           after = is.after;
           there = ap (λ l. slice_get l number) is.now ∙ ap (λ k. slice_get (slice_set old k is.after) number) same ∙ get_set old number before is.after there;
-          honest = is.stored.grown.honest;
-          faults = is.stored.grown.faults;
+          honest = is.stored.honest;
+          faults = is.stored.faults;
           stays = λ spent. omega (arith, is.stored.next, is.numbers, spent);
           tells = λ h. tells;
         })

@@ -21,7 +21,7 @@ returns-clause-decides g c =
       limits = said.record.0;
       records = said.record.1;
       answered = collected_answered old.limits old.state new.state c.args.slot c.args.t c.args.terms c.in_ok-place.reply c.in-Collected.partials said.answered c.in-Collected.is;
-      done = tt;
+      done = said.done;
       read = collected_read c.args.shard.now c.args.slot c.args.t c.args.terms c.in_ok-place.reply c.in-Collected.partials said.read c.in-Collected.is;
     }
 

@@ -37,7 +37,7 @@ returns-in-Err-ask-clause-stores g c =
     let shard = c.index_mut.result.now in
     let there = slice_get_read books c.len.result c.args.group book (omega (arith, c.len.ensures, c.args.self.now.books.ok.0)) c.if-group-len.false c.index-book.ensures in
     let shard_there = slice_get_read shards c.len-else-group-len.result c.args.number shard (omega (arith, c.len-else-group-len.ensures, c.args.self.now.shards.ok.0)) c.if-number-len.false c.index_mut.ensures.value in
-    stores_not_gathered shards books c.args.group c.args.number book shard there shard_there c.ask.new.shard c.in-Ok.t c.in-Ok-try_copy.terms c.in-Err-ask.fault c.refusal_of_shard.result c.ask.ensures.stored c.ask.ensures.numbers c.in-Err-ask.ensures.may_come c.in-Err-ask.ensures.kept c.refusal_of_shard.ensures
+    stores_not_gathered shards books c.args.group c.args.number book shard there shard_there c.ask.new.shard c.in-Ok.t c.in-Ok-try_copy.terms c.in-Err-ask.fault c.refusal_of_shard.result c.ask.ensures.stored c.ask.ensures.numbers c.in-Err-ask.ensures.may_come c.in-Err-ask.ensures.grown c.in-Err-ask.ensures.kept c.refusal_of_shard.ensures
 
 pub invariant_of-self-2 : goal.invariant_of-self-2
 invariant_of-self-2 g c =
