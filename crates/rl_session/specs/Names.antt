@@ -81,6 +81,12 @@ abbrev pub shard_refusal : ShardReply → Option (List ℕ)
 shard_refusal (replies.Expired _) = Some (codes "Expired")
 shard_refusal (replies.TooFarBehind _) = Some (codes "TooFarBehind")
 shard_refusal replies.Full = Some (codes "Full")
+shard_refusal replies.IdTaken = Some (codes "IdTaken")
+shard_refusal replies.RequestsFull = Some (codes "RequestsFull")
+shard_refusal replies.NoSuchRequest = Some (codes "NoSuchRequest")
+shard_refusal replies.AlreadyProcessed = Some (codes "AlreadyProcessed")
+shard_refusal replies.WasCancelled = Some (codes "WasCancelled")
+shard_refusal replies.TooEarly = Some (codes "TooEarly")
 shard_refusal _ = None
 
 -- why a push was refused, by the shard or before it

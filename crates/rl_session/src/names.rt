@@ -118,6 +118,12 @@ fn shard_refusal(reply: &ShardReply) -> Option<&'static str>
         ShardReply::Expired { .. } => Some("Expired"),
         ShardReply::TooFarBehind { .. } => Some("TooFarBehind"),
         ShardReply::Full => Some("Full"),
+        ShardReply::IdTaken => Some("IdTaken"),
+        ShardReply::RequestsFull => Some("RequestsFull"),
+        ShardReply::NoSuchRequest => Some("NoSuchRequest"),
+        ShardReply::AlreadyProcessed => Some("AlreadyProcessed"),
+        ShardReply::WasCancelled => Some("WasCancelled"),
+        ShardReply::TooEarly => Some("TooEarly"),
         ShardReply::Accepted | ShardReply::Done | ShardReply::Collected(_) => None,
     }
 }
