@@ -6,9 +6,9 @@
 use crate::given::{entry_in, labels_in};
 use crate::query::{query_in, sieve_in};
 use crate::trouble::Trouble;
-use rl_labels::Labels;
 use rl_labels::labels::{ERROR_LABEL, is_label_name};
-use rl_pipeline::{Covers, Meter, Pipeline, Running, SieveCode, parsed};
+use rl_labels::{Covers, Labels};
+use rl_pipeline::{Meter, Pipeline, Running, SieveCode, parsed};
 use rl_query::Parser;
 use std::alloc::Global;
 use std::mem;

@@ -1,10 +1,11 @@
 //! Steps of a shard, and what new shards reply to them.
 //!
 //! A case compares two steps. A step is `cut`, or `flush`, or `push` and an entry, or `collect`, the number of a group, a
-//! moment and a query, of which the first term is asked for.
+//! moment and a query, of which the first term is asked for; or `delete`, a number, a start, an end, when it was made and a
+//! delete selector; or `cancel` and a number; or `process`, a number and a moment; or `retain` and a moment.
 use crate::compared::halves;
 use crate::given::{entry_in, moment_in, number_in};
-use crate::query::query_in;
+use crate::query::{query_in, sieve_in};
 use crate::trouble::Trouble;
 use rl_chunks::MemStore;
 use rl_labels::{DEFAULT_LIMITS, Limits};
@@ -39,8 +40,43 @@ fn step_in(alloc: Global, text: &str) -> Result<ShardStep, Trouble> {
             Ok(ShardStep::Push(Shared::new(alloc, entry)?))
         }
         Some(("collect", rest)) => collect_in(alloc, rest),
+        Some((word, rest)) => removal_in(alloc, word, rest),
         _ => Err(Trouble::BadInput),
     }
+}
+
+/// A step that hides entries, shows them again, or removes them.
+pub(crate) fn removal_in(alloc: Global, word: &str, rest: &str) -> Result<ShardStep, Trouble> {
+    if word == "retain" {
+        let now = moment_in(rest)?;
+        return Ok(ShardStep::Retain { now });
+    }
+    let (id, rest) = rest.split_once(' ').unwrap_or((rest, ""));
+    let id = number_in(id)?;
+    match word {
+        "delete" => delete_in(alloc, id, rest),
+        "cancel" => Ok(ShardStep::Cancel { id }),
+        "process" => {
+            let now = moment_in(rest)?;
+            Ok(ShardStep::Process { id, now })
+        }
+        _ => Err(Trouble::BadInput),
+    }
+}
+
+fn delete_in(alloc: Global, id: u64, text: &str) -> Result<ShardStep, Trouble> {
+    let (start, rest) = text.split_once(' ').ok_or(Trouble::BadInput)?;
+    let (end, rest) = rest.split_once(' ').ok_or(Trouble::BadInput)?;
+    let (created, selector) = rest.split_once(' ').ok_or(Trouble::BadInput)?;
+    let (start, end, created) = (moment_in(start)?, moment_in(end)?, moment_in(created)?);
+    let sieve = Shared::new(alloc, sieve_in(alloc, selector)?)?;
+    Ok(ShardStep::Delete {
+        id,
+        sieve,
+        start,
+        end,
+        created,
+    })
 }
 
 fn collect_in(alloc: Global, text: &str) -> Result<ShardStep, Trouble> {

@@ -3,6 +3,7 @@ ghost use Rattle.std.specs.Prelude.{◌≡◌};
 
 use crate::given::{entry_in, moment_in, number_in};
 use crate::rules::{group_in, push_alert};
+use crate::shard::removal_in;
 use crate::trouble::Trouble;
 use crate::world::{Kept, Sunk};
 use rl_plain::{PlainList, Same, Shared};
@@ -58,6 +59,9 @@ fn step_in(alloc: Global, line: &str) -> Result<Option<Step>, Trouble> {
         }
         "cut" => shard_step(group, ShardStep::Cut),
         "flush" => shard_step(group, ShardStep::Flush),
+        "delete" | "cancel" | "process" | "retain" => {
+            shard_step(group, removal_in(alloc, word, rest)?)
+        }
         "edit" => {
             let to = group_in(alloc, rest)?;
             Step::Edit { group, to }
@@ -113,7 +117,14 @@ fn push_decision(told: &mut String, place: u64, reply: &ShardReply) -> Result<()
         ShardReply::TooFarBehind { newest } => {
             writeln!(told, "{place} TooFarBehind {}", newest.get())?
         }
-        ShardReply::Expired { .. } | ShardReply::Collected(_) => return Err(Trouble::BadInput),
+        ShardReply::Expired { horizon } => writeln!(told, "{place} Expired {}", horizon.get())?,
+        ShardReply::IdTaken => writeln!(told, "{place} IdTaken")?,
+        ShardReply::RequestsFull => writeln!(told, "{place} RequestsFull")?,
+        ShardReply::NoSuchRequest => writeln!(told, "{place} NoSuchRequest")?,
+        ShardReply::AlreadyProcessed => writeln!(told, "{place} AlreadyProcessed")?,
+        ShardReply::WasCancelled => writeln!(told, "{place} WasCancelled")?,
+        ShardReply::TooEarly => writeln!(told, "{place} TooEarly")?,
+        ShardReply::Collected(_) => return Err(Trouble::BadInput),
     }
     Ok(())
 }
