@@ -16,6 +16,7 @@ pub mod Quantities
 pub mod Quantity
 pub mod QuantityTexts
 pub mod Rising
+pub mod Routing
 pub mod Selects
 pub mod Short
 pub mod laws

@@ -6,7 +6,7 @@
 //! - `labels`: `Labels`, made from pairs with named refusals. `builder`: `LabelsBuilder`, label sets that grow. `label_tree`: many labels, in a tree.
 //! - `entry`: `Entry`, labels with a moment and a line.
 //! - `matcher`: `Matcher`, and its built code that accepts label sets. `selector`: the same of many that must all accept.
-//! - `covers`: what covers entries, as delete requests do.
+//! - `covers`: what covers entries, as delete requests do. `routing`: which of several shards a stream goes to.
 //! - `short`: texts that lie in the value itself where they are short.
 //! - `decimal`: rows of digits, and `Decimal`. `quantity`: `Duration`, `Size`, and `Signed`, which labels' values are.
 //! - `sending`: built matchers may be sent to another thread.
@@ -24,6 +24,7 @@ pub mod limits;
 pub mod matcher;
 pub mod ns;
 pub mod quantity;
+pub mod routing;
 pub mod selector;
 pub mod sending;
 mod short;
@@ -37,4 +38,5 @@ pub use limits::{BadLimit, DEFAULT_LIMITS, LimitField, Limits, RawLimits};
 pub use matcher::{MatchOp, Matcher, MatcherCode, MatcherError, MatcherFault};
 pub use ns::Ns;
 pub use quantity::{Duration, DurationPart, DurationUnit, Signed, Size, SizeUnit};
+pub use routing::shard_of;
 pub use selector::SelectorCode;
