@@ -3,6 +3,7 @@ pub mod Answering
 pub mod Calling
 pub mod Cut
 pub mod Gathering
+mod Ids
 pub mod Lines
 mod Printing
 pub mod Following

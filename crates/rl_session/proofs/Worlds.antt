@@ -1,17 +1,17 @@
 -- What the calls of an engine over a world make of the world.
-use Rattle.std.proofs.Common.{◌≡◌, ℕ, zero, suc, ◌+◌, ◌<◌, Bool, true, false, cond, List, [], ◌∷◌, map, length, take, Option, None, Some, Ok, Err, refl, sym, ap, subst, ◌∙◌, arith}
+use Rattle.std.proofs.Common.{◌≡◌, ℕ, zero, suc, ◌+◌, ◌<◌, Bool, true, false, cond, List, [], ◌∷◌, ◌++◌, map, length, take, Option, None, Some, Ok, Err, refl, sym, ap, subst, ◌∙◌, arith}
 use Rattle.std.specs.Prelude.{⊤, Result, slice_get, option_map}
 use Rattle.std.proofs.lemmas.List.{length-map, take_all}
 use Rattle.std.proofs.lemmas.Option.{slice_get-map}
 use Rattle.rl_labels.specs.Name.{is_text}
 use Rattle.rl_rules.specs.declared.rule.Group.{Group}
+use Rattle.rl_shard.specs.declared.step.ShardReply.{ShardReply}
+use Rattle.rl_shard.specs.declared.step.ShardStep.{ShardStep}
 use Rattle.rl_sinks.specs.SinkState.{closed}
 use Rattle.rl_world.specs.WorldState.{BookState, WorldBooks, with_sinks_closed}
 use Rattle.rl_world.specs.declared.fault.Refusal.{Refusal}
 use Rattle.rl_session.specs.Engine.{Listed, number_named}
-use Rattle.rl_session.specs.WorldEngine.{IsAskedFor, AreAskedFor, IsGathered, AreGathered, name_at, listed}
-use Rattle.rl_session.specs.declared.engine.Partly.{Partly}
-use Rattle.rl_session.specs.declared.engine.ShardsStep.{ShardsStep}
+use Rattle.rl_session.specs.WorldEngine.{IsAskedFor, AreDecided, IsGathered, AreGathered, first_refused, name_at, listed, or_else, refusing}
 
 -- books whose sinks were closed are listed as before
 pub closed_listed : (books : List BookState) → map listed (map with_sinks_closed books) ≡ map listed books
@@ -49,25 +49,25 @@ gathered_stop old group from (suc left) (suc all) at mid new refusal place below
     (Ok done, first, begins, gathered_stop first group (suc from) left all at mid new refusal (omega (arith, place)) (omega (arith, below)) rest stops)
 gathered_stop old group from (suc left) (suc all) at mid new refusal place below (Err other, first, begins, rest) stops = absurd (ok_err tt other rest.0)
 
-ok_partly : (partly : Partly) → ◌≡◌ {A = Result ⊤ Partly} (Ok tt) (Err partly) → ⊥
-ok_partly partly h = cc
+-- a shard more decided a step
+pub decided_more : (old : WorldBooks) (step : ShardStep) (from at : ℕ) (replies : List ShardReply) (mid : WorldBooks) (reply : ShardReply) (new : WorldBooks) → at ≡ from + length replies → AreDecided old step from replies mid → IsAskedFor mid step at (Ok reply) new → AreDecided old step from (replies ++ reply ∷ []) new
+decided_more old step from at [] mid reply new place decided next =
+    (new, subst (λ n. IsAskedFor old step n (Ok reply) new) (omega (arith, place)) (subst (λ world. IsAskedFor world step at (Ok reply) new) decided next), refl)
+decided_more old step from at (first ∷ replies) mid reply new place decided next =
+    (decided.0, decided.1, decided_more decided.0 step (suc from) at replies mid reply new (omega (arith, place)) decided.2 next)
 
--- a shard more did a step
-pub asked_more : (old : WorldBooks) (step : ShardsStep) (from left at : ℕ) (mid new : WorldBooks) → at ≡ from + left → AreAskedFor old step from left (Ok tt) mid → IsAskedFor mid step at (Ok tt) new → AreAskedFor old step from (suc left) (Ok tt) new
-asked_more old step from zero at mid new place asked next =
-    (Ok tt, new, subst (λ n. IsAskedFor old step n (Ok tt) new) (omega (arith, place)) (subst (λ world. IsAskedFor world step at (Ok tt) new) asked.1 next), (refl, refl))
-asked_more old step from (suc left) at mid new place (Ok done, first, begins, rest) next =
-    (Ok done, first, begins, asked_more first step (suc from) left at mid new (omega (arith, place)) rest next)
-asked_more old step from (suc left) at mid new place (Err partly, first, begins, rest) next = absurd (ok_partly partly rest.0)
+none_behind : (refused : Option ShardReply) → or_else refused None ≡ refused
+none_behind None = refl
+none_behind (Some reply) = refl
 
--- a shard that refuses ends it
-pub asked_stop : (old : WorldBooks) (step : ShardsStep) (from left all at : ℕ) (mid new : WorldBooks) (partly : Partly) → at ≡ from + left → left < all → AreAskedFor old step from left (Ok tt) mid → IsAskedFor mid step at (Err partly) new → AreAskedFor old step from all (Err partly) new
-asked_stop old step from left zero at mid new partly place below asked stops = absurd (omega (arith, below))
-asked_stop old step from zero (suc all) at mid new partly place below asked stops =
-    (Err partly, new, subst (λ n. IsAskedFor old step n (Err partly) new) (omega (arith, place)) (subst (λ world. IsAskedFor world step at (Err partly) new) asked.1 stops), (refl, refl))
-asked_stop old step from (suc left) (suc all) at mid new partly place below (Ok done, first, begins, rest) stops =
-    (Ok done, first, begins, asked_stop first step (suc from) left all at mid new partly (omega (arith, place)) (omega (arith, below)) rest stops)
-asked_stop old step from (suc left) (suc all) at mid new partly place below (Err other, first, begins, rest) stops = absurd (ok_partly other rest.0)
+or_else_in_turn : (a b c : Option ShardReply) → or_else a (or_else b c) ≡ or_else (or_else a b) c
+or_else_in_turn None b c = refl
+or_else_in_turn (Some reply) b c = refl
+
+-- the first refusal, with one reply more
+pub first_more : (replies : List ShardReply) (reply : ShardReply) → first_refused (replies ++ reply ∷ []) ≡ or_else (first_refused replies) (refusing reply)
+first_more [] reply = none_behind (refusing reply)
+first_more (first ∷ replies) reply = ap (or_else (refusing first)) (first_more replies reply) ∙ or_else_in_turn (refusing first) (first_refused replies) (refusing reply)
 
 none_some : {X : Type 0} (x : X) → None ≡ Some x → ⊥
 none_some x h = cc

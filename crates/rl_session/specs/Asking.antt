@@ -1,9 +1,17 @@
 -- What a command asks of an engine, call after call, and what it gets.
 use Rattle.std.specs.Prelude.{◌≡◌, ℕ, zero, suc, ⊤, Bool, true, false, List, [], ◌∷◌, ◌++◌, map, length, Option, None, Some, Result, Ok, Err, IfOk}
+use Rattle.rl_plain.specs.declared.refusal.OrMemory.{OrMemory}
 use Rattle.rl_plain.specs.declared.refusal.OrMemory.TheVariants as errors
 use Rattle.rl_labels.specs.declared.entry.Entry.{Entry}
 use Rattle.rl_rules.specs.declared.rule.Group.{Group}
+use Rattle.rl_query.specs.declared.filter.Sieve.{Sieve}
+use Rattle.rl_query.specs.declared.fault.QueryFault.{QueryFault}
+use Rattle.rl_query.specs.Answering.{Reads}
+use Rattle.rl_query.specs.Form.{sieve_form}
+use Rattle.rl_query.specs.Sieving.{sieve_of}
 use Rattle.rl_shard.specs.declared.step.ShardReply.{ShardReply}
+use Rattle.rl_shard.specs.declared.step.ShardStep.{ShardStep}
+use Rattle.rl_shard.specs.declared.step.ShardStep.TheVariants as shard_steps
 use Rattle.rl_world.specs.declared.fault.Refusal.{Refusal}
 use Rattle.rl_world.specs.declared.fault.Refusal.TheVariants as refusals
 use Rattle.rl_world.specs.declared.step.Committed.{Committed}
@@ -12,7 +20,6 @@ use Rattle.rl_session.specs.Engine.{Calls, Shown, number_named}
 use Rattle.rl_session.specs.PushForms.{EntryForm, entry_form}
 use Rattle.rl_session.specs.declared.edit.EditRefusal.{EditRefusal}
 use Rattle.rl_session.specs.declared.edit.EditRefusal.TheVariants as causes
-use Rattle.rl_session.specs.declared.engine.ShardsStep.{ShardsStep}
 use Rattle.rl_session.specs.declared.push.PushFault.{PushFault}
 use Rattle.rl_session.specs.declared.telling.Got.{Got}
 use Rattle.rl_session.specs.declared.telling.Got.TheVariants as gots
@@ -21,6 +28,10 @@ use Rattle.rl_session.specs.declared.telling.Got.TheVariants as gots
 abbrev pub told_of_edit : Result ⊤ Refusal → Result ⊤ EditRefusal
 told_of_edit (Ok done) = Ok done
 told_of_edit (Err refusal) = Err (causes.Engine refusal)
+
+-- the selector with line filters that a text is, or why it is none
+abbrev pub SelectsIn : List ℕ → Result Sieve (OrMemory QueryFault) → Type 0
+SelectsIn text result = Reads sieve_form result (λ cramped. sieve_of cramped text)
 
 module _ {E : Type 0} (calls : Calls E) where
   -- entries are handed in one after the other, each with an answer of its own
@@ -38,9 +49,15 @@ module _ {E : Type 0} (calls : Calls E) where
   IsForPush old read got new = ⊥
 
   -- each shard is asked for a step
-  abbrev pub IsForAll : E → ShardsStep → Got → E → Type 0
+  abbrev pub IsForAll : E → ShardStep → Got → E → Type 0
   IsForAll old step (gots.Asked result) new = calls.asks_all old step result new
   IsForAll old step got new = ⊥
+
+  -- each shard is asked to receive a request with the selector's sieve, if the text is such a selector
+  abbrev pub IsForDelete : E → (id start end created : ℕ) → List ℕ → Got → E → Type 0
+  IsForDelete old id start end created selector (gots.Asked result) new = (sieve : Sieve) × SelectsIn selector (Ok sieve) × calls.asks_all old (shard_steps.Delete id sieve start end created) result new
+  IsForDelete old id start end created selector (gots.NoSelector error) new = SelectsIn selector (Err error) × (new ≡ old)
+  IsForDelete old id start end created selector got new = ⊥
 
   -- a group is evaluated, and what is answered is of that moment
   abbrev pub EvaluatesAt : E → ℕ → ℕ → Result Committed Refusal → E → Type 0

@@ -1,6 +1,8 @@
 -- Command lines: words one space apart, of which the last may be the rest of the line.
-use Rattle.std.specs.Prelude.{ℕ, ◌==◌, nat_lt, Bool, ◌||◌, List, length, Option, None, Some, option_and_then, option_map, codes, if◌then◌else◌}
-use Rattle.std.specs.List.{position_or_len, before_first, after_first}
+use Rattle.std.specs.Prelude.{ℕ, ◌==◌, ◌^◌, nat_lt, Bool, ◌&&◌, ◌||◌, List, length, Option, None, Some, option_and_then, option_map, codes, if◌then◌else◌}
+use Rattle.std.specs.Char.{is_ascii_digit}
+use Rattle.std.specs.List.{list_all, position_or_len, before_first, after_first}
+use Rattle.std.specs.Str.Parse.{digits_value}
 use Rattle.rl_labels.specs.Decimals.{number_of, billionths, decimal_of}
 use Rattle.rl_labels.specs.Name.{is_text}
 use Rattle.rl_labels.specs.Quantity.{moment_at}
@@ -12,6 +14,10 @@ pub data Asked : Type 0 where
   pushes : (json : List ℕ) → Asked
   cuts : Asked
   flushes : Asked
+  deletes : (id start end created : ℕ) (selector : List ℕ) → Asked
+  cancels : (id : ℕ) → Asked
+  processes : (id now : ℕ) → Asked
+  retains : (now : ℕ) → Asked
   edits : (document : List ℕ) → Asked
   evaluates : (t : ℕ) (group : List ℕ) → Asked
   ticks : (now : ℕ) → Asked
@@ -22,6 +28,10 @@ abbrev pub asked : Command → Asked
 asked (commands.Push json) = pushes json.now
 asked commands.Cut = cuts
 asked commands.Flush = flushes
+asked (commands.Delete id start end created selector) = deletes id start end created selector.now
+asked (commands.Cancel id) = cancels id
+asked (commands.Process id now) = processes id now
+asked (commands.Retain now) = retains now
 asked (commands.Edit document) = edits document.now
 asked (commands.Eval t group) = evaluates t group.now
 asked (commands.Tick now) = ticks now
@@ -35,6 +45,36 @@ cut_at byte text = if nat_lt (position_or_len (λ b. b == byte) text) (length te
 -- the moment of a time word: 1 to 10 digits of seconds, and perhaps a point and 1 to 9 digits
 abbrev pub time_of : List ℕ → Option ℕ
 time_of word = option_and_then (λ seconds. moment_at (billionths seconds)) (decimal_of 10 word)
+
+-- at least one digit, and nothing else
+abbrev pub is_number : List ℕ → Bool
+is_number word = nat_lt 0 (length word) && list_all is_ascii_digit word
+
+-- the number of a word of digits, if it is one of 64 bits
+abbrev pub id_of : List ℕ → Option ℕ
+id_of word = if is_number word && nat_lt (digits_value 10 word) (2 ^ 64) then Some (digits_value 10 word) else None
+
+-- the command of a request's number, its start, its end, the moment at which it is made, and a selector that may have spaces
+abbrev pub delete_of_words : (id start end created selector : List ℕ) → Option Asked
+delete_of_words id start end created selector =
+    option_and_then (λ id. option_and_then (λ start. option_and_then (λ end. option_map (λ created. deletes id start end created selector) (time_of created)) (time_of end)) (time_of start)) (id_of id)
+
+abbrev pub delete_of : List ℕ → Option Asked
+delete_of words =
+    option_and_then (λ a. option_and_then (λ b. option_and_then (λ c. option_and_then (λ d. delete_of_words a.0 b.0 c.0 d.0 d.1) (cut_at 32 c.1)) (cut_at 32 b.1)) (cut_at 32 a.1)) (cut_at 32 words)
+
+-- the command of a request's number and a time word
+abbrev pub process_of : List ℕ × List ℕ → Option Asked
+process_of words = option_and_then (λ id. option_map (λ now. processes id now) (time_of words.1)) (id_of words.0)
+
+-- the command of a request or of retention
+abbrev pub request_of_words : List ℕ × List ℕ → Option Asked
+request_of_words words =
+    if is_text words.0 (codes "delete") then delete_of words.1
+    else (if is_text words.0 (codes "cancel") then option_map cancels (id_of words.1)
+    else (if is_text words.0 (codes "process") then option_and_then process_of (cut_at 32 words.1)
+    else (if is_text words.0 (codes "retain") then option_map retains (time_of words.1)
+    else None)))
 
 -- the command of a time word and a group's name
 abbrev pub eval_of : List ℕ × List ℕ → Option Asked
@@ -52,7 +92,7 @@ command_of_words words =
     else (if is_text words.0 (codes "eval") then option_and_then eval_of (cut_at 32 words.1)
     else (if is_text words.0 (codes "tick") then option_map ticks (time_of words.1)
     else (if is_text words.0 (codes "show") then option_and_then show_of (cut_at 32 words.1)
-    else None))))
+    else request_of_words words))))
 
 -- the command of a line, if it is one
 abbrev pub command_of : List ℕ → Option Asked

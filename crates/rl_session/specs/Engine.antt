@@ -8,10 +8,10 @@ use Rattle.rl_labels.specs.Name.{is_text}
 use Rattle.rl_labels.specs.declared.entry.Entry.{Entry}
 use Rattle.rl_rules.specs.declared.rule.Group.{Group}
 use Rattle.rl_shard.specs.declared.step.ShardReply.{ShardReply}
+use Rattle.rl_shard.specs.declared.step.ShardStep.{ShardStep}
 use Rattle.rl_world.specs.declared.fault.Refusal.{Refusal}
 use Rattle.rl_world.specs.declared.step.Committed.{Committed}
 use Rattle.rl_session.specs.declared.engine.Partly.{Partly}
-use Rattle.rl_session.specs.declared.engine.ShardsStep.{ShardsStep}
 
 -- a group as an engine lists it: its name, and how many sinks it has
 pub record Listed : Type 0 where
@@ -30,8 +30,8 @@ pub record Calls (E : Type 0) : Type 1 where
   pub groups : E → List Listed
   -- an entry is handed in
   pub pushes : E → Entry → Result ShardReply Refusal → E → Type 0
-  -- each shard is asked for a step, up to the first that refuses
-  pub asks_all : E → ShardsStep → Result ⊤ Partly → E → Type 0
+  -- each shard is asked for a step, up to the first that does not decide it: the first reply that is a refusal
+  pub asks_all : E → ShardStep → Result (Option ShardReply) Partly → E → Type 0
   -- a group is put in the place of the one at a number
   pub edits : E → ℕ → Group → Result ⊤ Refusal → E → Type 0
   -- the group at a number is evaluated at a moment

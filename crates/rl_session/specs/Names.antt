@@ -2,6 +2,8 @@
 use Rattle.std.specs.Prelude.{ℕ, List, Option, None, Some, Result, Ok, Err, codes}
 use Rattle.rl_plain.specs.declared.refusal.OrMemory.{OrMemory}
 use Rattle.rl_plain.specs.declared.refusal.OrMemory.TheVariants as errors
+use Rattle.rl_query.specs.declared.fault.QueryFault.{QueryFault}
+use Rattle.rl_query.specs.declared.fault.QueryFault.TheVariants as query_faults
 use Rattle.rl_rules.specs.declared.fault.RulesFault.{RulesFault}
 use Rattle.rl_rules.specs.declared.fault.RulesFault.TheVariants as rules
 use Rattle.rl_shard.specs.declared.step.ShardReply.{ShardReply}
@@ -76,7 +78,18 @@ edit_refusal_name edits.NotOneGroup = codes "NotOneGroup"
 edit_refusal_name edits.NoSuchGroup = codes "NoSuchGroup"
 edit_refusal_name (edits.Engine refusal) = refusal_name refusal
 
--- why a shard did not take an entry
+-- why a text is no selector with line filters
+abbrev pub query_error_name : OrMemory QueryFault → List ℕ
+query_error_name (errors.Fault (query_faults.Syntax _)) = codes "Syntax"
+query_error_name (errors.Fault (query_faults.Unsupported _)) = codes "Unsupported"
+query_error_name (errors.Fault query_faults.NoRealMatcher) = codes "NoRealMatcher"
+query_error_name (errors.Fault query_faults.BadRange) = codes "BadRange"
+query_error_name (errors.Fault query_faults.BadRegex) = codes "BadRegex"
+query_error_name (errors.Fault query_faults.TooDeep) = codes "TooDeep"
+query_error_name (errors.Fault query_faults.TwoParsers) = codes "TwoParsers"
+query_error_name errors.Memory = codes "Memory"
+
+-- why a shard did not take an entry, or a request
 abbrev pub shard_refusal : ShardReply → Option (List ℕ)
 shard_refusal (replies.Expired _) = Some (codes "Expired")
 shard_refusal (replies.TooFarBehind _) = Some (codes "TooFarBehind")

@@ -1,5 +1,5 @@
 -- What a session prints, where the bytes that its writer holds are known.
-use Rattle.std.specs.Prelude.{ℕ, suc, ◌-◌, ◌==◌, nat_lt, is_err, ⊤, Bool, List, [], ◌∷◌, ◌++◌, length, replicate, count_by, flat_map, Option, None, Some, is_some, Result, Ok, Err, codes, if◌then◌else◌}
+use Rattle.std.specs.Prelude.{ℕ, suc, ◌-◌, ◌==◌, nat_lt, is_err, ⊤, Bool, true, false, List, [], ◌∷◌, ◌++◌, length, replicate, count_by, flat_map, Option, None, Some, is_some, Result, Ok, Err, codes, if◌then◌else◌}
 use Rattle.std.specs.List.{list_any}
 use Rattle.std.specs.Fmt.{decimal}
 use Rattle.rl_sinks.specs.Texts.{tail_text}
@@ -7,7 +7,7 @@ use Rattle.rl_world.specs.declared.fault.Refusal.{Refusal}
 use Rattle.rl_world.specs.declared.fault.Refusal.TheVariants as refusals
 use Rattle.rl_world.specs.declared.step.Committed.{Committed}
 use Rattle.rl_shard.specs.declared.step.ShardReply.{ShardReply}
-use Rattle.rl_session.specs.Names.{push_error_name, push_refusal, refusal_name, edit_refusal_name}
+use Rattle.rl_session.specs.Names.{push_error_name, push_refusal, query_error_name, refusal_name, shard_refusal, edit_refusal_name}
 use Rattle.rl_session.specs.declared.edit.EditRefusal.{EditRefusal}
 use Rattle.rl_session.specs.declared.engine.Partly.{Partly}
 use Rattle.rl_session.specs.Engine.{Shown, kept_text}
@@ -78,10 +78,22 @@ ticked_text (result ∷ results) = flat_map evaluated_text (result ∷ results)
 abbrev pub partly_line : ℕ → List ℕ → List ℕ
 partly_line done name = codes "partly " ++ decimal done ++ codes " " ++ name ++ codes "\n"
 
+-- what a shard's refusal prints, if it is one
+abbrev pub decided_text : Option (List ℕ) → List ℕ
+decided_text None = codes "ok\n"
+decided_text (Some name) = refusal_line name
+
 -- what a step of every shard prints
-abbrev pub asked_text : Result ⊤ Partly → List ℕ
-asked_text (Ok done) = codes "ok\n"
+abbrev pub asked_text : Result (Option ShardReply) Partly → List ℕ
+asked_text (Ok None) = codes "ok\n"
+asked_text (Ok (Some reply)) = decided_text (shard_refusal reply)
 asked_text (Err partly) = partly_line partly.done (refusal_name partly.refusal)
+
+-- it was refused, by a shard's reply or wholly or in part
+abbrev pub is_refused_ask : Result (Option ShardReply) Partly → Bool
+is_refused_ask (Ok None) = false
+is_refused_ask (Ok (Some reply)) = true
+is_refused_ask (Err partly) = true
 
 -- what an edit prints
 abbrev pub edited_text : Result ⊤ EditRefusal → List ℕ
@@ -103,6 +115,7 @@ printed gots.Refused = refusal_line (codes "BadCommand")
 printed (gots.Unread error) = bad_push_line (push_error_name error)
 printed (gots.Pushed replies) = pushed_text replies.items
 printed (gots.Unpushed count) = pushed_text (none_pushed count)
+printed (gots.NoSelector error) = refusal_line (query_error_name error)
 printed (gots.Asked result) = asked_text result
 printed (gots.Edited result) = edited_text result
 printed (gots.Evaluated result) = evaluated_text result
@@ -116,7 +129,7 @@ answer_of refused = if refused then Refused else Taken
 abbrev pub answer_to : Got → Answer
 answer_to (gots.Pushed replies) = answer_of (list_any is_refused replies.items)
 answer_to (gots.Unpushed count) = answer_of (nat_lt 0 count)
-answer_to (gots.Asked result) = answer_of (is_err result)
+answer_to (gots.Asked result) = answer_of (is_refused_ask result)
 answer_to (gots.Edited result) = answer_of (is_err result)
 answer_to (gots.Evaluated result) = answer_of (is_err result)
 answer_to (gots.Ticked results) = answer_of (list_any is_err results.items)

@@ -3,14 +3,14 @@ use Rattle.std.specs.Prelude.{◌≡◌, ℕ, nat_lt, Bool, true, false, ◌||�
 use Rattle.std.specs.List.{list_all}
 use Rattle.std.specs.Io.KnownBytes.{Appends}
 use Rattle.std.specs.declared.io.Error.{Error}
+use Rattle.rl_shard.specs.declared.step.ShardStep.TheVariants as shard_steps
 use Rattle.rl_world.specs.declared.fault.Refusal.{Refusal}
-use Rattle.rl_session.specs.Asking.{IsForPush, IsForAll, IsForEdit, IsForTick, IsForEvaluation, IsForShow}
-use Rattle.rl_session.specs.Command.{Asked, pushes, cuts, flushes, edits, evaluates, ticks, shows, ends, command_of, is_blank_byte}
+use Rattle.rl_session.specs.Asking.{IsForPush, IsForAll, IsForDelete, IsForEdit, IsForTick, IsForEvaluation, IsForShow}
+use Rattle.rl_session.specs.Command.{Asked, pushes, cuts, flushes, deletes, cancels, processes, retains, edits, evaluates, ticks, shows, ends, command_of, is_blank_byte}
 use Rattle.rl_session.specs.Engine.{Calls, Shown, number_named}
 use Rattle.rl_session.specs.Front.{lines_of}
 use Rattle.rl_session.specs.Printed.{shown_text, shown_answer, printed, answer_to, closed_text}
 use Rattle.rl_session.specs.PushBody.{entries_of}
-use Rattle.rl_session.specs.declared.engine.ShardsStep.TheVariants as shards_steps
 use Rattle.rl_session.specs.declared.session.RunError.{RunError}
 use Rattle.rl_session.specs.declared.session.RunError.TheVariants.{WriteFault}
 use Rattle.rl_session.specs.declared.session.Status.{Status}
@@ -50,8 +50,12 @@ module _ {E : Type 0} (calls : Calls E) where
   abbrev pub IsTold : E → Option Asked → List ℕ → Answer → E → Type 0
   IsTold old None text answer new = IsPrinted gots.Refused text answer × (new ≡ old)
   IsTold old (Some (pushes json)) text answer new = (got : Got) × IsForPush calls old (entries_of json) got new × IsPrinted got text answer
-  IsTold old (Some cuts) text answer new = (got : Got) × IsForAll calls old shards_steps.Cut got new × IsPrinted got text answer
-  IsTold old (Some flushes) text answer new = (got : Got) × IsForAll calls old shards_steps.Flush got new × IsPrinted got text answer
+  IsTold old (Some cuts) text answer new = (got : Got) × IsForAll calls old shard_steps.Cut got new × IsPrinted got text answer
+  IsTold old (Some flushes) text answer new = (got : Got) × IsForAll calls old shard_steps.Flush got new × IsPrinted got text answer
+  IsTold old (Some (deletes id start end created selector)) text answer new = (got : Got) × IsForDelete calls old id start end created selector got new × IsPrinted got text answer
+  IsTold old (Some (cancels id)) text answer new = (got : Got) × IsForAll calls old (shard_steps.Cancel id) got new × IsPrinted got text answer
+  IsTold old (Some (processes id now)) text answer new = (got : Got) × IsForAll calls old (shard_steps.Process id now) got new × IsPrinted got text answer
+  IsTold old (Some (retains now)) text answer new = (got : Got) × IsForAll calls old (shard_steps.Retain now) got new × IsPrinted got text answer
   IsTold old (Some (edits document)) text answer new = (got : Got) × IsForEdit calls old document got new × IsPrinted got text answer
   IsTold old (Some (ticks now)) text answer new = (got : Got) × IsForTick calls old now got new × IsPrinted got text answer
   IsTold old (Some (evaluates t group)) text answer new = (got : Got) × IsForEvaluation calls old t (number_named group (calls.groups old)) got new × IsPrinted got text answer

@@ -1,5 +1,6 @@
 -- A world as an engine: which steps each call makes, one after another, and with which replies.
-use Rattle.std.specs.Prelude.{◌≡◌, ℕ, zero, suc, ⊤, Bool, false, List, map, length, Option, None, Some, option_map, option_and_then, Result, Ok, Err, IfOk, slice_get}
+use Rattle.std.specs.Prelude.{◌≡◌, ◌⊎◌, ◌<◌, ℕ, zero, suc, ⊤, Bool, false, List, [], ◌∷◌, map, length, is_some, if◌then◌else◌, Option, None, Some, option_map, option_and_then, Result, Ok, Err, IfOk, slice_get}
+use Rattle.rl_labels.specs.Routing.{shard_of}
 use Rattle.rl_labels.specs.declared.entry.Entry.{Entry}
 use Rattle.rl_rules.specs.declared.rule.Group.{Group}
 use Rattle.rl_shard.specs.declared.step.ShardReply.{ShardReply}
@@ -12,6 +13,7 @@ use Rattle.rl_world.specs.History.{is_due}
 use Rattle.rl_world.specs.WorldRun.{Turned}
 use Rattle.rl_world.specs.WorldState.{BookState, WorldBooks, sink_at, with_sinks_closed}
 use Rattle.rl_world.specs.declared.fault.Refusal.{Refusal}
+use Rattle.rl_world.specs.declared.fault.Refusal.TheVariants.{Memory}
 use Rattle.rl_world.specs.declared.step.Committed.{Committed}
 use Rattle.rl_world.specs.declared.step.Reply.{Reply}
 use Rattle.rl_world.specs.declared.step.Reply.TheVariants as replies
@@ -19,8 +21,7 @@ use Rattle.rl_world.specs.declared.step.Step.{Step}
 use Rattle.rl_world.specs.declared.step.Step.TheVariants as steps
 use Rattle.rl_session.specs.Engine.{Calls, Listed, Shown}
 use Rattle.rl_session.specs.declared.engine.Partly.{Partly}
-use Rattle.rl_session.specs.declared.engine.ShardsStep.{ShardsStep}
-use Rattle.rl_session.specs.declared.engine.ShardsStep.TheVariants as shards_steps
+use Rattle.rl_session.specs.Names.{shard_refusal}
 
 -- a book as an engine lists it
 abbrev pub listed : BookState → Listed
@@ -38,34 +39,51 @@ is_due_at (Some book) now = is_due book.history now
 abbrev pub name_at : WorldBooks → ℕ → Option (List ℕ)
 name_at world group = option_map (λ book. book.history.group.name) (slice_get world.books group)
 
--- an entry is a step of the first shard
+-- an entry is a step of its stream's shard
+abbrev pub push_step : WorldBooks → Entry → Step
+push_step world entry = steps.Shard (shard_of entry.labels (length world.shards)) (shard_steps.Push entry)
+
 abbrev pub IsPushed : WorldBooks → Entry → Result ShardReply Refusal → WorldBooks → Type 0
-IsPushed old entry (Ok reply) new = (place : ℕ) × Turned old (steps.Shard 0 (shard_steps.Push entry)) (replies.Decided place reply) new
-IsPushed old entry (Err refusal) new = Turned old (steps.Shard 0 (shard_steps.Push entry)) (replies.Refused refusal) new
+IsPushed old entry (Ok reply) new = (place : ℕ) × Turned old (push_step old entry) (replies.Decided place reply) new
+IsPushed old entry (Err refusal) new = Turned old (push_step old entry) (replies.Refused refusal) new
 
--- what a step of every shard asks of one
-abbrev pub shard_step : ShardsStep → ShardStep
-shard_step shards_steps.Cut = shard_steps.Cut
-shard_step shards_steps.Flush = shard_steps.Flush
+-- a shard refuses a step, or there was no memory to ask it
+abbrev pub IsStopped : WorldBooks → ShardStep → ℕ → Refusal → WorldBooks → Type 0
+IsStopped old step number refusal new = Turned old (steps.Shard number step) (replies.Refused refusal) new ⊎ ((refusal ≡ Memory) × (new ≡ old))
 
--- a shard is asked for a step; where it refuses, as many did it as have a lower number
-abbrev pub IsAskedFor : WorldBooks → ShardsStep → ℕ → Result ⊤ Partly → WorldBooks → Type 0
-IsAskedFor old step number (Ok done) new = (place : ℕ) × (reply : ShardReply) × Turned old (steps.Shard number (shard_step step)) (replies.Decided place reply) new
-IsAskedFor old step number (Err partly) new = (partly.done ≡ number) × Turned old (steps.Shard number (shard_step step)) (replies.Refused partly.refusal) new
+-- a shard is asked for a step; where it does not decide it, as many did as have a lower number
+abbrev pub IsAskedFor : WorldBooks → ShardStep → ℕ → Result ShardReply Partly → WorldBooks → Type 0
+IsAskedFor old step number (Ok reply) new = (place : ℕ) × Turned old (steps.Shard number step) (replies.Decided place reply) new
+IsAskedFor old step number (Err partly) new = (partly.done ≡ number) × IsStopped old step number partly.refusal new
 
 -- behind a step that was refused nothing is done
 abbrev pub IsBehind : {A F : Type 0} → Result ⊤ F → WorldBooks → (Result A F → WorldBooks → Type 0) → Result A F → WorldBooks → Type 0
 IsBehind (Ok done) mid Next answer new = Next answer new
 IsBehind (Err refusal) mid Next answer new = (answer ≡ Err refusal) × (new ≡ mid)
 
--- so many shards are asked for a step in their order, from one on, up to the first that refuses
-abbrev pub AreAskedFor : WorldBooks → ShardsStep → ℕ → ℕ → Result ⊤ Partly → WorldBooks → Type 0
-AreAskedFor old step number zero answer new = (answer ≡ Ok tt) × (new ≡ old)
-AreAskedFor old step number (suc left) answer new = (first : Result ⊤ Partly) × (mid : WorldBooks) × IsAskedFor old step number first mid × IsBehind first mid (AreAskedFor mid step (suc number) left) answer new
+-- shards from one on decide a step in their order, with these replies
+abbrev pub AreDecided : WorldBooks → ShardStep → ℕ → List ShardReply → WorldBooks → Type 0
+AreDecided old step number [] new = new ≡ old
+AreDecided old step number (reply ∷ replies) new = (mid : WorldBooks) × IsAskedFor old step number (Ok reply) mid × AreDecided mid step (suc number) replies new
 
--- all shards are
-abbrev pub IsAskedOfAll : WorldBooks → ShardsStep → Result ⊤ Partly → WorldBooks → Type 0
-IsAskedOfAll old step answer new = AreAskedFor old step 0 (length old.shards) answer new
+-- the first, if there is one, else the other
+abbrev pub or_else : Option ShardReply → Option ShardReply → Option ShardReply
+or_else (Some reply) other = Some reply
+or_else None other = other
+
+-- a reply, if it is a refusal
+abbrev pub refusing : ShardReply → Option ShardReply
+refusing reply = if is_some (shard_refusal reply) then Some reply else None
+
+-- the first of replies that is a refusal
+abbrev pub first_refused : List ShardReply → Option ShardReply
+first_refused [] = None
+first_refused (reply ∷ replies) = or_else (refusing reply) (first_refused replies)
+
+-- all shards decide a step, or as many as are told, and the next one does not
+abbrev pub IsAskedOfAll : WorldBooks → ShardStep → Result (Option ShardReply) Partly → WorldBooks → Type 0
+IsAskedOfAll old step (Ok refused) new = (replies : List ShardReply) × (length replies ≡ length old.shards) × (refused ≡ first_refused replies) × AreDecided old step 0 replies new
+IsAskedOfAll old step (Err partly) new = (replies : List ShardReply) × (length replies ≡ partly.done) × (partly.done < length old.shards) × (mid : WorldBooks) × AreDecided old step 0 replies mid × IsStopped mid step partly.done partly.refusal new
 
 -- an edit is a step
 abbrev pub IsEdited : WorldBooks → ℕ → Group → Result ⊤ Refusal → WorldBooks → Type 0

@@ -1,17 +1,18 @@
 //! What commands ask of an engine, and what they get.
 ghost use Rattle.std.specs.Prelude.{◌≡◌, ◌+◌, ◌<◌, ◌≤◌, length, IfOk, OnErr, vec_len, vec_capacity};
-ghost use Rattle.rl_session.specs.Asking.{IsForPush, IsForAll, IsForEdit, IsForTick, IsForEvaluation, PushesAll, EvaluatesDue, TakesTurn, PutsGroup};
+ghost use Rattle.rl_session.specs.Asking.{IsForPush, IsForAll, IsForDelete, IsForEdit, IsForTick, IsForEvaluation, PushesAll, EvaluatesDue, TakesTurn, PutsGroup, SelectsIn};
 ghost use Rattle.rl_session.specs.Engine.{number_named};
 ghost use Rattle.rl_session.specs.PushBody.{entries_of};
 
 use crate::edit::{EditRefusal, read_group};
-use crate::engine::{Engine, ShardsStep};
+use crate::engine::Engine;
 use crate::push::PushReader;
 use crate::telling::Got;
 use rl_labels::{Entry, Ns};
 use rl_plain::Shared;
+use rl_query::{QueryError, Sieve, parse_delete};
 use rl_rules::Group;
-use rl_shard::ShardReply;
+use rl_shard::{ShardReply, ShardStep};
 use rl_world::{Committed, Refusal};
 use std::alloc::{AllocError, Global};
 
@@ -65,10 +66,42 @@ fn share(alloc: Global, entries: Vec<Entry>) -> Result<Vec<Shared<Entry>>, Alloc
 }
 
 /// Asks each shard for a step.
-pub(crate) fn ask_all<E: Engine>(engine: &mut E, step: ShardsStep) -> Got
+pub(crate) fn ask_all<E: Engine>(engine: &mut E, step: ShardStep) -> Got
     ensures { IsForAll E.calls engine.old step result engine.new }
 {
     Got::Asked(engine.ask_all(step))
+}
+
+/// Asks each shard to receive a request, if the selector is one that a delete may have.
+pub(crate) fn delete<E: Engine>(
+    alloc: Global,
+    engine: &mut E,
+    id: u64,
+    start: Ns,
+    end: Ns,
+    created: Ns,
+    selector: &str,
+) -> Got
+    ensures { IsForDelete E.calls engine.old id start end created selector.now result engine.new }
+{
+    match read_sieve(alloc, selector) {
+        Ok(sieve) => Got::Asked(engine.ask_all(ShardStep::Delete {
+            id,
+            sieve,
+            start,
+            end,
+            created,
+        })),
+        Err(error) => Got::NoSelector(error),
+    }
+}
+
+// The selector with its line filters, where each shard can share it.
+fn read_sieve(alloc: Global, selector: &str) -> Result<Shared<Sieve>, QueryError>
+    ensures { SelectsIn selector.now result }
+{
+    let sieve = parse_delete(alloc, selector)?;
+    Ok(Shared::new(alloc, sieve)?)
 }
 
 /// Evaluates the group with the name.

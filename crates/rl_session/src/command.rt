@@ -1,8 +1,9 @@
 //! Command lines: words one space apart, of which the last may be the rest of the line.
 ghost use Rattle.std.specs.Prelude.{◌≡◌, ◌<◌};
+ghost use Rattle.std.specs.Char.{is_ascii_digit};
 ghost use Rattle.std.specs.List.{list_all};
 ghost use Rattle.std.specs.Option.{option_map, option_and_then};
-ghost use Rattle.rl_session.specs.Command.{Asked, asked, ticks, cut_at, time_of, eval_of, show_of, command_of_words, command_of, is_blank_byte};
+ghost use Rattle.rl_session.specs.Command.{Asked, asked, cut_at, delete_of, ticks, time_of, eval_of, id_of, process_of, request_of_words, show_of, command_of_words, command_of, is_blank_byte, is_number};
 
 use rl_labels::{Decimal, Ns, number_of};
 
@@ -15,14 +16,43 @@ pub enum Command<'a> {
     Cut,
     /// To write the sealed chunks to the stores.
     Flush,
+    /// To receive a request, made at the moment, to delete what a selector with line filters selects from the start to the end.
+    Delete {
+        id: u64,
+        start: Ns,
+        end: Ns,
+        created: Ns,
+        selector: &'a str,
+    },
+    /// To cancel a request.
+    Cancel {
+        id: u64,
+    },
+    /// To remove what a request covers.
+    Process {
+        id: u64,
+        now: Ns,
+    },
+    /// To remove what retention no longer keeps at the moment.
+    Retain {
+        now: Ns,
+    },
     /// To put the one group of a TOML document in the place of the group with its name.
     Edit(&'a str),
     /// To evaluate a group at a moment.
-    Eval { t: Ns, group: &'a str },
+    Eval {
+        t: Ns,
+        group: &'a str,
+    },
     /// To evaluate each group that is due at a moment.
-    Tick { now: Ns },
+    Tick {
+        now: Ns,
+    },
     /// To show the texts that a sink of a group keeps.
-    Show { sink: usize, group: &'a str },
+    Show {
+        sink: usize,
+        group: &'a str,
+    },
     /// To end the session.
     End,
 }
@@ -72,8 +102,75 @@ fn read_words<'a>(word: &str, rest: &'a str) -> Option<Command<'a>>
     } else if word == "show" {
         read_show(rest)
     } else {
+        read_request(word, rest)
+    }
+}
+
+// The command of a request or of retention.
+fn read_request<'a>(word: &str, rest: &'a str) -> Option<Command<'a>>
+    ensures { option_map asked result ≡ request_of_words (word.now, rest.entry.now) }
+{
+    if word == "delete" {
+        read_delete(rest)
+    } else if word == "cancel" {
+        let id = id_of(rest)?;
+        Some(Command::Cancel { id })
+    } else if word == "process" {
+        read_process(rest)
+    } else if word == "retain" {
+        let now = time_of(rest)?;
+        Some(Command::Retain { now })
+    } else {
         None
     }
+}
+
+fn read_delete(words: &str) -> Option<Command<'_>>
+    ensures { option_map asked result ≡ delete_of words.now }
+{
+    let (id, words) = cut_at(words, ' ')?;
+    let (start, words) = cut_at(words, ' ')?;
+    let (end, words) = cut_at(words, ' ')?;
+    let (created, selector) = cut_at(words, ' ')?;
+    let (id, start) = (id_of(id)?, time_of(start)?);
+    let (end, created) = (time_of(end)?, time_of(created)?);
+    Some(Command::Delete {
+        id,
+        start,
+        end,
+        created,
+        selector,
+    })
+}
+
+fn read_process(words: &str) -> Option<Command<'_>>
+    ensures { option_map asked result ≡ option_and_then process_of (cut_at 32 words.now) }
+{
+    let (id, now) = cut_at(words, ' ')?;
+    let (id, now) = (id_of(id)?, time_of(now)?);
+    Some(Command::Process { id, now })
+}
+
+// The number of a word of digits, if it is one of 64 bits.
+fn id_of(word: &str) -> Option<u64>
+    ensures { result ≡ id_of word.now }
+{
+    if !is_number(word.as_bytes()) {
+        return None;
+    }
+    word.parse::<u64>().ok()
+}
+
+fn is_number(word: &[u8]) -> bool
+    ensures { result ≡ is_number word.now }
+{
+    !word.is_empty() && are_digits(word)
+}
+
+fn are_digits(bytes: &[u8]) -> bool
+    ensures { result ≡ list_all is_ascii_digit bytes.now }
+{
+    bytes.iter().all(|byte| byte.is_ascii_digit())
 }
 
 fn read_eval(words: &str) -> Option<Command<'_>>

@@ -5,26 +5,17 @@ ghost use Rattle.rl_session.specs.Engine.{Calls, number_named, ShowsIn};
 use rl_labels::{Entry, Ns};
 use rl_plain::Shared;
 use rl_rules::Group;
-use rl_shard::ShardReply;
+use rl_shard::{ShardReply, ShardStep};
 use rl_world::{Committed, Refusal};
 use std::io;
 use std::io::Write;
 
-/// A step of every shard.
-#[derive(Clone, Copy, Debug)]
-pub enum ShardsStep {
-    /// Seals the heads as chunks.
-    Cut,
-    /// Writes the sealed chunks to the stores.
-    Flush,
-}
-
-/// Why a step was not done by every shard.
+/// Why a step was not decided by every shard.
 #[derive(Clone, Copy, Debug)]
 pub struct Partly {
-    /// How many shards did it.
+    /// How many shards decided it.
     pub done: u64,
-    /// Why the next one refused.
+    /// Why the next one did not.
     pub refusal: Refusal,
 }
 
@@ -47,8 +38,8 @@ pub trait Engine: Drop {
         ensures answer { calls.pushes self.old entry result self.new }
         ensures groups { calls.groups self.new ≡ calls.groups self.old };
 
-    /// Asks each shard for a step, in their order, up to the first that refuses.
-    fn ask_all(&mut self, step: ShardsStep) -> Result<(), Partly>
+    /// Asks each shard for a step, in their order, up to the first that does not decide it. The first reply that is a refusal.
+    fn ask_all(&mut self, step: ShardStep) -> Result<Option<ShardReply>, Partly>
         ensures answer { calls.asks_all self.old step result self.new }
         ensures groups { calls.groups self.new ≡ calls.groups self.old };
 

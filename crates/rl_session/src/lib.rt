@@ -19,7 +19,7 @@ mod telling;
 pub mod world_engine;
 
 pub use command::{Command, is_blank, read_command};
-pub use engine::{Engine, Partly, ShardsStep};
+pub use engine::{Engine, Partly};
 pub use front::{Commands, Front, FrontError, FrontFault, read_front};
 pub use push::{PushError, PushFault, PushReader, read_push};
 pub use session::{RunError, Session, Status};

@@ -1,11 +1,12 @@
 //! The names under which faults and refusals are printed.
 ghost use Rattle.std.specs.Prelude.{◌≡◌};
 ghost use Rattle.std.specs.Option.{option_map};
-ghost use Rattle.rl_session.specs.Names.{push_error_name, front_fault_name, rules_fault_name, rules_error_name, edit_refusal_name, book_fault_name, refusal_name, shard_refusal, push_refusal};
+ghost use Rattle.rl_session.specs.Names.{query_error_name, push_error_name, front_fault_name, rules_fault_name, rules_error_name, edit_refusal_name, book_fault_name, refusal_name, shard_refusal, push_refusal};
 
 use crate::edit::EditRefusal;
 use crate::front::FrontFault;
 use crate::push::{PushError, PushFault};
+use rl_query::{QueryError, QueryFault};
 use rl_rules::{RulesError, RulesFault};
 use rl_shard::ShardReply;
 use rl_world::{BookFault, Refusal};
@@ -22,6 +23,22 @@ pub fn push_error_name(error: PushError) -> &'static str
         PushError::Fault(PushFault::Line) => "Line",
         PushError::Fault(PushFault::Metadata) => "Metadata",
         PushError::Memory => "Memory",
+    }
+}
+
+// The name of the fault of a selector.
+pub(crate) fn query_error_name(error: QueryError) -> &'static str
+    ensures { result.now ≡ query_error_name error }
+{
+    match error {
+        QueryError::Fault(QueryFault::Syntax(_)) => "Syntax",
+        QueryError::Fault(QueryFault::Unsupported(_)) => "Unsupported",
+        QueryError::Fault(QueryFault::NoRealMatcher) => "NoRealMatcher",
+        QueryError::Fault(QueryFault::BadRange) => "BadRange",
+        QueryError::Fault(QueryFault::BadRegex) => "BadRegex",
+        QueryError::Fault(QueryFault::TooDeep) => "TooDeep",
+        QueryError::Fault(QueryFault::TwoParsers) => "TwoParsers",
+        QueryError::Memory => "Memory",
     }
 }
 
@@ -111,7 +128,8 @@ pub(crate) fn push_refusal(answer: &Result<ShardReply, Refusal>) -> Option<&'sta
     }
 }
 
-fn shard_refusal(reply: &ShardReply) -> Option<&'static str>
+// The name under which a shard refused an entry or a request, if it did.
+pub(crate) fn shard_refusal(reply: &ShardReply) -> Option<&'static str>
     ensures { option_map (λ name. name.now) result ≡ shard_refusal reply.now }
 {
     match reply {

@@ -5,12 +5,13 @@ ghost use Rattle.rl_session.specs.Engine.{number_named};
 ghost use Rattle.rl_session.specs.Session.{Tells, TellsLine, TellsText, TellsSession, ShowsTo, is_end, is_refusal, ended_by};
 ghost use Rattle.rl_session.specs.declared.session.RunError.TheVariants.{WriteFault, Memory};
 
-use crate::asking::{ask_all, edit, eval, push, tick};
+use crate::asking::{ask_all, delete, edit, eval, push, tick};
 use crate::command::{Command, is_blank, read_command};
-use crate::engine::{Engine, ShardsStep};
+use crate::engine::Engine;
 use crate::front::first_line;
 use crate::push::PushReader;
 use crate::telling::{Answer, Got, tell, tell_closed};
+use rl_shard::ShardStep;
 use rl_world::Refusal;
 use std::alloc::{AllocError, AllocFailed, Global};
 use std::io;
@@ -189,8 +190,23 @@ fn obey<E: Engine, W: Write>(
 {
     match command {
         Command::Push(json) => tell(&push(alloc, reader, engine, json), out),
-        Command::Cut => tell(&ask_all(engine, ShardsStep::Cut), out),
-        Command::Flush => tell(&ask_all(engine, ShardsStep::Flush), out),
+        Command::Cut => tell(&ask_all(engine, ShardStep::Cut), out),
+        Command::Flush => tell(&ask_all(engine, ShardStep::Flush), out),
+        Command::Delete {
+            id,
+            start,
+            end,
+            created,
+            selector,
+        } => {
+            let got = delete(alloc, engine, id, start, end, created, selector);
+            tell(&got, out)
+        }
+        Command::Cancel { id } => tell(&ask_all(engine, ShardStep::Cancel { id }), out),
+        Command::Process { id, now } => {
+            tell(&ask_all(engine, ShardStep::Process { id, now }), out)
+        }
+        Command::Retain { now } => tell(&ask_all(engine, ShardStep::Retain { now }), out),
         Command::Edit(document) => tell(&edit(alloc, engine, document), out),
         Command::Eval { t, group } => tell(&eval(engine, t, group), out),
         Command::Tick { now } => tell(&tick(alloc, engine, now), out),

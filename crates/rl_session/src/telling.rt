@@ -1,13 +1,17 @@
 //! What is printed of what commands got.
 ghost use Rattle.std.specs.Prelude.{◌≡◌, flat_map, Some, OnOk, IfOk, is_err};
 ghost use Rattle.std.specs.List.{list_any};
+ghost use Rattle.std.specs.Option.{option_map};
 ghost use Rattle.std.specs.Io.KnownBytes.{Appends};
-ghost use Rattle.rl_session.specs.Printed.{refusal_line, bad_push_line, counts_line, entry_line, entry_lines, is_refused, evaluated_text, ticked_text, pushed_text, none_pushed, asked_text, partly_line, number_text, behind_line, committed_text, printed, answer_of, answer_to, closed_text, not_closed_line};
+ghost use Rattle.rl_session.specs.Printed.{refusal_line, bad_push_line, counts_line, entry_line, entry_lines, is_refused, evaluated_text, ticked_text, pushed_text, none_pushed, asked_text, decided_text, partly_line, number_text, behind_line, committed_text, printed, answer_of, answer_to, closed_text, not_closed_line};
 
 use crate::edit::EditRefusal;
 use crate::engine::Partly;
-use crate::names::{edit_refusal_name, push_error_name, push_refusal, refusal_name};
+use crate::names::{
+    edit_refusal_name, push_error_name, push_refusal, query_error_name, refusal_name, shard_refusal,
+};
 use crate::push::PushError;
+use rl_query::QueryError;
 use rl_shard::ShardReply;
 use rl_sinks::write_tail;
 use rl_world::{Committed, Refusal};
@@ -34,8 +38,10 @@ pub(crate) enum Got {
     Pushed(Vec<Result<ShardReply, Refusal>>),
     // No memory for the answers to so many entries, of which none was handed in.
     Unpushed(usize),
-    // Whether each shard did a step.
-    Asked(Result<(), Partly>),
+    // What kept a request from being asked.
+    NoSelector(QueryError),
+    // Whether each shard decided a step, and the first reply that is a refusal.
+    Asked(Result<Option<ShardReply>, Partly>),
     // Whether a group was edited.
     Edited(Result<(), EditRefusal>),
     // The evaluation that was committed, or the first refusal.
@@ -51,11 +57,11 @@ fn answer_to(got: &Got) -> Answer
     match got {
         Got::Pushed(answers) => answer_of(has_refused(answers)),
         Got::Unpushed(count) => answer_of(*count > 0),
-        Got::Asked(asked) => answer_of(asked.is_err()),
+        Got::Asked(asked) => answer_of(!matches!(asked, Ok(None))),
         Got::Edited(result) => answer_of(result.is_err()),
         Got::Evaluated(result) => answer_of(result.is_err()),
         Got::Ticked(results) => answer_of(has_failed(results)),
-        Got::Refused | Got::Unread(_) => Answer::Refused,
+        Got::Refused | Got::Unread(_) | Got::NoSelector(_) => Answer::Refused,
     }
 }
 
@@ -99,6 +105,7 @@ fn print<W: Write>(got: &Got, out: &mut W) -> io::Result<()>
         Got::Unread(error) => refuse_push(out, push_error_name(*error)),
         Got::Pushed(answers) => tell_pushed(answers, out),
         Got::Unpushed(count) => tell_none_pushed(*count, out),
+        Got::NoSelector(error) => refuse(out, query_error_name(*error)),
         Got::Asked(asked) => tell_asked(asked, out),
         Got::Edited(Ok(())) => out.write_all(b"ok\n"),
         Got::Edited(Err(refusal)) => refuse(out, edit_refusal_name(*refusal)),
@@ -181,13 +188,24 @@ fn tell_each_refused<W: Write>(count: usize, out: &mut W) -> io::Result<()>
     Ok(())
 }
 
-// Tells whether each shard did a step, or how many did and why the next one refused.
-fn tell_asked<W: Write>(asked: &Result<(), Partly>, out: &mut W) -> io::Result<()>
+// Tells whether each shard decided a step, or how many did and why the next one did not.
+fn tell_asked<W: Write>(asked: &Result<Option<ShardReply>, Partly>, out: &mut W) -> io::Result<()>
     ensures { OnOk result (Appends (W.contents out.old) (W.contents out.new) (asked_text asked.now)) }
 {
     match asked {
-        Ok(()) => out.write_all(b"ok\n"),
+        Ok(None) => out.write_all(b"ok\n"),
+        Ok(Some(reply)) => tell_decided(shard_refusal(reply), out),
         Err(partly) => tell_partly(partly.done, refusal_name(partly.refusal), out),
+    }
+}
+
+// Tells why a shard refused, if it did.
+fn tell_decided<W: Write>(refusal: Option<&'static str>, out: &mut W) -> io::Result<()>
+    ensures { OnOk result (Appends (W.contents out.old) (W.contents out.new) (decided_text (option_map (λ name. name.now) refusal.entry))) }
+{
+    match refusal {
+        Some(name) => refuse(out, name),
+        None => out.write_all(b"ok\n"),
     }
 }
 

@@ -9,12 +9,13 @@ ghost use Rattle.rl_world.specs.WorldRun.{Turned};
 ghost use Rattle.rl_world.specs.declared.step.Reply.TheVariants as replies;
 ghost use Rattle.rl_world.specs.declared.step.Step.TheVariants as steps;
 ghost use Rattle.rl_session.specs.Engine.{number_named, kept_text};
-ghost use Rattle.rl_session.specs.WorldEngine.{Tells, IsAlike, IsAskedFor, AreAskedFor, shard_step, IsBegun, IsGathered, AreGathered, IsCommitted, IsFinished, listed, shown_of, name_at, open_moment};
+ghost use Rattle.rl_session.specs.WorldEngine.{Tells, IsAlike, IsAskedFor, IsAskedOfAll, or_else, refusing, IsBegun, IsGathered, AreGathered, IsCommitted, IsFinished, listed, shown_of, name_at, open_moment};
 
-use crate::engine::{Engine, Partly, ShardsStep};
+use crate::engine::{Engine, Partly};
+use crate::names::shard_refusal;
 use rl_chunks::Store;
-use rl_labels::{Entry, Limits, Ns};
-use rl_plain::Shared;
+use rl_labels::{Entry, Limits, Ns, shard_of};
+use rl_plain::{Shared, TryCopy};
 use rl_rules::Group;
 use rl_shard::{ShardReply, ShardStep};
 use rl_sinks::Sink;
@@ -24,7 +25,7 @@ use std::io;
 use std::io::Write;
 use std::marker::Model;
 
-/// Shards and books on one thread. Entries go to the first shard, and an evaluation asks each. Contracts see its world.
+/// Shards and books on one thread. An entry goes to its stream's shard, and an evaluation asks each. Contracts see its world.
 #[derive(Drop)]
 pub struct WorldEngine<D: Store, S: Sink> {
     world: World<D, S>,
@@ -47,7 +48,9 @@ impl<D: Store, S: Sink> Model for WorldEngine<D, S> {
 
     ghost view = { λ a. a.world };
 
-    ghost invariant = { λ a. a.shards ≡ length a.world.shards };
+    ghost use Rattle.std.specs.Prelude.{◌≤◌};
+
+    ghost invariant = { λ a. (1 ≤ a.shards) × (a.shards ≡ length a.world.shards) };
 }
 
 impl<D: Store, S: Sink> WorldEngine<D, S> {
@@ -59,6 +62,7 @@ impl<D: Store, S: Sink> WorldEngine<D, S> {
         groups: Vec<Group>,
         sinks: Vec<Vec<S>>,
     ) -> Result<Self, AllocError>
+        requires some { 1 ≤ length stores.items }
         requires shards { length stores.items ≤ most_shards }
         requires lists { length sinks.items ≡ length groups.items }
         requires fresh { AllByRecursion (λ own. AllByRecursion IsFresh (map S.state own.items)) sinks.items }
@@ -79,30 +83,34 @@ impl<D: Store, S: Sink> WorldEngine<D, S> {
         self.world.answer(step)
     }
 
-    // Asks a shard for a step, behind those that did it.
-    fn ask(&mut self, number: usize, step: ShardsStep) -> Result<(), Partly>
-        ensures made { IsAskedFor self.old step number result self.new }
+    // Asks a shard for a step, behind those that decided it.
+    fn ask(&mut self, number: usize, step: &ShardStep) -> Result<ShardReply, Partly>
+        ensures made { IsAskedFor self.old step.now number result self.new }
         ensures alike { IsAlike self.old self.new }
     {
-        let step = shard_step(step);
         let done = number as u64;
+        let Ok(step) = step.try_copy() else {
+            let refusal = Refusal::Memory;
+            return Err(Partly { done, refusal });
+        };
         match self.answer(Step::Shard { number, step }) {
-            Reply::Decided { reply: _reply, .. } => Ok(()),
+            Reply::Decided { reply, .. } => Ok(reply),
             Reply::Refused(refusal) => Err(Partly { done, refusal }),
             _ => unreachable!(),
         }
     }
 
-    // Asks each shard in order.
-    fn ask_each(&mut self, step: ShardsStep) -> Result<(), Partly>
-        ensures made { AreAskedFor self.old step 0 (length self.old.shards) result self.new }
+    // Asks each shard in order. The first reply that is a refusal.
+    fn ask_each(&mut self, step: &ShardStep) -> Result<Option<ShardReply>, Partly>
+        ensures made { IsAskedOfAll self.old step.now result self.new }
         ensures alike { IsAlike self.old self.new }
     {
-        let count = self.shards();
-        for number in 0..count {
-            self.ask(number, step)?;
+        let mut refused = None;
+        for number in 0..self.shards() {
+            let reply = self.ask(number, step)?;
+            refused = first_refused(refused, reply);
         }
-        Ok(())
+        Ok(refused)
     }
 
     // Opens an evaluation of the group at the moment.
@@ -184,7 +192,8 @@ impl<D: Store, S: Sink> WorldEngine<D, S> {
 
     // How many shards it asks.
     fn shards(&self) -> usize
-        ensures { result ≡ length self.now.shards }
+        ensures count { result ≡ length self.now.shards }
+        ensures some { 1 ≤ result }
     {
         self.shards
     }
@@ -204,16 +213,17 @@ impl<D: Store, S: Sink> Engine for WorldEngine<D, S> {
     }
 
     fn push(&mut self, entry: Shared<Entry>) -> Result<ShardReply, Refusal> {
+        let number = shard_of(&entry.get().labels, self.shards());
         let step = ShardStep::Push(entry);
-        match self.answer(Step::Shard { number: 0, step }) {
+        match self.answer(Step::Shard { number, step }) {
             Reply::Decided { reply, .. } => Ok(reply),
             Reply::Refused(refusal) => Err(refusal),
             _ => unreachable!(),
         }
     }
 
-    fn ask_all(&mut self, step: ShardsStep) -> Result<(), Partly> {
-        self.ask_each(step)
+    fn ask_all(&mut self, step: ShardStep) -> Result<Option<ShardReply>, Partly> {
+        self.ask_each(&step)
     }
 
     fn edit(&mut self, group: usize, to: Group) -> Result<(), Refusal> {
@@ -254,13 +264,14 @@ impl<D: Store, S: Sink> Engine for WorldEngine<D, S> {
     }
 }
 
-// What a step of every shard asks of one.
-fn shard_step(step: ShardsStep) -> ShardStep
-    ensures { result ≡ shard_step step }
+// The first reply that is a refusal, of one before and a reply.
+fn first_refused(before: Option<ShardReply>, reply: ShardReply) -> Option<ShardReply>
+    ensures { result ≡ or_else before (refusing reply) }
 {
-    match step {
-        ShardsStep::Cut => ShardStep::Cut,
-        ShardsStep::Flush => ShardStep::Flush,
+    if before.is_none() && shard_refusal(&reply).is_some() {
+        Some(reply)
+    } else {
+        before
     }
 }
 

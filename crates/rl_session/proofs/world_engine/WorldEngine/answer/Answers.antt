@@ -6,7 +6,7 @@ use Rattle.rl_session.proofs.Following.{followed}
 use Rattle.rl_session.proofs.world_engine.WorldEngine.answer.Goals as goal
 
 pub invariant_of-self : goal.invariant_of-self
-invariant_of-self g c = c.self.invariant ∙ sym (followed c.self.inside.world c.args.step c.answer.result c.answer.new.self c.answer.ensures.turned).alike.1
+invariant_of-self g c = (c.self.invariant.0, c.self.invariant.1 ∙ sym (followed c.self.inside.world c.args.step c.answer.result c.answer.new.self c.answer.ensures.turned).alike.1)
 
 pub returns-clause-turned : goal.returns-clause-turned
 returns-clause-turned g c = subst (λ old. Turned old c.args.step c.answer.result c.answer.new.self) c.self.view_is c.answer.ensures.turned

@@ -20,7 +20,7 @@ pub returns-in_err-gather-clause-made : goal.returns-in_err-gather-clause-made
 returns-in_err-gather-clause-made g c =
     let n = c.loop-number.number in
     let error = err_from_is_err_and c.from_residual.result c.from_residual.ensures.1 in
-    rw (error.1, error.2) (gathered_stop c.args.self.now c.args.group 0 n (length c.args.self.now.shards) n c.loop-number.self c.gather.new.self _ (omega arith) (omega (arith, c.loop-number-test.true, c.shards-number-end.ensures)) c.loop-number.invariant.made c.in_err-gather.ensures.made)
+    rw (error.1, error.2) (gathered_stop c.args.self.now c.args.group 0 n (length c.args.self.now.shards) n c.loop-number.self c.gather.new.self _ (omega arith) (omega (arith, c.loop-number-test.true, c.shards-number-end.ensures.count)) c.loop-number.invariant.made c.in_err-gather.ensures.made)
 
 pub returns-in_err-gather-clause-still_open : goal.returns-in_err-gather-clause-still_open
 returns-in_err-gather-clause-still_open g c = c.in_err-gather.ensures.still_open ∙ c.loop-number.invariant.still_open

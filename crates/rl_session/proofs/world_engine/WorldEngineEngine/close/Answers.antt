@@ -6,7 +6,7 @@ use Rattle.rl_session.proofs.Worlds.{closed_listed}
 use Rattle.rl_session.proofs.world_engine.WorldEngineEngine.close.Goals as goal
 
 pub invariant_of-self : goal.invariant_of-self
-invariant_of-self g c = c.self.invariant ∙ sym (ap (λ (world : WorldBooks). length world.shards) c.close_sinks.ensures.closed)
+invariant_of-self g c = (c.self.invariant.0, c.self.invariant.1 ∙ sym (ap (λ (world : WorldBooks). length world.shards) c.close_sinks.ensures.closed))
 
 pub returns-clause-groups : goal.returns-clause-groups
 returns-clause-groups g c =
