@@ -31,9 +31,6 @@ use std::io::{BufWriter, Write};
 use std::process::ExitCode;
 use std::{fs, mem};
 
-// How many shards there are.
-const SHARDS: usize = 1;
-
 // How many texts of a recorder may wait to be written.
 const RECORDER_CAP: usize = 1_024;
 
@@ -114,31 +111,44 @@ fn stop_at(error: FrontError) -> Stop
 }
 
 // Runs the commands over stores in memory, or in folders.
-fn run_front(rt: &HostRuntime, options: Options, front: Front) -> Result<Status, Stop> {
-    let Options { limits, store } = options;
+fn run_front(rt: &HostRuntime, options: Options, front: Front) -> Result<Status, Stop>
+    requires { (1 ≤ options.shards) × (options.shards ≤ most_shards) }
+{
+    let Options {
+        limits,
+        shards,
+        store,
+    } = options;
     match store {
-        Some(folder) => run_over(rt, limits, folder_stores(rt, folder.as_str())?, front),
-        None => run_over(rt, limits, memory_stores(rt.alloc())?, front),
+        Some(folder) => {
+            let stores = folder_stores(rt, folder.as_str(), shards)?;
+            run_over(rt, limits, stores, front)
+        }
+        None => run_over(rt, limits, memory_stores(rt.alloc(), shards)?, front),
     }
 }
 
 // A store in memory for each shard.
-fn memory_stores(alloc: Global) -> Result<Vec<MemStore>, Stop>
-    ensures { IfOk result (λ stores. length stores.items ≡ 1) }
+fn memory_stores(alloc: Global, shards: usize) -> Result<Vec<MemStore>, Stop>
+    ensures { IfOk result (λ stores. length stores.items ≡ shards) }
 {
-    let mut stores = Vec::with_capacity(alloc, SHARDS)?;
-    for _ in 0..SHARDS {
+    let mut stores = Vec::with_capacity(alloc, shards)?;
+    for _ in 0..shards {
         stores.push(MemStore::new(alloc))?;
     }
     Ok(stores)
 }
 
 // A store for each shard, in the folder of its number.
-fn folder_stores(rt: &HostRuntime, folder: &str) -> Result<Vec<DirStore<HostRuntime>>, Stop>
-    ensures { IfOk result (λ stores. length stores.items ≡ 1) }
+fn folder_stores(
+    rt: &HostRuntime,
+    folder: &str,
+    shards: usize,
+) -> Result<Vec<DirStore<HostRuntime>>, Stop>
+    ensures { IfOk result (λ stores. length stores.items ≡ shards) }
 {
-    let mut stores = Vec::with_capacity(rt.alloc(), SHARDS)?;
-    for number in 0..SHARDS {
+    let mut stores = Vec::with_capacity(rt.alloc(), shards)?;
+    for number in 0..shards {
         let store = folder_store(rt, folder, number)?;
         stores.push(store)?;
     }
@@ -165,7 +175,7 @@ fn run_over<D: Store>(
     stores: Vec<D>,
     front: Front,
 ) -> Result<Status, Stop>
-    requires { length stores.items ≤ most_shards }
+    requires { (1 ≤ length stores.items) × (length stores.items ≤ most_shards) }
 {
     let alloc = rt.alloc();
     let Front { groups, commands } = front;
@@ -200,6 +210,7 @@ fn run_session<D: Store, S: Sink, W: Write>(
     sinks: Vec<Vec<S>>,
     out: &mut W,
 ) -> Result<Status, RunError>
+    requires some { 1 ≤ length stores.items }
     requires shards { length stores.items ≤ most_shards }
     requires lists { length sinks.items ≡ length groups.items }
     requires fresh { AllByRecursion (λ own. AllByRecursion IsFresh (map S.state own.items)) sinks.items }

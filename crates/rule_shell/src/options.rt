@@ -1,7 +1,8 @@
 //! The options of the program.
-ghost use Rattle.std.specs.Prelude.{◌≡◌, ◌≢◌, codes};
+ghost use Rattle.std.specs.Prelude.{◌≡◌, ◌≢◌, ◌≤◌, IfOk, codes};
 ghost use Rattle.clap.specs.Words.{found_of, first_value};
-ghost use Rattle.rule_shell.specs.Options.{number_or, limits_asked, IsChecked, AreChecked};
+ghost use Rattle.rl_world.specs.Slots.{most_shards};
+ghost use Rattle.rule_shell.specs.Options.{number_or, limits_asked, shards_asked, IsChecked, AreChecked};
 
 use crate::Stop;
 use clap::error::ErrorKind as OptionsFault;
@@ -12,16 +13,22 @@ use std::alloc::Global;
 use std::env;
 use std::io::ErrorKind;
 
+// The most shards.
+const MOST_SHARDS: u64 = 16;
+
 /// What the options ask for.
 #[derive(Drop)]
 pub(crate) struct Options {
     pub(crate) limits: Limits,
+    pub(crate) shards: usize,
     // The folder for the chunks of all shards; without one they stay in memory.
     pub(crate) store: Option<PlainText>,
 }
 
 /// Reads the options.
-pub(crate) fn read_options(rt: &HostRuntime) -> Result<Options, Stop> {
+pub(crate) fn read_options(rt: &HostRuntime) -> Result<Options, Stop>
+    ensures { IfOk result (λ options. (1 ≤ options.shards) × (options.shards ≤ most_shards)) }
+{
     let words: Vec<String> = words_of(rt)?;
     let words = words.as_slice();
     options_in(rt.alloc(), words)
@@ -36,13 +43,19 @@ fn words_of(rt: &HostRuntime) -> Result<Vec<String>, Stop> {
     }
 }
 
-fn options_in<'a>(alloc: Global, words: &'a [String]) -> Result<Options, Stop> {
+fn options_in<'a>(alloc: Global, words: &'a [String]) -> Result<Options, Stop>
+    ensures { IfOk result (λ options. (1 ≤ options.shards) × (options.shards ≤ most_shards)) }
+{
+    let shards = Arg::new(alloc, "shards").long("shards");
     let entries = Arg::new(alloc, "entries").long("entries");
     let chunk_entries = Arg::new(alloc, "chunk-entries").long("chunk-entries");
     let chunk_age = Arg::new(alloc, "chunk-age").long("chunk-age");
+    let cancel = Arg::new(alloc, "cancel").long("cancel");
+    let keep = Arg::new(alloc, "keep").long("keep");
     let store = Arg::new(alloc, "store").long("store");
-    let command = Command::new(alloc, "rule_shell").arg(entries)?;
-    let command = command.arg(chunk_entries)?.arg(chunk_age)?.arg(store)?;
+    let command = Command::new(alloc, "rule_shell").arg(shards)?;
+    let command = command.arg(entries)?.arg(chunk_entries)?.arg(chunk_age)?;
+    let command = command.arg(cancel)?.arg(keep)?.arg(store)?;
     match command.try_get_matches_from(words) {
         Ok(matches) => options_of(alloc, &matches),
         Err(error) => Err(stop_of(error.kind())),
@@ -60,28 +73,51 @@ fn stop_of(kind: OptionsFault) -> Stop
     }
 }
 
-fn options_of(alloc: Global, matches: &ArgMatches<'_>) -> Result<Options, Stop> {
+fn options_of(alloc: Global, matches: &ArgMatches<'_>) -> Result<Options, Stop>
+    ensures { IfOk result (λ options. (1 ≤ options.shards) × (options.shards ≤ most_shards)) }
+{
     let limits = limits_of(matches)?;
+    let shards = shards_of(matches)?;
     let store = match matches.get_str("store") {
         Some("") => return Err(Stop::BadOptions),
         Some(folder) => Some(PlainText::from_str(alloc, folder)?),
         None => None,
     };
-    Ok(Options { limits, store })
+    Ok(Options {
+        limits,
+        shards,
+        store,
+    })
+}
+
+// How many shards are asked for, if they are in their range.
+fn shards_of(matches: &ArgMatches<'_>) -> Result<usize, Stop>
+    ensures asked { result ≡ shards_asked (first_value (found_of matches.now) (codes "shards")) }
+    ensures few { IfOk result (λ shards. (1 ≤ shards) × (shards ≤ most_shards)) }
+{
+    let shards = number_or(matches, "shards", 1)?;
+    if shards < 1 || shards > MOST_SHARDS {
+        return Err(Stop::BadOptions);
+    }
+    Ok(shards as usize)
 }
 
 // The limits that are asked for, if they are in their ranges.
 fn limits_of(matches: &ArgMatches<'_>) -> Result<Limits, Stop>
-    ensures { AreChecked (limits_asked (first_value (found_of matches.now) (codes "entries")) (first_value (found_of matches.now) (codes "chunk-entries")) (first_value (found_of matches.now) (codes "chunk-age"))) result }
+    ensures { AreChecked (limits_asked (first_value (found_of matches.now) (codes "entries")) (first_value (found_of matches.now) (codes "chunk-entries")) (first_value (found_of matches.now) (codes "chunk-age")) (first_value (found_of matches.now) (codes "cancel")) (first_value (found_of matches.now) (codes "keep"))) result }
 {
     let defaults = DEFAULT_LIMITS;
     let entries = number_or(matches, "entries", defaults.entries)?;
     let chunk_entries = number_or(matches, "chunk-entries", defaults.chunk_entries)?;
     let chunk_age = number_or(matches, "chunk-age", defaults.chunk_age)?;
+    let cancel = number_or(matches, "cancel", defaults.cancel)?;
+    let keep = number_or(matches, "keep", defaults.keep)?;
     checked(RawLimits {
         entries,
         chunk_entries,
         chunk_age,
+        cancel,
+        keep,
         ..defaults
     })
 }
