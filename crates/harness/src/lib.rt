@@ -4,9 +4,12 @@
 //! - `tests_sinks`: what a recorder writes when writes fail. `tests_worlds`: sinks in a world that fail or refuse.
 //! - `tests_reading`: readers of an input, turn by turn. `tests_sessions`: a session whose output or recorder fails.
 //! - `tests_stores`: stores in memory and in folders, and what spoils them. `tests_streams`: streams whose store fails.
+//!   `tests_deletes`: a shard whose store fails while lines are removed.
 //! - `tests_memory`: calls that want memory, made again. `tests_given`: what several of these need.
 #![tactic(auto)]
 
+#[cfg(test)]
+mod tests_deletes;
 #[cfg(test)]
 mod tests_given;
 #[cfg(test)]

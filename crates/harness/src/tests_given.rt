@@ -1,13 +1,13 @@
 //! What several tests are given.
-ghost use Rattle.std.specs.Prelude.{◌≡◌, ◌∷◌, [], IfSome, map};
+ghost use Rattle.std.specs.Prelude.{◌≡◌, ◌+◌, ◌∷◌, [], IfSome, OnErr, OnOk, length, map, min};
 ghost use Rattle.std.specs.List.{AllByRecursion};
 ghost use Rattle.rl_world.specs.BookCalls.{IsFresh};
 
-use rl_chunks::MemStore;
+use rl_chunks::{MemStore, Store, StoreFault};
 use rl_labels::{DEFAULT_LIMITS, Limits, Ns};
 use rl_plain::Shared;
-use rl_rules::read_rules;
-use rl_session::{RunError, Session, Status, WorldEngine, read_push};
+use rl_rules::{Group, read_rules};
+use rl_session::{Engine, RunError, Session, Status, WorldEngine, read_push};
 use rl_shard::ShardStep;
 use rl_sinks::{Recorder, Sink};
 use rl_world::{Committed, Reply, Step, World};
@@ -35,49 +35,93 @@ pub(crate) fn front(text: &str, bytes: u64) -> &str {
     text.get(..bytes as usize).unwrap_or("no text")
 }
 
-/// A world of one shard, which holds the line, and of a group for each list of sinks. Here and below there is nothing where
-/// memory is wanted.
-pub(crate) fn opened<S: Sink>(alloc: Global, sinks: Vec<Vec<S>>) -> Option<World<MemStore, S>>
+// The group. Here and below there is nothing where memory is wanted.
+fn group(alloc: Global) -> Option<Group> {
+    read_rules(alloc, RULES).ok()?.pop()
+}
+
+fn groups(alloc: Global, count: usize) -> Option<Vec<Group>> {
+    let mut groups = Vec::new(alloc);
+    for _ in 0..count {
+        groups.push(group(alloc)?).ok()?;
+    }
+    Some(groups)
+}
+
+// The step that pushes the line.
+fn push(alloc: Global) -> Option<Step> {
+    let entry = read_push(alloc, PUSH.as_bytes()).ok()?.pop()?;
+    let step = ShardStep::Push(Shared::new(alloc, entry).ok()?);
+    Some(Step::Shard { number: 0, step })
+}
+
+fn empty<S: Sink>(alloc: Global, sinks: Vec<Vec<S>>) -> Option<World<MemStore, S>>
     requires { AllByRecursion (λ own. AllByRecursion IsFresh (map S.state own.items)) sinks.items }
 {
-    let mut groups = Vec::new(alloc);
-    for _ in 0..sinks.len() {
-        groups.push(read_rules(alloc, RULES).ok()?.pop()?).ok()?;
-    }
+    let groups = groups(alloc, sinks.len())?;
     if groups.len() != sinks.len() {
         return None;
     }
     let limits = Limits::check(DEFAULT_LIMITS).ok()?;
     let stores = one(alloc, MemStore::new(alloc))?;
-    let mut world = World::open(alloc, limits, stores, groups, sinks).ok()?;
-    let entry = read_push(alloc, PUSH.as_bytes()).ok()?.pop()?;
-    let step = ShardStep::Push(Shared::new(alloc, entry).ok()?);
-    let steps = vec![in alloc; Step::Shard { number: 0, step }].ok()?;
-    let mut replies = Vec::new(alloc);
-    world.run(steps, &mut replies).ok()?;
-    matches!(replies.pop(), Some(Reply::Decided { .. })).then_some(world)
+    World::open(alloc, limits, stores, groups, sinks).ok()
+}
+
+/// A world of one shard, which holds the line, and of a group for each list of sinks.
+pub(crate) fn opened<S: Sink>(alloc: Global, sinks: Vec<Vec<S>>) -> Option<World<MemStore, S>>
+    requires { AllByRecursion (λ own. AllByRecursion IsFresh (map S.state own.items)) sinks.items }
+{
+    let step = push(alloc)?;
+    let mut world = empty(alloc, sinks)?;
+    if takes(&mut world, step) {
+        Some(world)
+    } else {
+        None
+    }
 }
 
 /// The same, of one group with a recorder.
 pub(crate) fn recorded(alloc: Global) -> Option<World<MemStore, Recorder<Vec<u8>>>> {
-    let own = vec![in alloc; Recorder::new(alloc, Vec::new(alloc), 8)].ok()?;
-    opened(alloc, vec![in alloc; own].ok()?)
+    let own = one(alloc, Recorder::new(alloc, Vec::new(alloc), 8))?;
+    opened(alloc, one(alloc, own)?)
+}
+
+/// A world, of whose answers no contract tells: so what asks it is proved soon.
+pub(crate) trait Asked {
+    fn ask(&mut self, step: Step) -> Reply;
+
+    /// How many evaluations a sink of a group has taken.
+    fn count(&self, group: usize, sink: usize) -> Option<u64>;
+
+    fn close_sinks(&mut self) -> u64;
+}
+
+impl<S: Sink> Asked for World<MemStore, S> {
+    fn ask(&mut self, step: Step) -> Reply {
+        self.answer(step)
+    }
+
+    fn count(&self, group: usize, sink: usize) -> Option<u64> {
+        self.book(group)?.sink_count(sink)
+    }
+
+    fn close_sinks(&mut self) -> u64 {
+        World::close_sinks(self)
+    }
+}
+
+// Whether its shard decides a step.
+fn takes<W: Asked>(world: &mut W, step: Step) -> bool {
+    matches!(world.ask(step), Reply::Decided { .. })
 }
 
 /// Evaluates a group at a moment in seconds, and goes on where the first time memory is wanted.
-pub(crate) fn commit<S: Sink>(
-    world: &mut World<MemStore, S>,
-    alloc: Global,
-    at: (usize, u64),
-) -> Option<Committed> {
+pub(crate) fn commit<W: Asked>(world: &mut W, at: (usize, u64)) -> Option<Committed> {
     let (group, t) = (at.0, Ns::new(at.1.saturating_mul(1_000_000_000))?);
-    let mut replies = Vec::new(alloc);
     for _ in 0..2 {
-        let (gather, commit) = (Step::Gather { group, number: 0 }, Step::Commit { group });
-        if let Ok(steps) = vec![in alloc; Step::Begin { group, t }, gather, commit] {
-            let _ = world.run(steps, &mut replies);
-        }
-        if let Some(Reply::Committed(answer)) = replies.pop() {
+        world.ask(Step::Begin { group, t });
+        world.ask(Step::Gather { group, number: 0 });
+        if let Reply::Committed(answer) = world.ask(Step::Commit { group }) {
             return Some(answer);
         }
     }
@@ -105,6 +149,22 @@ pub(crate) fn two<T: Drop>(alloc: Global, first: T, second: T) -> Option<Vec<T>>
 /// How a session ends.
 pub type End = Result<Status, RunError>;
 
+// A world of one shard and the group, with its sinks.
+fn engine<S: Sink>(alloc: Global, sinks: Vec<Vec<S>>) -> Option<WorldEngine<MemStore, S>>
+    requires one { length sinks.items ≡ 1 }
+    requires fresh { AllByRecursion (λ own. AllByRecursion IsFresh (map S.state own.items)) sinks.items }
+{
+    let groups = one(alloc, group(alloc)?)?;
+    let limits = Limits::check(DEFAULT_LIMITS).ok()?;
+    let stores = one(alloc, MemStore::new(alloc))?;
+    WorldEngine::open(alloc, limits, stores, groups, sinks).ok()
+}
+
+// Runs commands over any engine.
+fn run<E: Engine>(alloc: Global, engine: E, text: &str, out: &mut Planned) -> End {
+    Session::new(alloc, engine).run_commands(text, out)
+}
+
 /// Runs commands over the group `g` with a recorder.
 pub(crate) fn session(
     alloc: Global,
@@ -112,13 +172,9 @@ pub(crate) fn session(
     sink: &mut Planned,
     out: &mut Planned,
 ) -> Option<End> {
-    let groups = vec![in alloc; read_rules(alloc, RULES).ok()?.pop()?].ok()?;
     let sinks = one(alloc, one(alloc, Recorder::new(alloc, sink, 8))?)?;
-    let limits = Limits::check(DEFAULT_LIMITS).ok()?;
-    let stores = one(alloc, MemStore::new(alloc))?;
-    let engine = WorldEngine::open(alloc, limits, stores, groups, sinks).ok()?;
-    let mut session = Session::new(alloc, engine);
-    Some(session.run_commands(text, out))
+    let engine = engine(alloc, sinks)?;
+    Some(run(alloc, engine, text, out))
 }
 
 /// A full disk.
@@ -163,7 +219,10 @@ impl Write for Planned {
     fn write(&mut self, buf: &[u8]) -> io::Result<usize> {
         self.calls = self.calls.wrapping_add(1);
         if self.fails.0 <= self.calls && self.calls <= self.fails.1 {
-            return self.kind.map_or(Ok(0), |kind| Err(io::Error::from(kind)));
+            return match self.kind {
+                Some(kind) => Err(io::Error::from(kind)),
+                None => Ok(0),
+            };
         }
         let count = buf.len().min(self.step);
         self.bytes.extend_from_slice(&buf[..count])?;
@@ -171,6 +230,72 @@ impl Write for Planned {
     }
 
     fn flush(&mut self) -> io::Result<()> {
-        self.write(b"").map(|_| ())
+        self.write(b"")?;
+        Ok(())
+    }
+}
+
+/// A store in memory that refuses one call.
+#[derive(Drop)]
+pub struct Failing {
+    pub inner: MemStore,
+    // The call that is refused, counted from 0, and why.
+    at: u64,
+    why: StoreFault,
+    /// How often it was called.
+    pub calls: u64,
+    /// How often it refused.
+    pub refusals: u64,
+}
+
+impl Failing {
+    ghost use Rattle.rl_chunks.specs.StoreState.{greatest};
+
+    pub(crate) fn new(alloc: Global, at: u64, why: StoreFault) -> Failing {
+        Failing {
+            inner: MemStore::new(alloc),
+            at,
+            why,
+            calls: 0,
+            refusals: 0,
+        }
+    }
+
+    // Counts a call, and refuses it by plan.
+    fn called(&mut self) -> Result<(), StoreFault>
+        ensures inner { self.new.inner ≡ self.old.inner }
+        ensures passes { OnOk result (self.new.refusals ≡ self.old.refusals) }
+        ensures refused { OnErr result (self.new.refusals ≡ min (self.old.refusals + 1) greatest) }
+    {
+        let call = self.calls;
+        self.calls = call.wrapping_add(1);
+        if call != self.at {
+            return Ok(());
+        }
+        self.refusals = self.refusals.saturating_add(1);
+        Err(self.why)
+    }
+}
+
+impl Store for Failing {
+    ghost use Rattle.std.specs.Prelude.{true};
+    ghost use Rattle.rl_chunks.specs.MemState.{blobs_of};
+
+    ghost seen = { λ store. record { blobs = blobs_of store.inner; honest = true; reads = store.inner.reads; faults = store.refusals } };
+
+    fn put(&mut self, number: u64, bytes: Vec<u8>) -> Result<(), StoreFault> {
+        self.called()?;
+        self.inner.put(number, bytes)
+    }
+
+    fn get(&mut self, number: u64) -> Result<Option<Vec<u8>>, StoreFault> {
+        let found = self.inner.get(number);
+        self.called()?;
+        found
+    }
+
+    fn remove(&mut self, number: u64) -> Result<(), StoreFault> {
+        self.called()?;
+        self.inner.remove(number)
     }
 }

@@ -33,9 +33,13 @@ impl<R: Read> Read for Slow<R> {
     }
 }
 
-// How many bytes its commands have behind the first character.
-fn rest(front: Front) -> usize {
-    front.commands.as_str().trim_start_matches('é').len()
+// How many bytes the commands have behind the first character; no such number for want of memory.
+fn rest(got: Result<Front, FrontError>) -> Result<usize, FrontFault> {
+    match got {
+        Ok(front) => Ok(front.commands.as_str().trim_start_matches('é').len()),
+        Err(FrontError::Fault(fault)) => Err(fault),
+        Err(FrontError::Memory) => Ok(usize::MAX),
+    }
 }
 
 // What is wanted where the reader ends and where it fails in place of that, and in how many turns.
@@ -43,15 +47,14 @@ type Wants = ([Result<usize, FrontFault>; 2], u64);
 
 // Reads a text and so many `a` behind it by a step and a period. Asserts the rest of the commands, or the fault.
 fn reads(rt: &impl Abort, alloc: Global, input: (&[u8], u64), plan: (usize, u64), wants: Wants) {
-    for (fails, want) in [false, true].into_iter().zip(wants.0) {
+    for (fails, want) in [(false, wants.0[0]), (true, wants.0[1])] {
         let inner = input.0.chain(io::repeat(b'a').take(input.1));
         let mut reader = Slow {
             inner,
             plan: (plan.0, plan.1, fails),
             turns: 0,
         };
-        let got = read_front(alloc, &mut reader).map(rest);
-        is(rt, got, want.map_err(FrontError::Fault), wants.1);
+        is(rt, rest(read_front(alloc, &mut reader)), want, wants.1);
         is(rt, reader.turns, wants.1, wants.1);
     }
 }
