@@ -1,8 +1,9 @@
 //! Aggregations: what entries add up to, and what steps on a partial make of it.
 ghost use Rattle.std.specs.Prelude.{◌≤◌, length, IfOk};
 
-use crate::given::{entry_in, labels_in, moment_in, number_in};
+use crate::given::{entry_in, labels_in, moment_in, number_in, words_of};
 use crate::query::query_in;
+use crate::told::tell;
 use crate::trouble::Trouble;
 use rl_aggregate::{Fraction, Outcome, Partial, Sample, Total, Totals, finish, merge, scratch};
 use rl_labels::{Entry, Labels, Ns};
@@ -14,32 +15,29 @@ use std::mem;
 // The total of no entry.
 const NOTHING: Total = Total { count: 0, bytes: 0 };
 
-pub(crate) fn answer(alloc: Global, directive: &str, input: &str) -> Result<String, Trouble> {
+pub(crate) fn answer(told: &mut String, directive: &str, input: &str) -> Result<(), Trouble> {
     let (query, rest) = input.split_once('\n').ok_or(Trouble::BadInput)?;
-    let query = query_in(alloc, query)?;
-    let mut text = String::new(alloc);
-    let told = match directive {
-        "range" => push_range(&mut text, &query, rest),
-        "partial" => push_steps(&mut text, &query, rest),
-        _ => Err(Trouble::NoSuchDirective),
-    };
+    let query = query_in(*told.allocator(), query)?;
+    let ended = of_query(told, directive, &query, rest);
     mem::forget(query);
-    told?;
-    Ok(text)
+    ended
 }
 
-// Writes what the entries of two lists add up to, and what the query gives of both together.
-fn push_range(text: &mut String, query: &Query, input: &str) -> Result<(), Trouble> {
+fn of_query(told: &mut String, directive: &str, query: &Query, rest: &str) -> Result<(), Trouble> {
+    match directive {
+        "range" => push_range(told, query, rest),
+        "partial" => push_steps(told, query, rest),
+        _ => Err(Trouble::NoSuchDirective),
+    }
+}
+
+// Tells what the entries of two lists add up to, and what the query gives of both together.
+fn push_range(told: &mut String, query: &Query, input: &str) -> Result<(), Trouble> {
     let (moment, entries) = input.split_once('\n').ok_or(Trouble::BadInput)?;
     let (first, second) = entries.split_once("\n--\n").unwrap_or((entries, ""));
-    let partial = merged(
-        *text.allocator(),
-        first,
-        second,
-        &query.left,
-        moment_in(moment)?,
-    )?;
-    push_partial(text, query, &partial)
+    let moment = moment_in(moment)?;
+    let partial = merged(*told.allocator(), first, second, &query.left, moment)?;
+    push_partial(told, query, &partial)
 }
 
 // What two lists of entries add up to.
@@ -62,38 +60,57 @@ fn entries_in(alloc: Global, text: &str) -> Result<Vec<Shared<Entry>>, Trouble>
     ensures { IfOk result (λ entries. length entries.items ≤ 1000) }
 {
     let mut entries = Vec::new(alloc);
-    for line in text.split('\n') {
-        if !line.is_empty() {
-            entries.push(Shared::new(alloc, entry_in(alloc, line)?)?)?;
-        }
-    }
+    push_entries(&mut entries, text)?;
     if entries.len() > 1_000 {
         return Err(Trouble::BadInput);
     }
     Ok(entries)
 }
 
-// Writes what a partial has, and what its query gives.
-fn push_partial(text: &mut String, query: &Query, partial: &Partial) -> Result<(), Trouble> {
-    let (errors, many) = (partial.errors, partial.totals.len());
-    writeln!(text, "{errors} errors, {many} label sets")?;
-    match finished(*text.allocator(), query, partial)? {
-        Outcome::Failed => writeln!(text, "failed")?,
-        Outcome::Vector(samples) => {
-            for sample in samples.as_slice() {
-                push_sample(text, sample, partial.totals.get(&sample.labels))?;
-            }
+fn push_entries(entries: &mut Vec<Shared<Entry>>, text: &str) -> Result<(), Trouble> {
+    for line in text.split('\n') {
+        if !line.is_empty() {
+            push_entry(entries, line)?;
         }
     }
     Ok(())
 }
 
-fn push_sample(text: &mut String, sample: &Sample, total: Option<Total>) -> Result<(), Trouble> {
+fn push_entry(entries: &mut Vec<Shared<Entry>>, line: &str) -> Result<(), Trouble> {
+    let alloc = *entries.allocator();
+    let entry = entry_in(alloc, line)?;
+    entries.push(Shared::new(alloc, entry)?)?;
+    Ok(())
+}
+
+// Tells what a partial has, and what its query gives.
+fn push_partial(told: &mut String, query: &Query, partial: &Partial) -> Result<(), Trouble> {
+    let (errors, many) = (partial.errors, partial.totals.len());
+    writeln!(told, "{errors} errors, {many} label sets")?;
+    let outcome = finished(*told.allocator(), query, partial)?;
+    push_outcome(told, &outcome, &partial.totals)
+}
+
+fn push_outcome(told: &mut String, outcome: &Outcome, totals: &Totals) -> Result<(), Trouble> {
+    match outcome {
+        Outcome::Failed => tell(told, &"failed"),
+        Outcome::Vector(samples) => push_samples(told, samples.as_slice(), totals),
+    }
+}
+
+fn push_samples(told: &mut String, samples: &[Sample], totals: &Totals) -> Result<(), Trouble> {
+    for sample in samples {
+        push_sample(told, sample, totals.get(&sample.labels))?;
+    }
+    Ok(())
+}
+
+fn push_sample(told: &mut String, sample: &Sample, total: Option<Total>) -> Result<(), Trouble> {
     let (labels, value) = (&sample.labels, sample.value);
     let (numerator, denominator) = (value.numerator, value.denominator);
     let Total { count, bytes } = total.unwrap_or(NOTHING);
-    write!(text, "{labels} {numerator}/{denominator}")?;
-    writeln!(text, ", {count} entries of {bytes} bytes")?;
+    write!(told, "{labels} {numerator}/{denominator}")?;
+    writeln!(told, ", {count} entries of {bytes} bytes")?;
     Ok(())
 }
 
@@ -106,66 +123,104 @@ fn finished(alloc: Global, query: &Query, partial: &Partial) -> Result<Outcome, 
     }
 }
 
-// A partial that has nothing at first, and a copy of it.
-#[derive(Drop)]
-struct Bench {
-    here: Partial,
-    copy: Partial,
+// Tells what steps on a partial give that has nothing at first, and on a copy of it, of which the query is asked.
+fn push_steps(told: &mut String, query: &Query, steps: &str) -> Result<(), Trouble> {
+    let alloc = *told.allocator();
+    let mut here = Partial::empty(alloc);
+    let mut copy = Partial::empty(alloc);
+    push_each(told, query, &mut here, &mut copy, steps)
 }
 
-// Writes what steps on such a partial give, of which the query is asked.
-fn push_steps(text: &mut String, query: &Query, steps: &str) -> Result<(), Trouble> {
-    let alloc = *text.allocator();
-    let (here, copy) = (Partial::empty(alloc), Partial::empty(alloc));
-    let mut bench = Bench { here, copy };
+fn push_each(
+    told: &mut String,
+    query: &Query,
+    here: &mut Partial,
+    copy: &mut Partial,
+    steps: &str,
+) -> Result<(), Trouble> {
     for line in steps.split('\n') {
-        bench.step(text, query, line)?;
+        let (word, rest) = words_of(line);
+        if !has_changed(*told.allocator(), here, copy, word, rest)? {
+            push_step(told, query, here, copy, word, rest)?;
+        }
     }
     Ok(())
 }
 
-impl Bench {
-    fn step(&mut self, text: &mut String, query: &Query, line: &str) -> Result<(), Trouble> {
-        let (step, rest) = line.split_once(' ').unwrap_or((line, ""));
-        match step {
-            "add" => add(&mut self.here.totals, *text.allocator(), rest)?,
-            "errors" => self.here.errors = number_in(rest)?,
-            "copy" => self.copy = self.here.try_copy()?,
-            "swap" => mem::swap(&mut self.here, &mut self.copy),
-            "empty" => writeln!(text, "{}", self.here.totals.is_empty())?,
-            "get" => self.push_got(text, &labels_in(*text.allocator(), rest)?)?,
-            "same" => self.push_same(text, query)?,
-            "show" => push_partial(text, query, &self.here)?,
-            _ => return Err(Trouble::BadInput),
-        }
-        Ok(())
+// Takes a step that changes the partial or its copy. Whether it is one.
+fn has_changed(
+    alloc: Global,
+    here: &mut Partial,
+    copy: &mut Partial,
+    word: &str,
+    rest: &str,
+) -> Result<bool, Trouble> {
+    match word {
+        "add" => add(alloc, &mut here.totals, rest)?,
+        "errors" => here.errors = number_in(rest)?,
+        "copy" => *copy = here.try_copy()?,
+        "swap" => mem::swap(here, copy),
+        _ => return Ok(false),
     }
+    Ok(true)
+}
 
-    // Writes the totals at a label set, and whether they and their values are the copy's.
-    fn push_got(&self, text: &mut String, labels: &Labels) -> Result<(), Trouble> {
-        let (here, copy) = (self.here.totals.get(labels), self.copy.totals.get(labels));
-        push_total(text, here)?;
-        push_total(text, copy)?;
-        let totals = compared(&here, &copy)?;
-        let values = compared(&value_of(here), &value_of(copy))?;
-        writeln!(text, "{totals}, values {values}")?;
-        Ok(())
-    }
-
-    // Writes whether the query gives the same of both.
-    fn push_same(&self, text: &mut String, query: &Query) -> Result<(), Trouble> {
-        let alloc = *text.allocator();
-        let here = finished(alloc, query, &self.here)?;
-        let copy = finished(alloc, query, &self.copy)?;
-        writeln!(text, "{}", compared(&here, &copy)?)?;
-        Ok(())
+// Tells what a step gives that changes nothing.
+fn push_step(
+    told: &mut String,
+    query: &Query,
+    here: &Partial,
+    copy: &Partial,
+    word: &str,
+    rest: &str,
+) -> Result<(), Trouble> {
+    match word {
+        "empty" => tell(told, &here.totals.is_empty()),
+        "get" => push_got(told, &here.totals, &copy.totals, rest),
+        "same" => push_same(told, query, here, copy),
+        "show" => push_partial(told, query, here),
+        _ => Err(Trouble::BadInput),
     }
 }
 
-fn push_total(text: &mut String, total: Option<Total>) -> Result<(), Trouble> {
+// Tells the totals at a label set, and whether they and their values are the copy's.
+fn push_got(told: &mut String, here: &Totals, copy: &Totals, labels: &str) -> Result<(), Trouble> {
+    let (here, copy) = both_at(*told.allocator(), here, copy, labels)?;
+    push_total(told, here)?;
+    push_total(told, copy)?;
+    let totals = compared(&here, &copy)?;
+    let values = compared(&value_of(here), &value_of(copy))?;
+    writeln!(told, "{totals}, values {values}")?;
+    Ok(())
+}
+
+fn both_at(
+    alloc: Global,
+    here: &Totals,
+    copy: &Totals,
+    labels: &str,
+) -> Result<(Option<Total>, Option<Total>), Trouble> {
+    let labels = labels_in(alloc, labels)?;
+    Ok((here.get(&labels), copy.get(&labels)))
+}
+
+// Tells whether the query gives the same of both.
+fn push_same(
+    told: &mut String,
+    query: &Query,
+    here: &Partial,
+    copy: &Partial,
+) -> Result<(), Trouble> {
+    let alloc = *told.allocator();
+    let here = finished(alloc, query, here)?;
+    let copy = finished(alloc, query, copy)?;
+    tell(told, &compared(&here, &copy)?)
+}
+
+fn push_total(told: &mut String, total: Option<Total>) -> Result<(), Trouble> {
     match total {
-        Some(Total { count, bytes }) => write!(text, "{count} of {bytes} bytes; ")?,
-        None => write!(text, "none; ")?,
+        Some(Total { count, bytes }) => write!(told, "{count} of {bytes} bytes; ")?,
+        None => write!(told, "none; ")?,
     }
     Ok(())
 }
@@ -175,16 +230,22 @@ fn value_of(total: Option<Total>) -> Option<Fraction> {
 }
 
 // Adds a total, as `a=x 3 7`, if the sum fits.
-fn add(totals: &mut Totals, alloc: Global, text: &str) -> Result<(), Trouble> {
-    let (labels, total) = text.split_once(' ').ok_or(Trouble::BadInput)?;
-    let (count, bytes) = total.split_once(' ').ok_or(Trouble::BadInput)?;
+fn add(alloc: Global, totals: &mut Totals, text: &str) -> Result<(), Trouble> {
+    let (labels, total) = words_of(text);
+    let (count, bytes) = words_of(total);
     let (count, bytes) = (number_in(count)?, number_in(bytes)?);
     let labels = labels_in(alloc, labels)?;
-    let old = totals.get(&labels).unwrap_or(NOTHING);
-    if old.count.checked_add(count).is_none() || old.bytes.checked_add(bytes).is_none() {
+    add_at(totals, &labels, Total { count, bytes })
+}
+
+fn add_at(totals: &mut Totals, labels: &Labels, total: Total) -> Result<(), Trouble> {
+    let old = totals.get(labels).unwrap_or(NOTHING);
+    if old.count.checked_add(total.count).is_none()
+        || old.bytes.checked_add(total.bytes).is_none()
+    {
         return Err(Trouble::BadInput);
     }
-    Ok(totals.add(&labels, Total { count, bytes })?)
+    Ok(totals.add(labels, total)?)
 }
 
 // Whether two values are one; a copy of a value has to be the value.

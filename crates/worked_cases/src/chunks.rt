@@ -4,20 +4,25 @@
 ghost use Rattle.std.specs.Prelude.{◌≤◌};
 
 use crate::given::number_in;
+use crate::told::{tell, tell_refused};
 use crate::trouble::Trouble;
-use rl_chunks::{Chunk, ChunkError, decode, encode};
+use rl_chunks::{Chunk, decode, encode};
 use rl_plain::OrMemory;
 use std::alloc::{AllocError, Global};
 
-pub(crate) fn answer(alloc: Global, directive: &str, input: &str) -> Result<String, Trouble> {
+pub(crate) fn answer(told: &mut String, directive: &str, input: &str) -> Result<(), Trouble> {
     if directive == "random" {
-        return random(alloc, number_in(input)?);
+        return random(told, number_in(input)?);
     }
-    let bytes = bytes_in(alloc, input)?;
+    let bytes = bytes_in(*told.allocator(), input)?;
+    of_bytes(told, directive, &bytes)
+}
+
+fn of_bytes(told: &mut String, directive: &str, bytes: &[u8]) -> Result<(), Trouble> {
     match directive {
-        "decode" => shown(alloc, decode(alloc, &bytes)),
-        "encode" => hexadecimal(alloc, &again(alloc, &bytes)?),
-        "cut" => cut(alloc, &bytes),
+        "decode" => decoded(told, bytes),
+        "encode" => encoded(told, bytes),
+        "cut" => cut(told, bytes),
         _ => Err(Trouble::NoSuchDirective),
     }
 }
@@ -47,26 +52,33 @@ fn digit_of(c: char) -> Option<u8> {
     u8::try_from(digit).ok()
 }
 
-fn hexadecimal(alloc: Global, bytes: &[u8]) -> Result<String, Trouble> {
-    let mut text = String::new(alloc);
+// The bytes of the chunk that the bytes are, in hexadecimal.
+fn encoded(told: &mut String, bytes: &[u8]) -> Result<(), Trouble> {
+    let bytes = again(*told.allocator(), bytes)?;
+    push_bytes(told, &bytes)
+}
+
+fn push_bytes(told: &mut String, bytes: &[u8]) -> Result<(), Trouble> {
     for byte in bytes {
-        write!(text, "{byte:02x}")?;
+        write!(told, "{byte:02x}")?;
     }
-    Ok(text)
+    Ok(())
 }
 
 // The labels of a chunk and its lines, each with its timestamp; or the fault.
-fn shown(alloc: Global, answered: Result<Chunk, ChunkError>) -> Result<String, Trouble> {
-    let chunk = match answered {
-        Ok(chunk) => chunk,
-        Err(OrMemory::Fault(fault)) => return Ok(format!(in alloc; "{fault:?}: {fault}")?),
-        Err(OrMemory::Memory) => return Err(Trouble::Memory),
-    };
-    let mut text = chunk.labels.text()?;
-    for line in chunk.lines.as_slice() {
-        write!(text, "\n{} {}", line.timestamp.get(), line.text)?;
+fn decoded(told: &mut String, bytes: &[u8]) -> Result<(), Trouble> {
+    match decode(*told.allocator(), bytes) {
+        Ok(chunk) => push_chunk(told, &chunk),
+        Err(refused) => tell_refused(told, &refused),
     }
-    Ok(text)
+}
+
+fn push_chunk(told: &mut String, chunk: &Chunk) -> Result<(), Trouble> {
+    tell(told, &chunk.labels)?;
+    for line in chunk.lines.as_slice() {
+        writeln!(told, "{} {}", line.timestamp.get(), line.text)?;
+    }
+    Ok(())
 }
 
 // The bytes of the chunk that the bytes are.
@@ -79,21 +91,30 @@ fn again(alloc: Global, bytes: &[u8]) -> Result<Vec<u8>, Trouble> {
 }
 
 // What the first bytes are read as, from each length on at which that changes.
-fn cut(alloc: Global, bytes: &[u8]) -> Result<String, Trouble> {
-    let mut text = String::new(alloc);
-    let mut last = String::new(alloc);
+fn cut(told: &mut String, bytes: &[u8]) -> Result<(), Trouble> {
+    let mut last = String::new(*told.allocator());
     for len in 0..=bytes.len() {
         let (front, _) = bytes.split_at(len);
-        let now = match decode(alloc, front) {
-            Ok(_) => String::from_str(alloc, "a chunk")?,
-            Err(fault) => format!(in alloc; "{fault}")?,
-        };
-        if now != last {
-            writeln!(text, "{len} {now}")?;
-            last = now;
-        }
+        push_front(told, &mut last, front)?;
     }
-    Ok(text)
+    Ok(())
+}
+
+// Tells what a front is read as, if it is not what the last one was.
+fn push_front(told: &mut String, last: &mut String, front: &[u8]) -> Result<(), Trouble> {
+    let now = read_as(*told.allocator(), front)?;
+    if now != *last {
+        writeln!(told, "{} {now}", front.len())?;
+        *last = now;
+    }
+    Ok(())
+}
+
+fn read_as(alloc: Global, bytes: &[u8]) -> Result<String, AllocError> {
+    match decode(alloc, bytes) {
+        Ok(_) => format!(in alloc; "a chunk"),
+        Err(fault) => format!(in alloc; "{fault}"),
+    }
 }
 
 // Numbers that look random, and are the same in each run.
@@ -115,28 +136,43 @@ impl Draws {
 }
 
 // How many chunks of such bytes are read as one whose bytes are these.
-fn random(alloc: Global, count: u64) -> Result<String, Trouble> {
+fn random(told: &mut String, count: u64) -> Result<(), Trouble> {
     let mut draws = Draws { state: 1 };
     let mut same = 0u64;
     for _ in 0..count {
-        let bytes = random_chunk(alloc, &mut draws)?;
-        if again(alloc, &bytes)? == bytes {
+        if is_again(*told.allocator(), &mut draws)? {
             same = same.saturating_add(1);
         }
     }
-    Ok(format!(in alloc; "{same} of {count}")?)
+    writeln!(told, "{same} of {count}")?;
+    Ok(())
+}
+
+fn is_again(alloc: Global, draws: &mut Draws) -> Result<bool, Trouble> {
+    let bytes = random_chunk(alloc, draws)?;
+    Ok(again(alloc, &bytes)? == bytes)
 }
 
 // The bytes of a chunk, written by hand: up to four labels, up to twenty lines.
 fn random_chunk(alloc: Global, draws: &mut Draws) -> Result<Vec<u8>, AllocError> {
     let mut bytes = Vec::from_slice(alloc, b"RLC1")?;
+    push_labels(&mut bytes, draws)?;
+    push_lines(&mut bytes, draws)?;
+    Ok(bytes)
+}
+
+fn push_labels(bytes: &mut Vec<u8>, draws: &mut Draws) -> Result<(), AllocError> {
     let labels = draws.up_to(3) as u8 + 1;
     bytes.extend_from_slice(&[0, labels])?;
     for label in 0..labels {
         let value = draws.up_to(20) as u8 + 1;
         bytes.extend_from_slice(&[0, 1, b'a' + label, 0, value])?;
-        push_letters(&mut bytes, draws, value)?;
+        push_letters(bytes, draws, value)?;
     }
+    Ok(())
+}
+
+fn push_lines(bytes: &mut Vec<u8>, draws: &mut Draws) -> Result<(), AllocError> {
     let lines = draws.up_to(20) as u8;
     bytes.extend_from_slice(&[0, 0, 0, lines])?;
     let mut timestamp = 0u64;
@@ -145,9 +181,9 @@ fn random_chunk(alloc: Global, draws: &mut Draws) -> Result<Vec<u8>, AllocError>
         let letters = draws.up_to(40) as u8;
         bytes.extend_from_slice(&timestamp.to_be_bytes())?;
         bytes.extend_from_slice(&[0, letters + 1, line])?;
-        push_letters(&mut bytes, draws, letters)?;
+        push_letters(bytes, draws, letters)?;
     }
-    Ok(bytes)
+    Ok(())
 }
 
 fn push_letters(bytes: &mut Vec<u8>, draws: &mut Draws, count: u8) -> Result<(), AllocError> {

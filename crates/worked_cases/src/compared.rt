@@ -1,4 +1,5 @@
 //! Two values that a case compares, written before and behind ` ~ `.
+use crate::told::tell;
 use crate::trouble::Trouble;
 use rl_plain::{Same, TryCopy};
 use std::alloc::Global;
@@ -10,37 +11,40 @@ pub(crate) fn halves(input: &str) -> Result<(&str, &str), Trouble> {
 }
 
 /// How a copy of the left value stands to the right one: by its signs, by `cmp`, and whether they are the same.
-pub(crate) fn compared<T, F>(alloc: Global, input: &str, read: F) -> Result<String, Trouble>
+pub(crate) fn compared<T, F>(told: &mut String, input: &str, read: F) -> Result<(), Trouble>
 where
     T: Ord + Hash + Same + TryCopy,
     F: Fn(Global, &str) -> Result<T, Trouble>,
     requires { F.IsAlwaysCallable read }
 {
+    let alloc = *told.allocator();
     let (left, right) = halves(input)?;
     let (left, right) = (read(alloc, left)?, read(alloc, right)?);
-    order_of(alloc, &left, &right)
+    push_order(told, &left, &right)
 }
 
-fn order_of<T>(alloc: Global, left: &T, right: &T) -> Result<String, Trouble>
+fn push_order<T>(told: &mut String, left: &T, right: &T) -> Result<(), Trouble>
 where
     T: Ord + Hash + Same + TryCopy,
 {
     let copy = left.try_copy()?;
     let (sign, order) = (sign_of(&copy, right), left.cmp(right));
     let word = word_of(&copy, right);
-    Ok(format!(in alloc; "{sign} {order:?} {word}")?)
+    writeln!(told, "{sign} {order:?} {word}")?;
+    Ok(())
 }
 
 /// Whether a copy of the left value is equal to the right one and the same, neither, or one alone.
-pub(crate) fn matched<T, F>(alloc: Global, input: &str, read: F) -> Result<String, Trouble>
+pub(crate) fn matched<T, F>(told: &mut String, input: &str, read: F) -> Result<(), Trouble>
 where
     T: PartialEq + Same + TryCopy,
     F: Fn(Global, &str) -> Result<T, Trouble>,
     requires { F.IsAlwaysCallable read }
 {
+    let alloc = *told.allocator();
     let (left, right) = halves(input)?;
     let (left, right) = (read(alloc, left)?, read(alloc, right)?);
-    Ok(String::from_str(alloc, likeness(&left, &right)?)?)
+    tell(told, &likeness(&left, &right)?)
 }
 
 fn likeness<T>(left: &T, right: &T) -> Result<&'static str, Trouble>

@@ -6,7 +6,7 @@ ghost use Rattle.std.specs.Prelude.{IsTrue, IfOk};
 ghost use Rattle.rl_labels.specs.EntryParts.{are_stream_labels};
 
 use crate::trouble::Trouble;
-use rl_labels::{DEFAULT_LIMITS, Entry, Labels, Limits, Ns, RawLimits};
+use rl_labels::{DEFAULT_LIMITS, Entry, Labels, Limits, Ns, RawLimits, RefusedEntry};
 use rl_plain::{OrMemory, PlainText};
 use std::alloc::Global;
 
@@ -23,6 +23,11 @@ pub(crate) fn moment_in(text: &str) -> Result<Ns, Trouble> {
     Ns::new(nanoseconds).ok_or(Trouble::BadInput)
 }
 
+/// The first word, and what stands behind its space.
+pub(crate) fn words_of(text: &str) -> (&str, &str) {
+    text.split_once(' ').unwrap_or((text, ""))
+}
+
 /// The pairs in their order, also such as no label set has.
 pub(crate) fn pairs_in(alloc: Global, text: &str) -> Result<Vec<(PlainText, PlainText)>, Trouble> {
     let mut pairs = Vec::new(alloc);
@@ -30,12 +35,18 @@ pub(crate) fn pairs_in(alloc: Global, text: &str) -> Result<Vec<(PlainText, Plai
         return Ok(pairs);
     }
     for pair in text.split(',') {
-        let (name, value) = pair.split_once('=').ok_or(Trouble::BadInput)?;
-        let name = PlainText::from_str(alloc, name)?;
-        let value = PlainText::from_str(alloc, value)?;
-        pairs.push((name, value))?;
+        push_pair(&mut pairs, pair)?;
     }
     Ok(pairs)
+}
+
+fn push_pair(pairs: &mut Vec<(PlainText, PlainText)>, pair: &str) -> Result<(), Trouble> {
+    let alloc = *pairs.allocator();
+    let (name, value) = pair.split_once('=').ok_or(Trouble::BadInput)?;
+    let name = PlainText::from_str(alloc, name)?;
+    let value = PlainText::from_str(alloc, value)?;
+    pairs.push((name, value))?;
+    Ok(())
 }
 
 pub(crate) fn labels_in(alloc: Global, text: &str) -> Result<Labels, Trouble>
@@ -50,15 +61,20 @@ pub(crate) fn labels_in(alloc: Global, text: &str) -> Result<Labels, Trouble>
 }
 
 pub(crate) fn entry_in(alloc: Global, text: &str) -> Result<Entry, Trouble> {
-    let (moment, rest) = text.split_once(' ').ok_or(Trouble::BadInput)?;
-    let (labels, line) = rest.split_once(' ').unwrap_or((rest, ""));
-    let timestamp = moment_in(moment)?;
-    let line = PlainText::from_str(alloc, line)?;
-    let labels = labels_in(alloc, labels)?;
-    match Entry::new(labels, timestamp, line) {
+    match entry_of(alloc, text)? {
         Ok(entry) => Ok(entry),
         Err(_) => Err(Trouble::BadInput),
     }
+}
+
+/// An entry that may be refused.
+pub(crate) fn entry_of(alloc: Global, text: &str) -> Result<Result<Entry, RefusedEntry>, Trouble> {
+    let (moment, rest) = words_of(text);
+    let (labels, line) = words_of(rest);
+    let timestamp = moment_in(moment)?;
+    let line = PlainText::from_str(alloc, line)?;
+    let labels = labels_in(alloc, labels)?;
+    Ok(Entry::new(labels, timestamp, line))
 }
 
 pub(crate) fn limits_in(text: &str) -> Result<Limits, Trouble> {

@@ -2,7 +2,8 @@
 //!
 //! A matcher is written as `a=x` or with `!=`, `=~`, `!~`.
 use crate::compared::compared;
-use crate::given::{entry_in, labels_in, moment_in, number_in, pairs_in, raw_limits_in};
+use crate::given::{entry_in, entry_of, labels_in, moment_in, number_in, pairs_in, raw_limits_in};
+use crate::told::{tell, tell_debug, tell_fault, tell_refused};
 use crate::trouble::Trouble;
 use rl_labels::entry::MAX_LINE_LEN;
 use rl_labels::labels::{ERROR_LABEL, MAX_TEXT_LEN, is_label_name};
@@ -14,36 +15,41 @@ use rl_patterns::PatternCode;
 use rl_plain::{OrMemory, PlainText};
 use std::alloc::Global;
 
-pub(crate) fn answer(alloc: Global, directive: &str, input: &str) -> Result<String, Trouble> {
+pub(crate) fn answer(told: &mut String, directive: &str, input: &str) -> Result<(), Trouble> {
     match directive {
-        "constants" => Ok(format!(in alloc; "{ERROR_LABEL} {MAX_TEXT_LEN} {MAX_LINE_LEN}")?),
-        "name" => Ok(is_label_name(input).to_string(alloc)?),
-        "set" => set(alloc, input),
-        "value" => Ok(of_value(alloc, input)?.text()?),
-        "read" => read(alloc, input),
-        "with" => with(alloc, input),
-        "number" => number(alloc, input),
-        "duration" => duration(alloc, input),
-        "moment" => Ok(format!(in alloc; "{:?}", Ns::new(number_in(input)?))?),
-        "entry" => entry(alloc, input),
-        "matcher" => matcher(alloc, input),
-        "limits" => limits(alloc, input),
-        "others" => others(alloc),
-        _ => comparison(alloc, directive, input),
+        "constants" => constants(told),
+        "name" => tell(told, &is_label_name(input)),
+        "set" => set(told, input),
+        "value" => value(told, input),
+        "read" => read(told, input),
+        "with" => with(told, input),
+        "number" => number(told, input),
+        "duration" => duration(told, input),
+        "moment" => moment(told, input),
+        "entry" => entry(told, input),
+        "matcher" => matcher(told, input),
+        "limits" => limits(told, input),
+        "others" => others(told),
+        _ => comparison(told, directive, input),
     }
 }
 
 // How two values stand to each other.
-fn comparison(alloc: Global, directive: &str, input: &str) -> Result<String, Trouble> {
+fn comparison(told: &mut String, directive: &str, input: &str) -> Result<(), Trouble> {
     match directive {
-        "sets" => compared(alloc, input, labels_in),
-        "values" => compared(alloc, input, of_value),
-        "moments" => compared(alloc, input, plain_moment_in),
-        "entries" => compared(alloc, input, entry_in),
-        "matchers" => compared(alloc, input, matcher_in),
-        "operators" => compared(alloc, input, operator_in),
+        "sets" => compared(told, input, labels_in),
+        "values" => compared(told, input, of_value),
+        "moments" => compared(told, input, plain_moment_in),
+        "entries" => compared(told, input, entry_in),
+        "matchers" => compared(told, input, matcher_in),
+        "operators" => compared(told, input, operator_in),
         _ => Err(Trouble::NoSuchDirective),
     }
+}
+
+fn constants(told: &mut String) -> Result<(), Trouble> {
+    writeln!(told, "{ERROR_LABEL} {MAX_TEXT_LEN} {MAX_LINE_LEN}")?;
+    Ok(())
 }
 
 fn plain_moment_in(_alloc: Global, text: &str) -> Result<Ns, Trouble> {
@@ -55,12 +61,25 @@ fn operator_in(_alloc: Global, text: &str) -> Result<MatchOp, Trouble> {
 }
 
 // The set of pairs, shown, and the length of its text.
-fn set(alloc: Global, input: &str) -> Result<String, Trouble> {
-    Ok(match Labels::from_pairs(alloc, pairs_in(alloc, input)?) {
-        Ok(labels) => format!(in alloc; "{labels} {}", labels.as_text().len())?,
-        Err(OrMemory::Fault(fault)) => format!(in alloc; "{fault:?}: {fault}")?,
-        Err(OrMemory::Memory) => return Err(Trouble::Memory),
-    })
+fn set(told: &mut String, input: &str) -> Result<(), Trouble> {
+    let alloc = *told.allocator();
+    match Labels::from_pairs(alloc, pairs_in(alloc, input)?) {
+        Ok(labels) => push_set(told, &labels),
+        Err(refused) => tell_refused(told, &refused),
+    }
+}
+
+fn push_set(told: &mut String, labels: &Labels) -> Result<(), Trouble> {
+    let len = labels.as_text().len();
+    writeln!(told, "{labels} {len}")?;
+    Ok(())
+}
+
+// The text of the set that has the value under the label `a`.
+fn value(told: &mut String, input: &str) -> Result<(), Trouble> {
+    let labels = of_value(*told.allocator(), input)?;
+    let text = labels.text()?;
+    tell(told, &text)
 }
 
 // The set that has the value under the label `a`.
@@ -69,74 +88,95 @@ fn of_value(alloc: Global, value: &str) -> Result<Labels, Trouble> {
 }
 
 // The labels of the first line's set, and the values that it has under the names of the other lines.
-fn read(alloc: Global, input: &str) -> Result<String, Trouble> {
+fn read(told: &mut String, input: &str) -> Result<(), Trouble> {
     let (first, names) = input.split_once('\n').ok_or(Trouble::BadInput)?;
-    let labels = labels_in(alloc, first)?;
-    let mut answer = String::new(alloc);
+    let labels = labels_in(*told.allocator(), first)?;
+    push_pairs(told, &labels)?;
+    push_values(told, &labels, names)
+}
+
+fn push_pairs(told: &mut String, labels: &Labels) -> Result<(), Trouble> {
     for (name, value) in labels.pairs() {
-        writeln!(answer, "{name}: {value}")?;
+        writeln!(told, "{name}: {value}")?;
     }
+    Ok(())
+}
+
+fn push_values(told: &mut String, labels: &Labels, names: &str) -> Result<(), Trouble> {
     for name in names.split('\n') {
-        writeln!(answer, "{name} {:?}", labels.get(name))?;
+        let value = labels.get(name);
+        writeln!(told, "{name} {value:?}")?;
     }
-    Ok(answer)
+    Ok(())
 }
 
 // The first line's set with each other line's label set in it, and the set itself behind these.
-fn with(alloc: Global, input: &str) -> Result<String, Trouble> {
+fn with(told: &mut String, input: &str) -> Result<(), Trouble> {
     let (first, changes) = input.split_once('\n').ok_or(Trouble::BadInput)?;
-    let labels = labels_in(alloc, first)?;
-    let mut answer = String::new(alloc);
-    for change in changes.split('\n') {
-        writeln!(answer, "{}", changed(&labels, change)?)?;
-    }
-    answer.push_str(labels.as_text())?;
-    Ok(answer)
+    let labels = labels_in(*told.allocator(), first)?;
+    push_changes(told, &labels, changes)?;
+    tell(told, &labels.as_text())
 }
 
-fn changed(labels: &Labels, change: &str) -> Result<Labels, Trouble> {
-    match change.split_once('=') {
-        Some((name, value)) if is_label_name(name) => Ok(labels.with_label(name, value)?),
-        _ => Err(Trouble::BadInput),
+fn push_changes(told: &mut String, labels: &Labels, changes: &str) -> Result<(), Trouble> {
+    for change in changes.split('\n') {
+        push_changed(told, labels, change)?;
     }
+    Ok(())
+}
+
+fn push_changed(told: &mut String, labels: &Labels, change: &str) -> Result<(), Trouble> {
+    let (name, value) = change.split_once('=').ok_or(Trouble::BadInput)?;
+    if !is_label_name(name) {
+        return Err(Trouble::BadInput);
+    }
+    let changed = labels.with_label(name, value)?;
+    tell(told, &changed)
 }
 
 // The number that a label's value is, in billionths.
-fn number(alloc: Global, input: &str) -> Result<String, Trouble> {
-    Ok(match Signed::<Decimal>::read(input) {
-        Ok(number) => format!(in alloc; "{}", number.value())?,
-        Err(fault) => format!(in alloc; "{fault:?}")?,
-    })
-}
-
-// The duration that a label's value is, in billionths of a nanosecond.
-fn duration(alloc: Global, input: &str) -> Result<String, Trouble> {
-    Ok(match Signed::<Duration>::read(input) {
-        Ok(duration) => format!(in alloc; "{}", duration.value())?,
-        Err(fault) => format!(in alloc; "{fault:?}")?,
-    })
-}
-
-// The parts of an entry, and its fault where it is refused.
-fn entry(alloc: Global, input: &str) -> Result<String, Trouble> {
-    let (moment, rest) = input.split_once(' ').ok_or(Trouble::BadInput)?;
-    let (labels, line) = rest.split_once(' ').ok_or(Trouble::BadInput)?;
-    let (moment, line) = (moment_in(moment)?, PlainText::from_str(alloc, line)?);
-    match Entry::new(labels_in(alloc, labels)?, moment, line) {
-        Ok(made) => told_of_entry(alloc, &made),
-        Err(refused) => told_of_refused(alloc, &refused),
+fn number(told: &mut String, input: &str) -> Result<(), Trouble> {
+    match Signed::<Decimal>::read(input) {
+        Ok(number) => tell(told, &number.value()),
+        Err(fault) => tell_debug(told, &fault),
     }
 }
 
-fn told_of_entry(alloc: Global, made: &Entry) -> Result<String, Trouble> {
-    let (labels, line, moment) = (&made.labels, &made.line, made.timestamp.get());
-    Ok(format!(in alloc; "{moment} {labels} {line}")?)
+// The duration that a label's value is, in billionths of a nanosecond.
+fn duration(told: &mut String, input: &str) -> Result<(), Trouble> {
+    match Signed::<Duration>::read(input) {
+        Ok(duration) => tell(told, &duration.value()),
+        Err(fault) => tell_debug(told, &fault),
+    }
 }
 
-fn told_of_refused(alloc: Global, refused: &RefusedEntry) -> Result<String, Trouble> {
-    let (labels, line, moment) = (&refused.labels, &refused.line, refused.timestamp.get());
-    let fault = refused.fault;
-    Ok(format!(in alloc; "{fault:?}: {fault}\n{moment} {labels} {line}")?)
+fn moment(told: &mut String, input: &str) -> Result<(), Trouble> {
+    let number = number_in(input)?;
+    tell_debug(told, &Ns::new(number))
+}
+
+// The parts of an entry, and its fault where it is refused.
+fn entry(told: &mut String, input: &str) -> Result<(), Trouble> {
+    match entry_of(*told.allocator(), input)? {
+        Ok(made) => push_entry(told, &made.labels, made.timestamp, &made.line),
+        Err(refused) => push_refused(told, &refused),
+    }
+}
+
+fn push_refused(told: &mut String, refused: &RefusedEntry) -> Result<(), Trouble> {
+    tell_fault(told, &refused.fault)?;
+    push_entry(told, &refused.labels, refused.timestamp, &refused.line)
+}
+
+fn push_entry(
+    told: &mut String,
+    labels: &Labels,
+    timestamp: Ns,
+    line: &PlainText,
+) -> Result<(), Trouble> {
+    let moment = timestamp.get();
+    writeln!(told, "{moment} {labels} {line}")?;
+    Ok(())
 }
 
 // The name, the operator and the value.
@@ -165,29 +205,34 @@ fn matcher_in(alloc: Global, text: &str) -> Result<Matcher, Trouble> {
     matcher_of(alloc, text)?.or(Err(Trouble::BadInput))
 }
 
-fn matcher(alloc: Global, input: &str) -> Result<String, Trouble> {
-    match matcher_of(alloc, input)? {
-        Ok(made) => told_of_matcher(alloc, &made),
-        Err(OrMemory::Fault(fault)) => Ok(format!(in alloc; "{fault:?}: {fault}")?),
-        Err(OrMemory::Memory) => Err(Trouble::Memory),
+fn matcher(told: &mut String, input: &str) -> Result<(), Trouble> {
+    match matcher_of(*told.allocator(), input)? {
+        Ok(made) => push_matcher(told, &made),
+        Err(refused) => tell_refused(told, &refused),
     }
 }
 
-fn told_of_matcher(alloc: Global, made: &Matcher) -> Result<String, Trouble> {
+fn push_matcher(told: &mut String, made: &Matcher) -> Result<(), Trouble> {
     let (name, op, value) = (&made.name, made.op, &made.value);
-    Ok(format!(in alloc; "{name} {op:?} {value}")?)
+    writeln!(told, "{name} {op:?} {value}")?;
+    Ok(())
 }
 
 // Limits that hold, or the first that is out of its range.
-fn limits(alloc: Global, input: &str) -> Result<String, Trouble> {
+fn limits(told: &mut String, input: &str) -> Result<(), Trouble> {
     match Limits::check(raw_limits_in(input)?) {
-        Ok(limits) => told_of_limits(alloc, limits),
-        Err(bad) => Ok(format!(in alloc; "{:?}: {bad}", bad.field)?),
+        Ok(limits) => push_limits(told, limits),
+        Err(bad) => push_bad(told, bad),
     }
 }
 
-fn told_of_limits(alloc: Global, limits: Limits) -> Result<String, Trouble> {
-    let mut text = String::new(alloc);
+fn push_bad(told: &mut String, bad: BadLimit) -> Result<(), Trouble> {
+    let field = bad.field;
+    writeln!(told, "{field:?}: {bad}")?;
+    Ok(())
+}
+
+fn push_limits(told: &mut String, limits: Limits) -> Result<(), Trouble> {
     for (name, limit) in [
         ("entries", limits.entries),
         ("chunk_entries", limits.chunk_entries),
@@ -198,16 +243,17 @@ fn told_of_limits(alloc: Global, limits: Limits) -> Result<String, Trouble> {
         ("records", limits.records),
         ("first_blob", limits.first_blob),
     ] {
-        writeln!(text, "{name}={limit}")?;
+        writeln!(told, "{name}={limit}")?;
     }
-    Ok(text)
+    Ok(())
 }
 
 // The texts of the faults that no input has, and that of a pattern of ten million letters.
-fn others(alloc: Global) -> Result<String, Trouble> {
+fn others(told: &mut String) -> Result<(), Trouble> {
     let memory: LabelsError = OrMemory::Memory;
+    tell_fault(told, &memory)?;
     let field = LimitField::FirstBlob;
-    let big = PatternCode::build(alloc, "a{1000}{1000}{10}").err();
-    let limit = BadLimit { field };
-    Ok(format!(in alloc; "{memory:?}: {memory}\n{field:?}: {limit}\n{big:?}")?)
+    push_bad(told, BadLimit { field })?;
+    let big = PatternCode::build(*told.allocator(), "a{1000}{1000}{10}").err();
+    tell_debug(told, &big)
 }

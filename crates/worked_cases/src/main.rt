@@ -20,6 +20,7 @@ mod shard;
 mod sinks;
 mod streams;
 mod streams_random;
+mod told;
 mod trouble;
 mod world;
 mod world_steps;
@@ -29,6 +30,7 @@ use std::alloc::Global;
 use std::process::ExitCode;
 use std::rt::{Env, Files};
 use std::{env, fs, io};
+use told::tell;
 use trouble::Trouble;
 
 fn main(rt: HostRuntime) -> ExitCode {
@@ -90,10 +92,20 @@ fn answer(alloc: Global, family: &str, directive: &str, input: &str) -> Result<S
     };
     let mut answers = String::new(alloc);
     for line in input.split('\n') {
-        let answered = answer_once(alloc, family, directive, line)?;
-        writeln!(answers, "{}", answered.as_str().trim_end_matches('\n'))?;
+        push_answer(&mut answers, family, directive, line)?;
     }
     Ok(answers)
+}
+
+// Adds an answer as one line.
+fn push_answer(
+    answers: &mut String,
+    family: &str,
+    directive: &str,
+    line: &str,
+) -> Result<(), Trouble> {
+    let answered = answer_once(*answers.allocator(), family, directive, line)?;
+    tell(answers, &answered.as_str().trim_end_matches('\n'))
 }
 
 // An answer, or why there is none.
@@ -103,26 +115,27 @@ fn answer_once(
     directive: &str,
     input: &str,
 ) -> Result<String, Trouble> {
-    match answer_of(alloc, family, directive, input) {
-        Ok(text) => Ok(text),
+    let mut told = String::new(alloc);
+    match push_told(&mut told, family, directive, input) {
+        Ok(()) => Ok(told),
         Err(trouble) => Ok(format!(in alloc; "{trouble:?}")?),
     }
 }
 
-fn answer_of(alloc: Global, family: &str, directive: &str, input: &str) -> Result<String, Trouble> {
+fn push_told(told: &mut String, family: &str, directive: &str, input: &str) -> Result<(), Trouble> {
     match family {
-        "aggregate" => aggregate::answer(alloc, directive, input),
-        "chunks" => chunks::answer(alloc, directive, input),
-        "labels" => labels::answer(alloc, directive, input),
-        "pipeline" => pipeline::answer(alloc, directive, input),
-        "plain" => plain::answer(alloc, directive, input),
-        "query" => query::answer(alloc, directive, input),
-        "rules" => rules::answer(alloc, directive, input),
-        "session" => session::answer(alloc, directive, input),
-        "sinks" => sinks::answer(alloc, directive, input),
-        "shard" => shard::answer(alloc, directive, input),
-        "streams" => streams::answer(alloc, directive, input),
-        "world" => world::answer(alloc, directive, input),
+        "aggregate" => aggregate::answer(told, directive, input),
+        "chunks" => chunks::answer(told, directive, input),
+        "labels" => labels::answer(told, directive, input),
+        "pipeline" => pipeline::answer(told, directive, input),
+        "plain" => plain::answer(told, directive, input),
+        "query" => query::answer(told, directive, input),
+        "rules" => rules::answer(told, directive, input),
+        "session" => session::answer(told, directive, input),
+        "sinks" => sinks::answer(told, directive, input),
+        "shard" => shard::answer(told, directive, input),
+        "streams" => streams::answer(told, directive, input),
+        "world" => world::answer(told, directive, input),
         _ => Err(Trouble::NoSuchDirective),
     }
 }

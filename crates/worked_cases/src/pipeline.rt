@@ -5,6 +5,7 @@
 //! `covers` has a delete selector, and an entry in each other line.
 use crate::given::{entry_in, labels_in};
 use crate::query::{query_in, sieve_in};
+use crate::told::tell;
 use crate::trouble::Trouble;
 use rl_labels::labels::{ERROR_LABEL, is_label_name};
 use rl_labels::{Covers, Labels};
@@ -13,38 +14,53 @@ use rl_query::Parser;
 use std::alloc::Global;
 use std::mem;
 
-pub(crate) fn answer(alloc: Global, directive: &str, input: &str) -> Result<String, Trouble> {
+pub(crate) fn answer(told: &mut String, directive: &str, input: &str) -> Result<(), Trouble> {
     let (first, lines) = input.split_once('\n').ok_or(Trouble::BadInput)?;
     match directive {
-        "json" => behind(alloc, Parser::Json, first, lines),
-        "logfmt" => behind(alloc, Parser::Logfmt, first, lines),
-        "runs" => runs(alloc, first, lines),
-        "covers" => covers(alloc, first, lines),
+        "json" => behind(told, Parser::Json, first, lines),
+        "logfmt" => behind(told, Parser::Logfmt, first, lines),
+        "runs" => runs(told, first, lines),
+        "covers" => covers(told, first, lines),
         _ => Err(Trouble::NoSuchDirective),
     }
 }
 
 // The labels that each line of a stream has behind the parser, where an error is set before it.
-fn behind(alloc: Global, parser: Parser, labels: &str, lines: &str) -> Result<String, Trouble> {
+fn behind(told: &mut String, parser: Parser, labels: &str, lines: &str) -> Result<(), Trouble> {
+    let labels = faulty_labels(*told.allocator(), labels)?;
+    for line in lines.split('\n') {
+        push_parsed(told, parser, &labels, line)?;
+    }
+    Ok(())
+}
+
+// A label set with an error.
+fn faulty_labels(alloc: Global, labels: &str) -> Result<Labels, Trouble> {
     if !is_label_name(ERROR_LABEL) {
         return Err(Trouble::BadInput);
     }
-    let labels = labels_in(alloc, labels)?.with_label(ERROR_LABEL, "E")?;
-    let mut answer = String::new(alloc);
-    for line in lines.split('\n') {
-        writeln!(answer, "{}", parsed(alloc, parser, &labels, line)?)?;
-    }
-    Ok(answer)
+    let labels = labels_in(alloc, labels)?;
+    Ok(labels.with_label(ERROR_LABEL, "E")?)
+}
+
+fn push_parsed(
+    told: &mut String,
+    parser: Parser,
+    labels: &Labels,
+    line: &str,
+) -> Result<(), Trouble> {
+    let labels = parsed(*told.allocator(), parser, labels, line)?;
+    tell(told, &labels)
 }
 
 // The labels that each line has behind all stages, and what was counted.
-fn runs(alloc: Global, query: &str, rest: &str) -> Result<String, Trouble> {
+fn runs(told: &mut String, query: &str, rest: &str) -> Result<(), Trouble> {
     let (labels, lines) = rest.split_once('\n').ok_or(Trouble::BadInput)?;
-    let labels = labels_in(alloc, labels)?;
-    let mut answer = String::new(alloc);
-    let pipeline = pipeline_in(alloc, query)?;
-    push_runs(&mut answer, &mut pipeline.running()?, &labels, lines)?;
-    Ok(answer)
+    let labels = labels_in(*told.allocator(), labels)?;
+    let pipeline = pipeline_in(*told.allocator(), query)?;
+    let ended = push_runs(told, &pipeline, &labels, lines);
+    mem::forget(pipeline);
+    ended
 }
 
 // The built stages of the first term of a query.
@@ -56,33 +72,73 @@ fn pipeline_in(alloc: Global, query: &str) -> Result<Pipeline, Trouble> {
 }
 
 fn push_runs(
-    answer: &mut String,
-    running: &mut Running<'_>,
+    told: &mut String,
+    pipeline: &Pipeline,
     labels: &Labels,
     lines: &str,
 ) -> Result<(), Trouble> {
+    let mut running = pipeline.running()?;
     let mut meter = Meter::new();
-    for line in lines.split('\n') {
-        match running.run(&mut meter, labels, line)? {
-            Some(labels) => writeln!(answer, "{labels}")?,
-            None => writeln!(answer, "left out")?,
-        }
-    }
+    let ended = push_lines(told, &mut running, &mut meter, labels, lines);
+    let is_plain = running.is_plain();
+    mem::forget(running);
+    ended?;
     meter.count_visits(u64::MAX - 1);
     meter.count_visits(meter.runs());
-    let (runs, visits, is_plain) = (meter.runs(), meter.visits(), running.is_plain());
-    writeln!(answer, "{runs} runs, {visits} visits, plain {is_plain}")?;
+    let (runs, visits) = (meter.runs(), meter.visits());
+    writeln!(told, "{runs} runs, {visits} visits, plain {is_plain}")?;
     Ok(())
 }
 
-// Whether a sieve covers each entry.
-fn covers(alloc: Global, selector: &str, entries: &str) -> Result<String, Trouble> {
-    let sieve = sieve_in(alloc, selector)?;
-    let code = SieveCode::build(alloc, &sieve).or(Err(Trouble::BadInput))?;
-    let mut answer = String::new(alloc);
-    for entry in entries.split('\n') {
-        let entry = entry_in(alloc, entry)?;
-        writeln!(answer, "{}", code.covers(&entry)?)?;
+fn push_lines(
+    told: &mut String,
+    running: &mut Running<'_>,
+    meter: &mut Meter,
+    labels: &Labels,
+    lines: &str,
+) -> Result<(), Trouble> {
+    for line in lines.split('\n') {
+        push_run(told, running, meter, labels, line)?;
     }
-    Ok(answer)
+    Ok(())
+}
+
+fn push_run(
+    told: &mut String,
+    running: &mut Running<'_>,
+    meter: &mut Meter,
+    labels: &Labels,
+    line: &str,
+) -> Result<(), Trouble> {
+    match running.run(meter, labels, line)? {
+        Some(labels) => tell(told, &labels),
+        None => tell(told, &"left out"),
+    }
+}
+
+// Whether a sieve covers each entry.
+fn covers(told: &mut String, selector: &str, entries: &str) -> Result<(), Trouble> {
+    let code = code_in(*told.allocator(), selector)?;
+    let ended = push_covered(told, &code, entries);
+    mem::forget(code);
+    ended
+}
+
+fn code_in(alloc: Global, selector: &str) -> Result<SieveCode, Trouble> {
+    let sieve = sieve_in(alloc, selector)?;
+    let built = SieveCode::build(alloc, &sieve);
+    built.ok().ok_or(Trouble::BadInput)
+}
+
+fn push_covered(told: &mut String, code: &SieveCode, entries: &str) -> Result<(), Trouble> {
+    for entry in entries.split('\n') {
+        let is_covered = is_covered(*told.allocator(), code, entry)?;
+        tell(told, &is_covered)?;
+    }
+    Ok(())
+}
+
+fn is_covered(alloc: Global, code: &SieveCode, entry: &str) -> Result<bool, Trouble> {
+    let entry = entry_in(alloc, entry)?;
+    Ok(code.covers(&entry)?)
 }

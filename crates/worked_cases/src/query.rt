@@ -1,5 +1,6 @@
 //! Query texts that no rule file shows: what they are read as, what their faults say, and the texts of delete requests.
 use crate::compared::{halves, matched};
+use crate::told::{tell, tell_debug};
 use crate::trouble::Trouble;
 use rl_query::{
     Query, QueryError, QueryFault, Sieve, Stage, parse, parse_delete, print, print_sieve,
@@ -8,14 +9,14 @@ use rl_query::{
 use std::alloc::{AllocError, AllocFailed, Global};
 use std::mem;
 
-pub(crate) fn answer(alloc: Global, directive: &str, input: &str) -> Result<String, Trouble> {
+pub(crate) fn answer(told: &mut String, directive: &str, input: &str) -> Result<(), Trouble> {
     match directive {
-        "parse" => printed(alloc, input),
-        "tests" => tests(alloc, input),
-        "fault" => Ok(format!(in alloc; "{}", error_of(alloc, input)?)?),
-        "faults" => faults(alloc, input),
-        "delete" => printed_sieve(alloc, input),
-        "sieves" => matched(alloc, input, sieve_in),
+        "parse" => printed(told, input),
+        "tests" => tests(told, input),
+        "fault" => fault(told, input),
+        "faults" => faults(told, input),
+        "delete" => printed_sieve(told, input),
+        "sieves" => matched(told, input, sieve_in),
         _ => Err(Trouble::NoSuchDirective),
     }
 }
@@ -29,40 +30,50 @@ pub(crate) fn sieve_in(alloc: Global, text: &str) -> Result<Sieve, Trouble> {
 }
 
 // The canonical text of the query that a text is, or its fault.
-fn printed(alloc: Global, input: &str) -> Result<String, Trouble> {
-    match parse(alloc, input) {
+fn printed(told: &mut String, input: &str) -> Result<(), Trouble> {
+    match parse(*told.allocator(), input) {
         Ok(query) => {
-            let text = print(alloc, &query);
+            let ended = push_query(told, &query);
             mem::forget(query);
-            Ok(text?)
+            ended
         }
-        Err(error) => told_of(alloc, error),
+        Err(error) => push_error(told, error),
     }
+}
+
+fn push_query(told: &mut String, query: &Query) -> Result<(), Trouble> {
+    let text = print(*told.allocator(), query)?;
+    tell(told, &text)
 }
 
 // The texts of the label tests of a query's first term.
-fn tests(alloc: Global, input: &str) -> Result<String, Trouble> {
-    let query = query_in(alloc, input)?;
-    let text = tests_in(alloc, query.left.range.stages.as_slice());
+fn tests(told: &mut String, input: &str) -> Result<(), Trouble> {
+    let query = query_in(*told.allocator(), input)?;
+    let ended = push_tests(told, query.left.range.stages.as_slice());
     mem::forget(query);
-    text
+    ended
 }
 
-fn tests_in(alloc: Global, stages: &[Stage]) -> Result<String, Trouble> {
-    let mut text = String::new(alloc);
+fn push_tests(told: &mut String, stages: &[Stage]) -> Result<(), Trouble> {
     for stage in stages {
         if let Stage::Tests(tests) = stage {
-            writeln!(text, "{}", print_tests(alloc, tests)?)?;
+            let text = print_tests(*told.allocator(), tests)?;
+            tell(told, &text)?;
         }
     }
-    Ok(text)
+    Ok(())
 }
 
-fn told_of(alloc: Global, error: QueryError) -> Result<String, Trouble> {
+fn push_error(told: &mut String, error: QueryError) -> Result<(), Trouble> {
     match error {
-        QueryError::Fault(fault) => Ok(format!(in alloc; "{fault:?}")?),
+        QueryError::Fault(fault) => tell_debug(told, &fault),
         QueryError::Memory => Err(Trouble::Memory),
     }
+}
+
+fn fault(told: &mut String, input: &str) -> Result<(), Trouble> {
+    let error = error_of(*told.allocator(), input)?;
+    tell(told, &error)
 }
 
 // Why a text is no query; or want of memory, by the way that is named.
@@ -86,16 +97,22 @@ fn fault_of(alloc: Global, text: &str) -> Result<QueryFault, Trouble> {
 }
 
 // Whether the faults of two texts are equal.
-fn faults(alloc: Global, input: &str) -> Result<String, Trouble> {
+fn faults(told: &mut String, input: &str) -> Result<(), Trouble> {
+    let alloc = *told.allocator();
     let (left, right) = halves(input)?;
     let (left, right) = (fault_of(alloc, left)?, fault_of(alloc, right)?);
-    Ok((left == right).to_string(alloc)?)
+    tell(told, &(left == right))
 }
 
 // The canonical text of the sieve that a text is, or its fault.
-fn printed_sieve(alloc: Global, input: &str) -> Result<String, Trouble> {
-    match parse_delete(alloc, input) {
-        Ok(sieve) => Ok(print_sieve(alloc, &sieve)?),
-        Err(error) => told_of(alloc, error),
+fn printed_sieve(told: &mut String, input: &str) -> Result<(), Trouble> {
+    match parse_delete(*told.allocator(), input) {
+        Ok(sieve) => push_sieve(told, &sieve),
+        Err(error) => push_error(told, error),
     }
+}
+
+fn push_sieve(told: &mut String, sieve: &Sieve) -> Result<(), Trouble> {
+    let text = print_sieve(*told.allocator(), sieve)?;
+    tell(told, &text)
 }

@@ -1,16 +1,22 @@
 //! Rule files: what is told of those that are refused, and groups beside one another.
 use crate::compared::matched;
+use crate::told::tell;
 use crate::trouble::Trouble;
 use rl_rules::{Alert, Group, RulesError, read_rules};
 use std::alloc::{AllocError, AllocFailed, Global};
 use std::mem;
 
-pub(crate) fn answer(alloc: Global, directive: &str, input: &str) -> Result<String, Trouble> {
+pub(crate) fn answer(told: &mut String, directive: &str, input: &str) -> Result<(), Trouble> {
     match directive {
-        "fault" => Ok(format!(in alloc; "{}", error_of(alloc, input)?)?),
-        "groups" => matched(alloc, input, group_in),
+        "fault" => fault(told, input),
+        "groups" => matched(told, input, group_in),
         _ => Err(Trouble::NoSuchDirective),
     }
+}
+
+fn fault(told: &mut String, input: &str) -> Result<(), Trouble> {
+    let error = error_of(*told.allocator(), input)?;
+    tell(told, &error)
 }
 
 // The fault of a rule file, or the want of memory that is named.

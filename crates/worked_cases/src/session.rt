@@ -8,10 +8,11 @@ ghost use Rattle.std.specs.List.{AllByRecursion};
 ghost use Rattle.rl_world.specs.BookCalls.{IsFresh};
 
 use crate::given::{limits_in, number_in};
+use crate::told::{tell, tell_fault};
 use crate::trouble::Trouble;
 use rl_chunks::MemStore;
-use rl_labels::Limits;
-use rl_rules::RulesFault;
+use rl_labels::{Entry, Limits};
+use rl_rules::{Group, RulesFault};
 use rl_session::names::{front_fault_name, push_error_name};
 use rl_session::{
     Front, FrontError, FrontFault, PushError, RunError, Session, Status, WorldEngine, is_blank,
@@ -21,17 +22,25 @@ use rl_sinks::{Recorder, Sink};
 use std::alloc::{AllocError, Global};
 use std::mem;
 
-pub(crate) fn answer(alloc: Global, directive: &str, input: &str) -> Result<String, Trouble> {
+pub(crate) fn answer(told: &mut String, directive: &str, input: &str) -> Result<(), Trouble> {
     match directive {
-        "run" => run(alloc, input),
-        "push" => push(alloc, input),
-        "others" => others(alloc),
+        "run" => run(told, input),
+        "push" => push(told, input),
+        "others" => others(told),
         _ => Err(Trouble::NoSuchDirective),
     }
 }
 
 // How many entries a body has, or its fault by its name and as an operator reads it.
-fn push(alloc: Global, input: &str) -> Result<String, Trouble> {
+fn push(told: &mut String, input: &str) -> Result<(), Trouble> {
+    let body = body_in(*told.allocator(), input)?;
+    match read_push(*told.allocator(), &body) {
+        Ok(entries) => push_count(told, &entries),
+        Err(error) => push_error(told, error),
+    }
+}
+
+fn body_in(alloc: Global, input: &str) -> Result<Vec<u8>, Trouble> {
     let mut body = Vec::new(alloc);
     for c in input.chars() {
         match c {
@@ -39,19 +48,26 @@ fn push(alloc: Global, input: &str) -> Result<String, Trouble> {
             _ => body.extend_from_slice(c.encode_utf8(&mut [0; 4]).as_bytes())?,
         }
     }
-    Ok(match read_push(alloc, body.as_slice()) {
-        Ok(entries) => format!(in alloc; "{} entries", entries.len())?,
-        Err(error) => format!(in alloc; "{}: {error}", push_error_name(error))?,
-    })
+    Ok(body)
 }
 
-fn run(alloc: Global, input: &str) -> Result<String, Trouble> {
+fn push_count(told: &mut String, entries: &[Entry]) -> Result<(), Trouble> {
+    writeln!(told, "{} entries", entries.len())?;
+    Ok(())
+}
+
+fn push_error(told: &mut String, error: PushError) -> Result<(), Trouble> {
+    let name = push_error_name(error);
+    writeln!(told, "{name}: {error}")?;
+    Ok(())
+}
+
+fn run(told: &mut String, input: &str) -> Result<(), Trouble> {
     let (words, rest) = input.split_once('\n').ok_or(Trouble::BadInput)?;
     let (limits, cap) = words.split_once("cap=").unwrap_or((words, "1024"));
     let (limits, cap) = (limits_in(limits)?, number_in(cap)? as usize);
-    let mut reader = rest.as_bytes();
-    match read_front(alloc, &mut reader) {
-        Ok(front) => play(alloc, limits, cap, front),
+    match read_front(*told.allocator(), &mut rest.as_bytes()) {
+        Ok(front) => play(told, limits, cap, front),
         Err(_) => Err(Trouble::BadInput),
     }
 }
@@ -65,7 +81,8 @@ struct Written {
 }
 
 // What the session prints, what each recorder writes, and how it ends.
-fn play(alloc: Global, limits: Limits, cap: usize, front: Front) -> Result<String, Trouble> {
+fn play(told: &mut String, limits: Limits, cap: usize, front: Front) -> Result<(), Trouble> {
+    let alloc = *told.allocator();
     let (printed, first, second) = (Vec::new(alloc), Vec::new(alloc), Vec::new(alloc));
     let mut written = Written {
         printed,
@@ -73,9 +90,21 @@ fn play(alloc: Global, limits: Limits, cap: usize, front: Front) -> Result<Strin
         second,
     };
     let ended = run_session(alloc, limits, cap, front, &mut written)?;
+    push_written(told, &written, ended)
+}
+
+fn push_written(
+    told: &mut String,
+    written: &Written,
+    ended: Result<Status, RunError>,
+) -> Result<(), Trouble> {
     let (printed, first) = (text_of(&written.printed)?, text_of(&written.first)?);
     let second = text_of(&written.second)?;
-    Ok(format!(in alloc; "{printed}recorded\n{first}recorded\n{second}{ended:?}")?)
+    writeln!(
+        told,
+        "{printed}recorded\n{first}recorded\n{second}{ended:?}"
+    )?;
+    Ok(())
 }
 
 fn text_of(bytes: &[u8]) -> Result<&str, Trouble> {
@@ -93,15 +122,36 @@ fn run_session(
     let second = Recorder::new(alloc, &mut written.second, 2);
     let sinks = of_one_group(alloc, first, second)?;
     let Front { groups, commands } = front;
-    if groups.len() != 1 {
-        return Err(Trouble::BadInput);
-    }
-    let stores = vec![in alloc; MemStore::new(alloc)]?;
-    let engine = WorldEngine::open(alloc, limits, stores, groups, sinks)?;
-    let mut session = Session::new(alloc, engine);
+    let mut session = opened(alloc, limits, groups, sinks)?;
     let ended = session.run_commands(commands.as_str(), &mut written.printed);
     mem::forget(session);
     Ok(ended)
+}
+
+// A session over a shard, and one group with its sinks.
+fn opened<S: Sink>(
+    alloc: Global,
+    limits: Limits,
+    groups: Vec<Group>,
+    sinks: Vec<Vec<S>>,
+) -> Result<Session<WorldEngine<MemStore, S>>, Trouble>
+    requires one { length sinks.items ≡ 1 }
+    requires fresh { AllByRecursion (λ own. AllByRecursion IsFresh (map S.state own.items)) sinks.items }
+{
+    if groups.len() != 1 {
+        return Err(Trouble::BadInput);
+    }
+    let stores = one_store(alloc)?;
+    let engine = WorldEngine::open(alloc, limits, stores, groups, sinks)?;
+    Ok(Session::new(alloc, engine))
+}
+
+fn one_store(alloc: Global) -> Result<Vec<MemStore>, AllocError>
+    ensures { IfOk result (λ stores. length stores.items ≡ 1) }
+{
+    let mut stores = Vec::new(alloc);
+    stores.push(MemStore::new(alloc))?;
+    Ok(stores)
 }
 
 // The sinks of one group, which has these two.
@@ -120,23 +170,21 @@ fn of_one_group<S: Sink>(alloc: Global, first: S, second: S) -> Result<Vec<Vec<S
 }
 
 // The faults that no input has, and those of an input as an operator reads them; and that a line feed is no blank line.
-fn others(alloc: Global) -> Result<String, Trouble> {
-    let mut text = String::new(alloc);
-    let memory = PushError::Memory;
-    writeln!(text, "{}: {memory}", push_error_name(memory))?;
-    for fault in [
-        FrontFault::ReadFault,
-        FrontFault::TooLong,
-        FrontFault::NotText,
-        FrontFault::NoMark,
-        FrontFault::Rules(RulesFault::MissingKey),
-    ] {
-        writeln!(text, "{}: {fault}", front_fault_name(fault))?;
-    }
-    writeln!(text, "{}", FrontError::Memory)?;
-    for error in [RunError::WriteFault, RunError::Memory] {
-        writeln!(text, "{error:?}: {error}")?;
-    }
-    writeln!(text, "{}", is_blank("\n"))?;
-    Ok(text)
+fn others(told: &mut String) -> Result<(), Trouble> {
+    push_error(told, PushError::Memory)?;
+    push_fault(told, FrontFault::ReadFault)?;
+    push_fault(told, FrontFault::TooLong)?;
+    push_fault(told, FrontFault::NotText)?;
+    push_fault(told, FrontFault::NoMark)?;
+    push_fault(told, FrontFault::Rules(RulesFault::MissingKey))?;
+    tell(told, &FrontError::Memory)?;
+    tell_fault(told, &RunError::WriteFault)?;
+    tell_fault(told, &RunError::Memory)?;
+    tell(told, &is_blank("\n"))
+}
+
+fn push_fault(told: &mut String, fault: FrontFault) -> Result<(), Trouble> {
+    let name = front_fault_name(fault);
+    writeln!(told, "{name}: {fault}")?;
+    Ok(())
 }

@@ -4,72 +4,101 @@
 //! moment and a query, of which the first term is asked for; or `delete`, a number, a start, an end, when it was made and a
 //! delete selector; or `cancel` and a number; or `process`, a number and a moment; or `retain` and a moment.
 use crate::compared::halves;
-use crate::given::{entry_in, moment_in, number_in};
+use crate::given::{entry_in, moment_in, number_in, words_of};
 use crate::query::{query_in, sieve_in};
 use crate::trouble::Trouble;
 use rl_chunks::MemStore;
-use rl_labels::{DEFAULT_LIMITS, Limits};
+use rl_labels::{DEFAULT_LIMITS, Entry, Limits};
 use rl_plain::{PlainList, Same, Shared, TryCopy};
+use rl_query::{Sieve, Term};
 use rl_shard::{Shard, ShardReply, ShardStep};
 use std::alloc::Global;
+use std::mem;
 
 /// What a directive gives for its input.
-pub(crate) fn answer(alloc: Global, directive: &str, input: &str) -> Result<String, Trouble> {
+pub(crate) fn answer(told: &mut String, directive: &str, input: &str) -> Result<(), Trouble> {
     match directive {
-        "steps" => steps(alloc, input),
+        "steps" => steps(told, input),
         _ => Err(Trouble::NoSuchDirective),
     }
 }
 
 // How a copy of the left step stands to the right one, and a copy of the left reply to the right one.
-fn steps(alloc: Global, input: &str) -> Result<String, Trouble> {
+fn steps(told: &mut String, input: &str) -> Result<(), Trouble> {
+    let alloc = *told.allocator();
     let (left, right) = halves(input)?;
-    let (left, right) = (step_in(alloc, left)?, step_in(alloc, right)?);
-    let steps = likeness(&left, &right)?;
-    let (left, right) = (reply_to(alloc, left)?, reply_to(alloc, right)?);
-    let replies = likeness(&left, &right)?;
-    Ok(format!(in alloc; "{steps} steps, {replies} replies")?)
+    let steps = likeness_of_steps(alloc, left, right)?;
+    let replies = likeness_of_replies(alloc, left, right)?;
+    writeln!(told, "{steps} steps, {replies} replies")?;
+    Ok(())
 }
 
-fn step_in(alloc: Global, text: &str) -> Result<ShardStep, Trouble> {
-    match text.split_once(' ') {
-        None if text == "cut" => Ok(ShardStep::Cut),
-        None if text == "flush" => Ok(ShardStep::Flush),
-        Some(("push", entry)) => {
-            let entry = entry_in(alloc, entry)?;
-            Ok(ShardStep::Push(Shared::new(alloc, entry)?))
-        }
-        Some(("collect", rest)) => collect_in(alloc, rest),
-        Some((word, rest)) => removal_in(alloc, word, rest),
-        _ => Err(Trouble::BadInput),
+fn likeness_of_steps(alloc: Global, left: &str, right: &str) -> Result<&'static str, Trouble> {
+    let left = step_of(alloc, left)?;
+    let right = step_of(alloc, right)?;
+    likeness(&left, &right)
+}
+
+fn likeness_of_replies(alloc: Global, left: &str, right: &str) -> Result<&'static str, Trouble> {
+    let left = reply_to(alloc, left)?;
+    let right = reply_to(alloc, right)?;
+    likeness(&left, &right)
+}
+
+fn likeness<T: Same + TryCopy>(left: &T, right: &T) -> Result<&'static str, Trouble> {
+    let copy = left.try_copy()?;
+    Ok(if copy.is_same(right) { "same" } else { "other" })
+}
+
+fn step_of(alloc: Global, text: &str) -> Result<ShardStep, Trouble> {
+    let (word, rest) = words_of(text);
+    step_in(alloc, word, rest)
+}
+
+/// The step that a word and what stands behind it ask for.
+pub(crate) fn step_in(alloc: Global, word: &str, rest: &str) -> Result<ShardStep, Trouble> {
+    match word {
+        "cut" => Ok(ShardStep::Cut),
+        "flush" => Ok(ShardStep::Flush),
+        "push" => Ok(ShardStep::Push(shared_entry_in(alloc, rest)?)),
+        "collect" => collect_in(alloc, rest),
+        "retain" => retain_in(rest),
+        _ => of_request(alloc, word, rest),
     }
 }
 
-/// A step that hides entries, shows them again, or removes them.
-pub(crate) fn removal_in(alloc: Global, word: &str, rest: &str) -> Result<ShardStep, Trouble> {
-    if word == "retain" {
-        let now = moment_in(rest)?;
-        return Ok(ShardStep::Retain { now });
-    }
-    let (id, rest) = rest.split_once(' ').unwrap_or((rest, ""));
+fn shared_entry_in(alloc: Global, text: &str) -> Result<Shared<Entry>, Trouble> {
+    Ok(Shared::new(alloc, entry_in(alloc, text)?)?)
+}
+
+fn retain_in(text: &str) -> Result<ShardStep, Trouble> {
+    let now = moment_in(text)?;
+    Ok(ShardStep::Retain { now })
+}
+
+// A step that has the number of a request.
+fn of_request(alloc: Global, word: &str, text: &str) -> Result<ShardStep, Trouble> {
+    let (id, rest) = words_of(text);
     let id = number_in(id)?;
     match word {
         "delete" => delete_in(alloc, id, rest),
         "cancel" => Ok(ShardStep::Cancel { id }),
-        "process" => {
-            let now = moment_in(rest)?;
-            Ok(ShardStep::Process { id, now })
-        }
+        "process" => process_in(id, rest),
         _ => Err(Trouble::BadInput),
     }
 }
 
+fn process_in(id: u64, text: &str) -> Result<ShardStep, Trouble> {
+    let now = moment_in(text)?;
+    Ok(ShardStep::Process { id, now })
+}
+
 fn delete_in(alloc: Global, id: u64, text: &str) -> Result<ShardStep, Trouble> {
-    let (start, rest) = text.split_once(' ').ok_or(Trouble::BadInput)?;
-    let (end, rest) = rest.split_once(' ').ok_or(Trouble::BadInput)?;
-    let (created, selector) = rest.split_once(' ').ok_or(Trouble::BadInput)?;
+    let (start, rest) = words_of(text);
+    let (end, rest) = words_of(rest);
+    let (created, selector) = words_of(rest);
     let (start, end, created) = (moment_in(start)?, moment_in(end)?, moment_in(created)?);
-    let sieve = Shared::new(alloc, sieve_in(alloc, selector)?)?;
+    let sieve = shared_sieve_in(alloc, selector)?;
     Ok(ShardStep::Delete {
         id,
         sieve,
@@ -79,28 +108,49 @@ fn delete_in(alloc: Global, id: u64, text: &str) -> Result<ShardStep, Trouble> {
     })
 }
 
+fn shared_sieve_in(alloc: Global, selector: &str) -> Result<Shared<Sieve>, Trouble> {
+    Ok(Shared::new(alloc, sieve_in(alloc, selector)?)?)
+}
+
 fn collect_in(alloc: Global, text: &str) -> Result<ShardStep, Trouble> {
-    let (slot, rest) = text.split_once(' ').ok_or(Trouble::BadInput)?;
-    let (t, query) = rest.split_once(' ').ok_or(Trouble::BadInput)?;
+    let (slot, rest) = words_of(text);
+    let (t, query) = words_of(rest);
     let (slot, t) = (number_in(slot)?, moment_in(t)?);
-    let query = query_in(alloc, query)?;
-    let mut terms = Vec::new(alloc);
-    terms.push(query.left.try_copy()?)?;
-    let terms = Shared::new(alloc, PlainList::from_vec(terms))?;
+    let terms = terms_in(alloc, query)?;
     Ok(ShardStep::Collect { slot, terms, t })
 }
 
+// The first term of a query, alone.
+fn terms_in(alloc: Global, query: &str) -> Result<Shared<PlainList<Term>>, Trouble> {
+    let mut terms = Vec::new(alloc);
+    terms.push(term_in(alloc, query)?)?;
+    Ok(Shared::new(alloc, PlainList::from_vec(terms))?)
+}
+
+fn term_in(alloc: Global, query: &str) -> Result<Term, Trouble> {
+    let query = query_in(alloc, query)?;
+    let term = query.left.try_copy();
+    mem::forget(query);
+    Ok(term?)
+}
+
 // What a new shard replies.
-fn reply_to(alloc: Global, step: ShardStep) -> Result<ShardReply, Trouble> {
+fn reply_to(alloc: Global, step: &str) -> Result<ShardReply, Trouble> {
+    let step = step_of(alloc, step)?;
+    let mut shard = new_shard(alloc)?;
+    let reply = reply_of(&mut shard, step);
+    mem::forget(shard);
+    reply
+}
+
+fn new_shard(alloc: Global) -> Result<Shard<MemStore>, Trouble> {
     let limits = Limits::check(DEFAULT_LIMITS).ok().ok_or(Trouble::BadInput)?;
-    let mut shard = Shard::open(alloc, MemStore::new(alloc), limits);
+    Ok(Shard::open(alloc, MemStore::new(alloc), limits))
+}
+
+fn reply_of(shard: &mut Shard<MemStore>, step: ShardStep) -> Result<ShardReply, Trouble> {
     match shard.apply(step) {
         Ok((_, reply)) => Ok(reply),
         Err(_) => Err(Trouble::Memory),
     }
-}
-
-fn likeness<T: Same + TryCopy>(left: &T, right: &T) -> Result<&'static str, Trouble> {
-    let copy = left.try_copy()?;
-    Ok(if copy.is_same(right) { "same" } else { "other" })
 }

@@ -3,164 +3,218 @@
 //! An evaluation is `moment place group`, and behind it `; ` and `name annotations outcome` for each rule, where the
 //! outcome is samples, or the cause of its failure.
 use crate::compared::matched;
-use crate::given::{labels_in, moment_in, number_in};
+use crate::given::{labels_in, moment_in, number_in, words_of};
+use crate::told::{tell_debug, tell_fault};
 use crate::trouble::Trouble;
 use rl_aggregate::{Fraction, Sample};
+use rl_labels::Ns;
 use rl_plain::{PlainList, PlainText};
 use rl_rules::{Alert, Cause, Evaluation, Phase, RuleKind, RuleOutcome, RuleResult};
 use rl_sinks::{Recorder, Sink, SinkFault, SinkKind, evaluation_text};
 use std::alloc::{AllocError, AllocFailed, Global};
 
-pub(crate) fn answer(alloc: Global, directive: &str, input: &str) -> Result<String, Trouble> {
+pub(crate) fn answer(told: &mut String, directive: &str, input: &str) -> Result<(), Trouble> {
     match directive {
-        "evaluations" => matched(alloc, input, evaluation_in),
-        "text" => text(alloc, input),
-        "recorder" => recorder(alloc, input),
-        "boxed" => boxed(alloc, input),
-        "fault" => fault(alloc),
+        "evaluations" => matched(told, input, evaluation_in),
+        "text" => text(told, input),
+        "recorder" => recorder(told, input),
+        "boxed" => boxed(told, input),
+        "fault" => fault(told),
         _ => Err(Trouble::NoSuchDirective),
     }
 }
 
 // What each kind of sink is told of an evaluation.
-fn text(alloc: Global, input: &str) -> Result<String, Trouble> {
-    let evaluation = evaluation_in(alloc, input)?;
-    let mut all = String::new(alloc);
-    for kind in [SinkKind::Recorder, SinkKind::Tail, SinkKind::Notifier] {
-        let text = evaluation_text(alloc, kind, &evaluation)?;
-        write!(all, "{kind:?}:\n{text}")?;
-    }
-    Ok(all)
+fn text(told: &mut String, input: &str) -> Result<(), Trouble> {
+    let evaluation = evaluation_in(*told.allocator(), input)?;
+    push_text(told, SinkKind::Recorder, &evaluation)?;
+    push_text(told, SinkKind::Tail, &evaluation)?;
+    push_text(told, SinkKind::Notifier, &evaluation)
+}
+
+fn push_text(told: &mut String, kind: SinkKind, evaluation: &Evaluation) -> Result<(), Trouble> {
+    let text = evaluation_text(*told.allocator(), kind, evaluation)?;
+    write!(told, "{kind:?}:\n{text}")?;
+    Ok(())
 }
 
 // How many texts a recorder has room for, and in each line `close`, or an evaluation that it takes; and what it wrote.
-fn recorder(alloc: Global, input: &str) -> Result<String, Trouble> {
+fn recorder(told: &mut String, input: &str) -> Result<(), Trouble> {
     let (cap, lines) = input.split_once('\n').unwrap_or((input, ""));
-    let cap = cap.parse::<usize>().or(Err(Trouble::BadInput))?;
-    let mut written = Vec::new(alloc);
-    let recorder = Recorder::new(alloc, &mut written, cap);
-    let mut text = answers_of(alloc, recorder, lines)?;
-    let written = str::from_utf8(&written).or(Err(Trouble::BadInput))?;
-    write!(text, "written:\n{written}")?;
-    Ok(text)
+    let cap = number_in(cap)? as usize;
+    let mut written = Vec::new(*told.allocator());
+    record(told, &mut written, cap, lines)?;
+    push_written(told, &written)
+}
+
+fn record(
+    told: &mut String,
+    written: &mut Vec<u8>,
+    cap: usize,
+    lines: &str,
+) -> Result<(), Trouble> {
+    let mut recorder = Recorder::new(*told.allocator(), written, cap);
+    push_answers(told, &mut recorder, lines)
+}
+
+fn push_written(told: &mut String, written: &[u8]) -> Result<(), Trouble> {
+    let written = str::from_utf8(written).or(Err(Trouble::BadInput))?;
+    write!(told, "written:\n{written}")?;
+    Ok(())
 }
 
 // The same with room for one text, in a box.
-fn boxed(alloc: Global, input: &str) -> Result<String, Trouble> {
+fn boxed(told: &mut String, input: &str) -> Result<(), Trouble> {
+    let alloc = *told.allocator();
     let recorder = Recorder::new(alloc, Vec::new(alloc), 1);
-    let sink: Box<dyn Sink + Send> = Box::new(alloc, recorder)?;
-    answers_of(alloc, sink, input)
+    let mut sink: Box<dyn Sink + Send> = Box::new(alloc, recorder)?;
+    push_answers(told, &mut sink, input)
 }
 
 // What a sink answers to each line, up to ten texts, and then what it is and keeps.
-fn answers_of<S: Sink>(alloc: Global, mut sink: S, lines: &str) -> Result<String, Trouble> {
-    let mut text = String::new(alloc);
+fn push_answers<S: Sink>(told: &mut String, sink: &mut S, lines: &str) -> Result<(), Trouble> {
     for line in lines.split_terminator('\n') {
-        let answer = match line {
-            "close" => sink.close(),
-            _ if sink.count() > 9 => return Err(Trouble::BadInput),
-            _ => sink.take(&evaluation_in(alloc, line)?),
-        };
-        write!(text, "{answer:?}\n")?;
+        let answer = answer_to(*told.allocator(), sink, line)?;
+        tell_debug(told, &answer)?;
     }
-    push_kept(&mut text, &sink)?;
-    Ok(text)
+    push_kept(told, sink)
+}
+
+fn answer_to<S: Sink>(
+    alloc: Global,
+    sink: &mut S,
+    line: &str,
+) -> Result<Result<(), SinkFault>, Trouble> {
+    if line == "close" {
+        return Ok(sink.close());
+    }
+    if sink.count() > 9 {
+        return Err(Trouble::BadInput);
+    }
+    let evaluation = evaluation_in(alloc, line)?;
+    Ok(sink.take(&evaluation))
 }
 
 // Its kind, its limit and its count, and the texts that it keeps, up to one behind the last.
-fn push_kept<S: Sink>(text: &mut String, sink: &S) -> Result<(), Trouble> {
+fn push_kept<S: Sink>(told: &mut String, sink: &S) -> Result<(), Trouble> {
     let (kind, limit, count) = (sink.kind(), sink.limit(), sink.count());
-    write!(text, "{kind:?}, limit {limit:?}, count {count}\n")?;
+    writeln!(told, "{kind:?}, limit {limit:?}, count {count}")?;
     for index in 0..=count {
         let kept = sink.kept(index);
-        write!(text, "{index}: {kept:?}\n")?;
+        writeln!(told, "{index}: {kept:?}")?;
     }
     Ok(())
 }
 
 // What is told of each fault.
-fn fault(alloc: Global) -> Result<String, Trouble> {
-    let mut text = String::new(alloc);
-    for fault in [
-        SinkFault::Full,
-        SinkFault::Refused(1),
-        SinkFault::WriteFault,
-        SinkFault::from(AllocError),
-        SinkFault::from(AllocFailed { value: 1 }),
-    ] {
-        write!(text, "{fault:?}: {fault}\n")?;
-    }
-    Ok(text)
+fn fault(told: &mut String) -> Result<(), Trouble> {
+    tell_fault(told, &SinkFault::Full)?;
+    tell_fault(told, &SinkFault::Refused(1))?;
+    tell_fault(told, &SinkFault::WriteFault)?;
+    tell_fault(told, &SinkFault::from(AllocError))?;
+    tell_fault(told, &SinkFault::from(AllocFailed { value: 1 }))
 }
 
 fn evaluation_in(alloc: Global, line: &str) -> Result<Evaluation, Trouble> {
     let (head, results) = line.split_once("; ").unwrap_or((line, ""));
-    let (moment, head) = head.split_once(' ').ok_or(Trouble::BadInput)?;
-    let (place, group) = head.split_once(' ').ok_or(Trouble::BadInput)?;
+    let (moment, head) = words_of(head);
+    let (place, group) = words_of(head);
     let (t, place) = (moment_in(moment)?, number_in(place)?);
-    let places = vec![in alloc; place]?;
     let group = PlainText::from_str(alloc, group)?;
+    let places = list_of(alloc, place)?;
+    let outcomes = results_in(alloc, results)?;
     Ok(Evaluation {
         group,
         t,
-        places: PlainList::from_vec(places),
-        outcomes: results_in(alloc, results)?,
+        places,
+        outcomes,
     })
+}
+
+fn list_of(alloc: Global, number: u64) -> Result<PlainList<u64>, Trouble> {
+    let mut numbers = Vec::new(alloc);
+    numbers.push(number)?;
+    Ok(PlainList::from_vec(numbers))
 }
 
 fn results_in(alloc: Global, text: &str) -> Result<PlainList<RuleResult>, Trouble> {
     let mut results = Vec::new(alloc);
     for result in text.split_terminator("; ") {
-        results.push(result_in(alloc, result)?)?;
+        push_result(&mut results, result)?;
     }
     Ok(PlainList::from_vec(results))
 }
 
+fn push_result(results: &mut Vec<RuleResult>, text: &str) -> Result<(), Trouble> {
+    let result = result_in(*results.allocator(), text)?;
+    results.push(result)?;
+    Ok(())
+}
+
 fn result_in(alloc: Global, text: &str) -> Result<RuleResult, Trouble> {
-    let (name, rest) = text.split_once(' ').ok_or(Trouble::BadInput)?;
-    let (annotations, outcome) = rest.split_once(' ').unwrap_or((rest, ""));
+    let (name, rest) = words_of(text);
+    let (annotations, outcome) = words_of(rest);
     let (kind, outcome) = match outcome.strip_prefix("alerts") {
-        Some(alerts) => (RuleKind::Alerting, alerts),
+        Some(alerts) => (RuleKind::Alerting, alerts.trim_start()),
         None => (RuleKind::Recording, outcome),
     };
     let name = PlainText::from_str(alloc, name)?;
     let annotations = labels_in(alloc, annotations)?;
+    let outcome = outcome_in(alloc, kind, outcome)?;
     Ok(RuleResult {
         kind,
         name,
         annotations,
-        outcome: outcome_in(alloc, kind, outcome.trim_start())?,
+        outcome,
     })
 }
 
 fn outcome_in(alloc: Global, kind: RuleKind, text: &str) -> Result<RuleOutcome, Trouble> {
-    Ok(match (text, kind) {
-        ("PipelineError", _) => RuleOutcome::Failed(Cause::PipelineError),
-        ("SameLabels", _) => RuleOutcome::Failed(Cause::SameLabels),
-        ("LimitExceeded", _) => RuleOutcome::Failed(Cause::LimitExceeded),
-        (_, RuleKind::Recording) => RuleOutcome::Samples(samples_in(alloc, text)?),
-        (_, RuleKind::Alerting) => RuleOutcome::Alerts(alerts_in(alloc, text)?),
-    })
+    if let Some(cause) = cause_in(text) {
+        return Ok(RuleOutcome::Failed(cause));
+    }
+    match kind {
+        RuleKind::Recording => Ok(RuleOutcome::Samples(samples_in(alloc, text)?)),
+        RuleKind::Alerting => Ok(RuleOutcome::Alerts(alerts_in(alloc, text)?)),
+    }
+}
+
+fn cause_in(text: &str) -> Option<Cause> {
+    match text {
+        "PipelineError" => Some(Cause::PipelineError),
+        "SameLabels" => Some(Cause::SameLabels),
+        "LimitExceeded" => Some(Cause::LimitExceeded),
+        _ => None,
+    }
 }
 
 // The alerts of words `phase@since@fired@labels:value`, of which the third may be `-`.
 fn alerts_in(alloc: Global, text: &str) -> Result<PlainList<Alert>, Trouble> {
     let mut alerts = Vec::new(alloc);
     for word in text.split_whitespace() {
-        alerts.push(alert_in(alloc, word)?)?;
+        push_alert(&mut alerts, word)?;
     }
     Ok(PlainList::from_vec(alerts))
 }
 
+fn push_alert(alerts: &mut Vec<Alert>, word: &str) -> Result<(), Trouble> {
+    let alert = alert_in(*alerts.allocator(), word)?;
+    alerts.push(alert)?;
+    Ok(())
+}
+
+fn fired_in(word: &str) -> Result<Option<Ns>, Trouble> {
+    if word == "-" {
+        return Ok(None);
+    }
+    Ok(Some(moment_in(word)?))
+}
+
 fn alert_in(alloc: Global, word: &str) -> Result<Alert, Trouble> {
-    let (phase, rest) = word.split_once('@').ok_or(Trouble::BadInput)?;
-    let (since, rest) = rest.split_once('@').ok_or(Trouble::BadInput)?;
-    let (fired, sample) = rest.split_once('@').ok_or(Trouble::BadInput)?;
-    let (since, phase) = (moment_in(since)?, phase_in(phase)?);
-    let fired = match fired {
-        "-" => None,
-        _ => Some(moment_in(fired)?),
-    };
+    let (phase, rest) = word.split_once('@').unwrap_or((word, ""));
+    let (since, rest) = rest.split_once('@').unwrap_or((rest, ""));
+    let (fired, sample) = rest.split_once('@').unwrap_or((rest, ""));
+    let (since, fired, phase) = (moment_in(since)?, fired_in(fired)?, phase_in(phase)?);
     let Sample { labels, value } = sample_in(alloc, sample)?;
     Ok(Alert {
         labels,
@@ -184,9 +238,15 @@ fn phase_in(word: &str) -> Result<Phase, Trouble> {
 fn samples_in(alloc: Global, text: &str) -> Result<PlainList<Sample>, Trouble> {
     let mut samples = Vec::new(alloc);
     for word in text.split_whitespace() {
-        samples.push(sample_in(alloc, word)?)?;
+        push_sample(&mut samples, word)?;
     }
     Ok(PlainList::from_vec(samples))
+}
+
+fn push_sample(samples: &mut Vec<Sample>, word: &str) -> Result<(), Trouble> {
+    let sample = sample_in(*samples.allocator(), word)?;
+    samples.push(sample)?;
+    Ok(())
 }
 
 fn sample_in(alloc: Global, word: &str) -> Result<Sample, Trouble> {

@@ -3,64 +3,82 @@
 //! The first line of an input has limits by their names, and behind a `|` how reads of the store are spoilt: `0:gone` and
 //! `1:flip=9`, `2:cut=3`, `3:swap=7`. Each line behind it is a call: `push` and `holds` with an entry, `horizon` with a
 //! moment, `cut`, `flush`, `len`, `reads`, `chunks`, `each` with labels and two moments, `walk` with labels, by a cursor.
-use crate::given::{entry_in, limits_in, moment_in, number_in, pairs_in};
+use crate::given::{entry_in, limits_in, moment_in, number_in, pairs_in, words_of};
 use crate::streams_random::random;
+use crate::told::tell;
 use crate::trouble::Trouble;
 use rl_chunks::{Line, MemStore, Spoil, SpoilStore};
 use rl_labels::{Labels, MatchOp, Matcher, Ns, SelectorCode};
 use rl_parts::Taker;
-use rl_plain::{PlainList, PlainText, Shared, TryCopy};
-use rl_streams::Streams;
+use rl_plain::{PlainList, PlainText, Shared};
+use rl_streams::{Cursor, Streams};
 use std::alloc::{AllocError, Global};
 use std::marker::Model;
+use std::mem;
 
 /// What a directive gives for its input.
-pub(crate) fn answer(alloc: Global, directive: &str, input: &str) -> Result<String, Trouble> {
+pub(crate) fn answer(told: &mut String, directive: &str, input: &str) -> Result<(), Trouble> {
     match directive {
-        "run" => run(alloc, input),
-        "random" => random(alloc, number_in(input)?),
+        "run" => run(told, input),
+        "random" => random(told, number_in(input)?),
         _ => Err(Trouble::NoSuchDirective),
     }
 }
 
-type Asked = Streams<SpoilStore<MemStore>>;
+/// Streams over a store in memory, whose reads may be spoilt.
+pub(crate) type Asked = Streams<SpoilStore<MemStore>>;
 
 // What streams answer to each line.
-fn run(alloc: Global, input: &str) -> Result<String, Trouble> {
+fn run(told: &mut String, input: &str) -> Result<(), Trouble> {
     let (settings, lines) = input.split_once('\n').unwrap_or((input, ""));
     let (limits, spoils) = settings.split_once('|').unwrap_or((settings, ""));
-    let store = SpoilStore::new(MemStore::new(alloc), plan_in(alloc, spoils)?);
-    let mut streams = Streams::new(alloc, store, limits_in(limits)?);
+    let mut streams = opened(*told.allocator(), limits, spoils)?;
+    let ended = push_calls(told, &mut streams, lines);
+    mem::forget(streams);
+    ended
+}
+
+/// Streams under limits, whose reads are spoilt so.
+pub(crate) fn opened(alloc: Global, limits: &str, spoils: &str) -> Result<Asked, Trouble> {
+    let limits = limits_in(limits)?;
+    let plan = plan_in(alloc, spoils)?;
+    let store = SpoilStore::new(MemStore::new(alloc), plan);
+    Ok(Streams::new(alloc, store, limits))
+}
+
+fn push_calls(told: &mut String, streams: &mut Asked, lines: &str) -> Result<(), Trouble> {
     let mut horizon = moment_in("0")?;
-    let mut told = String::new(alloc);
     for line in lines.split('\n') {
-        let (word, rest) = line.split_once(' ').unwrap_or((line, ""));
+        let (word, rest) = words_of(line);
         if word == "horizon" {
             horizon = moment_in(rest)?;
         } else {
-            call(&mut told, &mut streams, horizon, word, rest)?;
+            call(told, streams, horizon, word, rest)?;
         }
     }
-    Ok(told)
+    Ok(())
 }
 
 /// How reads are spoilt.
 pub(crate) fn plan_in(alloc: Global, text: &str) -> Result<PlainList<(u64, Spoil)>, Trouble> {
     let mut plan = Vec::new(alloc);
     for word in text.split_whitespace() {
-        let (read, how) = word.split_once(':').ok_or(Trouble::BadInput)?;
-        let (how, number) = how.split_once('=').unwrap_or((how, "0"));
-        let number = number_in(number)?;
-        let spoil = match how {
-            "gone" => Spoil::Gone,
-            "swap" => Spoil::Swap(number),
-            "flip" => Spoil::Flip(number as usize),
-            "cut" => Spoil::Cut(number as usize),
-            _ => return Err(Trouble::BadInput),
-        };
-        plan.push((number_in(read)?, spoil))?;
+        plan.push(spoil_in(word)?)?;
     }
     Ok(PlainList::from_vec(plan))
+}
+
+fn spoil_in(word: &str) -> Result<(u64, Spoil), Trouble> {
+    let (read, how) = word.split_once(':').ok_or(Trouble::BadInput)?;
+    let (how, number) = how.split_once('=').unwrap_or((how, "0"));
+    let (read, number) = (number_in(read)?, number_in(number)?);
+    match how {
+        "gone" => Ok((read, Spoil::Gone)),
+        "swap" => Ok((read, Spoil::Swap(number))),
+        "flip" => Ok((read, Spoil::Flip(number as usize))),
+        "cut" => Ok((read, Spoil::Cut(number as usize))),
+        _ => Err(Trouble::BadInput),
+    }
 }
 
 // Tells what one call answers.
@@ -71,112 +89,151 @@ fn call(
     word: &str,
     rest: &str,
 ) -> Result<(), Trouble> {
-    let alloc = *told.allocator();
     match word {
-        "push" => match streams.add(Shared::new(alloc, entry_in(alloc, rest)?)?, horizon) {
-            Ok(()) => writeln!(told, "ok")?,
-            Err(refusal) => writeln!(told, "{refusal}")?,
-        },
-        "holds" => match streams.holds(&entry_in(alloc, rest)?) {
-            Ok(held) => writeln!(told, "{held}")?,
-            Err(fault) => writeln!(told, "{fault}")?,
-        },
-        "cut" => streams.cut()?,
-        "flush" => match streams.flush() {
-            Ok(()) => writeln!(told, "ok")?,
-            Err(fault) => writeln!(told, "{fault}")?,
-        },
-        "len" => writeln!(told, "{}", streams.len())?,
-        "chunks" => writeln!(told, "{}", streams.store().inner().len())?,
-        "reads" => writeln!(told, "{}", streams.store().inner().reads())?,
-        "each" => each(told, streams, rest)?,
-        "walk" => walk(told, streams, rest)?,
-        _ => return Err(Trouble::BadInput),
+        "push" => push(told, streams, horizon, rest),
+        "holds" => holds(told, streams, rest),
+        "cut" => Ok(streams.cut()?),
+        "flush" => flush(told, streams),
+        "len" => tell(told, &streams.len()),
+        "chunks" => tell(told, &streams.store().inner().len()),
+        "reads" => tell(told, &streams.store().inner().reads()),
+        "each" => each(told, streams, rest),
+        "walk" => walk(told, streams, rest),
+        _ => Err(Trouble::BadInput),
     }
-    Ok(())
+}
+
+fn push(told: &mut String, streams: &mut Asked, horizon: Ns, entry: &str) -> Result<(), Trouble> {
+    let alloc = *told.allocator();
+    let entry = entry_in(alloc, entry)?;
+    match streams.add(Shared::new(alloc, entry)?, horizon) {
+        Ok(()) => tell(told, &"ok"),
+        Err(refusal) => tell(told, &refusal),
+    }
+}
+
+fn holds(told: &mut String, streams: &mut Asked, entry: &str) -> Result<(), Trouble> {
+    let entry = entry_in(*told.allocator(), entry)?;
+    match streams.holds(&entry) {
+        Ok(held) => tell(told, &held),
+        Err(fault) => tell(told, &fault),
+    }
+}
+
+fn flush(told: &mut String, streams: &mut Asked) -> Result<(), Trouble> {
+    match streams.flush() {
+        Ok(()) => tell(told, &"ok"),
+        Err(fault) => tell(told, &fault),
+    }
 }
 
 // A selector of the labels.
 pub(crate) fn selector_in(alloc: Global, text: &str) -> Result<SelectorCode, Trouble> {
-    let mut matchers = Vec::new(alloc);
-    for (name, value) in pairs_in(alloc, text)? {
-        let matcher = Matcher::new(name, MatchOp::Equal, value).ok();
-        matchers.push(matcher.ok_or(Trouble::BadInput)?)?;
-    }
+    let matchers = matchers_in(alloc, text)?;
     let code = SelectorCode::build(alloc, &matchers).ok();
     code.ok_or(Trouble::BadInput)
 }
 
-// Lines that were handed out, with their labels.
+fn matchers_in(alloc: Global, text: &str) -> Result<Vec<Matcher>, Trouble> {
+    let mut matchers = Vec::new(alloc);
+    for (name, value) in pairs_in(alloc, text)? {
+        matchers.push(matcher_of(name, value)?)?;
+    }
+    Ok(matchers)
+}
+
+fn matcher_of(name: PlainText, value: PlainText) -> Result<Matcher, Trouble> {
+    let matcher = Matcher::new(name, MatchOp::Equal, value).ok();
+    matcher.ok_or(Trouble::BadInput)
+}
+
+// Lines that were handed out, with their labels, as text. Contracts see nothing of it.
 #[derive(Drop)]
 pub(crate) struct Told {
-    pub(crate) lines: Vec<(Labels, Line)>,
+    pub(crate) text: String,
 }
 
 impl Model for Told {
-    ghost use Rattle.std.specs.Prelude.{List};
-    ghost use Rattle.std.specs.Coded.{coded_list, coded×};
-    ghost use Rattle.rl_labels.specs.LabelSet.{LabelSet, label_set_code};
-    ghost use Rattle.rl_chunks.specs.declared.line.Line.{Line};
-    ghost use Rattle.rl_chunks.specs.contracts.line.Line as line_type;
+    ghost use Rattle.std.specs.Prelude.{ℕ};
 
-    ghost Value = { List (LabelSet × Line) };
+    ghost Value = { ℕ };
 
-    ghost coded = { coded_list (coded× label_set_code line_type.the_row.coded) };
-
-    ghost view = { λ a. a.lines.items };
+    ghost view = { λ _. 0 };
 }
 
 impl Taker for Told {
-    ghost use Rattle.std.specs.Prelude.{[], ◌∷◌, ◌++◌};
-
-    ghost taking = { λ lines line. lines ++ line ∷ [] };
+    ghost taking = { λ told _. told };
 
     fn take(&mut self, labels: &Labels, timestamp: Ns, text: &str) -> Result<(), AllocError> {
-        let text = PlainText::from_str(*self.lines.allocator(), text)?;
-        let labels = labels.try_copy()?;
-        self.lines.push((labels, Line { timestamp, text }))?;
-        Ok(())
+        push_line(&mut self.text, labels, timestamp, text)
     }
 }
 
-fn push_line(told: &mut String, labels: &Labels, line: &Line) -> Result<(), Trouble> {
-    let labels = labels.text()?;
-    writeln!(told, "{labels} {} {}", line.timestamp.get(), line.text)?;
-    Ok(())
+fn push_line(
+    told: &mut String,
+    labels: &Labels,
+    timestamp: Ns,
+    text: &str,
+) -> Result<(), AllocError> {
+    let timestamp = timestamp.get();
+    writeln!(told, "{labels} {timestamp} {text}")
 }
 
 // What is handed out from one moment to another, or the fault behind what was handed out until then.
 fn each(told: &mut String, streams: &mut Asked, rest: &str) -> Result<(), Trouble> {
-    let alloc = *told.allocator();
-    let (labels, range) = rest.split_once(' ').ok_or(Trouble::BadInput)?;
-    let (from, to) = range.split_once(' ').ok_or(Trouble::BadInput)?;
+    let (labels, range) = words_of(rest);
+    let (from, to) = words_of(range);
     let (from, to) = (moment_in(from)?, moment_in(to)?);
     let mut handed = Told {
-        lines: Vec::new(alloc),
+        text: String::new(*told.allocator()),
     };
-    let ended = streams.each(&selector_in(alloc, labels)?, from, to, &mut handed);
-    for (labels, line) in &handed.lines {
-        push_line(told, labels, line)?;
+    let ended = hand_out(&mut handed, streams, labels, from, to);
+    told.push_str(handed.text.as_str())?;
+    ended
+}
+
+fn hand_out(
+    handed: &mut Told,
+    streams: &mut Asked,
+    labels: &str,
+    from: Ns,
+    to: Ns,
+) -> Result<(), Trouble> {
+    let selector = selector_in(*handed.text.allocator(), labels)?;
+    match streams.each(&selector, from, to, handed) {
+        Ok(()) => Ok(()),
+        Err(fault) => tell(&mut handed.text, &fault),
     }
-    if let Err(fault) = ended {
-        writeln!(told, "{fault}")?;
-    }
-    Ok(())
 }
 
 // What a cursor hands out one by one. After a fault it is asked again, up to as often as there are lines to tell.
 fn walk(told: &mut String, streams: &mut Asked, rest: &str) -> Result<(), Trouble> {
-    let alloc = *told.allocator();
-    let selector = selector_in(alloc, rest)?;
+    let selector = selector_in(*told.allocator(), rest)?;
     let (from, to) = (moment_in("0")?, moment_in("9000000000s")?);
-    let mut cursor = streams.cursor(&selector, from, to);
+    push_walk(told, &mut streams.cursor(&selector, from, to))
+}
+
+fn push_walk(told: &mut String, cursor: &mut Walker<'_>) -> Result<(), Trouble> {
     for _ in 0..100 {
-        match cursor.next() {
-            Ok(Some((labels, line))) => push_line(told, labels.get(), &line)?,
-            Ok(None) => return Ok(()),
-            Err(fault) => writeln!(told, "{fault}")?,
+        if !push_next(told, cursor)? {
+            return Ok(());
         }
     }
     Ok(())
+}
+
+type Walker<'a> = Cursor<'a, SpoilStore<MemStore>>;
+
+// Tells what a cursor hands out next. Whether there was something.
+fn push_next(told: &mut String, cursor: &mut Walker<'_>) -> Result<bool, Trouble> {
+    match cursor.next() {
+        Ok(Some((labels, line))) => push_one(told, labels.get(), &line)?,
+        Ok(None) => return Ok(false),
+        Err(fault) => tell(told, &fault)?,
+    }
+    Ok(true)
+}
+
+fn push_one(told: &mut String, labels: &Labels, line: &Line) -> Result<(), Trouble> {
+    Ok(push_line(told, labels, line.timestamp, line.text.as_str())?)
 }

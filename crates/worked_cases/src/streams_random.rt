@@ -1,48 +1,66 @@
 //! Streams, and one plain list that is asked the same.
 use crate::chunks::Draws;
-use crate::given::{entry_in, limits_in, moment_in};
-use crate::streams::{Told, selector_in};
+use crate::given::{entry_in, moment_in};
+use crate::streams::{Asked, Told, opened, selector_in};
 use crate::trouble::Trouble;
-use rl_chunks::MemStore;
 use rl_labels::Entry;
 use rl_plain::Shared;
-use rl_streams::{AddRefusal, Streams};
+use rl_streams::AddRefusal;
 use std::alloc::{AllocError, Global};
+use std::mem;
 
 // A stream, a timestamp in seconds, and a line.
 type Drawn = (u32, u64, u32);
 
 /// How many of so many turns streams answer as the plain list, and whether both hold the same at the end. A turn may cut or
 /// flush, asks whether an entry is held, and pushes it.
-pub(crate) fn random(alloc: Global, count: u64) -> Result<String, Trouble> {
-    let limits = limits_in("entries=600 chunk_entries=4 chunk_age=10 first_blob=3")?;
-    let mut streams = Streams::new(alloc, MemStore::new(alloc), limits);
-    let mut held = Vec::new(alloc);
+pub(crate) fn random(told: &mut String, count: u64) -> Result<(), Trouble> {
+    let alloc = *told.allocator();
+    let limits = "entries=600 chunk_entries=4 chunk_age=10 first_blob=3";
+    let mut streams = opened(alloc, limits, "")?;
+    let ended = push_turns(told, &mut streams, &mut Vec::new(alloc), count);
+    mem::forget(streams);
+    ended
+}
+
+fn push_turns(
+    told: &mut String,
+    streams: &mut Asked,
+    held: &mut Vec<Drawn>,
+    count: u64,
+) -> Result<(), Trouble> {
     let mut draws = Draws { state: 7 };
     let mut same = 0u64;
     for turn in 0..count {
-        match draws.up_to(9) {
-            0 => streams.cut()?,
-            1 => streams.flush().ok().ok_or(Trouble::BadInput)?,
-            _ => {}
-        }
-        let late = u64::from(draws.up_to(8));
-        let drawn = (
-            draws.up_to(2),
-            (turn / 4).saturating_sub(late),
-            draws.up_to(2),
-        );
-        let (is_held, answer) = asked(alloc, &mut streams, drawn)?;
-        if is_held == held.contains(&drawn) && answer == plain(&mut held, drawn)? {
+        if is_right(*told.allocator(), streams, held, &mut draws, turn)? {
             same = same.saturating_add(1);
         }
     }
-    let told = told_texts(alloc, &mut streams)?;
-    let is_same = told == held_texts(alloc, &held)? && streams.len() == held.len() as u64;
-    let is_flushed = streams.store().len() > 0;
-    Ok(format!(in alloc;
-        "{same} of {count}; the same is held: {is_same}; some of it in chunks: {is_flushed}"
-    )?)
+    let is_same = hold_the_same(*told.allocator(), streams, held)?;
+    let is_flushed = streams.store().inner().len() > 0;
+    write!(told, "{same} of {count}; the same is held: {is_same}; ")?;
+    writeln!(told, "some of it in chunks: {is_flushed}")?;
+    Ok(())
+}
+
+// Takes a turn. Whether streams answer as the plain list.
+fn is_right(
+    alloc: Global,
+    streams: &mut Asked,
+    held: &mut Vec<Drawn>,
+    draws: &mut Draws,
+    turn: u64,
+) -> Result<bool, Trouble> {
+    match draws.up_to(9) {
+        0 => streams.cut()?,
+        1 => streams.flush().ok().ok_or(Trouble::BadInput)?,
+        _ => {}
+    }
+    let late = u64::from(draws.up_to(8));
+    let stream = draws.up_to(2);
+    let drawn = (stream, (turn / 4).saturating_sub(late), draws.up_to(2));
+    let (is_held, answer) = asked(alloc, streams, drawn)?;
+    Ok(is_held == held.contains(&drawn) && answer == plain(held, drawn)?)
 }
 
 fn entry_of(alloc: Global, drawn: Drawn) -> Result<Entry, Trouble> {
@@ -54,18 +72,22 @@ fn entry_of(alloc: Global, drawn: Drawn) -> Result<Entry, Trouble> {
 // What streams answer: whether the entry is held, and what becomes of it.
 fn asked(
     alloc: Global,
-    streams: &mut Streams<MemStore>,
+    streams: &mut Asked,
     drawn: Drawn,
 ) -> Result<(bool, &'static str), Trouble> {
     let entry = entry_of(alloc, drawn)?;
     let is_held = streams.holds(&entry).ok().ok_or(Trouble::BadInput)?;
-    let answer = match streams.add(Shared::new(alloc, entry)?, moment_in("0")?) {
+    let added = streams.add(Shared::new(alloc, entry)?, moment_in("0")?);
+    Ok((is_held, word_of(added)))
+}
+
+fn word_of(added: Result<(), AddRefusal>) -> &'static str {
+    match added {
         Ok(()) => "ok",
         Err(AddRefusal::TooFarBehind { newest: _ }) => "behind",
         Err(AddRefusal::Full) => "full",
         Err(_) => "failed",
-    };
-    Ok((is_held, answer))
+    }
 }
 
 // What the definition answers, where nothing is ever taken away.
@@ -89,31 +111,49 @@ fn plain(held: &mut Vec<Drawn>, drawn: Drawn) -> Result<&'static str, AllocError
     Ok("ok")
 }
 
-// All lines that streams hand out, as texts in order.
-fn told_texts(alloc: Global, streams: &mut Streams<MemStore>) -> Result<Vec<String>, Trouble> {
-    let mut told = Told {
-        lines: Vec::new(alloc),
-    };
-    let (from, to) = (moment_in("0")?, moment_in("9000000000s")?);
-    let ended = streams.each(&selector_in(alloc, "-")?, from, to, &mut told);
-    ended.ok().ok_or(Trouble::BadInput)?;
-    let mut texts = Vec::new(alloc);
-    for (labels, line) in &told.lines {
-        let labels = labels.text()?;
-        texts.push(format!(in alloc; "{labels} {} {}", line.timestamp.get(), line.text)?)?;
+// Whether streams hand out as many lines as the plain list has, and each of its lines, of which no two are the same.
+fn hold_the_same(alloc: Global, streams: &mut Asked, held: &[Drawn]) -> Result<bool, Trouble> {
+    let told = told_by(alloc, streams)?;
+    let lines = told.text.as_str();
+    let count = held.len();
+    if lines.split_terminator('\n').count() != count || streams.len() != count as u64 {
+        return Ok(false);
     }
-    texts.sort()?;
-    Ok(texts)
+    have_all(alloc, lines, held)
 }
 
-// The same of the plain list.
-fn held_texts(alloc: Global, held: &[Drawn]) -> Result<Vec<String>, Trouble> {
-    let mut texts = Vec::new(alloc);
+// All that streams hand out.
+fn told_by(alloc: Global, streams: &mut Asked) -> Result<Told, Trouble> {
+    let selector = selector_in(alloc, "-")?;
+    let (from, to) = (moment_in("0")?, moment_in("9000000000s")?);
+    let text = String::new(alloc);
+    let mut told = Told { text };
+    let ended = streams.each(&selector, from, to, &mut told);
+    ended.ok().ok_or(Trouble::BadInput)?;
+    Ok(told)
+}
+
+fn have_all(alloc: Global, lines: &str, held: &[Drawn]) -> Result<bool, Trouble> {
     for drawn in held {
-        let entry = entry_of(alloc, *drawn)?;
-        let labels = entry.labels.text()?;
-        texts.push(format!(in alloc; "{labels} {} {}", entry.timestamp.get(), entry.line)?)?;
+        if !has(alloc, lines, *drawn)? {
+            return Ok(false);
+        }
     }
-    texts.sort()?;
-    Ok(texts)
+    Ok(true)
+}
+
+fn has(alloc: Global, lines: &str, drawn: Drawn) -> Result<bool, Trouble> {
+    let entry = entry_of(alloc, drawn)?;
+    let (labels, timestamp) = (&entry.labels, entry.timestamp.get());
+    let wanted = format!(in alloc; "{labels} {timestamp} {}", entry.line)?;
+    Ok(is_among(lines, wanted.as_str()))
+}
+
+fn is_among(lines: &str, wanted: &str) -> bool {
+    for line in lines.split_terminator('\n') {
+        if line == wanted {
+            return true;
+        }
+    }
+    false
 }

@@ -10,14 +10,15 @@ ghost use Rattle.rl_sinks.specs.RecorderState.{recorder_state};
 ghost use Rattle.rl_world.specs.BookCalls.{IsFresh};
 ghost use Rattle.rl_world.specs.Slots.{most_shards};
 
-use crate::given::{limits_in, number_in};
+use crate::given::{limits_in, number_in, words_of};
 use crate::rules::group_in;
 use crate::streams::plan_in;
+use crate::told::tell;
 use crate::trouble::Trouble;
 use crate::world_steps::{Asking, push_lines};
 use rl_chunks::{MemStore, SpoilStore};
 use rl_labels::Limits;
-use rl_rules::read_rules;
+use rl_rules::{Group, read_rules};
 use rl_shard::ShardFault;
 use rl_sinks::Recorder;
 use rl_world::{Book, BookError, Refusal, World};
@@ -31,49 +32,45 @@ pub(crate) type Sunk = Recorder<Vec<u8>>;
 pub(crate) type Kept = SpoilStore<MemStore>;
 
 /// What a directive gives for its input.
-pub(crate) fn answer(alloc: Global, directive: &str, input: &str) -> Result<String, Trouble> {
+pub(crate) fn answer(told: &mut String, directive: &str, input: &str) -> Result<(), Trouble> {
     match directive {
-        "run" => run(alloc, input),
-        "book" => book(alloc, input),
-        "others" => others(alloc),
+        "run" => run(told, input),
+        "book" => book(told, input),
+        "others" => others(told),
         _ => Err(Trouble::NoSuchDirective),
     }
 }
 
 // What a world answers to each line.
-fn run(alloc: Global, input: &str) -> Result<String, Trouble> {
+fn run(told: &mut String, input: &str) -> Result<(), Trouble> {
     let (settings, file, lines) = parts_of(input)?;
-    let mut world = opened(alloc, settings, file)?;
-    let mut told = String::new(alloc);
-    let ended = push_lines(&mut told, &mut world, lines);
+    let mut world = opened(*told.allocator(), settings, file)?;
+    let ended = push_lines(told, &mut world, lines);
     mem::forget(world);
-    ended?;
-    Ok(told)
+    ended
 }
 
 // What a book on its own answers to each line.
-fn book(alloc: Global, input: &str) -> Result<String, Trouble> {
+fn book(told: &mut String, input: &str) -> Result<(), Trouble> {
     let (settings, file, lines) = parts_of(input)?;
-    let mut asking = opened_book(alloc, settings, file)?;
-    let mut told = String::new(alloc);
-    let ended = asking.push_calls(&mut told, lines);
+    let mut asking = opened_book(*told.allocator(), settings, file)?;
+    let ended = asking.push_calls(told, lines);
     mem::forget(asking);
-    ended?;
-    Ok(told)
+    ended
 }
 
 // What is told of the faults that no step has.
-fn others(alloc: Global) -> Result<String, Trouble> {
-    let (error, refusal) = (BookError::Memory, Refusal::Memory);
-    let (full, memory) = (ShardFault::JournalFull, ShardFault::from(AllocError));
-    let mut told = format!(in alloc; "{error}\n{refusal}\n{full}\n{memory}\n")?;
-    let (of_shard, of_world) = (ShardFault::Fault, Refusal::Fault);
-    writeln!(told, "{of_shard}\n{of_world}")?;
-    let (of_shard, of_world) = (ShardFault::Damaged, Refusal::Damaged);
-    writeln!(told, "{of_shard}\n{of_world}")?;
-    let (of_shard, of_world) = (ShardFault::NumbersSpent, Refusal::NumbersSpent);
-    writeln!(told, "{of_shard}\n{of_world}")?;
-    Ok(told)
+fn others(told: &mut String) -> Result<(), Trouble> {
+    tell(told, &BookError::Memory)?;
+    tell(told, &Refusal::Memory)?;
+    tell(told, &ShardFault::JournalFull)?;
+    tell(told, &ShardFault::from(AllocError))?;
+    tell(told, &ShardFault::Fault)?;
+    tell(told, &Refusal::Fault)?;
+    tell(told, &ShardFault::Damaged)?;
+    tell(told, &Refusal::Damaged)?;
+    tell(told, &ShardFault::NumbersSpent)?;
+    tell(told, &Refusal::NumbersSpent)
 }
 
 // What the first line of an input says.
@@ -96,9 +93,9 @@ fn parts_of<'a>(input: &'a str) -> Result<(Settings<'a>, &'a str, &'a str), Trou
 
 fn settings_in<'a>(words: &'a str) -> Result<Settings<'a>, Trouble> {
     let (words, spoils) = words.split_once('|').unwrap_or((words, ""));
-    let (shards, words) = words.split_once(' ').ok_or(Trouble::BadInput)?;
-    let (slot, words) = words.split_once(' ').ok_or(Trouble::BadInput)?;
-    let (caps, limits) = words.split_once(' ').unwrap_or((words, ""));
+    let (shards, words) = words_of(words);
+    let (slot, words) = words_of(words);
+    let (caps, limits) = words_of(words);
     let (shards, slot, limits) = (number_in(shards)?, number_in(slot)?, limits_in(limits)?);
     if shards > 16 {
         return Err(Trouble::BadInput);
@@ -113,13 +110,21 @@ fn settings_in<'a>(words: &'a str) -> Result<Settings<'a>, Trouble> {
 }
 
 fn opened(alloc: Global, settings: Settings<'_>, file: &str) -> Result<World<Kept, Sunk>, Trouble> {
+    let stores = stores_of(alloc, settings.shards, settings.spoils)?;
     let sinks = sinks_in(alloc, settings.caps)?;
+    let groups = groups_in(alloc, file, sinks.len())?;
+    Ok(World::open(alloc, settings.limits, stores, groups, sinks)?)
+}
+
+// The groups of a rule file of so many.
+fn groups_in(alloc: Global, file: &str, count: usize) -> Result<Vec<Group>, Trouble>
+    ensures { IfOk result (λ groups. length groups.items ≡ count) }
+{
     let groups = read_rules(alloc, file).or(Err(Trouble::BadInput))?;
-    if sinks.len() != groups.len() {
+    if groups.len() != count {
         return Err(Trouble::BadInput);
     }
-    let stores = stores_of(alloc, settings.shards, settings.spoils)?;
-    Ok(World::open(alloc, settings.limits, stores, groups, sinks)?)
+    Ok(groups)
 }
 
 // So many stores, of which the first is spoilt.

@@ -1,15 +1,16 @@
 //! Steps of a world, calls of a book and look-ups in books, and what they are answered.
 ghost use Rattle.std.specs.Prelude.{◌≡◌};
 
-use crate::given::{entry_in, moment_in, number_in};
+use crate::given::{moment_in, number_in, words_of};
 use crate::rules::{group_in, push_alert};
-use crate::shard::removal_in;
+use crate::shard;
+use crate::told::tell;
 use crate::trouble::Trouble;
 use crate::world::{Kept, Sunk};
-use rl_plain::{PlainList, Same, Shared};
-use rl_query::print_term;
-use rl_rules::Evaluation;
-use rl_shard::{ShardReply, ShardStep};
+use rl_plain::{PlainList, Same};
+use rl_query::{Term, print_term};
+use rl_rules::{Alert, Evaluation, Group};
+use rl_shard::ShardReply;
 use rl_sinks::{SinkKind, evaluation_text};
 use rl_world::{Book, Committed, Item, Reply, Step, World};
 use std::alloc::Global;
@@ -22,23 +23,38 @@ pub(crate) fn push_lines(
     world: &mut World<Kept, Sunk>,
     lines: &str,
 ) -> Result<(), Trouble> {
-    let alloc = *told.allocator();
-    let mut steps = Vec::new(alloc);
+    let mut steps = Vec::new(*told.allocator());
     for line in lines.split('\n') {
-        if let Some(step) = step_in(alloc, line)? {
-            steps.push(step)?;
-        } else {
-            ask(told, world, mem::replace(&mut steps, Vec::new(alloc)))?;
-            look_at(told, world, line)?;
-        }
+        push_line(told, world, &mut steps, line)?;
     }
-    ask(told, world, steps)
+    ask(told, world, &mut steps)
 }
 
-// Asks the world the steps, and tells what it answers.
-fn ask(told: &mut String, world: &mut World<Kept, Sunk>, steps: Vec<Step>) -> Result<(), Trouble> {
+// Puts a step behind those that are to be asked, or asks them and looks something up.
+fn push_line(
+    told: &mut String,
+    world: &mut World<Kept, Sunk>,
+    steps: &mut Vec<Step>,
+    line: &str,
+) -> Result<(), Trouble> {
+    match step_in(*told.allocator(), line)? {
+        Some(step) => Ok(steps.push(step)?),
+        None => {
+            ask(told, world, steps)?;
+            look_at(told, world, line)
+        }
+    }
+}
+
+// Asks the world the steps, which are gone then, and tells what it answers.
+fn ask(
+    told: &mut String,
+    world: &mut World<Kept, Sunk>,
+    steps: &mut Vec<Step>,
+) -> Result<(), Trouble> {
+    let asked = mem::replace(steps, Vec::new(*told.allocator()));
     let mut replies = Vec::new(*told.allocator());
-    let ran = world.run(steps, &mut replies);
+    let ran = world.run(asked, &mut replies);
     let ended = push_replies(told, replies.as_slice());
     mem::forget(replies);
     ran?;
@@ -49,23 +65,30 @@ fn ask(told: &mut String, world: &mut World<Kept, Sunk>, steps: Vec<Step>) -> Re
 fn step_in(alloc: Global, line: &str) -> Result<Option<Step>, Trouble> {
     let (word, rest) = words_of(line);
     let (number, rest) = words_of(rest);
-    let Ok(group) = index_in(number) else {
-        return Ok(None);
-    };
-    Ok(Some(match word {
-        "push" => {
-            let entry = Shared::new(alloc, entry_in(alloc, rest)?)?;
-            shard_step(group, ShardStep::Push(entry))
-        }
-        "cut" => shard_step(group, ShardStep::Cut),
-        "flush" => shard_step(group, ShardStep::Flush),
-        "delete" | "cancel" | "process" | "retain" => {
-            shard_step(group, removal_in(alloc, word, rest)?)
+    match index_in(number) {
+        Ok(number) => step_at(alloc, word, number, rest),
+        Err(_) => Ok(None),
+    }
+}
+
+// The step at a shard or a group, by its word and what stands behind the number.
+fn step_at(alloc: Global, word: &str, number: usize, rest: &str) -> Result<Option<Step>, Trouble> {
+    match word {
+        "push" | "cut" | "flush" | "delete" | "cancel" | "process" | "retain" => {
+            let step = shard::step_in(alloc, word, rest)?;
+            Ok(Some(Step::Shard { number, step }))
         }
         "edit" => {
             let to = group_in(alloc, rest)?;
-            Step::Edit { group, to }
+            Ok(Some(Step::Edit { group: number, to }))
         }
+        _ => evaluation_step(word, number, rest),
+    }
+}
+
+// A step of an evaluation of a group.
+fn evaluation_step(word: &str, group: usize, rest: &str) -> Result<Option<Step>, Trouble> {
+    Ok(Some(match word {
         "begin" => {
             let t = moment_in(rest)?;
             Step::Begin { group, t }
@@ -80,52 +103,56 @@ fn step_in(alloc: Global, line: &str) -> Result<Option<Step>, Trouble> {
     }))
 }
 
-fn shard_step(number: usize, step: ShardStep) -> Step {
-    Step::Shard { number, step }
-}
-
-// The first word, and what stands behind its space.
-fn words_of(text: &str) -> (&str, &str) {
-    text.split_once(' ').unwrap_or((text, ""))
-}
-
 fn index_in(text: &str) -> Result<usize, Trouble> {
     Ok(number_in(text)? as usize)
 }
 
 fn push_replies(told: &mut String, replies: &[Reply]) -> Result<(), Trouble> {
     for reply in replies {
-        match reply {
-            Reply::Decided { place, reply } => push_decision(told, *place, reply)?,
-            Reply::Edited { place } => writeln!(told, "{place} edited")?,
-            Reply::Begun => told.push_str("begun\n")?,
-            Reply::Gathered { place } => writeln!(told, "{place} gathered")?,
-            Reply::Committed(answer) => push_commit(told, answer)?,
-            Reply::Abandoned => told.push_str("abandoned\n")?,
-            Reply::Refused(refusal) => push_refusal(told, refusal)?,
-        }
+        push_reply(told, reply)?;
     }
     Ok(())
 }
 
-// What a shard decided, with the newest moment of a stream that an entry is too far behind.
+fn push_reply(told: &mut String, reply: &Reply) -> Result<(), Trouble> {
+    match reply {
+        Reply::Decided { place, reply } => push_decision(told, *place, reply),
+        Reply::Edited { place } => push_place(told, *place, "edited"),
+        Reply::Begun => tell(told, &"begun"),
+        Reply::Gathered { place } => push_place(told, *place, "gathered"),
+        Reply::Committed(answer) => push_commit(told, answer),
+        Reply::Abandoned => tell(told, &"abandoned"),
+        Reply::Refused(refusal) => push_refusal(told, refusal),
+    }
+}
+
+fn push_place(told: &mut String, place: u64, word: &str) -> Result<(), Trouble> {
+    writeln!(told, "{place} {word}")?;
+    Ok(())
+}
+
+// What a shard decided, with the newest moment of a stream that an entry is too far behind, or the horizon.
 fn push_decision(told: &mut String, place: u64, reply: &ShardReply) -> Result<(), Trouble> {
     match reply {
-        ShardReply::Accepted => writeln!(told, "{place} Accepted")?,
-        ShardReply::Done => writeln!(told, "{place} Done")?,
-        ShardReply::Full => writeln!(told, "{place} Full")?,
+        ShardReply::Accepted => push_place(told, place, "Accepted"),
+        ShardReply::Done => push_place(told, place, "Done"),
+        ShardReply::Full => push_place(told, place, "Full"),
         ShardReply::TooFarBehind { newest } => {
-            writeln!(told, "{place} TooFarBehind {}", newest.get())?
+            push_moment(told, place, "TooFarBehind", newest.get())
         }
-        ShardReply::Expired { horizon } => writeln!(told, "{place} Expired {}", horizon.get())?,
-        ShardReply::IdTaken => writeln!(told, "{place} IdTaken")?,
-        ShardReply::RequestsFull => writeln!(told, "{place} RequestsFull")?,
-        ShardReply::NoSuchRequest => writeln!(told, "{place} NoSuchRequest")?,
-        ShardReply::AlreadyProcessed => writeln!(told, "{place} AlreadyProcessed")?,
-        ShardReply::WasCancelled => writeln!(told, "{place} WasCancelled")?,
-        ShardReply::TooEarly => writeln!(told, "{place} TooEarly")?,
-        ShardReply::Collected(_) => return Err(Trouble::BadInput),
+        ShardReply::Expired { horizon } => push_moment(told, place, "Expired", horizon.get()),
+        ShardReply::IdTaken => push_place(told, place, "IdTaken"),
+        ShardReply::RequestsFull => push_place(told, place, "RequestsFull"),
+        ShardReply::NoSuchRequest => push_place(told, place, "NoSuchRequest"),
+        ShardReply::AlreadyProcessed => push_place(told, place, "AlreadyProcessed"),
+        ShardReply::WasCancelled => push_place(told, place, "WasCancelled"),
+        ShardReply::TooEarly => push_place(told, place, "TooEarly"),
+        ShardReply::Collected(_) => Err(Trouble::BadInput),
     }
+}
+
+fn push_moment(told: &mut String, place: u64, word: &str, moment: u64) -> Result<(), Trouble> {
+    writeln!(told, "{place} {word} {moment}")?;
     Ok(())
 }
 
@@ -150,13 +177,11 @@ fn push_numbers(told: &mut String, numbers: &[u64]) -> Result<(), Trouble> {
 
 // What a tail says of an evaluation.
 fn push_evaluation(told: &mut String, evaluation: Option<&Evaluation>) -> Result<(), Trouble> {
-    match evaluation {
-        Some(evaluation) => {
-            let text = evaluation_text(*told.allocator(), SinkKind::Tail, evaluation)?;
-            told.push_str(text.as_str())?;
-        }
-        None => told.push_str("None\n")?,
-    }
+    let Some(evaluation) = evaluation else {
+        return tell(told, &"None");
+    };
+    let text = evaluation_text(*told.allocator(), SinkKind::Tail, evaluation)?;
+    told.push_str(text.as_str())?;
     Ok(())
 }
 
@@ -171,22 +196,25 @@ fn look_at(told: &mut String, world: &mut World<Kept, Sunk>, line: &str) -> Resu
     let (word, rest) = words_of(line);
     let (group, rest) = words_of(rest);
     match word {
-        "groups" => writeln!(told, "{}", world.groups())?,
-        "close" => writeln!(told, "{} not written", world.close_sinks())?,
-        "store" => push_store(told, world, index_in(group)?)?,
+        "groups" => tell(told, &world.groups()),
+        "close" => push_unwritten(told, world.close_sinks()),
+        "store" => push_store(told, world, index_in(group)?),
         _ => match world.book(index_in(group)?) {
-            Some(book) => look(told, book, word, rest)?,
-            None => told.push_str("None\n")?,
+            Some(book) => look(told, book, word, rest),
+            None => tell(told, &"None"),
         },
     }
+}
+
+fn push_unwritten(told: &mut String, count: u64) -> Result<(), Trouble> {
+    writeln!(told, "{count} not written")?;
     Ok(())
 }
 
 // How many chunks the store of a shard has, and how often it was read.
 fn push_store(told: &mut String, world: &World<Kept, Sunk>, number: usize) -> Result<(), Trouble> {
     let Some(shard) = world.shard(number) else {
-        told.push_str("None\n")?;
-        return Ok(());
+        return tell(told, &"None");
     };
     let store = shard.store().inner();
     writeln!(told, "{} chunks, {} reads", store.len(), store.reads())?;
@@ -198,40 +226,49 @@ fn push_store(told: &mut String, world: &World<Kept, Sunk>, number: usize) -> Re
 fn look(told: &mut String, book: &Book<Sunk>, word: &str, rest: &str) -> Result<(), Trouble> {
     let (first, second) = words_of(rest);
     match word {
-        "group" => push_group(told, book)?,
-        "first" => writeln!(told, "{} rules", book.first_group().rules.len())?,
-        "alerts" => push_alerts(told, book)?,
-        "due" => writeln!(told, "{}", book.due(moment_in(first)?))?,
-        "item" => push_item(told, book.item(number_in(first)?))?,
-        "evaluation" => push_evaluation(told, book.evaluation(number_in(first)?))?,
-        "show" => {
-            let (sink, index) = (index_in(first)?, number_in(second)?);
-            let (count, text) = (book.sink_count(sink), book.sink_text(sink, index));
-            writeln!(told, "{count:?} {text:?}")?;
-        }
-        _ => return Err(Trouble::BadInput),
+        "group" => push_group(told, book),
+        "first" => push_count(told, "", book.first_group()),
+        "alerts" => push_alerts(told, book.alerts()),
+        "due" => tell(told, &book.due(moment_in(first)?)),
+        "item" => push_item(told, book.item(number_in(first)?)),
+        "evaluation" => push_evaluation(told, book.evaluation(number_in(first)?)),
+        "show" => push_kept(told, book, index_in(first)?, number_in(second)?),
+        _ => Err(Trouble::BadInput),
     }
+}
+
+fn push_count(told: &mut String, before: &str, group: &Group) -> Result<(), Trouble> {
+    writeln!(told, "{before}{} rules", group.rules.len())?;
+    Ok(())
+}
+
+// How many texts a sink has taken, and one that it keeps.
+fn push_kept(told: &mut String, book: &Book<Sunk>, sink: usize, index: u64) -> Result<(), Trouble> {
+    let (count, text) = (book.sink_count(sink), book.sink_text(sink, index));
+    writeln!(told, "{count:?} {text:?}")?;
     Ok(())
 }
 
 // The alerts of each rule, each behind the number of the rule.
-fn push_alerts(told: &mut String, book: &Book<Sunk>) -> Result<(), Trouble> {
-    writeln!(told, "of {} rules", book.alerts().len())?;
-    for (number, alerts) in book.alerts().iter().enumerate() {
-        for alert in alerts.as_slice() {
-            write!(told, "{number} ")?;
-            push_alert(told, alert)?;
-        }
+fn push_alerts(told: &mut String, of_rules: &[PlainList<Alert>]) -> Result<(), Trouble> {
+    writeln!(told, "of {} rules", of_rules.len())?;
+    for (number, alerts) in of_rules.iter().enumerate() {
+        push_rule_alerts(told, number, alerts.as_slice())?;
+    }
+    Ok(())
+}
+
+fn push_rule_alerts(told: &mut String, number: usize, alerts: &[Alert]) -> Result<(), Trouble> {
+    for alert in alerts {
+        write!(told, "{number} ")?;
+        push_alert(told, alert)?;
     }
     Ok(())
 }
 
 fn push_item(told: &mut String, item: Option<&Item>) -> Result<(), Trouble> {
     match item {
-        Some(Item::Edited(group)) => {
-            writeln!(told, "edited to {} rules", group.get().rules.len())?;
-            Ok(())
-        }
+        Some(Item::Edited(group)) => push_count(told, "edited to ", group.get()),
         Some(Item::Evaluated(evaluation)) => push_evaluation(told, Some(evaluation.get())),
         None => push_evaluation(told, None),
     }
@@ -240,9 +277,13 @@ fn push_item(told: &mut String, item: Option<&Item>) -> Result<(), Trouble> {
 // The name of a book's group, the number under which it asks, and its terms.
 fn push_group(told: &mut String, book: &Book<Sunk>) -> Result<(), Trouble> {
     writeln!(told, "{}, slot {}", book.group().name, book.slot())?;
-    for term in book.terms().get().as_slice() {
-        let term = print_term(*told.allocator(), term)?;
-        writeln!(told, "{term}")?;
+    push_terms(told, book.terms().get().as_slice())
+}
+
+fn push_terms(told: &mut String, terms: &[Term]) -> Result<(), Trouble> {
+    for term in terms {
+        let text = print_term(*told.allocator(), term)?;
+        tell(told, &text)?;
     }
     Ok(())
 }
@@ -267,29 +308,30 @@ impl Asking {
     fn push_call(&mut self, told: &mut String, line: &str) -> Result<(), Trouble> {
         let (word, rest) = words_of(line);
         match word {
-            "begin" => push_answer(told, self.book.begin(moment_in(rest)?)),
+            "begin" => push_answer(told, &self.book.begin(moment_in(rest)?)),
             "edit" => self.edit(told, rest),
-            "asks" => self.push_moment(told, index_in(rest)?),
+            "asks" => self.push_asked(told, index_in(rest)?),
             "put" => self.put_nothing(told, rest),
-            "commit" => match self.book.commit() {
-                Ok(answer) => push_commit(told, &answer),
-                Err(error) => push_refusal(told, &error),
-            },
-            "abandon" => push_answer(told, self.book.abandon()),
-            "close" => {
-                writeln!(told, "{} not written", self.book.close_sinks())?;
-                Ok(())
-            }
+            "commit" => self.commit(told),
+            "abandon" => push_answer(told, &self.book.abandon()),
+            "close" => push_unwritten(told, self.book.close_sinks()),
             _ => look(told, &self.book, word, rest),
         }
     }
 
+    fn commit(&mut self, told: &mut String) -> Result<(), Trouble> {
+        match self.book.commit() {
+            Ok(answer) => push_commit(told, &answer),
+            Err(error) => push_refusal(told, &error),
+        }
+    }
+
     // The moment at which a shard is to be asked.
-    fn push_moment(&self, told: &mut String, shard: usize) -> Result<(), Trouble> {
+    fn push_asked(&self, told: &mut String, shard: usize) -> Result<(), Trouble> {
         if shard >= self.shards {
             return Err(Trouble::BadInput);
         }
-        push_answer(told, self.book.asks(shard))
+        push_answer(told, &self.book.asks(shard))
     }
 
     // Edits the group under its name.
@@ -298,7 +340,7 @@ impl Asking {
         if !to.name.is_same(&self.book.group().name) {
             return Err(Trouble::BadInput);
         }
-        push_answer(told, self.book.edit(to))
+        push_answer(told, &self.book.edit(to))
     }
 
     // Hands in what a shard shows of no term, at a place.
@@ -309,21 +351,21 @@ impl Asking {
             return Err(Trouble::BadInput);
         }
         let nothing = PlainList::new(*told.allocator());
-        push_answer(told, self.book.put_partials(shard, place, nothing))
+        push_answer(told, &self.book.put_partials(shard, place, nothing))
     }
 }
 
 // What a call is answered.
-fn push_answer<T, F>(told: &mut String, answer: Result<T, F>) -> Result<(), Trouble>
+fn push_answer<T, F>(told: &mut String, answer: &Result<T, F>) -> Result<(), Trouble>
 where
-    T: Debug + Drop,
-    F: Debug + Display + Drop,
+    T: Debug,
+    F: Debug + Display,
 {
     match answer {
         Ok(taken) => {
             writeln!(told, "Ok({taken:?})")?;
             Ok(())
         }
-        Err(fault) => push_refusal(told, &fault),
+        Err(fault) => push_refusal(told, fault),
     }
 }
