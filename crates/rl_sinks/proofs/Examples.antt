@@ -4,7 +4,7 @@ use Rattle.std.proofs.Common.{sym, ap, ◌∙◌, arith}
 use Rattle.rl_sinks.specs.declared.sink.SinkKind.TheVariants as kinds
 use Rattle.rl_sinks.specs.SinkState.{SinkState, within, taken, refused}
 use Rattle.rl_sinks.specs.Pieces.{Writes}
-use Rattle.rl_sinks.specs.RecorderState.{Recorded, is_full}
+use Rattle.rl_sinks.specs.LogState.{Logged, is_full}
 
 -- a tail that keeps two texts, has taken five and refused as often as is counted
 abbrev tail : SinkState
@@ -26,8 +26,8 @@ no_other_bytes_are_written w =
     omega (arith, first)
 
 -- with room for two: of three texts one is wholly written
-two_wait_where_two_may : {W : Type 0} (recorder : Recorded W) → recorder.room ≡ 2 → length recorder.texts ≡ 3 → recorder.next ≡ 1 → is_full recorder ≡ true
-two_wait_where_two_may recorder room texts next = λ i. nat_le (room i) (texts i - next i)
+two_wait_where_two_may : {W : Type 0} (log : Logged W) → log.room ≡ 2 → length log.texts ≡ 3 → log.next ≡ 1 → is_full log ≡ true
+two_wait_where_two_may log room texts next = λ i. nat_le (room i) (texts i - next i)
 
-one_waits_where_two_may : {W : Type 0} (recorder : Recorded W) → recorder.room ≡ 2 → length recorder.texts ≡ 3 → recorder.next ≡ 2 → is_full recorder ≡ false
-one_waits_where_two_may recorder room texts next = λ i. nat_le (room i) (texts i - next i)
+one_waits_where_two_may : {W : Type 0} (log : Logged W) → log.room ≡ 2 → length log.texts ≡ 3 → log.next ≡ 2 → is_full log ≡ false
+one_waits_where_two_may log room texts next = λ i. nat_le (room i) (texts i - next i)

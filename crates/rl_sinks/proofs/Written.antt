@@ -1,9 +1,9 @@
 -- What a writer got, step by step.
-use Rattle.std.proofs.Common.{◌≡◌, ◌≢◌, ℕ, ◌+◌, ◌-◌, ◌<◌, ◌≤◌, List, [], ◌++◌, length, take, drop, get_or, Option, None, Some, Result, Ok, Err, OnOk, OnErr, sym, ap, subst, ◌∙◌, refl, arith, append_assoc, length-append}
-use Rattle.std.proofs.lemmas.List.{take-append-drop, append-nil, take_all, drop-append-le, drop_more, length-drop}
+use Rattle.std.proofs.Common.{◌≡◌, ◌≢◌, Bool, true, false, ℕ, ◌+◌, ◌-◌, ◌<◌, ◌≤◌, List, [], ◌++◌, length, take, drop, get_or, Option, None, Some, Result, Ok, Err, OnOk, OnErr, sym, ap, subst, ◌∙◌, refl, arith, append_assoc, length-append}
+use Rattle.std.proofs.lemmas.List.{get_or_append_left, take-append-drop, append-nil, take_all, drop-append-le, drop_more, length-drop}
 use Rattle.std.specs.List.{flat_map}
 use Rattle.std.specs.Io.KnownBytes.{Appends, Keeps}
-use Rattle.rl_sinks.specs.Pieces.{Writes, rest_of}
+use Rattle.rl_sinks.specs.Pieces.{Writes, IsPlace, end_pieces, pieces, rest_of}
 
 -- one write after another
 pub Appends-trans : (o m n : Option (List ℕ)) (f g : List ℕ) → Appends o m f → Appends m n g → Appends o n (f ++ g)
@@ -57,7 +57,7 @@ piece_begun o n all next part new within fits room w =
     (Writes-behind o n (drop part (get_or all next [])) (drop new (get_or all next [])) (rest_of all (next + 1) 0) w))
 
 -- a piece was written, in whole or in part
-pub piece_written : {A E : Type 0} (r : Result A E) (o n : Option (List ℕ)) (all : List (List ℕ)) (next part next_after part_after : ℕ) (piece : List ℕ) → next < length all → part ≤ length (get_or all next []) → piece ≡ get_or all next []
+piece_written : {A E : Type 0} (r : Result A E) (o n : Option (List ℕ)) (all : List (List ℕ)) (next part next_after part_after : ℕ) (piece : List ℕ) → next < length all → part ≤ length (get_or all next []) → piece ≡ get_or all next []
     → OnOk r ((next_after ≡ next + 1) × (part_after ≡ 0) × Writes o n (drop part piece) [])
     → OnErr r ((next_after ≡ next) × (part_after < length piece) × Writes o n (drop part piece) (drop part_after piece))
     → Writes o n (rest_of all next part) (rest_of all next_after part_after)
@@ -75,9 +75,35 @@ rest_of-left all next part within fits none =
     let piece = get_or all next [] in
     omega (arith, fits, length-drop part piece, length-append (drop part piece) (rest_of all (next + 1) 0), ap length (sym (rest_of-next all next part within (omega (arith, fits))) ∙ none))
 
--- a write that failed leaves bytes of its piece
-pub piece_left : {A E : Type 0} (P : Type 0) (r : Result A E) (all : List (List ℕ)) (next next_after part_after : ℕ) (piece : List ℕ) → next < length all → piece ≡ get_or all next []
-    → OnErr r ((next_after ≡ next) × (part_after < length piece) × P) → OnErr r (rest_of all next_after part_after ≢ [])
-piece_left P (Ok x) all next next_after part_after piece within read err = tt
-piece_left P (Err e) all next next_after part_after piece within read err =
-    subst (λ place. rest_of all place part_after ≢ []) (sym err.0) (rest_of-left all next part_after within (subst (λ text. part_after < length text) read err.1))
+-- the last line wanted or not, a piece is the same
+piece_wanted : (ended : Bool) (texts : List (List ℕ)) (count i : ℕ) → i < length (pieces ended texts count) → get_or (pieces true texts count) i [] ≡ get_or (pieces ended texts count) i []
+piece_wanted false texts count i within = get_or_append_left texts (end_pieces count) [] i within
+piece_wanted true texts count i within = refl
+
+-- a piece of those that are wanted was written, in whole or in part
+pub wanted_written : {A E : Type 0} (r : Result A E) (o n : Option (List ℕ)) (ended : Bool) (texts : List (List ℕ)) (count next part next_after part_after : ℕ) (piece : List ℕ) → next < length (pieces ended texts count) → part ≤ length (get_or (pieces true texts count) next []) → piece ≡ get_or (pieces true texts count) next []
+    → OnOk r ((next_after ≡ next + 1) × (part_after ≡ 0) × Writes o n (drop part piece) [])
+    → OnErr r ((next_after ≡ next) × (part_after < length piece) × Writes o n (drop part piece) (drop part_after piece))
+    → Writes o n (rest_of (pieces ended texts count) next part) (rest_of (pieces ended texts count) next_after part_after)
+wanted_written r o n ended texts count next part next_after part_after piece within fits read ok err =
+    let same = piece_wanted ended texts count next within in
+    piece_written r o n (pieces ended texts count) next part next_after part_after piece within (subst (λ p. part ≤ length p) same fits) (read ∙ same) ok err
+
+-- and the writing stands in them
+pub wanted_place : {A E : Type 0} (P Q : Type 0) (r : Result A E) (ended : Bool) (texts : List (List ℕ)) (count next next_after part_after : ℕ) (piece : List ℕ) → next < length (pieces ended texts count) → piece ≡ get_or (pieces true texts count) next []
+    → OnOk r ((next_after ≡ next + 1) × (part_after ≡ 0) × P) → OnErr r ((next_after ≡ next) × (part_after < length piece) × Q) → IsPlace (pieces ended texts count) next_after part_after
+wanted_place P Q (Ok x) ended texts count next next_after part_after piece within read ok err = record { within = omega (arith, ok.0, within); fits = omega (arith, ok.1) }
+wanted_place P Q (Err e) ended texts count next next_after part_after piece within read ok err =
+    let below = subst (λ text. part_after < length text) (read ∙ piece_wanted ended texts count next within) err.1 in
+    record { within = omega (arith, err.0, within); fits = subst (λ n. part_after ≤ length (get_or (pieces ended texts count) n [])) (sym err.0) (omega (arith, below)) }
+
+-- a write that failed leaves bytes of those that are wanted
+pub wanted_left : (ended : Bool) (texts : List (List ℕ)) (count next next_after part_after : ℕ) (piece : List ℕ) → next < length (pieces ended texts count) → piece ≡ get_or (pieces true texts count) next [] → next_after ≡ next → part_after < length piece → rest_of (pieces ended texts count) next_after part_after ≢ []
+wanted_left ended texts count next next_after part_after piece within read same short =
+    let below = subst (λ text. part_after < length text) (read ∙ piece_wanted ended texts count next within) short in
+    subst (λ place. rest_of (pieces ended texts count) place part_after ≢ []) (sym same) (rest_of-left (pieces ended texts count) next part_after within below)
+
+-- a piece that is wanted is one of all
+pub piece_within : (ended : Bool) (texts : List (List ℕ)) (count i : ℕ) → i < length (pieces ended texts count) → i < length (pieces true texts count)
+piece_within false texts count i within = omega (arith, within, length-append texts (end_pieces count))
+piece_within true texts count i within = within

@@ -1,4 +1,5 @@
+pub mod LogState
 pub mod Pieces
-pub mod RecorderState
 pub mod SinkState
+pub mod TailState
 pub mod Texts

@@ -1,5 +1,5 @@
--- What a recorder writes, piece by piece: its texts, and the last line.
-use Rattle.std.specs.Prelude.{◌≡◌, ℕ, List, [], ◌∷◌, ◌++◌, ◌≤◌, length, drop, slice_index_or, Option, codes}
+-- What a sink writes, piece by piece: its texts, and the last line.
+use Rattle.std.specs.Prelude.{◌≡◌, ℕ, Bool, true, false, List, [], ◌∷◌, ◌++◌, ◌≤◌, length, drop, slice_index_or, Option, codes}
 use Rattle.std.specs.List.{flat_map}
 use Rattle.std.specs.Fmt.{decimal}
 use Rattle.std.specs.Io.KnownBytes.{Appends}
@@ -8,9 +8,10 @@ use Rattle.std.specs.Io.KnownBytes.{Appends}
 abbrev pub end_pieces : ℕ → List (List ℕ)
 end_pieces count = codes "# end " ∷ decimal count ∷ codes "\n" ∷ []
 
--- the texts, and then the last line
-abbrev pub pieces : List (List ℕ) → List (List ℕ)
-pieces texts = texts ++ end_pieces (length texts)
+-- texts, and behind them the last line of a sink that has taken so many, where it is wanted
+abbrev pub pieces : Bool → List (List ℕ) → ℕ → List (List ℕ)
+pieces false texts count = texts
+pieces true texts count = texts ++ end_pieces count
 
 -- what is left of pieces behind the first ones and a part of the next
 abbrev pub rest_of : List (List ℕ) → ℕ → ℕ → List ℕ

@@ -33,7 +33,7 @@ abbrev pub closed : SinkState → SinkState
 closed sink = record { kind = sink.kind; limit = sink.limit; count = sink.count; kept = sink.kept; closed = true; refusals = sink.refusals }
 
 -- what a sink that is open may refuse a text for: room, a reason of its own or memory; reason 1 is that of a closed sink, and
--- only a close fails to write
+-- only a pump or a close fails to write
 abbrev pub is_open_refusal : SinkFault → Bool
 is_open_refusal faults.Full = true
 is_open_refusal (faults.Refused reason) = not (reason == 1)

@@ -4,15 +4,22 @@
 //! refused. `take` that is answered Ok adds one text; a refusal counts as one and changes nothing else.
 //!
 //! - `sink`: `Sink`, `SinkKind`, `SinkFault`, and boxes of sinks. `text`: `evaluation_text`, `write_tail`.
-//! - `recorder`: `Recorder`, which writes the samples of recording rules.
+//! - `recorder`: `Recorder`, which writes the samples of recording rules. `notifier`: `Notifier`, which tells of alerts.
+//!   Both are a `TextLog`, in `log`: each text is kept and written once, in order.
+//! - `tail`: `Tail`, which keeps the last texts. `writing`: piece by piece to a writer that may stop anywhere.
 #![tactic(auto)]
 
+mod log;
+pub mod notifier;
 pub mod recorder;
 pub mod sink;
+pub mod tail;
 mod target;
 pub mod text;
 mod writing;
 
+pub use notifier::Notifier;
 pub use recorder::Recorder;
 pub use sink::{Sink, SinkFault, SinkKind};
+pub use tail::Tail;
 pub use text::{evaluation_text, write_tail};

@@ -1,77 +1,55 @@
 //! A sink that writes the samples of recording rules, and keeps every text.
-ghost use Rattle.std.specs.Prelude.{◌≡◌, ◌≢◌, ◌⊎◌, ◌+◌, ◌<◌, ◌^◌, [], length, not, ◌&&◌, IsTrue, IsOk, Err, OnOk, OnErr, IfErr, false, None};
+ghost use Rattle.std.specs.Prelude.{◌≡◌, ◌+◌, ◌<◌, ◌^◌, length, true, OnOk, OnErr, IfErr};
 ghost use Rattle.rl_sinks.specs.Pieces.{Writes};
 
+use crate::log::TextLog;
 use crate::sink::{Sink, SinkFault, SinkKind};
-use crate::writing::{add, kept_text, write_rest};
-use rl_plain::PlainText;
 use rl_rules::Evaluation;
 use std::alloc::Global;
 use std::io::Write;
 use std::marker::Model;
 
-/// Keeps every text, and writes them to its writer when it is closed, with the last line `# end <count>` behind them.
-/// Contracts see a `Recorded`.
+/// Keeps every text, and writes them to its writer when it is pumped, closed or dropped, the last line `# end <count>` behind
+/// them when it is closed or dropped. Contracts see a `Logged`.
 #[derive(Drop)]
-pub struct Recorder<W> {
-    pub(crate) writer: W,
-    // How many texts may wait to be written.
-    pub(crate) cap: usize,
-    pub(crate) texts: Vec<PlainText>,
-    // How many pieces are wholly written: texts, and then the parts of the last line.
-    pub(crate) next: usize,
-    // How many bytes of the next one are written.
-    pub(crate) part: usize,
-    pub(crate) closed: bool,
-    pub(crate) refusals: u64,
+pub struct Recorder<W: Write + Drop> {
+    log: TextLog<W>,
 }
 
-impl<W> Model for Recorder<W> {
-    ghost use Rattle.rl_sinks.specs.RecorderState.{Recorded, recorded_code, IsRecorded};
+impl<W: Write + Drop> Model for Recorder<W> {
+    ghost use Rattle.rl_sinks.specs.LogState.{Logged, logged_code};
 
-    ghost Value = { Recorded W };
+    ghost Value = { Logged W };
 
-    ghost coded = { recorded_code W.code };
+    ghost coded = { logged_code W.code };
 
-    ghost view = { λ a. record { writer = a.writer; room = a.cap; texts = a.texts.items; next = a.next; part = a.part; closed = a.closed; refusals = a.refusals } };
-
-    ghost invariant = { λ a. IsRecorded a.texts.items a.next a.part a.closed };
+    ghost view = { λ a. a.log };
 }
 
 impl<W: Write + Drop> Recorder<W> {
-    ghost use Rattle.rl_sinks.specs.RecorderState.{recorder_state};
-    ghost use Rattle.rl_sinks.specs.declared.sink.SinkKind.TheVariants as kinds;
+    ghost use Rattle.rl_sinks.specs.LogState.{new_log};
 
     /// A recorder that has taken nothing. At most `cap` texts wait to be written; where that is 0, each is refused as Full.
     pub fn new(alloc: Global, writer: W, cap: usize) -> Self
-        ensures state { recorder_state result ≡ record { kind = kinds.Recorder; limit = None; count = 0; kept = []; closed = false; refusals = 0 } }
-        ensures room { result.room ≡ cap }
-        ensures writer { result.writer ≡ writer }
-        ensures unwritten { (result.next ≡ 0) × (result.part ≡ 0) }
+        ensures { result ≡ new_log writer cap }
     {
         Recorder {
-            writer,
-            cap,
-            texts: Vec::new(alloc),
-            next: 0,
-            part: 0,
-            closed: false,
-            refusals: 0,
+            log: TextLog::new(alloc, writer, cap),
         }
     }
 }
 
 impl<W: Write + Drop> Sink for Recorder<W> {
-    ghost use Rattle.std.specs.Option.{option_copied};
-    ghost use Rattle.rl_sinks.specs.SinkState.{taken, refused, closed};
     ghost use Rattle.rl_sinks.specs.Texts.{evaluation_text};
-    ghost use Rattle.rl_sinks.specs.RecorderState.{recorder_state, unwritten, is_full, TakeAnswers, CloseAnswers};
+    ghost use Rattle.rl_sinks.specs.LogState.{log_state, with_text, with_refusal, written_as, unwritten, unwritten_texts, TakeAnswers, PumpAnswers, CloseAnswers};
     ghost use Rattle.rl_sinks.specs.declared.sink.SinkFault.TheVariants as faults;
     ghost use Rattle.rl_sinks.specs.declared.sink.SinkKind.TheVariants as kinds;
 
-    ghost state = { recorder_state };
+    ghost state = { log_state kinds.Recorder };
 
     ghost take_answers = { TakeAnswers };
+
+    ghost pump_answers = { PumpAnswers };
 
     ghost close_answers = { CloseAnswers };
 
@@ -84,47 +62,38 @@ impl<W: Write + Drop> Sink for Recorder<W> {
     }
 
     fn count(&self) -> u64 {
-        self.texts.len() as u64
+        self.log.count()
     }
 
     fn kept(&self, index: u64) -> Option<&str> {
-        kept_text(&self.texts, index)
+        self.log.text(index)
     }
 
     fn take(&mut self, evaluation: &Evaluation) -> Result<(), SinkFault>
         requires { length self.old.texts + 1 < 2 ^ 64 }
-        ensures ok { OnOk result (recorder_state self.new ≡ taken (recorder_state self.old) (evaluation_text kinds.Recorder evaluation.now)) }
-        ensures err { OnErr result (recorder_state self.new ≡ refused (recorder_state self.old)) }
-        ensures closed { IsTrue self.old.closed → result ≡ Err (faults.Refused 1) }
-        ensures full { IsTrue (not self.old.closed && is_full self.old) → result ≡ Err faults.Full }
-        ensures open { IsTrue (not self.old.closed && not (is_full self.old)) → IsOk result ⊎ (result ≡ Err faults.Memory) }
         ensures answer { TakeAnswers self.old result }
-        ensures room { self.new.room ≡ self.old.room }
-        ensures writer { self.new.writer ≡ self.old.writer }
-        ensures unwritten { (self.new.next ≡ self.old.next) × (self.new.part ≡ self.old.part) }
+        ensures one_more { OnOk result (self.new ≡ with_text self.old (evaluation_text kinds.Recorder evaluation.now)) }
+        ensures one_refused { OnErr result (self.new ≡ with_refusal self.old) }
     {
-        if let Err(fault) = add(self, evaluation) {
-            self.refusals = self.refusals.wrapping_add(1);
-            return Err(fault);
-        }
-        Ok(())
+        self.log.take(SinkKind::Recorder, evaluation)
+    }
+
+    fn pump(&mut self) -> Result<(), SinkFault>
+        ensures same { self.new ≡ written_as self.old self.new self.old.closed }
+        ensures fault { IfErr result (λ fault. fault ≡ faults.WriteFault) }
+        ensures answer { PumpAnswers self.new result }
+        ensures texts { Writes (W.contents self.old.writer) (W.contents self.new.writer) (unwritten_texts self.old) (unwritten_texts self.new) }
+        ensures writes { Writes (W.contents self.old.writer) (W.contents self.new.writer) (unwritten self.old) (unwritten self.new) }
+    {
+        self.log.pump()
     }
 
     fn close(&mut self) -> Result<(), SinkFault>
-        ensures closed { recorder_state self.new ≡ closed (recorder_state self.old) }
         ensures fault { IfErr result (λ fault. fault ≡ faults.WriteFault) }
-        ensures writes { Writes (W.contents self.old.writer) (W.contents self.new.writer) (unwritten self.old) (unwritten self.new) }
-        ensures all { OnOk result (unwritten self.new ≡ []) }
-        ensures left { OnErr result (unwritten self.new ≢ []) }
         ensures answer { CloseAnswers self.new result }
-        ensures room { self.new.room ≡ self.old.room }
+        ensures same { self.new ≡ written_as self.old self.new true }
+        ensures writes { Writes (W.contents self.old.writer) (W.contents self.new.writer) (unwritten self.old) (unwritten self.new) }
     {
-        self.closed = true;
-        write_rest(
-            &mut self.writer,
-            &self.texts,
-            &mut self.next,
-            &mut self.part,
-        )
+        self.log.close()
     }
 }

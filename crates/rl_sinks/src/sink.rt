@@ -55,8 +55,10 @@ impl<T: Drop> From<AllocFailed<T>> for SinkFault {
 /// Takes the text of each evaluation. What hands a sink to another thread asks for `Send` besides.
 pub trait Sink: Drop {
     ghost state: { Self → SinkState };
-    // What a sink says beside of an answer: of `take`, by the sink before it, and of `close`, by the sink after it.
+    // What a sink says beside of an answer: of `take`, by the sink before it, and of `pump` and `close`, by the sink after it.
     ghost take_answers: { Self → Result ⊤ SinkFault → Type 0 } = { λ _ _. ⊤ };
+
+    ghost pump_answers: { Self → Result ⊤ SinkFault → Type 0 } = { λ _ _. ⊤ };
 
     ghost close_answers: { Self → Result ⊤ SinkFault → Type 0 } = { λ _ _. ⊤ };
 
@@ -85,7 +87,14 @@ pub trait Sink: Drop {
         ensures open { IsTrue (not (state self.old).closed) → IfErr result (λ fault. IsTrue (is_open_refusal fault)) }
         ensures answer { take_answers self.old result };
 
-    /// Writes what is not yet written, and closes the sink with either answer. A sink that is closed can be closed again, to go on.
+    /// Writes the texts that are not yet written, so that more can be taken.
+    fn pump(&mut self) -> Result<(), SinkFault>
+        ensures same { state self.new ≡ state self.old }
+        ensures fault { IfErr result (λ fault. fault ≡ faults.WriteFault) }
+        ensures answer { pump_answers self.new result };
+
+    /// Writes what is not yet written, and a last line behind it, and closes the sink with either answer. A sink that is closed
+    /// can be closed again, to go on; so does its drop.
     fn close(&mut self) -> Result<(), SinkFault>
         ensures closed { state self.new ≡ closed (state self.old) }
         ensures fault { IfErr result (λ fault. fault ≡ faults.WriteFault) }
@@ -96,6 +105,8 @@ impl Sink for Box<dyn Sink + Send> {
     ghost state = { λ sink. (Sink-box sink).state sink.value };
 
     ghost take_answers = { λ sink. (Sink-box sink).take_answers sink.value };
+
+    ghost pump_answers = { λ sink. (Sink-box sink).pump_answers sink.value };
 
     ghost close_answers = { λ sink. (Sink-box sink).close_answers sink.value };
 
@@ -117,6 +128,10 @@ impl Sink for Box<dyn Sink + Send> {
 
     fn take(&mut self, evaluation: &Evaluation) -> Result<(), SinkFault> {
         (**self).take(evaluation)
+    }
+
+    fn pump(&mut self) -> Result<(), SinkFault> {
+        (**self).pump()
     }
 
     fn close(&mut self) -> Result<(), SinkFault> {

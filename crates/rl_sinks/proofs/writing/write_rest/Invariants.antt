@@ -1,13 +1,16 @@
-use Rattle.std.proofs.Common.{◌+◌, ◌-◌, length}
+use Rattle.std.proofs.Common.{◌≡◌, ◌-◌, length, true}
 use Rattle.rl_sinks.specs.Pieces.{Writes, IsPlace, pieces, rest_of}
 use Rattle.rl_sinks.proofs.writing.write_rest.Given as goal
 
 abbrev pub decreases-loop-next : goal.decreases-loop-next
-decreases-loop-next g l = length l.texts + 3 - l.next
+decreases-loop-next g l = l.all - l.next
 
 -- the writer got what was left before the piece that is next
 abbrev pub invariant-loop-next : goal.invariant-loop-next
 invariant-loop-next g l = record {
-  place : IsPlace (pieces l.texts) l.next l.part;
-  written : Writes (g.W.Write.contents l.fn.writer) (g.W.Write.contents l.writer) (rest_of (pieces l.texts) l.fn.next l.fn.part) (rest_of (pieces l.texts) l.next l.part);
+  all : l.all ≡ length (pieces l.ended l.texts l.count);
+  place : IsPlace (pieces true l.texts l.count) l.next l.part;
+  stays : IsPlace (pieces l.ended l.texts l.count) l.fn.next l.fn.part → IsPlace (pieces l.ended l.texts l.count) l.next l.part;
+  wanted : Writes (g.W.Write.contents l.fn.writer) (g.W.Write.contents l.writer) (rest_of (pieces l.ended l.texts l.count) l.fn.next l.fn.part) (rest_of (pieces l.ended l.texts l.count) l.next l.part);
+  written : Writes (g.W.Write.contents l.fn.writer) (g.W.Write.contents l.writer) (rest_of (pieces true l.texts l.count) l.fn.next l.fn.part) (rest_of (pieces true l.texts l.count) l.next l.part);
 }
