@@ -96,10 +96,10 @@ from_scratch history evaluation opened shown made is kept = made ∙ ap (evaluat
     some_is : {X : Type 0} (a b : X) → Some a ≡ Some b → a ≡ b
     some_is a b h = cc
 
--- a book that committed, or refused, is still one of its world
-pub fits_commit : (n : ℕ) (result : Result Committed (OrMemory BookFault)) (book after : BookState) → IsBookOf n book → OnOk result ((after.shards ≡ book.shards) × (after.slot ≡ book.slot)) → OnOk result (AllOffered after.history.evaluations book.sinks after.sinks) → OnErr result (after ≡ book) → IsBookOf n after
-fits_commit n (Ok answer) book after fits rest offered err = (rest.0 ∙ fits.0, each_took_offered after.history.evaluations book.sinks after.sinks offered)
-fits_commit n (Err error) book after fits rest offered err = subst (IsBookOf n) (sym err) fits
+-- a book whose sinks were offered what they had not taken, or which refused, is still one of its world
+pub fits_offered : {A E : Type 0} (n : ℕ) (result : Result A E) (book after : BookState) → IsBookOf n book → OnOk result ((after.shards ≡ book.shards) × (after.slot ≡ book.slot)) → OnOk result (AllOffered after.history.evaluations book.sinks after.sinks) → OnErr result (after ≡ book) → IsBookOf n after
+fits_offered n (Ok answer) book after fits rest offered err = (rest.0 ∙ fits.0, each_took_offered after.history.evaluations book.sinks after.sinks offered)
+fits_offered n (Err error) book after fits rest offered err = subst (IsBookOf n) (sym err) fits
 
 module _ (shards : List ShardView) (books : List BookState) (group : ℕ) (book after : BookState) (there : slice_get books group ≡ Some book) where
   pub commit_turn : (answer : Committed) → Answers (commit_fault book.history) (Ok answer) → answer.number ≡ length book.history.evaluations → IfSome book.history.opened (λ opened. answer.evaluation ≡ evaluation_from book.history.group (alerts_of book.history) opened)

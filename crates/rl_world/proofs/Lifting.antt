@@ -118,6 +118,7 @@ module _ (world : Lists) where
       (λ history. ap (λ fault. known (slice_get world.shards number) (λ shard. or_else (option_map refusals.Book fault) (journal_refusal shard))) (gather-kept history number))
   refusal-kept (steps.Commit group) = at_group group (λ history. option_map refusals.Book (commit_fault history)) (λ history. option_map refusals.Book (commit_fault history)) (λ history. ap (option_map refusals.Book) (commit-kept history))
   refusal-kept (steps.Abandon group) = at_group group (λ history. option_map refusals.Book (abandon_fault history)) (λ history. option_map refusals.Book (abandon_fault history)) (λ history. ap (option_map refusals.Book) (abandon-kept history))
+  refusal-kept (steps.CatchUp group) = at_group group (λ history. None) (λ history. None) (λ history. refl)
 
 -- a turn of lists that is not refused, and what is kept of where it leads
 record LiftedTurn (world : Lists) (step : Step) (reply : Reply) (new : Parts) : Type 0 where
@@ -236,6 +237,7 @@ lift_turn world (steps.Begin group t) replies.Begun new turn =
 lift_turn world (steps.Gather group number) (replies.Gathered place) new turn = lift_gather world group number place new turn
 lift_turn world (steps.Commit group) (replies.Committed answer) new turn = lift_commit world group answer new turn
 lift_turn world (steps.Abandon group) replies.Abandoned new turn = lift_history world group (steps.Abandon group) replies.Abandoned abandoned abandoned new (λ history. refl) (λ after turn. turn) turn
+lift_turn world (steps.CatchUp group) (replies.CaughtUp behind) new turn = lift_history world group (steps.CatchUp group) (replies.CaughtUp behind) (λ history. history) (λ history. history) new (λ history. refl) (λ after turn. turn) turn
 lift_turn world step reply new turn = absurd turn
 
 refused_kept : (world : Lists) (step : Step) (refusal : Refusal) → MayRefuse (kept_world world) step refusal → MayRefuse world step refusal

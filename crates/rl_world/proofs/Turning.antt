@@ -259,6 +259,24 @@ module _ (shards : List ShardView) (books : List BookState) where
     book_kept group book after there after_is,
   )
 
+  catch_up_refusal : (group : ℕ) (book : BookState) → slice_get books group ≡ Some book → refusal_of (world_of shards books) (steps.CatchUp group) ≡ None
+  catch_up_refusal group book there = ap (λ h. known h (λ history. None)) (history_at group book there)
+
+  pub catch_up_turn : (group : ℕ) (behind : List ℕ) (book after : BookState) → slice_get books group ≡ Some book → after.history ≡ book.history
+      → WorldStep partials (world_of shards books) (steps.CatchUp group) (replies.CaughtUp behind) (world_of shards (slice_set books group after))
+  catch_up_turn group behind book after there same = (
+    catch_up_refusal group book there,
+    record {
+      history = book.history;
+      there = history_at group book there;
+      after = world_with group after ∙ (λ i. record { shards = map journalled shards; histories = slice_set (map (λ (b : BookState). b.history) books) group (same i) });
+    },
+  )
+
+  pub catch_up_refused : (group : ℕ) (book after : BookState) → slice_get books group ≡ Some book → after ≡ book
+      → WorldStep partials (world_of shards books) (steps.CatchUp group) (replies.Refused refusals.Memory) (world_of shards (slice_set books group after))
+  catch_up_refused group book after there after_is = (inr (catch_up_refusal group book there, refl), book_kept group book after there after_is)
+
   -- a call that touches no sink and adds no evaluation
   pub told_same : (group : ℕ) (book after : BookState) → slice_get books group ≡ Some book → told after ≡ told book → map told (slice_set books group after) ≡ map told books
   told_same group book after there same = map-set_same told books group after book (same ∙ ap told (sym (get_or_from_slice_get books group book book there)))

@@ -10,9 +10,14 @@ use Rattle.rl_world.specs.declared.step.Step.TheVariants as steps
 use Rattle.rl_world.specs.declared.step.Reply.{Reply}
 use Rattle.rl_world.specs.declared.step.Reply.TheVariants as replies
 
--- whether the commit of a group that was not refused lists the sink; none where the turn is no such commit
+-- whether a list of a group's sinks that are behind has the sink; none where the group is another
+abbrev pub listed_in : ℕ → ℕ → ℕ → List ℕ → Option Bool
+listed_in group sink number behind = if number == group then Some (list_any (λ listed. listed == sink) behind) else None
+
+-- whether a commit or a catch-up of the group that was not refused lists the sink; none where the turn is no such
 abbrev pub listing : ℕ → ℕ → Step × Reply → Option Bool
-listing group sink (steps.Commit number, replies.Committed answer) = if number == group then Some (list_any (λ behind. behind == sink) answer.behind) else None
+listing group sink (steps.Commit number, replies.Committed answer) = listed_in group sink number answer.behind
+listing group sink (steps.CatchUp number, replies.CaughtUp behind) = listed_in group sink number behind
 listing group sink (step, reply) = None
 
 abbrev pub is_listed : Option Bool → Bool
@@ -27,13 +32,13 @@ abbrev pub latest : Option Bool → Option Bool → Option Bool
 latest first None = first
 latest first (Some listed) = Some listed
 
--- what the last commit of the group that was not refused says of the sink, if there is one
+-- what the last such turn of the group says of the sink, if there is one
 abbrev pub last_listing : ℕ → ℕ → List (Step × Reply) → Option Bool
 last_listing group sink [] = None
 last_listing group sink (turn ∷ turns) = latest (listing group sink turn) (last_listing group sink turns)
 
--- what a run made of one sink: each reply that lists it counts as a refusal, and it is behind where the last commit of its
--- group says so; with none it took nothing
+-- what a run made of one sink: each reply that lists it counts as a refusal, and it is behind where the last commit or catch-up
+-- of its group says so; with none it took nothing
 pub record Follows (turns : List (Step × Reply)) (group sink : ℕ) (evaluations : List Evaluation) (old new : SinkState) : Type 0 where
   pub refusals : new.refusals % 2 ^ 64 ≡ (old.refusals + listings group sink turns) % 2 ^ 64
   pub behind : MatchOption (last_listing group sink turns) (new.count ≡ old.count) (λ listed. is_behind evaluations new ≡ listed)

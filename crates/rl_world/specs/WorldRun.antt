@@ -12,22 +12,21 @@ use Rattle.rl_world.specs.WorldState.{BookState, WorldBooks, WorldState, Stands,
 use Rattle.rl_world.specs.WorldStep.{WorldStep, IsRefused, Replay, asks_shard, lists, partials}
 use Rattle.rl_world.specs.declared.fault.Refusal.{Refusal}
 use Rattle.rl_world.specs.declared.opened.OpenEvaluation.{OpenEvaluation}
-use Rattle.rl_world.specs.declared.step.Committed.{Committed}
 use Rattle.rl_world.specs.declared.step.Step.{Step}
 use Rattle.rl_world.specs.declared.step.Step.TheVariants as steps
 use Rattle.rl_world.specs.declared.step.Reply.{Reply}
 use Rattle.rl_world.specs.declared.step.Reply.TheVariants as replies
 
--- a commit offers its group's sinks what they have not taken, and lists those that are behind; its book asks as many shards as
--- before, under the same number
-pub record CommitSinks (old : List BookState) (group : ℕ) (answer : Committed) (new : List BookState) : Type 0 where
+-- the sinks of a group are offered what they have not taken, and those that are behind are listed; its book asks as many shards
+-- as before, under the same number
+pub record SinksOffered (old : List BookState) (group : ℕ) (behind : List ℕ) (new : List BookState) : Type 0 where
   pub before : BookState
   pub there : slice_get old group ≡ Some before
   pub after : BookState
   pub now : new ≡ slice_set old group after
   pub asks : (after.shards ≡ before.shards) × (after.slot ≡ before.slot)
   pub offered : AllOffered after.history.evaluations before.sinks after.sinks
-  pub behind : answer.behind ≡ behind_of after.history.evaluations after.sinks
+  pub behind_is : behind ≡ behind_of after.history.evaluations after.sinks
 
 -- what sinks are told of, the sinks, how many shards a book asks, and under which number
 pub record BookTold : Type 0 where
@@ -39,9 +38,10 @@ pub record BookTold : Type 0 where
 abbrev pub told : BookState → BookTold
 told book = record { evaluations = book.history.evaluations; sinks = book.sinks; shards = book.shards; slot = book.slot }
 
--- what a step makes of the sinks: only a commit adds an evaluation, and touches them
+-- what a step makes of the sinks: only a commit adds an evaluation, and only it and a catch-up touch them
 abbrev pub SinkStep : List BookState → Step → Reply → List BookState → Type 0
-SinkStep old (steps.Commit group) (replies.Committed answer) new = CommitSinks old group answer new
+SinkStep old (steps.Commit group) (replies.Committed answer) new = SinksOffered old group answer.behind new
+SinkStep old (steps.CatchUp group) (replies.CaughtUp behind) new = SinksOffered old group behind new
 SinkStep old step reply new = map told new ≡ map told old
 
 -- a shard was asked for the open evaluation of a group, which keeps what the shard showed

@@ -108,6 +108,7 @@ module _ {X : Type 0} where
   refusal_of world (steps.Gather group number) = known (slice_get world.histories group) (λ history. known (slice_get world.shards number) (λ shard. or_else (option_map refusals.Book (gather_fault history number)) (journal_refusal shard)))
   refusal_of world (steps.Commit group) = known (slice_get world.histories group) (λ history. option_map refusals.Book (commit_fault history))
   refusal_of world (steps.Abandon group) = known (slice_get world.histories group) (λ history. option_map refusals.Book (abandon_fault history))
+  refusal_of world (steps.CatchUp group) = known (slice_get world.histories group) (λ history. None)
 
   -- it is the first refusal that applies; where none does, the step may come to nothing for it
   abbrev pub MayRefuse : WorldState X → Step → Refusal → Type 0
@@ -173,6 +174,7 @@ module _ {X : Type 0} where
   Turn keeping old (steps.Gather group number) (replies.Gathered place) new = GatherTurn keeping old group number place new
   Turn keeping old (steps.Commit group) (replies.Committed answer) new = CommitTurn keeping old group answer new
   Turn keeping old (steps.Abandon group) replies.Abandoned new = HistoryTurn abandoned old group new
+  Turn keeping old (steps.CatchUp group) (replies.CaughtUp behind) new = HistoryTurn (λ history. history) old group new
   Turn keeping old step reply new = ⊥
 
   -- a step that is refused counts as no step; any other reply comes only where no refusal does

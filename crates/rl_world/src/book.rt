@@ -2,7 +2,7 @@
 ghost use Rattle.std.specs.Prelude.{◌≡◌, ◌≤◌, ◌<◌, ◌^◌, List, [], map, length, replicate, slice_get, option_map, option_and_then, IfOk, IfErr, OnOk, OnErr, IfSome, None, Some, is_some, false};
 ghost use Rattle.rl_sinks.specs.SinkState.{closed};
 ghost use Rattle.rl_world.specs.BookCalls.{Refuses};
-ghost use Rattle.rl_world.specs.Closed.{SinksClosed};
+ghost use Rattle.rl_world.specs.Closed.{SinksAnswered, SinksPumped};
 ghost use Rattle.rl_world.specs.History.{asked_fault, closing_fault, has_passed, with_shown};
 ghost use Rattle.std.specs.List.{AllByRecursion, list_all};
 ghost use Rattle.std.specs.Option.{option_copied};
@@ -11,7 +11,7 @@ use crate::editing::alerts_edited;
 use crate::evaluating::{Slot, evaluate, terms_of_group};
 use crate::fault::{BookError, BookFault};
 use crate::item::Item;
-use crate::offering::offer_all;
+use crate::offering::{catch_up_all, offer_all};
 use crate::opened::{Gathered, OpenEvaluation};
 use crate::step::Committed;
 use rl_aggregate::Partial;
@@ -263,6 +263,20 @@ impl<S: Sink> Book<S> {
         Ok(())
     }
 
+    /// Pumps each sink, and then offers each all that it has not taken, until it refuses. The sinks that refused, by their numbers.
+    pub fn catch_up(&mut self) -> Result<PlainList<u64>, AllocError>
+        ensures history { OnOk result (self.new.history ≡ self.old.history) }
+        ensures rest { OnOk result ((self.new.shards ≡ self.old.shards) × (self.new.slot ≡ self.old.slot)) }
+        ensures pumped { OnOk result (SinksPumped S.state S.pump_answers self.old.sinks) }
+        ensures offered { OnOk result (AllOffered self.new.history.evaluations self.old.sinks self.new.sinks) }
+        ensures behind { IfOk result (λ behind. behind ≡ behind_of self.new.history.evaluations self.new.sinks) }
+        ensures err { OnErr result (self.new ≡ self.old) }
+    {
+        let mut behind = Vec::with_capacity(self.alloc, self.sinks.len())?;
+        catch_up_all(&mut self.sinks, &self.evaluations, &mut behind);
+        Ok(PlainList::from_vec(behind))
+    }
+
     /// The group as it is now: that of the last edit, or as it began.
     pub fn group(&self) -> &Group
         ensures now { result.now ≡ self.now.history.group }
@@ -348,7 +362,7 @@ impl<S: Sink> Book<S> {
     /// Closes each sink in order. How many could not write all.
     pub fn close_sinks(&mut self) -> u64
         ensures closed { self.new ≡ record { history = self.old.history; shards = self.old.shards; slot = self.old.slot; sinks = map closed self.old.sinks } }
-        ensures counted { SinksClosed S.state S.close_answers self.new.sinks result }
+        ensures counted { SinksAnswered S.state S.close_answers self.new.sinks result }
     {
         close_all(&mut self.sinks)
     }
@@ -444,7 +458,7 @@ fn empty_slots(alloc: Global, shards: usize) -> Result<PlainList<Slot>, AllocErr
 fn close_all<S: Sink>(sinks: &mut [S]) -> u64
     requires { length sinks.old < 2 ^ 63 }
     ensures closed { map S.state sinks.new ≡ map closed (map S.state sinks.old) }
-    ensures counted { SinksClosed S.state S.close_answers (map S.state sinks.new) result }
+    ensures counted { SinksAnswered S.state S.close_answers (map S.state sinks.new) result }
 {
     let mut failed = 0;
     for number in 0..sinks.len() {

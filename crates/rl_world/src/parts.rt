@@ -39,6 +39,7 @@ impl<D: Store, S: Sink> WorldParts<D, S> {
             Step::Gather { group, number } => self.gather(group, number),
             Step::Commit { group } => self.commit(group),
             Step::Abandon { group } => self.abandon(group),
+            Step::CatchUp { group } => self.catch_up(group),
         }
     }
 

@@ -20,6 +20,8 @@ pub enum Step {
     Commit { group: usize },
     /// Closes the open evaluation of the group, of which nothing is left.
     Abandon { group: usize },
+    /// Pumps each sink of the group, then offers it what it has not taken.
+    CatchUp { group: usize },
 }
 
 /// What a world answered to a step.
@@ -34,6 +36,8 @@ pub enum Reply {
     Gathered { place: u64 },
     Committed(Committed),
     Abandoned,
+    /// The sinks that refused, by their numbers.
+    CaughtUp { behind: PlainList<u64> },
     /// Nothing changed.
     Refused(Refusal),
 }

@@ -146,6 +146,22 @@ impl<D: Store, S: Sink> WorldParts<D, S> {
             Err(fault) => Reply::Refused(Refusal::Book(fault)),
         }
     }
+
+    // A group's sinks catch up.
+    pub(crate) fn catch_up(&mut self, group: usize) -> Reply
+        ensures step { WorldStep partials (world_of self.old.shards.items self.old.books.items) (steps.CatchUp group) result (world_of self.new.shards.items self.new.books.items) }
+        ensures sinks { SinkStep self.old.books.items (steps.CatchUp group) result self.new.books.items }
+        ensures shards { self.new.shards.items ≡ self.old.shards.items }
+    {
+        if group >= self.books.len() {
+            return Reply::Refused(Refusal::NoSuch);
+        }
+        let book = &mut self.books[group];
+        match book.catch_up() {
+            Ok(behind) => Reply::CaughtUp { behind },
+            Err(_error) => Reply::Refused(Refusal::Memory),
+        }
+    }
 }
 
 // Asks a shard what it shows of the terms at the moment: the place of the question in its journal, and the partials.

@@ -7,10 +7,10 @@ use Rattle.std.proofs.lemmas.Bool.{eqb-true, eqb-false, eq-eqb, ne_eqb}
 use Rattle.rl_rules.specs.declared.evaluation.Evaluation.{Evaluation}
 use Rattle.rl_sinks.specs.SinkState.{SinkState}
 use Rattle.rl_world.specs.Offering.{Offered, AllOffered, is_behind, behind_from, behind_of}
-use Rattle.rl_world.specs.Listings.{SinksFollow, listing, listings, is_listed, latest, last_listing}
+use Rattle.rl_world.specs.Listings.{SinksFollow, listed_in, listing, listings, is_listed, latest, last_listing}
 use Rattle.rl_world.specs.ShardsTurn.{AreHonest}
 use Rattle.rl_world.specs.laws.StoreLaws.{get_set, get_set_other, still_honest}
-use Rattle.rl_world.specs.WorldRun.{CommitSinks, SinkStep, Ran, Replays, BookTold, told}
+use Rattle.rl_world.specs.WorldRun.{SinksOffered, SinkStep, Ran, Replays, BookTold, told}
 use Rattle.rl_world.specs.WorldState.{BookState, WorldBooks, WorldState, world_of}
 use Rattle.rl_world.specs.WorldStep.{Keeping, Turn, WorldStep, Replay, lists}
 use Rattle.rl_world.specs.declared.step.Committed.{Committed}
@@ -129,34 +129,34 @@ one_refusal : (old new : ℕ) (behind : Bool) → new ≡ cond behind ((old + 1)
 one_refusal old new true is = ap (λ n. n % 2 ^ 64) is ∙ mod_again (old + 1)
 one_refusal old new false is = ap (λ n. n % 2 ^ 64) (is ∙ omega arith)
 
--- a commit of the sink's group
-offered_follows : (old new : List BookState) (group number : ℕ) (book : BookState) (sink : SinkState) (answer : Committed) → CommitSinks old group answer new → slice_get old group ≡ Some book → slice_get book.sinks number ≡ Some sink
-    → FollowsOn (cond (list_any (λ behind. nat_eq behind number) answer.behind) 1 0) (Some (list_any (λ behind. nat_eq behind number) answer.behind)) group number book sink new
-offered_follows old new group number book sink answer commit there here =
-    let after = commit.after in
+-- the sinks of the sink's group were offered what they had not taken
+offered_follows : (old new : List BookState) (group number : ℕ) (book : BookState) (sink : SinkState) (behind : List ℕ) → SinksOffered old group behind new → slice_get old group ≡ Some book → slice_get book.sinks number ≡ Some sink
+    → FollowsOn (cond (list_any (λ listed. nat_eq listed number) behind) 1 0) (Some (list_any (λ listed. nat_eq listed number) behind)) group number book sink new
+offered_follows old new group number book sink behind turn there here =
+    let after = turn.after in
     let evaluations = after.history.evaluations in
-    let mine : commit.before ≡ book = some_is commit.before book (sym commit.there ∙ there) in
-    let offered = offered_at evaluations book.sinks after.sinks number sink (subst (λ (b : BookState). AllOffered evaluations b.sinks after.sinks) mine commit.offered) here in
-    let says : list_any (λ behind. nat_eq behind number) answer.behind ≡ is_behind evaluations offered.new = ap (list_any (λ behind. nat_eq behind number)) commit.behind ∙ ap (λ n. list_any (λ behind. nat_eq behind n) (behind_of evaluations after.sinks)) (omega arith) ∙ listed_at evaluations after.sinks 0 number offered.new offered.there in
+    let mine : turn.before ≡ book = some_is turn.before book (sym turn.there ∙ there) in
+    let offered = offered_at evaluations book.sinks after.sinks number sink (subst (λ (b : BookState). AllOffered evaluations b.sinks after.sinks) mine turn.offered) here in
+    let says : list_any (λ listed. nat_eq listed number) behind ≡ is_behind evaluations offered.new = ap (list_any (λ listed. nat_eq listed number)) turn.behind_is ∙ ap (λ n. list_any (λ listed. nat_eq listed n) (behind_of evaluations after.sinks)) (omega arith) ∙ listed_at evaluations after.sinks 0 number offered.new offered.there in
     record {
       after = after;
-      there = ap (λ l. slice_get l group) commit.now ∙ get_set old group commit.before after commit.there;
+      there = ap (λ l. slice_get l group) turn.now ∙ get_set old group turn.before after turn.there;
       new = offered.new;
       here = offered.there;
       refusals = one_refusal sink.refusals offered.new.refusals (is_behind evaluations offered.new) (ap (λ (s : SinkState). s.refusals) offered.offered.state) ∙ ap (λ b. (sink.refusals + cond b 1 0) % 2 ^ 64) (sym says);
       behind = sym says;
     }
 
--- a commit of any group
-commit_follows : (old new : List BookState) (at group number : ℕ) (book : BookState) (sink : SinkState) (answer : Committed) → CommitSinks old at answer new → slice_get old group ≡ Some book → slice_get book.sinks number ≡ Some sink
-    → FollowsOn (cond (is_listed (listing group number (steps.Commit at, replies.Committed answer))) 1 0) (listing group number (steps.Commit at, replies.Committed answer)) group number book sink new
-commit_follows old new at group number book sink answer commit there here =
-    let Says : Bool → Type 0 = λ b. FollowsOn (cond (is_listed (cond b (Some (list_any (λ behind. nat_eq behind number) answer.behind)) None)) 1 0) (cond b (Some (list_any (λ behind. nat_eq behind number) answer.behind)) None) group number book sink new in
+-- those of any group were
+any_follows : (old new : List BookState) (at group number : ℕ) (book : BookState) (sink : SinkState) (behind : List ℕ) → SinksOffered old at behind new → slice_get old group ≡ Some book → slice_get book.sinks number ≡ Some sink
+    → FollowsOn (cond (is_listed (listed_in group number at behind)) 1 0) (listed_in group number at behind) group number book sink new
+any_follows old new at group number book sink behind turn there here =
+    let Says : Bool → Type 0 = λ b. FollowsOn (cond (is_listed (cond b (Some (list_any (λ listed. nat_eq listed number) behind)) None)) 1 0) (cond b (Some (list_any (λ listed. nat_eq listed number) behind)) None) group number book sink new in
     elim (nat_eq at group) as (λ b. nat_eq at group ≡ b → Says b) [
-      | true ↦ λ is. offered_follows old new group number book sink answer (subst (λ g. CommitSinks old g answer new) (eqb-true at group is) commit) there here
+      | true ↦ λ is. offered_follows old new group number book sink behind (subst (λ g. SinksOffered old g behind new) (eqb-true at group is) turn) there here
       | false ↦ λ apart. record {
         after = book;
-        there = ap (λ l. slice_get l group) commit.now ∙ get_set_other old at group commit.after (eqb-false at group apart) ∙ there;
+        there = ap (λ l. slice_get l group) turn.now ∙ get_set_other old at group turn.after (eqb-false at group apart) ∙ there;
         new = sink;
         here = here;
         refusals = ap (λ n. n % 2 ^ 64) (omega arith);
@@ -167,7 +167,8 @@ commit_follows old new at group number book sink answer commit there here =
 -- what one turn makes of a sink
 turn_follows : (old new : List BookState) (step : Step) (reply : Reply) (group number : ℕ) (book : BookState) (sink : SinkState) → SinkStep old step reply new → slice_get old group ≡ Some book → slice_get book.sinks number ≡ Some sink
     → FollowsOn (cond (is_listed (listing group number (step, reply))) 1 0) (listing group number (step, reply)) group number book sink new
-turn_follows old new (steps.Commit at) (replies.Committed answer) group number book sink sinks there here = commit_follows old new at group number book sink answer sinks there here
+turn_follows old new (steps.Commit at) (replies.Committed answer) group number book sink sinks there here = any_follows old new at group number book sink answer.behind sinks there here
+turn_follows old new (steps.CatchUp at) (replies.CaughtUp behind) group number book sink sinks there here = any_follows old new at group number book sink behind sinks there here
 turn_follows old new step reply group number book sink sinks there here = untouched old new group number book sink sinks there here
 
 -- and a turn before others
@@ -256,9 +257,13 @@ offered_count evaluations (old ∷ olds) (new ∷ news) all = ap suc (offered_co
 offered_count evaluations [] (new ∷ news) all = absurd all
 offered_count evaluations (old ∷ olds) [] all = absurd all
 
+offered_counts : (old new : List BookState) (group : ℕ) (behind : List ℕ) → SinksOffered old group behind new → sink_counts new ≡ sink_counts old
+offered_counts old new group behind turn =
+    ap sink_counts turn.now ∙ counts_set old group turn.before turn.after turn.there (offered_count turn.after.history.evaluations turn.before.sinks turn.after.sinks turn.offered)
+
 turn_counts : (old new : List BookState) (step : Step) (reply : Reply) → SinkStep old step reply new → sink_counts new ≡ sink_counts old
-turn_counts old new (steps.Commit group) (replies.Committed answer) commit =
-    ap sink_counts commit.now ∙ counts_set old group commit.before commit.after commit.there (offered_count commit.after.history.evaluations commit.before.sinks commit.after.sinks commit.offered)
+turn_counts old new (steps.Commit group) (replies.Committed answer) offered = offered_counts old new group answer.behind offered
+turn_counts old new (steps.CatchUp group) (replies.CaughtUp behind) offered = offered_counts old new group behind offered
 turn_counts old new step reply same = sym (counts_told new) ∙ ap (map (λ (t : BookTold). length t.sinks)) same ∙ counts_told old
 
 -- no sink comes or goes
@@ -271,6 +276,7 @@ ran_counts old (step ∷ steps) [] new run = absurd run
 -- a reply that lists no sink
 abbrev pub unlisted : Reply → Reply
 unlisted (replies.Committed answer) = replies.Committed (record { number = answer.number; evaluation = answer.evaluation; behind = [] })
+unlisted (replies.CaughtUp behind) = replies.CaughtUp []
 unlisted reply = reply
 
 module _ {X : Type 0} (keeping : Keeping X) where
@@ -278,11 +284,16 @@ module _ {X : Type 0} (keeping : Keeping X) where
   turn_unlisted old (steps.Commit group) answer new turn = record { history = turn.history; there = turn.there; opened = turn.opened; open_is = turn.open_is; number_is = turn.number_is; evaluation_is = turn.evaluation_is; after = turn.after }
   turn_unlisted old step answer new turn = turn
 
+  caught_unlisted : (old : WorldState X) (step : Step) (behind : List ℕ) (new : WorldState X) → Turn keeping old step (replies.CaughtUp behind) new → Turn keeping old step (replies.CaughtUp []) new
+  caught_unlisted old (steps.CatchUp group) behind new turn = turn
+  caught_unlisted old step behind new turn = turn
+
   step_unlisted : (old : WorldState X) (step : Step) (reply : Reply) (new : WorldState X) → WorldStep keeping old step reply new → WorldStep keeping old step (unlisted reply) new
   step_unlisted old step (replies.Committed answer) new turn = (turn.0, turn_unlisted old step answer new turn.1)
+  step_unlisted old step (replies.CaughtUp behind) new turn = (turn.0, caught_unlisted old step behind new turn.1)
   step_unlisted old step reply new turn = turn
 
-  -- a replay does not say which sinks a commit lists: that is left to what sinks follow
+  -- a replay does not say which sinks are listed: that is left to what sinks follow
   replay_unlisted : (old : WorldState X) (steps : List Step) (replies : List Reply) (new : WorldState X) → Replay keeping old steps replies new → Replay keeping old steps (map unlisted replies) new
   replay_unlisted old [] [] new replay = replay
   replay_unlisted old (step ∷ steps) (reply ∷ replies) new replay = (replay.0, step_unlisted old step reply replay.0 replay.1, replay_unlisted replay.0 steps replies new replay.2)

@@ -2,7 +2,7 @@
 use Rattle.std.proofs.Common.{map, ap, sym, subst, ◌∙◌, arith}
 use Rattle.std.proofs.lemmas.List.{with_items_is}
 use Rattle.rl_sinks.specs.SinkState.{closed}
-use Rattle.rl_world.specs.Closed.{SinksClosed}
+use Rattle.rl_world.specs.Closed.{SinksAnswered}
 use Rattle.rl_world.proofs.Closing.{took_prefix-put}
 use Rattle.rl_world.proofs.book.Book.close_sinks.Goals as goal
 
@@ -26,4 +26,4 @@ pub returns-clause-counted : goal.returns-clause-counted
 returns-clause-counted g c =
     let state = g.S.Sink.state in
     let put_back = with_items_is c.self.inside.sinks c.close_all.new.sinks (omega (arith, c.self.inside.sinks.ok.0)) in
-    subst (λ sinks. SinksClosed state g.S.Sink.close_answers (map state sinks) c.close_all.result) (sym put_back) c.close_all.ensures.counted
+    subst (λ sinks. SinksAnswered state g.S.Sink.close_answers (map state sinks) c.close_all.result) (sym put_back) c.close_all.ensures.counted

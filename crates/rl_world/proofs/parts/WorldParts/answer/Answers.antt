@@ -184,3 +184,33 @@ returns-in-Abandon-clause-histories g c =
     let old : WorldBooks = record { shards = c.args.self.now.shards.items; books = c.args.self.now.books.items } in
     let new : WorldBooks = record { shards = c.abandon.new.self.shards.items; books = c.abandon.new.self.books.items } in
     free_histories old new c.args.step (steps.Abandon c.in-Abandon.group) c.abandon.result c.in-Abandon.is refl
+
+pub returns-in-CatchUp-clause-refused : goal.returns-in-CatchUp-clause-refused
+returns-in-CatchUp-clause-refused g c =
+    let old : WorldBooks = record { shards = c.args.self.now.shards.items; books = c.args.self.now.books.items } in
+    let new : WorldBooks = record { shards = c.catch_up.new.self.shards.items; books = c.catch_up.new.self.books.items } in
+    free_refused old new c.args.step (steps.CatchUp c.in-CatchUp.group) c.catch_up.result c.in-CatchUp.is c.catch_up.ensures.step
+
+pub returns-in-CatchUp-clause-on_kept : goal.returns-in-CatchUp-clause-on_kept
+returns-in-CatchUp-clause-on_kept g c =
+    let old : WorldBooks = record { shards = c.args.self.now.shards.items; books = c.args.self.now.books.items } in
+    let new : WorldBooks = record { shards = c.catch_up.new.self.shards.items; books = c.catch_up.new.self.books.items } in
+    free_kept old new c.args.step (steps.CatchUp c.in-CatchUp.group) c.catch_up.result c.in-CatchUp.is c.catch_up.ensures.step
+
+pub returns-in-CatchUp-clause-step : goal.returns-in-CatchUp-clause-step
+returns-in-CatchUp-clause-step g c =
+    let old : WorldBooks = record { shards = c.args.self.now.shards.items; books = c.args.self.now.books.items } in
+    let new : WorldBooks = record { shards = c.catch_up.new.self.shards.items; books = c.catch_up.new.self.books.items } in
+    free_step old new c.args.step (steps.CatchUp c.in-CatchUp.group) c.catch_up.result c.in-CatchUp.is c.catch_up.ensures.step
+
+pub returns-in-CatchUp-clause-stores : goal.returns-in-CatchUp-clause-stores
+returns-in-CatchUp-clause-stores g c =
+    let old : WorldBooks = record { shards = c.args.self.now.shards.items; books = c.args.self.now.books.items } in
+    let new : WorldBooks = record { shards = c.catch_up.new.self.shards.items; books = c.catch_up.new.self.books.items } in
+    free_stores old new c.args.step (steps.CatchUp c.in-CatchUp.group) c.catch_up.result c.in-CatchUp.is refl c.catch_up.ensures.shards
+
+pub returns-in-CatchUp-clause-histories : goal.returns-in-CatchUp-clause-histories
+returns-in-CatchUp-clause-histories g c =
+    let old : WorldBooks = record { shards = c.args.self.now.shards.items; books = c.args.self.now.books.items } in
+    let new : WorldBooks = record { shards = c.catch_up.new.self.shards.items; books = c.catch_up.new.self.books.items } in
+    free_histories old new c.args.step (steps.CatchUp c.in-CatchUp.group) c.catch_up.result c.in-CatchUp.is refl
