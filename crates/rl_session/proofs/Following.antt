@@ -126,6 +126,8 @@ told_kept old (steps.Commit group) (replies.Refused refusal) new asks turn = ap 
 told_kept old (steps.Abandon group) replies.Abandoned new asks turn = tt
 told_kept old (steps.Abandon group) (replies.Refused refusal) new asks (inl refused, same) = abandon_refused (slice_get old.histories group) refusal refused
 told_kept old (steps.Abandon group) (replies.Refused refusal) new asks (inr wanted, same) = absurd (false_true (sym (abandon_never group refusal) ∙ wanted.1))
+told_kept old (steps.CatchUp group) (replies.CaughtUp behind) new asks turn = tt
+told_kept old (steps.CatchUp group) (replies.Refused refusal) new asks turn = tt
 told_kept old step reply new asks turn = absurd turn.1
 
 names_kept : (old : KeptWorld) (step : Step) (reply : Reply) (new : KeptWorld) → asks_shard step ≡ false → WorldStep partials old step reply new → names new.histories ≡ names old.histories
@@ -142,6 +144,8 @@ names_kept old (steps.Commit group) (replies.Committed answer) new asks turn =
     ap (λ (world : KeptWorld). names world.histories) turn.1.after ∙ set_alike (λ (h : History (List Partial)). h.group.name) old.histories group turn.1.history (committed turn.1.history answer.evaluation) turn.1.there refl
 names_kept old (steps.Abandon group) replies.Abandoned new asks turn =
     ap (λ (world : KeptWorld). names world.histories) turn.1.after ∙ set_alike (λ (h : History (List Partial)). h.group.name) old.histories group turn.1.history (abandoned turn.1.history) turn.1.there refl
+names_kept old (steps.CatchUp group) (replies.CaughtUp behind) new asks turn =
+    ap (λ (world : KeptWorld). names world.histories) turn.1.after ∙ set_alike (λ (h : History (List Partial)). h.group.name) old.histories group turn.1.history turn.1.history turn.1.there refl
 names_kept old step reply new asks turn = absurd turn.1
 
 -- books are seen as their histories
@@ -187,6 +191,7 @@ told old (steps.Edit group to) reply new turned = told_unasked old (steps.Edit g
 told old (steps.Begin group t) reply new turned = told_unasked old (steps.Begin group t) reply new refl turned
 told old (steps.Commit group) reply new turned = told_unasked old (steps.Commit group) reply new refl turned
 told old (steps.Abandon group) reply new turned = told_unasked old (steps.Abandon group) reply new refl turned
+told old (steps.CatchUp group) reply new turned = told_unasked old (steps.CatchUp group) reply new refl turned
 told old step reply new turned = absurd turned.stores
 
 abbrev book_names : WorldBooks → List (List ℕ)
@@ -206,6 +211,7 @@ names_stay old (steps.Edit group to) reply new turned = same_names old new (name
 names_stay old (steps.Begin group t) reply new turned = same_names old new (names_kept (kept old) (steps.Begin group t) reply (kept new) refl (turned.on_kept refl))
 names_stay old (steps.Commit group) reply new turned = same_names old new (names_kept (kept old) (steps.Commit group) reply (kept new) refl (turned.on_kept refl))
 names_stay old (steps.Abandon group) reply new turned = same_names old new (names_kept (kept old) (steps.Abandon group) reply (kept new) refl (turned.on_kept refl))
+names_stay old (steps.CatchUp group) reply new turned = same_names old new (names_kept (kept old) (steps.CatchUp group) reply (kept new) refl (turned.on_kept refl))
 names_stay old step reply new turned = absurd turned.stores
 
 shards_stay : (old : List ShardView) (step : Step) (reply : Reply) (new : List ShardView) → ShardsTurn old step reply new → length new ≡ length old
@@ -219,6 +225,7 @@ shards_stay old (steps.Edit group to) reply new turn = ap length turn
 shards_stay old (steps.Begin group t) reply new turn = ap length turn
 shards_stay old (steps.Commit group) reply new turn = ap length turn
 shards_stay old (steps.Abandon group) reply new turn = ap length turn
+shards_stay old (steps.CatchUp group) reply new turn = ap length turn
 shards_stay old step reply new turn = absurd turn
 
 -- books of the same names with as many sinks

@@ -89,6 +89,12 @@ module _ {E : Type 0} (calls : Calls E) where
   IsForEvaluation old t None gots.Refused new = new ≡ old
   IsForEvaluation old t number got new = ⊥
 
+  -- the sinks of the group at the number catch up, if there is one
+  abbrev pub IsForCatchUp : E → Option ℕ → Got → E → Type 0
+  IsForCatchUp old (Some group) (gots.CaughtUp answer) new = calls.catches_up old group answer new
+  IsForCatchUp old None gots.Refused new = new ≡ old
+  IsForCatchUp old number got new = ⊥
+
   -- the group at the number is edited, if there is one
   abbrev pub PutsAt : E → Option ℕ → Group → Result ⊤ EditRefusal → E → Type 0
   PutsAt old (Some group) to result new = (answer : Result ⊤ Refusal) × calls.edits old group to answer new × (result ≡ told_of_edit answer)

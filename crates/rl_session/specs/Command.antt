@@ -21,6 +21,7 @@ pub data Asked : Type 0 where
   edits : (document : List ℕ) → Asked
   evaluates : (t : ℕ) (group : List ℕ) → Asked
   ticks : (now : ℕ) → Asked
+  pumps : (group : List ℕ) → Asked
   shows : (sink : ℕ) (group : List ℕ) → Asked
   ends : Asked
 
@@ -35,6 +36,7 @@ asked (commands.Retain now) = retains now
 asked (commands.Edit document) = edits document.now
 asked (commands.Eval t group) = evaluates t group.now
 asked (commands.Tick now) = ticks now
+asked (commands.Pump group) = pumps group.now
 asked (commands.Show sink group) = shows sink group.now
 asked commands.End = ends
 
@@ -91,8 +93,9 @@ command_of_words words =
     else (if is_text words.0 (codes "edit") then Some (edits words.1)
     else (if is_text words.0 (codes "eval") then option_and_then eval_of (cut_at 32 words.1)
     else (if is_text words.0 (codes "tick") then option_map ticks (time_of words.1)
+    else (if is_text words.0 (codes "pump") then Some (pumps words.1)
     else (if is_text words.0 (codes "show") then option_and_then show_of (cut_at 32 words.1)
-    else request_of_words words))))
+    else request_of_words words)))))
 
 -- the command of a line, if it is one
 abbrev pub command_of : List ℕ → Option Asked

@@ -36,6 +36,8 @@ pub record Calls (E : Type 0) : Type 1 where
   pub edits : E → ℕ → Group → Result ⊤ Refusal → E → Type 0
   -- the group at a number is evaluated at a moment
   pub evaluates : E → ℕ → ℕ → Result Committed Refusal → E → Type 0
+  -- the sinks of the group at a number are pumped and offered what they have not taken: those that are behind
+  pub catches_up : E → ℕ → Result (List ℕ) Refusal → E → Type 0
   -- whether an evaluation of the group at a number is due at a moment
   pub is_due : E → ℕ → ℕ → Bool → Type 0
   -- what the sink at a number has of the group at a number, if there is one

@@ -60,6 +60,12 @@ abbrev pub behind_line : List ℕ → List ℕ
 behind_line [] = []
 behind_line (sink ∷ sinks) = codes "behind" ++ flat_map number_text (sink ∷ sinks) ++ codes "\n"
 
+-- what sinks that could catch up print: which are behind, or that none is
+abbrev pub caught_up_text : Result (List ℕ) Refusal → List ℕ
+caught_up_text (Ok []) = codes "ok\n"
+caught_up_text (Ok (sink ∷ sinks)) = behind_line (sink ∷ sinks)
+caught_up_text (Err refusal) = refusal_line (refusal_name refusal)
+
 -- what an evaluation prints
 abbrev pub committed_text : Committed → List ℕ
 committed_text committed = tail_text committed.evaluation ++ behind_line committed.behind
@@ -119,6 +125,7 @@ printed (gots.NoSelector error) = refusal_line (query_error_name error)
 printed (gots.Asked result) = asked_text result
 printed (gots.Edited result) = edited_text result
 printed (gots.Evaluated result) = evaluated_text result
+printed (gots.CaughtUp result) = caught_up_text result
 printed (gots.Ticked results) = ticked_text results.items
 
 -- taken, unless some of it was refused
@@ -132,6 +139,7 @@ answer_to (gots.Unpushed count) = answer_of (nat_lt 0 count)
 answer_to (gots.Asked result) = answer_of (is_refused_ask result)
 answer_to (gots.Edited result) = answer_of (is_err result)
 answer_to (gots.Evaluated result) = answer_of (is_err result)
+answer_to (gots.CaughtUp result) = answer_of (is_err result)
 answer_to (gots.Ticked results) = answer_of (list_any is_err results.items)
 answer_to _ = Refused
 

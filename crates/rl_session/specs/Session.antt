@@ -5,8 +5,8 @@ use Rattle.std.specs.Io.KnownBytes.{Appends}
 use Rattle.std.specs.declared.io.Error.{Error}
 use Rattle.rl_shard.specs.declared.step.ShardStep.TheVariants as shard_steps
 use Rattle.rl_world.specs.declared.fault.Refusal.{Refusal}
-use Rattle.rl_session.specs.Asking.{IsForPush, IsForAll, IsForDelete, IsForEdit, IsForTick, IsForEvaluation, IsForShow}
-use Rattle.rl_session.specs.Command.{Asked, pushes, cuts, flushes, deletes, cancels, processes, retains, edits, evaluates, ticks, shows, ends, command_of, is_blank_byte}
+use Rattle.rl_session.specs.Asking.{IsForPush, IsForAll, IsForDelete, IsForEdit, IsForTick, IsForCatchUp, IsForEvaluation, IsForShow}
+use Rattle.rl_session.specs.Command.{Asked, pushes, cuts, flushes, deletes, cancels, processes, retains, edits, evaluates, ticks, pumps, shows, ends, command_of, is_blank_byte}
 use Rattle.rl_session.specs.Engine.{Calls, Shown, number_named}
 use Rattle.rl_session.specs.Front.{lines_of}
 use Rattle.rl_session.specs.Printed.{shown_text, shown_answer, printed, answer_to, closed_text}
@@ -59,6 +59,7 @@ module _ {E : Type 0} (calls : Calls E) where
   IsTold old (Some (edits document)) text answer new = (got : Got) × IsForEdit calls old document got new × IsPrinted got text answer
   IsTold old (Some (ticks now)) text answer new = (got : Got) × IsForTick calls old now got new × IsPrinted got text answer
   IsTold old (Some (evaluates t group)) text answer new = (got : Got) × IsForEvaluation calls old t (number_named group (calls.groups old)) got new × IsPrinted got text answer
+  IsTold old (Some (pumps group)) text answer new = (got : Got) × IsForCatchUp calls old (number_named group (calls.groups old)) got new × IsPrinted got text answer
   IsTold old (Some (shows sink group)) text answer new = (shown : Option Shown) × IsForShow calls old (number_named group (calls.groups old)) sink shown × IsShown shown text answer × (new ≡ old)
   IsTold old (Some ends) text answer new = (text ≡ []) × (answer ≡ Ended) × (new ≡ old)
 

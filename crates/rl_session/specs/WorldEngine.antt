@@ -130,6 +130,11 @@ pub record IsEvaluated (old : WorldBooks) (group t : ℕ) (answer : Result Commi
   pub behind : IsBehind begun mid (IsClosedOff mid group) answer new
   pub of_group : IfOk answer (λ committed. name_at old group ≡ Some committed.evaluation.group)
 
+-- a catch-up is a step
+abbrev pub IsCaughtUp : WorldBooks → ℕ → Result (List ℕ) Refusal → WorldBooks → Type 0
+IsCaughtUp old group (Ok behind) new = Turned old (steps.CatchUp group) (replies.CaughtUp behind) new
+IsCaughtUp old group (Err refusal) new = Turned old (steps.CatchUp group) (replies.Refused refusal) new
+
 -- each sink is closed, and the answers of so many say that they could not write all
 abbrev pub IsClosed : {S : Type 0} → (S → SinkState) → (S → Result ⊤ SinkFault → Type 0) → WorldBooks → Result ℕ Refusal → WorldBooks → Type 0
 IsClosed state Says old (Ok failures) new = (new ≡ record { shards = old.shards; books = map with_sinks_closed old.books }) × BooksClosed state Says new.books failures
@@ -142,6 +147,7 @@ world_calls state Says = record {
   asks_all = IsAskedOfAll;
   edits = IsEdited;
   evaluates = IsEvaluated;
+  catches_up = IsCaughtUp;
   is_due = λ world group now due. due ≡ is_due_at (slice_get world.books group) now;
   shows = λ world group sink shown. shown ≡ option_map shown_of (sink_at world.books group sink);
   closes = IsClosed state Says;
@@ -169,6 +175,8 @@ TellsOf before after name (steps.Commit group) (replies.Committed committed) = (
 TellsOf before after name (steps.Commit group) (replies.Refused refusal) = after group ≡ before group
 TellsOf before after name (steps.Abandon group) replies.Abandoned = Unit {0}
 TellsOf before after name (steps.Abandon group) (replies.Refused refusal) = before group ≡ None
+TellsOf before after name (steps.CatchUp group) (replies.CaughtUp behind) = Unit {0}
+TellsOf before after name (steps.CatchUp group) (replies.Refused refusal) = Unit {0}
 TellsOf before after name step reply = ⊥
 
 abbrev pub Tells : WorldBooks → Step → Reply → WorldBooks → Type 0

@@ -1,6 +1,6 @@
 //! What commands ask of an engine, and what they get.
 ghost use Rattle.std.specs.Prelude.{◌≡◌, ◌+◌, ◌<◌, ◌≤◌, length, IfOk, OnErr, vec_len, vec_capacity};
-ghost use Rattle.rl_session.specs.Asking.{IsForPush, IsForAll, IsForDelete, IsForEdit, IsForTick, IsForEvaluation, PushesAll, EvaluatesDue, TakesTurn, PutsGroup, SelectsIn};
+ghost use Rattle.rl_session.specs.Asking.{IsForPush, IsForAll, IsForDelete, IsForEdit, IsForTick, IsForCatchUp, IsForEvaluation, PushesAll, EvaluatesDue, TakesTurn, PutsGroup, SelectsIn};
 ghost use Rattle.rl_session.specs.Engine.{number_named};
 ghost use Rattle.rl_session.specs.PushBody.{entries_of};
 
@@ -155,6 +155,16 @@ fn evaluate_if_due<E: Engine>(
     if engine.is_due(group, now) {
         let answer = engine.evaluate(group, now);
         results.push_reserved(answer);
+    }
+}
+
+/// Pumps the sinks of the group with the name, and offers each what it has not taken.
+pub(crate) fn catch_up<E: Engine>(engine: &mut E, name: &str) -> Got
+    ensures { IsForCatchUp E.calls engine.old (number_named name.now (E.calls.groups engine.old)) result engine.new }
+{
+    match engine.group(name) {
+        Some(group) => Got::CaughtUp(engine.catch_up(group)),
+        None => Got::Refused,
     }
 }
 

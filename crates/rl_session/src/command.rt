@@ -48,6 +48,8 @@ pub enum Command<'a> {
     Tick {
         now: Ns,
     },
+    /// To pump the sinks of a group, and to offer each what it has not taken.
+    Pump(&'a str),
     /// To show the texts that a sink of a group keeps.
     Show {
         sink: usize,
@@ -99,6 +101,8 @@ fn read_words<'a>(word: &str, rest: &'a str) -> Option<Command<'a>>
         read_eval(rest)
     } else if word == "tick" {
         read_tick(rest)
+    } else if word == "pump" {
+        Some(Command::Pump(rest))
     } else if word == "show" {
         read_show(rest)
     } else {

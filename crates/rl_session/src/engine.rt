@@ -3,7 +3,7 @@ ghost use Rattle.std.specs.Prelude.{◌≡◌, length, IfOk};
 ghost use Rattle.rl_session.specs.Engine.{Calls, number_named, ShowsIn};
 
 use rl_labels::{Entry, Ns};
-use rl_plain::Shared;
+use rl_plain::{PlainList, Shared};
 use rl_rules::Group;
 use rl_shard::{ShardReply, ShardStep};
 use rl_world::{Committed, Refusal};
@@ -52,6 +52,11 @@ pub trait Engine: Drop {
     fn evaluate(&mut self, group: usize, t: Ns) -> Result<Committed, Refusal>
         ensures answer { calls.evaluates self.old group t result self.new }
         ensures moment { IfOk result (λ committed. committed.evaluation.t ≡ t) }
+        ensures groups { calls.groups self.new ≡ calls.groups self.old };
+
+    /// Pumps the sinks of the group at the number, then offers each what it has not taken. The sinks that refused, by their numbers.
+    fn catch_up(&mut self, group: usize) -> Result<PlainList<u64>, Refusal>
+        ensures answer { calls.catches_up self.old group result self.new }
         ensures groups { calls.groups self.new ≡ calls.groups self.old };
 
     /// Whether an evaluation of the group at the number is due.

@@ -5,7 +5,7 @@ ghost use Rattle.rl_session.specs.Engine.{number_named};
 ghost use Rattle.rl_session.specs.Session.{Tells, TellsLine, TellsText, TellsSession, ShowsTo, is_end, is_refusal, ended_by};
 ghost use Rattle.rl_session.specs.declared.session.RunError.TheVariants.{WriteFault, Memory};
 
-use crate::asking::{ask_all, delete, edit, eval, push, tick};
+use crate::asking::{ask_all, catch_up, delete, edit, eval, push, tick};
 use crate::command::{Command, is_blank, read_command};
 use crate::engine::Engine;
 use crate::front::first_line;
@@ -210,6 +210,7 @@ fn obey<E: Engine, W: Write>(
         Command::Edit(document) => tell(&edit(alloc, engine, document), out),
         Command::Eval { t, group } => tell(&eval(engine, t, group), out),
         Command::Tick { now } => tell(&tick(alloc, engine, now), out),
+        Command::Pump(group) => tell(&catch_up(engine, group), out),
         Command::Show { sink, group } => show(engine, sink, group, out),
         Command::End => Ok(Answer::Ended),
     }

@@ -3,7 +3,7 @@ ghost use Rattle.std.specs.Prelude.{◌≡◌, flat_map, Some, OnOk, IfOk, is_er
 ghost use Rattle.std.specs.List.{list_any};
 ghost use Rattle.std.specs.Option.{option_map};
 ghost use Rattle.std.specs.Io.KnownBytes.{Appends};
-ghost use Rattle.rl_session.specs.Printed.{refusal_line, bad_push_line, counts_line, entry_line, entry_lines, is_refused, evaluated_text, ticked_text, pushed_text, none_pushed, asked_text, decided_text, partly_line, number_text, behind_line, committed_text, printed, answer_of, answer_to, closed_text, not_closed_line};
+ghost use Rattle.rl_session.specs.Printed.{refusal_line, bad_push_line, counts_line, entry_line, entry_lines, is_refused, evaluated_text, ticked_text, pushed_text, none_pushed, asked_text, decided_text, partly_line, number_text, behind_line, caught_up_text, committed_text, printed, answer_of, answer_to, closed_text, not_closed_line};
 
 use crate::edit::EditRefusal;
 use crate::engine::Partly;
@@ -11,6 +11,7 @@ use crate::names::{
     edit_refusal_name, push_error_name, push_refusal, query_error_name, refusal_name, shard_refusal,
 };
 use crate::push::PushError;
+use rl_plain::PlainList;
 use rl_query::QueryError;
 use rl_shard::ShardReply;
 use rl_sinks::write_tail;
@@ -48,6 +49,8 @@ pub(crate) enum Got {
     Evaluated(Result<Committed, Refusal>),
     // The same of each group that was due.
     Ticked(Vec<Result<Committed, Refusal>>),
+    // The sinks that are still behind after they could catch up.
+    CaughtUp(Result<PlainList<u64>, Refusal>),
 }
 
 // What becomes of a command by what it got.
@@ -61,6 +64,7 @@ fn answer_to(got: &Got) -> Answer
         Got::Edited(result) => answer_of(result.is_err()),
         Got::Evaluated(result) => answer_of(result.is_err()),
         Got::Ticked(results) => answer_of(has_failed(results)),
+        Got::CaughtUp(result) => answer_of(result.is_err()),
         Got::Refused | Got::Unread(_) | Got::NoSelector(_) => Answer::Refused,
     }
 }
@@ -111,6 +115,7 @@ fn print<W: Write>(got: &Got, out: &mut W) -> io::Result<()>
         Got::Edited(Err(refusal)) => refuse(out, edit_refusal_name(*refusal)),
         Got::Evaluated(result) => tell_evaluated(result, out),
         Got::Ticked(results) => tell_ticked(results, out),
+        Got::CaughtUp(result) => tell_caught_up(result, out),
     }
 }
 
@@ -244,6 +249,17 @@ fn tell_committed<W: Write>(committed: &Committed, out: &mut W) -> io::Result<()
 {
     write_tail(out, committed.evaluation.get())?;
     tell_behind(committed.behind.as_slice(), out)
+}
+
+// Tells which sinks are behind, or that none is.
+fn tell_caught_up<W: Write>(caught: &Result<PlainList<u64>, Refusal>, out: &mut W) -> io::Result<()>
+    ensures { OnOk result (Appends (W.contents out.old) (W.contents out.new) (caught_up_text caught.now)) }
+{
+    match caught {
+        Ok(behind) if behind.is_empty() => out.write_all(b"ok\n"),
+        Ok(behind) => tell_behind(behind.as_slice(), out),
+        Err(refusal) => refuse(out, refusal_name(*refusal)),
+    }
 }
 
 // Tells the numbers of the sinks that are behind, if some are.

@@ -15,7 +15,7 @@ use crate::engine::{Engine, Partly};
 use crate::names::shard_refusal;
 use rl_chunks::Store;
 use rl_labels::{Entry, Limits, Ns, shard_of};
-use rl_plain::{Shared, TryCopy};
+use rl_plain::{PlainList, Shared, TryCopy};
 use rl_rules::Group;
 use rl_shard::{ShardReply, ShardStep};
 use rl_sinks::Sink;
@@ -242,6 +242,14 @@ impl<D: Store, S: Sink> Engine for WorldEngine<D, S> {
                 self.abandon(group);
                 Err(refusal)
             }
+        }
+    }
+
+    fn catch_up(&mut self, group: usize) -> Result<PlainList<u64>, Refusal> {
+        match self.answer(Step::CatchUp { group }) {
+            Reply::CaughtUp { behind } => Ok(behind),
+            Reply::Refused(refusal) => Err(refusal),
+            _ => unreachable!(),
         }
     }
 
