@@ -15,3 +15,7 @@ fresh_more state all own = All-last (λ own. AllByRecursion IsFresh (map state o
 -- a lone sink that has taken nothing
 pub fresh_one : {B : Type 0} (state : B → SinkState) (own : Vec B Global) (sink : B) → own.items ≡ sink ∷ [] → (state sink).count ≡ 0 → (state sink).kept ≡ [] → AllByRecursion IsFresh (map state own.items)
 fresh_one state own sink lone count kept = rw lone (((count, kept), tt))
+
+-- three sinks that have taken nothing
+pub fresh_three : {B : Type 0} (state : B → SinkState) (own : Vec B Global) (a b c : B) → own.items ≡ a ∷ b ∷ c ∷ [] → IsFresh (state a) → IsFresh (state b) → IsFresh (state c) → AllByRecursion IsFresh (map state own.items)
+fresh_three state own a b c all first second third = rw all ((first, (second, (third, tt))))

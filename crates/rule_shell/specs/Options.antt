@@ -1,7 +1,8 @@
--- The limits that the options ask for, and how many shards.
-use Rattle.std.specs.Prelude.{◌≡◌, ℕ, nat_le, ◌&&◌, List, Option, None, Some, Result, Ok, Err, if◌then◌else◌}
+-- What the options ask for: limits, shards and sinks.
+use Rattle.std.specs.Prelude.{◌≡◌, ℕ, nat_le, Bool, true, false, ◌&&◌, List, Option, None, Some, Result, Ok, Err, codes, if◌then◌else◌}
 use Rattle.rl_plain.specs.Answers.{◌>>=◌}
 use Rattle.rl_labels.specs.Decimals.{number_of}
+use Rattle.rl_labels.specs.Name.{is_text}
 use Rattle.rl_labels.specs.LimitRanges.{first_out_of_range, raw_limits}
 use Rattle.rl_labels.specs.declared.limits.LimitField.{LimitField}
 use Rattle.rl_labels.specs.declared.limits.Limits.{Limits}
@@ -29,13 +30,18 @@ limits_asked entries chunk_entries chunk_age cancel keep =
     number_or entries 67108864 >>= (λ most. number_or chunk_entries 1024 >>= (λ seals. number_or chunk_age 7200 >>= (λ age.
     number_or cancel 86400 >>= (λ time. number_or keep 0 >>= (λ kept. Ok (limits_with most seals age time kept))))))
 
--- 1 to 16 shards
-abbrev pub shards_in_range : ℕ → Result ℕ Stop
-shards_in_range shards = if nat_le 1 shards && nat_le shards 16 then Ok shards else Err BadOptions
+-- a number from 1 to the most
+abbrev pub in_range : ℕ → ℕ → Result ℕ Stop
+in_range most number = if nat_le 1 number && nat_le number most then Ok number else Err BadOptions
 
--- the shards that the text of an option asks for
-abbrev pub shards_asked : Option (List ℕ) → Result ℕ Stop
-shards_asked shards = number_or shards 1 >>= shards_in_range
+-- the number that the text of an option asks for, or the other where the option is not used
+abbrev pub number_asked : Option (List ℕ) → ℕ → ℕ → Result ℕ Stop
+number_asked text other most = number_or text other >>= in_range most
+
+-- whether the text of an option asks for sinks of all kinds, or for a recorder alone
+abbrev pub kinds_asked : Option (List ℕ) → Result Bool Stop
+kinds_asked None = Ok false
+kinds_asked (Some text) = if is_text text (codes "recorder") then Ok false else (if is_text text (codes "all") then Ok true else Err BadOptions)
 
 -- limits are taken exactly where each is in its range
 abbrev pub IsChecked : RawLimits → Result Limits Stop → Type 0

@@ -15,7 +15,7 @@ ghost use Rattle.rule_shell.specs.declared.Stop.TheVariants.{Failed};
 mod options;
 mod output;
 
-use options::{Options, read_options};
+use options::{Options, SinkOptions, read_options};
 use output::Output;
 use rl_chunks::{DirStore, MemStore, Store};
 use rl_labels::Limits;
@@ -25,14 +25,11 @@ use rl_session::names::front_fault_name;
 use rl_session::{
     Front, FrontError, FrontFault, RunError, Session, Status, WorldEngine, read_front,
 };
-use rl_sinks::{Recorder, Sink};
+use rl_sinks::{Notifier, Recorder, Sink, Tail};
 use std::alloc::{AllocError, AllocFailed, Global};
+use std::fs;
 use std::io::{BufWriter, Write};
 use std::process::ExitCode;
-use std::{fs, mem};
-
-// How many texts of a recorder may wait to be written.
-const RECORDER_CAP: usize = 1_024;
 
 // What ends the program before the commands.
 #[derive(Clone, Copy, Debug, Drop)]
@@ -118,13 +115,14 @@ fn run_front(rt: &HostRuntime, options: Options, front: Front) -> Result<Status,
         limits,
         shards,
         store,
+        sinks,
     } = options;
     match store {
         Some(folder) => {
             let stores = folder_stores(rt, folder.as_str(), shards)?;
-            run_over(rt, limits, stores, front)
+            run_over(rt, limits, stores, sinks, front)
         }
-        None => run_over(rt, limits, memory_stores(rt.alloc(), shards)?, front),
+        None => run_over(rt, limits, memory_stores(rt.alloc(), shards)?, sinks, front),
     }
 }
 
@@ -168,22 +166,32 @@ fn folder_store(
     }
 }
 
-// Runs the commands over the stores, with a recorder for each group.
+// Runs the commands over the stores, with sinks of its own for each group.
 fn run_over<D: Store>(
     rt: &HostRuntime,
     limits: Limits,
     stores: Vec<D>,
+    sinks_asked: SinkOptions,
     front: Front,
 ) -> Result<Status, Stop>
     requires { (1 ≤ length stores.items) × (length stores.items ≤ most_shards) }
 {
     let alloc = rt.alloc();
+    let SinkOptions { all, cap, tail } = sinks_asked;
     let Front { groups, commands } = front;
     let mut sinks = Vec::with_capacity(alloc, groups.len())?;
     for _ in 0..groups.len() {
-        let recorder = Recorder::new(alloc, Output::new(*rt), RECORDER_CAP);
-        let boxed: Box<dyn Sink + Send> = Box::new(alloc, recorder)?;
-        sinks.push(vec![in alloc; boxed]?)?;
+        let recorder = Recorder::new(alloc, Output::new(*rt), cap);
+        let recorder: Box<dyn Sink + Send> = Box::new(alloc, recorder)?;
+        if !all {
+            sinks.push(vec![in alloc; recorder]?)?;
+            continue;
+        }
+        let notifier = Notifier::new(alloc, Output::new(*rt), cap);
+        let notifier: Box<dyn Sink + Send> = Box::new(alloc, notifier)?;
+        let tail = Tail::new(alloc, Output::new(*rt), tail)?;
+        let tail: Box<dyn Sink + Send> = Box::new(alloc, tail)?;
+        sinks.push(vec![in alloc; recorder, notifier, tail]?)?;
     }
     let mut out = BufWriter::new(alloc, Output::new(*rt)).map_err(|_| Stop::Failed)?;
     match run_session(
@@ -200,7 +208,7 @@ fn run_over<D: Store>(
     }
 }
 
-// Runs the commands over a new world. Behind it the process ends, and gives all memory back at once.
+// Runs the commands over a new world.
 fn run_session<D: Store, S: Sink, W: Write>(
     alloc: Global,
     limits: Limits,
@@ -217,7 +225,5 @@ fn run_session<D: Store, S: Sink, W: Write>(
 {
     let engine = WorldEngine::open(alloc, limits, stores, groups, sinks)?;
     let mut session = Session::new(alloc, engine);
-    let ended = session.run_commands(commands, out);
-    mem::forget(session);
-    ended
+    session.run_commands(commands, out)
 }

@@ -1,8 +1,9 @@
 //! The options of the program.
-ghost use Rattle.std.specs.Prelude.{◌≡◌, ◌≢◌, ◌≤◌, IfOk, codes};
+ghost use Rattle.std.specs.Prelude.{◌≡◌, ◌≢◌, ◌≤◌, Ok, IfOk, codes};
+ghost use Rattle.std.specs.Option.{option_copied};
 ghost use Rattle.clap.specs.Words.{found_of, first_value};
 ghost use Rattle.rl_world.specs.Slots.{most_shards};
-ghost use Rattle.rule_shell.specs.Options.{number_or, limits_asked, shards_asked, IsChecked, AreChecked};
+ghost use Rattle.rule_shell.specs.Options.{number_or, limits_asked, number_asked, kinds_asked, IsChecked, AreChecked};
 
 use crate::Stop;
 use clap::error::ErrorKind as OptionsFault;
@@ -13,8 +14,41 @@ use std::alloc::Global;
 use std::env;
 use std::io::ErrorKind;
 
-// The most shards.
+// Each has a value, and stands at most once.
+const OPTIONS: [&str; 10] = [
+    "shards",
+    "entries",
+    "chunk-entries",
+    "chunk-age",
+    "cancel",
+    "keep",
+    "store",
+    "sinks",
+    "cap",
+    "tail",
+];
+
+// The most shards, the most texts that may wait in a sink, and the most that a tail keeps; and how many where none is asked for.
 const MOST_SHARDS: u64 = 16;
+
+const MOST_WAITING: u64 = 1_048_576;
+
+const MOST_KEPT: u64 = 65_536;
+
+const WAITING: u64 = 1_024;
+
+const KEPT: u64 = 8;
+
+/// The sinks of each group.
+#[derive(Clone, Copy)]
+pub(crate) struct SinkOptions {
+    // A notifier and a tail beside the recorder.
+    pub(crate) all: bool,
+    // How many texts may wait in a recorder and in a notifier.
+    pub(crate) cap: usize,
+    // How many texts a tail keeps.
+    pub(crate) tail: usize,
+}
 
 /// What the options ask for.
 #[derive(Drop)]
@@ -23,6 +57,7 @@ pub(crate) struct Options {
     pub(crate) shards: usize,
     // The folder for the chunks of all shards; without one they stay in memory.
     pub(crate) store: Option<PlainText>,
+    pub(crate) sinks: SinkOptions,
 }
 
 /// Reads the options.
@@ -46,16 +81,10 @@ fn words_of(rt: &HostRuntime) -> Result<Vec<String>, Stop> {
 fn options_in<'a>(alloc: Global, words: &'a [String]) -> Result<Options, Stop>
     ensures { IfOk result (λ options. (1 ≤ options.shards) × (options.shards ≤ most_shards)) }
 {
-    let shards = Arg::new(alloc, "shards").long("shards");
-    let entries = Arg::new(alloc, "entries").long("entries");
-    let chunk_entries = Arg::new(alloc, "chunk-entries").long("chunk-entries");
-    let chunk_age = Arg::new(alloc, "chunk-age").long("chunk-age");
-    let cancel = Arg::new(alloc, "cancel").long("cancel");
-    let keep = Arg::new(alloc, "keep").long("keep");
-    let store = Arg::new(alloc, "store").long("store");
-    let command = Command::new(alloc, "rule_shell").arg(shards)?;
-    let command = command.arg(entries)?.arg(chunk_entries)?.arg(chunk_age)?;
-    let command = command.arg(cancel)?.arg(keep)?.arg(store)?;
+    let mut command = Command::new(alloc, "rule_shell");
+    for name in OPTIONS {
+        command = command.arg(Arg::new(alloc, name).long(name))?;
+    }
     match command.try_get_matches_from(words) {
         Ok(matches) => options_of(alloc, &matches),
         Err(error) => Err(stop_of(error.kind())),
@@ -77,7 +106,8 @@ fn options_of(alloc: Global, matches: &ArgMatches<'_>) -> Result<Options, Stop>
     ensures { IfOk result (λ options. (1 ≤ options.shards) × (options.shards ≤ most_shards)) }
 {
     let limits = limits_of(matches)?;
-    let shards = shards_of(matches)?;
+    let shards = number_in(matches, "shards", 1, MOST_SHARDS)?;
+    let sinks = sinks_of(matches)?;
     let store = match matches.get_str("store") {
         Some("") => return Err(Stop::BadOptions),
         Some(folder) => Some(PlainText::from_str(alloc, folder)?),
@@ -87,19 +117,43 @@ fn options_of(alloc: Global, matches: &ArgMatches<'_>) -> Result<Options, Stop>
         limits,
         shards,
         store,
+        sinks,
     })
 }
 
-// How many shards are asked for, if they are in their range.
-fn shards_of(matches: &ArgMatches<'_>) -> Result<usize, Stop>
-    ensures asked { result ≡ shards_asked (first_value (found_of matches.now) (codes "shards")) }
-    ensures few { IfOk result (λ shards. (1 ≤ shards) × (shards ≤ most_shards)) }
+// The sinks that are asked for.
+fn sinks_of(matches: &ArgMatches<'_>) -> Result<SinkOptions, Stop>
+    ensures { IfOk result (λ sinks. (kinds_asked (first_value (found_of matches.now) (codes "sinks")) ≡ Ok sinks.all)
+        × (number_asked (first_value (found_of matches.now) (codes "cap")) 1024 1048576 ≡ Ok sinks.cap)
+        × (number_asked (first_value (found_of matches.now) (codes "tail")) 8 65536 ≡ Ok sinks.tail)) }
 {
-    let shards = number_or(matches, "shards", 1)?;
-    if shards < 1 || shards > MOST_SHARDS {
+    let all = kinds_of(matches.get_str("sinks"))?;
+    let cap = number_in(matches, "cap", WAITING, MOST_WAITING)?;
+    let tail = number_in(matches, "tail", KEPT, MOST_KEPT)?;
+    Ok(SinkOptions { all, cap, tail })
+}
+
+// Whether sinks of all kinds are asked for, or a recorder alone.
+fn kinds_of(asked: Option<&str>) -> Result<bool, Stop>
+    ensures { result ≡ kinds_asked (option_copied asked.entry) }
+{
+    match asked {
+        None | Some("recorder") => Ok(false),
+        Some("all") => Ok(true),
+        Some(_) => Err(Stop::BadOptions),
+    }
+}
+
+// The number that an option has, or the other where it is not used: one from 1 to the most.
+fn number_in(matches: &ArgMatches<'_>, option: &str, other: u64, most: u64) -> Result<usize, Stop>
+    ensures asked { result ≡ number_asked (first_value (found_of matches.now) option.now) other most }
+    ensures within { IfOk result (λ number. (1 ≤ number) × (number ≤ most)) }
+{
+    let number = number_or(matches, option, other)?;
+    if number < 1 || number > most {
         return Err(Stop::BadOptions);
     }
-    Ok(shards as usize)
+    Ok(number as usize)
 }
 
 // The limits that are asked for, if they are in their ranges.
