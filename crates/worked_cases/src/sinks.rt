@@ -1,4 +1,4 @@
-//! Evaluations, what sinks are told of them, and recorders.
+//! Evaluations, what sinks are told of them, and sinks of each kind.
 //!
 //! An evaluation is `moment place group`, and behind it `; ` and `name annotations outcome` for each rule, where the
 //! outcome is samples, or the cause of its failure.
@@ -10,14 +10,14 @@ use rl_aggregate::{Fraction, Sample};
 use rl_labels::Ns;
 use rl_plain::{PlainList, PlainText};
 use rl_rules::{Alert, Cause, Evaluation, Phase, RuleKind, RuleOutcome, RuleResult};
-use rl_sinks::{Recorder, Sink, SinkFault, SinkKind, evaluation_text};
+use rl_sinks::{Notifier, Recorder, Sink, SinkFault, SinkKind, Tail, evaluation_text};
 use std::alloc::{AllocError, AllocFailed, Global};
 
 pub(crate) fn answer(told: &mut String, directive: &str, input: &str) -> Result<(), Trouble> {
     match directive {
         "evaluations" => matched(told, input, evaluation_in),
         "text" => text(told, input),
-        "recorder" => recorder(told, input),
+        "recorder" | "notifier" | "tail" => sink(told, directive, input),
         "boxed" => boxed(told, input),
         "fault" => fault(told),
         _ => Err(Trouble::NoSuchDirective),
@@ -38,12 +38,17 @@ fn push_text(told: &mut String, kind: SinkKind, evaluation: &Evaluation) -> Resu
     Ok(())
 }
 
-// How many texts a recorder has room for, and in each line `close`, or an evaluation that it takes; and what it wrote.
-fn recorder(told: &mut String, input: &str) -> Result<(), Trouble> {
-    let (cap, lines) = input.split_once('\n').unwrap_or((input, ""));
-    let cap = number_in(cap)? as usize;
+// How many texts a sink of the kind has room for, or keeps, and in each line `pump`, `close`, or an evaluation that it takes;
+// and what was written when the sink is gone.
+fn sink(told: &mut String, kind: &str, input: &str) -> Result<(), Trouble> {
+    let (room, lines) = input.split_once('\n').unwrap_or((input, ""));
+    let room = number_in(room)? as usize;
     let mut written = Vec::new(*told.allocator());
-    record(told, &mut written, cap, lines)?;
+    match kind {
+        "recorder" => record(told, &mut written, room, lines)?,
+        "notifier" => notify(told, &mut written, room, lines)?,
+        _ => keep_last(told, &mut written, room, lines)?,
+    }
     push_written(told, &written)
 }
 
@@ -55,6 +60,26 @@ fn record(
 ) -> Result<(), Trouble> {
     let mut recorder = Recorder::new(*told.allocator(), written, cap);
     push_answers(told, &mut recorder, lines)
+}
+
+fn notify(
+    told: &mut String,
+    written: &mut Vec<u8>,
+    cap: usize,
+    lines: &str,
+) -> Result<(), Trouble> {
+    let mut notifier = Notifier::new(*told.allocator(), written, cap);
+    push_answers(told, &mut notifier, lines)
+}
+
+fn keep_last(
+    told: &mut String,
+    written: &mut Vec<u8>,
+    limit: usize,
+    lines: &str,
+) -> Result<(), Trouble> {
+    let mut tail = Tail::new(*told.allocator(), written, limit)?;
+    push_answers(told, &mut tail, lines)
 }
 
 fn push_written(told: &mut String, written: &[u8]) -> Result<(), Trouble> {
@@ -85,6 +110,9 @@ fn answer_to<S: Sink>(
     sink: &mut S,
     line: &str,
 ) -> Result<Result<(), SinkFault>, Trouble> {
+    if line == "pump" {
+        return Ok(sink.pump());
+    }
     if line == "close" {
         return Ok(sink.close());
     }

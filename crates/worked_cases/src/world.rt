@@ -6,7 +6,8 @@
 //! streams.
 ghost use Rattle.std.specs.Prelude.{◌≡◌, ◌≤◌, IfOk, length, map};
 ghost use Rattle.std.specs.List.{AllByRecursion};
-ghost use Rattle.rl_sinks.specs.RecorderState.{recorder_state};
+ghost use Rattle.rl_sinks.specs.LogState.{log_state};
+ghost use Rattle.rl_sinks.specs.declared.sink.SinkKind.TheVariants as kinds;
 ghost use Rattle.rl_world.specs.BookCalls.{IsFresh};
 ghost use Rattle.rl_world.specs.Slots.{most_shards};
 
@@ -150,7 +151,7 @@ fn opened_book(alloc: Global, settings: Settings<'_>, file: &str) -> Result<Aski
 
 // The recorders of two groups, or of one, or of none.
 fn sinks_in(alloc: Global, caps: &str) -> Result<Vec<Vec<Sunk>>, Trouble>
-    ensures { IfOk result (λ sinks. AllByRecursion (λ own. AllByRecursion IsFresh (map recorder_state own.items)) sinks.items) }
+    ensures { IfOk result (λ sinks. AllByRecursion (λ own. AllByRecursion IsFresh (map (log_state kinds.Recorder) own.items)) sinks.items) }
 {
     let mut sinks = Vec::new(alloc);
     let (first, second) = caps.split_once('/').unwrap_or((caps, ""));
@@ -165,7 +166,7 @@ fn sinks_in(alloc: Global, caps: &str) -> Result<Vec<Vec<Sunk>>, Trouble>
 
 // Two recorders, or one, or none.
 fn recorders(alloc: Global, caps: &str) -> Result<Vec<Sunk>, Trouble>
-    ensures { IfOk result (λ own. AllByRecursion IsFresh (map recorder_state own.items)) }
+    ensures { IfOk result (λ own. AllByRecursion IsFresh (map (log_state kinds.Recorder) own.items)) }
 {
     let mut own = Vec::new(alloc);
     let (first, second) = caps.split_once(',').unwrap_or((caps, ""));
@@ -180,7 +181,7 @@ fn recorders(alloc: Global, caps: &str) -> Result<Vec<Sunk>, Trouble>
 
 // A recorder with room for so many texts.
 fn recorder(alloc: Global, cap: &str) -> Result<Sunk, Trouble>
-    ensures { IfOk result (λ sink. IsFresh (recorder_state sink)) }
+    ensures { IfOk result (λ sink. IsFresh (log_state kinds.Recorder sink)) }
 {
     let cap = number_in(cap)? as usize;
     Ok(Recorder::new(alloc, Vec::new(alloc), cap))

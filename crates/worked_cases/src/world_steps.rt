@@ -99,6 +99,7 @@ fn evaluation_step(word: &str, group: usize, rest: &str) -> Result<Option<Step>,
         }
         "commit" => Step::Commit { group },
         "abandon" => Step::Abandon { group },
+        "catch" => Step::CatchUp { group },
         _ => return Ok(None),
     }))
 }
@@ -122,6 +123,7 @@ fn push_reply(told: &mut String, reply: &Reply) -> Result<(), Trouble> {
         Reply::Gathered { place } => push_place(told, *place, "gathered"),
         Reply::Committed(answer) => push_commit(told, answer),
         Reply::Abandoned => tell(told, &"abandoned"),
+        Reply::CaughtUp { behind } => push_caught_up(told, behind.as_slice()),
         Reply::Refused(refusal) => push_refusal(told, refusal),
     }
 }
@@ -165,6 +167,14 @@ fn push_commit(told: &mut String, answer: &Committed) -> Result<(), Trouble> {
     push_numbers(told, answer.behind.as_slice())?;
     told.push('\n')?;
     push_evaluation(told, Some(evaluation))
+}
+
+// The sinks that are still behind.
+fn push_caught_up(told: &mut String, behind: &[u64]) -> Result<(), Trouble> {
+    told.push_str("caught up, behind")?;
+    push_numbers(told, behind)?;
+    told.push('\n')?;
+    Ok(())
 }
 
 // Numbers, each behind a space.
@@ -314,6 +324,7 @@ impl Asking {
             "put" => self.put_nothing(told, rest),
             "commit" => self.commit(told),
             "abandon" => push_answer(told, &self.book.abandon()),
+            "catch" => self.catch_up(told),
             "close" => push_unwritten(told, self.book.close_sinks()),
             _ => look(told, &self.book, word, rest),
         }
@@ -324,6 +335,11 @@ impl Asking {
             Ok(answer) => push_commit(told, &answer),
             Err(error) => push_refusal(told, &error),
         }
+    }
+
+    fn catch_up(&mut self, told: &mut String) -> Result<(), Trouble> {
+        let behind = self.book.catch_up()?;
+        push_caught_up(told, behind.as_slice())
     }
 
     // The moment at which a shard is to be asked.
