@@ -1,7 +1,8 @@
 //! Tests of what neither cases nor scripts can show: writers, readers and sinks that fail or refuse by plan, counts of
 //! turns, short and interrupted writes and reads, and want of memory.
 //!
-//! - `tests_sinks`: what a recorder writes when writes fail. `tests_worlds`: sinks in a world that fail or refuse.
+//! - `tests_sinks`: what recorders and tails write when writes fail. `tests_worlds`: sinks in a world that fail, refuse and
+//!   catch up.
 //! - `tests_reading`: readers of an input, turn by turn. `tests_sessions`: a session whose output or recorder fails.
 //! - `tests_stores`: stores in memory and in folders, and what spoils them. `tests_streams`: streams whose store fails.
 //!   `tests_deletes`: a shard whose store fails while lines are removed.

@@ -5,7 +5,7 @@ ghost use Rattle.rl_world.specs.BookCalls.{IsFresh};
 
 use rl_chunks::{MemStore, Store, StoreFault};
 use rl_labels::{DEFAULT_LIMITS, Limits, Ns};
-use rl_plain::Shared;
+use rl_plain::{PlainList, Shared};
 use rl_rules::{Group, read_rules};
 use rl_session::{Engine, RunError, Session, Status, WorldEngine, read_push};
 use rl_shard::ShardStep;
@@ -80,9 +80,9 @@ pub(crate) fn opened<S: Sink>(alloc: Global, sinks: Vec<Vec<S>>) -> Option<World
     }
 }
 
-/// The same, of one group with a recorder.
-pub(crate) fn recorded(alloc: Global) -> Option<World<MemStore, Recorder<Vec<u8>>>> {
-    let own = one(alloc, Recorder::new(alloc, Vec::new(alloc), 8))?;
+/// The same, of one group with a recorder, which has room for so many texts.
+pub(crate) fn recorded(alloc: Global, cap: usize) -> Option<World<MemStore, Recorder<Vec<u8>>>> {
+    let own = one(alloc, Recorder::new(alloc, Vec::new(alloc), cap))?;
     opened(alloc, one(alloc, own)?)
 }
 
@@ -126,6 +126,23 @@ pub(crate) fn commit<W: Asked>(world: &mut W, at: (usize, u64)) -> Option<Commit
         }
     }
     None
+}
+
+/// The numbers of sinks, counted from 1, as digits.
+pub(crate) fn digits(sinks: &PlainList<u64>) -> u64 {
+    let mut all = 0u64;
+    for sink in sinks.as_slice() {
+        all = all.wrapping_mul(10).wrapping_add(*sink).wrapping_add(1);
+    }
+    all
+}
+
+/// Lets the sinks of the first group catch up. Which are still behind, as digits; nothing where memory is wanted.
+pub(crate) fn catch_up<W: Asked>(world: &mut W) -> Option<u64> {
+    match world.ask(Step::CatchUp { group: 0 }) {
+        Reply::CaughtUp { behind } => Some(digits(&behind)),
+        _ => None,
+    }
 }
 
 /// A list of one, made without an array: a `vec!` of what holds a `&mut` gets no proof.

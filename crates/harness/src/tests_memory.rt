@@ -1,6 +1,6 @@
 //! Calls that want memory. One allocation of a test may fail: the call tells it, and made again it answers as ever.
 //! Where what a test is given wants memory, it ends well.
-use crate::tests_given::{Asked, End, FULL, Planned, commit, is, recorded, session};
+use crate::tests_given::{Asked, End, FULL, Planned, catch_up, commit, is, recorded, session};
 use rl_session::{FrontError, Status, read_front};
 use std::alloc::Global;
 use std::process::Abort;
@@ -93,7 +93,27 @@ fn behind<W: Asked>(rt: &impl Abort, world: &mut W) -> u64 {
 // A recorder that wanted memory is behind, and catches up.
 #[test]
 fn a_world(rt: HostRuntime) {
-    if let Some(mut world) = recorded(rt.alloc()) {
+    if let Some(mut world) = recorded(rt.alloc(), 8) {
         is(&rt, behind(&rt, &mut world) < 2, true, 3);
+    }
+}
+
+// A recorder has room for one of two evaluations. Where memory is wanted while it could catch up, its count stays, and it
+// catches up when that is asked again.
+fn catches_up<W: Asked>(rt: &impl Abort, world: &mut W) {
+    for t in [10, 20] {
+        is(rt, commit(world, (0, t)).is_some(), true, t);
+    }
+    if catch_up(world) != Some(0) {
+        is(rt, world.count(0, 0), Some(1), 1);
+        is(rt, catch_up(world), Some(0), 2);
+    }
+    is(rt, world.count(0, 0), Some(2), 3);
+}
+
+#[test]
+fn a_full_recorder(rt: HostRuntime) {
+    if let Some(mut world) = recorded(rt.alloc(), 1) {
+        catches_up(&rt, &mut world);
     }
 }

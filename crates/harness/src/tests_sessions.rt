@@ -70,18 +70,14 @@ fn the_output_fails_at_a_call(rt: HostRuntime) {
     }
 }
 
-// One write of the recorder fails or is interrupted. It is closed once, so nothing comes behind. Where the output fails too,
-// before its last line, it is that failure that is told.
+// One write of the recorder fails or is interrupted. Its close tells it, and its drop goes on at that byte. Where the output
+// fails too, before its last line, it is that failure that is told.
 fn recorder_fails(rt: &impl Abort, alloc: Global, at: u64, kind: Option<ErrorKind>) {
     for (last, want) in [(0, Ok(Status::Unwritten)), (1, Err(RunError::WriteFault))] {
         let out = Planned::new(alloc, 1, (124 * last, 124 * last), FULL);
         let sink = Planned::new(alloc, 1, (at, at), kind);
-        let want = (
-            want,
-            front(PRINTED, 126 - 7 * last),
-            front(WRITTEN, at.wrapping_sub(1)),
-        );
-        is(rt, ends(rt, alloc, out, sink, want).1, at, at);
+        let want = (want, front(PRINTED, 126 - 7 * last), WRITTEN);
+        is(rt, ends(rt, alloc, out, sink, want).1, 46, at);
     }
 }
 

@@ -1,9 +1,9 @@
-//! What a recorder writes when writes fail, are short or are interrupted.
+//! What recorders and tails write when writes fail, are short or are interrupted: as they are pumped, closed and dropped.
 use crate::tests_given::{FULL, Planned, commit, front, is, recorded};
 use rl_plain::Shared;
 use rl_rules::Evaluation;
 use rl_sinks::SinkFault::{Full, Refused, WriteFault};
-use rl_sinks::{Recorder, Sink, SinkFault, SinkKind};
+use rl_sinks::{Recorder, Sink, SinkFault, SinkKind, Tail};
 use std::alloc::Global;
 use std::io::ErrorKind;
 use std::process::Abort;
@@ -13,10 +13,14 @@ use std::test::Fail;
 const THREE: &str =
     "{__name__=\"c\",app=\"a\"} 1 10000000000\n{__name__=\"c\",app=\"a\"} 1 10000000000\n# end 3\n";
 
+// What a tail writes of the same that keeps two texts: 20, 44 and 8 bytes.
+const LAST: &str =
+    "eval 100000000000 g\neval 10000000000 g\n{__name__=\"c\",app=\"a\"} 1\n# end 3\n";
+
 // An evaluation, of which there is something to tell at ten seconds and nothing at a hundred. There is none where memory is
 // wanted.
 fn evaluation(alloc: Global, t: u64) -> Option<Shared<Evaluation>> {
-    let mut world = recorded(alloc)?;
+    let mut world = recorded(alloc, 8)?;
     Some(commit(&mut world, (0, t))?.evaluation)
 }
 
@@ -25,83 +29,169 @@ fn take<S: Sink>(rt: &impl Abort, sink: &mut S, evaluation: &Evaluation) -> Resu
     sink.take(evaluation)
 }
 
-// Closes a recorder of three texts three times. How often that fails.
-fn failures(rt: &impl Abort, alloc: Global, to: &mut Planned, told: [&Evaluation; 3]) -> u64 {
-    let mut recorder = Recorder::new(alloc, to, 3);
-    for evaluation in told {
-        is(rt, take(rt, &mut recorder, evaluation), Ok(()), 0);
+// Pumps a sink, and again where that failed. How often it failed.
+fn pumps<S: Sink>(rt: &impl Abort, sink: &mut S) -> u64 {
+    if sink.pump().is_ok() {
+        return 0;
     }
-    let mut failed = 0u64;
-    for _ in 0..3 {
-        failed = failed.wrapping_add(recorder.close().is_err() as u64);
+    is(rt, sink.pump(), Ok(()), 0);
+    1
+}
+
+// Closes a sink until that is well, three times at most. How often it failed.
+fn closes<S: Sink>(sink: &mut S) -> u64 {
+    for failed in 0..3 {
+        if sink.close().is_ok() {
+            return failed;
+        }
+    }
+    3
+}
+
+// A sink takes three texts. The bits of a plan say behind which of them it is pumped, and the last one whether it is closed.
+// How often that failed.
+fn uses<S: Sink>(rt: &impl Abort, sink: &mut S, told: [&Evaluation; 3], plan: u64) -> u64 {
+    let (mut rest, mut failed) = (plan, 0u64);
+    for evaluation in told {
+        is(rt, take(rt, sink, evaluation), Ok(()), plan);
+        if rest % 2 > 0 {
+            failed = failed.wrapping_add(pumps(rt, sink));
+        }
+        rest /= 2;
+    }
+    if rest > 0 {
+        failed = failed.wrapping_add(closes(sink));
     }
     failed
 }
 
-// The same. Asserts that, how many bytes the writer gets, and in how many writes.
-fn closes(
+// A recorder is used by a plan, and dropped. How often it failed before that.
+fn recorder_fails(
     rt: &impl Abort,
     alloc: Global,
-    to: Planned,
+    to: &mut Planned,
     told: [&Evaluation; 3],
-    want: (u64, u64, u64),
-) {
-    let mut writer = to;
-    let failed = failures(rt, alloc, &mut writer, told);
-    is(rt, writer.text(), front(THREE, want.1), want.2);
-    is(rt, (failed, writer.calls), (want.0, want.2), want.1);
+    plan: u64,
+) -> u64 {
+    let mut recorder = Recorder::new(alloc, to, 3);
+    uses(rt, &mut recorder, told, plan)
 }
 
-// One write fails, counted from 1, or none. The next closing goes on at that byte, and each is written once.
-fn goes_on(rt: &impl Abort, alloc: Global, told: [&Evaluation; 3]) {
-    for (step, writes) in [(1, 82), (4, 24), (36, 7), (37, 5), (99, 5)] {
-        for at in 0..=writes {
-            let failed = (at > 0) as u64;
-            for kind in [FULL, Some(ErrorKind::Interrupted), None] {
-                let once = Planned::new(alloc, step, (at, at), kind);
-                closes(rt, alloc, once, told, (failed, 82, writes + failed));
-            }
+// The same of a tail; no such number for want of memory.
+fn tail_fails(
+    rt: &impl Abort,
+    alloc: Global,
+    to: &mut Planned,
+    told: [&Evaluation; 3],
+    plan: u64,
+) -> u64 {
+    match Tail::new(alloc, to, 2) {
+        Ok(mut tail) => uses(rt, &mut tail, told, plan),
+        Err(_) => u64::MAX,
+    }
+}
+
+// Asserts what a writer got of a sink that is gone: all of a text, in so many writes and the one that failed. Where only the
+// drop met that one, it stopped there; a sink that was closed met it before.
+fn is_written(
+    rt: &impl Abort,
+    writer: &Planned,
+    want: (&str, u64, u64),
+    failed: u64,
+    closed: bool,
+) {
+    let (all, writes, at) = want;
+    let met = failed == (at > 0) as u64;
+    let calls = if met { writes.wrapping_add(failed) } else { at };
+    is(rt, (met, writer.calls), (met || closed, calls), at);
+    let text = writer.text();
+    is(rt, text, front(all, text.len() as u64), at);
+    is(rt, text.len() == all.len(), met, at);
+}
+
+// A recorder or a tail by each plan. One write fails, counted from 1, or none.
+fn plans(
+    rt: &impl Abort,
+    alloc: Global,
+    told: [&Evaluation; 3],
+    device: (usize, u64, Option<ErrorKind>),
+    want: (SinkKind, u64),
+) {
+    let (step, at, kind) = device;
+    for plan in 0..16 {
+        let mut writer = Planned::new(alloc, step, (at, at), kind);
+        let (all, failed) = match want.0 {
+            SinkKind::Tail => (LAST, tail_fails(rt, alloc, &mut writer, told, plan)),
+            _ => (THREE, recorder_fails(rt, alloc, &mut writer, told, plan)),
+        };
+        is_written(rt, &writer, (all, want.1, at), failed, plan > 7);
+    }
+}
+
+// Each write fails in turn, of a sink that makes so many by a step.
+fn goes_on(
+    rt: &impl Abort,
+    alloc: Global,
+    told: [&Evaluation; 3],
+    step: usize,
+    want: (SinkKind, u64),
+) {
+    for at in 0..=want.1 {
+        for kind in [FULL, Some(ErrorKind::Interrupted), None] {
+            plans(rt, alloc, told, (step, at, kind), want);
         }
     }
 }
 
-// Each write fails from one on, a byte a write. What came before it is written, and no more.
+// Each write of a recorder fails from one on, a byte a write. What came before it is written, and no more: it is closed three
+// times, and its drop tries once.
 fn stops(rt: &impl Abort, alloc: Global, told: [&Evaluation; 3]) {
     for at in 1..83 {
-        let writer = Planned::new(alloc, 1, (at, 99), FULL);
-        closes(rt, alloc, writer, told, (3, at - 1, at + 2));
+        let mut writer = Planned::new(alloc, 1, (at, 99), FULL);
+        let failed = recorder_fails(rt, alloc, &mut writer, told, 8);
+        is(rt, writer.text(), front(THREE, at - 1), at);
+        is(rt, (failed, writer.calls), (3, at + 3), at);
+    }
+}
+
+// How many writes a recorder and a tail make by a step.
+fn all_devices(rt: &impl Abort, alloc: Global, told: [&Evaluation; 3]) {
+    for (step, recorder, tail) in [(1, 82, 72), (4, 24, 20), (36, 7, 6), (37, 5, 6), (99, 5, 5)] {
+        goes_on(rt, alloc, told, step, (SinkKind::Recorder, recorder));
+        goes_on(rt, alloc, told, step, (SinkKind::Tail, tail));
     }
 }
 
 #[test]
-fn a_recorder_writes_each_byte_once(rt: HostRuntime) {
+fn each_byte_is_written_once(rt: HostRuntime) {
     match (evaluation(rt.alloc(), 10), evaluation(rt.alloc(), 100)) {
         (Some(one), Some(quiet)) => {
             let told = [one.get(), quiet.get(), one.get()];
-            goes_on(&rt, rt.alloc(), told);
+            all_devices(&rt, rt.alloc(), told);
             stops(&rt, rt.alloc(), told);
         }
         _ => is(&rt, "no evaluations", "two", 0),
     }
 }
 
-// A sink that writes to a writer that fails once, and has room for one text.
+// A sink with room for one text, over a writer that takes a part of it, and then fails twice.
 fn is_the_recorder<S: Sink>(rt: &impl Abort, sink: &mut S, one: &Evaluation) {
     is(rt, sink.kind(), SinkKind::Recorder, 0);
     is(rt, take(rt, sink, one), Ok(()), 1);
-    is(rt, take(rt, sink, one), Err(Full), 2);
-    is(rt, sink.kept(0), Some(front(THREE, 37)), 3);
-    is(rt, sink.kept(1), None, 4);
+    is(rt, sink.pump(), Err(WriteFault), 2);
+    is(rt, take(rt, sink, one), Err(Full), 3);
+    is(rt, sink.kept(0), Some(front(THREE, 37)), 4);
+    is(rt, sink.kept(1), None, 5);
     for want in [Err(WriteFault), Ok(()), Ok(())] {
-        is(rt, sink.close(), want, 5);
-        is(rt, take(rt, sink, one), Err(Refused(1)), 6);
+        is(rt, sink.close(), want, 6);
+        is(rt, take(rt, sink, one), Err(Refused(1)), 7);
     }
 }
 
 #[test]
 fn a_box_is_the_sink_in_it(rt: HostRuntime) -> Result<(), Fail> {
     let one = evaluation(rt.alloc(), 10).ok_or("an evaluation")?;
-    let writer = Planned::new(rt.alloc(), 99, (1, 1), FULL);
+    let writer = Planned::new(rt.alloc(), 30, (2, 3), FULL);
     let mut sink: Box<dyn Sink + Send> = Box::new(
         rt.alloc(),
         Recorder::new(rt.alloc(), writer, 1),

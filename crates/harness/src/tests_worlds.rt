@@ -1,11 +1,11 @@
-//! Sinks of a world that refuse, or cannot write what they took.
+//! Sinks of a world that refuse, or cannot write what they took, and catch up.
 ghost use Rattle.std.specs.Prelude.{◌≡◌, [], Some, IfSome, map};
 ghost use Rattle.std.specs.List.{AllByRecursion};
-ghost use Rattle.rl_sinks.specs.RecorderState.{recorder_state};
+ghost use Rattle.rl_sinks.specs.LogState.{log_state};
 ghost use Rattle.rl_world.specs.BookCalls.{IsFresh};
 ghost use Rattle.rl_sinks.specs.declared.sink.SinkKind.TheVariants as kinds;
 
-use crate::tests_given::{Asked, FULL, Planned, commit, is, one, opened, two};
+use crate::tests_given::{Asked, FULL, Planned, catch_up, commit, digits, is, one, opened, two};
 use rl_chunks::MemStore;
 use rl_rules::Evaluation;
 use rl_sinks::{Recorder, Sink, SinkFault, SinkKind};
@@ -21,19 +21,23 @@ fn closes<W: Asked>(rt: &impl Abort, world: &mut W, failed: u64) {
     }
 }
 
-// The sinks of a group: a recorder with room for one text, of whose writes one may fail.
-fn recorder(alloc: Global, at: u64) -> Option<Vec<Recorder<Planned>>>
-    ensures { IfSome result (λ own. AllByRecursion IsFresh (map recorder_state own.items)) }
+// A recorder with room for one text, of whose writes one may fail.
+fn recorder(alloc: Global, at: u64) -> Recorder<Planned>
+    ensures { IsFresh (log_state kinds.Recorder result) }
 {
-    one(
-        alloc,
-        Recorder::new(alloc, Planned::new(alloc, 99, (at, at), FULL), 1),
-    )
+    Recorder::new(alloc, Planned::new(alloc, 99, (at, at), FULL), 1)
+}
+
+// The sinks of a group: one such recorder.
+fn alone(alloc: Global, at: u64) -> Option<Vec<Recorder<Planned>>>
+    ensures { IfSome result (λ own. AllByRecursion IsFresh (map (log_state kinds.Recorder) own.items)) }
+{
+    one(alloc, recorder(alloc, at))
 }
 
 // Two groups with such a recorder each.
 fn recorders_close(rt: &impl Abort, alloc: Global, fails: (u64, u64), failed: u64) -> Option<bool> {
-    let sinks = two(alloc, recorder(alloc, fails.0)?, recorder(alloc, fails.1)?)?;
+    let sinks = two(alloc, alone(alloc, fails.0)?, alone(alloc, fails.1)?)?;
     let mut world = opened(alloc, sinks)?;
     closes(rt, &mut world, failed);
     Some(true)
@@ -48,7 +52,41 @@ fn sinks_of_every_group_are_closed(rt: HostRuntime) {
     }
 }
 
-// Keeps no text. It refuses some, and then takes all.
+// A group with two such recorders, of which the first fails at its first write.
+fn both(alloc: Global) -> Option<World<MemStore, Recorder<Planned>>> {
+    let own = two(alloc, recorder(alloc, 1), recorder(alloc, 0))?;
+    opened(alloc, one(alloc, own)?)
+}
+
+// Which sinks are behind, as digits, when a group was evaluated at a moment, or at none could catch up.
+fn still_behind<W: Asked>(world: &mut W, t: u64) -> Option<u64> {
+    if t == 0 {
+        return catch_up(world);
+    }
+    let answer = commit(world, (0, t))?;
+    Some(digits(&answer.behind))
+}
+
+// Asserts that, and how many evaluations each recorder has taken then.
+fn takes_in_turn<W: Asked>(rt: &impl Abort, world: &mut W) {
+    let turns = [(10, 0, 1, 1), (20, 12, 1, 1), (0, 1, 1, 2), (0, 0, 2, 2)];
+    for (t, behind, first, second) in turns {
+        is(rt, still_behind(world, t), Some(behind), t);
+        is(rt, world.count(0, 0), Some(first), t);
+        is(rt, world.count(0, 1), Some(second), t);
+    }
+}
+
+// A recorder that is full takes more once it is pumped. One that could not write is still full, and listed.
+#[test]
+fn recorders_that_are_full_catch_up(rt: HostRuntime) {
+    match both(rt.alloc()) {
+        Some(mut world) => takes_in_turn(&rt, &mut world),
+        None => is(&rt, "no world", "a world", 0),
+    }
+}
+
+// Keeps no text, and cannot write. It refuses some, and then takes all.
 #[derive(Default, Drop)]
 struct Reluctant {
     refuses: u64,
@@ -84,6 +122,10 @@ impl Sink for Reluctant {
         }
         self.refusals = self.refusals.wrapping_add(1);
         Err(SinkFault::Refused(if open { 2 } else { 1 }))
+    }
+
+    fn pump(&mut self) -> Result<(), SinkFault> {
+        Err(SinkFault::WriteFault)
     }
 
     fn close(&mut self) -> Result<(), SinkFault> {
@@ -123,13 +165,15 @@ fn commits<W: Asked>(rt: &impl Abort, world: &mut W, at: (usize, u64), want: (us
 fn catches_up<W: Asked>(rt: &impl Abort, world: &mut W) {
     commits(rt, world, (0, 10), (1, [0, 1, 0]));
     commits(rt, world, (0, 20), (1, [0, 2, 0]));
-    commits(rt, world, (1, 10), (1, [0, 2, 0]));
+    is(rt, catch_up(world), Some(0), 25);
+    is(rt, world.count(0, 0), Some(2), 25);
+    commits(rt, world, (1, 10), (1, [2, 2, 0]));
     commits(rt, world, (0, 30), (0, [3, 3, 0]));
     commits(rt, world, (1, 20), (0, [3, 3, 2]));
 }
 
-// A sink that refused is offered the same evaluation again, and then those that came after it. What it refuses does not
-// touch another of its group, nor that of another group.
+// A sink that refused is offered the same evaluation again, and then those that came after it, also where its pump failed.
+// What it refuses does not touch another of its group, nor that of another group.
 #[test]
 fn a_sink_catches_up(rt: HostRuntime) {
     match sluggish(rt.alloc()) {
