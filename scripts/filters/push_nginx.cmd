@@ -1,0 +1,1 @@
+push_lines '{app="nginx",host="a"}'

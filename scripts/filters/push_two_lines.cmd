@@ -1,0 +1,1 @@
+push_lines -n 2 '{a="x"}'
