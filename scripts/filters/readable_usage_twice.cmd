@@ -1,0 +1,1 @@
+readable -p -p
