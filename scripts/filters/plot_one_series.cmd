@@ -1,0 +1,1 @@
+plot -n -o share.svg '{__name__="share",app="a"}'
