@@ -23,6 +23,7 @@ test:
 scripts:
 	@scripts/run $(PROGRAM)/out/rule_shell
 	@scripts/run $(CHECKER)/out/rule_check scripts/check
+	@scripts/run_filters
 
 wrong:
 	@scripts/wrong
