@@ -1,12 +1,162 @@
-//! What a ruler has near what LogQL has beside it.
+//! What a ruler has near what it refuses in a query, and near what LogQL has beside the language.
 
-/// What a ruler has near the word or sign that a text begins with, if it has something.
-pub(crate) fn hint_at(text: &str) -> Option<&'static str> {
-    let word = match text.find(|letter: char| !letter.is_ascii_alphanumeric() && letter != '_') {
-        Some(end) => text.split_at(end).0,
-        None => text,
-    };
-    hint_of_word(word).or(hint_of_sign(text))
+use crate::no_toml::{first_word, last_word};
+use crate::place::cut_at;
+use crate::told::Untold;
+use rl_query::{QueryFault, RangeFunction};
+use std::fmt::Write;
+
+/// Writes what a ruler has near the fault of a query, if it has something.
+pub(crate) fn push_hint(text: &mut String, query: &str, fault: QueryFault) -> Result<(), Untold> {
+    match fault {
+        QueryFault::Syntax(place) => {
+            let (front, back) = cut_at(query, place);
+            push_near_syntax(text, front.trim_end(), back)
+        }
+        QueryFault::Unsupported(place) => {
+            let (front, back) = cut_at(query, place);
+            push_near_unsupported(text, front.trim_end(), back)
+        }
+        QueryFault::NoRealMatcher => push(
+            text,
+            "a matcher that does not accept the empty text, as app=\"shop\" or app=~\".+\"",
+        ),
+        QueryFault::BadRange => push(text, "whole seconds, as [5m]"),
+        QueryFault::TwoParsers => push(text, "a rule for each parser"),
+        QueryFault::BadRegex | QueryFault::TooDeep => Ok(()),
+    }
+}
+
+fn push(text: &mut String, hint: &str) -> Result<(), Untold> {
+    writeln!(text, "  in its place: {hint}")?;
+    Ok(())
+}
+
+// Near what no query has at its place.
+fn push_near_syntax(text: &mut String, front: &str, back: &str) -> Result<(), Untold> {
+    let (before, word) = (last_word(front), first_word(back));
+    if is_grouping(before) && !word.is_empty() {
+        writeln!(text, "  in its place: {before} ({word})")?;
+        return Ok(());
+    }
+    if front.ends_with(',') && closes_names(front, back) {
+        return push(text, "no comma before the bracket");
+    }
+    push_lower_syntax(text, front, before, word)
+}
+
+// A word that is lawful in lower case: a grouping behind a parenthesis, or what joined the tests before the byte.
+fn push_lower_syntax(
+    text: &mut String,
+    front: &str,
+    before: &str,
+    word: &str,
+) -> Result<(), Untold> {
+    let is_closed = front.ends_with(')');
+    let word = if is_closed { word } else { before };
+    let lower = word.to_ascii_lowercase(*text.allocator())?;
+    let lower = lower.as_str();
+    if lower != word
+        && (if is_closed {
+            is_grouping(lower)
+        } else {
+            is_join(lower)
+        })
+    {
+        return push(text, lower);
+    }
+    Ok(())
+}
+
+// Whether a bracket closes that has names or matchers before it.
+fn closes_names(front: &str, back: &str) -> bool {
+    if back.starts_with('}') {
+        return true;
+    }
+    match front.rsplit_once('(') {
+        Some((outside, _)) => {
+            let outside = outside.trim_end();
+            back.starts_with(')') && (outside.ends_with('|') || is_grouping(last_word(outside)))
+        }
+        None => false,
+    }
+}
+
+fn is_grouping(word: &str) -> bool {
+    word == "by" || word == "without"
+}
+
+fn is_join(word: &str) -> bool {
+    word == "and" || word == "or"
+}
+
+fn is_parser(word: &str) -> bool {
+    word == "json" || word == "logfmt"
+}
+
+// A word that begins a term, or its grouping.
+fn is_term_word(word: &str) -> bool {
+    RangeFunction::with_text(word).is_some()
+        || is_grouping(word)
+        || matches!(word, "sum" | "count" | "min" | "max" | "topk")
+}
+
+// Near what LogQL has at its place.
+fn push_near_unsupported(text: &mut String, front: &str, back: &str) -> Result<(), Untold> {
+    if begins_with_digit(back) {
+        return push(text, number_near(front));
+    }
+    let word = first_word(back);
+    if word.is_empty() {
+        return push_known(text, hint_of_sign(back));
+    }
+    let lower = word.to_ascii_lowercase(*text.allocator())?;
+    if lower.as_str() != word && is_lawful_behind(front, lower.as_str()) {
+        return push(text, lower.as_str());
+    }
+    if lower.as_str() == "or" && ends_text(front) {
+        return push(text, "|~ with a regular expression, as |~ \"x|y\"");
+    }
+    push_known(text, hint_of_word(lower.as_str()))
+}
+
+fn push_known(text: &mut String, hint: Option<&'static str>) -> Result<(), Untold> {
+    match hint {
+        Some(hint) => push(text, hint),
+        None => Ok(()),
+    }
+}
+
+fn begins_with_digit(text: &str) -> bool {
+    match text.as_bytes() {
+        [first, ..] => first.is_ascii_digit(),
+        [] => false,
+    }
+}
+
+// Whether the word is one of the ruler's at this place. Behind a comparison none is.
+fn is_lawful_behind(front: &str, word: &str) -> bool {
+    if front.ends_with('|') {
+        is_parser(word)
+    } else if front.ends_with('>') || front.ends_with('<') || front.ends_with('=') {
+        false
+    } else {
+        is_term_word(word)
+    }
+}
+
+// Whether a text in quotes or backquotes ends there.
+fn ends_text(front: &str) -> bool {
+    front.ends_with('"') || front.ends_with('`')
+}
+
+// The numbers that stand behind the parenthesis of `topk`, or behind a comparison.
+fn number_near(front: &str) -> &'static str {
+    if front.ends_with('(') {
+        "a number from 1 to 65535"
+    } else {
+        "at most nine digits before the point and six behind it"
+    }
 }
 
 fn hint_of_word(word: &str) -> Option<&'static str> {

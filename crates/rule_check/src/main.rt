@@ -1,46 +1,33 @@
-//! The rule checker: reads a rule file from standard input and tells what a ruler would do with it.
+//! The rule checker: tells what a ruler would do with a rule file, or with the input of a session.
 //!
-//! `report` makes what is told. `place` finds the line of a query that a fault is in, and `hint` knows what a ruler has near
-//! what it has not. `print` writes the groups of a file that is taken, which the option `--print` asks for.
+//! - `options`: the command line. `report`: what is told of a rule file. `print`: the groups that `--print` asks for.
+//! - `faults`: each fault of a document, table by table. `keys`: what its tables have. `values`: what stands at a key.
+//!   `names`: names and labels. `queries`: the query of a rule. `no_toml`: a text that is no document.
+//! - `hint`: what a ruler has near a query that it refuses. `lint`: what is taken and looks like a mistake, `doubt` of it what would fail a rule.
+//! - `place`: where a fault is. `told`: what is told so far.
 #![tactic(auto)]
 
+mod doubt;
+mod faults;
 mod hint;
+mod keys;
+mod lint;
+mod names;
+mod no_toml;
+mod options;
 mod place;
 mod print;
+mod queries;
 mod report;
+mod told;
+mod values;
 
-use clap::error::ErrorKind as OptionsFault;
-use clap::{Arg, ArgAction, Command};
-use report::{Report, report_of};
-use std::alloc::{AllocError, AllocFailed, Global};
+use options::{HELP, Input, Options, Stop, read_options};
+use report::report_of;
 use std::io::ErrorKind;
 use std::process::ExitCode;
-use std::{env, io};
-
-// What the options ask for.
-#[derive(Drop)]
-struct Options {
-    prints: bool,
-}
-
-// Why nothing is checked.
-#[derive(Drop)]
-enum Stop {
-    BadOptions,
-    Memory,
-}
-
-impl From<AllocError> for Stop {
-    fn from(_error: AllocError) -> Self {
-        Stop::Memory
-    }
-}
-
-impl<T: Drop> From<AllocFailed<T>> for Stop {
-    fn from(_error: AllocFailed<T>) -> Self {
-        Stop::Memory
-    }
-}
+use std::{fs, io};
+use told::{Report, Untold};
 
 fn main(rt: HostRuntime) -> ExitCode {
     match read_options(&rt) {
@@ -48,69 +35,77 @@ fn main(rt: HostRuntime) -> ExitCode {
             Ok(true) => ExitCode::from(0),
             Ok(false) | Err(_) => ExitCode::from(1),
         },
-        Err(Stop::Memory) => {
-            let _ = eprintln!(rt; "rule_check: out of memory");
-            ExitCode::from(1)
-        }
-        Err(Stop::BadOptions) => {
+        Err(stop) => stopped(&rt, stop),
+    }
+}
+
+// Tells why nothing is checked.
+fn stopped(rt: &HostRuntime, stop: Stop) -> ExitCode {
+    match stop {
+        Stop::Help => match print_help(rt) {
+            Ok(()) => ExitCode::from(0),
+            Err(_) => ExitCode::from(1),
+        },
+        Stop::BadOptions => {
             let _ = eprintln!(rt; "rule_check: bad options");
             ExitCode::from(2)
         }
+        Stop::Memory => {
+            let _ = eprintln!(rt; "rule_check: out of memory");
+            ExitCode::from(1)
+        }
     }
 }
 
-fn read_options(rt: &HostRuntime) -> Result<Options, Stop> {
-    let words: Vec<String> = words_of(rt)?;
-    let words = words.as_slice();
-    options_in(rt.alloc(), words)
-}
-
-// The program's name and the words behind it.
-fn words_of(rt: &HostRuntime) -> Result<Vec<String>, Stop> {
-    match env::args(rt) {
-        Ok(words) => Ok(words.collect(rt.alloc())?),
-        Err(error) if error.kind() == ErrorKind::OutOfMemory => Err(Stop::Memory),
-        Err(_error) => Err(Stop::BadOptions),
+fn print_help(rt: &HostRuntime) -> io::Result<()> {
+    for line in HELP {
+        println!(rt; "{line}")?;
     }
+    Ok(())
 }
 
-fn options_in<'a>(alloc: Global, words: &'a [String]) -> Result<Options, Stop> {
-    let print = Arg::new(alloc, "print").long("print");
-    let print = print.action(ArgAction::SetTrue);
-    let command = Command::new(alloc, "rule_check").arg(print)?;
-    match command.try_get_matches_from(words) {
-        Ok(matches) => Ok(Options {
-            prints: matches.get_flag("print"),
-        }),
-        Err(error) => Err(stop_of(error.kind())),
-    }
-}
-
-// Why the program stops at a fault of its options.
-fn stop_of(kind: OptionsFault) -> Stop {
-    match kind {
-        OptionsFault::OutOfMemory => Stop::Memory,
-        _ => Stop::BadOptions,
-    }
-}
-
-// Tells what a ruler would do with the file, and whether it would take it. What cannot be read is told on standard error.
+// Tells what a ruler would do with the input, and whether it would take it.
 fn run(rt: &HostRuntime, options: Options) -> io::Result<bool> {
-    match io::read_to_string(rt.alloc(), rt.reader()) {
-        Ok(file) => tell(rt, file.as_str(), options),
+    let Options { prints, input } = options;
+    match input {
+        Input::Standard => {
+            let read = io::read_to_string(rt.alloc(), rt.reader());
+            tell_rules(rt, "the file", read, prints)
+        }
+        Input::File(path) => {
+            let read = fs::read_to_string(rt, path.as_str());
+            tell_rules(rt, path.as_str(), read, prints)
+        }
+        Input::Session(path) => {
+            eprintln!(rt; "rule_check: {path} cannot be read", path = path.as_str())?;
+            Ok(false)
+        }
+    }
+}
+
+// Tells what a ruler would do with a rule file that was read. What cannot be read is told on standard error.
+fn tell_rules(
+    rt: &HostRuntime,
+    name: &str,
+    read: io::Result<String>,
+    prints: bool,
+) -> io::Result<bool> {
+    match read {
+        Ok(file) => tell(rt, report_of(rt.alloc(), file.as_str(), prints)),
         Err(error) if error.kind() == ErrorKind::InvalidData => {
-            eprintln!(rt; "rule_check: the file is no UTF-8 text")?;
+            eprintln!(rt; "rule_check: {name} is no UTF-8 text")?;
             Ok(false)
         }
         Err(_) => {
-            eprintln!(rt; "rule_check: the file cannot be read")?;
+            eprintln!(rt; "rule_check: {name} cannot be read")?;
             Ok(false)
         }
     }
 }
 
-fn tell(rt: &HostRuntime, file: &str, options: Options) -> io::Result<bool> {
-    match report_of(rt.alloc(), file, options.prints) {
+// Prints a report, if there is one.
+fn tell(rt: &HostRuntime, report: Result<Report, Untold>) -> io::Result<bool> {
+    match report {
         Ok(report) => {
             let Report { text, is_taken } = report;
             print!(rt; "{text}")?;

@@ -1,4 +1,77 @@
-//! The line of a query that a byte is in.
+//! Where a fault is: a line of a session, a group, a rule, and a byte of a text.
+
+use crate::told::Untold;
+use std::fmt::Write;
+
+/// The line of a session, the group and the rule that a fault is in, as far as it is in one.
+#[derive(Clone, Copy)]
+pub(crate) struct Place<'a> {
+    line: Option<usize>,
+    group: Option<Spot<'a>>,
+    rule: Option<Spot<'a>>,
+}
+
+/// A group or a rule: its name, where it has one that groups may have, and its number, from 0.
+#[derive(Clone, Copy)]
+pub(crate) struct Spot<'a> {
+    pub(crate) name: Option<&'a str>,
+    pub(crate) number: usize,
+}
+
+impl<'a> Place<'a> {
+    /// A document as a whole, on a line of a session or in a file of its own.
+    pub(crate) fn whole(line: Option<usize>) -> Self {
+        Place {
+            line,
+            group: None,
+            rule: None,
+        }
+    }
+
+    /// A group of it.
+    pub(crate) fn of_group(self, group: Spot<'a>) -> Self {
+        Place {
+            line: self.line,
+            group: Some(group),
+            rule: None,
+        }
+    }
+
+    /// A rule of that.
+    pub(crate) fn of_rule(self, rule: Spot<'a>) -> Self {
+        Place {
+            line: self.line,
+            group: self.group,
+            rule: Some(rule),
+        }
+    }
+}
+
+/// Writes the place as `line 7: group shop, rule Errors: `, as much as there is of it.
+pub(crate) fn push_place(text: &mut String, place: &Place<'_>) -> Result<(), Untold> {
+    if let Some(line) = place.line {
+        write!(text, "line {line}: ")?;
+    }
+    if let Some(group) = place.group {
+        text.push_str("group ")?;
+        push_spot(text, group)?;
+        if let Some(rule) = place.rule {
+            text.push_str(", rule ")?;
+            push_spot(text, rule)?;
+        }
+        text.push_str(": ")?;
+    }
+    Ok(())
+}
+
+/// Writes the name, or the number from 1.
+fn push_spot(text: &mut String, spot: Spot<'_>) -> Result<(), Untold> {
+    match spot.name {
+        Some(name) => text.push_str(name)?,
+        None => write!(text, "number {}", spot.number.saturating_add(1))?,
+    }
+    Ok(())
+}
 
 /// A line without its line feed, cut in two at a byte.
 #[derive(Clone, Copy)]
@@ -7,13 +80,18 @@ pub(crate) struct Line<'a> {
     pub(crate) behind: &'a str,
 }
 
-/// The line that has the byte, or the last one where the query is no longer.
-pub(crate) fn line_at(query: &str, place: usize) -> Line<'_> {
-    let (front, back) = if query.is_char_boundary(place) {
-        query.split_at(place)
+/// A text cut in two at a byte, where one of its characters begins there.
+pub(crate) fn cut_at(text: &str, place: usize) -> (&str, &str) {
+    if text.is_char_boundary(place) {
+        text.split_at(place)
     } else {
-        (query, "")
-    };
+        (text, "")
+    }
+}
+
+/// The line that has the byte, or the last one where the text is no longer.
+pub(crate) fn line_at(text: &str, place: usize) -> Line<'_> {
+    let (front, back) = cut_at(text, place);
     let before = match front.rsplit_once('\n') {
         Some((_, before)) => before,
         None => front,
@@ -23,4 +101,15 @@ pub(crate) fn line_at(query: &str, place: usize) -> Line<'_> {
         None => back,
     };
     Line { before, behind }
+}
+
+/// Writes the line behind two spaces, and below it a caret under the byte.
+pub(crate) fn push_line(text: &mut String, line: Line<'_>) -> Result<(), Untold> {
+    writeln!(text, "  {}{}", line.before, line.behind)?;
+    text.push_str("  ")?;
+    for letter in line.before.chars() {
+        text.push(if letter == '\t' { '\t' } else { ' ' })?;
+    }
+    text.push_str("^\n")?;
+    Ok(())
 }

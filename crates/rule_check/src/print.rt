@@ -1,5 +1,5 @@
 //! Groups and rules as a ruler reads them, a line each.
-use crate::report::Untold;
+use crate::told::Untold;
 use rl_plain::{PlainText, push_escaped};
 use rl_query::print;
 use rl_rules::{Group, Rule, RuleKind};

@@ -1,0 +1,119 @@
+//! Lines that would be errors of a range: a rule that meets one fails.
+
+use crate::told::Untold;
+use rl_labels::{Labels, Matcher};
+use rl_plain::OrMemory;
+use rl_query::{LabelTest, LabelTests, Parser, Quantity, Stage, TestParts};
+use std::alloc::Global;
+
+// A tree of at most 256 tests has no more nodes.
+const MOST_NODES: usize = 511;
+
+/// A line that would be an error.
+#[derive(Clone, Copy)]
+pub(crate) enum Doubt<'a> {
+    // A line that is no JSON object.
+    Unread,
+    // A line with a label of another kind than it is compared with.
+    Other(&'a str, &'static str),
+}
+
+/// The line that would be an error and stay, behind a parser, if there is one.
+pub(crate) fn doubt_of(alloc: Global, stages: &[Stage]) -> Result<Option<Doubt<'_>>, Untold> {
+    let mut doubt = None;
+    let mut parsed = false;
+    for stage in stages {
+        match stage {
+            Stage::Filter(_) => {}
+            Stage::Parser(Parser::Json) => {
+                doubt = Some(Doubt::Unread);
+                parsed = true;
+            }
+            Stage::Parser(Parser::Logfmt) => parsed = true,
+            Stage::Tests(tests) if parsed => {
+                let tests = leaves_of(alloc, tests)?;
+                doubt = behind_tests(alloc, doubt, tests.as_slice())?;
+            }
+            Stage::Tests(_) => {}
+        }
+    }
+    Ok(doubt)
+}
+
+// The tests that are joined, from left to right.
+fn leaves_of(alloc: Global, tests: &LabelTests) -> Result<Vec<&LabelTest>, Untold> {
+    let mut leaves = Vec::new(alloc);
+    let mut waiting = Vec::new(alloc);
+    waiting.push(tests)?;
+    for _ in 0..MOST_NODES {
+        let Some(tests) = waiting.pop() else {
+            break;
+        };
+        match tests.parts() {
+            TestParts::One(test) => leaves.push(test)?,
+            TestParts::Joined(_, left, right) => {
+                waiting.push(right)?;
+                waiting.push(left)?;
+            }
+        }
+    }
+    Ok(leaves)
+}
+
+// What is in doubt behind tests: nothing where one asks for errors; such a line still where each test lets it pass.
+fn behind_tests<'a>(
+    alloc: Global,
+    doubt: Option<Doubt<'a>>,
+    tests: &[&'a LabelTest],
+) -> Result<Option<Doubt<'a>>, Untold> {
+    if tests.iter().any(|test| asks_for_errors(*test)) {
+        return Ok(None);
+    }
+    match doubt {
+        Some(Doubt::Unread) if passes_all(alloc, tests)? => Ok(doubt),
+        Some(Doubt::Other(..)) => Ok(doubt),
+        _ => Ok(compared_in(tests)),
+    }
+}
+
+fn asks_for_errors(test: &LabelTest) -> bool {
+    match test {
+        LabelTest::Text(test) => test.matcher.name.as_str() == "__error__",
+        LabelTest::Quantity(_) => false,
+    }
+}
+
+// Whether each test lets a line pass that has an error and no label.
+fn passes_all(alloc: Global, tests: &[&LabelTest]) -> Result<bool, Untold> {
+    for test in tests {
+        if let LabelTest::Text(test) = *test {
+            if !accepts_none(alloc, &test.matcher)? {
+                return Ok(false);
+            }
+        }
+    }
+    Ok(true)
+}
+
+fn accepts_none(alloc: Global, matcher: &Matcher) -> Result<bool, Untold> {
+    match matcher.build() {
+        Ok(code) => Ok(code.accepts(&Labels::empty(alloc)?)?),
+        Err(OrMemory::Fault(_)) => Ok(false),
+        Err(OrMemory::Memory) => Err(Untold),
+    }
+}
+
+// The first label that is compared with a quantity.
+fn compared_in<'a>(tests: &[&'a LabelTest]) -> Option<Doubt<'a>> {
+    for test in tests {
+        if let LabelTest::Quantity(test) = *test {
+            let kind = match &test.quantity {
+                Quantity::Number(_) => "number",
+                Quantity::Duration(_) => "duration",
+                Quantity::Size(_) => "size",
+            };
+            return Some(Doubt::Other(test.name.as_str(), kind));
+        }
+    }
+    None
+}

@@ -1,0 +1,148 @@
+//! What a ruler takes and what looks like a mistake.
+
+use crate::doubt::{Doubt, doubt_of};
+use crate::place::{Place, Spot, push_place};
+use crate::told::Untold;
+use rl_plain::{PlainText, Same};
+use rl_query::{Query, RangeFunction, Term};
+use rl_rules::stepping::{ALERT_LABEL, NAME_LABEL};
+use rl_rules::{Group, Rule, RuleKind};
+use std::fmt::Write;
+
+/// A line for each such thing of each rule, in their order.
+pub(crate) fn push_lints(text: &mut String, groups: &[Group]) -> Result<(), Untold> {
+    for (number, group) in groups.iter().enumerate() {
+        let place = Place::whole(None).of_group(spot_of(&group.name, number));
+        let rules = group.rules.as_slice();
+        for (number, rule) in rules.iter().enumerate() {
+            push_twin(text, &place, rules, number, rule)?;
+            push_rule(
+                text,
+                &place.of_rule(spot_of(&rule.name, number)),
+                group.interval,
+                rule,
+            )?;
+        }
+    }
+    Ok(())
+}
+
+fn spot_of(name: &PlainText, number: usize) -> Spot<'_> {
+    Spot {
+        name: Some(name.as_str()),
+        number,
+    }
+}
+
+// Begins a line.
+fn begin(text: &mut String, place: &Place<'_>) -> Result<(), Untold> {
+    text.push_str("lint: ")?;
+    push_place(text, place)
+}
+
+// A rule that is equal in all fields to one before it. A group has at most 256.
+fn push_twin(
+    text: &mut String,
+    group: &Place<'_>,
+    rules: &[Rule],
+    number: usize,
+    rule: &Rule,
+) -> Result<(), Untold> {
+    let Some(first) = rules.iter().take(number).position(|one| one.is_same(rule)) else {
+        return Ok(());
+    };
+    text.push_str("lint: ")?;
+    push_place(text, group)?;
+    let (one, other) = (first.saturating_add(1), number.saturating_add(1));
+    let name = &rule.name;
+    writeln!(text, "rule {name} stands twice, at {one} and {other}")?;
+    Ok(())
+}
+
+fn push_rule(
+    text: &mut String,
+    place: &Place<'_>,
+    interval: u64,
+    rule: &Rule,
+) -> Result<(), Untold> {
+    if matches!(rule.kind, RuleKind::Alerting) && compares_nothing(&rule.query) {
+        begin(text, place)?;
+        text.push_str("no comparison, so each element is an alert\n")?;
+    }
+    push_doubts(text, place, &rule.query)?;
+    push_overwritten(text, place, rule)?;
+    push_templates(text, place, "label", rule.labels.as_slice())?;
+    push_templates(text, place, "annotation", rule.annotations.pairs())?;
+    let hold = rule.hold;
+    if hold > 0 && hold < interval {
+        begin(text, place)?;
+        writeln!(text, "for {hold}s is shorter than the interval {interval}s")?;
+    }
+    Ok(())
+}
+
+// Whether all elements stay. That of an absence is there only where something is wrong.
+fn compares_nothing(query: &Query) -> bool {
+    let is_absence = matches!(query.left.function, RangeFunction::AbsentOverTime);
+    query.test.is_none() && !(is_absence && query.over.is_none())
+}
+
+fn push_doubts(text: &mut String, place: &Place<'_>, query: &Query) -> Result<(), Untold> {
+    push_doubt(text, place, &query.left)?;
+    match &query.over {
+        Some(over) => push_doubt(text, place, over),
+        None => Ok(()),
+    }
+}
+
+// A line that would fail the rule.
+fn push_doubt(text: &mut String, place: &Place<'_>, term: &Term) -> Result<(), Untold> {
+    let Some(doubt) = doubt_of(*text.allocator(), term.range.stages.as_slice())? else {
+        return Ok(());
+    };
+    begin(text, place)?;
+    match doubt {
+        Doubt::Unread => text.push_str(
+            "one line that json cannot read fails the rule; | __error__=\"\" leaves such lines out\n",
+        )?,
+        Doubt::Other(name, kind) => writeln!(
+            text,
+            "one line whose {name} is no {kind} fails the rule; | __error__=\"\" behind it leaves such lines out"
+        )?,
+    }
+    Ok(())
+}
+
+// A label over which the rule's name stands.
+fn push_overwritten(text: &mut String, place: &Place<'_>, rule: &Rule) -> Result<(), Untold> {
+    let own = match rule.kind {
+        RuleKind::Recording => NAME_LABEL,
+        RuleKind::Alerting => ALERT_LABEL,
+    };
+    for (name, _) in rule.labels.as_slice() {
+        if name.as_str() == own {
+            begin(text, place)?;
+            writeln!(text, "the label {own} is overwritten by the rule's name")?;
+        }
+    }
+    Ok(())
+}
+
+// Texts that another ruler would fill in.
+fn push_templates(
+    text: &mut String,
+    place: &Place<'_>,
+    word: &str,
+    pairs: &[(PlainText, PlainText)],
+) -> Result<(), Untold> {
+    for (name, value) in pairs {
+        if value.as_str().contains("{{") {
+            begin(text, place)?;
+            writeln!(
+                text,
+                "the {word} {name} has {{{{ .. }}}}, which stays as it is"
+            )?;
+        }
+    }
+    Ok(())
+}

@@ -1,0 +1,35 @@
+//! The query of a rule, and why it is refused.
+
+use crate::hint::push_hint;
+use crate::place::{Place, line_at, push_line};
+use crate::told::{Told, Untold};
+use rl_query::{QueryError, QueryFault, parse};
+use std::fmt::Write;
+
+/// The fault of a query, if it has one: the line in which it is, a caret under the byte, and what a ruler has near it.
+pub(crate) fn push_query(told: &mut Told, place: &Place<'_>, query: &str) -> Result<(), Untold> {
+    match parse(*told.text.allocator(), query) {
+        Ok(_) => Ok(()),
+        Err(QueryError::Memory) => Err(Untold),
+        Err(QueryError::Fault(fault)) => {
+            told.begin(place)?;
+            push_query_fault(&mut told.text, query, fault)
+        }
+    }
+}
+
+/// The fault of a text that is no query, behind its place.
+pub(crate) fn push_query_fault(
+    text: &mut String,
+    query: &str,
+    fault: QueryFault,
+) -> Result<(), Untold> {
+    writeln!(text, "{fault}")?;
+    match fault {
+        QueryFault::Syntax(place) | QueryFault::Unsupported(place) => {
+            push_line(text, line_at(query, place))?;
+        }
+        _ => {}
+    }
+    push_hint(text, query, fault)
+}

@@ -1,0 +1,57 @@
+//! What is told: a text, and how many faults it has.
+
+use crate::place::{Place, push_place};
+use std::alloc::{AllocError, AllocFailed, Global};
+use std::fmt;
+
+/// What is told, and whether a ruler takes the file.
+#[derive(Drop)]
+pub(crate) struct Report {
+    pub(crate) text: String,
+    pub(crate) is_taken: bool,
+}
+
+/// Why nothing can be told: memory ran out.
+#[derive(Debug, Drop)]
+pub(crate) struct Untold;
+
+impl From<AllocError> for Untold {
+    fn from(_error: AllocError) -> Self {
+        Untold
+    }
+}
+
+impl<T: Drop> From<AllocFailed<T>> for Untold {
+    fn from(_error: AllocFailed<T>) -> Self {
+        Untold
+    }
+}
+
+impl From<fmt::Error> for Untold {
+    fn from(_error: fmt::Error) -> Self {
+        Untold
+    }
+}
+
+/// The faults that are told so far.
+#[derive(Drop)]
+pub(crate) struct Told {
+    pub(crate) text: String,
+    pub(crate) count: usize,
+}
+
+impl Told {
+    /// None.
+    pub(crate) fn new(alloc: Global) -> Self {
+        Told {
+            text: String::new(alloc),
+            count: 0,
+        }
+    }
+
+    /// Begins one more, with its place. The caller writes the rest of its line.
+    pub(crate) fn begin(&mut self, place: &Place<'_>) -> Result<(), Untold> {
+        self.count = self.count.saturating_add(1);
+        push_place(&mut self.text, place)
+    }
+}
