@@ -3,27 +3,32 @@
 //! - `options`: the command line. `report`: what is told of a rule file. `print`: the groups that `--print` asks for.
 //! - `faults`: each fault of a document, table by table. `keys`: what its tables have. `values`: what stands at a key.
 //!   `names`: names and labels. `queries`: the query of a rule. `no_toml`: a text that is no document.
+//! - `session`: what is told of the input of a session. `commands`: its command lines. `near`: words that are nearly the same.
 //! - `hint`: what a ruler has near a query that it refuses. `lint`: what is taken and looks like a mistake, `doubt` of it what would fail a rule.
 //! - `place`: where a fault is. `told`: what is told so far.
 #![tactic(auto)]
 
+mod commands;
 mod doubt;
 mod faults;
 mod hint;
 mod keys;
 mod lint;
 mod names;
+mod near;
 mod no_toml;
 mod options;
 mod place;
 mod print;
 mod queries;
 mod report;
+mod session;
 mod told;
 mod values;
 
 use options::{HELP, Input, Options, Stop, read_options};
 use report::report_of;
+use session::session_report;
 use std::io::ErrorKind;
 use std::process::ExitCode;
 use std::{fs, io};
@@ -76,10 +81,13 @@ fn run(rt: &HostRuntime, options: Options) -> io::Result<bool> {
             let read = fs::read_to_string(rt, path.as_str());
             tell_rules(rt, path.as_str(), read, prints)
         }
-        Input::Session(path) => {
-            eprintln!(rt; "rule_check: {path} cannot be read", path = path.as_str())?;
-            Ok(false)
-        }
+        Input::Session(path) => match fs::read(rt, path.as_str()) {
+            Ok(bytes) => tell(rt, session_report(rt.alloc(), bytes, prints)),
+            Err(_) => {
+                eprintln!(rt; "rule_check: {path} cannot be read", path = path.as_str())?;
+                Ok(false)
+            }
+        },
     }
 }
 

@@ -1,0 +1,225 @@
+//! Command lines of a session, and why one is no command.
+
+use crate::near::is_near;
+use crate::no_toml::Standing;
+use crate::place::Place;
+use crate::queries::push_query_fault;
+use crate::report::push_refusal;
+use crate::told::{Told, Untold};
+use crate::values::push_name;
+use rl_query::{QueryError, parse_delete};
+use rl_rules::{Group, RulesError, read_rules};
+use rl_session::names::push_error_name;
+use rl_session::{Command, PushError, PushReader, read_command};
+use std::fmt::Write;
+
+// The greatest number of a sink, where a group has sinks of all kinds.
+const LAST_SINK: usize = 2;
+
+// The longest word that is shown, in bytes.
+const LONGEST_WORD: usize = 60;
+
+// The words of the commands, and what each wants behind it.
+const WANTED: [(&str, &str); 13] = [
+    ("push", "wants the JSON of a push"),
+    ("cut", "stands alone"),
+    ("flush", "stands alone"),
+    (
+        "delete",
+        "wants the number of a request, three moments in seconds and a selector",
+    ),
+    ("cancel", "wants the number of a request"),
+    (
+        "process",
+        "wants the number of a request and a moment in seconds",
+    ),
+    ("retain", "wants a moment in seconds"),
+    ("edit", "wants a rule file of one line"),
+    ("tick", "wants a moment in seconds"),
+    ("eval", "wants a moment in seconds and the name of a group"),
+    ("pump", "wants the name of a group"),
+    ("show", "wants the number of a sink and the name of a group"),
+    ("end", "stands alone"),
+];
+
+/// What is known while commands are looked at: the groups, where the rules are taken, and the memory of a reader.
+#[derive(Drop)]
+pub(crate) struct Known<'a> {
+    pub(crate) groups: Option<&'a [Group]>,
+    pub(crate) reader: PushReader,
+}
+
+/// The faults of a line that is not blank, and whether it ends the session.
+pub(crate) fn push_command(
+    told: &mut Told,
+    known: &mut Known<'_>,
+    number: usize,
+    line: &str,
+) -> Result<bool, Untold> {
+    let before = told.count;
+    let place = Place::whole(Some(number));
+    let ends = match read_command(line) {
+        Some(Command::End) => true,
+        Some(command) => {
+            push_asked(told, known, &place, number, command)?;
+            false
+        }
+        None => {
+            push_no_command(told, &place, line)?;
+            false
+        }
+    };
+    if told.count > before && line.ends_with('\r') {
+        told.text.push_str("  in its place: the line without the carriage return at its end\n")?;
+    }
+    Ok(ends)
+}
+
+// The faults of what a command asks for.
+fn push_asked(
+    told: &mut Told,
+    known: &mut Known<'_>,
+    place: &Place<'_>,
+    number: usize,
+    command: Command<'_>,
+) -> Result<(), Untold> {
+    match command {
+        Command::Push(body) => push_body(told, known, place, body),
+        Command::Edit(document) => push_edit(told, known, place, number, document),
+        Command::Delete { selector, .. } => push_selector(told, place, selector),
+        Command::Eval { group, .. } => push_unnamed(told, known, place, group),
+        Command::Pump(group) => push_unnamed(told, known, place, group),
+        Command::Show { sink, group } => {
+            if sink > LAST_SINK {
+                told.begin(place)?;
+                told.text
+                    .push_str("a group has sink 0, and with --sinks all 1 and 2\n")?;
+            }
+            push_unnamed(told, known, place, group)
+        }
+        _ => Ok(()),
+    }
+}
+
+fn push_body(
+    told: &mut Told,
+    known: &mut Known<'_>,
+    place: &Place<'_>,
+    body: &str,
+) -> Result<(), Untold> {
+    match known.reader.read(body.as_bytes()) {
+        Ok(_) => Ok(()),
+        Err(PushError::Memory) => Err(Untold),
+        Err(error) => {
+            told.begin(place)?;
+            writeln!(told.text, "the body: {}", push_error_name(error))?;
+            Ok(())
+        }
+    }
+}
+
+fn push_selector(told: &mut Told, place: &Place<'_>, selector: &str) -> Result<(), Untold> {
+    match parse_delete(*told.text.allocator(), selector) {
+        Ok(_) => Ok(()),
+        Err(QueryError::Memory) => Err(Untold),
+        Err(QueryError::Fault(fault)) => {
+            told.begin(place)?;
+            told.text.push_str("the selector: ")?;
+            push_query_fault(&mut told.text, selector, fault)
+        }
+    }
+}
+
+// The faults of the rule file of an edit, which has one group with the name of another.
+fn push_edit(
+    told: &mut Told,
+    known: &Known<'_>,
+    place: &Place<'_>,
+    number: usize,
+    document: &str,
+) -> Result<(), Untold> {
+    match read_rules(*told.text.allocator(), document) {
+        Ok(groups) => match groups.as_slice() {
+            [group] => push_unnamed(told, known, place, group.name.as_str()),
+            groups => {
+                told.begin(place)?;
+                let count = groups.len();
+                writeln!(told.text, "{count} groups, where an edit has one")?;
+                Ok(())
+            }
+        },
+        Err(RulesError::Fault(fault)) => {
+            let standing = Standing {
+                first_line: number,
+                lead: "edit ",
+            };
+            push_refusal(told, place, standing, document, fault)
+        }
+        Err(RulesError::Memory) => Err(Untold),
+    }
+}
+
+// That no group has the name, where the groups are known.
+fn push_unnamed(
+    told: &mut Told,
+    known: &Known<'_>,
+    place: &Place<'_>,
+    name: &str,
+) -> Result<(), Untold> {
+    let Some(groups) = known.groups else {
+        return Ok(());
+    };
+    if groups.iter().any(|group| group.name.as_str() == name) {
+        return Ok(());
+    }
+    told.begin(place)?;
+    told.text.push_str("no group is named ")?;
+    push_word(&mut told.text, name)?;
+    told.text.push('\n')?;
+    for group in groups {
+        let near = group.name.as_str();
+        if is_near(near, name) {
+            writeln!(told.text, "  in its place: {near}")?;
+            return Ok(());
+        }
+    }
+    Ok(())
+}
+
+// Why a line is no command.
+fn push_no_command(told: &mut Told, place: &Place<'_>, line: &str) -> Result<(), Untold> {
+    let word = match line.split_once(' ') {
+        Some((word, _)) => word,
+        None => line,
+    };
+    told.begin(place)?;
+    if word.is_empty() {
+        told.text.push_str("no command begins with a space\n")?;
+        return Ok(());
+    }
+    for (command, wanted) in WANTED {
+        if command == word {
+            writeln!(told.text, "{word} {wanted}")?;
+            return Ok(());
+        }
+    }
+    told.text.push_str("no command begins with ")?;
+    push_word(&mut told.text, word)?;
+    told.text.push('\n')?;
+    for (command, _) in WANTED {
+        if is_near(command, word) {
+            writeln!(told.text, "  in its place: {command}")?;
+            return Ok(());
+        }
+    }
+    Ok(())
+}
+
+// Writes a word as a key, or how long it is.
+fn push_word(text: &mut String, word: &str) -> Result<(), Untold> {
+    if word.len() > LONGEST_WORD {
+        write!(text, "a text of {} bytes", word.len())?;
+        return Ok(());
+    }
+    push_name(text, word)
+}
