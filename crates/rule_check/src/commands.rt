@@ -178,7 +178,7 @@ fn push_unnamed(
     told.text.push('\n')?;
     for group in groups {
         let near = group.name.as_str();
-        if is_near(near, name) {
+        if is_meant(near, name) {
             writeln!(told.text, "  in its place: {near}")?;
             return Ok(());
         }
@@ -207,12 +207,17 @@ fn push_no_command(told: &mut Told, place: &Place<'_>, line: &str) -> Result<(),
     push_word(&mut told.text, word)?;
     told.text.push('\n')?;
     for (command, _) in WANTED {
-        if is_near(command, word) {
+        if is_meant(command, word) {
             writeln!(told.text, "  in its place: {command}")?;
             return Ok(());
         }
     }
     Ok(())
+}
+
+// Whether a word may stand for one that is written. Behind a carriage return the line is told of that instead.
+fn is_meant(word: &str, written: &str) -> bool {
+    !written.ends_with('\r') && is_near(word, written)
 }
 
 // Writes a word as a key, or how long it is.

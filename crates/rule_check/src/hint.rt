@@ -115,7 +115,7 @@ fn push_near_unsupported(text: &mut String, front: &str, back: &str) -> Result<(
         return push(text, lower.as_str());
     }
     if lower.as_str() == "or" && ends_text(front) {
-        return push(text, "|~ with a regular expression, as |~ \"x|y\"");
+        return push(text, "|~ or !~ with a regular expression, as |~ \"x|y\"");
     }
     push_known(text, hint_of_word(lower.as_str()))
 }

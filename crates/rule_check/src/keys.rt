@@ -143,6 +143,7 @@ impl Owner {
                 Some("an alerting rule, with alert in place of record")
             }
             (Owner::Recording, "alert") => Some("two rules"),
+            (Owner::Alerting, _) if name.eq_ignore_ascii_case("record") => Some("record"),
             _ => near_key(self.keys(), name),
         }
     }

@@ -1,7 +1,7 @@
 //! What a ruler takes and what looks like a mistake.
 
 use crate::doubt::{Doubt, doubt_of};
-use crate::place::{Place, Spot, push_place};
+use crate::place::{Place, Spot, push_names, push_place};
 use crate::told::Untold;
 use rl_plain::{PlainText, Same};
 use rl_query::{Query, RangeFunction, Term};
@@ -15,13 +15,9 @@ pub(crate) fn push_lints(text: &mut String, groups: &[Group]) -> Result<(), Unto
         let place = Place::whole(None).of_group(spot_of(&group.name, number));
         let rules = group.rules.as_slice();
         for (number, rule) in rules.iter().enumerate() {
+            let place = place.of_rule(spot_of(&rule.name, number));
             push_twin(text, &place, rules, number, rule)?;
-            push_rule(
-                text,
-                &place.of_rule(spot_of(&rule.name, number)),
-                group.interval,
-                rule,
-            )?;
+            push_rule(text, &place, group.interval, rule)?;
         }
     }
     Ok(())
@@ -43,7 +39,7 @@ fn begin(text: &mut String, place: &Place<'_>) -> Result<(), Untold> {
 // A rule that is equal in all fields to one before it. A group has at most 256.
 fn push_twin(
     text: &mut String,
-    group: &Place<'_>,
+    place: &Place<'_>,
     rules: &[Rule],
     number: usize,
     rule: &Rule,
@@ -52,10 +48,9 @@ fn push_twin(
         return Ok(());
     };
     text.push_str("lint: ")?;
-    push_place(text, group)?;
+    push_names(text, place)?;
     let (one, other) = (first.saturating_add(1), number.saturating_add(1));
-    let name = &rule.name;
-    writeln!(text, "rule {name} stands twice, at {one} and {other}")?;
+    writeln!(text, " stands twice, at {one} and {other}")?;
     Ok(())
 }
 

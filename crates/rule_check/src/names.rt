@@ -117,7 +117,7 @@ pub(crate) fn push_labels(
     let alloc = *told.text.allocator();
     if told.count == before && !make_labels(alloc, table)? {
         told.begin(place)?;
-        writeln!(told.text, "{key} has more than 4096 bytes as a label text")?;
+        writeln!(told.text, "{key} have more than 4096 bytes as a label text")?;
     }
     Ok(())
 }

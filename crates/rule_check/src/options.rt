@@ -18,8 +18,8 @@ pub(crate) const HELP: [&str; 11] = [
     "  --help          prints this",
     "A file that is taken is told by how much it has, behind a line `lint:` for each thing that looks like a mistake.",
     "Of a file that is not taken each fault is told with its place and, where something near is lawful, with that.",
-    "The status is 0 where the file is taken, 1 where it is not or cannot be read, 2 where the command line is bad,",
-    "and where memory runs out 1.",
+    "The status is 0 where the file is taken, 1 where it is not or cannot be read or where memory runs out,",
+    "and 2 where the command line is bad.",
 ];
 
 /// What is checked.

@@ -52,19 +52,27 @@ pub(crate) fn push_place(text: &mut String, place: &Place<'_>) -> Result<(), Unt
     if let Some(line) = place.line {
         write!(text, "line {line}: ")?;
     }
-    if let Some(group) = place.group {
-        text.push_str("group ")?;
-        push_spot(text, group)?;
-        if let Some(rule) = place.rule {
-            text.push_str(", rule ")?;
-            push_spot(text, rule)?;
-        }
+    if place.group.is_some() {
+        push_names(text, place)?;
         text.push_str(": ")?;
     }
     Ok(())
 }
 
-/// Writes the name, or the number from 1.
+/// Writes the group and the rule as `group shop, rule Errors`.
+pub(crate) fn push_names(text: &mut String, place: &Place<'_>) -> Result<(), Untold> {
+    if let Some(group) = place.group {
+        text.push_str("group ")?;
+        push_spot(text, group)?;
+    }
+    if let Some(rule) = place.rule {
+        text.push_str(", rule ")?;
+        push_spot(text, rule)?;
+    }
+    Ok(())
+}
+
+// Writes the name, or the number from 1.
 fn push_spot(text: &mut String, spot: Spot<'_>) -> Result<(), Untold> {
     match spot.name {
         Some(name) => text.push_str(name)?,
