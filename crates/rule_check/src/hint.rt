@@ -6,6 +6,9 @@ use crate::told::Untold;
 use rl_query::{QueryFault, RangeFunction};
 use std::fmt::Write;
 
+// Near a range that is none.
+const SECONDS: &str = "whole seconds, as [5m]";
+
 /// Writes what a ruler has near the fault of a query, if it has something.
 pub(crate) fn push_hint(text: &mut String, query: &str, fault: QueryFault) -> Result<(), Untold> {
     match fault {
@@ -21,7 +24,7 @@ pub(crate) fn push_hint(text: &mut String, query: &str, fault: QueryFault) -> Re
             text,
             "a matcher that does not accept the empty text, as app=\"shop\" or app=~\".+\"",
         ),
-        QueryFault::BadRange => push(text, "whole seconds, as [5m]"),
+        QueryFault::BadRange => push(text, SECONDS),
         QueryFault::TwoParsers => push(text, "a rule for each parser"),
         QueryFault::BadRegex | QueryFault::TooDeep => Ok(()),
     }
@@ -42,7 +45,35 @@ fn push_near_syntax(text: &mut String, front: &str, back: &str) -> Result<(), Un
     if front.ends_with(',') && closes_names(front, back) {
         return push(text, "no comma before the bracket");
     }
+    if front.ends_with('[') {
+        return push(text, SECONDS);
+    }
+    if ends_comparison(front) && is_too_long(first_number(back)) {
+        return push(
+            text,
+            "at most 15 digits before the point and nine behind it",
+        );
+    }
     push_lower_syntax(text, front, before, word)
+}
+
+// The number of a label test at the front of a text, without its unit.
+fn first_number(text: &str) -> &str {
+    let rest = text.trim_start_matches(|letter: char| letter.is_ascii_digit() || letter == '.');
+    text.strip_suffix(rest).unwrap_or("")
+}
+
+// Whether a number has more digits than one of a label test may have.
+fn is_too_long(number: &str) -> bool {
+    let (whole, part) = match number.split_once('.') {
+        Some(parts) => parts,
+        None => (number, "0"),
+    };
+    are_digits(whole) && are_digits(part) && (whole.len() > 15 || part.len() > 9)
+}
+
+fn are_digits(text: &str) -> bool {
+    !text.is_empty() && text.bytes().all(|byte| byte.is_ascii_digit())
 }
 
 // A word that is lawful in lower case: a grouping behind a parenthesis, or what joined the tests before the byte.
@@ -138,11 +169,16 @@ fn begins_with_digit(text: &str) -> bool {
 fn is_lawful_behind(front: &str, word: &str) -> bool {
     if front.ends_with('|') {
         is_parser(word)
-    } else if front.ends_with('>') || front.ends_with('<') || front.ends_with('=') {
+    } else if ends_comparison(front) {
         false
     } else {
         is_term_word(word)
     }
+}
+
+// Whether the sign of a comparison ends there.
+fn ends_comparison(front: &str) -> bool {
+    front.ends_with('>') || front.ends_with('<') || front.ends_with('=')
 }
 
 // Whether a text in quotes or backquotes ends there.

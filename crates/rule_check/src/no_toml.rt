@@ -51,7 +51,7 @@ pub(crate) fn push_no_toml(
 fn push_led_line(told: &mut Told, lead: &str, line: Line<'_>) -> Result<(), Untold> {
     let mut before = String::from_str(*told.text.allocator(), lead)?;
     before.push_str(line.before)?;
-    let behind = line.behind;
+    let behind = line.behind.strip_suffix('\r').unwrap_or(line.behind);
     push_line(
         &mut told.text,
         Line {
