@@ -1,0 +1,152 @@
+//! The rule tester: plays test files of rules, and tells where rules give something else than is wanted.
+//!
+//! `options` reads the command line. `document` reads a test file, with `part` for what stands at its keys, `streams` for lines,
+//! `rows` for what is wanted, and `number` for values. `events` puts what happens in order, `play` plays it to a ruler, and
+//! `compare` finds where a rule differs. `told` is what is printed, and `stop` why nothing is.
+#![tactic(auto)]
+
+mod compare;
+mod document;
+mod events;
+mod number;
+mod options;
+mod part;
+mod play;
+mod rows;
+mod stop;
+mod streams;
+mod told;
+
+use document::{Document, Test, read_document};
+use options::read_options;
+use play::play;
+use rl_plain::PlainText;
+use rl_rules::{Group, RulesError, read_rules};
+use std::alloc::Global;
+use std::io::ErrorKind;
+use std::process::ExitCode;
+use std::{fs, io};
+use stop::{Place, Stop, fault};
+use told::Told;
+
+fn main(rt: HostRuntime) -> ExitCode {
+    match run(&rt) {
+        Ok(true) => ExitCode::from(0),
+        Ok(false) => ExitCode::from(1),
+        Err(stop) => tell_stop(&rt, stop),
+    }
+}
+
+// Tells why nothing is played, and gives the status of the process.
+fn tell_stop(rt: &HostRuntime, stop: Stop) -> ExitCode {
+    let (told, status) = match &stop {
+        Stop::Help(text) => (print!(rt; "{text}"), 0),
+        Stop::BadOptions => (eprintln!(rt; "rule_test: bad options"), 2),
+        Stop::Fault(text) => (eprintln!(rt; "rule_test: {text}"), 2),
+        Stop::Unread(file) => (eprintln!(rt; "rule_test: {file} cannot be read"), 3),
+        Stop::Memory => (eprintln!(rt; "rule_test: out of memory"), 3),
+        Stop::Unwritten => (Ok(()), 3),
+    };
+    match told {
+        Ok(()) => ExitCode::from(status),
+        Err(_) => ExitCode::from(3),
+    }
+}
+
+// Plays the test file that is asked for. Whether nothing failed.
+fn run(rt: &HostRuntime) -> Result<bool, Stop> {
+    let alloc = rt.alloc();
+    let file = read_options(rt)?;
+    let document = read_file(rt, &file)?;
+    let groups = read_groups(rt, &file, &document.rules)?;
+    let mut told = Told::new(alloc);
+    for test in &document.tests {
+        play(alloc, &groups, test, &mut told)?;
+    }
+    told.finish()?;
+    match print!(rt; "{}", told.text) {
+        Ok(()) => Ok(told.failed == 0),
+        Err(_) => Err(Stop::Unwritten),
+    }
+}
+
+// Reads a test file, or standard input where there is none, with the rules of its edits.
+fn read_file(rt: &HostRuntime, file: &Option<PlainText>) -> Result<Document, Stop> {
+    let alloc = rt.alloc();
+    let text = match file {
+        Some(file) => text_of(alloc, file.as_str(), fs::read_to_string(rt, file.as_str()))?,
+        None => text_of(
+            alloc,
+            "standard input",
+            io::read_to_string(alloc, rt.reader()),
+        )?,
+    };
+    let mut document = read_document(alloc, text.as_str())?;
+    for test in document.tests.iter_mut() {
+        read_edits(rt, file, test)?;
+    }
+    Ok(document)
+}
+
+fn read_edits(rt: &HostRuntime, file: &Option<PlainText>, test: &mut Test) -> Result<(), Stop> {
+    for edit in test.edits.iter_mut() {
+        edit.groups = read_groups(rt, file, &edit.rules)?;
+    }
+    Ok(())
+}
+
+// The text that was read of a file.
+fn text_of(alloc: Global, file: &str, read: io::Result<String>) -> Result<String, Stop> {
+    match read {
+        Ok(text) => Ok(text),
+        Err(error) => match error.kind() {
+            ErrorKind::OutOfMemory => Err(Stop::Memory),
+            ErrorKind::InvalidData => Err(file_fault(alloc, file, "no UTF-8 text")),
+            _ => Err(Stop::Unread(format!(in alloc; "{file}")?)),
+        },
+    }
+}
+
+// A fault of a file that is no test file.
+fn file_fault(alloc: Global, file: &str, what: &str) -> Stop {
+    match format!(in alloc; "{file}: {what}") {
+        Ok(what) => fault(alloc, Place::top(), what.as_str()),
+        Err(_) => Stop::Memory,
+    }
+}
+
+// The groups of a rule file that a test file names.
+fn read_groups(
+    rt: &HostRuntime,
+    file: &Option<PlainText>,
+    rules: &PlainText,
+) -> Result<Vec<Group>, Stop> {
+    let alloc = rt.alloc();
+    let name = rules.as_str();
+    let path = path_of(alloc, file, name)?;
+    let text = text_of(alloc, name, fs::read_to_string(rt, path.as_str()))?;
+    groups_in(alloc, name, text.as_str())
+}
+
+fn groups_in(alloc: Global, name: &str, text: &str) -> Result<Vec<Group>, Stop> {
+    match read_rules(alloc, text) {
+        Ok(groups) => Ok(groups),
+        Err(RulesError::Fault(fault)) => {
+            let what = format!(in alloc; "{fault}")?;
+            Err(file_fault(alloc, name, what.as_str()))
+        }
+        Err(RulesError::Memory) => Err(Stop::Memory),
+    }
+}
+
+// The path of a file that a test file names, from the folder of the test file.
+fn path_of(alloc: Global, file: &Option<PlainText>, name: &str) -> Result<String, Stop> {
+    let folder = match file {
+        Some(file) => file.as_str().rsplit_once('/'),
+        None => None,
+    };
+    match folder {
+        Some((folder, _)) if !name.starts_with('/') => Ok(format!(in alloc; "{folder}/{name}")?),
+        _ => Ok(format!(in alloc; "{name}")?),
+    }
+}

@@ -1,0 +1,302 @@
+//! Plays a test: its lines, edits and evaluations to a ruler of its own, and its checks to what that gave.
+ghost use Rattle.std.specs.Prelude.{◌≡◌, length, map, IfOk};
+ghost use Rattle.std.specs.List.{AllByRecursion};
+ghost use Rattle.rl_world.specs.BookCalls.{IsFresh};
+
+use crate::compare::{answers_of, push_absence, push_differences};
+use crate::document::{Check, Edit, Line, Stream, Test};
+use crate::events::{Event, What, events_of, is_named};
+use crate::told::Told;
+use rl_chunks::MemStore;
+use rl_labels::{DEFAULT_LIMITS, Entry, Limits, Ns};
+use rl_plain::{Shared, TryCopy};
+use rl_rules::{Evaluation, Group};
+use rl_session::{Engine, WorldEngine};
+use rl_shard::ShardReply;
+use rl_sinks::{Recorder, Sink};
+use rl_world::{BookFault, Refusal};
+use std::alloc::{AllocError, Global};
+
+// The start of each test, 2000-01-01T00:00:00Z.
+const START: u64 = 946_684_800_000_000_000;
+
+// A ruler with one shard in memory. No group has a sink.
+type Ruler = WorldEngine<MemStore, Recorder<Vec<u8>>>;
+
+/// Plays a test of these groups, and tells of it.
+pub(crate) fn play(
+    alloc: Global,
+    groups: &[Group],
+    test: &Test,
+    told: &mut Told,
+) -> Result<(), AllocError> {
+    let events = events_of(alloc, groups, test)?;
+    tell_spans(groups, test, told)?;
+    let mut engine = ruler(alloc, groups)?;
+    play_events(alloc, &mut engine, groups, test, &events, told)
+}
+
+// Tells of evaluations that are asked for of groups that are not there.
+fn tell_spans(groups: &[Group], test: &Test, told: &mut Told) -> Result<(), AllocError> {
+    for span in &test.spans {
+        if let Some(name) = &span.group {
+            if !groups.iter().any(|group| group.name == *name) {
+                told.refuse(
+                    test.name.as_str(),
+                    span.from,
+                    "evaluation of",
+                    name.as_str(),
+                    "NoSuchGroup",
+                )?;
+            }
+        }
+    }
+    Ok(())
+}
+
+// A ruler that holds nothing.
+fn ruler(alloc: Global, groups: &[Group]) -> Result<Ruler, AllocError> {
+    let Ok(limits) = Limits::check(DEFAULT_LIMITS) else {
+        return Err(AllocError);
+    };
+    let groups = copies(alloc, groups)?;
+    let stores = one_store(alloc)?;
+    let sinks = no_sinks(alloc, groups.len())?;
+    WorldEngine::open(alloc, limits, stores, groups, sinks)
+}
+
+fn copies(alloc: Global, groups: &[Group]) -> Result<Vec<Group>, AllocError> {
+    let mut copies = Vec::with_capacity(alloc, groups.len())?;
+    for group in groups {
+        copies.push(group.try_copy()?)?;
+    }
+    Ok(copies)
+}
+
+fn one_store(alloc: Global) -> Result<Vec<MemStore>, AllocError>
+    ensures { IfOk result (λ stores. length stores.items ≡ 1) }
+{
+    let mut stores = Vec::new(alloc);
+    stores.push(MemStore::new(alloc))?;
+    Ok(stores)
+}
+
+// For each group, no sinks.
+fn no_sinks<S: Sink>(alloc: Global, count: usize) -> Result<Vec<Vec<S>>, AllocError>
+    ensures lists { IfOk result (λ sinks. length sinks.items ≡ count) }
+    ensures fresh { IfOk result (λ sinks. AllByRecursion (λ own. AllByRecursion IsFresh (map S.state own.items)) sinks.items) }
+{
+    let mut sinks = Vec::with_capacity(alloc, count)?;
+    for _ in 0..count {
+        sinks.push(Vec::new(alloc))?;
+    }
+    Ok(sinks)
+}
+
+fn play_events<E: Engine>(
+    alloc: Global,
+    engine: &mut E,
+    groups: &[Group],
+    test: &Test,
+    events: &[Event],
+    told: &mut Told,
+) -> Result<(), AllocError> {
+    let mut now = Vec::new(alloc);
+    for event in events {
+        match event.what {
+            What::Line => play_line(alloc, engine, test, *event, told)?,
+            What::Edit => play_edit(engine, test, *event, told)?,
+            What::Evaluation => play_evaluation(engine, groups, test, *event, &mut now, told)?,
+            What::Check => play_check(alloc, groups, test, *event, &now, told)?,
+        }
+    }
+    Ok(())
+}
+
+// A moment of the ruler, which lies so little before one of the test.
+fn moment_of(at: u64, before: u64) -> Option<Ns> {
+    Ns::new(START.saturating_add(at).saturating_sub(before))
+}
+
+fn play_line<E: Engine>(
+    alloc: Global,
+    engine: &mut E,
+    test: &Test,
+    event: Event,
+    told: &mut Told,
+) -> Result<(), AllocError> {
+    let Some(stream) = test.streams.get(event.number) else {
+        return Ok(());
+    };
+    let Some(line) = stream.lines.get(event.line) else {
+        return Ok(());
+    };
+    match push_line(alloc, engine, stream, line)? {
+        Some(why) => {
+            let labels = stream.labels.as_text();
+            told.refuse(test.name.as_str(), event.at, "line of", labels, why)
+        }
+        None => Ok(()),
+    }
+}
+
+// Hands a line to the ruler. Why it is refused, if it is.
+fn push_line<E: Engine>(
+    alloc: Global,
+    engine: &mut E,
+    stream: &Stream,
+    line: &Line,
+) -> Result<Option<&'static str>, AllocError> {
+    let Some(moment) = moment_of(line.moment, line.before) else {
+        return Ok(Some("Time"));
+    };
+    let labels = stream.labels.try_copy()?;
+    let text = line.text.try_copy()?;
+    match Entry::new(labels, moment, text) {
+        Ok(entry) => push_entry(alloc, engine, entry),
+        Err(_) => Ok(Some("TooLong")),
+    }
+}
+
+fn push_entry<E: Engine>(
+    alloc: Global,
+    engine: &mut E,
+    entry: Entry,
+) -> Result<Option<&'static str>, AllocError> {
+    let entry = Shared::new(alloc, entry)?;
+    match engine.push(entry) {
+        Ok(reply) => Ok(reply_name(&reply)),
+        Err(refusal) => Ok(Some(refusal_name(refusal))),
+    }
+}
+
+fn play_edit<E: Engine>(
+    engine: &mut E,
+    test: &Test,
+    event: Event,
+    told: &mut Told,
+) -> Result<(), AllocError> {
+    let Some(edit) = test.edits.get(event.number) else {
+        return Ok(());
+    };
+    for group in &edit.groups {
+        if let Some(why) = put_group(engine, group)? {
+            let name = group.name.as_str();
+            told.refuse(test.name.as_str(), event.at, "edit of", name, why)?;
+        }
+    }
+    Ok(())
+}
+
+// Puts a group in the place of the one with its name. Why this is refused, if it is.
+fn put_group<E: Engine>(engine: &mut E, group: &Group) -> Result<Option<&'static str>, AllocError> {
+    let Some(number) = engine.group(group.name.as_str()) else {
+        return Ok(Some("NoSuchGroup"));
+    };
+    match engine.edit(number, group.try_copy()?) {
+        Ok(()) => Ok(None),
+        Err(refusal) => Ok(Some(refusal_name(refusal))),
+    }
+}
+
+// Evaluates a group, unless that was done at this moment. What it gave stands behind what the groups gave at the moment.
+fn play_evaluation<E: Engine>(
+    engine: &mut E,
+    groups: &[Group],
+    test: &Test,
+    event: Event,
+    now: &mut Vec<Shared<Evaluation>>,
+    told: &mut Told,
+) -> Result<(), AllocError> {
+    let (Some(group), Some(t)) = (groups.get(event.number), moment_of(event.at, 0)) else {
+        return Ok(());
+    };
+    let name = group.name.as_str();
+    if now.iter().any(|evaluation| evaluation.get().t != t) {
+        now.clear();
+    }
+    if now
+        .iter()
+        .any(|evaluation| evaluation.get().group.as_str() == name)
+    {
+        return Ok(());
+    }
+    match engine.evaluate(event.number, t) {
+        Ok(committed) => {
+            now.push(committed.evaluation)?;
+            Ok(())
+        }
+        Err(refusal) => {
+            let why = refusal_name(refusal);
+            told.refuse(test.name.as_str(), event.at, "evaluation of", name, why)
+        }
+    }
+}
+
+fn play_check(
+    alloc: Global,
+    groups: &[Group],
+    test: &Test,
+    event: Event,
+    now: &[Shared<Evaluation>],
+    told: &mut Told,
+) -> Result<(), AllocError> {
+    let (Some(check), Some(t)) = (test.checks.get(event.number), moment_of(event.at, 0)) else {
+        return Ok(());
+    };
+    let answers = answers_of(alloc, check, t, now)?;
+    let mut differences = String::new(alloc);
+    if answers.is_there {
+        push_differences(&mut differences, &check.wanted, &answers)?;
+    } else {
+        let why = if is_known(check, groups, &test.edits) {
+            "no evaluation"
+        } else {
+            "no such rule"
+        };
+        push_absence(&mut differences, &check.wanted, why)?;
+    }
+    told.check(test.name.as_str(), check, differences.as_str())
+}
+
+// Whether a group has the rule of a check, from the start on or by an edit.
+fn is_known(check: &Check, groups: &[Group], edits: &[Edit]) -> bool {
+    has_rule(check, groups) || edits.iter().any(|edit| has_rule(check, &edit.groups))
+}
+
+fn has_rule(check: &Check, groups: &[Group]) -> bool {
+    groups.iter().any(|group| is_group_with(check, group))
+}
+
+fn is_group_with(check: &Check, group: &Group) -> bool {
+    is_named(&check.group, group.name.as_str())
+        && group
+            .rules
+            .as_slice()
+            .iter()
+            .any(|rule| rule.kind == check.kind && rule.name == check.name)
+}
+
+// The name under which a line is refused, if it is.
+fn reply_name(reply: &ShardReply) -> Option<&'static str> {
+    match reply {
+        ShardReply::TooFarBehind { .. } => Some("TooFarBehind"),
+        ShardReply::Expired { .. } => Some("Expired"),
+        ShardReply::Full => Some("Full"),
+        _ => None,
+    }
+}
+
+// The name of a refusal.
+fn refusal_name(refusal: Refusal) -> &'static str {
+    match refusal {
+        Refusal::NoSuch => "NoSuch",
+        Refusal::Book(BookFault::SessionFull) => "SessionFull",
+        Refusal::Book(_) => "MomentNotLater",
+        Refusal::JournalFull => "JournalFull",
+        Refusal::Fault => "Fault",
+        Refusal::Damaged => "Damaged",
+        Refusal::NumbersSpent => "NumbersSpent",
+        Refusal::Memory => "Memory",
+    }
+}
