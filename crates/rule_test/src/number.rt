@@ -86,17 +86,39 @@ pub(crate) fn are_equal(one: Fraction, other: Fraction) -> bool {
     }
 }
 
-/// A value that a rule gave, as it was computed.
+/// A value that a rule gave, written in lowest terms.
 pub(crate) fn computed(alloc: Global, fraction: Fraction) -> Result<Number, AllocError> {
-    let Fraction {
-        numerator,
-        denominator,
-    } = fraction;
-    let text = if denominator == 1 {
-        format!(in alloc; "{numerator}")?
+    let divisor = common_divisor(fraction.numerator, fraction.denominator);
+    let above = over(fraction.numerator, divisor);
+    let below = over(fraction.denominator, divisor);
+    let text = if below == 1 {
+        format!(in alloc; "{above}")?
     } else {
-        format!(in alloc; "{numerator}/{denominator}")?
+        format!(in alloc; "{above}/{below}")?
     };
     let text = PlainText::from_string(text);
     Ok(Number { text, fraction })
+}
+
+// The number divided by another, and itself where that is 0.
+fn over(number: u128, divisor: u128) -> u128 {
+    match number.checked_div(divisor) {
+        Some(quotient) => quotient,
+        None => number,
+    }
+}
+
+// The greatest number that divides both, by Euclid's steps, of which 128 bits take fewer.
+fn common_divisor(one: u128, other: u128) -> u128 {
+    let (mut divisor, mut rest) = (one, other);
+    for _ in 0..256 {
+        match divisor.checked_rem(rest) {
+            Some(next) => {
+                divisor = rest;
+                rest = next;
+            }
+            None => break,
+        }
+    }
+    divisor
 }
