@@ -34,6 +34,7 @@ fn words_of(rt: &HostRuntime) -> Result<Vec<String>, Stop> {
 fn file_in<'a>(alloc: Global, words: &'a [String]) -> Result<Option<PlainText>, Stop> {
     let file = Arg::new(alloc, "FILE").help(FILE);
     let command = Command::new(alloc, "rule_test")
+        .bin_name("rule_test")?
         .about(ABOUT)
         .after_help(STATUS)
         .arg(file)?;
