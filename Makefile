@@ -31,8 +31,9 @@ scripts:
 	@scripts/run $(PROGRAM)/out/rule_shell
 	@scripts/run $(CHECKER)/out/rule_check scripts/check
 	@scripts/run $(TESTER)/out/rule_test scripts/tests
-	@scripts/run_examples $(TESTER)/out/rule_test
+	@scripts/run_examples $(TESTER)/out/rule_test $(PROGRAM)/out/rule_shell
 	@scripts/run_filters
+	@scripts/index --check
 
 wrong:
 	@scripts/wrong
