@@ -13,7 +13,7 @@ use std::alloc::Global;
 use toml::Table;
 use toml::de::Error;
 
-/// The most moments at which one table evaluates: as many as a ruler keeps of a group.
+/// The most moments at which a test asks for evaluations: as many as a ruler keeps of a group.
 pub(crate) const MOST_MOMENTS: u64 = 1_048_576;
 
 /// A test file.
@@ -57,8 +57,8 @@ pub(crate) struct Line {
 pub(crate) struct Span {
     pub(crate) group: Option<PlainText>,
     pub(crate) from: u64,
-    pub(crate) to: u64,
     pub(crate) step: u64,
+    pub(crate) moments: u64,
 }
 
 /// A rule file whose groups stand in for those of their names.
@@ -177,9 +177,14 @@ fn fill_test(part: Part<'_>, test: &mut Test) -> Result<(), Stop> {
 }
 
 fn push_spans(test: Part<'_>, spans: &mut Vec<Span>) -> Result<(), Stop> {
+    let mut before = 0u64;
     for (index, item) in test.items("evaluate")?.iter().enumerate() {
         let part = test.item("evaluate", index, item)?;
         let span = read_span(part)?;
+        before = before.saturating_add(span.moments);
+        if before > MOST_MOMENTS {
+            return Err(part.fault("more than 1048576 moments"));
+        }
         spans.push(span)?;
     }
     Ok(())
@@ -188,15 +193,13 @@ fn push_spans(test: Part<'_>, spans: &mut Vec<Span>) -> Result<(), Stop> {
 fn read_span(part: Part<'_>) -> Result<Span, Stop> {
     part.only(&["group", "from", "to", "step"])?;
     let (from, to, step) = (part.time("from")?, part.time("to")?, part.step("step")?);
-    if moments(part, from, to, step)? > MOST_MOMENTS {
-        return Err(part.fault("more than 1048576 moments"));
-    }
+    let moments = moments(part, from, to, step)?;
     let group = part.own_text_at("group")?;
     Ok(Span {
         group,
         from,
-        to,
         step,
+        moments,
     })
 }
 

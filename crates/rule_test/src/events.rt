@@ -1,5 +1,5 @@
 //! All that happens in a test, in its order.
-use crate::document::{MOST_MOMENTS, Span, Stream, Test};
+use crate::document::{MOST_MOMENTS, Stream, Test};
 use rl_plain::PlainText;
 use rl_rules::Group;
 use std::alloc::{AllocError, Global};
@@ -81,7 +81,7 @@ fn push_evaluations(
         }
         for span in &test.spans {
             if is_named(&span.group, group.name.as_str()) {
-                push_span(events, number, span)?;
+                push_steps(events, number, span.from, span.step, span.moments)?;
             }
         }
     }
@@ -103,29 +103,24 @@ fn push_by_interval(
     interval: u64,
     test: &Test,
 ) -> Result<(), AllocError> {
-    match test.checks.iter().map(|check| check.at).max() {
-        Some(to) => push_steps(events, number, 0, to, interval.saturating_mul(NANOSECONDS)),
-        None => Ok(()),
-    }
+    let Some(to) = test.checks.iter().map(|check| check.at).max() else {
+        return Ok(());
+    };
+    let step = interval.saturating_mul(NANOSECONDS);
+    let steps = to.checked_div(step).unwrap_or(0);
+    push_steps(events, number, 0, step, steps.saturating_add(1))
 }
 
-fn push_span(events: &mut Vec<Event>, number: usize, span: &Span) -> Result<(), AllocError> {
-    push_steps(events, number, span.from, span.to, span.step)
-}
-
-// Evaluates a group by a step, at as many moments as a ruler keeps of a group at most.
+// Evaluates a group at so many moments by a step, and at no more than a ruler keeps of a group.
 fn push_steps(
     events: &mut Vec<Event>,
     number: usize,
     from: u64,
-    to: u64,
     step: u64,
+    moments: u64,
 ) -> Result<(), AllocError> {
     let mut at = from;
-    for _ in 0..MOST_MOMENTS {
-        if at > to {
-            break;
-        }
+    for _ in 0..moments.min(MOST_MOMENTS) {
         push(events, at, What::Evaluation, number)?;
         at = at.saturating_add(step);
     }

@@ -5,7 +5,7 @@ use crate::stop::Stop;
 use rl_plain::{PlainText, TryCopy};
 use std::alloc::Global;
 
-// The most lines of a stream: about as many as a ruler's journal has room for.
+// The most lines of a test: about as many as a ruler's journal has room for.
 const MOST_LINES: u64 = 1_000_000;
 
 // The most lines at a moment.
@@ -13,21 +13,24 @@ const MOST_TIMES: i64 = 1_000;
 
 /// Adds the streams that a test has.
 pub(crate) fn push_streams(test: Part<'_>, streams: &mut Vec<Stream>) -> Result<(), Stop> {
+    let mut before = 0u64;
     for (index, item) in test.items("streams")?.iter().enumerate() {
         let part = test.item("streams", index, item)?;
-        let stream = read_stream(part)?;
+        let stream = read_stream(part, before)?;
+        before = before.saturating_add(stream.lines.len() as u64);
         streams.push(stream)?;
     }
     Ok(())
 }
 
-fn read_stream(part: Part<'_>) -> Result<Stream, Stop> {
+// Reads a stream of a test that has so many lines already.
+fn read_stream(part: Part<'_>, before: u64) -> Result<Stream, Stop> {
     part.only(&["labels", "late", "lines", "repeat"])?;
     if !part.has("labels") {
         return Err(part.key_fault("labels", "is missing"));
     }
     let late = part.time_or_none("late")?;
-    let lines = read_lines(part)?;
+    let lines = read_lines(part, before)?;
     let pairs = part.pairs("labels")?;
     let labels = part.labels_of("labels", pairs)?;
     if labels.pairs().is_empty() {
@@ -41,10 +44,10 @@ fn read_stream(part: Part<'_>) -> Result<Stream, Stop> {
 }
 
 // The lines of a stream: those that are written, and then those that repeat.
-fn read_lines(part: Part<'_>) -> Result<Vec<Line>, Stop> {
+fn read_lines(part: Part<'_>, before: u64) -> Result<Vec<Line>, Stop> {
     let mut lines = Vec::new(part.alloc);
     push_written(part, &mut lines)?;
-    push_repeated(part, &mut lines)?;
+    push_repeated(part, before, &mut lines)?;
     Ok(lines)
 }
 
@@ -81,10 +84,10 @@ fn push_line(part: Part<'_>, index: usize, line: &str, lines: &mut Vec<Line>) ->
     Ok(())
 }
 
-fn push_repeated(stream: Part<'_>, lines: &mut Vec<Line>) -> Result<(), Stop> {
+fn push_repeated(stream: Part<'_>, before: u64, lines: &mut Vec<Line>) -> Result<(), Stop> {
     for (index, item) in stream.items("repeat")?.iter().enumerate() {
         let part = stream.item("repeat", index, item)?;
-        let repeat = read_repeat(part, lines.len() as u64)?;
+        let repeat = read_repeat(part, before.saturating_add(lines.len() as u64))?;
         push_moments(part.alloc, repeat, lines)?;
     }
     Ok(())
@@ -100,7 +103,7 @@ struct Repeat<'a> {
     line: &'a str,
 }
 
-// What is repeated, where the stream has so many lines already.
+// What is repeated, where the test has so many lines already.
 fn read_repeat(part: Part<'_>, before: u64) -> Result<Repeat<'_>, Stop> {
     part.only(&["from", "to", "step", "line", "times"])?;
     let (from, to, step) = (part.time("from")?, part.time("to")?, part.step("step")?);
@@ -108,7 +111,7 @@ fn read_repeat(part: Part<'_>, before: u64) -> Result<Repeat<'_>, Stop> {
     let times = part.count("times", MOST_TIMES, "is no whole number from 1 to 1000")?;
     let moments = moments(part, from, to, step)?;
     if moments.saturating_mul(times).saturating_add(before) > MOST_LINES {
-        return Err(part.fault("the stream has more than 1000000 lines"));
+        return Err(part.fault("the test has more than 1000000 lines"));
     }
     Ok(Repeat {
         from,
