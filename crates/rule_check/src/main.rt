@@ -4,7 +4,8 @@
 //! - `faults`: each fault of a document, table by table. `keys`: what its tables have. `values`: what stands at a key.
 //!   `names`: names and labels. `queries`: the query of a rule. `no_toml`: a text that is no document.
 //! - `session`: what is told of the input of a session. `commands`: its command lines. `near`: words that are nearly the same.
-//! - `hint`: what a ruler has near a query that it refuses. `lint`: what is taken and looks like a mistake, `doubt` of it what would fail a rule.
+//! - `hint`: what a ruler has near a query that it refuses. `lint`: what is taken and looks like a mistake.
+//!   `doubt`: lines that would fail a rule.
 //! - `place`: where a fault is. `told`: what is told so far.
 #![tactic(auto)]
 
