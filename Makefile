@@ -32,6 +32,7 @@ scripts:
 	@scripts/run $(CHECKER)/out/rule_check scripts/check
 	@scripts/run $(TESTER)/out/rule_test scripts/tests
 	@scripts/run_examples $(TESTER)/out/rule_test $(PROGRAM)/out/rule_shell
+	@scripts/random_sessions $(PROGRAM)/out/rule_shell $(PROGRAM)/out/rule_shell.by-rattle
 	@scripts/run_filters
 	@scripts/index --check
 
