@@ -197,22 +197,43 @@ fn push_no_command(told: &mut Told, place: &Place<'_>, line: &str) -> Result<(),
         told.text.push_str("no command begins with a space\n")?;
         return Ok(());
     }
+    match wanted_of(word) {
+        Some(wanted) => {
+            writeln!(told.text, "{word} {wanted}")?;
+            Ok(())
+        }
+        None => push_no_word(&mut told.text, word),
+    }
+}
+
+// What a command wants behind its word, if it is one of a command.
+fn wanted_of(word: &str) -> Option<&'static str> {
     for (command, wanted) in WANTED {
         if command == word {
-            writeln!(told.text, "{word} {wanted}")?;
-            return Ok(());
+            return Some(wanted);
         }
     }
-    told.text.push_str("no command begins with ")?;
-    push_word(&mut told.text, word)?;
-    told.text.push('\n')?;
-    for (command, _) in WANTED {
-        if is_meant(command, word) {
-            writeln!(told.text, "  in its place: {command}")?;
-            return Ok(());
-        }
+    None
+}
+
+// A word that begins no command, and one that is near it.
+fn push_no_word(text: &mut String, word: &str) -> Result<(), Untold> {
+    text.push_str("no command begins with ")?;
+    push_word(text, word)?;
+    text.push('\n')?;
+    if let Some(command) = meant_by(word) {
+        writeln!(text, "  in its place: {command}")?;
     }
     Ok(())
+}
+
+fn meant_by(word: &str) -> Option<&'static str> {
+    for (command, _) in WANTED {
+        if is_meant(command, word) {
+            return Some(command);
+        }
+    }
+    None
 }
 
 // Whether a word may stand for one that is written. Behind a carriage return the line is told of that instead.

@@ -18,26 +18,40 @@ pub(crate) enum Doubt<'a> {
     Other(&'a str, &'static str),
 }
 
+// What is known behind some stages: whether one is a parser, and what is in doubt.
+#[derive(Clone, Copy)]
+struct Known<'a> {
+    is_parsed: bool,
+    doubt: Option<Doubt<'a>>,
+}
+
 /// The line that would be an error and stay, behind a parser, if there is one.
 pub(crate) fn doubt_of(alloc: Global, stages: &[Stage]) -> Result<Option<Doubt<'_>>, Untold> {
-    let mut doubt = None;
-    let mut parsed = false;
+    let mut known = Known {
+        is_parsed: false,
+        doubt: None,
+    };
     for stage in stages {
-        match stage {
-            Stage::Filter(_) => {}
-            Stage::Parser(Parser::Json) => {
-                doubt = Some(Doubt::Unread);
-                parsed = true;
-            }
-            Stage::Parser(Parser::Logfmt) => parsed = true,
-            Stage::Tests(tests) if parsed => {
-                let tests = leaves_of(alloc, tests)?;
-                doubt = behind_tests(alloc, doubt, tests.as_slice())?;
-            }
-            Stage::Tests(_) => {}
-        }
+        known = behind_stage(alloc, known, stage)?;
     }
-    Ok(doubt)
+    Ok(known.doubt)
+}
+
+fn behind_stage<'a>(
+    alloc: Global,
+    known: Known<'a>,
+    stage: &'a Stage,
+) -> Result<Known<'a>, Untold> {
+    let (is_parsed, doubt) = match stage {
+        Stage::Parser(Parser::Json) => (true, Some(Doubt::Unread)),
+        Stage::Parser(Parser::Logfmt) => (true, known.doubt),
+        Stage::Tests(tests) if known.is_parsed => {
+            let tests = leaves_of(alloc, tests)?;
+            (true, behind_tests(alloc, known.doubt, tests.as_slice())?)
+        }
+        Stage::Tests(_) | Stage::Filter(_) => (known.is_parsed, known.doubt),
+    };
+    Ok(Known { is_parsed, doubt })
 }
 
 // The tests that are joined, from left to right.

@@ -185,21 +185,31 @@ fn push_misfit(
     value: &Value,
 ) -> Result<(), Untold> {
     told.begin(place)?;
-    match value {
-        Value::String(text) if text.len() > LONGEST_SHOWN => {
-            write!(told.text, "{name} is a text of {} bytes", text.len())?;
-        }
-        Value::String(text) => {
-            write!(told.text, "{name} = ")?;
-            push_quoted(&mut told.text, text.as_str())?;
-        }
-        Value::Array(_) | Value::Table(_) => {
-            write!(told.text, "{name} is {}", kind_of(value))?;
-        }
-        _ => write!(told.text, "{name} = {value}")?,
-    }
+    push_shown(&mut told.text, name, value)?;
     told.text.push_str(", where ")?;
     Ok(())
+}
+
+// A key and its value as TOML writes it, or what it is where that is long.
+fn push_shown(shown: &mut String, name: &str, value: &Value) -> Result<(), Untold> {
+    match value {
+        Value::String(text) if text.len() > LONGEST_SHOWN => {
+            write!(shown, "{name} is a text of {} bytes", text.len())?;
+            Ok(())
+        }
+        Value::String(text) => {
+            write!(shown, "{name} = ")?;
+            push_quoted(shown, text.as_str())
+        }
+        Value::Array(_) | Value::Table(_) => {
+            write!(shown, "{name} is {}", kind_of(value))?;
+            Ok(())
+        }
+        _ => {
+            write!(shown, "{name} = {value}")?;
+            Ok(())
+        }
+    }
 }
 
 // What TOML calls a value.
