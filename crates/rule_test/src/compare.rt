@@ -1,130 +1,83 @@
 //! What a rule gave against what is wanted of it.
-use crate::document::{Check, Wanted};
+use crate::document::Check;
 use crate::events::is_named;
-use crate::rows::{Row, cause_name, sort_rows};
-use rl_labels::Ns;
+use crate::rows::{Outcome, Row, cause_name};
 use rl_plain::Shared;
-use rl_rules::{Cause, Evaluation, RuleOutcome, RuleResult};
+use rl_rules::{Evaluation, RuleOutcome, RuleResult};
 use std::alloc::{AllocError, Global};
 use std::cmp::Ordering;
 
-/// What the rules of a check gave at its moment. More than one may have its name.
-#[derive(Drop)]
-pub(crate) struct Answers {
-    /// Whether such a rule was evaluated.
-    pub(crate) is_there: bool,
-    failed: Option<Cause>,
-    // In the order of the label sets.
-    rows: Vec<Row>,
-}
-
-/// What the rules of a check gave, of these evaluations.
-pub(crate) fn answers_of(
+/// Adds what the rules of a check gave, of these evaluations. Whether such a rule was evaluated; more than one may have its name.
+pub(crate) fn push_given(
     alloc: Global,
+    given: &mut Outcome,
     check: &Check,
-    t: Ns,
     evaluations: &[Shared<Evaluation>],
-) -> Result<Answers, AllocError> {
-    let mut answers = Answers {
-        is_there: false,
-        failed: None,
-        rows: Vec::new(alloc),
-    };
+) -> Result<bool, AllocError> {
+    let mut is_there = false;
     for evaluation in evaluations {
-        add_evaluation(alloc, &mut answers, check, t, evaluation.get())?;
-    }
-    sort_rows(&mut answers.rows)?;
-    Ok(answers)
-}
-
-fn add_evaluation(
-    alloc: Global,
-    answers: &mut Answers,
-    check: &Check,
-    t: Ns,
-    evaluation: &Evaluation,
-) -> Result<(), AllocError> {
-    if evaluation.t != t || !is_named(&check.group, evaluation.group.as_str()) {
-        return Ok(());
-    }
-    for result in evaluation.outcomes.as_slice() {
-        if result.kind == check.kind && result.name == check.name {
-            answers.is_there = true;
-            add_result(alloc, answers, result)?;
+        let evaluation = evaluation.get();
+        if is_named(&check.group, evaluation.group.as_str()) {
+            for result in evaluation.outcomes.as_slice() {
+                if result.kind == check.kind && result.name == check.name {
+                    is_there = true;
+                    push_result(alloc, given, result)?;
+                }
+            }
         }
     }
-    Ok(())
+    given.sort()?;
+    Ok(is_there)
 }
 
-fn add_result(alloc: Global, answers: &mut Answers, own: &RuleResult) -> Result<(), AllocError> {
+fn push_result(alloc: Global, given: &mut Outcome, own: &RuleResult) -> Result<(), AllocError> {
     match &own.outcome {
         RuleOutcome::Samples(samples) => {
             for sample in samples.as_slice() {
-                answers.rows.push(Row::of_sample(alloc, sample)?)?;
+                given.rows.push(Row::of_sample(alloc, sample)?)?;
             }
         }
         RuleOutcome::Alerts(alerts) => {
             for alert in alerts.as_slice() {
                 let row = Row::of_alert(alloc, alert, &own.annotations)?;
-                answers.rows.push(row)?;
+                given.rows.push(row)?;
             }
         }
-        RuleOutcome::Failed(cause) => answers.failed = Some(*cause),
+        RuleOutcome::Failed(cause) => given.failed = Some(*cause),
     }
     Ok(())
 }
 
-/// Adds where answers differ from what is wanted.
+/// Adds both sides where they differ: label set by label set where both are rows.
 pub(crate) fn push_differences(
     text: &mut String,
-    wanted: &Wanted,
-    answers: &Answers,
+    wanted: &Outcome,
+    got: &Outcome,
 ) -> Result<(), AllocError> {
-    match (wanted, answers.failed) {
-        (Wanted::Rows(rows), None) => push_pairs(text, rows, &answers.rows),
-        (Wanted::Rows(_), Some(cause)) => {
-            push_wanted(text, wanted)?;
-            push_failed(text, "got", cause)
-        }
-        (Wanted::Failed(cause), Some(got)) if *cause == got => Ok(()),
-        (Wanted::Failed(_), Some(cause)) => {
-            push_wanted(text, wanted)?;
-            push_failed(text, "got", cause)
-        }
-        (Wanted::Failed(_), None) => {
-            push_wanted(text, wanted)?;
-            push_rows(text, "got", &answers.rows)
-        }
+    if wanted.failed.is_none() && got.failed.is_none() {
+        return push_pairs(text, &wanted.rows, &got.rows);
     }
+    if wanted.failed == got.failed {
+        return Ok(());
+    }
+    push_side(text, "wanted", wanted)?;
+    push_side(text, "got", got)
 }
 
-/// Adds what is wanted, and why there is nothing to compare it with.
-pub(crate) fn push_absence(
+/// Adds all of a side.
+pub(crate) fn push_side(
     text: &mut String,
-    wanted: &Wanted,
-    why: &str,
+    side: &str,
+    outcome: &Outcome,
 ) -> Result<(), AllocError> {
-    push_wanted(text, wanted)?;
-    writeln!(text, "  got     {why}")
-}
-
-fn push_wanted(text: &mut String, wanted: &Wanted) -> Result<(), AllocError> {
-    match wanted {
-        Wanted::Rows(rows) => push_rows(text, "wanted", rows),
-        Wanted::Failed(cause) => push_failed(text, "wanted", *cause),
+    if let Some(cause) = outcome.failed {
+        let cause = cause_name(cause);
+        return writeln!(text, "  {side:<7} failed {cause}");
     }
-}
-
-fn push_failed(text: &mut String, side: &str, cause: Cause) -> Result<(), AllocError> {
-    let cause = cause_name(cause);
-    writeln!(text, "  {side:<7} failed {cause}")
-}
-
-fn push_rows(text: &mut String, side: &str, rows: &[Row]) -> Result<(), AllocError> {
-    if rows.is_empty() {
+    if outcome.rows.is_empty() {
         return push_row(text, side, None, false);
     }
-    for row in rows {
+    for row in &outcome.rows {
         push_row(text, side, Some(row), true)?;
     }
     Ok(())
@@ -146,50 +99,44 @@ fn push_row(
     Ok(())
 }
 
-// Adds the rows of both sides that differ, by label sets. Both are in the order of these.
+// Adds the rows of both sides that differ. Both are in the order of the label sets.
 fn push_pairs(text: &mut String, wanted: &[Row], got: &[Row]) -> Result<(), AllocError> {
     let (mut wanted, mut got) = (wanted, got);
     for _ in 0..wanted.len().saturating_add(got.len()) {
-        let (has_wanted, has_got) = sides(wanted, got);
-        let one = first_if(has_wanted, wanted);
-        let other = first_if(has_got, got);
+        let order = order_of(wanted.first(), got.first());
+        let (one, wanted_behind) = front(wanted, order != Ordering::Greater);
+        let (other, got_behind) = front(got, order != Ordering::Less);
         if !is_met(one, other) {
             push_pair(text, one, other)?;
         }
-        wanted = rest_if(has_wanted, wanted);
-        got = rest_if(has_got, got);
+        wanted = wanted_behind;
+        got = got_behind;
     }
     Ok(())
 }
 
-// Which sides have the next label set.
-fn sides(wanted: &[Row], got: &[Row]) -> (bool, bool) {
-    match (wanted.first(), got.first()) {
-        (Some(one), Some(other)) => match one.labels.cmp(&other.labels) {
-            Ordering::Less => (true, false),
-            Ordering::Equal => (true, true),
-            Ordering::Greater => (false, true),
-        },
-        (one, other) => (one.is_some(), other.is_some()),
+// Which side has the next label set. One that is at its end comes behind the other.
+fn order_of(wanted: Option<&Row>, got: Option<&Row>) -> Ordering {
+    match (wanted, got) {
+        (Some(one), Some(other)) => one.labels.cmp(&other.labels),
+        (None, Some(_)) => Ordering::Greater,
+        (Some(_), None) => Ordering::Less,
+        (None, None) => Ordering::Equal,
     }
 }
 
-fn first_if(has: bool, rows: &[Row]) -> Option<&Row> {
-    if has { rows.first() } else { None }
-}
-
-fn rest_if(has: bool, rows: &[Row]) -> &[Row] {
+// The first row and those behind it, if it is to be taken.
+fn front(rows: &[Row], taken: bool) -> (Option<&Row>, &[Row]) {
     match rows {
-        [_, rest @ ..] if has => rest,
-        _ => rows,
+        [first, behind @ ..] if taken => (Some(first), behind),
+        _ => (None, rows),
     }
 }
 
 fn is_met(wanted: Option<&Row>, got: Option<&Row>) -> bool {
     match (wanted, got) {
         (Some(wanted), Some(got)) => wanted.is_met_by(got),
-        (None, None) => true,
-        _ => false,
+        (wanted, got) => wanted.is_none() && got.is_none(),
     }
 }
 

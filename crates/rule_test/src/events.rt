@@ -1,5 +1,6 @@
 //! All that happens in a test, in its order.
-use crate::document::{MOST_MOMENTS, Stream, Test};
+use crate::document::{MOST_MOMENTS, Test};
+use crate::part::Steps;
 use rl_plain::PlainText;
 use rl_rules::Group;
 use std::alloc::{AllocError, Global};
@@ -34,39 +35,36 @@ pub(crate) fn events_of(
     test: &Test,
 ) -> Result<Vec<Event>, AllocError> {
     let mut events = Vec::new(alloc);
-    push_lines(&mut events, &test.streams)?;
+    for (number, stream) in test.streams.iter().enumerate() {
+        for (index, line) in stream.lines.iter().enumerate() {
+            let at = line.moment.saturating_add(stream.late);
+            push(&mut events, at, What::Line, number, index)?;
+        }
+    }
     for (number, edit) in test.edits.iter().enumerate() {
-        push(&mut events, edit.at, What::Edit, number)?;
+        push(&mut events, edit.at, What::Edit, number, 0)?;
+    }
+    for (number, check) in test.checks.iter().enumerate() {
+        push(&mut events, check.at, What::Check, number, 0)?;
     }
     push_evaluations(&mut events, groups, test)?;
-    for (number, check) in test.checks.iter().enumerate() {
-        push(&mut events, check.at, What::Check, number)?;
-    }
     events.sort_unstable();
     Ok(events)
 }
 
-fn push(events: &mut Vec<Event>, at: u64, what: What, number: usize) -> Result<(), AllocError> {
+fn push(
+    events: &mut Vec<Event>,
+    at: u64,
+    what: What,
+    number: usize,
+    line: usize,
+) -> Result<(), AllocError> {
     events.push(Event {
         at,
         what,
         number,
-        line: 0,
+        line,
     })?;
-    Ok(())
-}
-
-fn push_lines(events: &mut Vec<Event>, streams: &[Stream]) -> Result<(), AllocError> {
-    for (number, stream) in streams.iter().enumerate() {
-        for (index, line) in stream.lines.iter().enumerate() {
-            events.push(Event {
-                at: line.moment.saturating_add(stream.late),
-                what: What::Line,
-                number,
-                line: index,
-            })?;
-        }
-    }
     Ok(())
 }
 
@@ -77,11 +75,11 @@ fn push_evaluations(
 ) -> Result<(), AllocError> {
     for (number, group) in groups.iter().enumerate() {
         if test.spans.is_empty() {
-            push_by_interval(events, number, group.interval, test)?;
+            push_steps(events, number, by_interval(group, test))?;
         }
         for span in &test.spans {
             if is_named(&span.group, group.name.as_str()) {
-                push_steps(events, number, span.from, span.step, span.moments)?;
+                push_steps(events, number, span.steps)?;
             }
         }
     }
@@ -96,33 +94,30 @@ pub(crate) fn is_named(group: &Option<PlainText>, name: &str) -> bool {
     }
 }
 
-// Evaluates a group at the start, and by its interval up to the last moment of a check.
-fn push_by_interval(
-    events: &mut Vec<Event>,
-    number: usize,
-    interval: u64,
-    test: &Test,
-) -> Result<(), AllocError> {
-    let Some(to) = test.checks.iter().map(|check| check.at).max() else {
-        return Ok(());
+// The start, and the moments by the interval of a group up to the last one at which something is wanted, if something is.
+fn by_interval(group: &Group, test: &Test) -> Steps {
+    let mut last = None;
+    for check in &test.checks {
+        last = last.max(Some(check.at));
+    }
+    let step = group.interval.saturating_mul(NANOSECONDS);
+    let count = match last {
+        Some(last) => last.checked_div(step).unwrap_or(0).saturating_add(1),
+        None => 0,
     };
-    let step = interval.saturating_mul(NANOSECONDS);
-    let steps = to.checked_div(step).unwrap_or(0);
-    push_steps(events, number, 0, step, steps.saturating_add(1))
+    Steps {
+        from: 0,
+        step,
+        count,
+    }
 }
 
-// Evaluates a group at so many moments by a step, and at no more than a ruler keeps of a group.
-fn push_steps(
-    events: &mut Vec<Event>,
-    number: usize,
-    from: u64,
-    step: u64,
-    moments: u64,
-) -> Result<(), AllocError> {
-    let mut at = from;
-    for _ in 0..moments.min(MOST_MOMENTS) {
-        push(events, at, What::Evaluation, number)?;
-        at = at.saturating_add(step);
+// Evaluates a group at moments, and at no more than a ruler keeps of a group.
+fn push_steps(events: &mut Vec<Event>, number: usize, steps: Steps) -> Result<(), AllocError> {
+    let mut at = steps.from;
+    for _ in 0..steps.count.min(MOST_MOMENTS) {
+        push(events, at, What::Evaluation, number, 0)?;
+        at = at.saturating_add(steps.step);
     }
     Ok(())
 }

@@ -1,6 +1,6 @@
 //! The rule tester: plays test files of rules, and tells where rules give something else than is wanted.
 //!
-//! `options` reads the command line. `document` reads a test file, with `part` for what stands at its keys, `streams` for lines,
+//! `options` reads the command line. `document` reads a test file, with `part` for a table and its keys, `streams` for lines,
 //! `rows` for what is wanted, and `number` for values. `events` puts what happens in order, `play` plays it to a ruler, and
 //! `compare` finds where a rule differs. `told` is what is printed, and `stop` why nothing is.
 #![tactic(auto)]
@@ -26,7 +26,7 @@ use std::alloc::Global;
 use std::io::ErrorKind;
 use std::process::ExitCode;
 use std::{fs, io};
-use stop::{Place, Stop, fault};
+use stop::{Stop, fault};
 use told::Told;
 
 fn main(rt: HostRuntime) -> ExitCode {
@@ -42,7 +42,8 @@ fn tell_stop(rt: &HostRuntime, stop: Stop) -> ExitCode {
     let (told, status) = match &stop {
         Stop::Help(text) => (print!(rt; "{text}"), 0),
         Stop::BadOptions => (eprintln!(rt; "rule_test: bad options"), 2),
-        Stop::Fault(text) => (eprintln!(rt; "rule_test: {text}"), 2),
+        Stop::Fault { place, what } if place.is_empty() => (eprintln!(rt; "rule_test: {what}"), 2),
+        Stop::Fault { place, what } => (eprintln!(rt; "rule_test: {place}: {what}"), 2),
         Stop::Unread(file) => (eprintln!(rt; "rule_test: {file} cannot be read"), 3),
         Stop::Memory => (eprintln!(rt; "rule_test: out of memory"), 3),
         Stop::Unwritten => (Ok(()), 3),
@@ -101,17 +102,9 @@ fn text_of(alloc: Global, file: &str, read: io::Result<String>) -> Result<String
         Ok(text) => Ok(text),
         Err(error) => match error.kind() {
             ErrorKind::OutOfMemory => Err(Stop::Memory),
-            ErrorKind::InvalidData => Err(file_fault(alloc, file, "no UTF-8 text")),
+            ErrorKind::InvalidData => Err(fault(format!(in alloc; "{file}: no UTF-8 text"))),
             _ => Err(Stop::Unread(format!(in alloc; "{file}")?)),
         },
-    }
-}
-
-// A fault of a file that is no test file.
-fn file_fault(alloc: Global, file: &str, what: &str) -> Stop {
-    match format!(in alloc; "{file}: {what}") {
-        Ok(what) => fault(alloc, Place::top(), what.as_str()),
-        Err(_) => Stop::Memory,
     }
 }
 
@@ -125,16 +118,9 @@ fn read_groups(
     let name = rules.as_str();
     let path = path_of(alloc, file, name)?;
     let text = text_of(alloc, name, fs::read_to_string(rt, path.as_str()))?;
-    groups_in(alloc, name, text.as_str())
-}
-
-fn groups_in(alloc: Global, name: &str, text: &str) -> Result<Vec<Group>, Stop> {
-    match read_rules(alloc, text) {
+    match read_rules(alloc, text.as_str()) {
         Ok(groups) => Ok(groups),
-        Err(RulesError::Fault(fault)) => {
-            let what = format!(in alloc; "{fault}")?;
-            Err(file_fault(alloc, name, what.as_str()))
-        }
+        Err(RulesError::Fault(what)) => Err(fault(format!(in alloc; "{name}: {what}"))),
         Err(RulesError::Memory) => Err(Stop::Memory),
     }
 }

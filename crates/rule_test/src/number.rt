@@ -89,8 +89,8 @@ pub(crate) fn are_equal(one: Fraction, other: Fraction) -> bool {
 /// A value that a rule gave, written in lowest terms.
 pub(crate) fn computed(alloc: Global, fraction: Fraction) -> Result<Number, AllocError> {
     let divisor = common_divisor(fraction.numerator, fraction.denominator);
-    let above = over(fraction.numerator, divisor);
-    let below = over(fraction.denominator, divisor);
+    let above = fraction.numerator.checked_div(divisor).unwrap_or(0);
+    let below = fraction.denominator.checked_div(divisor).unwrap_or(0);
     let text = if below == 1 {
         format!(in alloc; "{above}")?
     } else {
@@ -98,14 +98,6 @@ pub(crate) fn computed(alloc: Global, fraction: Fraction) -> Result<Number, Allo
     };
     let text = PlainText::from_string(text);
     Ok(Number { text, fraction })
-}
-
-// The number divided by another, and itself where that is 0.
-fn over(number: u128, divisor: u128) -> u128 {
-    match number.checked_div(divisor) {
-        Some(quotient) => quotient,
-        None => number,
-    }
 }
 
 // The greatest number that divides both, by Euclid's steps, of which 128 bits take fewer.

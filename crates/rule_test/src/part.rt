@@ -1,43 +1,63 @@
-//! A table of a test file, and what stands at its keys. What is missing or of another kind is a fault with its place.
+//! A table of a test file, and what stands at its keys. What is missing or of another kind is a fault.
 ghost use Rattle.std.specs.Prelude.{IfOk, IsTrue};
 ghost use Rattle.rl_labels.specs.EntryParts.{are_stream_labels};
 
-use crate::stop::{Place, Stop, fault, key_fault};
+use crate::stop::{Stop, fault};
 use rl_labels::{Duration, Labels, LabelsError};
 use rl_plain::PlainText;
+use rl_rules::RuleKind;
 use std::alloc::Global;
 use toml::{Table, Value};
 
 // The longest time, 30 days.
 const LONGEST: u64 = 2_592_000_000_000_000;
 
-/// A table with its place.
+/// A table, and what is known of it from around it.
 #[derive(Clone, Copy)]
 pub(crate) struct Part<'a> {
     pub(crate) alloc: Global,
     pub(crate) table: &'a Table,
-    pub(crate) place: Place,
+    /// The kind of the rules of which something is wanted, and their name where it is known.
+    pub(crate) kind: RuleKind,
+    pub(crate) rule: &'a str,
+}
+
+/// What an item of an array says.
+pub(crate) trait Item: Drop {
+    fn read(part: Part<'_>) -> Result<Self, Stop>;
+}
+
+/// Moments of a test, each so much behind the one before it.
+#[derive(Clone, Copy)]
+pub(crate) struct Steps {
+    pub(crate) from: u64,
+    pub(crate) step: u64,
+    pub(crate) count: u64,
 }
 
 impl<'a> Part<'a> {
-    /// A fault of this table.
     pub(crate) fn fault(self, what: &str) -> Stop {
-        fault(self.alloc, self.place, what)
+        fault(format!(in self.alloc; "{what}"))
     }
 
     /// A fault of a key.
     pub(crate) fn key_fault(self, key: &str, what: &str) -> Stop {
-        key_fault(self.alloc, self.place, key, what)
+        fault(format!(in self.alloc; "the key {key} {what}"))
     }
 
     /// Refuses a key that is none of these.
     pub(crate) fn only(self, keys: &[&str]) -> Result<(), Stop> {
         for (key, _) in self.table.iter() {
-            if !keys.iter().any(|known| *known == key.as_str()) {
+            if !(&*keys).contains(&key.as_str()) {
                 return Err(self.key_fault(key.as_str(), "is not known"));
             }
         }
         Ok(())
+    }
+
+    /// Whether the table has the key.
+    pub(crate) fn has(self, key: &str) -> bool {
+        self.table.get(key).is_some()
     }
 
     /// The text at a key, if there is one.
@@ -65,12 +85,12 @@ impl<'a> Part<'a> {
         Ok(PlainText::from_str(self.alloc, text)?)
     }
 
-    /// A copy of the text at a key, if there is one.
-    pub(crate) fn own_text_at(self, key: &str) -> Result<Option<PlainText>, Stop> {
-        match self.text(key)? {
-            Some(text) => Ok(Some(PlainText::from_str(self.alloc, text)?)),
-            None => Ok(None),
+    /// The name of a group, if one is given.
+    pub(crate) fn group(self) -> Result<Option<PlainText>, Stop> {
+        if self.has("group") {
+            return Ok(Some(self.own_text("group")?));
         }
+        Ok(None)
     }
 
     /// The time at a key that is wanted, in nanoseconds.
@@ -82,122 +102,107 @@ impl<'a> Part<'a> {
         }
     }
 
-    /// The time at a key, no time where there is none.
-    pub(crate) fn time_or_none(self, key: &str) -> Result<u64, Stop> {
-        match self.table.get(key) {
-            Some(_) => self.time(key),
-            None => Ok(0),
+    /// The moments at `from` and each `step` behind it, up to `to` itself.
+    pub(crate) fn steps(self) -> Result<Steps, Stop> {
+        let (from, to, step) = (self.time("from")?, self.time("to")?, self.time("step")?);
+        match (
+            to.checked_sub(from),
+            to.saturating_sub(from).checked_div(step),
+        ) {
+            (_, None) => Err(self.key_fault("step", "is no time above 0s")),
+            (None, _) => Err(self.fault("to is before from")),
+            (Some(_), Some(steps)) => Ok(Steps {
+                from,
+                step,
+                count: steps.saturating_add(1),
+            }),
         }
     }
 
-    /// The time at a key that is wanted, which is not zero.
-    pub(crate) fn step(self, key: &str) -> Result<u64, Stop> {
-        match self.time(key)? {
-            0 => Err(self.key_fault(key, "is no time above 0s")),
-            step => Ok(step),
+    /// Reads the items of the array at a key, none where there is none.
+    pub(crate) fn push_all<T: Item>(
+        self,
+        array: &'static str,
+        all: &mut Vec<T>,
+    ) -> Result<(), Stop> {
+        for (index, value) in self.items(array)?.iter().enumerate() {
+            match self.item(value) {
+                Ok(item) => all.push(item)?,
+                Err(stop) => return Err(stop.within(self.alloc, array, index)),
+            }
         }
+        Ok(())
     }
 
-    /// The whole number at a key from 1 to the most, 1 where there is none.
-    pub(crate) fn count(self, key: &str, most: i64, what: &str) -> Result<u64, Stop> {
-        match self.table.get(key) {
-            None => Ok(1),
-            Some(value) => match value.as_integer() {
-                Some(number) if number >= 1 && number <= most => Ok(number.cast_unsigned()),
-                _ => Err(self.key_fault(key, what)),
-            },
-        }
-    }
-
-    /// The items of the array at a key, none where there is none.
-    pub(crate) fn items(self, key: &str) -> Result<&'a [Value], Stop> {
-        match self.table.get(key) {
+    fn items(self, array: &str) -> Result<&'a [Value], Stop> {
+        match self.table.get(array) {
             None => Ok(&[]),
             Some(value) => match value.as_array() {
                 Some(items) => Ok(items.as_slice()),
-                None => Err(self.key_fault(key, "is no array of tables")),
+                None => Err(self.key_fault(array, "is no array of tables")),
             },
         }
     }
 
-    /// The table that an item of an array is.
-    pub(crate) fn item(
-        self,
-        key: &'static str,
-        index: usize,
-        item: &'a Value,
-    ) -> Result<Part<'a>, Stop> {
-        let place = self.place.within(key, index);
-        match item.as_table() {
-            Some(table) => Ok(Part {
+    fn item<T: Item>(self, value: &Value) -> Result<T, Stop> {
+        match value.as_table() {
+            Some(table) => T::read(Part {
                 alloc: self.alloc,
                 table,
-                place,
+                kind: self.kind,
+                rule: self.rule,
             }),
-            None => Err(fault(self.alloc, place, "this is no table")),
+            None => Err(self.fault("this is no table")),
         }
     }
 
-    /// Whether the table has the key.
-    pub(crate) fn has(self, key: &str) -> bool {
-        self.table.get(key).is_some()
-    }
-
-    /// The names and texts of the table at a key, none where there is none.
-    pub(crate) fn pairs(self, key: &str) -> Result<Vec<(PlainText, PlainText)>, Stop> {
-        match self.table.get(key) {
-            None => Ok(Vec::new(self.alloc)),
-            Some(value) => match value.as_table() {
-                Some(table) => self.pairs_in(key, table),
-                None => Err(self.key_fault(key, "is no table of texts")),
-            },
-        }
-    }
-
-    fn pairs_in(self, key: &str, table: &Table) -> Result<Vec<(PlainText, PlainText)>, Stop> {
+    /// The label set of the table at a key, with a name and a text where the table leaves that name out.
+    pub(crate) fn labels(self, key: &str, own: Option<(&str, &str)>) -> Result<Labels, Stop>
+        ensures { IfOk result (λ labels. IsTrue (are_stream_labels labels)) }
+    {
         let mut pairs = Vec::new(self.alloc);
+        self.push_pairs(key, &mut pairs)?;
+        if let Some((name, text)) = own {
+            if !has_name(&pairs, name) {
+                push_pair(&mut pairs, name, text)?;
+            }
+        }
+        match Labels::from_pairs(self.alloc, pairs) {
+            Ok(labels) => Ok(labels),
+            Err(LabelsError::Fault(what)) => Err(fault(format!(in self.alloc;
+                "the key {key} makes no label set: {what}"
+            ))),
+            Err(LabelsError::Memory) => Err(Stop::Memory),
+        }
+    }
+
+    fn push_pairs(self, key: &str, pairs: &mut Vec<(PlainText, PlainText)>) -> Result<(), Stop> {
+        let Some(value) = self.table.get(key) else {
+            return Ok(());
+        };
+        let Some(table) = value.as_table() else {
+            return Err(self.key_fault(key, "is no table of texts"));
+        };
         for (name, value) in table.iter() {
             match value.as_str() {
-                Some(text) => push_pair(&mut pairs, name.as_str(), text)?,
+                Some(text) => push_pair(pairs, name.as_str(), text)?,
                 None => return Err(self.key_fault(key, "is no table of texts")),
             }
         }
-        Ok(pairs)
-    }
-
-    /// The label set of pairs that stand at a key.
-    pub(crate) fn labels_of(
-        self,
-        key: &str,
-        pairs: Vec<(PlainText, PlainText)>,
-    ) -> Result<Labels, Stop>
-        ensures { IfOk result (λ labels. IsTrue (are_stream_labels labels)) }
-    {
-        match Labels::from_pairs(self.alloc, pairs) {
-            Ok(labels) => Ok(labels),
-            Err(error) => Err(self.labels_fault(key, error)),
-        }
-    }
-
-    fn labels_fault(self, key: &str, error: LabelsError) -> Stop {
-        match error {
-            LabelsError::Fault(fault) => match format!(in self.alloc;
-                "makes no label set: {fault}"
-            ) {
-                Ok(what) => self.key_fault(key, what.as_str()),
-                Err(_) => Stop::Memory,
-            },
-            LabelsError::Memory => Stop::Memory,
-        }
+        Ok(())
     }
 }
 
-/// Adds a name and a text.
-pub(crate) fn push_pair(
-    pairs: &mut Vec<(PlainText, PlainText)>,
-    name: &str,
-    text: &str,
-) -> Result<(), Stop> {
+fn has_name(pairs: &[(PlainText, PlainText)], name: &str) -> bool {
+    for pair in pairs {
+        if pair.0.as_str() == name {
+            return true;
+        }
+    }
+    false
+}
+
+fn push_pair(pairs: &mut Vec<(PlainText, PlainText)>, name: &str, text: &str) -> Result<(), Stop> {
     let alloc = *pairs.allocator();
     let name = PlainText::from_str(alloc, name)?;
     let text = PlainText::from_str(alloc, text)?;

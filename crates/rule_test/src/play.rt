@@ -3,9 +3,11 @@ ghost use Rattle.std.specs.Prelude.{◌≡◌, length, map, IfOk};
 ghost use Rattle.std.specs.List.{AllByRecursion};
 ghost use Rattle.rl_world.specs.BookCalls.{IsFresh};
 
-use crate::compare::{answers_of, push_absence, push_differences};
-use crate::document::{Check, Edit, Line, Stream, Test};
+use crate::compare::{push_differences, push_given, push_side};
+use crate::document::{Check, Edit, Test};
 use crate::events::{Event, What, events_of, is_named};
+use crate::rows::Outcome;
+use crate::streams::{Line, Stream};
 use crate::told::Told;
 use rl_chunks::MemStore;
 use rl_labels::{DEFAULT_LIMITS, Entry, Limits, Ns};
@@ -31,23 +33,19 @@ pub(crate) fn play(
     told: &mut Told,
 ) -> Result<(), AllocError> {
     let events = events_of(alloc, groups, test)?;
-    tell_spans(groups, test, told)?;
     let mut engine = ruler(alloc, groups)?;
+    tell_spans(&engine, test, told)?;
     play_events(alloc, &mut engine, groups, test, &events, told)
 }
 
 // Tells of evaluations that are asked for of groups that are not there.
-fn tell_spans(groups: &[Group], test: &Test, told: &mut Told) -> Result<(), AllocError> {
+fn tell_spans<E: Engine>(engine: &E, test: &Test, told: &mut Told) -> Result<(), AllocError> {
     for span in &test.spans {
-        if let Some(name) = &span.group {
-            if !groups.iter().any(|group| group.name == *name) {
-                told.refuse(
-                    test.name.as_str(),
-                    span.from,
-                    "evaluation of",
-                    name.as_str(),
-                    "NoSuchGroup",
-                )?;
+        if let Some(group) = &span.group {
+            let name = group.as_str();
+            if engine.group(name).is_none() {
+                let at = span.steps.from;
+                told.refuse(test.name.as_str(), at, "evaluation of", name, "NoSuchGroup")?;
             }
         }
     }
@@ -101,8 +99,14 @@ fn play_events<E: Engine>(
     events: &[Event],
     told: &mut Told,
 ) -> Result<(), AllocError> {
+    // What the groups gave at the moment of the event.
     let mut now = Vec::new(alloc);
+    let mut at = 0;
     for event in events {
+        if event.at > at {
+            at = event.at;
+            now.clear();
+        }
         match event.what {
             What::Line => play_line(alloc, engine, test, *event, told)?,
             What::Edit => play_edit(engine, test, *event, told)?,
@@ -199,7 +203,7 @@ fn put_group<E: Engine>(engine: &mut E, group: &Group) -> Result<Option<&'static
     }
 }
 
-// Evaluates a group, unless that was done at this moment. What it gave stands behind what the groups gave at the moment.
+// Evaluates a group, unless that was done at this moment.
 fn play_evaluation<E: Engine>(
     engine: &mut E,
     groups: &[Group],
@@ -212,13 +216,7 @@ fn play_evaluation<E: Engine>(
         return Ok(());
     };
     let name = group.name.as_str();
-    if now.iter().any(|evaluation| evaluation.get().t != t) {
-        now.clear();
-    }
-    if now
-        .iter()
-        .any(|evaluation| evaluation.get().group.as_str() == name)
-    {
+    if has_evaluation(now, name) {
         return Ok(());
     }
     match engine.evaluate(event.number, t) {
@@ -233,6 +231,15 @@ fn play_evaluation<E: Engine>(
     }
 }
 
+fn has_evaluation(evaluations: &[Shared<Evaluation>], name: &str) -> bool {
+    for evaluation in evaluations {
+        if evaluation.get().group.as_str() == name {
+            return true;
+        }
+    }
+    false
+}
+
 fn play_check(
     alloc: Global,
     groups: &[Group],
@@ -241,40 +248,45 @@ fn play_check(
     now: &[Shared<Evaluation>],
     told: &mut Told,
 ) -> Result<(), AllocError> {
-    let (Some(check), Some(t)) = (test.checks.get(event.number), moment_of(event.at, 0)) else {
+    let Some(check) = test.checks.get(event.number) else {
         return Ok(());
     };
-    let answers = answers_of(alloc, check, t, now)?;
     let mut differences = String::new(alloc);
-    if answers.is_there {
-        push_differences(&mut differences, &check.wanted, &answers)?;
+    let mut given = Outcome::new(alloc);
+    if push_given(alloc, &mut given, check, now)? {
+        push_differences(&mut differences, &check.wanted, &given)?;
     } else {
-        let why = if is_known(check, groups, &test.edits) {
-            "no evaluation"
-        } else {
-            "no such rule"
-        };
-        push_absence(&mut differences, &check.wanted, why)?;
+        let why = why_absent(check, groups, &test.edits);
+        push_side(&mut differences, "wanted", &check.wanted)?;
+        writeln!(&mut differences, "  got     {why}")?;
     }
     told.check(test.name.as_str(), check, differences.as_str())
 }
 
-// Whether a group has the rule of a check, from the start on or by an edit.
-fn is_known(check: &Check, groups: &[Group], edits: &[Edit]) -> bool {
-    has_rule(check, groups) || edits.iter().any(|edit| has_rule(check, &edit.groups))
+// Why a rule gave nothing: it was not evaluated, or no group has it, neither from the start on nor by an edit.
+fn why_absent(check: &Check, groups: &[Group], edits: &[Edit]) -> &'static str {
+    let mut is_known = has_rule(check, groups);
+    for edit in edits {
+        is_known = is_known || has_rule(check, &edit.groups);
+    }
+    if is_known {
+        "no evaluation"
+    } else {
+        "no such rule"
+    }
 }
 
 fn has_rule(check: &Check, groups: &[Group]) -> bool {
-    groups.iter().any(|group| is_group_with(check, group))
-}
-
-fn is_group_with(check: &Check, group: &Group) -> bool {
-    is_named(&check.group, group.name.as_str())
-        && group
-            .rules
-            .as_slice()
-            .iter()
-            .any(|rule| rule.kind == check.kind && rule.name == check.name)
+    for group in groups {
+        if is_named(&check.group, group.name.as_str()) {
+            for rule in group.rules.as_slice() {
+                if rule.kind == check.kind && rule.name == check.name {
+                    return true;
+                }
+            }
+        }
+    }
+    false
 }
 
 // The name under which a line is refused, if it is.

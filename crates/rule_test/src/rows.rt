@@ -1,7 +1,6 @@
 //! Alerts and samples as rows: those that are wanted, as a test file has them, and those that a rule gave.
-use crate::document::{Check, Wanted};
 use crate::number::{Number, are_equal, computed, number_in};
-use crate::part::{Part, push_pair};
+use crate::part::{Item, Part};
 use crate::stop::Stop;
 use rl_aggregate::Sample;
 use rl_labels::Labels;
@@ -9,6 +8,14 @@ use rl_plain::TryCopy;
 use rl_rules::stepping::{ALERT_LABEL, NAME_LABEL};
 use rl_rules::{Alert, Cause, Phase, RuleKind};
 use std::alloc::{AllocError, Global};
+
+/// What a rule gives, or is to give.
+#[derive(Drop)]
+pub(crate) struct Outcome {
+    pub(crate) failed: Option<Cause>,
+    /// In the order of the label sets.
+    pub(crate) rows: Vec<Row>,
+}
 
 /// An alert or a sample. Of what is wanted it has no state, value or annotations where these are not looked at.
 #[derive(Drop)]
@@ -19,6 +26,22 @@ pub(crate) struct Row {
     pub(crate) annotations: Option<Labels>,
 }
 
+impl Outcome {
+    /// No rows.
+    pub(crate) fn new(alloc: Global) -> Outcome {
+        Outcome {
+            failed: None,
+            rows: Vec::new(alloc),
+        }
+    }
+
+    /// Puts rows in the order of their label sets. Those with one label set stay in their order.
+    pub(crate) fn sort(&mut self) -> Result<(), AllocError> {
+        self.rows
+            .sort_by(|row, other| row.labels.cmp(&other.labels))
+    }
+}
+
 impl Row {
     /// The row of an alert.
     pub(crate) fn of_alert(
@@ -26,27 +49,27 @@ impl Row {
         alert: &Alert,
         annotations: &Labels,
     ) -> Result<Row, AllocError> {
-        let labels = alert.labels.try_copy()?;
-        let annotations = annotations.try_copy()?;
-        let value = computed(alloc, alert.value)?;
-        Ok(Row {
-            labels,
+        let mut row = Row {
+            labels: alert.labels.try_copy()?,
             state: Some(alert.phase),
-            value: Some(value),
-            annotations: Some(annotations),
-        })
+            value: None,
+            annotations: None,
+        };
+        row.annotations = Some(annotations.try_copy()?);
+        row.value = Some(computed(alloc, alert.value)?);
+        Ok(row)
     }
 
     /// The row of a sample, which has no annotations.
     pub(crate) fn of_sample(alloc: Global, sample: &Sample) -> Result<Row, AllocError> {
-        let labels = sample.labels.try_copy()?;
-        let value = computed(alloc, sample.value)?;
-        Ok(Row {
-            labels,
+        let mut row = Row {
+            labels: sample.labels.try_copy()?,
             state: None,
-            value: Some(value),
+            value: None,
             annotations: None,
-        })
+        };
+        row.value = Some(computed(alloc, sample.value)?);
+        Ok(row)
     }
 
     /// Adds the state, the label text and the value, each where the row has one, and the annotations where they are told.
@@ -67,149 +90,65 @@ impl Row {
 
     /// Whether the other is all that is wanted by this.
     pub(crate) fn is_met_by(&self, other: &Row) -> bool {
-        self.state == other.state && self.has_value_of(other) && self.has_annotations_of(other)
-    }
-
-    fn has_value_of(&self, other: &Row) -> bool {
-        match (&self.value, &other.value) {
+        let value = match (&self.value, &other.value) {
             (Some(wanted), Some(got)) => are_equal(wanted.fraction, got.fraction),
-            (None, _) => true,
-            (Some(_), None) => false,
-        }
-    }
-
-    fn has_annotations_of(&self, other: &Row) -> bool {
-        match (&self.annotations, &other.annotations) {
-            (Some(wanted), Some(got)) => wanted == got,
-            (None, _) => true,
-            (Some(_), None) => false,
-        }
-    }
-}
-
-/// Sorts rows by their label sets. Those with one label set stay in their order.
-pub(crate) fn sort_rows(rows: &mut Vec<Row>) -> Result<(), AllocError> {
-    rows.sort_by(|row, other| row.labels.cmp(&other.labels))
-}
-
-/// Adds what a test wants of its alerting rules, which stands at `alerts`, or of its recording rules, at `samples`.
-pub(crate) fn push_checks(
-    test: Part<'_>,
-    kind: RuleKind,
-    checks: &mut Vec<Check>,
-) -> Result<(), Stop> {
-    let key = match kind {
-        RuleKind::Alerting => "alerts",
-        RuleKind::Recording => "samples",
-    };
-    for (index, item) in test.items(key)?.iter().enumerate() {
-        let part = test.item(key, index, item)?;
-        let check = read_check(part, kind)?;
-        checks.push(check)?;
-    }
-    Ok(())
-}
-
-fn read_check(part: Part<'_>, kind: RuleKind) -> Result<Check, Stop> {
-    let key = match kind {
-        RuleKind::Alerting => "alert",
-        RuleKind::Recording => "record",
-    };
-    part.only(&["at", key, "group", "wanted", "failed"])?;
-    let at = part.time("at")?;
-    let moment = part.own_text("at")?;
-    let name = part.own_text(key)?;
-    let group = part.own_text_at("group")?;
-    let wanted = read_wanted(part, kind, name.as_str())?;
-    Ok(Check {
-        kind,
-        name,
-        group,
-        at,
-        moment,
-        wanted,
-    })
-}
-
-fn read_wanted(part: Part<'_>, kind: RuleKind, name: &str) -> Result<Wanted, Stop> {
-    match (part.has("wanted"), part.text("failed")?) {
-        (true, None) => {
-            let mut rows = Vec::new(part.alloc);
-            push_wanted(part, kind, name, &mut rows)?;
-            sort_rows(&mut rows)?;
-            Ok(Wanted::Rows(rows))
-        }
-        (false, Some(text)) => match cause_in(text) {
-            Some(cause) => Ok(Wanted::Failed(cause)),
-            None => Err(part.key_fault(
-                "failed",
-                "is none of PipelineError, SameLabels and LimitExceeded",
-            )),
-        },
-        (true, Some(_)) => Err(part.fault("the keys wanted and failed stand both")),
-        (false, None) => Err(part.fault("the key wanted or failed is missing")),
-    }
-}
-
-fn push_wanted(
-    check: Part<'_>,
-    kind: RuleKind,
-    name: &str,
-    rows: &mut Vec<Row>,
-) -> Result<(), Stop> {
-    for (index, item) in check.items("wanted")?.iter().enumerate() {
-        let part = check.item("wanted", index, item)?;
-        let row = match kind {
-            RuleKind::Alerting => read_alert(part, name)?,
-            RuleKind::Recording => read_sample(part, name)?,
+            (wanted, _) => wanted.is_none(),
         };
-        rows.push(row)?;
+        let annotations = match (&self.annotations, &other.annotations) {
+            (Some(wanted), Some(got)) => wanted == got,
+            (wanted, _) => wanted.is_none(),
+        };
+        self.state == other.state && value && annotations
     }
-    Ok(())
 }
 
-fn read_alert(part: Part<'_>, name: &str) -> Result<Row, Stop> {
-    part.only(&["state", "labels", "value", "annotations"])?;
-    let state = Some(read_state(part)?);
-    let value = read_value(part)?;
-    let annotations = read_annotations(part)?;
-    let labels = read_labels(part, ALERT_LABEL, name)?;
-    Ok(Row {
-        labels,
-        state,
-        value,
-        annotations,
-    })
-}
-
-fn read_sample(part: Part<'_>, name: &str) -> Result<Row, Stop> {
-    part.only(&["labels", "value"])?;
-    let value = read_value(part)?;
-    let labels = read_labels(part, NAME_LABEL, name)?;
-    Ok(Row {
-        labels,
-        state: None,
-        value,
-        annotations: None,
-    })
-}
-
-// The labels of a row, with the name of its rule where they have none.
-fn read_labels(part: Part<'_>, label: &str, name: &str) -> Result<Labels, Stop> {
-    let mut pairs = part.pairs("labels")?;
-    if !pairs.iter().any(|pair| pair.0.as_str() == label) {
-        push_pair(&mut pairs, label, name)?;
+/// Reads what is wanted of a rule: all its rows, or why it fails.
+pub(crate) fn push_wanted(check: Part<'_>, wanted: &mut Outcome) -> Result<(), Stop> {
+    match (check.has("wanted"), check.text("failed")?) {
+        (true, None) => {
+            check.push_all("wanted", &mut wanted.rows)?;
+            wanted.sort()?;
+            Ok(())
+        }
+        (false, Some(text)) => {
+            wanted.failed = cause_in(text);
+            match wanted.failed {
+                Some(_) => Ok(()),
+                None => Err(check.key_fault(
+                    "failed",
+                    "is none of PipelineError, SameLabels and LimitExceeded",
+                )),
+            }
+        }
+        (true, Some(_)) => Err(check.fault("the keys wanted and failed stand both")),
+        (false, None) => Err(check.fault("the key wanted or failed is missing")),
     }
-    part.labels_of("labels", pairs)
 }
 
-fn read_annotations(part: Part<'_>) -> Result<Option<Labels>, Stop> {
-    if !part.has("annotations") {
-        return Ok(None);
+impl Item for Row {
+    fn read(part: Part<'_>) -> Result<Self, Stop> {
+        let (label, state) = match part.kind {
+            RuleKind::Alerting => {
+                part.only(&["state", "labels", "value", "annotations"])?;
+                (ALERT_LABEL, Some(read_state(part)?))
+            }
+            RuleKind::Recording => {
+                part.only(&["labels", "value"])?;
+                (NAME_LABEL, None)
+            }
+        };
+        let mut row = Row {
+            labels: part.labels("labels", Some((label, part.rule)))?,
+            state,
+            value: None,
+            annotations: None,
+        };
+        if part.has("annotations") {
+            row.annotations = Some(part.labels("annotations", None)?);
+        }
+        row.value = read_value(part)?;
+        Ok(row)
     }
-    let pairs = part.pairs("annotations")?;
-    let labels = part.labels_of("annotations", pairs)?;
-    Ok(Some(labels))
 }
 
 fn read_state(part: Part<'_>) -> Result<Phase, Stop> {

@@ -1,69 +1,85 @@
 //! The streams of a test, and their lines.
-use crate::document::{Line, Stream, moments};
-use crate::part::{Part, nanoseconds_in};
+ghost use Rattle.std.specs.Prelude.{IsTrue};
+ghost use Rattle.rl_labels.specs.EntryParts.{are_stream_labels};
+
+use crate::part::{Item, Part, Steps, nanoseconds_in};
 use crate::stop::Stop;
+use rl_labels::Labels;
 use rl_plain::{PlainText, TryCopy};
 use std::alloc::Global;
 
 // The most lines of a test: about as many as a ruler's journal has room for.
 const MOST_LINES: u64 = 1_000_000;
 
-// The most lines at a moment.
-const MOST_TIMES: i64 = 1_000;
-
-/// Adds the streams that a test has.
-pub(crate) fn push_streams(test: Part<'_>, streams: &mut Vec<Stream>) -> Result<(), Stop> {
-    let mut before = 0u64;
-    for (index, item) in test.items("streams")?.iter().enumerate() {
-        let part = test.item("streams", index, item)?;
-        let stream = read_stream(part, before)?;
-        before = before.saturating_add(stream.lines.len() as u64);
-        streams.push(stream)?;
-    }
-    Ok(())
+/// The lines of a stream, each of which arrives so much later than its time.
+#[derive(Drop)]
+pub(crate) struct Stream {
+    pub(crate) labels: Labels,
+    pub(crate) late: u64,
+    pub(crate) lines: Vec<Line>,
+    // What stands for more lines, until it is written out.
+    repeats: Vec<Repeat>,
+    ghost of_stream: { IsTrue (are_stream_labels labels) },
 }
 
-// Reads a stream of a test that has so many lines already.
-fn read_stream(part: Part<'_>, before: u64) -> Result<Stream, Stop> {
-    part.only(&["labels", "late", "lines", "repeat"])?;
-    if !part.has("labels") {
-        return Err(part.key_fault("labels", "is missing"));
-    }
-    let late = part.time_or_none("late")?;
-    let lines = read_lines(part, before)?;
-    let pairs = part.pairs("labels")?;
-    let labels = part.labels_of("labels", pairs)?;
-    if labels.pairs().is_empty() {
-        return Err(part.key_fault("labels", "has no label with a value"));
-    }
-    Ok(Stream {
-        labels,
-        late,
-        lines,
-    })
+/// A line, whose time lies so little before its moment.
+#[derive(Drop)]
+pub(crate) struct Line {
+    pub(crate) moment: u64,
+    pub(crate) before: u64,
+    pub(crate) text: PlainText,
 }
 
-// The lines of a stream: those that are written, and then those that repeat.
-fn read_lines(part: Part<'_>, before: u64) -> Result<Vec<Line>, Stop> {
-    let mut lines = Vec::new(part.alloc);
-    push_written(part, &mut lines)?;
-    push_repeated(part, before, &mut lines)?;
-    Ok(lines)
+// So many lines at each moment.
+#[derive(Drop)]
+struct Repeat {
+    steps: Steps,
+    times: u64,
+    line: PlainText,
+}
+
+impl Item for Stream {
+    fn read(part: Part<'_>) -> Result<Self, Stop> {
+        part.only(&["labels", "late", "lines", "repeat"])?;
+        if !part.has("labels") {
+            return Err(part.key_fault("labels", "is missing"));
+        }
+        let late = if part.has("late") {
+            part.time("late")?
+        } else {
+            0
+        };
+        let labels = part.labels("labels", None)?;
+        if labels.pairs().is_empty() {
+            return Err(part.key_fault("labels", "has no label with a value"));
+        }
+        let mut stream = Stream {
+            labels,
+            late,
+            lines: Vec::new(part.alloc),
+            repeats: Vec::new(part.alloc),
+        };
+        push_written(part, &mut stream.lines)?;
+        part.push_all("repeat", &mut stream.repeats)?;
+        Ok(stream)
+    }
 }
 
 fn push_written(part: Part<'_>, lines: &mut Vec<Line>) -> Result<(), Stop> {
-    let text = match part.text("lines")? {
-        Some(text) => text,
-        None => "",
+    let Some(text) = part.text("lines")? else {
+        return Ok(());
     };
     for (index, line) in text.lines().enumerate() {
-        push_line(part, index, line.trim_start(), lines)?;
+        match push_line(part, line.trim_start(), lines) {
+            Ok(()) => (),
+            Err(stop) => return Err(stop.within(part.alloc, "line", index)),
+        }
     }
     Ok(())
 }
 
 // Adds a line, unless it is blank.
-fn push_line(part: Part<'_>, index: usize, line: &str, lines: &mut Vec<Line>) -> Result<(), Stop> {
+fn push_line(part: Part<'_>, line: &str, lines: &mut Vec<Line>) -> Result<(), Stop> {
     if line.is_empty() {
         return Ok(());
     }
@@ -72,8 +88,7 @@ fn push_line(part: Part<'_>, index: usize, line: &str, lines: &mut Vec<Line>) ->
         None => (line, ""),
     };
     let Some(moment) = nanoseconds_in(time) else {
-        let place = part.place.within("line", index);
-        return Err(Part { place, ..part }.fault("it begins with no time from 0s to 720h"));
+        return Err(part.fault("it begins with no time from 0s to 720h"));
     };
     let text = PlainText::from_str(part.alloc, text.trim_start())?;
     lines.push(Line {
@@ -84,51 +99,53 @@ fn push_line(part: Part<'_>, index: usize, line: &str, lines: &mut Vec<Line>) ->
     Ok(())
 }
 
-fn push_repeated(stream: Part<'_>, before: u64, lines: &mut Vec<Line>) -> Result<(), Stop> {
-    for (index, item) in stream.items("repeat")?.iter().enumerate() {
-        let part = stream.item("repeat", index, item)?;
-        let repeat = read_repeat(part, before.saturating_add(lines.len() as u64))?;
-        push_moments(part.alloc, repeat, lines)?;
+impl Item for Repeat {
+    fn read(part: Part<'_>) -> Result<Self, Stop> {
+        part.only(&["from", "to", "step", "line", "times"])?;
+        let steps = part.steps()?;
+        let times = match part.table.get("times") {
+            None => 1,
+            Some(value) => match value.as_integer() {
+                Some(number) if number >= 1 && number <= 1_000 => number.cast_unsigned(),
+                _ => return Err(part.key_fault("times", "is no whole number from 1 to 1000")),
+            },
+        };
+        let line = part.own_text("line")?;
+        Ok(Repeat { steps, times, line })
+    }
+}
+
+/// Writes out the lines of a test that are repeated, where these and the others are not too many.
+pub(crate) fn expand(test: Part<'_>, streams: &mut Vec<Stream>) -> Result<(), Stop> {
+    let mut lines = 0u64;
+    for stream in streams.iter() {
+        lines = lines.saturating_add(count_lines(stream));
+    }
+    if lines > MOST_LINES {
+        return Err(test.key_fault("streams", "has more than 1000000 lines"));
+    }
+    for stream in streams.iter_mut() {
+        for repeat in &stream.repeats {
+            push_moments(test.alloc, repeat, &mut stream.lines)?;
+        }
     }
     Ok(())
 }
 
-// Moments, and the lines at each.
-#[derive(Clone, Copy)]
-struct Repeat<'a> {
-    from: u64,
-    step: u64,
-    moments: u64,
-    times: u64,
-    line: &'a str,
-}
-
-// What is repeated, where the test has so many lines already.
-fn read_repeat(part: Part<'_>, before: u64) -> Result<Repeat<'_>, Stop> {
-    part.only(&["from", "to", "step", "line", "times"])?;
-    let (from, to, step) = (part.time("from")?, part.time("to")?, part.step("step")?);
-    let line = part.wanted_text("line")?;
-    let times = part.count("times", MOST_TIMES, "is no whole number from 1 to 1000")?;
-    let moments = moments(part, from, to, step)?;
-    if moments.saturating_mul(times).saturating_add(before) > MOST_LINES {
-        return Err(part.fault("the test has more than 1000000 lines"));
+fn count_lines(stream: &Stream) -> u64 {
+    let mut lines = stream.lines.len() as u64;
+    for repeat in &stream.repeats {
+        lines = lines.saturating_add(repeat.steps.count.saturating_mul(repeat.times));
     }
-    Ok(Repeat {
-        from,
-        step,
-        moments,
-        times,
-        line,
-    })
+    lines
 }
 
-fn push_moments(alloc: Global, repeat: Repeat<'_>, lines: &mut Vec<Line>) -> Result<(), Stop> {
-    for index in 0..repeat.moments {
-        let moment = repeat
-            .from
-            .saturating_add(index.saturating_mul(repeat.step));
+fn push_moments(alloc: Global, repeat: &Repeat, lines: &mut Vec<Line>) -> Result<(), Stop> {
+    let steps = repeat.steps;
+    for index in 0..steps.count {
+        let moment = steps.from.saturating_add(index.saturating_mul(steps.step));
         let number = format!(in alloc; "{}", index.saturating_add(1))?;
-        let text = repeat.line.replace(alloc, "{n}", number.as_str())?;
+        let text = repeat.line.as_str().replace(alloc, "{n}", number.as_str())?;
         push_times(moment, repeat.times, PlainText::from_string(text), lines)?;
     }
     Ok(())

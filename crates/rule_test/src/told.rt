@@ -49,12 +49,14 @@ impl Told {
         }
         self.failed = self.failed.saturating_add(1);
         let text = &mut self.text;
-        let (moment, name) = (&check.moment, &check.name);
+        let name = &check.name;
         let kind = match check.kind {
             RuleKind::Alerting => "alert",
             RuleKind::Recording => "record",
         };
-        write!(text, "{test}, at {moment}, {kind} {name}")?;
+        write!(text, "{test}, at ")?;
+        push_time(text, check.at)?;
+        write!(text, ", {kind} {name}")?;
         if let Some(group) = &check.group {
             write!(text, " of {group}")?;
         }
