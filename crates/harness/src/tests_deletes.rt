@@ -1,13 +1,15 @@
-//! A shard over a store that refuses a call of a removal, which is then asked for again.
+//! A shard over a store that refuses a call of a removal, which is then asked for again; and what faults of requests say.
 use crate::tests_given::{Failing, is, one};
 use rl_aggregate::Partial;
 use rl_chunks::StoreFault;
+use rl_deletes::{CancelFault, ProcessFault, ReceiveFault};
 use rl_labels::{DEFAULT_LIMITS, Limits, Ns};
 use rl_plain::{PlainList, Shared};
 use rl_query::{Term, parse, parse_delete};
 use rl_session::read_push;
 use rl_shard::{Shard, ShardFault, ShardReply, ShardStep};
 use std::alloc::Global;
+use std::fmt::Display;
 use std::process::Abort;
 
 // Lines that are flushed, a chunk for each stream.
@@ -319,4 +321,40 @@ fn what_was_to_be_removed_is_shown_again(rt: HostRuntime) {
             None => is(&rt, "no shard", "a shard", refused),
         }
     }
+}
+
+const RECEIVING: [(ReceiveFault, &str); 2] = [
+    (
+        ReceiveFault::IdTaken,
+        "the number is that of another request, or of one that was cancelled or processed",
+    ),
+    (ReceiveFault::Full, "there are 65536 requests"),
+];
+
+const CANCELLING: [(CancelFault, &str); 2] = [
+    (CancelFault::NoSuchRequest, "no request has the number"),
+    (CancelFault::AlreadyProcessed, "the request was processed"),
+];
+
+const PROCESSING: [(ProcessFault, &str); 3] = [
+    (ProcessFault::NoSuchRequest, "no request has the number"),
+    (ProcessFault::WasCancelled, "the request was cancelled"),
+    (ProcessFault::TooEarly, "the request can still be cancelled"),
+];
+
+fn say<F: Display>(rt: &impl Abort, alloc: Global, faults: &[(F, &str)]) {
+    for (fault, want) in faults {
+        match format!(in alloc; "{fault}") {
+            Ok(text) => is(rt, text.as_str(), *want, 0),
+            Err(_) => is(rt, "no text", *want, 0),
+        }
+    }
+}
+
+// No program tells these.
+#[test]
+fn faults_of_requests_have_texts(rt: HostRuntime) {
+    say(&rt, rt.alloc(), &RECEIVING);
+    say(&rt, rt.alloc(), &CANCELLING);
+    say(&rt, rt.alloc(), &PROCESSING);
 }

@@ -1,5 +1,5 @@
-//! Stores: what they have, what spoils it, and folders that are missing, blocked or cut by hand.
-use crate::tests_given::is;
+//! Stores: what they have, what spoils it, and folders that are missing, blocked, no folders, or cut by hand.
+use crate::tests_given::{Failing, is};
 use rl_chunks::{DirStore, MemStore, Spoil, SpoilStore, Store, StoreFault};
 use rl_plain::{PlainList, PlainText};
 use std::alloc::Global;
@@ -96,6 +96,24 @@ fn a_plan_spoils_the_reads_that_it_names(rt: HostRuntime) {
     }
 }
 
+fn is_refused(rt: &impl Abort, alloc: Global, refused: u64) {
+    let inner = Failing::new(alloc, refused, StoreFault::Fault);
+    let mut store = SpoilStore::new(inner, PlainList::new(alloc));
+    let stored = put(&mut store, alloc, 0, b"abc");
+    is(rt, stored == Err(StoreFault::Fault), refused == 0, 0);
+    let found = store.get(0);
+    is(rt, matches!(found, Err(StoreFault::Fault)), refused == 1, 1);
+    let removed = store.remove(0);
+    is(rt, removed == Err(StoreFault::Fault), refused == 2, 2);
+}
+
+#[test]
+fn a_fault_of_the_other_store_is_told(rt: HostRuntime) {
+    for refused in 0..3 {
+        is_refused(&rt, rt.alloc(), refused);
+    }
+}
+
 fn store_in<R: Files + Drop>(
     rt: R,
     alloc: Global,
@@ -115,6 +133,7 @@ fn file_has(rt: &(impl Abort + Alloc + Files), name: &str, want: &[u8]) {
 fn is_in_files<R: Abort + Alloc + Files + Drop>(rt: &R, alloc: Global, store: &mut DirStore<R>) {
     keeps(rt, alloc, store);
     file_has(rt, "stores_of_a_test/7", b"abcdef");
+    file_has(rt, "stores_of_a_test/18446744073709551615", b"");
     is(rt, fs::read(rt, "stores_of_a_test/7.new").is_err(), true, 0);
     let written = fs::write(rt, "stores_of_a_test/7", b"ab".as_slice());
     is(rt, written.is_ok(), true, 1);
@@ -166,4 +185,47 @@ fn a_folder_that_is_missing_is_a_fault(rt: HostRuntime) {
         Ok(mut store) => is_missing(&rt, rt.alloc(), &mut store),
         Err(fault) => is(&rt, Err(fault), Ok(()), 0),
     }
+}
+
+fn is_no_folder<R: Abort + Files + Drop>(rt: &R, alloc: Global, store: &mut DirStore<R>) {
+    let stored = put(store, alloc, 0, b"abc");
+    let found = matches!(store.get(0), Err(StoreFault::Fault));
+    let removed = store.remove(0);
+    let fault = Err(StoreFault::Fault);
+    is(rt, (stored, found, removed), (fault, true, fault), 0);
+    is(rt, (store.reads(), store.faults()), (1, 3), 1);
+}
+
+#[test]
+fn a_file_in_the_place_of_a_folder_is_a_fault(rt: HostRuntime) {
+    let written = fs::write(&rt, "file_of_a_test", b"".as_slice());
+    is(&rt, written.is_ok(), true, 0);
+    match store_in(rt, rt.alloc(), "file_of_a_test") {
+        Ok(mut store) => is_no_folder(&rt, rt.alloc(), &mut store),
+        Err(fault) => is(&rt, Err(fault), Ok(()), 1),
+    }
+    is(&rt, fs::remove_file(&rt, "file_of_a_test").is_ok(), true, 2);
+}
+
+// A file that was not written to its end is not read, and is gone when its number is put.
+fn is_passed_over<R: Abort + Alloc + Files + Drop>(rt: &R, alloc: Global, store: &mut DirStore<R>) {
+    let written = fs::write(rt, "unwritten_of_a_test/9.new", b"ab".as_slice());
+    is(rt, written.is_ok(), true, 0);
+    lacks(rt, store, 9);
+    is(rt, put(store, alloc, 9, b"abc"), Ok(()), 1);
+    has(rt, store, 9, b"abc");
+    let beside = fs::read(rt, "unwritten_of_a_test/9.new");
+    is(rt, beside.is_err(), true, 2);
+}
+
+#[test]
+fn a_file_that_was_not_written_to_its_end_is_passed_over(rt: HostRuntime) {
+    let made = fs::create_dir_all(&rt, "unwritten_of_a_test");
+    is(&rt, made.is_ok(), true, 0);
+    match store_in(rt, rt.alloc(), "unwritten_of_a_test") {
+        Ok(mut store) => is_passed_over(&rt, rt.alloc(), &mut store),
+        Err(fault) => is(&rt, Err(fault), Ok(()), 1),
+    }
+    let removed = fs::remove_dir_all(&rt, "unwritten_of_a_test");
+    is(&rt, removed.is_ok(), true, 2);
 }
