@@ -74,6 +74,18 @@ fn few_bytes_a_turn(rt: HostRuntime) {
     }
 }
 
+// An input that is interrupted at every other turn, also behind thousands of bytes, and one that ends with a full turn.
+#[test]
+fn many_bytes_a_turn(rt: HostRuntime) {
+    for (filler, rest, step, period, turns) in [
+        (10_000, 10_000, 100, 2, 204),
+        (65_519, 65_519, 65_536, 1, 3),
+    ] {
+        let wants = ([Ok(rest), Err(ReadFault)], turns);
+        reads(&rt, rt.alloc(), (TEXT, filler), (step, period), wants);
+    }
+}
+
 // An input has at most 67,108,864 bytes and as many turns. With a byte more its end is not looked for; the last turn may give
 // the end.
 #[test]

@@ -1,11 +1,11 @@
 //! What recorders and tails write when writes fail, are short or are interrupted: as they are pumped, closed and dropped.
-use crate::tests_given::{FULL, Planned, commit, front, is, recorded};
+use crate::tests_given::{FULL, Planned, WRITTEN, commit, front, is, recorded};
 use rl_plain::Shared;
 use rl_rules::Evaluation;
 use rl_sinks::SinkFault::{Full, Refused, WriteFault};
 use rl_sinks::{Recorder, Sink, SinkFault, SinkKind, Tail};
 use std::alloc::Global;
-use std::io::ErrorKind;
+use std::io::{BufWriter, ErrorKind};
 use std::process::Abort;
 use std::test::Fail;
 
@@ -172,6 +172,72 @@ fn each_byte_is_written_once(rt: HostRuntime) {
         }
         _ => is(&rt, "no evaluations", "two", 0),
     }
+}
+
+// A tail takes three texts, and is closed once, while a write fails, and dropped.
+fn is_closed_once(
+    rt: &impl Abort,
+    alloc: Global,
+    to: &mut Planned,
+    told: [&Evaluation; 3],
+    at: u64,
+) -> bool {
+    let Ok(mut tail) = Tail::new(alloc, to, 2) else {
+        return false;
+    };
+    uses(rt, &mut tail, told, 0);
+    is(rt, tail.close(), Err(WriteFault), at);
+    true
+}
+
+// The drop of a tail that was closed goes on at the byte that was not written, a byte a write.
+#[test]
+fn a_dropped_tail_goes_on(rt: HostRuntime) {
+    match (evaluation(rt.alloc(), 10), evaluation(rt.alloc(), 100)) {
+        (Some(one), Some(quiet)) => {
+            for at in 1..73 {
+                let told = [one.get(), quiet.get(), one.get()];
+                let mut writer = Planned::new(rt.alloc(), 1, (at, at), FULL);
+                let closed = is_closed_once(&rt, rt.alloc(), &mut writer, told, at);
+                is(&rt, (closed, writer.calls), (true, 73), at);
+                is(&rt, writer.text(), LAST, at);
+            }
+        }
+        _ => is(&rt, "no evaluations", "two", 0),
+    }
+}
+
+// A recorder over a buffer takes a text, and is dropped.
+fn is_buffered(rt: &impl Abort, alloc: Global, to: &mut Planned, one: &Evaluation) -> bool {
+    let Ok(buffer) = BufWriter::new(alloc, to) else {
+        return false;
+    };
+    let mut recorder = Recorder::new(alloc, buffer, 8);
+    is(rt, take(rt, &mut recorder, one), Ok(()), 0);
+    true
+}
+
+// The writer of a recorder that is dropped is dropped too: a buffer hands on what it holds.
+#[test]
+fn a_dropped_recorder_drops_its_writer(rt: HostRuntime) -> Result<(), Fail> {
+    let one = evaluation(rt.alloc(), 10).ok_or("an evaluation")?;
+    let mut writer = Planned::new(rt.alloc(), 99, (0, 0), FULL);
+    let buffered = is_buffered(&rt, rt.alloc(), &mut writer, one.get());
+    is(&rt, (buffered, writer.text()), (true, WRITTEN), 0);
+    Ok(())
+}
+
+// A recorder with room for two texts takes the second while the first is written in part.
+#[test]
+fn a_text_that_is_half_written(rt: HostRuntime) -> Result<(), Fail> {
+    let one = evaluation(rt.alloc(), 10).ok_or("an evaluation")?;
+    let writer = Planned::new(rt.alloc(), 30, (2, 2), FULL);
+    let mut recorder = Recorder::new(rt.alloc(), writer, 2);
+    is(&rt, take(&rt, &mut recorder, one.get()), Ok(()), 1);
+    is(&rt, recorder.pump(), Err(WriteFault), 2);
+    is(&rt, take(&rt, &mut recorder, one.get()), Ok(()), 3);
+    is(&rt, take(&rt, &mut recorder, one.get()), Err(Full), 4);
+    Ok(())
 }
 
 // A sink with room for one text, over a writer that takes a part of it, and then fails twice.

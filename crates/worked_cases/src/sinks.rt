@@ -138,6 +138,7 @@ fn push_kept<S: Sink>(told: &mut String, sink: &S) -> Result<(), Trouble> {
 fn fault(told: &mut String) -> Result<(), Trouble> {
     tell_fault(told, &SinkFault::Full)?;
     tell_fault(told, &SinkFault::Refused(1))?;
+    tell_fault(told, &SinkFault::Refused(2))?;
     tell_fault(told, &SinkFault::WriteFault)?;
     tell_fault(told, &SinkFault::from(AllocError))?;
     tell_fault(told, &SinkFault::from(AllocFailed { value: 1 }))
