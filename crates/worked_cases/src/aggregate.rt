@@ -1,7 +1,7 @@
 //! Aggregations: what entries add up to, and what steps on a partial make of it.
 ghost use Rattle.std.specs.Prelude.{◌≤◌, length, IfOk};
 
-use crate::given::{entry_in, labels_in, moment_in, number_in, words_of};
+use crate::given::{labels_in, list_in, moment_in, number_in, words_of};
 use crate::query::query_in;
 use crate::told::tell;
 use crate::trouble::Trouble;
@@ -59,28 +59,11 @@ fn merged(
 fn entries_in(alloc: Global, text: &str) -> Result<Vec<Shared<Entry>>, Trouble>
     ensures { IfOk result (λ entries. length entries.items ≤ 1000) }
 {
-    let mut entries = Vec::new(alloc);
-    push_entries(&mut entries, text)?;
+    let entries = list_in(alloc, text, "\n")?;
     if entries.len() > 1_000 {
         return Err(Trouble::BadInput);
     }
     Ok(entries)
-}
-
-fn push_entries(entries: &mut Vec<Shared<Entry>>, text: &str) -> Result<(), Trouble> {
-    for line in text.split('\n') {
-        if !line.is_empty() {
-            push_entry(entries, line)?;
-        }
-    }
-    Ok(())
-}
-
-fn push_entry(entries: &mut Vec<Shared<Entry>>, line: &str) -> Result<(), Trouble> {
-    let alloc = *entries.allocator();
-    let entry = entry_in(alloc, line)?;
-    entries.push(Shared::new(alloc, entry)?)?;
-    Ok(())
 }
 
 // Tells what a partial has, and what its query gives.

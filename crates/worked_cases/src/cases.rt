@@ -7,30 +7,30 @@
 use crate::trouble::Trouble;
 use std::alloc::Global;
 
-/// One case: a directive, its input, and the answer that is wanted.
+/// One case: its first line, its directive, its input, and the answer that is wanted.
 #[derive(Drop)]
-pub struct Case<'a> {
-    pub directive: &'a str,
-    pub input: String,
-    pub want: String,
+pub(crate) struct Case<'a> {
+    pub(crate) title: &'a str,
+    pub(crate) directive: &'a str,
+    pub(crate) input: &'a str,
+    pub(crate) want: &'a str,
 }
 
 /// The case of what a file has from one `== ` to the next.
-pub(crate) fn case_in<'a>(alloc: Global, text: &'a str) -> Result<Case<'a>, Trouble> {
+pub(crate) fn case_in<'a>(text: &'a str) -> Result<Case<'a>, Trouble> {
     let (asked, want) = text.split_once("\n----\n").ok_or(Trouble::BadInput)?;
-    let (words, input) = asked.split_once('\n').unwrap_or((asked, ""));
-    let (directive, _) = words.split_once(' ').unwrap_or((words, ""));
-    let input = meant(alloc, input)?;
-    let want = meant(alloc, want)?;
+    let (title, input) = asked.split_once('\n').unwrap_or((asked, ""));
+    let (directive, _) = title.split_once(' ').unwrap_or((title, ""));
     Ok(Case {
+        title,
         directive,
         input,
         want,
     })
 }
 
-// What a text of a file means, with pictures of control characters and rows for what they stand for.
-fn meant(alloc: Global, text: &str) -> Result<String, Trouble> {
+/// What a text of a file means, with pictures of control characters and rows for what they stand for.
+pub(crate) fn meant(alloc: Global, text: &str) -> Result<String, Trouble> {
     let mut to = String::new(alloc);
     let mut pieces = text.split('⟨');
     push_pictures(&mut to, pieces.next().unwrap_or(""))?;

@@ -1,8 +1,7 @@
 //! Two values that a case compares, written before and behind ` ~ `.
-use crate::told::tell;
+use crate::given::Read;
 use crate::trouble::Trouble;
 use rl_plain::{Same, TryCopy};
-use std::alloc::Global;
 use std::hash::{DefaultHasher, Hash, Hasher};
 
 /// The texts before and behind the sign.
@@ -11,16 +10,14 @@ pub(crate) fn halves(input: &str) -> Result<(&str, &str), Trouble> {
 }
 
 /// How a copy of the left value stands to the right one: by its signs, by `cmp`, and whether they are the same.
-pub(crate) fn compared<T, F>(told: &mut String, input: &str, read: F) -> Result<(), Trouble>
+pub(crate) fn compared<T>(told: &mut String, input: &str) -> Result<(), Trouble>
 where
-    T: Ord + Hash + Same + TryCopy,
-    F: Fn(Global, &str) -> Result<T, Trouble>,
-    requires { F.IsAlwaysCallable read }
+    T: Read + Ord + Hash + Same + TryCopy,
 {
     let alloc = *told.allocator();
     let (left, right) = halves(input)?;
-    let (left, right) = (read(alloc, left)?, read(alloc, right)?);
-    push_order(told, &left, &right)
+    let left = T::read(alloc, left)?;
+    push_order(told, &left, &T::read(alloc, right)?)
 }
 
 fn push_order<T>(told: &mut String, left: &T, right: &T) -> Result<(), Trouble>
@@ -35,28 +32,28 @@ where
 }
 
 /// Whether a copy of the left value is equal to the right one and the same, neither, or one alone.
-pub(crate) fn matched<T, F>(told: &mut String, input: &str, read: F) -> Result<(), Trouble>
+pub(crate) fn matched<T>(told: &mut String, input: &str) -> Result<(), Trouble>
 where
-    T: PartialEq + Same + TryCopy,
-    F: Fn(Global, &str) -> Result<T, Trouble>,
-    requires { F.IsAlwaysCallable read }
+    T: Read + PartialEq + Same + TryCopy,
 {
     let alloc = *told.allocator();
     let (left, right) = halves(input)?;
-    let (left, right) = (read(alloc, left)?, read(alloc, right)?);
-    tell(told, &likeness(&left, &right)?)
+    let left = T::read(alloc, left)?;
+    push_likeness(told, &left, &T::read(alloc, right)?)
 }
 
-fn likeness<T>(left: &T, right: &T) -> Result<&'static str, Trouble>
+fn push_likeness<T>(told: &mut String, left: &T, right: &T) -> Result<(), Trouble>
 where
     T: PartialEq + Same + TryCopy,
 {
     let copy = left.try_copy()?;
-    Ok(match (copy == *right, copy.is_same(right)) {
+    let word = match (copy == *right, copy.is_same(right)) {
         (true, true) => "same",
         (false, false) => "other",
         _ => "unlike",
-    })
+    };
+    writeln!(told, "{word}")?;
+    Ok(())
 }
 
 fn sign_of<T: Ord>(left: &T, right: &T) -> &'static str {

@@ -6,9 +6,59 @@ ghost use Rattle.std.specs.Prelude.{IsTrue, IfOk};
 ghost use Rattle.rl_labels.specs.EntryParts.{are_stream_labels};
 
 use crate::trouble::Trouble;
-use rl_labels::{DEFAULT_LIMITS, Entry, Labels, Limits, Ns, RawLimits, RefusedEntry};
-use rl_plain::{OrMemory, PlainText};
+use rl_labels::{DEFAULT_LIMITS, Entry, Labels, Limits, Ns, RawLimits};
+use rl_plain::PlainText;
 use std::alloc::Global;
+
+/// A value that a case writes as a text.
+pub(crate) trait Read: Drop {
+    fn read(alloc: Global, text: &str) -> Result<Self, Trouble>;
+}
+
+impl Read for u64 {
+    fn read(_alloc: Global, text: &str) -> Result<Self, Trouble> {
+        number_in(text)
+    }
+}
+
+impl Read for Ns {
+    fn read(_alloc: Global, text: &str) -> Result<Self, Trouble> {
+        moment_in(text)
+    }
+}
+
+impl Read for PlainText {
+    fn read(alloc: Global, text: &str) -> Result<Self, Trouble> {
+        Ok(PlainText::from_str(alloc, text)?)
+    }
+}
+
+/// A pair has `=` between its halves.
+impl<A: Read, B: Read> Read for (A, B) {
+    fn read(alloc: Global, text: &str) -> Result<Self, Trouble> {
+        let (first, second) = text.split_once('=').ok_or(Trouble::BadInput)?;
+        let first = A::read(alloc, first)?;
+        Ok((first, B::read(alloc, second)?))
+    }
+}
+
+impl Read for Entry {
+    fn read(alloc: Global, text: &str) -> Result<Self, Trouble> {
+        entry_in(alloc, text)
+    }
+}
+
+/// A list of values with a sign between two; `-` has none.
+pub(crate) fn list_in<T: Read>(alloc: Global, text: &str, sign: &str) -> Result<Vec<T>, Trouble> {
+    let mut items = Vec::new(alloc);
+    if text == "-" {
+        return Ok(items);
+    }
+    for item in text.split_terminator(sign) {
+        items.push(T::read(alloc, item)?)?;
+    }
+    Ok(items)
+}
 
 pub(crate) fn number_in(text: &str) -> Result<u64, Trouble> {
     text.parse::<u64>().ok().ok_or(Trouble::BadInput)
@@ -28,58 +78,24 @@ pub(crate) fn words_of(text: &str) -> (&str, &str) {
     text.split_once(' ').unwrap_or((text, ""))
 }
 
-/// The pairs in their order, also such as no label set has.
-pub(crate) fn pairs_in(alloc: Global, text: &str) -> Result<Vec<(PlainText, PlainText)>, Trouble> {
-    let mut pairs = Vec::new(alloc);
-    if text == "-" {
-        return Ok(pairs);
-    }
-    for pair in text.split(',') {
-        push_pair(&mut pairs, pair)?;
-    }
-    Ok(pairs)
-}
-
-fn push_pair(pairs: &mut Vec<(PlainText, PlainText)>, pair: &str) -> Result<(), Trouble> {
-    let alloc = *pairs.allocator();
-    let (name, value) = pair.split_once('=').ok_or(Trouble::BadInput)?;
-    let name = PlainText::from_str(alloc, name)?;
-    let value = PlainText::from_str(alloc, value)?;
-    pairs.push((name, value))?;
-    Ok(())
-}
-
 pub(crate) fn labels_in(alloc: Global, text: &str) -> Result<Labels, Trouble>
     ensures { IfOk result (λ labels. IsTrue (are_stream_labels labels)) }
 {
-    let pairs = pairs_in(alloc, text)?;
-    match Labels::from_pairs(alloc, pairs) {
-        Ok(labels) => Ok(labels),
-        Err(OrMemory::Memory) => Err(Trouble::Memory),
-        Err(_) => Err(Trouble::BadInput),
-    }
+    let pairs = list_in(alloc, text, ",")?;
+    Labels::from_pairs(alloc, pairs).or(Err(Trouble::BadInput))
 }
 
 pub(crate) fn entry_in(alloc: Global, text: &str) -> Result<Entry, Trouble> {
-    match entry_of(alloc, text)? {
-        Ok(entry) => Ok(entry),
-        Err(_) => Err(Trouble::BadInput),
-    }
-}
-
-/// An entry that may be refused.
-pub(crate) fn entry_of(alloc: Global, text: &str) -> Result<Result<Entry, RefusedEntry>, Trouble> {
     let (moment, rest) = words_of(text);
     let (labels, line) = words_of(rest);
     let timestamp = moment_in(moment)?;
     let line = PlainText::from_str(alloc, line)?;
-    let labels = labels_in(alloc, labels)?;
-    Ok(Entry::new(labels, timestamp, line))
+    let entry = Entry::new(labels_in(alloc, labels)?, timestamp, line);
+    entry.or(Err(Trouble::BadInput))
 }
 
 pub(crate) fn limits_in(text: &str) -> Result<Limits, Trouble> {
-    let raw = raw_limits_in(text)?;
-    Limits::check(raw).ok().ok_or(Trouble::BadInput)
+    Limits::check(raw_limits_in(text)?).or(Err(Trouble::BadInput))
 }
 
 /// Limits that may be out of their ranges.

@@ -1,15 +1,16 @@
 //! Cases of names, label sets, values of labels, moments, entries, matchers and limits.
 //!
-//! A matcher is written as `a=x` or with `!=`, `=~`, `!~`.
+//! A matcher is written as `a=x` or with `!=`, `=~`, `!~`. Where two label sets are compared, `=x` has the value `x` under
+//! the label `a`, whatever signs the value has.
 use crate::compared::compared;
-use crate::given::{entry_in, entry_of, labels_in, moment_in, number_in, pairs_in, raw_limits_in};
+use crate::given::{Read, labels_in, list_in, moment_in, number_in, raw_limits_in, words_of};
 use crate::told::{tell, tell_debug, tell_fault, tell_refused};
 use crate::trouble::Trouble;
 use rl_labels::entry::MAX_LINE_LEN;
 use rl_labels::labels::{ERROR_LABEL, MAX_TEXT_LEN, is_label_name};
 use rl_labels::{
     BadLimit, Decimal, Duration, Entry, Labels, LabelsError, LimitField, Limits, MatchOp, Matcher,
-    MatcherError, Ns, RefusedEntry, Signed,
+    MatcherError, Ns, Signed,
 };
 use rl_patterns::PatternCode;
 use rl_plain::{OrMemory, PlainText};
@@ -25,7 +26,7 @@ pub(crate) fn answer(told: &mut String, directive: &str, input: &str) -> Result<
         "with" => with(told, input),
         "number" => number(told, input),
         "duration" => duration(told, input),
-        "moment" => moment(told, input),
+        "moment" => tell_debug(told, &Ns::new(number_in(input)?)),
         "entry" => entry(told, input),
         "matcher" => matcher(told, input),
         "limits" => limits(told, input),
@@ -37,13 +38,33 @@ pub(crate) fn answer(told: &mut String, directive: &str, input: &str) -> Result<
 // How two values stand to each other.
 fn comparison(told: &mut String, directive: &str, input: &str) -> Result<(), Trouble> {
     match directive {
-        "sets" => compared(told, input, labels_in),
-        "values" => compared(told, input, of_value),
-        "moments" => compared(told, input, plain_moment_in),
-        "entries" => compared(told, input, entry_in),
-        "matchers" => compared(told, input, matcher_in),
-        "operators" => compared(told, input, operator_in),
+        "sets" => compared::<Labels>(told, input),
+        "moments" => compared::<Ns>(told, input),
+        "entries" => compared::<Entry>(told, input),
+        "matchers" => compared::<Matcher>(told, input),
+        "operators" => compared::<MatchOp>(told, input),
         _ => Err(Trouble::NoSuchDirective),
+    }
+}
+
+impl Read for Labels {
+    fn read(alloc: Global, text: &str) -> Result<Self, Trouble> {
+        match text.strip_prefix('=') {
+            Some(value) => of_value(alloc, value),
+            None => labels_in(alloc, text),
+        }
+    }
+}
+
+impl Read for MatchOp {
+    fn read(_alloc: Global, text: &str) -> Result<Self, Trouble> {
+        Ok(parts_of(text).1)
+    }
+}
+
+impl Read for Matcher {
+    fn read(alloc: Global, text: &str) -> Result<Self, Trouble> {
+        matcher_of(alloc, text).or(Err(Trouble::BadInput))
     }
 }
 
@@ -52,18 +73,10 @@ fn constants(told: &mut String) -> Result<(), Trouble> {
     Ok(())
 }
 
-fn plain_moment_in(_alloc: Global, text: &str) -> Result<Ns, Trouble> {
-    moment_in(text)
-}
-
-fn operator_in(_alloc: Global, text: &str) -> Result<MatchOp, Trouble> {
-    Ok(parts_of(text)?.1)
-}
-
 // The set of pairs, shown, and the length of its text.
 fn set(told: &mut String, input: &str) -> Result<(), Trouble> {
     let alloc = *told.allocator();
-    match Labels::from_pairs(alloc, pairs_in(alloc, input)?) {
+    match Labels::from_pairs(alloc, list_in(alloc, input, ",")?) {
         Ok(labels) => push_set(told, &labels),
         Err(refused) => tell_refused(told, &refused),
     }
@@ -91,18 +104,13 @@ fn of_value(alloc: Global, value: &str) -> Result<Labels, Trouble> {
 fn read(told: &mut String, input: &str) -> Result<(), Trouble> {
     let (first, names) = input.split_once('\n').ok_or(Trouble::BadInput)?;
     let labels = labels_in(*told.allocator(), first)?;
-    push_pairs(told, &labels)?;
-    push_values(told, &labels, names)
+    push_pairs(told, &labels, names)
 }
 
-fn push_pairs(told: &mut String, labels: &Labels) -> Result<(), Trouble> {
+fn push_pairs(told: &mut String, labels: &Labels, names: &str) -> Result<(), Trouble> {
     for (name, value) in labels.pairs() {
         writeln!(told, "{name}: {value}")?;
     }
-    Ok(())
-}
-
-fn push_values(told: &mut String, labels: &Labels, names: &str) -> Result<(), Trouble> {
     for name in names.split('\n') {
         let value = labels.get(name);
         writeln!(told, "{name} {value:?}")?;
@@ -114,15 +122,14 @@ fn push_values(told: &mut String, labels: &Labels, names: &str) -> Result<(), Tr
 fn with(told: &mut String, input: &str) -> Result<(), Trouble> {
     let (first, changes) = input.split_once('\n').ok_or(Trouble::BadInput)?;
     let labels = labels_in(*told.allocator(), first)?;
-    push_changes(told, &labels, changes)?;
-    tell(told, &labels.as_text())
+    push_changes(told, &labels, changes)
 }
 
 fn push_changes(told: &mut String, labels: &Labels, changes: &str) -> Result<(), Trouble> {
     for change in changes.split('\n') {
         push_changed(told, labels, change)?;
     }
-    Ok(())
+    tell(told, &labels.as_text())
 }
 
 fn push_changed(told: &mut String, labels: &Labels, change: &str) -> Result<(), Trouble> {
@@ -150,22 +157,20 @@ fn duration(told: &mut String, input: &str) -> Result<(), Trouble> {
     }
 }
 
-fn moment(told: &mut String, input: &str) -> Result<(), Trouble> {
-    let number = number_in(input)?;
-    tell_debug(told, &Ns::new(number))
-}
-
 // The parts of an entry, and its fault where it is refused.
 fn entry(told: &mut String, input: &str) -> Result<(), Trouble> {
-    match entry_of(*told.allocator(), input)? {
+    let alloc = *told.allocator();
+    let (moment, rest) = words_of(input);
+    let (labels, line) = words_of(rest);
+    let moment = moment_in(moment)?;
+    let line = PlainText::from_str(alloc, line)?;
+    match Entry::new(labels_in(alloc, labels)?, moment, line) {
         Ok(made) => push_entry(told, &made.labels, made.timestamp, &made.line),
-        Err(refused) => push_refused(told, &refused),
+        Err(refused) => {
+            tell_fault(told, &refused.fault)?;
+            push_entry(told, &refused.labels, refused.timestamp, &refused.line)
+        }
     }
-}
-
-fn push_refused(told: &mut String, refused: &RefusedEntry) -> Result<(), Trouble> {
-    tell_fault(told, &refused.fault)?;
-    push_entry(told, &refused.labels, refused.timestamp, &refused.line)
 }
 
 fn push_entry(
@@ -179,34 +184,29 @@ fn push_entry(
     Ok(())
 }
 
-// The name, the operator and the value.
-fn parts_of(text: &str) -> Result<(&str, MatchOp, &str), Trouble> {
-    for (sign, op) in [
-        ("=~", MatchOp::Matches),
-        ("!~", MatchOp::NotMatches),
-        ("!=", MatchOp::NotEqual),
-        ("=", MatchOp::Equal),
-    ] {
-        if let Some((name, value)) = text.split_once(sign) {
-            return Ok((name, op, value));
-        }
+// The name, the operator and the value. Without an operator there is neither name nor value.
+fn parts_of(text: &str) -> (&str, MatchOp, &str) {
+    if let Some((name, value)) = text.split_once("=~") {
+        return (name, MatchOp::Matches, value);
     }
-    Err(Trouble::BadInput)
+    if let Some((name, value)) = text.split_once("!~") {
+        return (name, MatchOp::NotMatches, value);
+    }
+    if let Some((name, value)) = text.split_once("!=") {
+        return (name, MatchOp::NotEqual, value);
+    }
+    let (name, value) = text.split_once('=').unwrap_or(("", ""));
+    (name, MatchOp::Equal, value)
 }
 
-fn matcher_of(alloc: Global, text: &str) -> Result<Result<Matcher, MatcherError>, Trouble> {
-    let (name, op, value) = parts_of(text)?;
+fn matcher_of(alloc: Global, text: &str) -> Result<Matcher, MatcherError> {
+    let (name, op, value) = parts_of(text);
     let name = PlainText::from_str(alloc, name)?;
-    let value = PlainText::from_str(alloc, value)?;
-    Ok(Matcher::new(name, op, value))
-}
-
-fn matcher_in(alloc: Global, text: &str) -> Result<Matcher, Trouble> {
-    matcher_of(alloc, text)?.or(Err(Trouble::BadInput))
+    Matcher::new(name, op, PlainText::from_str(alloc, value)?)
 }
 
 fn matcher(told: &mut String, input: &str) -> Result<(), Trouble> {
-    match matcher_of(*told.allocator(), input)? {
+    match matcher_of(*told.allocator(), input) {
         Ok(made) => push_matcher(told, &made),
         Err(refused) => tell_refused(told, &refused),
     }

@@ -25,12 +25,10 @@ mod trouble;
 mod world;
 mod world_steps;
 
-use cases::{Case, case_in};
-use std::alloc::Global;
+use cases::{case_in, meant};
 use std::process::ExitCode;
 use std::rt::{Env, Files};
 use std::{env, fs, io};
-use told::tell;
 use trouble::Trouble;
 
 fn main(rt: HostRuntime) -> ExitCode {
@@ -49,31 +47,47 @@ fn run(rt: &HostRuntime) -> Result<bool, Trouble> {
     let mut count = 0u64;
     let mut differ = 0u64;
     for name in env::args(rt)?.skip(1) {
-        let text = fs::read_to_string(rt, name.as_str())?;
-        for part in text.as_str().split("\n== ").skip(1) {
-            count = count.saturating_add(1);
-            if !has_its_answer(rt, name.as_str(), part)? {
-                differ = differ.saturating_add(1);
-            }
-        }
+        run_file(rt, name.as_str(), &mut count, &mut differ)?;
     }
     println!(rt; "{count} cases, {differ} differ")?;
     Ok(differ == 0)
 }
 
+// Runs the cases of a file, and counts them and those that differ.
+fn run_file(
+    rt: &HostRuntime,
+    name: &str,
+    count: &mut u64,
+    differ: &mut u64,
+) -> Result<(), Trouble> {
+    let text = fs::read_to_string(rt, name)?;
+    for part in text.as_str().split("\n== ").skip(1) {
+        *count = count.saturating_add(1);
+        if !has_its_answer(rt, name, part)? {
+            *differ = differ.saturating_add(1);
+        }
+    }
+    Ok(())
+}
+
 // Runs a case of a file, and prints it where its answer is another one.
 fn has_its_answer(rt: &HostRuntime, name: &str, part: &str) -> Result<bool, Trouble> {
-    let Case {
-        directive,
-        input,
-        want,
-    } = case_in(rt.alloc(), part)?;
-    let answered = answer(rt.alloc(), family_of(name), directive, input.as_str())?;
-    if answered.as_str().trim_end_matches('\n') == want.as_str().trim_end_matches('\n') {
+    let case = case_in(part)?;
+    let input = meant(rt.alloc(), case.input)?;
+    let want = meant(rt.alloc(), case.want)?;
+    let mut told = String::new(rt.alloc());
+    let ended = answer(&mut told, family_of(name), case.directive, input.as_str());
+    let (told, want) = (
+        told.as_str().trim_end_matches('\n'),
+        want.as_str().trim_end_matches('\n'),
+    );
+    if ended.is_ok() && told == want {
         return Ok(true);
     }
-    let (title, _) = part.split_once('\n').unwrap_or((part, ""));
-    println!(rt; "{name}: {title}: wanted\n{want}\nand not\n{answered}")?;
+    println!(rt;
+        "{name}: {}: wanted\n{want}\nand not\n{told}\n{ended:?}",
+        case.title
+    )?;
     Ok(false)
 }
 
@@ -85,44 +99,23 @@ fn family_of(path: &str) -> &str {
     family
 }
 
-// What a directive gives for its input, or for each line of it.
-fn answer(alloc: Global, family: &str, directive: &str, input: &str) -> Result<String, Trouble> {
+// Tells what a directive gives for its input, or for each line of it.
+fn answer(told: &mut String, family: &str, directive: &str, input: &str) -> Result<(), Trouble> {
     let Some(directive) = directive.strip_suffix("..") else {
-        return answer_once(alloc, family, directive, input);
+        return push_answer(told, family, directive, input);
     };
-    let mut answers = String::new(alloc);
     for line in input.split('\n') {
-        push_answer(&mut answers, family, directive, line)?;
+        push_answer(told, family, directive, line)?;
     }
-    Ok(answers)
+    Ok(())
 }
 
-// Adds an answer as one line.
 fn push_answer(
-    answers: &mut String,
-    family: &str,
-    directive: &str,
-    line: &str,
-) -> Result<(), Trouble> {
-    let answered = answer_once(*answers.allocator(), family, directive, line)?;
-    tell(answers, &answered.as_str().trim_end_matches('\n'))
-}
-
-// An answer, or why there is none.
-fn answer_once(
-    alloc: Global,
+    told: &mut String,
     family: &str,
     directive: &str,
     input: &str,
-) -> Result<String, Trouble> {
-    let mut told = String::new(alloc);
-    match push_told(&mut told, family, directive, input) {
-        Ok(()) => Ok(told),
-        Err(trouble) => Ok(format!(in alloc; "{trouble:?}")?),
-    }
-}
-
-fn push_told(told: &mut String, family: &str, directive: &str, input: &str) -> Result<(), Trouble> {
+) -> Result<(), Trouble> {
     match family {
         "aggregate" => aggregate::answer(told, directive, input),
         "chunks" => chunks::answer(told, directive, input),

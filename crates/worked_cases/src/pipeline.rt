@@ -3,14 +3,14 @@
 //!
 //! `json` and `logfmt` have the label set of a stream, which gets the error `E`, and its lines. `runs` has a query before these.
 //! `covers` has a delete selector, and an entry in each other line.
-use crate::given::{entry_in, labels_in};
-use crate::query::{query_in, sieve_in};
+use crate::given::{Read, entry_in, labels_in};
+use crate::query::query_in;
 use crate::told::tell;
 use crate::trouble::Trouble;
 use rl_labels::labels::{ERROR_LABEL, is_label_name};
 use rl_labels::{Covers, Labels};
 use rl_pipeline::{Meter, Pipeline, Running, SieveCode, parsed};
-use rl_query::Parser;
+use rl_query::{Parser, Sieve};
 use std::alloc::Global;
 use std::mem;
 
@@ -68,7 +68,7 @@ fn pipeline_in(alloc: Global, query: &str) -> Result<Pipeline, Trouble> {
     let query = query_in(alloc, query)?;
     let built = Pipeline::build(alloc, &query.left);
     mem::forget(query);
-    built.ok().ok_or(Trouble::BadInput)
+    built.or(Err(Trouble::BadInput))
 }
 
 fn push_runs(
@@ -125,9 +125,8 @@ fn covers(told: &mut String, selector: &str, entries: &str) -> Result<(), Troubl
 }
 
 fn code_in(alloc: Global, selector: &str) -> Result<SieveCode, Trouble> {
-    let sieve = sieve_in(alloc, selector)?;
-    let built = SieveCode::build(alloc, &sieve);
-    built.ok().ok_or(Trouble::BadInput)
+    let sieve = Sieve::read(alloc, selector)?;
+    SieveCode::build(alloc, &sieve).or(Err(Trouble::BadInput))
 }
 
 fn push_covered(told: &mut String, code: &SieveCode, entries: &str) -> Result<(), Trouble> {

@@ -2,7 +2,7 @@
 //!
 //! A list of numbers is `7,8`; `-` is an empty list, or no number. A pair has `=` between its halves.
 use crate::compared::compared;
-use crate::given::{number_in, words_of};
+use crate::given::{Read, list_in, number_in, words_of};
 use crate::told::{tell, tell_debug};
 use crate::trouble::Trouble;
 use rl_plain::{PlainList, PlainText};
@@ -13,71 +13,45 @@ pub(crate) fn answer(told: &mut String, directive: &str, input: &str) -> Result<
         "text" => text(told, input),
         "list" => list(told, input),
         "put" => put(told, input),
-        "bools" => compared(told, input, bool_in),
-        "numbers" => compared(told, input, plain_number_in),
-        "texts" => compared(told, input, text_in),
-        "options" => compared(told, input, option_in),
-        "pairs" => compared(told, input, pair_in),
-        "lists" => compared(told, input, list_in),
-        "shelves" => compared(told, input, shelves_in),
+        "bools" => compared::<bool>(told, input),
+        "numbers" => compared::<u64>(told, input),
+        "texts" => compared::<PlainText>(told, input),
+        "options" => compared::<Option<u64>>(told, input),
+        "pairs" => compared::<(u64, bool)>(told, input),
+        "lists" => compared::<PlainList<u64>>(told, input),
+        "shelves" => compared::<Shelves>(told, input),
         _ => Err(Trouble::NoSuchDirective),
     }
 }
 
-fn bool_in(_alloc: Global, text: &str) -> Result<bool, Trouble> {
-    Ok(text == "true")
-}
-
-fn plain_number_in(_alloc: Global, text: &str) -> Result<u64, Trouble> {
-    number_in(text)
-}
-
-fn text_in(alloc: Global, text: &str) -> Result<PlainText, Trouble> {
-    Ok(PlainText::from_str(alloc, text)?)
-}
-
-fn option_in(_alloc: Global, text: &str) -> Result<Option<u64>, Trouble> {
-    if text == "-" {
-        return Ok(None);
+impl Read for bool {
+    fn read(_alloc: Global, text: &str) -> Result<Self, Trouble> {
+        Ok(text == "true")
     }
-    Ok(Some(number_in(text)?))
 }
 
-fn pair_in(_alloc: Global, text: &str) -> Result<(u64, bool), Trouble> {
-    let (first, second) = text.split_once('=').ok_or(Trouble::BadInput)?;
-    Ok((number_in(first)?, second == "true"))
-}
-
-// The list, of a vector with room for one item.
-fn list_in(alloc: Global, text: &str) -> Result<PlainList<u64>, Trouble> {
-    let mut items = Vec::with_capacity(alloc, 1)?;
-    if text != "-" {
-        for item in text.split(',') {
-            items.push(number_in(item)?)?;
+impl Read for Option<u64> {
+    fn read(_alloc: Global, text: &str) -> Result<Self, Trouble> {
+        if text == "-" {
+            return Ok(None);
         }
+        Ok(Some(number_in(text)?))
     }
-    Ok(PlainList::from_vec(items))
 }
 
-type Shelf = (PlainText, PlainList<u64>);
+impl Read for PlainList<u64> {
+    fn read(alloc: Global, text: &str) -> Result<Self, Trouble> {
+        Ok(PlainList::from_vec(list_in(alloc, text, ",")?))
+    }
+}
 
-type Shelves = PlainList<Shelf>;
+type Shelves = PlainList<(PlainText, PlainList<u64>)>;
 
 // Lists by their names, as `left=4;right=-`.
-fn shelves_in(alloc: Global, text: &str) -> Result<Shelves, Trouble> {
-    let mut shelves = PlainList::new(alloc).into_vec();
-    for shelf in text.split_terminator(';') {
-        push_shelf(&mut shelves, shelf)?;
+impl Read for Shelves {
+    fn read(alloc: Global, text: &str) -> Result<Self, Trouble> {
+        Ok(PlainList::from_vec(list_in(alloc, text, ";")?))
     }
-    Ok(PlainList::from_vec(shelves))
-}
-
-fn push_shelf(shelves: &mut Vec<Shelf>, shelf: &str) -> Result<(), Trouble> {
-    let alloc = *shelves.allocator();
-    let (name, list) = shelf.split_once('=').ok_or(Trouble::BadInput)?;
-    let name = text_in(alloc, name)?;
-    shelves.push((name, list_in(alloc, list)?))?;
-    Ok(())
 }
 
 // A text's length, and what it holds: shown, borrowed and given back.
@@ -97,7 +71,7 @@ fn push_text(told: &mut String, text: &PlainText) -> Result<(), Trouble> {
 
 // A list's length, whether it is the empty one, and what it holds: borrowed and given back.
 fn list(told: &mut String, input: &str) -> Result<(), Trouble> {
-    let list = list_in(*told.allocator(), input)?;
+    let list = PlainList::<u64>::read(*told.allocator(), input)?;
     push_list(told, &list)?;
     let given_back = list.into_vec();
     tell_debug(told, &given_back)
@@ -115,7 +89,7 @@ fn put(told: &mut String, input: &str) -> Result<(), Trouble> {
     let (items, rest) = words_of(input);
     let (index, item) = words_of(rest);
     let (index, item) = (number_in(index)? as usize, number_in(item)?);
-    let mut list = list_in(*told.allocator(), items)?;
+    let mut list = PlainList::<u64>::read(*told.allocator(), items)?;
     if index >= list.len() {
         return Err(Trouble::BadInput);
     }

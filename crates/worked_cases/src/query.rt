@@ -1,5 +1,6 @@
 //! Query texts that no rule file shows: what they are read as, what their faults say, and the texts of delete requests.
 use crate::compared::{halves, matched};
+use crate::given::Read;
 use crate::told::{tell, tell_debug};
 use crate::trouble::Trouble;
 use rl_query::{
@@ -16,17 +17,19 @@ pub(crate) fn answer(told: &mut String, directive: &str, input: &str) -> Result<
         "fault" => fault(told, input),
         "faults" => faults(told, input),
         "delete" => printed_sieve(told, input),
-        "sieves" => matched(told, input, sieve_in),
+        "sieves" => matched::<Sieve>(told, input),
         _ => Err(Trouble::NoSuchDirective),
     }
 }
 
 pub(crate) fn query_in(alloc: Global, text: &str) -> Result<Query, Trouble> {
-    parse(alloc, text).ok().ok_or(Trouble::BadInput)
+    parse(alloc, text).or(Err(Trouble::BadInput))
 }
 
-pub(crate) fn sieve_in(alloc: Global, text: &str) -> Result<Sieve, Trouble> {
-    parse_delete(alloc, text).ok().ok_or(Trouble::BadInput)
+impl Read for Sieve {
+    fn read(alloc: Global, text: &str) -> Result<Self, Trouble> {
+        parse_delete(alloc, text).or(Err(Trouble::BadInput))
+    }
 }
 
 // The canonical text of the query that a text is, or its fault.
@@ -71,18 +74,14 @@ fn push_error(told: &mut String, error: QueryError) -> Result<(), Trouble> {
     }
 }
 
+// What is told of the fault of a text that is no query, or of the want of memory that is named.
 fn fault(told: &mut String, input: &str) -> Result<(), Trouble> {
-    let error = error_of(*told.allocator(), input)?;
+    let error = match input {
+        "AllocError" => QueryError::from(AllocError),
+        "AllocFailed" => QueryError::from(AllocFailed { value: 0u8 }),
+        _ => QueryError::from(fault_of(*told.allocator(), input)?),
+    };
     tell(told, &error)
-}
-
-// Why a text is no query; or want of memory, by the way that is named.
-fn error_of(alloc: Global, text: &str) -> Result<QueryError, Trouble> {
-    match text {
-        "AllocError" => Ok(QueryError::from(AllocError)),
-        "AllocFailed" => Ok(QueryError::from(AllocFailed { value: 0u8 })),
-        _ => Ok(QueryError::from(fault_of(alloc, text)?)),
-    }
 }
 
 fn fault_of(alloc: Global, text: &str) -> Result<QueryFault, Trouble> {

@@ -10,13 +10,13 @@ ghost use Rattle.rl_world.specs.BookCalls.{IsFresh};
 use crate::given::{limits_in, number_in};
 use crate::told::{tell, tell_fault};
 use crate::trouble::Trouble;
-use rl_chunks::MemStore;
+use crate::world::{Kept, stores_of};
 use rl_labels::{Entry, Limits};
 use rl_rules::{Group, RulesFault};
 use rl_session::names::{front_fault_name, push_error_name};
 use rl_session::{
-    Front, FrontError, FrontFault, PushError, RunError, Session, Status, WorldEngine, is_blank,
-    read_front, read_push,
+    Engine, Front, FrontError, FrontFault, PushError, RunError, Session, Status, WorldEngine,
+    is_blank, read_front, read_push,
 };
 use rl_sinks::{Recorder, Sink};
 use std::alloc::{AllocError, Global};
@@ -118,14 +118,23 @@ fn run_session(
     front: Front,
     written: &mut Written,
 ) -> Result<Result<Status, RunError>, Trouble> {
+    let Front { groups, commands } = front;
     let first = Recorder::new(alloc, &mut written.first, cap);
     let second = Recorder::new(alloc, &mut written.second, 2);
     let sinks = of_one_group(alloc, first, second)?;
-    let Front { groups, commands } = front;
-    let mut session = opened(alloc, limits, groups, sinks)?;
-    let ended = session.run_commands(commands.as_str(), &mut written.printed);
+    let session = opened(alloc, limits, groups, sinks)?;
+    Ok(run_commands(session, commands.as_str(), &mut written.printed))
+}
+
+fn run_commands<E: Engine>(
+    session: Session<E>,
+    commands: &str,
+    printed: &mut Vec<u8>,
+) -> Result<Status, RunError> {
+    let mut session = session;
+    let ended = session.run_commands(commands, printed);
     mem::forget(session);
-    Ok(ended)
+    ended
 }
 
 // A session over a shard, and one group with its sinks.
@@ -134,24 +143,16 @@ fn opened<S: Sink>(
     limits: Limits,
     groups: Vec<Group>,
     sinks: Vec<Vec<S>>,
-) -> Result<Session<WorldEngine<MemStore, S>>, Trouble>
+) -> Result<Session<WorldEngine<Kept, S>>, Trouble>
     requires one { length sinks.items ≡ 1 }
     requires fresh { AllByRecursion (λ own. AllByRecursion IsFresh (map S.state own.items)) sinks.items }
 {
     if groups.len() != 1 {
         return Err(Trouble::BadInput);
     }
-    let stores = one_store(alloc)?;
+    let stores = stores_of(alloc, 1, "")?;
     let engine = WorldEngine::open(alloc, limits, stores, groups, sinks)?;
     Ok(Session::new(alloc, engine))
-}
-
-fn one_store(alloc: Global) -> Result<Vec<MemStore>, AllocError>
-    ensures { IfOk result (λ stores. length stores.items ≡ 1) }
-{
-    let mut stores = Vec::new(alloc);
-    stores.push(MemStore::new(alloc))?;
-    Ok(stores)
 }
 
 // The sinks of one group, which has these two.

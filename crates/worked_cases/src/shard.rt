@@ -4,13 +4,12 @@
 //! moment and a query, of which the first term is asked for; or `delete`, a number, a start, an end, when it was made and a
 //! delete selector; or `cancel` and a number; or `process`, a number and a moment; or `retain` and a moment.
 use crate::compared::halves;
-use crate::given::{entry_in, moment_in, number_in, words_of};
-use crate::query::{query_in, sieve_in};
+use crate::given::{Read, limits_in, list_in, moment_in, number_in, words_of};
+use crate::query::query_in;
 use crate::trouble::Trouble;
 use rl_chunks::MemStore;
-use rl_labels::{DEFAULT_LIMITS, Entry, Limits};
 use rl_plain::{PlainList, Same, Shared, TryCopy};
-use rl_query::{Sieve, Term};
+use rl_query::Term;
 use rl_shard::{Shard, ShardReply, ShardStep};
 use std::alloc::Global;
 use std::mem;
@@ -27,78 +26,76 @@ pub(crate) fn answer(told: &mut String, directive: &str, input: &str) -> Result<
 fn steps(told: &mut String, input: &str) -> Result<(), Trouble> {
     let alloc = *told.allocator();
     let (left, right) = halves(input)?;
-    let steps = likeness_of_steps(alloc, left, right)?;
-    let replies = likeness_of_replies(alloc, left, right)?;
+    let steps = likeness::<ShardStep>(alloc, left, right)?;
+    let replies = likeness::<ShardReply>(alloc, left, right)?;
     writeln!(told, "{steps} steps, {replies} replies")?;
     Ok(())
 }
 
-fn likeness_of_steps(alloc: Global, left: &str, right: &str) -> Result<&'static str, Trouble> {
-    let left = step_of(alloc, left)?;
-    let right = step_of(alloc, right)?;
-    likeness(&left, &right)
+fn likeness<T>(alloc: Global, left: &str, right: &str) -> Result<&'static str, Trouble>
+where
+    T: Read + Same + TryCopy,
+{
+    let right = T::read(alloc, right)?;
+    let copy = T::read(alloc, left)?.try_copy()?;
+    Ok(if copy.is_same(&right) {
+        "same"
+    } else {
+        "other"
+    })
 }
 
-fn likeness_of_replies(alloc: Global, left: &str, right: &str) -> Result<&'static str, Trouble> {
-    let left = reply_to(alloc, left)?;
-    let right = reply_to(alloc, right)?;
-    likeness(&left, &right)
+impl<T: Read> Read for Shared<T> {
+    fn read(alloc: Global, text: &str) -> Result<Self, Trouble> {
+        Ok(Shared::new(alloc, T::read(alloc, text)?)?)
+    }
 }
 
-fn likeness<T: Same + TryCopy>(left: &T, right: &T) -> Result<&'static str, Trouble> {
-    let copy = left.try_copy()?;
-    Ok(if copy.is_same(right) { "same" } else { "other" })
-}
-
-fn step_of(alloc: Global, text: &str) -> Result<ShardStep, Trouble> {
-    let (word, rest) = words_of(text);
-    step_in(alloc, word, rest)
+impl Read for ShardStep {
+    fn read(alloc: Global, text: &str) -> Result<Self, Trouble> {
+        let (word, rest) = words_of(text);
+        step_in(alloc, word, rest)
+    }
 }
 
 /// The step that a word and what stands behind it ask for.
 pub(crate) fn step_in(alloc: Global, word: &str, rest: &str) -> Result<ShardStep, Trouble> {
     match word {
-        "cut" => Ok(ShardStep::Cut),
-        "flush" => Ok(ShardStep::Flush),
-        "push" => Ok(ShardStep::Push(shared_entry_in(alloc, rest)?)),
+        "push" => Ok(ShardStep::Push(Shared::read(alloc, rest)?)),
+        "delete" => delete_in(alloc, rest),
         "collect" => collect_in(alloc, rest),
-        "retain" => retain_in(rest),
-        _ => of_request(alloc, word, rest),
+        _ => plain_step_in(word, rest),
     }
 }
 
-fn shared_entry_in(alloc: Global, text: &str) -> Result<Shared<Entry>, Trouble> {
-    Ok(Shared::new(alloc, entry_in(alloc, text)?)?)
+// A step that owns nothing.
+fn plain_step_in(word: &str, rest: &str) -> Result<ShardStep, Trouble> {
+    let (first, second) = words_of(rest);
+    Ok(match word {
+        "cut" => ShardStep::Cut,
+        "flush" => ShardStep::Flush,
+        "retain" => ShardStep::Retain {
+            now: moment_in(first)?,
+        },
+        "cancel" => ShardStep::Cancel {
+            id: number_in(first)?,
+        },
+        "process" => ShardStep::Process {
+            id: number_in(first)?,
+            now: moment_in(second)?,
+        },
+        _ => return Err(Trouble::BadInput),
+    })
 }
 
-fn retain_in(text: &str) -> Result<ShardStep, Trouble> {
-    let now = moment_in(text)?;
-    Ok(ShardStep::Retain { now })
-}
-
-// A step that has the number of a request.
-fn of_request(alloc: Global, word: &str, text: &str) -> Result<ShardStep, Trouble> {
+fn delete_in(alloc: Global, text: &str) -> Result<ShardStep, Trouble> {
     let (id, rest) = words_of(text);
-    let id = number_in(id)?;
-    match word {
-        "delete" => delete_in(alloc, id, rest),
-        "cancel" => Ok(ShardStep::Cancel { id }),
-        "process" => process_in(id, rest),
-        _ => Err(Trouble::BadInput),
-    }
-}
-
-fn process_in(id: u64, text: &str) -> Result<ShardStep, Trouble> {
-    let now = moment_in(text)?;
-    Ok(ShardStep::Process { id, now })
-}
-
-fn delete_in(alloc: Global, id: u64, text: &str) -> Result<ShardStep, Trouble> {
-    let (start, rest) = words_of(text);
+    let (start, rest) = words_of(rest);
     let (end, rest) = words_of(rest);
     let (created, selector) = words_of(rest);
-    let (start, end, created) = (moment_in(start)?, moment_in(end)?, moment_in(created)?);
-    let sieve = shared_sieve_in(alloc, selector)?;
+    let (id, created) = (number_in(id)?, moment_in(created)?);
+    let (start, end) = (moment_in(start)?, moment_in(end)?);
+    let sieve = Shared::read(alloc, selector)?;
     Ok(ShardStep::Delete {
         id,
         sieve,
@@ -108,44 +105,34 @@ fn delete_in(alloc: Global, id: u64, text: &str) -> Result<ShardStep, Trouble> {
     })
 }
 
-fn shared_sieve_in(alloc: Global, selector: &str) -> Result<Shared<Sieve>, Trouble> {
-    Ok(Shared::new(alloc, sieve_in(alloc, selector)?)?)
-}
-
 fn collect_in(alloc: Global, text: &str) -> Result<ShardStep, Trouble> {
     let (slot, rest) = words_of(text);
     let (t, query) = words_of(rest);
     let (slot, t) = (number_in(slot)?, moment_in(t)?);
-    let terms = terms_in(alloc, query)?;
+    let terms = PlainList::from_vec(list_in(alloc, query, "\n")?);
+    let terms = Shared::new(alloc, terms)?;
     Ok(ShardStep::Collect { slot, terms, t })
 }
 
-// The first term of a query, alone.
-fn terms_in(alloc: Global, query: &str) -> Result<Shared<PlainList<Term>>, Trouble> {
-    let mut terms = Vec::new(alloc);
-    terms.push(term_in(alloc, query)?)?;
-    Ok(Shared::new(alloc, PlainList::from_vec(terms))?)
+// The first term of a query.
+impl Read for Term {
+    fn read(alloc: Global, query: &str) -> Result<Self, Trouble> {
+        let query = query_in(alloc, query)?;
+        let term = query.left.try_copy();
+        mem::forget(query);
+        Ok(term?)
+    }
 }
 
-fn term_in(alloc: Global, query: &str) -> Result<Term, Trouble> {
-    let query = query_in(alloc, query)?;
-    let term = query.left.try_copy();
-    mem::forget(query);
-    Ok(term?)
-}
-
-// What a new shard replies.
-fn reply_to(alloc: Global, step: &str) -> Result<ShardReply, Trouble> {
-    let step = step_of(alloc, step)?;
-    let mut shard = new_shard(alloc)?;
-    let reply = reply_of(&mut shard, step);
-    mem::forget(shard);
-    reply
-}
-
-fn new_shard(alloc: Global) -> Result<Shard<MemStore>, Trouble> {
-    let limits = Limits::check(DEFAULT_LIMITS).ok().ok_or(Trouble::BadInput)?;
-    Ok(Shard::open(alloc, MemStore::new(alloc), limits))
+// What a new shard replies to a step.
+impl Read for ShardReply {
+    fn read(alloc: Global, step: &str) -> Result<Self, Trouble> {
+        let step = ShardStep::read(alloc, step)?;
+        let mut shard = Shard::open(alloc, MemStore::new(alloc), limits_in("")?);
+        let reply = reply_of(&mut shard, step);
+        mem::forget(shard);
+        reply
+    }
 }
 
 fn reply_of(shard: &mut Shard<MemStore>, step: ShardStep) -> Result<ShardReply, Trouble> {

@@ -3,11 +3,10 @@
 //! An evaluation is `moment place group`, and behind it `; ` and `name annotations outcome` for each rule, where the
 //! outcome is samples, or the cause of its failure.
 use crate::compared::matched;
-use crate::given::{labels_in, moment_in, number_in, words_of};
+use crate::given::{Read, labels_in, list_in, moment_in, number_in, words_of};
 use crate::told::{tell_debug, tell_fault};
 use crate::trouble::Trouble;
 use rl_aggregate::{Fraction, Sample};
-use rl_labels::Ns;
 use rl_plain::{PlainList, PlainText};
 use rl_rules::{Alert, Cause, Evaluation, Phase, RuleKind, RuleOutcome, RuleResult};
 use rl_sinks::{Notifier, Recorder, Sink, SinkFault, SinkKind, Tail, evaluation_text};
@@ -15,7 +14,7 @@ use std::alloc::{AllocError, AllocFailed, Global};
 
 pub(crate) fn answer(told: &mut String, directive: &str, input: &str) -> Result<(), Trouble> {
     match directive {
-        "evaluations" => matched(told, input, evaluation_in),
+        "evaluations" => matched::<Evaluation>(told, input),
         "text" => text(told, input),
         "recorder" | "notifier" | "tail" => sink(told, directive, input),
         "boxed" => boxed(told, input),
@@ -26,7 +25,7 @@ pub(crate) fn answer(told: &mut String, directive: &str, input: &str) -> Result<
 
 // What each kind of sink is told of an evaluation.
 fn text(told: &mut String, input: &str) -> Result<(), Trouble> {
-    let evaluation = evaluation_in(*told.allocator(), input)?;
+    let evaluation = Evaluation::read(*told.allocator(), input)?;
     push_text(told, SinkKind::Recorder, &evaluation)?;
     push_text(told, SinkKind::Tail, &evaluation)?;
     push_text(told, SinkKind::Notifier, &evaluation)
@@ -41,45 +40,16 @@ fn push_text(told: &mut String, kind: SinkKind, evaluation: &Evaluation) -> Resu
 // How many texts a sink of the kind has room for, or keeps, and in each line `pump`, `close`, or an evaluation that it takes;
 // and what was written when the sink is gone.
 fn sink(told: &mut String, kind: &str, input: &str) -> Result<(), Trouble> {
+    let alloc = *told.allocator();
     let (room, lines) = input.split_once('\n').unwrap_or((input, ""));
     let room = number_in(room)? as usize;
-    let mut written = Vec::new(*told.allocator());
+    let mut written = Vec::new(alloc);
     match kind {
-        "recorder" => record(told, &mut written, room, lines)?,
-        "notifier" => notify(told, &mut written, room, lines)?,
-        _ => keep_last(told, &mut written, room, lines)?,
+        "recorder" => push_answers(told, Recorder::new(alloc, &mut written, room), lines)?,
+        "notifier" => push_answers(told, Notifier::new(alloc, &mut written, room), lines)?,
+        _ => push_answers(told, Tail::new(alloc, &mut written, room)?, lines)?,
     }
     push_written(told, &written)
-}
-
-fn record(
-    told: &mut String,
-    written: &mut Vec<u8>,
-    cap: usize,
-    lines: &str,
-) -> Result<(), Trouble> {
-    let mut recorder = Recorder::new(*told.allocator(), written, cap);
-    push_answers(told, &mut recorder, lines)
-}
-
-fn notify(
-    told: &mut String,
-    written: &mut Vec<u8>,
-    cap: usize,
-    lines: &str,
-) -> Result<(), Trouble> {
-    let mut notifier = Notifier::new(*told.allocator(), written, cap);
-    push_answers(told, &mut notifier, lines)
-}
-
-fn keep_last(
-    told: &mut String,
-    written: &mut Vec<u8>,
-    limit: usize,
-    lines: &str,
-) -> Result<(), Trouble> {
-    let mut tail = Tail::new(*told.allocator(), written, limit)?;
-    push_answers(told, &mut tail, lines)
 }
 
 fn push_written(told: &mut String, written: &[u8]) -> Result<(), Trouble> {
@@ -92,35 +62,32 @@ fn push_written(told: &mut String, written: &[u8]) -> Result<(), Trouble> {
 fn boxed(told: &mut String, input: &str) -> Result<(), Trouble> {
     let alloc = *told.allocator();
     let recorder = Recorder::new(alloc, Vec::new(alloc), 1);
-    let mut sink: Box<dyn Sink + Send> = Box::new(alloc, recorder)?;
-    push_answers(told, &mut sink, input)
+    let sink: Box<dyn Sink + Send> = Box::new(alloc, recorder)?;
+    push_answers(told, sink, input)
 }
 
-// What a sink answers to each line, up to ten texts, and then what it is and keeps.
-fn push_answers<S: Sink>(told: &mut String, sink: &mut S, lines: &str) -> Result<(), Trouble> {
+// What a sink answers to each line, up to ten texts, and then what it is and keeps. The sink is gone then.
+fn push_answers<S: Sink>(told: &mut String, mut sink: S, lines: &str) -> Result<(), Trouble> {
     for line in lines.split_terminator('\n') {
-        let answer = answer_to(*told.allocator(), sink, line)?;
-        tell_debug(told, &answer)?;
+        push_answer(told, &mut sink, line)?;
     }
-    push_kept(told, sink)
+    push_kept(told, &sink)
 }
 
-fn answer_to<S: Sink>(
-    alloc: Global,
-    sink: &mut S,
-    line: &str,
-) -> Result<Result<(), SinkFault>, Trouble> {
-    if line == "pump" {
-        return Ok(sink.pump());
+fn push_answer<S: Sink>(told: &mut String, sink: &mut S, line: &str) -> Result<(), Trouble> {
+    match line {
+        "pump" => tell_debug(told, &sink.pump()),
+        "close" => tell_debug(told, &sink.close()),
+        _ => push_taken(told, sink, line),
     }
-    if line == "close" {
-        return Ok(sink.close());
-    }
+}
+
+fn push_taken<S: Sink>(told: &mut String, sink: &mut S, line: &str) -> Result<(), Trouble> {
+    let evaluation = Evaluation::read(*told.allocator(), line)?;
     if sink.count() > 9 {
         return Err(Trouble::BadInput);
     }
-    let evaluation = evaluation_in(alloc, line)?;
-    Ok(sink.take(&evaluation))
+    tell_debug(told, &sink.take(&evaluation))
 }
 
 // Its kind, its limit and its count, and the texts that it keeps, up to one behind the last.
@@ -144,114 +111,89 @@ fn fault(told: &mut String) -> Result<(), Trouble> {
     tell_fault(told, &SinkFault::from(AllocFailed { value: 1 }))
 }
 
-fn evaluation_in(alloc: Global, line: &str) -> Result<Evaluation, Trouble> {
-    let (head, results) = line.split_once("; ").unwrap_or((line, ""));
-    let (moment, head) = words_of(head);
-    let (place, group) = words_of(head);
-    let (t, place) = (moment_in(moment)?, number_in(place)?);
-    let group = PlainText::from_str(alloc, group)?;
-    let places = list_of(alloc, place)?;
-    let outcomes = results_in(alloc, results)?;
-    Ok(Evaluation {
-        group,
-        t,
-        places,
-        outcomes,
-    })
-}
-
-fn list_of(alloc: Global, number: u64) -> Result<PlainList<u64>, Trouble> {
-    let mut numbers = Vec::new(alloc);
-    numbers.push(number)?;
-    Ok(PlainList::from_vec(numbers))
-}
-
-fn results_in(alloc: Global, text: &str) -> Result<PlainList<RuleResult>, Trouble> {
-    let mut results = Vec::new(alloc);
-    for result in text.split_terminator("; ") {
-        push_result(&mut results, result)?;
+impl Read for Evaluation {
+    fn read(alloc: Global, line: &str) -> Result<Self, Trouble> {
+        let (head, results) = line.split_once("; ").unwrap_or((line, ""));
+        let (moment, head) = words_of(head);
+        let (place, group) = words_of(head);
+        let t = moment_in(moment)?;
+        let group = PlainText::from_str(alloc, group)?;
+        let places = PlainList::<u64>::read(alloc, place)?;
+        let outcomes = outcomes_in(alloc, results)?;
+        Ok(Evaluation {
+            group,
+            t,
+            places,
+            outcomes,
+        })
     }
-    Ok(PlainList::from_vec(results))
 }
 
-fn push_result(results: &mut Vec<RuleResult>, text: &str) -> Result<(), Trouble> {
-    let result = result_in(*results.allocator(), text)?;
-    results.push(result)?;
-    Ok(())
+fn outcomes_in(alloc: Global, results: &str) -> Result<PlainList<RuleResult>, Trouble> {
+    Ok(PlainList::from_vec(list_in(alloc, results, "; ")?))
 }
 
-fn result_in(alloc: Global, text: &str) -> Result<RuleResult, Trouble> {
-    let (name, rest) = words_of(text);
-    let (annotations, outcome) = words_of(rest);
-    let (kind, outcome) = match outcome.strip_prefix("alerts") {
-        Some(alerts) => (RuleKind::Alerting, alerts.trim_start()),
-        None => (RuleKind::Recording, outcome),
-    };
-    let name = PlainText::from_str(alloc, name)?;
-    let annotations = labels_in(alloc, annotations)?;
-    let outcome = outcome_in(alloc, kind, outcome)?;
-    Ok(RuleResult {
-        kind,
-        name,
-        annotations,
-        outcome,
-    })
+impl Read for RuleResult {
+    fn read(alloc: Global, text: &str) -> Result<Self, Trouble> {
+        let (name, rest) = words_of(text);
+        let (annotations, outcome) = words_of(rest);
+        let (kind, outcome) = match outcome.strip_prefix("alerts") {
+            Some(alerts) => (RuleKind::Alerting, alerts.trim_start()),
+            None => (RuleKind::Recording, outcome),
+        };
+        let name = PlainText::from_str(alloc, name)?;
+        let annotations = labels_in(alloc, annotations)?;
+        let outcome = outcome_in(alloc, kind, outcome)?;
+        Ok(RuleResult {
+            kind,
+            name,
+            annotations,
+            outcome,
+        })
+    }
 }
 
 fn outcome_in(alloc: Global, kind: RuleKind, text: &str) -> Result<RuleOutcome, Trouble> {
-    if let Some(cause) = cause_in(text) {
-        return Ok(RuleOutcome::Failed(cause));
-    }
-    match kind {
-        RuleKind::Recording => Ok(RuleOutcome::Samples(samples_in(alloc, text)?)),
-        RuleKind::Alerting => Ok(RuleOutcome::Alerts(alerts_in(alloc, text)?)),
-    }
+    let cause = match text {
+        "PipelineError" => Cause::PipelineError,
+        "SameLabels" => Cause::SameLabels,
+        "LimitExceeded" => Cause::LimitExceeded,
+        _ => return found_in(alloc, kind, text),
+    };
+    Ok(RuleOutcome::Failed(cause))
 }
 
-fn cause_in(text: &str) -> Option<Cause> {
-    match text {
-        "PipelineError" => Some(Cause::PipelineError),
-        "SameLabels" => Some(Cause::SameLabels),
-        "LimitExceeded" => Some(Cause::LimitExceeded),
-        _ => None,
-    }
-}
-
-// The alerts of words `phase@since@fired@labels:value`, of which the third may be `-`.
-fn alerts_in(alloc: Global, text: &str) -> Result<PlainList<Alert>, Trouble> {
-    let mut alerts = Vec::new(alloc);
-    for word in text.split_whitespace() {
-        push_alert(&mut alerts, word)?;
-    }
-    Ok(PlainList::from_vec(alerts))
-}
-
-fn push_alert(alerts: &mut Vec<Alert>, word: &str) -> Result<(), Trouble> {
-    let alert = alert_in(*alerts.allocator(), word)?;
-    alerts.push(alert)?;
-    Ok(())
-}
-
-fn fired_in(word: &str) -> Result<Option<Ns>, Trouble> {
-    if word == "-" {
-        return Ok(None);
-    }
-    Ok(Some(moment_in(word)?))
-}
-
-fn alert_in(alloc: Global, word: &str) -> Result<Alert, Trouble> {
-    let (phase, rest) = word.split_once('@').unwrap_or((word, ""));
-    let (since, rest) = rest.split_once('@').unwrap_or((rest, ""));
-    let (fired, sample) = rest.split_once('@').unwrap_or((rest, ""));
-    let (since, fired, phase) = (moment_in(since)?, fired_in(fired)?, phase_in(phase)?);
-    let Sample { labels, value } = sample_in(alloc, sample)?;
-    Ok(Alert {
-        labels,
-        value,
-        since,
-        fired,
-        phase,
+// What a rule that did not fail found: samples or alerts, one space apart.
+fn found_in(alloc: Global, kind: RuleKind, text: &str) -> Result<RuleOutcome, Trouble> {
+    Ok(match kind {
+        RuleKind::Recording => {
+            RuleOutcome::Samples(PlainList::from_vec(list_in(alloc, text, " ")?))
+        }
+        RuleKind::Alerting => RuleOutcome::Alerts(PlainList::from_vec(list_in(alloc, text, " ")?)),
     })
+}
+
+// An alert is `phase@since@fired@labels:value`, of which the third may be `-`.
+impl Read for Alert {
+    fn read(alloc: Global, word: &str) -> Result<Self, Trouble> {
+        let (phase, rest) = word.split_once('@').unwrap_or((word, ""));
+        let (since, rest) = rest.split_once('@').unwrap_or((rest, ""));
+        let (fired, sample) = rest.split_once('@').unwrap_or((rest, ""));
+        let (since, phase) = (moment_in(since)?, phase_in(phase)?);
+        let fired = if fired == "-" {
+            None
+        } else {
+            Some(moment_in(fired)?)
+        };
+        let Sample { labels, value } = Sample::read(alloc, sample)?;
+        Ok(Alert {
+            labels,
+            value,
+            since,
+            fired,
+            phase,
+        })
+    }
 }
 
 fn phase_in(word: &str) -> Result<Phase, Trouble> {
@@ -263,28 +205,16 @@ fn phase_in(word: &str) -> Result<Phase, Trouble> {
     }
 }
 
-// The samples of words `labels:value`, with the value `n` or `n/d`.
-fn samples_in(alloc: Global, text: &str) -> Result<PlainList<Sample>, Trouble> {
-    let mut samples = Vec::new(alloc);
-    for word in text.split_whitespace() {
-        push_sample(&mut samples, word)?;
+// A sample is `labels:value`, with the value `n` or `n/d`.
+impl Read for Sample {
+    fn read(alloc: Global, word: &str) -> Result<Self, Trouble> {
+        let (labels, value) = word.split_once(':').ok_or(Trouble::BadInput)?;
+        let (numerator, denominator) = value.split_once('/').unwrap_or((value, "1"));
+        let value = Fraction {
+            numerator: u128::from(number_in(numerator)?),
+            denominator: u128::from(number_in(denominator)?),
+        };
+        let labels = labels_in(alloc, labels)?;
+        Ok(Sample { labels, value })
     }
-    Ok(PlainList::from_vec(samples))
-}
-
-fn push_sample(samples: &mut Vec<Sample>, word: &str) -> Result<(), Trouble> {
-    let sample = sample_in(*samples.allocator(), word)?;
-    samples.push(sample)?;
-    Ok(())
-}
-
-fn sample_in(alloc: Global, word: &str) -> Result<Sample, Trouble> {
-    let (labels, value) = word.split_once(':').ok_or(Trouble::BadInput)?;
-    let (numerator, denominator) = value.split_once('/').unwrap_or((value, "1"));
-    let value = Fraction {
-        numerator: u128::from(number_in(numerator)?),
-        denominator: u128::from(number_in(denominator)?),
-    };
-    let labels = labels_in(alloc, labels)?;
-    Ok(Sample { labels, value })
 }

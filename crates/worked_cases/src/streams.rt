@@ -1,18 +1,19 @@
 //! Cases of streams over a store.
 //!
-//! The first line of an input has limits by their names, and behind a `|` how reads of the store are spoilt: `0:gone` and
-//! `1:flip=9`, `2:cut=3`, `3:swap=7`. Each line behind it is a call: `push` and `holds` with an entry, `horizon` with a
+//! The first line of an input has limits by their names, and behind a `|` how reads of the store are spoilt: `0=gone` and
+//! `1=flip:9`, `2=cut:3`, `3=swap:7`. Each line behind it is a call: `push` and `holds` with an entry, `horizon` with a
 //! moment, `cut`, `flush`, `len`, `reads`, `chunks`, `each` with labels and two moments, `walk` with labels, by a cursor.
-use crate::given::{entry_in, limits_in, moment_in, number_in, pairs_in, words_of};
+use crate::given::{Read, entry_in, limits_in, list_in, moment_in, number_in, words_of};
 use crate::streams_random::random;
 use crate::told::tell;
 use crate::trouble::Trouble;
-use rl_chunks::{Line, MemStore, Spoil, SpoilStore};
+use rl_chunks::{MemStore, Spoil, SpoilStore};
 use rl_labels::{Labels, MatchOp, Matcher, Ns, SelectorCode};
 use rl_parts::Taker;
 use rl_plain::{PlainList, PlainText, Shared};
 use rl_streams::{Cursor, Streams};
 use std::alloc::{AllocError, Global};
+use std::fmt::Display;
 use std::marker::Model;
 use std::mem;
 
@@ -61,23 +62,20 @@ fn push_calls(told: &mut String, streams: &mut Asked, lines: &str) -> Result<(),
 
 /// How reads are spoilt.
 pub(crate) fn plan_in(alloc: Global, text: &str) -> Result<PlainList<(u64, Spoil)>, Trouble> {
-    let mut plan = Vec::new(alloc);
-    for word in text.split_whitespace() {
-        plan.push(spoil_in(word)?)?;
-    }
-    Ok(PlainList::from_vec(plan))
+    Ok(PlainList::from_vec(list_in(alloc, text.trim_start(), " ")?))
 }
 
-fn spoil_in(word: &str) -> Result<(u64, Spoil), Trouble> {
-    let (read, how) = word.split_once(':').ok_or(Trouble::BadInput)?;
-    let (how, number) = how.split_once('=').unwrap_or((how, "0"));
-    let (read, number) = (number_in(read)?, number_in(number)?);
-    match how {
-        "gone" => Ok((read, Spoil::Gone)),
-        "swap" => Ok((read, Spoil::Swap(number))),
-        "flip" => Ok((read, Spoil::Flip(number as usize))),
-        "cut" => Ok((read, Spoil::Cut(number as usize))),
-        _ => Err(Trouble::BadInput),
+impl Read for Spoil {
+    fn read(_alloc: Global, word: &str) -> Result<Self, Trouble> {
+        let (how, number) = word.split_once(':').unwrap_or((word, "0"));
+        let number = number_in(number)?;
+        match how {
+            "gone" => Ok(Spoil::Gone),
+            "swap" => Ok(Spoil::Swap(number)),
+            "flip" => Ok(Spoil::Flip(number as usize)),
+            "cut" => Ok(Spoil::Cut(number as usize)),
+            _ => Err(Trouble::BadInput),
+        }
     }
 }
 
@@ -93,7 +91,7 @@ fn call(
         "push" => push(told, streams, horizon, rest),
         "holds" => holds(told, streams, rest),
         "cut" => Ok(streams.cut()?),
-        "flush" => flush(told, streams),
+        "flush" => push_ended(told, &streams.flush()),
         "len" => tell(told, &streams.len()),
         "chunks" => tell(told, &streams.store().inner().len()),
         "reads" => tell(told, &streams.store().inner().reads()),
@@ -106,10 +104,7 @@ fn call(
 fn push(told: &mut String, streams: &mut Asked, horizon: Ns, entry: &str) -> Result<(), Trouble> {
     let alloc = *told.allocator();
     let entry = entry_in(alloc, entry)?;
-    match streams.add(Shared::new(alloc, entry)?, horizon) {
-        Ok(()) => tell(told, &"ok"),
-        Err(refusal) => tell(told, &refusal),
-    }
+    push_ended(told, &streams.add(Shared::new(alloc, entry)?, horizon))
 }
 
 fn holds(told: &mut String, streams: &mut Asked, entry: &str) -> Result<(), Trouble> {
@@ -120,31 +115,21 @@ fn holds(told: &mut String, streams: &mut Asked, entry: &str) -> Result<(), Trou
     }
 }
 
-fn flush(told: &mut String, streams: &mut Asked) -> Result<(), Trouble> {
-    match streams.flush() {
+fn push_ended<F: Display>(told: &mut String, ended: &Result<(), F>) -> Result<(), Trouble> {
+    match ended {
         Ok(()) => tell(told, &"ok"),
-        Err(fault) => tell(told, &fault),
+        Err(fault) => tell(told, fault),
     }
 }
 
 // A selector of the labels.
 pub(crate) fn selector_in(alloc: Global, text: &str) -> Result<SelectorCode, Trouble> {
-    let matchers = matchers_in(alloc, text)?;
-    let code = SelectorCode::build(alloc, &matchers).ok();
-    code.ok_or(Trouble::BadInput)
-}
-
-fn matchers_in(alloc: Global, text: &str) -> Result<Vec<Matcher>, Trouble> {
     let mut matchers = Vec::new(alloc);
-    for (name, value) in pairs_in(alloc, text)? {
-        matchers.push(matcher_of(name, value)?)?;
+    for (name, value) in list_in::<(PlainText, PlainText)>(alloc, text, ",")? {
+        let matcher = Matcher::new(name, MatchOp::Equal, value);
+        matchers.push(matcher.or(Err(Trouble::BadInput))?)?;
     }
-    Ok(matchers)
-}
-
-fn matcher_of(name: PlainText, value: PlainText) -> Result<Matcher, Trouble> {
-    let matcher = Matcher::new(name, MatchOp::Equal, value).ok();
-    matcher.ok_or(Trouble::BadInput)
+    SelectorCode::build(alloc, &matchers).or(Err(Trouble::BadInput))
 }
 
 // Lines that were handed out, with their labels, as text. Contracts see nothing of it.
@@ -227,13 +212,11 @@ type Walker<'a> = Cursor<'a, SpoilStore<MemStore>>;
 // Tells what a cursor hands out next. Whether there was something.
 fn push_next(told: &mut String, cursor: &mut Walker<'_>) -> Result<bool, Trouble> {
     match cursor.next() {
-        Ok(Some((labels, line))) => push_one(told, labels.get(), &line)?,
+        Ok(Some((labels, line))) => {
+            push_line(told, labels.get(), line.timestamp, line.text.as_str())?;
+        }
         Ok(None) => return Ok(false),
         Err(fault) => tell(told, &fault)?,
     }
     Ok(true)
-}
-
-fn push_one(told: &mut String, labels: &Labels, line: &Line) -> Result<(), Trouble> {
-    Ok(push_line(told, labels, line.timestamp, line.text.as_str())?)
 }

@@ -11,8 +11,7 @@ ghost use Rattle.rl_sinks.specs.declared.sink.SinkKind.TheVariants as kinds;
 ghost use Rattle.rl_world.specs.BookCalls.{IsFresh};
 ghost use Rattle.rl_world.specs.Slots.{most_shards};
 
-use crate::given::{limits_in, number_in, words_of};
-use crate::rules::group_in;
+use crate::given::{Read, limits_in, number_in, words_of};
 use crate::streams::plan_in;
 use crate::told::tell;
 use crate::trouble::Trouble;
@@ -128,8 +127,8 @@ fn groups_in(alloc: Global, file: &str, count: usize) -> Result<Vec<Group>, Trou
     Ok(groups)
 }
 
-// So many stores, of which the first is spoilt.
-fn stores_of(alloc: Global, shards: usize, spoils: &str) -> Result<Vec<Kept>, Trouble>
+/// So many stores, of which the first is spoilt.
+pub(crate) fn stores_of(alloc: Global, shards: usize, spoils: &str) -> Result<Vec<Kept>, Trouble>
     ensures { IfOk result (λ stores. length stores.items ≡ shards) }
 {
     let mut stores = Vec::with_capacity(alloc, shards)?;
@@ -143,7 +142,7 @@ fn stores_of(alloc: Global, shards: usize, spoils: &str) -> Result<Vec<Kept>, Tr
 // A book of the one group, with the recorders of one.
 fn opened_book(alloc: Global, settings: Settings<'_>, file: &str) -> Result<Asking, Trouble> {
     let sinks = recorders(alloc, settings.caps)?;
-    let group = group_in(alloc, file)?;
+    let group = Group::read(alloc, file)?;
     let (shards, records) = (settings.shards, settings.limits.records);
     let book = Book::open(alloc, group, settings.slot, shards, sinks, records)?;
     Ok(Asking { book, shards })

@@ -1,14 +1,13 @@
 //! Steps of a world, calls of a book and look-ups in books, and what they are answered.
 ghost use Rattle.std.specs.Prelude.{◌≡◌};
 
-use crate::given::{moment_in, number_in, words_of};
-use crate::rules::{group_in, push_alert};
+use crate::given::{Read, moment_in, number_in, words_of};
 use crate::shard;
 use crate::told::tell;
 use crate::trouble::Trouble;
 use crate::world::{Kept, Sunk};
 use rl_plain::{PlainList, Same};
-use rl_query::{Term, print_term};
+use rl_query::print_term;
 use rl_rules::{Alert, Evaluation, Group};
 use rl_shard::ShardReply;
 use rl_sinks::{SinkKind, evaluation_text};
@@ -37,12 +36,20 @@ fn push_line(
     steps: &mut Vec<Step>,
     line: &str,
 ) -> Result<(), Trouble> {
-    match step_in(*told.allocator(), line)? {
-        Some(step) => Ok(steps.push(step)?),
-        None => {
-            ask(told, world, steps)?;
-            look_at(told, world, line)
-        }
+    let (word, rest) = words_of(line);
+    if is_look_up(word) {
+        ask(told, world, steps)?;
+        return look_at(told, world, word, rest);
+    }
+    steps.push(step_in(*told.allocator(), word, rest)?)?;
+    Ok(())
+}
+
+fn is_look_up(word: &str) -> bool {
+    match word {
+        "groups" | "close" | "store" | "group" | "first" => true,
+        "alerts" | "due" | "item" | "evaluation" | "show" => true,
+        _ => false,
     }
 }
 
@@ -61,51 +68,38 @@ fn ask(
     ended
 }
 
-// The step that a line asks for, if it is none that looks up.
-fn step_in(alloc: Global, line: &str) -> Result<Option<Step>, Trouble> {
-    let (word, rest) = words_of(line);
+// The step at a shard or a group, by its word and what stands behind it.
+fn step_in(alloc: Global, word: &str, rest: &str) -> Result<Step, Trouble> {
     let (number, rest) = words_of(rest);
-    match index_in(number) {
-        Ok(number) => step_at(alloc, word, number, rest),
-        Err(_) => Ok(None),
-    }
-}
-
-// The step at a shard or a group, by its word and what stands behind the number.
-fn step_at(alloc: Global, word: &str, number: usize, rest: &str) -> Result<Option<Step>, Trouble> {
+    let number = number_in(number)? as usize;
     match word {
-        "push" | "cut" | "flush" | "delete" | "cancel" | "process" | "retain" => {
-            let step = shard::step_in(alloc, word, rest)?;
-            Ok(Some(Step::Shard { number, step }))
-        }
         "edit" => {
-            let to = group_in(alloc, rest)?;
-            Ok(Some(Step::Edit { group: number, to }))
+            let to = Group::read(alloc, rest)?;
+            Ok(Step::Edit { group: number, to })
         }
-        _ => evaluation_step(word, number, rest),
+        "begin" | "gather" | "commit" | "abandon" | "catch" => evaluation_step(word, number, rest),
+        _ => {
+            let step = shard::step_in(alloc, word, rest)?;
+            Ok(Step::Shard { number, step })
+        }
     }
 }
 
 // A step of an evaluation of a group.
-fn evaluation_step(word: &str, group: usize, rest: &str) -> Result<Option<Step>, Trouble> {
-    Ok(Some(match word {
-        "begin" => {
-            let t = moment_in(rest)?;
-            Step::Begin { group, t }
-        }
-        "gather" => {
-            let number = index_in(rest)?;
-            Step::Gather { group, number }
-        }
+fn evaluation_step(word: &str, group: usize, rest: &str) -> Result<Step, Trouble> {
+    Ok(match word {
+        "begin" => Step::Begin {
+            group,
+            t: moment_in(rest)?,
+        },
+        "gather" => Step::Gather {
+            group,
+            number: number_in(rest)? as usize,
+        },
         "commit" => Step::Commit { group },
         "abandon" => Step::Abandon { group },
-        "catch" => Step::CatchUp { group },
-        _ => return Ok(None),
-    }))
-}
-
-fn index_in(text: &str) -> Result<usize, Trouble> {
-    Ok(number_in(text)? as usize)
+        _ => Step::CatchUp { group },
+    })
 }
 
 fn push_replies(told: &mut String, replies: &[Reply]) -> Result<(), Trouble> {
@@ -118,9 +112,9 @@ fn push_replies(told: &mut String, replies: &[Reply]) -> Result<(), Trouble> {
 fn push_reply(told: &mut String, reply: &Reply) -> Result<(), Trouble> {
     match reply {
         Reply::Decided { place, reply } => push_decision(told, *place, reply),
-        Reply::Edited { place } => push_place(told, *place, "edited"),
+        Reply::Edited { place } => Ok(writeln!(told, "{place} edited")?),
         Reply::Begun => tell(told, &"begun"),
-        Reply::Gathered { place } => push_place(told, *place, "gathered"),
+        Reply::Gathered { place } => Ok(writeln!(told, "{place} gathered")?),
         Reply::Committed(answer) => push_commit(told, answer),
         Reply::Abandoned => tell(told, &"abandoned"),
         Reply::CaughtUp { behind } => push_caught_up(told, behind.as_slice()),
@@ -128,34 +122,40 @@ fn push_reply(told: &mut String, reply: &Reply) -> Result<(), Trouble> {
     }
 }
 
-fn push_place(told: &mut String, place: u64, word: &str) -> Result<(), Trouble> {
-    writeln!(told, "{place} {word}")?;
+// What a shard decided, with the newest moment of a stream that an entry is too far behind, or the horizon.
+fn push_decision(told: &mut String, place: u64, reply: &ShardReply) -> Result<(), Trouble> {
+    let word = word_of(reply);
+    write!(told, "{place} {word}")?;
+    if let Some(moment) = moment_of(reply) {
+        write!(told, " {moment}")?;
+    }
+    told.push('\n')?;
     Ok(())
 }
 
-// What a shard decided, with the newest moment of a stream that an entry is too far behind, or the horizon.
-fn push_decision(told: &mut String, place: u64, reply: &ShardReply) -> Result<(), Trouble> {
+fn moment_of(reply: &ShardReply) -> Option<u64> {
     match reply {
-        ShardReply::Accepted => push_place(told, place, "Accepted"),
-        ShardReply::Done => push_place(told, place, "Done"),
-        ShardReply::Full => push_place(told, place, "Full"),
-        ShardReply::TooFarBehind { newest } => {
-            push_moment(told, place, "TooFarBehind", newest.get())
-        }
-        ShardReply::Expired { horizon } => push_moment(told, place, "Expired", horizon.get()),
-        ShardReply::IdTaken => push_place(told, place, "IdTaken"),
-        ShardReply::RequestsFull => push_place(told, place, "RequestsFull"),
-        ShardReply::NoSuchRequest => push_place(told, place, "NoSuchRequest"),
-        ShardReply::AlreadyProcessed => push_place(told, place, "AlreadyProcessed"),
-        ShardReply::WasCancelled => push_place(told, place, "WasCancelled"),
-        ShardReply::TooEarly => push_place(told, place, "TooEarly"),
-        ShardReply::Collected(_) => Err(Trouble::BadInput),
+        ShardReply::TooFarBehind { newest } => Some(newest.get()),
+        ShardReply::Expired { horizon } => Some(horizon.get()),
+        _ => None,
     }
 }
 
-fn push_moment(told: &mut String, place: u64, word: &str, moment: u64) -> Result<(), Trouble> {
-    writeln!(told, "{place} {word} {moment}")?;
-    Ok(())
+fn word_of(reply: &ShardReply) -> &'static str {
+    match reply {
+        ShardReply::Accepted => "Accepted",
+        ShardReply::Done => "Done",
+        ShardReply::Full => "Full",
+        ShardReply::TooFarBehind { .. } => "TooFarBehind",
+        ShardReply::Expired { .. } => "Expired",
+        ShardReply::IdTaken => "IdTaken",
+        ShardReply::RequestsFull => "RequestsFull",
+        ShardReply::NoSuchRequest => "NoSuchRequest",
+        ShardReply::AlreadyProcessed => "AlreadyProcessed",
+        ShardReply::WasCancelled => "WasCancelled",
+        ShardReply::TooEarly => "TooEarly",
+        ShardReply::Collected(_) => "Collected",
+    }
 }
 
 // What was committed, with what a tail says of it.
@@ -202,23 +202,22 @@ fn push_refusal<F: Debug + Display>(told: &mut String, fault: &F) -> Result<(), 
 }
 
 // What a look-up finds in a world.
-fn look_at(told: &mut String, world: &mut World<Kept, Sunk>, line: &str) -> Result<(), Trouble> {
-    let (word, rest) = words_of(line);
+fn look_at(
+    told: &mut String,
+    world: &mut World<Kept, Sunk>,
+    word: &str,
+    rest: &str,
+) -> Result<(), Trouble> {
     let (group, rest) = words_of(rest);
     match word {
         "groups" => tell(told, &world.groups()),
-        "close" => push_unwritten(told, world.close_sinks()),
-        "store" => push_store(told, world, index_in(group)?),
-        _ => match world.book(index_in(group)?) {
+        "close" => Ok(writeln!(told, "{} not written", world.close_sinks())?),
+        "store" => push_store(told, world, number_in(group)? as usize),
+        _ => match world.book(number_in(group)? as usize) {
             Some(book) => look(told, book, word, rest),
             None => tell(told, &"None"),
         },
     }
-}
-
-fn push_unwritten(told: &mut String, count: u64) -> Result<(), Trouble> {
-    writeln!(told, "{count} not written")?;
-    Ok(())
 }
 
 // How many chunks the store of a shard has, and how often it was read.
@@ -242,7 +241,7 @@ fn look(told: &mut String, book: &Book<Sunk>, word: &str, rest: &str) -> Result<
         "due" => tell(told, &book.due(moment_in(first)?)),
         "item" => push_item(told, book.item(number_in(first)?)),
         "evaluation" => push_evaluation(told, book.evaluation(number_in(first)?)),
-        "show" => push_kept(told, book, index_in(first)?, number_in(second)?),
+        "show" => push_kept(told, book, number_in(first)? as usize, number_in(second)?),
         _ => Err(Trouble::BadInput),
     }
 }
@@ -263,16 +262,24 @@ fn push_kept(told: &mut String, book: &Book<Sunk>, sink: usize, index: u64) -> R
 fn push_alerts(told: &mut String, of_rules: &[PlainList<Alert>]) -> Result<(), Trouble> {
     writeln!(told, "of {} rules", of_rules.len())?;
     for (number, alerts) in of_rules.iter().enumerate() {
-        push_rule_alerts(told, number, alerts.as_slice())?;
+        for alert in alerts.as_slice() {
+            push_alert(told, number, alert)?;
+        }
     }
     Ok(())
 }
 
-fn push_rule_alerts(told: &mut String, number: usize, alerts: &[Alert]) -> Result<(), Trouble> {
-    for alert in alerts {
-        write!(told, "{number} ")?;
-        push_alert(told, alert)?;
+fn push_alert(told: &mut String, number: usize, alert: &Alert) -> Result<(), Trouble> {
+    let (phase, labels, since) = (alert.phase, &alert.labels, alert.since.get());
+    let (numerator, denominator) = (alert.value.numerator, alert.value.denominator);
+    write!(
+        told,
+        "{number} {phase:?} {labels} {numerator}/{denominator} since {since}"
+    )?;
+    if let Some(fired) = alert.fired {
+        write!(told, " fired {}", fired.get())?;
     }
+    told.push('\n')?;
     Ok(())
 }
 
@@ -287,11 +294,7 @@ fn push_item(told: &mut String, item: Option<&Item>) -> Result<(), Trouble> {
 // The name of a book's group, the number under which it asks, and its terms.
 fn push_group(told: &mut String, book: &Book<Sunk>) -> Result<(), Trouble> {
     writeln!(told, "{}, slot {}", book.group().name, book.slot())?;
-    push_terms(told, book.terms().get().as_slice())
-}
-
-fn push_terms(told: &mut String, terms: &[Term]) -> Result<(), Trouble> {
-    for term in terms {
+    for term in book.terms().get().as_slice() {
         let text = print_term(*told.allocator(), term)?;
         tell(told, &text)?;
     }
@@ -320,12 +323,12 @@ impl Asking {
         match word {
             "begin" => push_answer(told, &self.book.begin(moment_in(rest)?)),
             "edit" => self.edit(told, rest),
-            "asks" => self.push_asked(told, index_in(rest)?),
+            "asks" => self.push_asked(told, number_in(rest)? as usize),
             "put" => self.put_nothing(told, rest),
             "commit" => self.commit(told),
             "abandon" => push_answer(told, &self.book.abandon()),
             "catch" => self.catch_up(told),
-            "close" => push_unwritten(told, self.book.close_sinks()),
+            "close" => Ok(writeln!(told, "{} not written", self.book.close_sinks())?),
             _ => look(told, &self.book, word, rest),
         }
     }
@@ -352,7 +355,7 @@ impl Asking {
 
     // Edits the group under its name.
     fn edit(&mut self, told: &mut String, file: &str) -> Result<(), Trouble> {
-        let to = group_in(*told.allocator(), file)?;
+        let to = Group::read(*told.allocator(), file)?;
         if !to.name.is_same(&self.book.group().name) {
             return Err(Trouble::BadInput);
         }
@@ -362,7 +365,7 @@ impl Asking {
     // Hands in what a shard shows of no term, at a place.
     fn put_nothing(&mut self, told: &mut String, words: &str) -> Result<(), Trouble> {
         let (shard, place) = words_of(words);
-        let (shard, place) = (index_in(shard)?, number_in(place)?);
+        let (shard, place) = (number_in(shard)? as usize, number_in(place)?);
         if shard >= self.shards || self.book.terms().get().len() > 0 {
             return Err(Trouble::BadInput);
         }
