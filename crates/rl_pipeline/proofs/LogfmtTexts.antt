@@ -5,8 +5,8 @@ use Rattle.std.specs.List.{prefix_len}
 use Rattle.std.specs.Str.{IsUtf8, IsCharBoundary}
 use Rattle.std.proofs.lemmas.Bool.Decides.{nat_tests}
 use Rattle.std.proofs.Math.Utf8.{encode}
-use Rattle.rl_query.proofs.Cuts.{run_boundary}
-use Rattle.rl_query.proofs.Texts.{stop_boundary, stops, first_of, none_left}
+use Rattle.rl_query_text.proofs.Cuts.{run_boundary}
+use Rattle.rl_query_text.proofs.Texts.{stop_boundary, stops, first_of, none_left}
 use Rattle.rl_pipeline.specs.LogfmtPairs.{is_blank, is_of_key, is_of_pair, is_plain, is_in_run, escape_at, escape_front, onto, unescaped}
 use Rattle.rl_pipeline.specs.declared.logfmt.Run.{Run}
 use Rattle.rl_pipeline.specs.declared.logfmt.Run.TheVariants as runs

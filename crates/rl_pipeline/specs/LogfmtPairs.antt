@@ -4,7 +4,7 @@ use Rattle.std.specs.Option.{option_and_then, option_map, option_map_or}
 use Rattle.std.specs.List.{prefix_len, list_any}
 use Rattle.rl_labels.specs.LabelSet.{Pair, is_empty}
 use Rattle.rl_plain.specs.Escapes.{Escapes, unescape}
-use Rattle.rl_query.specs.Lexing.{hex_number}
+use Rattle.rl_query_text.specs.Lexing.{hex_number}
 use Rattle.rl_pipeline.specs.declared.logfmt.Run.{Run}
 use Rattle.rl_pipeline.specs.declared.logfmt.Run.TheVariants as runs
 

@@ -4,7 +4,7 @@ ghost use Rattle.std.specs.Option.{option_map, option_map_or};
 ghost use Rattle.std.specs.List.{prefix_len, list_any};
 ghost use Rattle.rl_pipeline.specs.Extracting.{with_pair, with_pairs};
 ghost use Rattle.rl_pipeline.specs.Parsed.{logfmt_labels};
-ghost use Rattle.rl_query.specs.Lexing.{hex_digit, hex_number};
+ghost use Rattle.rl_query_text.specs.Lexing.{hex_digit, hex_number};
 ghost use Rattle.rl_pipeline.specs.LogfmtPairs.{is_blank, is_of_pair, is_in_run, run_at, behind_pair, closed_at, unit_at, is_high, is_low, low_at, character_at, escape_at, escape_front, unescaped, goes_on, quoted_pair, plain_pair, value_at, behind_key, pair_at, logfmt_pairs};
 
 use crate::extracting::add_pair;

@@ -7,8 +7,8 @@ use Rattle.rl_labels.specs.declared.matcher.Matcher.{Matcher}
 use Rattle.rl_query.specs.declared.label_test.Join.TheVariants.{And}
 use Rattle.rl_query.specs.declared.label_test.LabelTest.{LabelTest}
 use Rattle.rl_query.specs.declared.label_test.LabelTest.TheVariants as leaves
-use Rattle.rl_query.specs.declared.test_printer.Level.{Level}
-use Rattle.rl_query.specs.declared.test_printer.Level.TheVariants as levels
+use Rattle.rl_query.specs.declared.label_test.Level.{Level}
+use Rattle.rl_query.specs.declared.label_test.Level.TheVariants as levels
 use Rattle.rl_labels.specs.Name.{is_name}
 use Rattle.rl_query.specs.Form.{QuantityForm, matcher_form, quantity_form, test_form, tests_form}
 use Rattle.rl_query.specs.Quantities.{is_quantity}

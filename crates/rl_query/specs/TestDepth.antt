@@ -2,8 +2,8 @@
 use Rattle.std.specs.Prelude.{ℕ, suc, max, Bool, true, false, if◌then◌else◌}
 use Rattle.rl_query.specs.declared.label_test.Join.{Join}
 use Rattle.rl_query.specs.declared.label_test.Join.TheVariants.{And, Or}
-use Rattle.rl_query.specs.declared.test_printer.Level.{Level}
-use Rattle.rl_query.specs.declared.test_printer.Level.TheVariants as levels
+use Rattle.rl_query.specs.declared.label_test.Level.{Level}
+use Rattle.rl_query.specs.declared.label_test.Level.TheVariants as levels
 use Rattle.rl_query.specs.TestTree.{TestTree, one, joined}
 
 -- what may stand on the left and on the right of what joins without parentheses

@@ -182,3 +182,14 @@ impl Eq for LabelTests {
 
     ghost laws = { tree_equiv tests_laws.laws-law };
 }
+
+/// What may stand at a place without parentheses.
+#[derive(Clone, Copy)]
+pub enum Level {
+    /// Any tests.
+    Tests,
+    /// What `and` joins.
+    All,
+    /// One test.
+    One,
+}

@@ -5,7 +5,7 @@ ghost use Rattle.rl_query.specs.Tables.{sign_text};
 use rl_plain::PlainText;
 
 // What is escaped between quotes, beside characters by their number.
-pub(crate) const ESCAPES: [(u8, u8); 5] = [
+pub const ESCAPES: [(u8, u8); 5] = [
     (b'\\', b'\\'),
     (b'"', b'"'),
     (b'\n', b'n'),
@@ -49,7 +49,7 @@ pub enum Sign {
 
 impl Sign {
     // The sign as it is written.
-    pub(crate) fn as_str(self) -> &'static str
+    pub fn as_str(self) -> &'static str
         ensures { result.now ≡ sign_text self }
     {
         match self {

@@ -3,9 +3,9 @@ use Rattle.std.proofs.Common.{◌≡◌, ℕ, ◌+◌, ◌<◌, ◌==◌, Bool, 
 use Rattle.std.proofs.lemmas.Bool.{ne_eqb}
 use Rattle.toml.specs.Data.{Members}
 use Rattle.rl_plain.specs.Answers.{◌>>=◌}
-use Rattle.rl_query.specs.Answering.{is_bad_regex}
+use Rattle.rl_query_text.specs.Answering.{is_bad_regex}
 use Rattle.rl_query.specs.Form.{QueryForm}
-use Rattle.rl_query.specs.QueryReading.{query_of}
+use Rattle.rl_query_text.specs.QueryReading.{query_of}
 use Rattle.rl_query.specs.declared.fault.QueryFault.{QueryFault}
 use Rattle.rl_rules.specs.Answering.{Cramped, nowhere, cramped_by}
 use Rattle.rl_rules.specs.Document.{interval_of, limit_of, hold_of, query_at, rule_at, group_at, each_from, tables_at, groups_are_named_well, has_same_group, has_too_many, checked, check_keys, document_groups}

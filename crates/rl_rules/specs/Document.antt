@@ -9,7 +9,7 @@ use Rattle.rl_labels.specs.LabelSet.{Pair}
 use Rattle.rl_labels.specs.Name.{is_text}
 use Rattle.rl_labels.specs.Pairs.{labels_from}
 use Rattle.rl_query.specs.Form.{QueryForm}
-use Rattle.rl_query.specs.QueryReading.{query_of}
+use Rattle.rl_query_text.specs.QueryReading.{query_of}
 use Rattle.rl_query.specs.declared.fault.QueryFault.{QueryFault}
 use Rattle.rl_rules.specs.Answering.{Cramped}
 use Rattle.rl_rules.specs.Forms.{KeyForm, RuleForm, GroupForm}

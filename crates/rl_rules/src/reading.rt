@@ -5,7 +5,7 @@ ghost use Rattle.toml.specs.View.{table_view, items_view};
 ghost use Rattle.rl_plain.specs.Answers.{Answers};
 ghost use Rattle.rl_labels.specs.Name.{is_text};
 ghost use Rattle.rl_query.specs.Form.{query_form};
-ghost use Rattle.rl_query.specs.QueryReading.{query_of};
+ghost use Rattle.rl_query_text.specs.QueryReading.{query_of};
 ghost use Rattle.rl_rules.specs.Answering.{Reads};
 ghost use Rattle.rl_rules.specs.Forms.{group_form, rule_form};
 ghost use Rattle.rl_rules.specs.Document.{groups_of, document_groups, tables_of, query_at, rule_at, group_at, each_from, most_rules, has_same_group, has_too_many, checked, check_keys};

@@ -1,6 +1,6 @@
 -- The first byte is ASCII.
 use Rattle.std.proofs.Common.{arith}
-use Rattle.rl_query.proofs.Cuts.{behind_ascii}
+use Rattle.rl_query_text.proofs.Cuts.{behind_ascii}
 use Rattle.rl_pipeline.proofs.logfmt.behind_first.Goals as goal
 
 pub split_at-requires : goal.split_at-requires

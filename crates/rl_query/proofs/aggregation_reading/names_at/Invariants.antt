@@ -1,9 +1,0 @@
--- The names so far, and those that are left.
-use Rattle.std.proofs.Common.{◌≡◌, ◌-◌, length}
-use Rattle.rl_query.specs.AggregationReading.{named_at}
-use Rattle.rl_query.specs.Parsing.{listed_at}
-use Rattle.rl_query.proofs.Elements.{with_front}
-use Rattle.rl_query.proofs.aggregation_reading.names_at.Given as goal
-
-abbrev pub invariant-loop-turn : goal.invariant-loop-turn
-invariant-loop-turn l = with_front l.names.items (listed_at named_at (length l.lexemes - l._turn) l.rest) ≡ listed_at named_at (length l.lexemes) l.lexemes

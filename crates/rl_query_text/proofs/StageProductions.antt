@@ -1,0 +1,190 @@
+-- The productions of stages: what is read is derived, and what is derived is read.
+use Rattle.rl_query_text.proofs.TestReadings.{tests_are_read}
+use Rattle.rl_query_text.proofs.TestProductions.{tests_derived}
+use Rattle.rl_query_text.proofs.StageStarts.{tests_start, chain_ends, Ends}
+use Rattle.rl_query_text.specs.Testing.{IsEnd, tests_at}
+use Rattle.rl_query_text.specs.declared.room.Room.{Room}
+use Rattle.rl_query.specs.Form.{by_tests, tests_of, label_tests, StageForm, by_filter, by_parser, parses, parsers_of}
+use Rattle.std.proofs.Common.{◌-◌, ◌≡◌, ⊎_elim, ℕ, zero, suc, ◌+◌, ◌≤◌, Bool, true, false, cond, ◌||◌, ◌&&◌, List, [], ◌∷◌, codes, length, Some, is_some, Result, Ok, refl, sym, ap, subst, ◌∙◌, arith}
+use Rattle.std.proofs.Math.Bool.{and-false}
+use Rattle.std.proofs.lemmas.Bool.{true≢false}
+use Rattle.std.proofs.lemmas.Option.{cond_some, none-some, same_Some}
+use Rattle.std.proofs.lemmas.List.Sums.{sum_by-cons}
+use Rattle.rl_labels.specs.Name.{is_text}
+use Rattle.rl_labels.specs.laws.LabelLaws.{same_text}
+use Rattle.rl_plain.specs.Answers.{◌>>=◌}
+use Rattle.rl_query.specs.declared.fault.QueryFault.{QueryFault}
+use Rattle.rl_query.specs.declared.stages.Parser.{Parser}
+use Rattle.rl_query.specs.declared.stages.Parser.TheVariants as parsers
+use Rattle.rl_query.specs.declared.token.Lexeme.{Lexeme}
+use Rattle.rl_query.specs.declared.token.Sign.TheVariants as signs
+use Rattle.rl_query.specs.declared.token.Token.{Token}
+use Rattle.rl_query.specs.declared.token.Token.TheVariants as tokens
+use Rattle.rl_query_text.specs.Standing.{Stand}
+use Rattle.rl_query_text.specs.Grammar.{filter_sign, IsStage, AreChained, AreStages}
+use Rattle.rl_query_text.specs.Fronts.{next, is_sign}
+use Rattle.rl_query_text.specs.Parsing.{filter_op, filter_at, begins_stage, stage_comes, parser_of, only_parser, tests_begin, tested_at, piped_at, stage_at, stages_at, stages_in}
+use Rattle.rl_query_text.specs.Printing.{parser_text}
+use Rattle.rl_query_text.proofs.Productions.{bind_ok, chosen, by_option, same_ok, no_err, stand_then, one_read, next_is, only_sign}
+use Rattle.rl_query_text.proofs.FilterProductions.{op_is, filter_read, filter_is}
+
+parser_read : (t : Token) (parser : Parser) → parser_of t ≡ Some parser → t ≡ tokens.Word (parser_text parser)
+parser_read (tokens.Word word) parser h =
+    ap tokens.Word
+    (⊎_elim
+    (λ json. same_text word (codes "json") json.0 ∙ ap parser_text (same_Some parsers.Json parser json.1))
+    (λ other. let logfmt = cond_some (is_text word (codes "logfmt")) parsers.Logfmt parser other.1 in same_text word (codes "logfmt") logfmt.0 ∙ ap parser_text logfmt.1)
+    (chosen (is_text word (codes "json")) _ _ (Some parser) h))
+parser_read _ parser h = absurd (none-some parser h)
+
+parser_is : (parser : Parser) → parser_of (tokens.Word (parser_text parser)) ≡ Some parser
+parser_is parsers.Json = refl
+parser_is parsers.Logfmt = refl
+
+only_read : (parsed : Bool) (named parser : Parser) → only_parser parsed named ≡ Ok parser → (parsed ≡ false) × (named ≡ parser)
+only_read true named parser h = absurd (no_err _ parser h)
+only_read false named parser h = (refl, same_ok named parser h)
+
+-- a stage, no parser where one was read before, and how many label tests may still come
+record IsNext (parsed : Bool) (depth left : ℕ) (lexemes : List Lexeme) (read : StageForm × ℕ × List Lexeme) : Type 0 where
+  pub is : IsStage depth read.0 lexemes read.2
+  pub only : parsed && parses read.0 ≡ false
+  pub counts : tests_of read.0 + read.1 ≡ left
+
+tested_read : (parsed : Bool) (depth left : ℕ) (lexemes behind : List Lexeme) (read : StageForm × ℕ × List Lexeme) → Stand (tokens.Sign signs.Pipe ∷ []) lexemes behind → tested_at depth left behind ≡ Ok read → IsNext parsed depth left lexemes read
+unfolding tested_at
+tested_read parsed depth left lexemes behind read pipe h =
+    let a = bind_ok (next behind) _ read h in
+    let b = bind_ok (tests_begin a.0.0.place a.0.0.token a.0.1) _ read a.2 in
+    let c = bind_ok (tests_at depth left behind) _ read b.2 in
+    let tests = tests_derived depth left behind c.0.0 c.0.1 c.0.2 c.1 in
+    let whole : IsNext parsed depth left lexemes (by_tests c.0.0, c.0.1, c.0.2) = record { is = record { behind = behind; pipe = pipe; are = tests.0 }; only = and-false parsed; counts = tests.1 } in
+    subst (IsNext parsed depth left lexemes) (same_ok _ _ c.2) whole
+
+piped_read : (parsed : Bool) (depth left : ℕ) (lexemes behind : List Lexeme) (read : StageForm × ℕ × List Lexeme) → Stand (tokens.Sign signs.Pipe ∷ []) lexemes behind → piped_at parsed depth left behind ≡ Ok read → IsNext parsed depth left lexemes read
+unfolding piped_at
+piped_read parsed depth left lexemes behind read pipe h =
+    let a = bind_ok (next behind) _ read h in
+    ⊎_elim
+    (λ none. tested_read parsed depth left lexemes behind read pipe none.1)
+    (λ some. let b = bind_ok (only_parser parsed some.0) _ read some.2 in
+    let only = only_read parsed some.0 b.0 b.1 in
+    let word = one_read (tokens.Word (parser_text b.0)) behind a.0.1 a.0.0 a.1 (parser_read a.0.0.token some.0 some.1 ∙ ap (λ p. tokens.Word (parser_text p)) only.1) in
+    let whole : IsNext parsed depth left lexemes (by_parser b.0, left, a.0.1) = record { is = stand_then (tokens.Sign signs.Pipe ∷ []) (tokens.Word (parser_text b.0) ∷ []) lexemes behind a.0.1 pipe word; only = ap (λ b. b && true) only.0; counts = omega arith } in
+    subst (IsNext parsed depth left lexemes) (same_ok _ _ b.2) whole)
+    (by_option _ (parser_of a.0.0.token) _ read a.2)
+
+stage_read : (parsed : Bool) (depth left : ℕ) (lexemes : List Lexeme) (read : StageForm × ℕ × List Lexeme) → stage_comes lexemes ≡ Ok true → stage_at parsed depth left lexemes ≡ Ok read → IsNext parsed depth left lexemes read
+unfolding stage_at
+stage_read parsed depth left lexemes read comes h =
+    let a = bind_ok (next lexemes) _ read h in
+    let begins : begins_stage a.0.0.token ≡ true = same_ok _ _ (sym (ap (λ r. r >>= λ first. Ok (begins_stage first.0.token)) a.1) ∙ comes) in
+    ⊎_elim
+    (λ none. let pipe : is_sign signs.Pipe a.0.0.token ≡ true = ap (λ o. is_some o || is_sign signs.Pipe a.0.0.token) (sym none.0) ∙ begins in
+    piped_read parsed depth left lexemes a.0.1 read (one_read (tokens.Sign signs.Pipe) lexemes a.0.1 a.0.0 a.1 (only_sign signs.Pipe a.0.0.token pipe)) none.1)
+    (λ some. let b = bind_ok (filter_at some.0 a.0.1) _ read some.2 in
+    let whole : IsNext parsed depth left lexemes (by_filter b.0.0, left, b.0.1) = record { is = filter_read a.0.0 lexemes a.0.1 some.0 b.0.0 b.0.1 a.1 some.1 b.1; only = and-false parsed; counts = omega arith } in
+    subst (IsNext parsed depth left lexemes) (same_ok _ _ b.2) whole)
+    (by_option _ (filter_op a.0.0.token) _ read a.2)
+
+-- a stage is read where one comes
+record IsTaken (parsed : Bool) (depth left : ℕ) (stage : StageForm) (fewer : ℕ) (lexemes rest : List Lexeme) : Type 0 where
+  pub comes : stage_comes lexemes ≡ Ok true
+  pub read : stage_at parsed depth left lexemes ≡ Ok (stage, fewer, rest)
+
+stage_is : (parsed : Bool) (depth left : ℕ) (stage : StageForm) (fewer : ℕ) (lexemes rest : List Lexeme) → IsStage depth stage lexemes rest → IsEnd rest → parsed && parses stage ≡ false → tests_of stage + fewer ≡ left → IsTaken parsed depth left stage fewer lexemes rest
+unfolding stage_at piped_at tested_at
+stage_is parsed depth left (by_filter f) fewer lexemes rest is end only counts =
+    let a = next_is (tokens.Sign (filter_sign f.op)) (tokens.Text f.text ∷ []) lexemes rest is.0 in
+    let same : left ≡ fewer = omega (arith, counts) in
+    record { comes = rw (a.is, op_is f.op) refl; read = rw (a.is, op_is f.op, filter_is f a.behind rest a.more is.1, same) refl }
+stage_is true depth left (by_parser parser) fewer lexemes rest is end only counts = cc
+stage_is false depth left (by_parser parser) fewer lexemes rest is end only counts =
+    let a = next_is (tokens.Sign signs.Pipe) (tokens.Word (parser_text parser) ∷ []) lexemes rest is in
+    let b = next_is (tokens.Word (parser_text parser)) [] a.behind rest a.more in
+    let same : left ≡ fewer = omega (arith, counts) in
+    record { comes = rw a.is refl; read = rw (a.is, b.is, parser_is parser, b.more, same) refl }
+stage_is parsed depth left (by_tests tests) fewer lexemes rest is end only counts =
+    let a = next_is (tokens.Sign signs.Pipe) [] lexemes is.behind is.pipe in
+    let starts = tests_start depth tests is.behind rest is.are in
+    record { comes = rw a.is refl; read = rw (a.is, a.more, starts.is, starts.no_parser, starts.begin, tests_are_read depth left is.behind tests fewer rest is.are end counts) refl }
+
+-- stages, at most so many, and a parser only where none was read before
+record AreUpTo (parsed : Bool) (depth left most : ℕ) (stages : List StageForm) (lexemes rest : List Lexeme) : Type 0 where
+  pub chained : AreChained depth stages lexemes rest
+  pub few : length stages ≤ most
+  pub one_parser : cond parsed 1 0 + parsers_of stages ≤ 1
+  pub few_tests : label_tests stages ≤ left
+
+none_read : (parsed : Bool) (depth left most : ℕ) (lexemes : List Lexeme) (stages : List StageForm) (rest : List Lexeme) → ◌≡◌ {A = Result (List StageForm × List Lexeme) QueryFault} (Ok ([], lexemes)) (Ok (stages, rest)) → AreUpTo parsed depth left most stages lexemes rest
+none_read parsed depth left most lexemes stages rest h =
+    let whole : AreUpTo parsed depth left most [] lexemes lexemes = record { chained = refl; few = omega arith; one_parser = small parsed; few_tests = omega arith } in
+    subst (λ (p : List StageForm × List Lexeme). AreUpTo parsed depth left most p.0 lexemes p.1) (same_ok _ _ h) whole
+  where
+    small : (b : Bool) → cond b 1 0 + 0 ≤ 1
+    small true = omega arith
+    small false = omega arith
+
+-- the parsers of a stage and of those behind it
+parsers_more : (stage : StageForm) (stages : List StageForm) → parsers_of (stage ∷ stages) ≡ cond (parses stage) 1 0 + parsers_of stages
+parsers_more stage stages = sum_by-cons (λ s. cond (parses s) 1 0) stage stages
+
+tests_more : (stage : StageForm) (stages : List StageForm) → label_tests (stage ∷ stages) ≡ tests_of stage + label_tests stages
+tests_more stage stages = sum_by-cons tests_of stage stages
+
+-- one parser at most, where one was read before or not, and a stage is one or not
+one_parser : (before this : Bool) (n all : ℕ) → all ≡ cond this 1 0 + n → ((before && this ≡ false) × (cond (before || this) 1 0 + n ≤ 1) → cond before 1 0 + all ≤ 1) × (cond before 1 0 + all ≤ 1 → (before && this ≡ false) × (cond (before || this) 1 0 + n ≤ 1))
+one_parser true true n all is = (λ h. absurd (true≢false h.0), λ h. absurd (omega (arith, is, h)))
+one_parser true false n all is = (λ h. omega (arith, is, h.1), λ h. (refl, omega (arith, is, h)))
+one_parser false true n all is = (λ h. omega (arith, is, h.1), λ h. (refl, omega (arith, is, h)))
+one_parser false false n all is = (λ h. omega (arith, is, h.1), λ h. (refl, omega (arith, is, h)))
+
+stages_read : (parsed : Bool) (depth left most : ℕ) (lexemes : List Lexeme) (stages : List StageForm) (rest : List Lexeme) → stages_at parsed depth left most lexemes ≡ Ok (stages, rest) → AreUpTo parsed depth left most stages lexemes rest
+unfolding stages_at
+stages_read parsed depth left zero lexemes stages rest h =
+    let a = bind_ok (stage_comes lexemes) _ (stages, rest) h in
+    ⊎_elim (λ more. absurd (no_err _ (stages, rest) more.1)) (λ none. none_read parsed depth left zero lexemes stages rest none.1) (chosen a.0 _ _ (Ok (stages, rest)) a.2)
+stages_read parsed depth left (suc most) lexemes stages rest h =
+    let a = bind_ok (stage_comes lexemes) _ (stages, rest) h in
+    ⊎_elim
+    (λ yes. let b = bind_ok (stage_at parsed depth left lexemes) _ (stages, rest) yes.1 in
+    let c = bind_ok (stages_at (parsed || parses b.0.0) depth b.0.1 most b.0.2) _ (stages, rest) b.2 in
+    let one = stage_read parsed depth left lexemes b.0 (a.1 ∙ ap (λ (b : Bool). Ok b) yes.0) b.1 in
+    let more = stages_read (parsed || parses b.0.0) depth b.0.1 most b.0.2 c.0.0 c.0.1 c.1 in
+    let whole : AreUpTo parsed depth left (suc most) (b.0.0 ∷ c.0.0) lexemes c.0.1 = record { chained = (b.0.2, one.is, more.chained); few = omega (arith, more.few); one_parser = (one_parser parsed (parses b.0.0) (parsers_of c.0.0) (parsers_of (b.0.0 ∷ c.0.0)) (parsers_more b.0.0 c.0.0)).0 (one.only, more.one_parser); few_tests = omega (arith, more.few_tests, one.counts, tests_more b.0.0 c.0.0) } in
+    subst (λ (p : List StageForm × List Lexeme). AreUpTo parsed depth left (suc most) p.0 lexemes p.1) (same_ok _ _ c.2) whole)
+    (λ none. none_read parsed depth left (suc most) lexemes stages rest none.1)
+    (chosen a.0 _ _ (Ok (stages, rest)) a.2)
+
+stages_are : (parsed : Bool) (depth left most : ℕ) (stages : List StageForm) (lexemes rest : List Lexeme) → AreUpTo parsed depth left most stages lexemes rest → Ends rest → stages_at parsed depth left most lexemes ≡ Ok (stages, rest)
+unfolding stages_at
+stages_are parsed depth left zero [] lexemes rest are ends = rw (are.chained, ends.comes) refl
+stages_are parsed depth left (suc most) [] lexemes rest are ends = rw (are.chained, ends.comes) refl
+stages_are parsed depth left zero (s ∷ stages) lexemes rest are ends = absurd (omega (arith, are.few))
+stages_are parsed depth left (suc most) (s ∷ stages) lexemes rest are ends =
+    let counts = (one_parser parsed (parses s) (parsers_of stages) (parsers_of (s ∷ stages)) (parsers_more s stages)).1 are.one_parser in
+    let fewer = left - tests_of s in
+    let one = stage_is parsed depth left s fewer lexemes are.chained.0 are.chained.1 (chain_ends depth stages are.chained.0 rest are.chained.2 ends.end) counts.0 (omega (arith, are.few_tests, tests_more s stages)) in
+    let more : AreUpTo (parsed || parses s) depth fewer most stages are.chained.0 rest = record { chained = are.chained.2; few = omega (arith, are.few); one_parser = counts.1; few_tests = omega (arith, are.few_tests, tests_more s stages) } in
+    rw (one.comes, one.read, stages_are (parsed || parses s) depth fewer most stages are.chained.0 rest more ends) refl
+
+-- stages of which there are no more than may come
+pub record AreRoomy (room : Room) (stages : List StageForm) (lexemes rest : List Lexeme) : Type 0 where
+  pub are : AreStages room.depth stages lexemes rest
+  pub few : length stages ≤ room.stages
+  pub few_tests : label_tests stages ≤ room.tests
+
+-- stages where each pattern has room
+pub stages_derived : (room : Room) (lexemes : List Lexeme) (stages : List StageForm) (rest : List Lexeme) → stages_in false room lexemes ≡ Ok (stages, rest) → AreRoomy room stages lexemes rest
+unfolding stages_in
+stages_derived room lexemes stages rest h =
+    let a = bind_ok (stages_at false room.depth room.tests room.stages lexemes) _ (stages, rest) h in
+    let are = stages_read false room.depth room.tests room.stages lexemes a.0.0 a.0.1 a.1 in
+    let whole : AreRoomy room a.0.0 lexemes a.0.1 = record { are = record { chained = are.chained; one_parser = omega (arith, are.one_parser) }; few = are.few; few_tests = are.few_tests } in
+    subst (λ (p : List StageForm × List Lexeme). AreRoomy room p.0 lexemes p.1) (same_ok _ _ a.2) whole
+
+pub stages_are_read : (room : Room) (stages : List StageForm) (lexemes rest : List Lexeme) → AreRoomy room stages lexemes rest → Ends rest → stages_in false room lexemes ≡ Ok (stages, rest)
+unfolding stages_in
+stages_are_read room stages lexemes rest roomy stops =
+    let up_to : AreUpTo false room.depth room.tests room.stages stages lexemes rest = record { chained = roomy.are.chained; few = roomy.few; one_parser = omega (arith, roomy.are.one_parser); few_tests = roomy.few_tests } in
+    rw (stages_are false room.depth room.tests room.stages stages lexemes rest up_to stops) refl

@@ -1,0 +1,109 @@
+-- The tokens with which label tests and stages begin.
+use Rattle.std.proofs.Common.{◌≡◌, true, false, not, ◌&&◌, ◌||◌, List, [], ◌∷◌, codes, None, Some, is_some, Ok, refl, sym, ap, subst, ◌∙◌, ℕ}
+use Rattle.std.proofs.Math.Bool.{and-false}
+use Rattle.std.proofs.lemmas.Bool.{cond-false, or_parts, or_left, or_right}
+use Rattle.rl_labels.specs.Name.{is_text}
+use Rattle.rl_labels.specs.declared.matcher.MatchOp.{MatchOp}
+use Rattle.rl_labels.specs.declared.matcher.MatchOp.TheVariants as operators
+use Rattle.rl_plain.specs.Answers.{◌>>=◌}
+use Rattle.rl_query.specs.declared.filter.LineOp.{LineOp}
+use Rattle.rl_query.specs.declared.filter.LineOp.TheVariants as lines
+use Rattle.rl_query.specs.declared.label_test.Join.{Join}
+use Rattle.rl_query.specs.declared.token.Lexeme.{Lexeme}
+use Rattle.rl_query.specs.declared.token.Sign.{Sign}
+use Rattle.rl_query.specs.declared.token.Sign.TheVariants as signs
+use Rattle.rl_query.specs.declared.token.Token.{Token}
+use Rattle.rl_query.specs.declared.token.Token.TheVariants as tokens
+use Rattle.rl_query.specs.Form.{StageForm, by_filter, by_parser, by_tests, TestForm, by_text, by_quantity}
+use Rattle.rl_query_text.specs.Fronts.{next, is_match}
+use Rattle.rl_query_text.specs.Grammar.{filter_sign, IsStage, AreChained}
+use Rattle.rl_query_text.specs.Parsing.{begins_stage, stage_comes, parser_of, is_later_stage_word, operator_comes, tests_begin}
+use Rattle.rl_query_text.specs.Printing.{parser_text}
+use Rattle.rl_query_text.specs.Standing.{Stand, operator_sign}
+use Rattle.rl_query_text.specs.TestGrammar.{Rule, test_name, Compares, IsLabelTest, IsOne, alone, in_parentheses, AreJoined, part, more, AreInside, AreTests}
+use Rattle.rl_query_text.specs.Testing.{IsEnd, is_word, is_and, begins, compares, behind_and}
+use Rattle.rl_query.specs.TestTree.{TestTree}
+use Rattle.rl_query_text.proofs.Productions.{next_is}
+
+-- label tests begin there, whatever stands before them, and no parser is named
+pub record Starts (lexemes : List Lexeme) : Type 0 where
+  pub first : Lexeme
+  pub behind : List Lexeme
+  pub is : next lexemes ≡ Ok (first, behind)
+  pub goes_on : behind_and lexemes ≡ Some lexemes
+  pub no_parser : parser_of first.token ≡ None
+  pub begin : tests_begin first.place first.token behind ≡ Ok tt
+
+is_operator : (op : MatchOp) → is_match (tokens.Sign (operator_sign op)) ≡ true
+is_operator operators.Equal = refl
+is_operator _ = refl
+
+-- the sign of a test is an operator or a comparison
+sign_comes : (test : TestForm) (sign : Sign) (value : Token) → Compares test sign value → is_match (tokens.Sign sign) || compares (tokens.Sign sign) ≡ true
+sign_comes (by_text m) sign value is = or_left (is_match (tokens.Sign sign)) _ (ap (λ s. is_match (tokens.Sign s)) is.0 ∙ is_operator m.op)
+sign_comes (by_quantity t) sign value is = or_right (is_match (tokens.Sign sign)) _ (ap is_some is.0)
+
+test_starts : (test : TestForm) (lexemes rest : List Lexeme) → IsLabelTest test lexemes rest → Starts lexemes
+test_starts test [] rest is = absurd is.stand
+test_starts test (a ∷ []) rest is = absurd is.stand.1
+test_starts test (a ∷ b ∷ lexemes) rest is =
+    let name = test_name test in
+    let no_and = or_parts (is_text name (codes "and")) _ is.free in
+    let no_or = or_parts (is_text name (codes "or")) _ no_and.1 in
+    let no_json = or_parts (is_text name (codes "json")) _ no_or.1 in
+    let comes : operator_comes (b ∷ lexemes) ≡ true = ap (λ t. is_match t || compares t) is.stand.1.0 ∙ sign_comes test is.sign is.value is.compares in
+    record {
+      first = a;
+      behind = b ∷ lexemes;
+      is = refl;
+      goes_on = rw (is.stand.0, no_and.0, no_or.0) refl;
+      no_parser = rw (is.stand.0, no_json.0, no_json.1) refl;
+      begin = rw is.stand.0 (cond-false (is_later_stage_word name && not (operator_comes (b ∷ lexemes))) _ _ (ap (λ t. is_later_stage_word name && not t) comes ∙ and-false (is_later_stage_word name)));
+    }
+
+pub one_starts : (Inside : Rule) (tests : TestTree TestForm) (lexemes rest : List Lexeme) → IsOne Inside tests lexemes rest → Starts lexemes
+one_starts Inside _ _ _ (alone test lexemes rest is) = test_starts test lexemes rest is
+one_starts Inside _ _ _ (in_parentheses tests lexemes behind end rest opened is closed) = by_sign lexemes opened
+  where
+    by_sign : (lexemes : List Lexeme) → Stand (tokens.Sign signs.OpenParenthesis ∷ []) lexemes behind → Starts lexemes
+    by_sign [] stand = absurd stand
+    by_sign (l ∷ ls) stand = record { first = l; behind = ls; is = refl; goes_on = rw stand.0 refl; no_parser = rw stand.0 refl; begin = rw stand.0 refl }
+
+joined_starts : (join : Join) (Part : Rule) → ((tests : TestTree TestForm) (lexemes rest : List Lexeme) → Part tests lexemes rest → Starts lexemes) → (tests : TestTree TestForm) (lexemes rest : List Lexeme) → AreJoined join Part tests lexemes rest → Starts lexemes
+joined_starts join Part starts _ _ _ (part tests lexemes rest is) = starts tests lexemes rest is
+joined_starts join Part starts _ _ _ (more l r lexemes middle behind rest are joins is) = joined_starts join Part starts l lexemes middle are
+
+pub tests_start : (depth : ℕ) (tests : TestTree TestForm) (lexemes rest : List Lexeme) → AreTests depth tests lexemes rest → Starts lexemes
+tests_start depth tests lexemes rest are =
+    joined_starts _ _ (joined_starts _ _ (one_starts (AreInside depth))) tests lexemes rest are
+
+-- no test goes on with a token
+pub no_more : (token : Token) (others : List Token) (lexemes rest : List Lexeme) → Stand (token ∷ others) lexemes rest → is_and token ≡ false → begins token ≡ false → is_word (codes "or") token ≡ false → IsEnd lexemes
+no_more token others [] rest stand a b o = absurd stand
+no_more token others (l ∷ lexemes) rest stand a b o =
+    (cond-false (is_and l.token) _ _ (ap is_and stand.0 ∙ a) ∙ cond-false (begins l.token) _ _ (ap begins stand.0 ∙ b), cond-false (is_word (codes "or") l.token) _ _ (ap (λ t. is_word (codes "or") t) stand.0 ∙ o))
+
+filter_ends : (op : LineOp) (others : List Token) (lexemes rest : List Lexeme) → Stand (tokens.Sign (filter_sign op) ∷ others) lexemes rest → IsEnd lexemes
+filter_ends op others [] rest stand = absurd stand
+filter_ends lines.Contains others (l ∷ lexemes) rest stand = (rw stand.0 refl, rw stand.0 refl)
+filter_ends _ others (l ∷ lexemes) rest stand = (rw stand.0 refl, rw stand.0 refl)
+
+stage_ends : (depth : ℕ) (stage : StageForm) (lexemes rest : List Lexeme) → IsStage depth stage lexemes rest → IsEnd lexemes
+stage_ends depth (by_filter f) lexemes rest is = filter_ends f.op (tokens.Text f.text ∷ []) lexemes rest is.0
+stage_ends depth (by_parser p) lexemes rest is = no_more (tokens.Sign signs.Pipe) (tokens.Word (parser_text p) ∷ []) lexemes rest is refl refl refl
+stage_ends depth (by_tests t) lexemes rest is = no_more (tokens.Sign signs.Pipe) [] lexemes is.behind is.pipe refl refl refl
+
+-- tests end where stages begin
+pub chain_ends : (depth : ℕ) (stages : List StageForm) (lexemes rest : List Lexeme) → AreChained depth stages lexemes rest → IsEnd rest → IsEnd lexemes
+chain_ends depth [] lexemes rest are end = subst IsEnd (sym are) end
+chain_ends depth (s ∷ stages) lexemes rest are end = stage_ends depth s lexemes are.0 are.1
+
+-- no stage comes, and tests end
+pub record Ends (lexemes : List Lexeme) : Type 0 where
+  pub comes : stage_comes lexemes ≡ Ok false
+  pub end : IsEnd lexemes
+
+pub ends_at : (token : Token) (others : List Token) (lexemes rest : List Lexeme) → Stand (token ∷ others) lexemes rest → begins_stage token ≡ false → is_and token ≡ false → begins token ≡ false → is_word (codes "or") token ≡ false → Ends lexemes
+ends_at token others lexemes rest stand s a b o =
+    let n = next_is token others lexemes rest stand in
+    record { comes = ap (λ r. r >>= λ first. Ok (begins_stage first.0.token)) n.is ∙ ap (λ b. Ok b) s; end = no_more token others lexemes rest stand a b o }

@@ -1,0 +1,201 @@
+-- The productions of terms: what is read is derived, and what is derived is read.
+use Rattle.std.proofs.Common.{◌≡◌, inl, inr, ⊎_elim, ℕ, zero, suc, ◌≤◌, true, false, List, [], ◌∷◌, length, Some, Ok, Err, refl, sym, ap, subst, ◌∙◌, arith}
+use Rattle.std.specs.List.{find}
+use Rattle.std.proofs.lemmas.Option.{same_Some, none-some}
+use Rattle.rl_labels.specs.Name.{is_text}
+use Rattle.rl_labels.specs.laws.LabelLaws.{same_text}
+use Rattle.rl_query_text.specs.declared.parser.Position.{Position}
+use Rattle.rl_query_text.specs.declared.parser.Position.TheVariants as positions
+use Rattle.rl_query.specs.declared.query.RangeFunction.{RangeFunction}
+use Rattle.rl_query.specs.declared.query.RangeFunction.TheVariants as functions
+use Rattle.rl_query_text.specs.declared.room.Room.{Room}
+use Rattle.rl_query.specs.declared.token.Lexeme.{Lexeme}
+use Rattle.rl_query.specs.declared.token.Sign.TheVariants as signs
+use Rattle.rl_query.specs.declared.token.Token.{Token}
+use Rattle.rl_query.specs.declared.token.Token.TheVariants as tokens
+use Rattle.rl_query_text.specs.AggregationReading.{is_operator_word, front_at, ended_at}
+use Rattle.rl_query.specs.Form.{AggregationForm, RangeForm, TermForm, label_tests}
+use Rattle.rl_query_text.specs.Fronts.{refusal, is_sign, next}
+use Rattle.rl_query_text.specs.Grammar.{IsRange}
+use Rattle.rl_query.specs.Limits.{most_aggregations}
+use Rattle.rl_query_text.specs.Parsing.{range_at}
+use Rattle.rl_query_text.specs.QueryReading.{TermReader, in_parentheses, around, aggregated_at, ranged_at, begun_at, term_by, term_in, term_at}
+use Rattle.rl_query_text.specs.Standing.{Stand}
+use Rattle.rl_query.specs.Tables.{function_text, all_functions, function_with_text, operator_word}
+use Rattle.rl_query_text.specs.TermGrammar.{IsParameter, IsAggregation, IsBare, IsTerm}
+use Rattle.rl_query_text.proofs.AggregationProductions.{front_read, ended_read}
+use Rattle.rl_query_text.proofs.AggregationReadings.{EndsTerm, ends_term_at, word_of_operator, front_of, front_is, ended_is}
+use Rattle.rl_query_text.proofs.CrampedQueries.{aggregated_by}
+use Rattle.rl_query_text.proofs.Parentheses.{inside_room, parentheses_read, parentheses_are}
+use Rattle.rl_query_text.proofs.Productions.{bind_ok, chosen, by_option, no_err, same_ok, one_read, next_is}
+use Rattle.rl_query_text.proofs.RangeProductions.{range_derived, range_is}
+
+-- Range aggregations, by their words.
+
+function_read : (word : List ℕ) (function : RangeFunction) → function_with_text word ≡ Some function → word ≡ function_text function
+function_read word function = has_text all_functions
+  where
+    has_text : (fs : List RangeFunction) → find (λ f. is_text word (function_text f)) fs ≡ Some function → word ≡ function_text function
+    has_text [] is = absurd (none-some function is)
+    has_text (f ∷ fs) is = ⊎_elim (λ yes. same_text word (function_text f) yes.0 ∙ ap function_text (same_Some f function yes.1)) (λ other. has_text fs other.1) (chosen (is_text word (function_text f)) (Some f) (find (λ f. is_text word (function_text f)) fs) (Some function) is)
+
+function_is : (function : RangeFunction) → function_with_text (function_text function) ≡ Some function
+function_is functions.CountOverTime = refl
+function_is functions.Rate = refl
+function_is functions.BytesOverTime = refl
+function_is functions.BytesRate = refl
+function_is functions.AbsentOverTime = refl
+
+no_operator : (function : RangeFunction) → is_operator_word (function_text function) ≡ false
+no_operator functions.CountOverTime = refl
+no_operator functions.Rate = refl
+no_operator functions.BytesOverTime = refl
+no_operator functions.BytesRate = refl
+no_operator functions.AbsentOverTime = refl
+
+-- there is room for what a term has
+pub record Fits (nest : ℕ) (room : Room) (term : TermForm) : Type 0 where
+  pub nested : length term.aggregations ≤ nest
+  pub few : length term.range.stages ≤ room.stages
+  pub few_tests : label_tests term.range.stages ≤ room.tests
+
+pub record IsRoomyTerm (nest : ℕ) (room : Room) (term : TermForm) (lexemes rest : List Lexeme) : Type 0 where
+  pub is : IsTerm room.depth term lexemes rest
+  pub fits : Fits nest room term
+
+-- What is read is derived.
+
+abbrev IsSound : TermReader → Type 0
+IsSound inside = (position : Position) (nest : ℕ) (room : Room) (lexemes : List Lexeme) (term : TermForm) (rest : List Lexeme) → inside position nest room lexemes ≡ Ok (term, rest) → IsRoomyTerm nest room term lexemes rest
+
+ranged_sound : (function : RangeFunction) (nest : ℕ) (room : Room) (lexemes behind : List Lexeme) (term : TermForm) (rest : List Lexeme) → Stand (tokens.Word (function_text function) ∷ []) lexemes behind → ranged_at false function room behind ≡ Ok (term, rest) → IsRoomyTerm nest room term lexemes rest
+unfolding ranged_at
+ranged_sound function nest room lexemes behind term rest word h =
+    let a = bind_ok (range_at false room behind) _ (term, rest) h in
+    let range = range_derived room behind a.0.0 a.0.1 a.1 in
+    let made : TermForm = record { aggregations = []; function = function; range = a.0.0 } in
+    let is : IsTerm (suc range.inside) made lexemes a.0.1 = inl (behind, word, range.is) in
+    let whole : IsRoomyTerm nest room made lexemes a.0.1 = record { is = subst (λ n. IsTerm n made lexemes a.0.1) (sym range.depth) is; fits = record { nested = omega arith; few = range.few; few_tests = range.few_tests } } in
+    subst (λ (p : TermForm × List Lexeme). IsRoomyTerm nest room p.0 lexemes p.1) (same_ok _ _ a.2) whole
+
+aggregated_sound : (inside : TermReader) → IsSound inside → (word : List ℕ) (nest : ℕ) (room : Room) (lexemes behind : List Lexeme) (term : TermForm) (rest : List Lexeme) → is_operator_word word ≡ true → Stand (tokens.Word word ∷ []) lexemes behind → aggregated_at inside word nest room behind ≡ Ok (term, rest)
+    → IsRoomyTerm nest room term lexemes rest
+unfolding aggregated_at
+aggregated_sound inside sound word nest room lexemes behind term rest operator stand h =
+    let a = bind_ok (front_at word nest room behind) _ (term, rest) h in
+    let b = bind_ok (inside positions.InTerm a.0.0.nest a.0.0.room a.0.1) _ (term, rest) a.2 in
+    let c = bind_ok (ended_at a.0.0 room b.0.1) _ (term, rest) b.2 in
+    let front = front_read word nest room a.0.0 behind a.0.1 operator a.1 in
+    let inner = sound positions.InTerm a.0.0.nest a.0.0.room a.0.1 b.0.0 b.0.1 b.1 in
+    let ended = ended_read a.0.0 room c.0.0 b.0.1 c.0.1 c.1 in
+    let aggregation : IsAggregation (IsTerm a.0.0.room.depth b.0.0) c.0.0 lexemes c.0.1 = record {
+      behind_word = behind;
+      behind_grouping = front.behind_grouping;
+      behind_parenthesis = front.behind_parenthesis;
+      behind_parameter = a.0.1;
+      end = b.0.1;
+      behind_end = ended.behind;
+      front = a.0.0.grouping;
+      back = ended.back.back;
+      word = subst (λ w. Stand (tokens.Word w ∷ []) lexemes behind) (front.word_is ∙ ap operator_word ended.operator) stand;
+      grouped = front.grouped;
+      opened = front.opened.stand;
+      parameter = subst (λ o. IsParameter o front.behind_parenthesis a.0.1) ended.operator front.parameter;
+      inside = inner.is;
+      closed = ended.closed;
+      grouped_behind = ended.back.grouped;
+      one_side = ended.back.one_side;
+    } in
+    let made : TermForm = around c.0.0 b.0.0 in
+    let is : IsTerm (suc a.0.0.room.depth) made lexemes c.0.1 = inl aggregation in
+    let fits : Fits nest room made = record {
+      nested = omega (arith, front.fewer, inner.fits.nested);
+      few = subst (λ n. length b.0.0.range.stages ≤ n) front.opened.stages inner.fits.few;
+      few_tests = subst (λ n. label_tests b.0.0.range.stages ≤ n) front.opened.tests inner.fits.few_tests;
+    } in
+    let whole : IsRoomyTerm nest room made lexemes c.0.1 = record { is = subst (λ n. IsTerm n made lexemes c.0.1) (sym front.opened.depth) is; fits = fits } in
+    subst (λ (p : TermForm × List Lexeme). IsRoomyTerm nest room p.0 lexemes p.1) (same_ok _ _ c.2) whole
+
+enclosed_sound : (inside : TermReader) → IsSound inside → (nest : ℕ) (room : Room) (lexemes : List Lexeme) (term : TermForm) (rest : List Lexeme) → in_parentheses positions.InTerm (inside positions.InTerm nest) room lexemes ≡ Ok (term, rest) → IsRoomyTerm nest room term lexemes rest
+enclosed_sound inside sound nest room lexemes term rest h =
+    let p = parentheses_read positions.InTerm (inside positions.InTerm nest) room term lexemes rest h in
+    let inner = sound positions.InTerm nest p.room_inside p.behind term p.end p.read in
+    let is : IsTerm (suc p.room_inside.depth) term lexemes rest = inr (record { behind = p.behind; end = p.end; opened = p.opened.stand; inside = inner.is; closed = p.closed }) in
+    record {
+      is = subst (λ n. IsTerm n term lexemes rest) (sym p.opened.depth) is;
+      fits = record {
+        nested = inner.fits.nested;
+        few = subst (λ n. length term.range.stages ≤ n) p.opened.stages inner.fits.few;
+        few_tests = subst (λ n. label_tests term.range.stages ≤ n) p.opened.tests inner.fits.few_tests;
+      };
+    }
+
+begun_sound : (inside : TermReader) → IsSound inside → (position : Position) (place : ℕ) (token : Token) (nest : ℕ) (room : Room) (all behind : List Lexeme) (term : TermForm) (rest : List Lexeme) → Stand (token ∷ []) all behind → begun_at false inside position place token nest room all behind ≡ Ok (term, rest)
+    → IsRoomyTerm nest room term all rest
+begun_sound inside sound position place (tokens.Word word) nest room all behind term rest stand h =
+    ⊎_elim
+    (λ aggregated. aggregated_sound inside sound word nest room all behind term rest aggregated.0 stand aggregated.1)
+    (λ other. ⊎_elim
+    (λ none. absurd (no_err _ (term, rest) none.1))
+    (λ some. ranged_sound some.0 nest room all behind term rest (subst (λ w. Stand (tokens.Word w ∷ []) all behind) (function_read word some.0 some.1) stand) some.2)
+    (by_option (λ function. ranged_at false function room behind) (function_with_text word) (Err (refusal position place (tokens.Word word))) (term, rest) other.1))
+    (chosen (is_operator_word word) _ _ (Ok (term, rest)) h)
+begun_sound inside sound position place (tokens.Sign sign) nest room all behind term rest stand h =
+    ⊎_elim (λ yes. enclosed_sound inside sound nest room all term rest yes.1) (λ no. absurd (no_err _ (term, rest) no.1)) (chosen (is_sign signs.OpenParenthesis (tokens.Sign sign)) _ _ (Ok (term, rest)) h)
+begun_sound inside sound position place _ nest room all behind term rest stand h = absurd (no_err _ (term, rest) h)
+
+by_sound : (inside : TermReader) → IsSound inside → IsSound (term_by false inside)
+unfolding term_by
+by_sound inside sound position nest room lexemes term rest h =
+    let a = bind_ok (next lexemes) _ (term, rest) h in
+    begun_sound inside sound position a.0.0.place a.0.0.token nest room lexemes a.0.1 term rest (one_read a.0.0.token lexemes a.0.1 a.0.0 a.1 refl) a.2
+
+in_sound : (turns : ℕ) → IsSound (term_in false turns)
+in_sound zero position nest room lexemes term rest h = absurd (no_err _ (term, rest) h)
+in_sound (suc turns) position nest room lexemes term rest h = by_sound (term_in false turns) (in_sound turns) position nest room lexemes term rest h
+
+pub term_derived : (position : Position) (room : Room) (lexemes : List Lexeme) (term : TermForm) (rest : List Lexeme) → term_at false position room lexemes ≡ Ok (term, rest) → IsRoomyTerm most_aggregations room term lexemes rest
+term_derived position room lexemes term rest h = in_sound (suc room.depth) position most_aggregations room lexemes term rest h
+
+-- What is derived is read.
+
+abbrev IsComplete : (depth : ℕ) → TermReader → Type 0
+IsComplete depth inside = (position : Position) (nest : ℕ) (room : Room) (lexemes : List Lexeme) (term : TermForm) (rest : List Lexeme) → room.depth ≡ depth → IsTerm depth term lexemes rest → Fits nest room term → EndsTerm rest → inside position nest room lexemes ≡ Ok (term, rest)
+
+aggregated_complete : (depth : ℕ) (inside : TermReader) → IsComplete depth inside → (fewer : ℕ) (room : Room) (aggregation : AggregationForm) (term : TermForm) (lexemes rest : List Lexeme) → room.depth ≡ suc depth → (is : IsAggregation (IsTerm depth term) aggregation lexemes rest) → Fits fewer room term → EndsTerm rest
+    → aggregated_at inside (operator_word aggregation.operator) (suc fewer) room is.behind_word ≡ Ok (around aggregation term, rest)
+aggregated_complete depth inside complete fewer room aggregation term lexemes rest deep is fits ends =
+    let inner = inside_room room depth in
+    let front = front_of aggregation.operator is.front fewer inner in
+    let before = front_is aggregation.operator is.front fewer room depth is.behind_word is.behind_grouping is.behind_parenthesis is.behind_parameter deep is.grouped is.opened is.parameter in
+    let read = complete positions.InTerm fewer inner is.behind_parameter term is.end refl is.inside (record { nested = fits.nested; few = fits.few; few_tests = fits.few_tests }) (ends_term_at (tokens.Sign signs.CloseParenthesis) [] is.end is.behind_end is.closed refl refl) in
+    let ended = ended_is front room depth is.back aggregation is.end is.behind_end rest deep refl is.closed is.one_side is.grouped_behind ends in
+    aggregated_by inside (operator_word aggregation.operator) (suc fewer) room is.behind_word is.behind_parameter front (Ok (around aggregation term, rest)) before (rw (read, ended) refl)
+
+bare_complete : (depth : ℕ) (inside : TermReader) → IsComplete depth inside → (position : Position) (nest : ℕ) (room : Room) (lexemes : List Lexeme) (aggregations : List AggregationForm) (function : RangeFunction) (range : RangeForm) (rest : List Lexeme) → room.depth ≡ suc depth
+    → IsBare depth (IsTerm depth) aggregations function range lexemes rest → Fits nest room (record { aggregations = aggregations; function = function; range = range }) → EndsTerm rest → term_by false inside position nest room lexemes ≡ Ok (record { aggregations = aggregations; function = function; range = range }, rest)
+unfolding term_by ranged_at
+bare_complete depth inside complete position nest room lexemes [] function range rest deep is fits ends =
+    let a = next_is (tokens.Word (function_text function)) [] lexemes is.0 is.1 in
+    let read = range_is room range a.behind rest (record { inside = depth; depth = deep; is = subst (λ ls. IsRange depth range ls rest) (sym a.more) is.2; few = fits.few; few_tests = fits.few_tests }) in
+    rw (a.is, no_operator function, function_is function, read) refl
+bare_complete depth inside complete position zero room lexemes (aggregation ∷ aggregations) function range rest deep is fits ends = absurd (omega (arith, fits.nested))
+bare_complete depth inside complete position (suc fewer) room lexemes (aggregation ∷ aggregations) function range rest deep is fits ends =
+    let term : TermForm = record { aggregations = aggregations; function = function; range = range } in
+    let a = next_is (tokens.Word (operator_word aggregation.operator)) [] lexemes is.behind_word is.word in
+    let read = aggregated_complete depth inside complete fewer room aggregation term lexemes rest deep is (record { nested = omega (arith, fits.nested); few = fits.few; few_tests = fits.few_tests }) ends in
+    let there = subst (λ ls. aggregated_at inside (operator_word aggregation.operator) (suc fewer) room ls ≡ Ok (around aggregation term, rest)) (sym a.more) read in
+    rw (a.is, word_of_operator aggregation.operator, there) refl
+
+in_complete : (depth : ℕ) → IsComplete depth (term_in false (suc depth))
+unfolding term_by
+in_complete zero position nest room lexemes term rest deep is fits ends = absurd is
+in_complete (suc depth) position nest room lexemes term rest deep (inl bare) fits ends = bare_complete depth (term_in false (suc depth)) (in_complete depth) position nest room lexemes term.aggregations term.function term.range rest deep bare fits ends
+in_complete (suc depth) position nest room lexemes term rest deep (inr p) fits ends =
+    let a = next_is (tokens.Sign signs.OpenParenthesis) [] lexemes p.behind p.opened in
+    let stops = ends_term_at (tokens.Sign signs.CloseParenthesis) [] p.end rest p.closed refl refl in
+    let read = in_complete depth positions.InTerm nest (inside_room room depth) p.behind term p.end refl p.inside (record { nested = fits.nested; few = fits.few; few_tests = fits.few_tests }) stops in
+    rw (a.is, parentheses_are positions.InTerm (term_in false (suc depth) positions.InTerm nest) room depth term lexemes p.behind p.end rest deep p.opened p.closed read) refl
+
+pub term_is : (position : Position) (room : Room) (lexemes : List Lexeme) (term : TermForm) (rest : List Lexeme) → IsRoomyTerm most_aggregations room term lexemes rest → EndsTerm rest → term_at false position room lexemes ≡ Ok (term, rest)
+term_is position room lexemes term rest roomy ends = in_complete room.depth position most_aggregations room lexemes term rest refl roomy.is roomy.fits ends

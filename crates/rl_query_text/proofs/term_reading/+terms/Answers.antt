@@ -1,0 +1,55 @@
+-- What is inside takes a parenthesis.
+use Rattle.std.proofs.Common.{◌≡◌, List, Bor, ◌∙◌, Ok, sym, ap, arith}
+use Rattle.std.proofs.lemmas.Result.{err_from_is_err_and}
+use Rattle.rl_query_text.specs.Drafts.{term_draft}
+use Rattle.rl_query.specs.Form.{TermForm, aggregation_form}
+use Rattle.rl_query_text.specs.QueryReading.{term_in}
+use Rattle.rl_query_text.specs.declared.draft.DraftTerm.{DraftTerm}
+use Rattle.rl_query.specs.declared.token.Lexeme.{Lexeme}
+use Rattle.rl_query.specs.declared.token.Token.TheVariants as tokens
+use Rattle.rl_query_text.specs.declared.parser.Position.TheVariants as positions
+use Rattle.rl_query_text.proofs.CrampedQueries.{opened_depth, enclosed_is, inside_stops, front_depth, aggregated_is, aggregated_stops, aggregated_late, worded_then}
+use Rattle.rl_query_text.proofs.term_reading.+terms.Goals as goal
+
+-- a draft and the tokens behind it
+abbrev view : DraftTerm × Bor (List Lexeme) → TermForm × List Lexeme
+view read = (term_draft read.0, read.1.now)
+
+pub aggregated_at-term_in-requires : goal.aggregated_at-term_in-requires
+aggregated_at-term_in-requires t c =
+    let depth = front_depth c.args.word.now c.args.nest c.args.room c.args.lexemes.now c.in_ok-front.front c.in_ok-front.rest.now c.in_ok-front.ensures.read in
+    (omega (arith, depth), tt)
+
+pub aggregated_at-returns-in_err-term : goal.aggregated_at-returns-in_err-term
+aggregated_at-returns-in_err-term t c =
+    let p = err_from_is_err_and c.from_residual-in_err-term.result c.from_residual-in_err-term.ensures.1 in
+    rw (p.1, p.2) (aggregated_stops view c.in_err-term.field-0.0 c.args.word.now c.args.nest c.args.room c.args.lexemes.now c.in_ok-front.rest.now c.in_ok-front.front c.in_ok-front.ensures.read c.in_err-term.ensures)
+
+pub aggregated_at-returns-in_err-aggregation : goal.aggregated_at-returns-in_err-aggregation
+aggregated_at-returns-in_err-aggregation t c =
+    let p = err_from_is_err_and c.from_residual-in_err-aggregation.result c.from_residual-in_err-aggregation.ensures.1 in
+    rw (p.1, p.2) (aggregated_late view c.in_err-aggregation.field-0.0 c.args.word.now c.args.nest c.args.room c.args.lexemes.now c.in_ok-front.rest.now c.in_ok-front.front (term_draft c.in_ok-term.term) c.in_ok-term.rest.now c.in_ok-front.ensures.read c.in_ok-term.ensures c.in_err-aggregation.ensures)
+
+pub aggregated_at-returns : goal.aggregated_at-returns
+aggregated_at-returns t c =
+    aggregated_is c.args.word.now c.args.nest c.args.room c.args.lexemes.now c.in_ok-front.rest.now c.in_ok-front.front (term_draft c.in_ok-term.term) c.in_ok-term.rest.now (aggregation_form c.in_ok-aggregation.aggregation) c.in_ok-aggregation.rest.now c.in_ok-front.ensures.read c.in_ok-term.ensures c.in_ok-aggregation.ensures
+    ∙ ap (λ term. Ok (term, c.in_ok-aggregation.rest.now)) (sym c.in_ok-term-2.ensures)
+
+pub enclosed_at-term_in-requires : goal.enclosed_at-term_in-requires
+enclosed_at-term_in-requires t c =
+    let depth = opened_depth positions.InTerm c.args.room c.in_ok-inside.inside c.args.lexemes.now c.in_ok-inside.rest.now c.in_ok-inside.ensures in
+    (omega (arith, depth), tt)
+
+pub enclosed_at-returns-in_err-term : goal.enclosed_at-returns-in_err-term
+enclosed_at-returns-in_err-term t c =
+    let p = err_from_is_err_and c.from_residual-in_err-term.result c.from_residual-in_err-term.ensures.1 in
+    rw (p.1, p.2) (inside_stops view positions.InTerm c.in_err-term.field-0.0 (λ cramped turns. term_in cramped turns positions.InTerm c.args.nest) c.args.room c.in_ok-inside.inside c.args.lexemes.now c.in_ok-inside.rest.now c.in_ok-inside.ensures c.in_err-term.ensures)
+
+pub enclosed_at-returns : goal.enclosed_at-returns
+enclosed_at-returns t c = enclosed_is c.args.nest c.args.room c.in_ok-inside.inside c.args.lexemes.now c.in_ok-inside.rest.now (term_draft c.in_ok-term.term) c.in_ok-term.rest.now c.in_ok-rest.rest.now c.in_ok-inside.ensures c.in_ok-term.ensures c.in_ok-rest.ensures
+
+pub term_in-returns-in-Word : goal.term_in-returns-in-Word
+term_in-returns-in-Word t c =
+    let word = c.as_str.result.now in
+    let token : c.in_ok-first.first.now.token ≡ tokens.Word word = c.in-Word.is ∙ ap tokens.Word (sym c.as_str.ensures) in
+    worded_then view c.worded_at.result c.args.position c.args.nest c.args.room c.args.lexemes.now c.in_ok-first.rest.now c.in_ok-first.first.now word c.in_ok-first.ensures token c.worded_at.ensures

@@ -1,0 +1,22 @@
+-- The tests so far, and what is left. A parenthesis that is opened takes one of those that may still be.
+use Rattle.std.proofs.Common.{◌+◌, ◌-◌, ◌*◌}
+use Rattle.rl_query.specs.Form.{tests_form}
+use Rattle.rl_query_text.specs.Testing.{joined_at, part_at, inside_at}
+use Rattle.rl_query_text.proofs.Chains.{AreJoined, part_rank}
+use Rattle.rl_query_text.proofs.testing.+tests.Given as goal
+
+abbrev pub decreases-enclosed_at : goal.decreases-enclosed_at
+decreases-enclosed_at l = 6 * l.depth
+
+abbrev pub decreases-one_at : goal.decreases-one_at
+decreases-one_at l = 6 * l.depth + 1
+
+abbrev pub decreases-part_at : goal.decreases-part_at
+decreases-part_at l = 6 * l.depth + part_rank l.join
+
+abbrev pub decreases-joined_at : goal.decreases-joined_at
+decreases-joined_at l = 6 * l.depth + part_rank l.join + 1
+
+abbrev pub invariant-joined_at-loop-turn : goal.invariant-joined_at-loop-turn
+invariant-joined_at-loop-turn l =
+    AreJoined l.join (part_at l.join (inside_at l.depth)) (l.left - l._turn) (tests_form l.tests) l.fewer l.rest (joined_at l.join (part_at l.join (inside_at l.depth)) l.fn.left l.fn.lexemes)

@@ -1,0 +1,16 @@
+pub mod AggregationReading
+pub mod Answering
+pub mod Drafts
+pub mod Grammar
+pub mod Lexing
+pub mod Parsing
+pub mod Printing
+pub mod QueryReading
+pub mod Sieving
+pub mod TermGrammar
+pub mod TestGrammar
+pub mod TestPrinting
+pub mod Testing
+pub mod Fronts
+pub mod Standing
+pub mod MatcherPrinting

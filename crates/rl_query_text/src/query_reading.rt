@@ -1,0 +1,278 @@
+//! Queries, read from their tokens: ratios of terms and their thresholds.
+ghost use Rattle.std.specs.Prelude.{◌≡◌, ◌-◌, Ok, IfOk, suc, map, length, option_map};
+ghost use Rattle.rl_plain.specs.Answers.{Answers};
+ghost use Rattle.rl_query_text.specs.Answering.{Reads};
+ghost use Rattle.rl_query_text.specs.Drafts.{term_draft, query_draft, KeepsQuery};
+ghost use Rattle.rl_query.specs.Form.{stage_form, tests_of, label_tests, query_form, threshold_form};
+ghost use Rattle.rl_query.specs.TestTree.{count_tests};
+ghost use Rattle.rl_query_text.specs.QueryReading.{in_parentheses, room_behind, is_term, over_at, divided_at, comes_to_test, compared_at, with_test, lone_at, operand_at, behind_at, query_within, ends, whole_room, whole_at, query_in};
+ghost use Rattle.rl_query_text.specs.declared.parser.Position.TheVariants as positions;
+
+use rl_query::aggregation::Threshold;
+use crate::aggregation_reading::{compared_by, threshold_at};
+use crate::draft::{DraftQuery, DraftTerm, made_query};
+use rl_query::fault::{QueryError, QueryFault};
+use rl_query::label_test::{LabelTests, TestParts};
+use crate::parser::{Position, expected, is_sign, next, opened_at, refusal};
+use rl_query::quantity_test::Comparison;
+use rl_query::query::Query;
+use crate::room::Room;
+use crate::stage::MOST_STAGES;
+use rl_query::stages::Stage;
+use crate::term_reading::term_at;
+use rl_query::token::{Lexeme, Sign, Token};
+use std::alloc::Global;
+
+// The most parentheses that are open at once.
+const MOST_PARENTHESES: usize = 64;
+
+// The most label tests of a text.
+const MOST_TESTS: usize = 256;
+
+// How many label tests may still come behind some.
+fn left_behind_tests(tests: &LabelTests, left: usize) -> usize
+    ensures { result ≡ left - count_tests tests.now }
+{
+    match tests.parts() {
+        TestParts::One(_) => left.saturating_sub(1),
+        TestParts::Joined(_, one, other) => left_behind_tests(other, left_behind_tests(one, left)),
+    }
+}
+
+fn left_behind_stage(stage: &Stage, left: usize) -> usize
+    ensures { result ≡ left - tests_of (stage_form stage.now) }
+{
+    match stage {
+        Stage::Filter(_) | Stage::Parser(_) => left,
+        Stage::Tests(tests) => left_behind_tests(tests, left),
+    }
+}
+
+fn left_behind_stages(stages: &[Stage], left: usize) -> usize
+    ensures { result ≡ left - label_tests (map stage_form stages.now) }
+{
+    match stages {
+        [] => left,
+        [first, rest @ ..] => left_behind_stages(rest, left_behind_stage(first, left)),
+    }
+}
+
+// What a text may still have behind a term.
+fn room_behind(term: &DraftTerm, room: Room) -> Room
+    ensures { result ≡ room_behind (term_draft term.now) room }
+{
+    Room {
+        depth: room.depth,
+        stages: room.stages.saturating_sub(term.range.stages.len()),
+        tests: left_behind_stages(&term.range.stages, room.tests),
+    }
+}
+
+// A term that is not divided or compared.
+fn is_term(query: &DraftQuery) -> bool
+    ensures { result ≡ is_term (query_draft query.now) }
+{
+    query.over.is_none() && query.test.is_none()
+}
+
+// The divisor behind a term.
+#[tactic(auto, unfolding(crate::specs::QueryReading::over_at))]
+fn over_at(
+    alloc: Global,
+    left: DraftTerm,
+    room: Room,
+    lexemes: &[Lexeme],
+) -> Result<(DraftQuery, &[Lexeme]), QueryError>
+    ensures { Reads (λ x. (query_draft x.0, x.1.now)) result (λ cramped. over_at cramped (term_draft left) room lexemes.now) }
+{
+    let room = room_behind(&left, room);
+    let (over, rest) = term_at(alloc, Position::Divisor, room, lexemes)?;
+    let query = DraftQuery {
+        left,
+        over: Some(over),
+        test: None,
+    };
+    Ok((query, rest))
+}
+
+// The same where a slash comes.
+#[tactic(auto, unfolding(crate::specs::QueryReading::divided_at))]
+fn divided_at(
+    alloc: Global,
+    query: DraftQuery,
+    room: Room,
+    lexemes: &[Lexeme],
+) -> Result<(DraftQuery, &[Lexeme]), QueryError>
+    ensures { Reads (λ x. (query_draft x.0, x.1.now)) result (λ cramped. divided_at cramped (query_draft query) room lexemes.now) }
+{
+    let (first, rest) = next(lexemes)?;
+    if is_term(&query) && is_sign(Sign::Slash, &first.token) {
+        return over_at(alloc, query.left, room, rest);
+    }
+    Ok((query, lexemes))
+}
+
+// The comparison that comes, where the query has none.
+fn comes_to_test(query: &DraftQuery, token: &Token) -> Option<Comparison>
+    ensures { result ≡ comes_to_test (query_draft query.now) token.now }
+{
+    if query.test.is_some() {
+        return None;
+    }
+    compared_by(token)
+}
+
+// The threshold behind a quotient, where a comparison comes.
+#[tactic(auto, unfolding(crate::specs::QueryReading::compared_at))]
+fn compared_at<'a>(
+    query: &DraftQuery,
+    lexemes: &'a [Lexeme],
+) -> Result<(Option<Threshold>, &'a [Lexeme]), QueryFault>
+    ensures { Answers (λ x. (option_map threshold_form x.0, x.1.now)) result (compared_at (query_draft query.now) lexemes.now) }
+{
+    let (first, rest) = next(lexemes)?;
+    match comes_to_test(query, &first.token) {
+        Some(comparison) => match threshold_at(comparison, rest) {
+            Ok((test, rest)) => Ok((Some(test), rest)),
+            Err(fault) => Err(fault),
+        },
+        None => Ok((None, lexemes)),
+    }
+}
+
+// The query with the threshold that was read behind it.
+fn with_test(query: DraftQuery, test: Option<Threshold>) -> DraftQuery
+    ensures { query_draft result ≡ with_test (query_draft query) (option_map threshold_form test) }
+{
+    match test {
+        Some(test) => DraftQuery {
+            left: query.left,
+            over: query.over,
+            test: Some(test),
+        },
+        None => query,
+    }
+}
+
+// What an operand is divided by and compared with.
+#[tactic(auto, using(crate::proofs::CrampedQueries::behind_late), unfolding(crate::specs::QueryReading::behind_at))]
+fn behind_at(
+    alloc: Global,
+    operand: DraftQuery,
+    room: Room,
+    lexemes: &[Lexeme],
+) -> Result<(DraftQuery, &[Lexeme]), QueryError>
+    ensures { Reads (λ x. (query_draft x.0, x.1.now)) result (λ cramped. behind_at cramped (query_draft operand) room lexemes.now) }
+{
+    let (query, rest) = divided_at(alloc, operand, room, lexemes)?;
+    match compared_at(&query, rest) {
+        Ok((test, rest)) => Ok((with_test(query, test), rest)),
+        Err(fault) => Err(QueryError::Fault(fault)),
+    }
+}
+
+// A term as a query.
+#[tactic(auto, unfolding(crate::specs::QueryReading::lone_at))]
+fn lone_at(
+    alloc: Global,
+    room: Room,
+    lexemes: &[Lexeme],
+) -> Result<(DraftQuery, &[Lexeme]), QueryError>
+    ensures { Reads (λ x. (query_draft x.0, x.1.now)) result (λ cramped. lone_at cramped room lexemes.now) }
+{
+    let (left, rest) = term_at(alloc, Position::Start, room, lexemes)?;
+    let query = DraftQuery {
+        left,
+        over: None,
+        test: None,
+    };
+    Ok((query, rest))
+}
+
+// A query in parentheses.
+#[cycle(queries)]
+#[tactic(auto, unfolding(crate::specs::QueryReading::in_parentheses))]
+fn inner_at(
+    alloc: Global,
+    room: Room,
+    lexemes: &[Lexeme],
+) -> Result<(DraftQuery, &[Lexeme]), QueryError>
+    ensures { Reads (λ x. (query_draft x.0, x.1.now)) result (λ cramped. in_parentheses positions.Start (query_within cramped room.depth) room lexemes.now) }
+{
+    let (inside, rest) = opened_at(Position::Start, room, lexemes)?;
+    let (query, rest) = query_at(alloc, inside, rest)?;
+    let rest = expected(Sign::CloseParenthesis, Position::BehindTerm, rest)?;
+    Ok((query, rest))
+}
+
+// A query in parentheses, or a term.
+#[cycle(queries)]
+#[tactic(auto, unfolding(crate::specs::QueryReading::operand_at))]
+fn operand_at(
+    alloc: Global,
+    room: Room,
+    lexemes: &[Lexeme],
+) -> Result<(DraftQuery, &[Lexeme]), QueryError>
+    ensures { Reads (λ x. (query_draft x.0, x.1.now)) result (λ cramped. operand_at cramped (query_within cramped room.depth) room lexemes.now) }
+{
+    let (first, _) = next(lexemes)?;
+    if is_sign(Sign::OpenParenthesis, &first.token) {
+        return inner_at(alloc, room, lexemes);
+    }
+    lone_at(alloc, room, lexemes)
+}
+
+// An operand, and what stands behind it.
+#[cycle(queries)]
+#[tactic(auto, unfolding(crate::specs::QueryReading::query_by))]
+fn query_at(
+    alloc: Global,
+    room: Room,
+    lexemes: &[Lexeme],
+) -> Result<(DraftQuery, &[Lexeme]), QueryError>
+    ensures { Reads (λ x. (query_draft x.0, x.1.now)) result (λ cramped. query_within cramped (suc room.depth) room lexemes.now) }
+{
+    let (operand, rest) = operand_at(alloc, room, lexemes)?;
+    let (query, rest) = behind_at(alloc, operand, room, rest)?;
+    Ok((query, rest))
+}
+
+// Nothing follows a query.
+fn ends(lexeme: &Lexeme) -> Result<(), QueryFault>
+    ensures { result ≡ ends lexeme.now.place lexeme.now.token }
+{
+    match &lexeme.token {
+        Token::End => Ok(()),
+        token => Err(refusal(Position::BehindTerm, lexeme.place, token)),
+    }
+}
+
+// All that a text may have.
+fn whole_room() -> Room
+    ensures { result ≡ whole_room }
+{
+    Room {
+        depth: MOST_PARENTHESES,
+        stages: MOST_STAGES,
+        tests: MOST_TESTS,
+    }
+}
+
+// A query with all of that.
+fn whole_at(alloc: Global, lexemes: &[Lexeme]) -> Result<(DraftQuery, &[Lexeme]), QueryError>
+    ensures read { Reads (λ x. (query_draft x.0, x.1.now)) result (λ cramped. whole_at cramped lexemes.now) }
+    ensures keeps { IfOk result (λ x. KeepsQuery x.0) }
+{
+    query_at(alloc, whole_room(), lexemes)
+}
+
+// The query that all tokens are.
+#[tactic(auto, using(crate::proofs::CrampedQueries::query_late), unfolding(crate::specs::QueryReading::query_in))]
+pub(crate) fn query_in(alloc: Global, lexemes: &[Lexeme]) -> Result<Query, QueryError>
+    ensures { Reads query_form result (λ cramped. query_in cramped lexemes.now) }
+{
+    let (query, rest) = whole_at(alloc, lexemes)?;
+    let (lexeme, _) = next(rest)?;
+    ends(lexeme)?;
+    Ok(made_query(query))
+}

@@ -1,0 +1,98 @@
+//! Sieves: what a delete request covers, read from texts and printed canonically.
+ghost use Rattle.std.specs.Prelude.{◌≡◌, ◌≤◌, IfOk, IfErr, MatchResult, length, map, string_bytes};
+ghost use Rattle.rl_query_text.specs.Answering.{Reads, IsForRoom};
+ghost use Rattle.rl_query.specs.Form.{SieveForm, filter_form, sieve_form, sieve_has_pattern};
+ghost use Rattle.rl_query_text.specs.Grammar.{DerivesSieve};
+ghost use Rattle.rl_query.specs.Limits.{most_stages};
+ghost use Rattle.rl_query_text.specs.Printing.{sieve_text};
+ghost use Rattle.rl_query_text.specs.Sieving.{behind_filters, sieve_ends, rest_at, sieve_in, sieve_of};
+ghost use Rattle.rl_query.specs.declared.filter.Sieve.{Sieve};
+
+use rl_query::fault::{QueryError, QueryFault};
+use rl_query::filter::{LineFilter, Sieve};
+use crate::lexer::lexemes_of;
+use crate::parser::{Position, expected, next, refusal, selector_at};
+use crate::printer::{push_filters, push_matchers};
+use crate::stage::filters_in;
+use rl_query::token::{Lexeme, Sign, Token};
+use rl_plain::PlainList;
+use std::alloc::{AllocError, Global};
+
+/// The sieve that a whole text is, or the first fault from the left: a selector and line filters (LogQL).
+pub fn parse_delete(alloc: Global, text: &str) -> Result<Sieve, QueryError>
+    ensures read { Reads sieve_form result (λ cramped. sieve_of cramped text.now) }
+    ensures derives { IfOk result (λ sieve. DerivesSieve text.now (sieve_form sieve)) }
+    ensures complete { (sieve : SieveForm) → DerivesSieve text.now sieve → MatchResult result (λ same. sieve_form same ≡ sieve) (IsForRoom (sieve_has_pattern sieve)) }
+    ensures again { (sieve : Sieve) → text.now ≡ sieve_text (sieve_form sieve) → MatchResult result (λ same. same ≡ sieve) (IsForRoom (sieve_has_pattern (sieve_form sieve))) }
+{
+    read(alloc, text)
+}
+
+fn read(alloc: Global, text: &str) -> Result<Sieve, QueryError>
+    ensures { Reads sieve_form result (λ cramped. sieve_of cramped text.now) }
+{
+    let lexemes = lexemes_of(alloc, text)?;
+    sieve_in(alloc, &lexemes)
+}
+
+/// The canonical text of a sieve, which no other sieve has, as `{app="a"} |= "error"`.
+pub fn print_sieve(alloc: Global, sieve: &Sieve) -> Result<String, AllocError>
+    ensures text { IfOk result (λ text. string_bytes text ≡ sieve_text (sieve_form sieve.now)) }
+    ensures alone { IfOk result (λ text. (other : Sieve) → string_bytes text ≡ sieve_text (sieve_form other) → other ≡ sieve.now) }
+{
+    let text = sieve_text(alloc, sieve)?;
+    Ok(text)
+}
+
+fn sieve_text(alloc: Global, sieve: &Sieve) -> Result<String, AllocError>
+    ensures { IfOk result (λ text. string_bytes text ≡ sieve_text (sieve_form sieve.now)) }
+{
+    let mut text = String::new(alloc);
+    text.push('{')?;
+    push_matchers(&mut text, sieve.selector.matchers.as_slice())?;
+    text.push('}')?;
+    push_filters(&mut text, sieve.filters.as_slice())?;
+    Ok(text)
+}
+
+fn behind_filters(filters: &[LineFilter]) -> Position
+    ensures { result ≡ behind_filters (map filter_form filters.now) }
+{
+    match filters {
+        [] => Position::BehindSieveSelector,
+        _ => Position::BehindSieveFilter,
+    }
+}
+
+fn sieve_ends(position: Position, lexeme: &Lexeme) -> Result<(), QueryFault>
+    ensures { result ≡ sieve_ends position lexeme.now.place lexeme.now.token }
+{
+    match &lexeme.token {
+        Token::End => Ok(()),
+        token => Err(refusal(position, lexeme.place, token)),
+    }
+}
+
+// The line filters of a sieve, and then the end.
+#[tactic(auto, using(crate::proofs::Cramped::rest_late), unfolding(crate::specs::Sieving::rest_at))]
+fn rest_at(alloc: Global, lexemes: &[Lexeme]) -> Result<Vec<LineFilter>, QueryError>
+    ensures read { Reads (λ filters. map filter_form filters.items) result (λ cramped. rest_at cramped lexemes.now) }
+    ensures few { IfOk result (λ filters. length filters.items ≤ most_stages) }
+{
+    let (filters, rest) = filters_in(alloc, lexemes)?;
+    let (last, _) = next(rest)?;
+    sieve_ends(behind_filters(&filters), last)?;
+    Ok(filters)
+}
+
+// The sieve that all tokens are.
+#[tactic(auto, using(crate::proofs::Cramped::sieve_late), unfolding(crate::specs::Sieving::sieve_in))]
+fn sieve_in(alloc: Global, lexemes: &[Lexeme]) -> Result<Sieve, QueryError>
+    ensures { Reads sieve_form result (λ cramped. sieve_in cramped lexemes.now) }
+{
+    let rest = expected(Sign::OpenBrace, Position::Elsewhere, lexemes)?;
+    let (selector, rest) = selector_at(alloc, rest)?;
+    let filters = rest_at(alloc, rest)?;
+    let filters = PlainList::from_vec(filters);
+    Ok(Sieve { selector, filters })
+}
