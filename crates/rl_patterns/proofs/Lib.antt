@@ -1,4 +1,5 @@
 pub mod Answered
 pub mod Crossing
+pub mod Emptiness
 pub mod Readings
 mod Examples

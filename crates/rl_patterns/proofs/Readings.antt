@@ -42,12 +42,25 @@ found_alike (Some (found, others)) a names text bytes h =
     is_match_alike h.1 text bytes true 0
     ∙ sym (ap (λ o. is_some (option_and_then (λ re. find_str re text 0) o)) (kept found others h.0))
 
+-- a tree that was read finds a match in a text exactly where its pattern has one there
+pub has_match-read : (source : List ℕ) (hir : Hir) (names : Names) (text : List ℕ) → Reads default_config source hir names →
+    ((k : ℕ) → get_or text k 0 < 256) → is_some (find_str (meaning hir) text 0) ≡ has_match source text
+unfolding Reads has_match read_as
+has_match-read source hir names text h bytes = found_alike (read default_config (chars source)) (meaning hir) names text bytes h
+
+-- what is no pattern has none anywhere
+pub has_match-refused : (source text : List ℕ) → is_pattern source ≡ false → has_match source text ≡ false
+unfolding is_pattern has_match
+has_match-refused source text h = none_in (read_as source) h
+  where
+    none_in : (o : Option Re) → is_some o ≡ false → is_some (option_and_then (λ re. find_str re text 0) o) ≡ false
+    none_in None h = refl
+    none_in (Some re) h = absurd cc
+
 -- a built regex finds a match in a text exactly where its text has one there
 pub has_match_of : (r : Regex) (text : List ℕ) → IsBuilt r → ((k : ℕ) → get_or text k 0 < 256) →
     is_some (find_str (regex_pattern r) text 0) ≡ has_match (regex_source r) text
-unfolding Reads has_match read_as
-has_match_of r text (is_default, is_read) bytes =
-    found_alike (read default_config (chars (regex_source r))) _ _ text bytes (rw is_default at is_read)
+has_match_of r text (is_default, is_read) bytes = has_match-read (regex_source r) _ _ text (rw is_default at is_read) bytes
 
 some_read : (o : Option (Nested Re × Names)) (a : Re) (names : Names) →
     IsSomeAnd o (ReadWith a names) →

@@ -1,3 +1,4 @@
 pub mod Building
+pub mod Empty
 pub mod Matching
 pub mod laws

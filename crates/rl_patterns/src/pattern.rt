@@ -159,7 +159,7 @@ pub fn is_whole_pattern(alloc: Global, pattern: &str) -> Result<bool, AllocError
 }
 
 // The pattern that matches whole values alone.
-fn wrapped(alloc: Global, pattern: &str) -> Result<String, AllocError>
+pub(crate) fn wrapped(alloc: Global, pattern: &str) -> Result<String, AllocError>
     ensures { IfOk result (λ text. string_bytes text ≡ wrapped pattern.now) }
 {
     let mut text = String::from_str(alloc, "^(?:")?;
