@@ -1,12 +1,12 @@
 //! Label matchers, as in LogQL's stream selectors.
-ghost use Rattle.std.specs.Prelude.{◌≡◌, IfOk, IfErr, IsOk, IsTrue, not, true};
+ghost use Rattle.std.specs.Prelude.{◌≡◌, IfOk, IfErr, IsOk, IsTrue, not, true, []};
 ghost use Rattle.rl_plain.specs.declared.refusal.OrMemory.TheVariants.{Fault};
 ghost use Rattle.rl_patterns.specs.Matching.{is_whole_pattern};
 ghost use Rattle.rl_labels.specs.Name.{is_name};
-ghost use Rattle.rl_labels.specs.Operators.{is_by_pattern, is_comparable, refusal_of, IsRefusedMatcher, IsUnbuilt, IsUnread};
+ghost use Rattle.rl_labels.specs.Operators.{is_by_pattern, is_comparable, passes, refusal_of, IsRefusedMatcher, IsUnbuilt, IsUnread};
 
 use crate::labels::{Labels, is_label_name};
-use rl_patterns::{PatternError, WholePatternCode, is_whole_pattern};
+use rl_patterns::{PatternError, WholePatternCode, is_whole_pattern, matches_empty};
 use rl_plain::{OrMemory, PlainText, Same, TryCopy};
 use std::alloc::AllocError;
 use std::cmp::Ordering;
@@ -108,6 +108,21 @@ impl Matcher {
             None
         };
         Ok(MatcherCode { matcher, pattern })
+    }
+
+    /// Whether the matcher accepts a stream without its label, which reads as the empty text. A pattern is read and not
+    /// built.
+    pub fn accepts_missing(&self) -> Result<bool, AllocError>
+        ensures answer { IfOk result (λ answer. answer ≡ passes self.now.op self.now.value []) }
+        ensures no_memory { IsTrue (not (is_by_pattern self.now.op)) → IsOk result }
+    {
+        let value = self.value.as_str();
+        match self.op {
+            MatchOp::Equal => Ok(value.is_empty()),
+            MatchOp::NotEqual => Ok(!value.is_empty()),
+            MatchOp::Matches => matches_empty(self.value.allocator(), value),
+            MatchOp::NotMatches => Ok(!matches_empty(self.value.allocator(), value)?),
+        }
     }
 }
 

@@ -1,14 +1,14 @@
 -- Where a tree matches the empty text.
 use Rattle.std.proofs.Common.{◌≡◌, ℕ, zero, suc, ◌+◌, ◌-◌, Bool, true, false, cond, ◌&&◌, ◌||◌, List, [], ◌∷◌, Option, Some, None, is_some, option_map, option_and_then, if◌then◌else◌, refl, sym, ap, ap₂, ◌∙◌, arith}
+use Rattle.std.proofs.Math.Bool.{and_assoc, and-true, and_self, or-true, and-or_distrib_right}
 use Rattle.std.specs.Option.{option_or}
 use Rattle.std.specs.Char.{len_utf8}
 use Rattle.regex_class.specs.Ranges.{in_ranges}
 use Rattle.regex_hir.specs.Looks.{Side, holds, holds_between}
-use Rattle.regex_hir.specs.Text.{has_bytes_at, char_at}
+use Rattle.regex_hir.specs.Text.{byte_before, has_bytes_at, char_at, is_boundary}
 use Rattle.regex_hir.specs.Re.{Re, empty, literal, byte_in, char_in, look, cat, alt, group, plus, Rest, accept, attempt}
 use Rattle.regex_hir.specs.Meaning.{meaning, optional, copies, up_to, repeat}
 use Rattle.regex_hir.specs.Find.{first_from, find_str}
-use Rattle.regex_hir.specs.Text.{byte_before, is_boundary}
 use Rattle.regex_hir.proofs.OptionLemmas.{is_some-write}
 use Rattle.regex_hir.proofs.TextLemmas.{char_at_past, char_before-zero}
 use Rattle.regex_hir.specs.declared.hir.Hir.{Hir}
@@ -27,74 +27,53 @@ is_some-cond : {A : Type 0} (b : Bool) (o : Option A) → is_some (cond b o None
 is_some-cond true o = refl
 is_some-cond false o = refl
 
-and_assoc : (a b c : Bool) → a && (b && c) ≡ (a && b) && c
-and_assoc true b c = refl
-and_assoc false b c = refl
-
-and_self : (b : Bool) → b && b ≡ b
-and_self true = refl
-and_self false = refl
-
 and_follows : (a b : Bool) → (a ≡ true → b ≡ true) → a && b ≡ a
 and_follows true b h = h refl
 and_follows false b h = refl
 
-or_true : (b : Bool) → b || true ≡ true
-or_true true = refl
-or_true false = refl
-
-or_and : (a b c : Bool) → (a && c) || (b && c) ≡ (a || b) && c
-or_and true b true = refl
-or_and true true false = refl
-or_and true false false = refl
-or_and false b c = refl
-
--- on the empty text a match goes on exactly where the tree matches nothing and what follows does
+-- from the one position of the empty text a match is found exactly where the tree matches it and what follows is found
 attempt_empty : (re : Re) (k : Rest) → is_some (attempt [] re k 0) ≡ tree_matches_empty re && is_some (k 0)
 unfolding attempt has_bytes_at char_at
 attempt_empty empty k = refl
 attempt_empty (literal []) k = refl
 attempt_empty (literal (b ∷ bs)) k = refl
 attempt_empty (byte_in rs) k = refl
-attempt_empty (char_in rs) k = ap (λ o. is_some (option_and_then (λ c. if in_ranges rs c then k (0 + len_utf8 c) else None) o)) (char_at_past [] 0 (omega arith))
+attempt_empty (char_in rs) k =
+    ap (λ o. is_some (option_and_then (λ c. if in_ranges rs c then k (0 + len_utf8 c) else None) o)) (char_at_past [] 0 (omega arith))
 attempt_empty (look l) k = is_some-cond (holds l [] 0) (k 0)
 attempt_empty (cat a b) k =
     attempt_empty a (attempt [] b k) ∙ ap (λ s. tree_matches_empty a && s) (attempt_empty b k)
-    ∙ and_assoc (tree_matches_empty a) (tree_matches_empty b) (is_some (k 0))
+    ∙ sym (and_assoc (tree_matches_empty a) (tree_matches_empty b) (is_some (k 0)))
 attempt_empty (alt a b) k =
     is_some-or (attempt [] a k 0) (attempt [] b k 0) ∙ ap₂ ◌||◌ (attempt_empty a k) (attempt_empty b k)
-    ∙ or_and (tree_matches_empty a) (tree_matches_empty b) (is_some (k 0))
+    ∙ sym (and-or_distrib_right (tree_matches_empty a) (tree_matches_empty b) (is_some (k 0)))
 attempt_empty (group n a) k = is_some-write _ _ _ ∙ attempt_empty a _ ∙ ap (λ s. tree_matches_empty a && s) (is_some-write _ _ _)
 attempt_empty (plus greedy a) k = attempt_empty a _
-
-and_true : (b : Bool) → b && true ≡ b
-and_true true = refl
-and_true false = refl
 
 is_some-first : {A B : Type 0} (f : A → B) (o : Option A) → is_some (option_or (option_map f o) None) ≡ is_some o
 is_some-first f None = refl
 is_some-first f (Some x) = refl
 
 -- a tree has a match in the empty text exactly where it matches it
-pub find_empty : (re : Re) → is_some (find_str re [] 0) ≡ tree_matches_empty re
+find_empty : (re : Re) → is_some (find_str re [] 0) ≡ tree_matches_empty re
 unfolding find_str first_from is_boundary
-find_empty re = is_some-first _ (attempt [] re accept 0) ∙ attempt_empty re accept ∙ and_true (tree_matches_empty re)
+find_empty re = is_some-first _ (attempt [] re accept 0) ∙ attempt_empty re accept ∙ and-true (tree_matches_empty re)
 
 optional_empty : (greedy : Bool) (a : Re) → tree_matches_empty (optional greedy a) ≡ true
-optional_empty true a = or_true (tree_matches_empty a)
+optional_empty true a = or-true (tree_matches_empty a)
 optional_empty false a = refl
 
 up_to_empty : (greedy : Bool) (n : ℕ) (a : Re) → tree_matches_empty (up_to greedy n a) ≡ true
 up_to_empty greedy zero a = refl
 up_to_empty greedy (suc n) a = optional_empty greedy _
 
--- the part and then what follows it, if that matches nothing where the part does
+-- copies of a part and then what matches the empty text where the part does
 copies_empty : (n : ℕ) (a b : Re) → (tree_matches_empty a ≡ true → tree_matches_empty b ≡ true) →
     tree_matches_empty (copies (suc n) a b) ≡ tree_matches_empty a
 copies_empty zero a b h = and_follows (tree_matches_empty a) (tree_matches_empty b) h
 copies_empty (suc n) a b h = ap (λ s. tree_matches_empty a && s) (copies_empty n a b h) ∙ and_self (tree_matches_empty a)
 
--- a repetition of no round at least matches the empty text
+-- a repetition that may have no round matches the empty text
 pub repeat_none : (max : Option ℕ) (greedy : Bool) (a : Re) → tree_matches_empty (repeat 0 max greedy a) ≡ true
 unfolding repeat
 repeat_none None greedy a = optional_empty greedy _
