@@ -9,6 +9,7 @@ use Rattle.rl_query.specs.declared.aggregation.Grouping.{Grouping}
 use Rattle.rl_query.specs.declared.aggregation.Grouping.TheVariants as groupings
 use Rattle.rl_query.specs.declared.aggregation.VectorOperator.{VectorOperator}
 use Rattle.rl_query.specs.declared.aggregation.VectorOperator.TheVariants as operators
+use Rattle.rl_query_text.specs.Stops.{unsupported, place_of}
 use Rattle.rl_query_text.specs.declared.aggregation_reading.Front.{Front}
 use Rattle.rl_query.specs.declared.fault.QueryFault.TheVariants as faults
 use Rattle.rl_query_text.specs.declared.parser.Position.TheVariants as positions
@@ -33,7 +34,7 @@ use Rattle.rl_query_text.proofs.TestProductions.{only_word}
 name_proper : (place : ℕ) (token : Token) (name : List ℕ) → label_name place token ≡ Ok name → is_name name ≡ true
 name_proper place token name h =
     let a = bind_ok (name_of place token) _ name h in
-    let b = if_ok (is_name a.0) a.0 name (faults.Syntax place) a.2 in
+    let b = if_ok (is_name a.0) a.0 name _ a.2 in
     sym (ap is_name b.1) ∙ b.0
 
 named_proper : (lexemes : List Lexeme) (name : List ℕ) (more : Bool) (rest : List Lexeme) → named_at lexemes ≡ Ok (name, more, rest) → is_name name ≡ true
@@ -92,7 +93,7 @@ grouping_named room lexemes grouping rest h =
 label_read : (place : ℕ) (token : Token) (name : List ℕ) → label_name place token ≡ Ok name → token ≡ tokens.Word name
 label_read place token name h =
     let a = bind_ok (name_of place token) _ name h in
-    let b = if_ok (is_name a.0) a.0 name (faults.Syntax place) a.2 in
+    let b = if_ok (is_name a.0) a.0 name _ a.2 in
     named place token a.0 a.1 ∙ ap tokens.Word b.1
 
 -- the sign behind a name
@@ -180,7 +181,7 @@ grouping_read room lexemes grouping rest h = (grouping_stands room lexemes group
 
 top_at_read : (place : ℕ) (token : Token) (k : ℕ) → top_at place token ≡ Ok k → (number : List ℕ) × (token ≡ tokens.Number number) × (top_of number ≡ Some k)
 top_at_read place (tokens.Number number) k h =
-    ⊎_elim (λ none. absurd (no_err _ k none.1)) (λ some. (number, refl, some.1 ∙ ap (λ n. Some n) (same_ok _ _ some.2))) (by_option Ok (top_of number) (Err (faults.Unsupported place)) k h)
+    ⊎_elim (λ none. absurd (no_err _ k none.1)) (λ some. (number, refl, some.1 ∙ ap (λ n. Some n) (same_ok _ _ some.2))) (by_option Ok (top_of number) (Err (unsupported place)) k h)
 top_at_read place _ k h = absurd (no_err _ k h)
 
 topk_read : (lexemes : List Lexeme) (operator : VectorOperator) (rest : List Lexeme) → topk_at lexemes ≡ Ok (operator, rest) → (codes "topk" ≡ operator_word operator) × IsParameter operator lexemes rest
@@ -236,14 +237,14 @@ pub record IsFront (word : List ℕ) (nest : ℕ) (room : Room) (front : Front) 
   pub word_is : word ≡ operator_word front.operator
   pub parameter : IsParameter front.operator behind_parenthesis rest
 
-nested_read : (nest fewer : ℕ) → nested nest ≡ Ok fewer → nest ≡ suc fewer
-nested_read zero fewer h = absurd (no_err _ fewer h)
-nested_read (suc nest) fewer h = ap suc (same_ok nest fewer h)
+nested_read : (place nest fewer : ℕ) → nested place nest ≡ Ok fewer → nest ≡ suc fewer
+nested_read place zero fewer h = absurd (no_err _ fewer h)
+nested_read place (suc nest) fewer h = ap suc (same_ok nest fewer h)
 
 pub front_read : (word : List ℕ) (nest : ℕ) (room : Room) (front : Front) (lexemes rest : List Lexeme) → is_operator_word word ≡ true → front_at word nest room lexemes ≡ Ok (front, rest) → IsFront word nest room front lexemes rest
 unfolding front_at
 front_read word nest room front lexemes rest is h =
-    let a = bind_ok (nested nest) _ (front, rest) h in
+    let a = bind_ok (nested (place_of lexemes) nest) _ (front, rest) h in
     let b = bind_ok (grouping_at room lexemes) _ (front, rest) a.2 in
     let c = bind_ok (opened_at (behind_operator b.0.0) room b.0.1) _ (front, rest) b.2 in
     let d = bind_ok (operator_at word c.0.1) _ (front, rest) c.2 in
@@ -251,7 +252,7 @@ front_read word nest room front lexemes rest is h =
     let whole : IsFront word nest room (record { operator = d.0.0; grouping = b.0.0; nest = a.0; room = c.0.0 }) lexemes d.0.1 = record {
       behind_grouping = b.0.1;
       behind_parenthesis = c.0.1;
-      fewer = nested_read nest a.0 a.1;
+      fewer = nested_read (place_of lexemes) nest a.0 a.1;
       grouped = grouping_read room lexemes b.0.0 b.0.1 b.1;
       opened = opened_read (behind_operator b.0.0) room c.0.0 b.0.1 c.0.1 c.1;
       word_is = operator.0;

@@ -3,7 +3,7 @@ use Rattle.std.proofs.Common.{◌≡◌, ℕ, zero, suc, ◌-◌, ◌+◌, ◌�
 use Rattle.rl_plain.specs.Answers.{Fails}
 use Rattle.rl_plain.specs.declared.refusal.OrMemory.{OrMemory}
 use Rattle.rl_plain.specs.declared.refusal.OrMemory.TheVariants as errors
-use Rattle.rl_query.specs.declared.fault.QueryFault.{QueryFault}
+use Rattle.rl_query_text.specs.declared.stop.Stop.{Stop}
 use Rattle.rl_query.specs.declared.label_test.Join.{Join}
 use Rattle.rl_query.specs.declared.label_test.Join.TheVariants.{And, Or}
 use Rattle.rl_query_text.specs.declared.parser.Position.TheVariants as positions
@@ -28,7 +28,7 @@ pub first_part : (join : Join) (part : Reader) (left : ℕ) (lexemes : List Lexe
 unfolding joined_at
 first_part join part left lexemes tests fewer rest h = let k : left - 0 ≡ left = omega arith in rw (h, k) refl
 
-pub first_fails : (e : OrMemory QueryFault) (join : Join) (part : Reader) (left : ℕ) (lexemes : List Lexeme) → Fails e (part left lexemes) → Fails e (joined_at join part left lexemes)
+pub first_fails : (e : OrMemory Stop) (join : Join) (part : Reader) (left : ℕ) (lexemes : List Lexeme) → Fails e (part left lexemes) → Fails e (joined_at join part left lexemes)
 unfolding joined_at
 first_fails errors.Memory join part left lexemes h = tt
 first_fails (errors.Fault f) join part left lexemes h = rw h refl
@@ -46,7 +46,7 @@ unfolding others_at
 stops join part zero tests left lexemes whole b so_far = sym so_far
 stops join part (suc most) tests left lexemes whole b so_far = sym so_far ∙ rw b refl
 
-pub fails : (e : OrMemory QueryFault) (join : Join) (part : Reader) (count i : ℕ) (tests : TestTree TestForm) (left : ℕ) (lexemes behind : List Lexeme) (whole : Reading) → i < count
+pub fails : (e : OrMemory Stop) (join : Join) (part : Reader) (count i : ℕ) (tests : TestTree TestForm) (left : ℕ) (lexemes behind : List Lexeme) (whole : Reading) → i < count
     → behind_join join lexemes ≡ Some behind → Fails e (part left behind) → AreJoined join part (count - i) tests left lexemes whole → Fails e whole
 unfolding others_at
 fails errors.Memory join part count i tests left lexemes behind whole lt b h so_far = tt
@@ -63,16 +63,16 @@ at_end join part count i tests left lexemes whole le so_far =
     sym so_far ∙ ap (λ n. others_at join part n tests left lexemes) k
 
 -- behind a parenthesis: tests, and what closes them
-deeper : (depth fewer : ℕ) → Ok fewer ≡ one_fewer depth → depth ≡ suc fewer
-deeper zero fewer h = cc
-deeper (suc depth) fewer h = cc
+deeper : (place depth fewer : ℕ) → Ok fewer ≡ one_fewer place depth → depth ≡ suc fewer
+deeper place zero fewer h = cc
+deeper place (suc depth) fewer h = cc
 
-pub closed_read : (depth fewer left : ℕ) (lexemes : List Lexeme) (tests : TestTree TestForm) (still : ℕ) (behind closed : List Lexeme) → Ok fewer ≡ one_fewer depth → tests_in (inside_at fewer) left lexemes ≡ Ok (tests, still, behind) → expected signs.CloseParenthesis positions.Elsewhere behind ≡ Ok closed
+pub closed_read : (place depth fewer left : ℕ) (lexemes : List Lexeme) (tests : TestTree TestForm) (still : ℕ) (behind closed : List Lexeme) → Ok fewer ≡ one_fewer place depth → tests_in (inside_at fewer) left lexemes ≡ Ok (tests, still, behind) → expected signs.CloseParenthesis positions.Elsewhere behind ≡ Ok closed
     → enclosed_at (inside_at depth) left lexemes ≡ Ok (tests, still, closed)
 unfolding enclosed_at
-closed_read depth fewer left lexemes tests still behind closed d h e = rw (deeper depth fewer d, h, e) refl
+closed_read place depth fewer left lexemes tests still behind closed d h e = rw (deeper place depth fewer d, h, e) refl
 
-pub not_closed : (f : QueryFault) (depth fewer left : ℕ) (lexemes : List Lexeme) (tests : TestTree TestForm) (still : ℕ) (behind : List Lexeme) → Ok fewer ≡ one_fewer depth → tests_in (inside_at fewer) left lexemes ≡ Ok (tests, still, behind) → expected signs.CloseParenthesis positions.Elsewhere behind ≡ Err f
+pub not_closed : (f : Stop) (place depth fewer left : ℕ) (lexemes : List Lexeme) (tests : TestTree TestForm) (still : ℕ) (behind : List Lexeme) → Ok fewer ≡ one_fewer place depth → tests_in (inside_at fewer) left lexemes ≡ Ok (tests, still, behind) → expected signs.CloseParenthesis positions.Elsewhere behind ≡ Err f
     → enclosed_at (inside_at depth) left lexemes ≡ Err f
 unfolding enclosed_at
-not_closed f depth fewer left lexemes tests still behind d h e = rw (deeper depth fewer d, h, e) refl
+not_closed f place depth fewer left lexemes tests still behind d h e = rw (deeper place depth fewer d, h, e) refl

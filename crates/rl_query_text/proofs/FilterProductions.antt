@@ -3,7 +3,7 @@ use Rattle.std.proofs.Common.{◌≡◌, ⊎_elim, ℕ, zero, suc, Bool, true, f
 use Rattle.std.specs.List.{list_all}
 use Rattle.std.proofs.lemmas.Bool.{and_parts, and_from}
 use Rattle.std.proofs.lemmas.Option.{none-some, same_Some}
-use Rattle.rl_query.specs.declared.fault.QueryFault.{QueryFault}
+use Rattle.rl_query_text.specs.declared.stop.Stop.{Stop}
 use Rattle.rl_query.specs.declared.fault.QueryFault.TheVariants as faults
 use Rattle.rl_query.specs.declared.filter.LineOp.{LineOp}
 use Rattle.rl_query.specs.declared.filter.LineOp.TheVariants as lines
@@ -16,7 +16,7 @@ use Rattle.rl_query_text.specs.Standing.{Stand}
 use Rattle.rl_query_text.specs.Grammar.{filter_sign, filter_tokens, filters_tokens, AreFilters}
 use Rattle.rl_query.specs.Limits.{is_filter, most_stages}
 use Rattle.rl_query_text.specs.Fronts.{next}
-use Rattle.rl_query_text.specs.Parsing.{filter_op, filter_text, checked_filter, filter_at, filters_at, filters_in}
+use Rattle.rl_query_text.specs.Parsing.{filter_op, filter_text, checked_filter, filter_at, filters_at}
 use Rattle.rl_query_text.proofs.Productions.{bind_ok, chosen, by_option, if_ok, same_ok, no_err, stand_then, one_read, next_is}
 
 abbrev pub are_proper_filters : List FilterForm → Bool
@@ -44,8 +44,8 @@ unfolding filter_at
 filter_read first lexemes behind op filter rest n is h =
     let a = bind_ok (next behind) _ (filter, rest) h in
     let b = bind_ok (filter_text a.0.0.place a.0.0.token) _ (filter, rest) a.2 in
-    let c = bind_ok (checked_filter (record { op = op; text = b.0 })) _ (filter, rest) b.2 in
-    let checked = if_ok (is_filter op b.0) (record { op = op; text = b.0 }) c.0 faults.BadRegex c.1 in
+    let c = bind_ok (checked_filter a.0.0.place (record { op = op; text = b.0 })) _ (filter, rest) b.2 in
+    let checked = if_ok (is_filter op b.0) (record { op = op; text = b.0 }) c.0 _ c.1 in
     let made : ◌≡◌ {A = FilterForm × List Lexeme} (c.0, a.0.1) (filter, rest) = same_ok _ _ c.2 in
     let sign = one_read (tokens.Sign (filter_sign op)) lexemes behind first n (op_read first.token op is) in
     let stand = stand_then (tokens.Sign (filter_sign op) ∷ []) (tokens.Text b.0 ∷ []) lexemes behind a.0.1 sign (one_read (tokens.Text b.0) behind a.0.1 a.0.0 a.1 (text_read a.0.0.place a.0.0.token b.0 b.1)) in
@@ -55,12 +55,12 @@ pub filter_is : (filter : FilterForm) (lexemes rest : List Lexeme) → Stand (to
 unfolding filter_at
 filter_is filter lexemes rest stand proper = let a = next_is (tokens.Text filter.text) [] lexemes rest stand in rw (a.is, proper, a.more) refl
 
-none_read : (most : ℕ) (lexemes : List Lexeme) (filters : List FilterForm) (rest : List Lexeme) → ◌≡◌ {A = Result (List FilterForm × List Lexeme) QueryFault} (Ok ([], lexemes)) (Ok (filters, rest)) → AreFilters most filters lexemes rest
+none_read : (most : ℕ) (lexemes : List Lexeme) (filters : List FilterForm) (rest : List Lexeme) → ◌≡◌ {A = Result (List FilterForm × List Lexeme) Stop} (Ok ([], lexemes)) (Ok (filters, rest)) → AreFilters most filters lexemes rest
 none_read most lexemes filters rest h =
     let whole : AreFilters most [] lexemes lexemes = record { stand = refl; proper = refl; few = omega arith } in
     subst (λ (p : List FilterForm × List Lexeme). AreFilters most p.0 lexemes p.1) (same_ok _ _ h) whole
 
-filters_read : (most : ℕ) (lexemes : List Lexeme) (filters : List FilterForm) (rest : List Lexeme) → filters_at most lexemes ≡ Ok (filters, rest) → AreFilters most filters lexemes rest
+pub filters_read : (most : ℕ) (lexemes : List Lexeme) (filters : List FilterForm) (rest : List Lexeme) → filters_at most lexemes ≡ Ok (filters, rest) → AreFilters most filters lexemes rest
 unfolding filters_at
 filters_read zero lexemes filters rest h =
     let a = bind_ok (next lexemes) _ (filters, rest) h in
@@ -84,7 +84,7 @@ pub record Stops (lexemes : List Lexeme) : Type 0 where
   pub is : next lexemes ≡ Ok (first, behind)
   pub none : filter_op first.token ≡ None
 
-filters_are : (most : ℕ) (filters : List FilterForm) (lexemes rest : List Lexeme) → AreFilters most filters lexemes rest → Stops rest → filters_at most lexemes ≡ Ok (filters, rest)
+pub filters_are : (most : ℕ) (filters : List FilterForm) (lexemes rest : List Lexeme) → AreFilters most filters lexemes rest → Stops rest → filters_at most lexemes ≡ Ok (filters, rest)
 unfolding filters_at filter_at
 filters_are zero [] lexemes rest are stops = rw (are.stand, stops.is, stops.none) refl
 filters_are (suc most) [] lexemes rest are stops = rw (are.stand, stops.is, stops.none) refl
@@ -94,17 +94,6 @@ filters_are (suc most) (f ∷ filters) lexemes rest are stops =
     let a = next_is (tokens.Sign (filter_sign f.op)) (tokens.Text f.text ∷ filters_tokens filters) lexemes rest are.stand in
     let b = next_is (tokens.Text f.text) (filters_tokens filters) a.behind rest a.more in
     rw (a.is, op_is f.op, b.is, parts.0, filters_are most filters b.behind rest (record { stand = b.more; proper = parts.1; few = omega (arith, are.few) }) stops) refl
-
--- line filters where each pattern has room
-pub filters_derived : (lexemes : List Lexeme) (filters : List FilterForm) (rest : List Lexeme) → filters_in false lexemes ≡ Ok (filters, rest) → AreFilters most_stages filters lexemes rest
-unfolding filters_in
-filters_derived lexemes filters rest h =
-    let a = bind_ok (filters_at most_stages lexemes) _ (filters, rest) h in
-    subst (λ (p : List FilterForm × List Lexeme). AreFilters most_stages p.0 lexemes p.1) (same_ok _ _ a.2) (filters_read most_stages lexemes a.0.0 a.0.1 a.1)
-
-pub filters_are_read : (filters : List FilterForm) (lexemes rest : List Lexeme) → AreFilters most_stages filters lexemes rest → Stops rest → filters_in false lexemes ≡ Ok (filters, rest)
-unfolding filters_in
-filters_are_read filters lexemes rest are stops = rw (filters_are most_stages filters lexemes rest are stops) refl
 
 -- a sign or the end begins no line filter
 pub stops_at : (token : Token) (others : List Token) (lexemes rest : List Lexeme) → Stand (token ∷ others) lexemes rest → filter_op token ≡ None → Stops lexemes

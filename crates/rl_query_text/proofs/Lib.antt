@@ -2,8 +2,9 @@ pub mod AggregationProductions
 pub mod Answered
 pub mod AnsweredSieve
 pub mod Chains
-pub mod Cramped
-pub mod CrampedQueries
+pub mod Openings
+pub mod Meetings
+pub mod MetPatterns
 pub mod Cuts
 pub mod Elements
 mod Examples

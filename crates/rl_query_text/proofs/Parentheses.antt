@@ -1,5 +1,6 @@
 -- Something in parentheses: what is read is derived, and what is derived is read.
 use Rattle.std.proofs.Common.{◌≡◌, ℕ, zero, suc, List, [], ◌∷◌, Ok, refl, sym, ap, subst}
+use Rattle.rl_query_text.specs.Stops.{place_of}
 use Rattle.rl_query_text.specs.declared.parser.Position.{Position}
 use Rattle.rl_query_text.specs.declared.parser.Position.TheVariants as positions
 use Rattle.rl_query_text.specs.declared.room.Room.{Room}
@@ -28,25 +29,25 @@ pub opened_read : (position : Position) (room inside : Room) (lexemes behind : L
 unfolding opened_at
 opened_read position room inside lexemes behind h =
     let a = bind_ok (expected signs.OpenParenthesis position lexemes) _ (inside, behind) h in
-    let b = bind_ok (deeper room.depth room) _ (inside, behind) a.2 in
+    let b = bind_ok (deeper (place_of lexemes) room.depth room) _ (inside, behind) a.2 in
     let stand = expected_read signs.OpenParenthesis position lexemes a.0 a.1 in
     subst (λ (found : Room × List Lexeme). IsOpened room found.0 lexemes found.1) (same_ok _ _ b.2) (by_depth room.depth refl a.0 stand b.0 b.1)
   where
-    by_depth : (depth : ℕ) → room.depth ≡ depth → (after : List Lexeme) → Stand (tokens.Sign signs.OpenParenthesis ∷ []) lexemes after → (opened : Room) → deeper depth room ≡ Ok opened → IsOpened room opened lexemes after
+    by_depth : (depth : ℕ) → room.depth ≡ depth → (after : List Lexeme) → Stand (tokens.Sign signs.OpenParenthesis ∷ []) lexemes after → (opened : Room) → deeper (place_of lexemes) depth room ≡ Ok opened → IsOpened room opened lexemes after
     by_depth zero is after stand opened h = absurd (no_err _ opened h)
     by_depth (suc depth) is after stand opened h =
         let made : IsOpened room (inside_room room depth) lexemes after = record { stand = stand; depth = is; stages = refl; tests = refl } in
         subst (λ r. IsOpened room r lexemes after) (same_ok _ _ h) made
 
-deeper_is : (room : Room) (n depth : ℕ) → n ≡ suc depth → deeper n room ≡ Ok (inside_room room depth)
-deeper_is room n depth is = ap (λ m. deeper m room) is
+deeper_is : (place : ℕ) (room : Room) (n depth : ℕ) → n ≡ suc depth → deeper place n room ≡ Ok (inside_room room depth)
+deeper_is place room n depth is = ap (λ m. deeper place m room) is
 
 pub opened_is : (position : Position) (room : Room) (depth : ℕ) (others : List Token) (lexemes rest : List Lexeme) → room.depth ≡ suc depth → Stand (tokens.Sign signs.OpenParenthesis ∷ others) lexemes rest
     → (behind : List Lexeme) × (opened_at position room lexemes ≡ Ok (inside_room room depth, behind)) × Stand others behind rest
 unfolding opened_at
 opened_is position room depth others lexemes rest is stand =
     let a = expected_is signs.OpenParenthesis others position lexemes rest stand in
-    (a.0, rw (a.1, deeper_is room room.depth depth is) refl, a.2)
+    (a.0, rw (a.1, deeper_is (place_of lexemes) room room.depth depth is) refl, a.2)
 
 -- what was read in parentheses
 pub record IsInside {A : Type 0} (inside : Reader A) (room : Room) (x : A) (lexemes rest : List Lexeme) : Type 0 where

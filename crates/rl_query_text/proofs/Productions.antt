@@ -8,7 +8,8 @@ use Rattle.rl_labels.specs.Operators.{is_comparable}
 use Rattle.rl_labels.specs.laws.LabelLaws.{same_text, is_text_itself}
 use Rattle.rl_labels.specs.declared.matcher.MatchOp.{MatchOp}
 use Rattle.rl_labels.specs.declared.matcher.MatchOp.TheVariants as operators
-use Rattle.rl_query.specs.declared.fault.QueryFault.{QueryFault}
+use Rattle.rl_query_text.specs.Stops.{stop, syntax, place_of}
+use Rattle.rl_query_text.specs.declared.stop.Stop.{Stop}
 use Rattle.rl_query.specs.declared.fault.QueryFault.TheVariants as faults
 use Rattle.rl_query_text.specs.declared.parser.Position.{Position}
 use Rattle.rl_query_text.specs.declared.parser.Position.TheVariants as positions
@@ -26,7 +27,7 @@ use Rattle.rl_query_text.specs.Parsing.{goes_on, element_at, listed_at, matchers
 use Rattle.rl_query.specs.Tables.{sign_text}
 use Rattle.rl_plain.specs.Answers.{◌>>=◌}
 
-pub bind_ok : {A B : Type 0} (r : Result A QueryFault) (f : A → Result B QueryFault) (y : B) → (r >>= f) ≡ Ok y → (x : A) × (r ≡ Ok x) × (f x ≡ Ok y)
+pub bind_ok : {A B : Type 0} (r : Result A Stop) (f : A → Result B Stop) (y : B) → (r >>= f) ≡ Ok y → (x : A) × (r ≡ Ok x) × (f x ≡ Ok y)
 bind_ok (Ok x) f y h = (x, refl, h)
 bind_ok (Err e) f y h = cc
 
@@ -35,18 +36,18 @@ chosen true x y z h = inl (refl, h)
 chosen false x y z h = inr (refl, h)
 
 -- an answer by what is there, or by nothing
-pub by_option : {A B : Type 0} (f : A → Result B QueryFault) (o : Option A) (d : Result B QueryFault) (y : B) → option_map_or f o d ≡ Ok y → ((o ≡ None) × (d ≡ Ok y)) ⊎ ((x : A) × (o ≡ Some x) × (f x ≡ Ok y))
+pub by_option : {A B : Type 0} (f : A → Result B Stop) (o : Option A) (d : Result B Stop) (y : B) → option_map_or f o d ≡ Ok y → ((o ≡ None) × (d ≡ Ok y)) ⊎ ((x : A) × (o ≡ Some x) × (f x ≡ Ok y))
 by_option f None d y h = inl (refl, h)
 by_option f (Some x) d y h = inr (x, refl, h)
 
-pub no_err : {B : Type 0} (e : QueryFault) (y : B) → Err e ≡ Ok y → ⊥
+pub no_err : {B : Type 0} (e : Stop) (y : B) → Err e ≡ Ok y → ⊥
 no_err e y h = cc
 
-pub same_ok : {A : Type 0} (x y : A) → ◌≡◌ {A = Result A QueryFault} (Ok x) (Ok y) → x ≡ y
+pub same_ok : {A : Type 0} (x y : A) → ◌≡◌ {A = Result A Stop} (Ok x) (Ok y) → x ≡ y
 same_ok x y e = cc
 
 -- an answer that is chosen by a test
-pub if_ok : {A : Type 0} (b : Bool) (x y : A) (e : QueryFault) → cond b (Ok x) (Err e) ≡ Ok y → (b ≡ true) × (x ≡ y)
+pub if_ok : {A : Type 0} (b : Bool) (x y : A) (e : Stop) → cond b (Ok x) (Err e) ≡ Ok y → (b ≡ true) × (x ≡ y)
 if_ok true x y e h = (refl, same_ok x y h)
 if_ok false x y e h = absurd (no_err e y h)
 
@@ -130,7 +131,7 @@ operator_is place _ = refl
 checked_read : (place : ℕ) (m made : MatcherForm) → checked_matcher place m ≡ Ok made → (is_matcher m ≡ true) × (m ≡ made)
 checked_read place m made h = by_tests (is_name m.name) (is_comparable m.op m.value) h
   where
-    by_tests : (named comparable : Bool) → cond (not named) (Err (faults.Syntax place)) (cond comparable (Ok m) (Err faults.BadRegex)) ≡ Ok made → (named && comparable ≡ true) × (m ≡ made)
+    by_tests : (named comparable : Bool) → cond (not named) (Err (syntax place)) (cond comparable (Ok m) (Err (stop faults.BadRegex place))) ≡ Ok made → (named && comparable ≡ true) × (m ≡ made)
     by_tests true true h = (refl, same_ok m made h)
     by_tests true false h = absurd (no_err _ made h)
     by_tests false comparable h = absurd (no_err _ made h)
@@ -146,7 +147,7 @@ pub record IsMatcher (m : MatcherForm) (lexemes rest : List Lexeme) : Type 0 whe
   pub proper : is_matcher m ≡ true
 
 -- a row that was read: its tokens stood there, and each was read as what it is
-pub record IsRow {Op Value Made : Type 0} (op_of : ℕ → Token → Result Op QueryFault) (value_of : ℕ → Token → Result Value QueryFault) (made : ℕ → List ℕ → Op → Value → Result Made QueryFault) (whole : Made) (lexemes rest : List Lexeme) : Type 0 where
+pub record IsRow {Op Value Made : Type 0} (op_of : ℕ → Token → Result Op Stop) (value_of : ℕ → Token → Result Value Stop) (made : ℕ → List ℕ → Op → Value → Result Made Stop) (whole : Made) (lexemes rest : List Lexeme) : Type 0 where
   pub place : ℕ
   pub name : List ℕ
   pub sign : Lexeme
@@ -158,7 +159,7 @@ pub record IsRow {Op Value Made : Type 0} (op_of : ℕ → Token → Result Op Q
   pub value_is : value_of content.place content.token ≡ Ok value
   pub whole_is : made place name op value ≡ Ok whole
 
-pub row_read : {Op Value Made : Type 0} (op_of : ℕ → Token → Result Op QueryFault) (value_of : ℕ → Token → Result Value QueryFault) (made : ℕ → List ℕ → Op → Value → Result Made QueryFault) (whole : Made) (lexemes rest : List Lexeme) → row_at op_of value_of made lexemes ≡ Ok (whole, rest) → IsRow op_of value_of made whole lexemes rest
+pub row_read : {Op Value Made : Type 0} (op_of : ℕ → Token → Result Op Stop) (value_of : ℕ → Token → Result Value Stop) (made : ℕ → List ℕ → Op → Value → Result Made Stop) (whole : Made) (lexemes rest : List Lexeme) → row_at op_of value_of made lexemes ≡ Ok (whole, rest) → IsRow op_of value_of made whole lexemes rest
 row_read op_of value_of made whole [] rest h = absurd (no_err _ (whole, rest) h)
 row_read op_of value_of made whole (a ∷ []) rest h = absurd (no_err _ (whole, rest) (bind_ok (name_of a.place a.token) _ (whole, rest) h).2)
 row_read op_of value_of made whole (a ∷ b ∷ []) rest h = let n = bind_ok (name_of a.place a.token) _ (whole, rest) h in absurd (no_err _ (whole, rest) (bind_ok (op_of b.place b.token) _ (whole, rest) n.2).2)
@@ -171,7 +172,7 @@ row_read {Op} {Value} {Made} op_of value_of made whole (a ∷ b ∷ c ∷ lexeme
     record { place = a.place; name = n.0; sign = b; content = c; op = o.0; value = v.0; stand = (named a.place a.token n.0 n.1, (refl, (refl, ap (λ (p : Made × List Lexeme). p.1) same))); op_is = o.1; value_is = v.1; whole_is = m.1 ∙ ap (λ (p : Made × List Lexeme). Ok p.0) same }
 
 -- a row that stands is read to its end
-pub row_is : {Op Value Made : Type 0} (op_of : ℕ → Token → Result Op QueryFault) (value_of : ℕ → Token → Result Value QueryFault) (made : ℕ → List ℕ → Op → Value → Result Made QueryFault) (name : List ℕ) (sign content : Token) (op : Op) (value : Value) (whole : Made) (others : List Token) (lexemes rest : List Lexeme)
+pub row_is : {Op Value Made : Type 0} (op_of : ℕ → Token → Result Op Stop) (value_of : ℕ → Token → Result Value Stop) (made : ℕ → List ℕ → Op → Value → Result Made Stop) (name : List ℕ) (sign content : Token) (op : Op) (value : Value) (whole : Made) (others : List Token) (lexemes rest : List Lexeme)
     → Stand (tokens.Word name ∷ sign ∷ content ∷ others) lexemes rest → ((place : ℕ) → op_of place sign ≡ Ok op) → ((place : ℕ) → value_of place content ≡ Ok value) → ((place : ℕ) → made place name op value ≡ Ok whole) → (behind : List Lexeme) × (row_at op_of value_of made lexemes ≡ Ok (whole, behind)) × Stand others behind rest
 row_is op_of value_of made name sign content op value whole others [] rest stand op_is value_is whole_is = absurd stand
 row_is op_of value_of made name sign content op value whole others (a ∷ []) rest stand op_is value_is whole_is = absurd stand.1
@@ -266,15 +267,15 @@ matchers_are (suc most) m (o ∷ os) lexemes rest stand names few =
     let a = element_is (matchers_tokens (o ∷ os)) m true lexemes rest stand parts.0 in
     rw (a.1, matchers_are most o os a.0 rest a.2 parts.1 (omega (arith, few))) refl
 
-pub selector_read : (lexemes braced : List Lexeme) (ms : List MatcherForm) (rest : List Lexeme) → Stand (tokens.Sign signs.OpenBrace ∷ []) lexemes braced → selector_at false braced ≡ Ok (ms, rest) → IsSelector ms lexemes rest
+pub selector_read : (lexemes braced : List Lexeme) (ms : List MatcherForm) (rest : List Lexeme) → Stand (tokens.Sign signs.OpenBrace ∷ []) lexemes braced → selector_at braced ≡ Ok (ms, rest) → IsSelector ms lexemes rest
 unfolding selector_at
 selector_read lexemes braced ms rest opened h =
     let a = bind_ok (next braced) _ (ms, rest) h in
-    let b = bind_ok (some_matcher a.0.0.token) _ (ms, rest) a.2 in
+    let b = bind_ok (some_matcher a.0.0.place a.0.0.token) _ (ms, rest) a.2 in
     let c = bind_ok (matchers_at (length braced) braced) _ (ms, rest) b.2 in
-    let d = bind_ok (real_matchers false c.0.0) _ (ms, rest) c.2 in
+    let d = bind_ok (real_matchers (place_of c.0.1) c.0.0) _ (ms, rest) c.2 in
     let made : ◌≡◌ {A = List MatcherForm × List Lexeme} (d.0, c.0.1) (ms, rest) = same_ok _ _ d.2 in
-    let real = if_ok (has_real_form c.0.0) c.0.0 d.0 faults.NoRealMatcher d.1 in
+    let real = if_ok (has_real_form c.0.0) c.0.0 d.0 _ d.1 in
     let whole = by_matchers c.0.0 c.0.1 (matchers_read (length braced) braced c.0.0 c.0.1 c.1) real.0 in
     subst (λ (p : List MatcherForm × List Lexeme). IsSelector p.0 lexemes p.1) (ap (λ found. (found, c.0.1)) real.1 ∙ made) whole
   where
@@ -282,7 +283,7 @@ selector_read lexemes braced ms rest opened h =
     by_matchers [] behind are real = absurd are
     by_matchers (x ∷ xs) behind are real = record { stand = stand_then (tokens.Sign signs.OpenBrace ∷ []) (matchers_tokens (x ∷ xs)) lexemes braced behind opened are.0; proper = are.1; real = real }
 
-pub selector_is : (ms : List MatcherForm) (lexemes rest : List Lexeme) → IsSelector ms lexemes rest → (braced : List Lexeme) × (expected signs.OpenBrace positions.Elsewhere lexemes ≡ Ok braced) × (selector_at false braced ≡ Ok (ms, rest))
+pub selector_is : (ms : List MatcherForm) (lexemes rest : List Lexeme) → IsSelector ms lexemes rest → (braced : List Lexeme) × (expected signs.OpenBrace positions.Elsewhere lexemes ≡ Ok braced) × (selector_at braced ≡ Ok (ms, rest))
 unfolding selector_at
 selector_is [] lexemes rest is = absurd (true≢false (sym is.real))
 selector_is (m ∷ ms) lexemes rest is =

@@ -37,7 +37,7 @@ quantity_test_read lexemes test rest label h =
     let row = row_read comparison_at quantity_at _ test lexemes rest h in
     let sign = comparison_read row.sign.place row.sign.token row.op row.op_is in
     let number = quantity_read row.content.place row.content.token row.value row.value_is in
-    let name = if_ok (is_name row.name) (record { name = row.name; comparison = row.op; quantity = row.value }) test (faults.Syntax row.place) row.whole_is in
+    let name = if_ok (is_name row.name) (record { name = row.name; comparison = row.op; quantity = row.value }) test _ row.whole_is in
     let stand = subst (λ ts. Stand ts lexemes rest) (λ i. tokens.Word row.name ∷ sign.1 i ∷ number.1 i ∷ []) row.stand in
     let free = not-true (is_taken row.name) (free_name row.name (tokens.Sign sign.0 ∷ tokens.Number number.0 ∷ []) lexemes rest stand label) in
     subst (λ x. IsLabelTest (by_quantity x) lexemes rest) name.1 (record { sign = sign.0; value = tokens.Number number.0; stand = stand; compares = (sign.2, (number.0, refl, number.2)); named = name.0; free = free })

@@ -16,7 +16,7 @@ use Rattle.rl_query.specs.Form.{TermForm, ThresholdForm, QueryForm, label_tests,
 use Rattle.rl_query_text.specs.Fronts.{is_sign, next}
 use Rattle.rl_query_text.specs.Lexing.{lexemes_of}
 use Rattle.rl_query.specs.Limits.{most_aggregations, most_parentheses}
-use Rattle.rl_query_text.specs.QueryReading.{Reader, in_parentheses, alone, room_behind, is_term, term_at, over_at, divided_at, comes_to_test, compared_at, with_test, lone_at, operand_at, behind_at, query_by, query_within, ends, whole_room, whole_at, query_in, query_of}
+use Rattle.rl_query_text.specs.QueryReading.{Reader, in_parentheses, alone, room_behind, is_term, term_at, over_at, divided_at, comes_to_test, compared_at, with_test, lone_at, operand_at, behind_at, query_by, query_within, ends, whole_room, whole_at, query_in, query_reading}
 use Rattle.rl_query_text.specs.Standing.{Stand}
 use Rattle.rl_query.specs.Tables.{comparison_sign}
 use Rattle.rl_query_text.specs.TermGrammar.{InParentheses, IsTerm, IsDivided, IsQuotient, IsThreshold, IsQuery, Derives}
@@ -77,10 +77,10 @@ pub record IsRoomyQuery (room : Room) (query : QueryForm) (lexemes rest : List L
   pub few_tests : all_label_tests query ≤ room.tests
   pub nested : are_nested query ≡ true
 
-lone_sound : (room : Room) (lexemes : List Lexeme) (query : QueryForm) (rest : List Lexeme) → lone_at false room lexemes ≡ Ok (query, rest) → IsRoomyQuery room query lexemes rest
+lone_sound : (room : Room) (lexemes : List Lexeme) (query : QueryForm) (rest : List Lexeme) → lone_at room lexemes ≡ Ok (query, rest) → IsRoomyQuery room query lexemes rest
 unfolding lone_at
 lone_sound room lexemes query rest h =
-    let a = bind_ok (term_at false positions.Start room lexemes) _ (query, rest) h in
+    let a = bind_ok (term_at positions.Start room lexemes) _ (query, rest) h in
     let term = term_derived positions.Start room lexemes a.0.0 a.0.1 a.1 in
     let fits = term.fits in
     let whole : IsRoomyQuery room (alone a.0.0) lexemes a.0.1 = record {
@@ -96,10 +96,10 @@ lone_term left None None h = refl
 lone_term left None (Some test) h = absurd (true≢false (sym h))
 lone_term left (Some over) test h = absurd (true≢false (sym h))
 
-over_sound : (room : Room) (left : TermForm) (lexemes middle behind : List Lexeme) (found : QueryForm) (rest : List Lexeme) → IsRoomyQuery room (alone left) lexemes middle → Stand (tokens.Sign signs.Slash ∷ []) middle behind → over_at false left room behind ≡ Ok (found, rest) → IsRoomyQuery room found lexemes rest
+over_sound : (room : Room) (left : TermForm) (lexemes middle behind : List Lexeme) (found : QueryForm) (rest : List Lexeme) → IsRoomyQuery room (alone left) lexemes middle → Stand (tokens.Sign signs.Slash ∷ []) middle behind → over_at left room behind ≡ Ok (found, rest) → IsRoomyQuery room found lexemes rest
 unfolding over_at
 over_sound room left lexemes middle behind found rest before slash h =
-    let a = bind_ok (term_at false positions.Divisor (room_behind left room) behind) _ (found, rest) h in
+    let a = bind_ok (term_at positions.Divisor (room_behind left room) behind) _ (found, rest) h in
     let over = term_derived positions.Divisor (room_behind left room) behind a.0.0 a.0.1 a.1 in
     let fits = over.fits in
     let few : length a.0.0.range.stages ≤ room.stages - length left.range.stages = fits.few in
@@ -112,7 +112,7 @@ over_sound room left lexemes middle behind found rest before slash h =
     } in
     subst (λ (p : QueryForm × List Lexeme). IsRoomyQuery room p.0 lexemes p.1) (same_ok _ _ a.2) whole
 
-divided_sound : (room : Room) (query : QueryForm) (lexemes middle : List Lexeme) (found : QueryForm) (rest : List Lexeme) → IsRoomyQuery room query lexemes middle → divided_at false query room middle ≡ Ok (found, rest) → IsRoomyQuery room found lexemes rest
+divided_sound : (room : Room) (query : QueryForm) (lexemes middle : List Lexeme) (found : QueryForm) (rest : List Lexeme) → IsRoomyQuery room query lexemes middle → divided_at query room middle ≡ Ok (found, rest) → IsRoomyQuery room found lexemes rest
 unfolding divided_at
 divided_sound room query lexemes middle found rest before h =
     let a = bind_ok (next middle) _ (found, rest) h in
@@ -171,10 +171,10 @@ compared_sound room query lexemes middle test rest before h =
     subst (λ (p : Option ThresholdForm × List Lexeme). IsRoomyQuery room (with_test query p.0) lexemes p.1) (same_ok _ _ b.2) (tested_sound room query.left query.over b.0.0 lexemes middle b.0.1 quotient threshold))
     (by_option _ (comes_to_test query a.0.0.token) _ (test, rest) a.2)
 
-behind_sound : (room : Room) (operand : QueryForm) (lexemes middle : List Lexeme) (query : QueryForm) (rest : List Lexeme) → IsRoomyQuery room operand lexemes middle → behind_at false operand room middle ≡ Ok (query, rest) → IsRoomyQuery room query lexemes rest
+behind_sound : (room : Room) (operand : QueryForm) (lexemes middle : List Lexeme) (query : QueryForm) (rest : List Lexeme) → IsRoomyQuery room operand lexemes middle → behind_at operand room middle ≡ Ok (query, rest) → IsRoomyQuery room query lexemes rest
 unfolding behind_at
 behind_sound room operand lexemes middle query rest before h =
-    let a = bind_ok (divided_at false operand room middle) _ (query, rest) h in
+    let a = bind_ok (divided_at operand room middle) _ (query, rest) h in
     let b = bind_ok (compared_at a.0.0 a.0.1) _ (query, rest) a.2 in
     let divided = divided_sound room operand lexemes middle a.0.0 a.0.1 before a.1 in
     subst (λ (p : QueryForm × List Lexeme). IsRoomyQuery room p.0 lexemes p.1) (same_ok _ _ b.2) (compared_sound room a.0.0 lexemes a.0.1 b.0.0 b.0.1 divided b.1)
@@ -194,23 +194,23 @@ inner_sound inside sound room lexemes query rest h =
       nested = inner.nested;
     }
 
-operand_sound : (inside : Reader QueryForm) → IsSound inside → IsSound (operand_at false inside)
+operand_sound : (inside : Reader QueryForm) → IsSound inside → IsSound (operand_at inside)
 unfolding operand_at
 operand_sound inside sound room lexemes query rest h =
     let a = bind_ok (next lexemes) _ (query, rest) h in
     ⊎_elim (λ yes. inner_sound inside sound room lexemes query rest yes.1) (λ no. lone_sound room lexemes query rest no.1) (chosen (is_sign signs.OpenParenthesis a.0.0.token) _ _ (Ok (query, rest)) a.2)
 
-by_sound : (inside : Reader QueryForm) → IsSound inside → IsSound (query_by false inside)
+by_sound : (inside : Reader QueryForm) → IsSound inside → IsSound (query_by inside)
 unfolding query_by
 by_sound inside sound room lexemes query rest h =
-    let a = bind_ok (operand_at false inside room lexemes) _ (query, rest) h in
+    let a = bind_ok (operand_at inside room lexemes) _ (query, rest) h in
     behind_sound room a.0.0 lexemes a.0.1 query rest (operand_sound inside sound room lexemes a.0.0 a.0.1 a.1) a.2
 
-within_sound : (turns : ℕ) → IsSound (query_within false turns)
+within_sound : (turns : ℕ) → IsSound (query_within turns)
 within_sound zero room lexemes query rest h = absurd (no_err _ (query, rest) h)
-within_sound (suc turns) room lexemes query rest h = by_sound (query_within false turns) (within_sound turns) room lexemes query rest h
+within_sound (suc turns) room lexemes query rest h = by_sound (query_within turns) (within_sound turns) room lexemes query rest h
 
-pub whole_derived : (lexemes : List Lexeme) (query : QueryForm) (rest : List Lexeme) → whole_at false lexemes ≡ Ok (query, rest) → IsRoomyQuery whole_room query lexemes rest
+pub whole_derived : (lexemes : List Lexeme) (query : QueryForm) (rest : List Lexeme) → whole_at lexemes ≡ Ok (query, rest) → IsRoomyQuery whole_room query lexemes rest
 unfolding whole_at
 whole_derived lexemes query rest h = within_sound (suc most_parentheses) whole_room lexemes query rest h
 
@@ -219,10 +219,10 @@ end_read place tokens.End h = refl
 end_read place _ h = absurd (no_err _ tt h)
 
 -- a query that is read is derived
-pub query_derived : (text : List ℕ) (query : QueryForm) → query_of false text ≡ Ok query → Derives text query
+pub query_derived : (text : List ℕ) (query : QueryForm) → query_reading text ≡ Ok query → Derives text query
 unfolding query_in
 query_derived text query h =
-    let a = bind_ok (whole_at false (lexemes_of text)) _ query h in
+    let a = bind_ok (whole_at (lexemes_of text)) _ query h in
     let b = bind_ok (next a.0.1) _ query a.2 in
     let c = bind_ok (ends b.0.0.place b.0.0.token) _ query b.2 in
     let roomy = whole_derived (lexemes_of text) a.0.0 a.0.1 a.1 in

@@ -3,7 +3,7 @@ use Rattle.std.proofs.Common.{◌≡◌, inl, inr, ℕ, zero, suc, ◌-◌, ◌�
 use Rattle.std.proofs.Math.Bool.{and-false}
 use Rattle.std.proofs.lemmas.Bool.{and_parts, and_from, cond-false, leb-true}
 use Rattle.rl_plain.specs.Answers.{◌>>=◌}
-use Rattle.rl_query.specs.declared.fault.QueryFault.{QueryFault}
+use Rattle.rl_query_text.specs.declared.stop.Stop.{Stop}
 use Rattle.rl_query_text.specs.declared.parser.Position.TheVariants as positions
 use Rattle.rl_query.specs.declared.quantity_test.Comparison.{Comparison}
 use Rattle.rl_query.specs.declared.quantity_test.Comparison.TheVariants as comparisons
@@ -18,7 +18,7 @@ use Rattle.rl_query.specs.declared.query.RangeFunction.{RangeFunction}
 use Rattle.rl_query_text.specs.Fronts.{is_sign, next}
 use Rattle.rl_query_text.specs.Lexing.{lexemes_of}
 use Rattle.rl_query.specs.Limits.{most_aggregations, most_parentheses}
-use Rattle.rl_query_text.specs.QueryReading.{Reader, alone, room_behind, is_term, over_at, divided_at, compared_at, lone_at, operand_at, behind_at, query_by, query_within, whole_room, whole_at, query_in, query_of}
+use Rattle.rl_query_text.specs.QueryReading.{Reader, alone, room_behind, is_term, over_at, divided_at, compared_at, lone_at, operand_at, behind_at, query_by, query_within, whole_room, whole_at, query_in, query_reading}
 use Rattle.rl_query_text.specs.Standing.{Stand}
 use Rattle.rl_query.specs.Tables.{comparison_sign, function_text, operator_word}
 use Rattle.rl_query_text.specs.TermGrammar.{InParentheses, IsBare, IsTerm, IsOperand, IsQuotient, IsThreshold, IsQuery, Derives}
@@ -81,13 +81,13 @@ threshold_ends (Some test) middle rest is ends = ends_quotient_at (tokens.Sign (
 
 -- What is read behind an operand.
 
-undivided : (query : QueryForm) (room : Room) (middle : List Lexeme) → EndsQuotient middle → divided_at false query room middle ≡ Ok (query, middle)
+undivided : (query : QueryForm) (room : Room) (middle : List Lexeme) → EndsQuotient middle → divided_at query room middle ≡ Ok (query, middle)
 unfolding divided_at
 undivided query room middle ends =
     ap (λ r. r >>= λ first. chosen first) ends.is ∙ cond-false (is_term query && is_sign signs.Slash ends.first.token) _ _ (ap (λ b. is_term query && b) ends.no_slash ∙ and-false (is_term query))
   where
-    chosen : Lexeme × List Lexeme → Result (QueryForm × List Lexeme) QueryFault
-    chosen first = cond (is_term query && is_sign signs.Slash first.0.token) (over_at false query.left room first.1) (Ok (query, middle))
+    chosen : Lexeme × List Lexeme → Result (QueryForm × List Lexeme) Stop
+    chosen first = cond (is_term query && is_sign signs.Slash first.0.token) (over_at query.left room first.1) (Ok (query, middle))
 
 no_test_comes : (tested : Bool) (token : Token) → compared_by token ≡ None → ◌≡◌ {A = Option Comparison} (cond tested None (compared_by token)) None
 no_test_comes true token none = refl
@@ -104,15 +104,15 @@ threshold_is left over test middle rest is =
     let b = next_is (tokens.Number is.0) [] a.behind rest a.more in
     rw (a.is, compared_is test.comparison, b.is, is.2) (ap (λ r. Ok (Some test, r)) b.more)
 
-behind_is : (operand : QueryForm) (room : Room) (lexemes : List Lexeme) (left : TermForm) (over : Option TermForm) (test : Option ThresholdForm) (middle rest : List Lexeme) → divided_at false operand room lexemes ≡ Ok (parts_of_query left over None, middle) → IsThreshold test middle rest → EndsQuery rest
-    → behind_at false operand room lexemes ≡ Ok (parts_of_query left over test, rest)
+behind_is : (operand : QueryForm) (room : Room) (lexemes : List Lexeme) (left : TermForm) (over : Option TermForm) (test : Option ThresholdForm) (middle rest : List Lexeme) → divided_at operand room lexemes ≡ Ok (parts_of_query left over None, middle) → IsThreshold test middle rest → EndsQuery rest
+    → behind_at operand room lexemes ≡ Ok (parts_of_query left over test, rest)
 unfolding behind_at
 behind_is operand room lexemes left over None middle rest divided is ends =
     let none = untested (parts_of_query left over None) middle (subst EndsQuery (sym is) ends) in
     rw (divided, none) (ap (λ r. Ok (parts_of_query left over None, r)) is)
 behind_is operand room lexemes left over (Some test) middle rest divided is ends = rw (divided, threshold_is left over test middle rest is) refl
 
-nothing_behind : (query : QueryForm) (room : Room) (rest : List Lexeme) → EndsQuery rest → behind_at false query room rest ≡ Ok (query, rest)
+nothing_behind : (query : QueryForm) (room : Room) (rest : List Lexeme) → EndsQuery rest → behind_at query room rest ≡ Ok (query, rest)
 unfolding behind_at
 nothing_behind query room rest ends = rw (undivided query room rest ends.quotient, untested query rest ends) refl
 
@@ -127,7 +127,7 @@ record FitsQuery (room : Room) (query : QueryForm) : Type 0 where
 abbrev IsComplete : (depth : ℕ) → Reader QueryForm → Type 0
 IsComplete depth inside = (room : Room) (lexemes : List Lexeme) (query : QueryForm) (rest : List Lexeme) → room.depth ≡ depth → IsQuery depth query lexemes rest → FitsQuery room query → EndsQuery rest → inside room lexemes ≡ Ok (query, rest)
 
-inner_complete : (depth : ℕ) (inside : Reader QueryForm) → IsComplete depth inside → (room : Room) (lexemes : List Lexeme) (query : QueryForm) (rest : List Lexeme) → room.depth ≡ suc depth → InParentheses (IsQuery depth query) lexemes rest → FitsQuery room query → operand_at false inside room lexemes ≡ Ok (query, rest)
+inner_complete : (depth : ℕ) (inside : Reader QueryForm) → IsComplete depth inside → (room : Room) (lexemes : List Lexeme) (query : QueryForm) (rest : List Lexeme) → room.depth ≡ suc depth → InParentheses (IsQuery depth query) lexemes rest → FitsQuery room query → operand_at inside room lexemes ≡ Ok (query, rest)
 unfolding operand_at
 inner_complete depth inside complete room lexemes query rest deep p fits =
     let a = next_is (tokens.Sign signs.OpenParenthesis) [] lexemes p.behind p.opened in
@@ -148,11 +148,11 @@ bare_begins depth (aggregation ∷ aggregations) function range lexemes rest is 
 lone_fits : (room : Room) (term : TermForm) → FitsQuery room (alone term) → Fits most_aggregations room term
 lone_fits room term fits = record { nested = leb-true (length term.aggregations) most_aggregations (and_parts (is_nested term) true fits.nested).0; few = omega (arith, fits.few); few_tests = omega (arith, fits.few_tests) }
 
-lone_complete : (inside : Reader QueryForm) (room : Room) (lexemes : List Lexeme) (term : TermForm) (rest : List Lexeme) → Begins lexemes → IsRoomyTerm most_aggregations room term lexemes rest → EndsTerm rest → operand_at false inside room lexemes ≡ Ok (alone term, rest)
+lone_complete : (inside : Reader QueryForm) (room : Room) (lexemes : List Lexeme) (term : TermForm) (rest : List Lexeme) → Begins lexemes → IsRoomyTerm most_aggregations room term lexemes rest → EndsTerm rest → operand_at inside room lexemes ≡ Ok (alone term, rest)
 unfolding operand_at lone_at
 lone_complete inside room lexemes term rest begins roomy ends = rw (begins.is, term_is positions.Start room lexemes term rest roomy ends) refl
 
-term_complete : (depth : ℕ) (inside : Reader QueryForm) → IsComplete depth inside → (room : Room) (lexemes : List Lexeme) (term : TermForm) (rest : List Lexeme) → room.depth ≡ suc depth → IsTerm (suc depth) term lexemes rest → FitsQuery room (alone term) → EndsTerm rest → operand_at false inside room lexemes ≡ Ok (alone term, rest)
+term_complete : (depth : ℕ) (inside : Reader QueryForm) → IsComplete depth inside → (room : Room) (lexemes : List Lexeme) (term : TermForm) (rest : List Lexeme) → room.depth ≡ suc depth → IsTerm (suc depth) term lexemes rest → FitsQuery room (alone term) → EndsTerm rest → operand_at inside room lexemes ≡ Ok (alone term, rest)
 term_complete depth inside complete room lexemes term rest deep (inl bare) fits ends =
     let is : IsTerm (suc depth) term lexemes rest = inl bare in
     lone_complete inside room lexemes term rest (bare_begins depth term.aggregations term.function term.range lexemes rest bare) (record { is = subst (λ n. IsTerm n term lexemes rest) (sym deep) is; fits = lone_fits room term fits }) ends
@@ -161,26 +161,26 @@ term_complete depth inside complete room lexemes term rest deep (inr p) fits end
 
 -- a quotient in parentheses
 wrapped : (depth : ℕ) (inside : Reader QueryForm) → IsComplete depth inside → (room : Room) (lexemes : List Lexeme) (left : TermForm) (over : Option TermForm) (rest : List Lexeme) → room.depth ≡ suc depth → InParentheses (IsQuotient depth left over) lexemes rest → FitsQuery room (parts_of_query left over None)
-    → operand_at false inside room lexemes ≡ Ok (parts_of_query left over None, rest)
+    → operand_at inside room lexemes ≡ Ok (parts_of_query left over None, rest)
 wrapped depth inside complete room lexemes left over rest deep p fits =
     inner_complete depth inside complete room lexemes (parts_of_query left over None) rest deep (record { behind = p.behind; end = p.end; opened = p.opened; inside = quotient_query depth left over p.behind p.end p.inside; closed = p.closed }) fits
 
 operand_complete : (depth : ℕ) (inside : Reader QueryForm) → IsComplete depth inside → (room : Room) (lexemes : List Lexeme) (left : TermForm) (over : Option TermForm) (rest : List Lexeme) → room.depth ≡ suc depth → IsOperand (suc depth) (IsQuotient depth) left over lexemes rest → FitsQuery room (parts_of_query left over None) → EndsTerm rest
-    → operand_at false inside room lexemes ≡ Ok (parts_of_query left over None, rest)
+    → operand_at inside room lexemes ≡ Ok (parts_of_query left over None, rest)
 operand_complete depth inside complete room lexemes left None rest deep (inl term) fits ends = term_complete depth inside complete room lexemes left rest deep term fits ends
 operand_complete depth inside complete room lexemes left None rest deep (inr p) fits ends = wrapped depth inside complete room lexemes left None rest deep p fits
 operand_complete depth inside complete room lexemes left (Some over) rest deep p fits ends = wrapped depth inside complete room lexemes left (Some over) rest deep p fits
 
 -- Queries.
 
-divided_is : (left over : TermForm) (room : Room) (middle behind rest : List Lexeme) → Stand (tokens.Sign signs.Slash ∷ []) middle behind → IsTerm room.depth over behind rest → Fits most_aggregations (room_behind left room) over → EndsTerm rest → divided_at false (alone left) room middle ≡ Ok (parts_of_query left (Some over) None, rest)
+divided_is : (left over : TermForm) (room : Room) (middle behind rest : List Lexeme) → Stand (tokens.Sign signs.Slash ∷ []) middle behind → IsTerm room.depth over behind rest → Fits most_aggregations (room_behind left room) over → EndsTerm rest → divided_at (alone left) room middle ≡ Ok (parts_of_query left (Some over) None, rest)
 unfolding divided_at over_at
 divided_is left over room middle behind rest slash is fits ends =
     let a = next_is (tokens.Sign signs.Slash) [] middle behind slash in
     let there : IsTerm room.depth over a.behind rest = subst (λ ls. IsTerm room.depth over ls rest) (sym a.more) is in
     rw (a.is, term_is positions.Divisor (room_behind left room) a.behind over rest (record { is = there; fits = fits }) ends) refl
 
-by_operand : (inside : Reader QueryForm) (room : Room) (lexemes : List Lexeme) (operand : QueryForm) (middle : List Lexeme) (query : QueryForm) (rest : List Lexeme) → operand_at false inside room lexemes ≡ Ok (operand, middle) → behind_at false operand room middle ≡ Ok (query, rest) → query_by false inside room lexemes ≡ Ok (query, rest)
+by_operand : (inside : Reader QueryForm) (room : Room) (lexemes : List Lexeme) (operand : QueryForm) (middle : List Lexeme) (query : QueryForm) (rest : List Lexeme) → operand_at inside room lexemes ≡ Ok (operand, middle) → behind_at operand room middle ≡ Ok (query, rest) → query_by inside room lexemes ≡ Ok (query, rest)
 unfolding query_by
 by_operand inside room lexemes operand middle query rest read behind = rw (read, behind) refl
 
@@ -197,7 +197,7 @@ divisor_fits room left over test fits =
     record { nested = leb-true (length over.aggregations) most_aggregations (and_parts (is_nested left) (is_nested over) fits.nested).1; few = few; few_tests = few_tests }
 
 tested_complete : (depth : ℕ) (inside : Reader QueryForm) → IsComplete depth inside → (room : Room) (lexemes : List Lexeme) (left : TermForm) (over : Option TermForm) (test : Option ThresholdForm) (middle rest : List Lexeme) → room.depth ≡ suc depth → IsQuotient (suc depth) left over lexemes middle → IsThreshold test middle rest
-    → FitsQuery room (parts_of_query left over test) → EndsQuery rest → query_by false inside room lexemes ≡ Ok (parts_of_query left over test, rest)
+    → FitsQuery room (parts_of_query left over test) → EndsQuery rest → query_by inside room lexemes ≡ Ok (parts_of_query left over test, rest)
 tested_complete depth inside complete room lexemes left None test middle rest deep operand threshold fits ends =
     let stops = threshold_ends test middle rest threshold ends in
     let read = operand_complete depth inside complete room lexemes left None middle deep operand (untested_fits room left None test fits) (ends_term middle stops) in
@@ -215,14 +215,14 @@ tested_complete depth inside complete room lexemes left (Some over) test middle 
     let read = operand_complete depth inside complete room lexemes left (Some over) middle deep operand (untested_fits room left (Some over) test fits) (ends_term middle stops) in
     by_operand inside room lexemes quotient middle (parts_of_query left (Some over) test) rest read (behind_is quotient room middle left (Some over) test middle rest (undivided quotient room middle stops) threshold ends)
 
-within_complete : (depth : ℕ) → IsComplete depth (query_within false (suc depth))
+within_complete : (depth : ℕ) → IsComplete depth (query_within (suc depth))
 within_complete zero room lexemes query rest deep is fits ends = absurd is
-within_complete (suc depth) room lexemes query rest deep (inl tested) fits ends = tested_complete depth (query_within false (suc depth)) (within_complete depth) room lexemes query.left query.over query.test tested.0 rest deep tested.1 tested.2 fits ends
+within_complete (suc depth) room lexemes query rest deep (inl tested) fits ends = tested_complete depth (query_within (suc depth)) (within_complete depth) room lexemes query.left query.over query.test tested.0 rest deep tested.1 tested.2 fits ends
 within_complete (suc depth) room lexemes query rest deep (inr p) fits ends =
-    by_operand (query_within false (suc depth)) room lexemes query rest query rest (inner_complete depth (query_within false (suc depth)) (within_complete depth) room lexemes query rest deep p fits) (nothing_behind query room rest ends)
+    by_operand (query_within (suc depth)) room lexemes query rest query rest (inner_complete depth (query_within (suc depth)) (within_complete depth) room lexemes query rest deep p fits) (nothing_behind query room rest ends)
 
 -- a query that is derived is read
-pub derived_is_read : (text : List ℕ) (query : QueryForm) → Derives text query → query_of false text ≡ Ok query
+pub derived_is_read : (text : List ℕ) (query : QueryForm) → Derives text query → query_reading text ≡ Ok query
 unfolding query_in whole_at
 derived_is_read text query d =
     let read = within_complete most_parentheses whole_room (lexemes_of text) query d.behind refl d.is (record { few = d.few; few_tests = d.few_tests; nested = d.nested }) (text_ends d.behind d.rest d.end) in

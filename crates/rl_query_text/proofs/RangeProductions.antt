@@ -31,7 +31,7 @@ range_read place (tokens.Number number) seconds h = by_duration (duration_of num
     by_duration : (o : Option ℕ) → duration_of number ≡ o → seconds_of o place number ≡ Ok seconds → IsSeconds (tokens.Number number) seconds
     by_duration None is h = absurd (⊎_elim (λ yes. no_err _ seconds yes.1) (λ other. no_err _ seconds other.1) (chosen (looks_like_duration number) _ _ (Ok seconds) h))
     by_duration (Some s) is h =
-        let checked = if_ok (nat_le 1 s && nat_le s longest_range) s seconds faults.BadRange h in
+        let checked = if_ok (nat_le 1 s && nat_le s longest_range) s seconds _ h in
         let bounds = and_parts (nat_le 1 s) (nat_le s longest_range) checked.0 in
         (number, refl, is ∙ ap (λ n. Some n) checked.1, subst (λ n. (1 ≤ n) × (n ≤ longest_range)) checked.1 (leb-true 1 s bounds.0, leb-true s longest_range bounds.1))
 range_read place _ seconds h = absurd (no_err _ seconds h)
@@ -58,7 +58,7 @@ seconds_are position seconds lexemes rest is =
     let checked : nat_le 1 seconds && nat_le seconds longest_range ≡ true = and_from _ _ (le-leb 1 seconds is.in_range.0) (le-leb seconds longest_range is.in_range.1) in
     rw (a.1, b.is, is.read, checked, c.1) (ap (λ r. Ok (seconds, r)) c.2)
 
-closed_behind : (room : Room) (stages : List StageForm) (lexemes behind rest : List Lexeme) → AreRoomy room stages lexemes behind → Stand (tokens.Sign signs.CloseParenthesis ∷ []) behind rest → closed_at false room [] lexemes ≡ Ok (stages, rest)
+closed_behind : (room : Room) (stages : List StageForm) (lexemes behind rest : List Lexeme) → AreRoomy room stages lexemes behind → Stand (tokens.Sign signs.CloseParenthesis ∷ []) behind rest → closed_at room [] lexemes ≡ Ok (stages, rest)
 unfolding closed_at
 closed_behind room stages lexemes behind rest are closed =
     let a = expected_is signs.CloseParenthesis [] (behind_stages positions.BehindRange stages) behind rest closed in
@@ -67,7 +67,7 @@ closed_behind room stages lexemes behind rest are closed =
 no_stages : (room : Room) (lexemes : List Lexeme) → AreRoomy room [] lexemes lexemes
 no_stages room lexemes = record { are = record { chained = refl; one_parser = omega arith }; few = omega arith; few_tests = omega arith }
 
-closed_before : (room : Room) (stages : List StageForm) (lexemes rest : List Lexeme) → Stand (tokens.Sign signs.CloseParenthesis ∷ []) lexemes rest → closed_at false room stages lexemes ≡ Ok (stages, rest)
+closed_before : (room : Room) (stages : List StageForm) (lexemes rest : List Lexeme) → Stand (tokens.Sign signs.CloseParenthesis ∷ []) lexemes rest → closed_at room stages lexemes ≡ Ok (stages, rest)
 unfolding closed_at
 closed_before room [] lexemes rest closed = closed_behind room [] lexemes lexemes rest (no_stages room lexemes) closed
 closed_before room (s ∷ stages) lexemes rest closed = let a = expected_is signs.CloseParenthesis [] positions.BehindFilteredRange lexemes rest closed in rw a.1 (ap (λ r. Ok (s ∷ stages, r)) a.2)
@@ -80,18 +80,18 @@ record IsClosing (room : Room) (stages : List StageForm) (seconds : ℕ) (lexeme
   pub few_tests : label_tests stages ≤ room.tests
   pub closed : Stand (tokens.Sign signs.CloseParenthesis ∷ []) behind rest
 
-closing_read : (room : Room) (lexemes : List Lexeme) (stages : List StageForm) (seconds : ℕ) (rest : List Lexeme) → closing_at false room lexemes ≡ Ok (stages, seconds, rest) → IsClosing room stages seconds lexemes rest
+closing_read : (room : Room) (lexemes : List Lexeme) (stages : List StageForm) (seconds : ℕ) (rest : List Lexeme) → closing_at room lexemes ≡ Ok (stages, seconds, rest) → IsClosing room stages seconds lexemes rest
 unfolding closing_at timed_at closed_at
 closing_read room lexemes stages seconds rest h =
-    let a = bind_ok (stages_in false room lexemes) _ (stages, seconds, rest) h in
+    let a = bind_ok (stages_in room lexemes) _ (stages, seconds, rest) h in
     let b = bind_ok (seconds_at (behind_stages positions.BehindSelector a.0.0) a.0.1) _ (stages, seconds, rest) a.2 in
-    let c = bind_ok (closed_at false room a.0.0 b.0.1) _ (stages, seconds, rest) b.2 in
+    let c = bind_ok (closed_at room a.0.0 b.0.1) _ (stages, seconds, rest) b.2 in
     let whole = by_front a.0.0 a.0.1 b.0.0 b.0.1 c.0.0 c.0.1 (stages_derived room lexemes a.0.0 a.0.1 a.1) (seconds_read (behind_stages positions.BehindSelector a.0.0) a.0.1 b.0.0 b.0.1 b.1) c.1 in
     subst (λ (p : List StageForm × ℕ × List Lexeme). IsClosing room p.0 p.1 lexemes p.2) (same_ok _ _ c.2) whole
   where
-    by_front : (front : List StageForm) (middle : List Lexeme) (n : ℕ) (after : List Lexeme) (all : List StageForm) (end : List Lexeme) → AreRoomy room front lexemes middle → IsDuration n middle after → closed_at false room front after ≡ Ok (all, end) → IsClosing room all n lexemes end
+    by_front : (front : List StageForm) (middle : List Lexeme) (n : ℕ) (after : List Lexeme) (all : List StageForm) (end : List Lexeme) → AreRoomy room front lexemes middle → IsDuration n middle after → closed_at room front after ≡ Ok (all, end) → IsClosing room all n lexemes end
     by_front [] middle n after all end roomy duration h =
-        let a = bind_ok (stages_in false room after) _ (all, end) h in
+        let a = bind_ok (stages_in room after) _ (all, end) h in
         let b = bind_ok (expected signs.CloseParenthesis (behind_stages positions.BehindRange a.0.0) a.0.1) _ (all, end) a.2 in
         let behind = stages_derived room after a.0.0 a.0.1 a.1 in
         let whole : IsClosing room a.0.0 n lexemes b.0 = record {
@@ -111,7 +111,7 @@ bracket_stops : (n : ℕ) (ls end : List Lexeme) → IsDuration n ls end → End
 bracket_stops n ls end duration = ends_at (tokens.Sign signs.OpenBracket) (tokens.Number duration.duration ∷ tokens.Sign signs.CloseBracket ∷ []) ls end duration.stand refl refl refl refl
 
 closing_is : (room : Room) (stages : List StageForm) (seconds : ℕ) (lexemes rest behind : List Lexeme) → length stages ≤ room.stages → label_tests stages ≤ room.tests → IsTimed room.depth stages seconds lexemes behind → Stand (tokens.Sign signs.CloseParenthesis ∷ []) behind rest
-    → closing_at false room lexemes ≡ Ok (stages, seconds, rest)
+    → closing_at room lexemes ≡ Ok (stages, seconds, rest)
 unfolding closing_at timed_at
 closing_is room stages seconds lexemes rest behind few few_tests (inl before) closed =
     rw (stages_are_read room stages lexemes before.0 (record { are = before.1; few = few; few_tests = few_tests }) (bracket_stops seconds before.0 behind before.2), seconds_are (behind_stages positions.BehindSelector stages) seconds before.0 behind before.2, closed_before room stages behind rest closed) refl
@@ -126,13 +126,13 @@ pub record IsRoomyRange (room : Room) (range : RangeForm) (lexemes rest : List L
   pub few : length range.stages ≤ room.stages
   pub few_tests : label_tests range.stages ≤ room.tests
 
-pub range_derived : (room : Room) (lexemes : List Lexeme) (range : RangeForm) (rest : List Lexeme) → range_at false room lexemes ≡ Ok (range, rest) → IsRoomyRange room range lexemes rest
+pub range_derived : (room : Room) (lexemes : List Lexeme) (range : RangeForm) (rest : List Lexeme) → range_at room lexemes ≡ Ok (range, rest) → IsRoomyRange room range lexemes rest
 unfolding range_at
 range_derived room lexemes range rest h =
     let a = bind_ok (opened_at positions.Elsewhere room lexemes) _ (range, rest) h in
     let b = bind_ok (expected signs.OpenBrace positions.Elsewhere a.0.1) _ (range, rest) a.2 in
-    let c = bind_ok (selector_at false b.0) _ (range, rest) b.2 in
-    let d = bind_ok (closing_at false a.0.0 c.0.1) _ (range, rest) c.2 in
+    let c = bind_ok (selector_at b.0) _ (range, rest) b.2 in
+    let d = bind_ok (closing_at a.0.0 c.0.1) _ (range, rest) c.2 in
     let opened = opened_read positions.Elsewhere room a.0.0 lexemes a.0.1 a.1 in
     let closing = closing_read a.0.0 c.0.1 d.0.0 d.0.1 d.0.2 d.1 in
     let made : ◌≡◌ {A = RangeForm × List Lexeme} (record { matchers = c.0.0; stages = d.0.0; seconds = d.0.1 }, d.0.2) (range, rest) = same_ok _ _ d.2 in
@@ -154,7 +154,7 @@ range_derived room lexemes range rest h =
     } in
     subst (λ (p : RangeForm × List Lexeme). IsRoomyRange room p.0 lexemes p.1) made whole
 
-pub range_is : (room : Room) (range : RangeForm) (lexemes rest : List Lexeme) → IsRoomyRange room range lexemes rest → range_at false room lexemes ≡ Ok (range, rest)
+pub range_is : (room : Room) (range : RangeForm) (lexemes rest : List Lexeme) → IsRoomyRange room range lexemes rest → range_at room lexemes ≡ Ok (range, rest)
 unfolding range_at
 range_is room range lexemes rest roomy =
     let is = roomy.is in

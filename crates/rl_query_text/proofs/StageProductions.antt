@@ -13,7 +13,7 @@ use Rattle.std.proofs.lemmas.List.Sums.{sum_by-cons}
 use Rattle.rl_labels.specs.Name.{is_text}
 use Rattle.rl_labels.specs.laws.LabelLaws.{same_text}
 use Rattle.rl_plain.specs.Answers.{◌>>=◌}
-use Rattle.rl_query.specs.declared.fault.QueryFault.{QueryFault}
+use Rattle.rl_query_text.specs.declared.stop.Stop.{Stop}
 use Rattle.rl_query.specs.declared.stages.Parser.{Parser}
 use Rattle.rl_query.specs.declared.stages.Parser.TheVariants as parsers
 use Rattle.rl_query.specs.declared.token.Lexeme.{Lexeme}
@@ -41,9 +41,9 @@ parser_is : (parser : Parser) → parser_of (tokens.Word (parser_text parser)) �
 parser_is parsers.Json = refl
 parser_is parsers.Logfmt = refl
 
-only_read : (parsed : Bool) (named parser : Parser) → only_parser parsed named ≡ Ok parser → (parsed ≡ false) × (named ≡ parser)
-only_read true named parser h = absurd (no_err _ parser h)
-only_read false named parser h = (refl, same_ok named parser h)
+only_read : (place : ℕ) (parsed : Bool) (named parser : Parser) → only_parser place parsed named ≡ Ok parser → (parsed ≡ false) × (named ≡ parser)
+only_read place true named parser h = absurd (no_err _ parser h)
+only_read place false named parser h = (refl, same_ok named parser h)
 
 -- a stage, no parser where one was read before, and how many label tests may still come
 record IsNext (parsed : Bool) (depth left : ℕ) (lexemes : List Lexeme) (read : StageForm × ℕ × List Lexeme) : Type 0 where
@@ -67,8 +67,8 @@ piped_read parsed depth left lexemes behind read pipe h =
     let a = bind_ok (next behind) _ read h in
     ⊎_elim
     (λ none. tested_read parsed depth left lexemes behind read pipe none.1)
-    (λ some. let b = bind_ok (only_parser parsed some.0) _ read some.2 in
-    let only = only_read parsed some.0 b.0 b.1 in
+    (λ some. let b = bind_ok (only_parser a.0.0.place parsed some.0) _ read some.2 in
+    let only = only_read a.0.0.place parsed some.0 b.0 b.1 in
     let word = one_read (tokens.Word (parser_text b.0)) behind a.0.1 a.0.0 a.1 (parser_read a.0.0.token some.0 some.1 ∙ ap (λ p. tokens.Word (parser_text p)) only.1) in
     let whole : IsNext parsed depth left lexemes (by_parser b.0, left, a.0.1) = record { is = stand_then (tokens.Sign signs.Pipe ∷ []) (tokens.Word (parser_text b.0) ∷ []) lexemes behind a.0.1 pipe word; only = ap (λ b. b && true) only.0; counts = omega arith } in
     subst (IsNext parsed depth left lexemes) (same_ok _ _ b.2) whole)
@@ -116,7 +116,7 @@ record AreUpTo (parsed : Bool) (depth left most : ℕ) (stages : List StageForm)
   pub one_parser : cond parsed 1 0 + parsers_of stages ≤ 1
   pub few_tests : label_tests stages ≤ left
 
-none_read : (parsed : Bool) (depth left most : ℕ) (lexemes : List Lexeme) (stages : List StageForm) (rest : List Lexeme) → ◌≡◌ {A = Result (List StageForm × List Lexeme) QueryFault} (Ok ([], lexemes)) (Ok (stages, rest)) → AreUpTo parsed depth left most stages lexemes rest
+none_read : (parsed : Bool) (depth left most : ℕ) (lexemes : List Lexeme) (stages : List StageForm) (rest : List Lexeme) → ◌≡◌ {A = Result (List StageForm × List Lexeme) Stop} (Ok ([], lexemes)) (Ok (stages, rest)) → AreUpTo parsed depth left most stages lexemes rest
 none_read parsed depth left most lexemes stages rest h =
     let whole : AreUpTo parsed depth left most [] lexemes lexemes = record { chained = refl; few = omega arith; one_parser = small parsed; few_tests = omega arith } in
     subst (λ (p : List StageForm × List Lexeme). AreUpTo parsed depth left most p.0 lexemes p.1) (same_ok _ _ h) whole
@@ -174,17 +174,12 @@ pub record AreRoomy (room : Room) (stages : List StageForm) (lexemes rest : List
   pub few : length stages ≤ room.stages
   pub few_tests : label_tests stages ≤ room.tests
 
--- stages where each pattern has room
-pub stages_derived : (room : Room) (lexemes : List Lexeme) (stages : List StageForm) (rest : List Lexeme) → stages_in false room lexemes ≡ Ok (stages, rest) → AreRoomy room stages lexemes rest
-unfolding stages_in
+pub stages_derived : (room : Room) (lexemes : List Lexeme) (stages : List StageForm) (rest : List Lexeme) → stages_in room lexemes ≡ Ok (stages, rest) → AreRoomy room stages lexemes rest
 stages_derived room lexemes stages rest h =
-    let a = bind_ok (stages_at false room.depth room.tests room.stages lexemes) _ (stages, rest) h in
-    let are = stages_read false room.depth room.tests room.stages lexemes a.0.0 a.0.1 a.1 in
-    let whole : AreRoomy room a.0.0 lexemes a.0.1 = record { are = record { chained = are.chained; one_parser = omega (arith, are.one_parser) }; few = are.few; few_tests = are.few_tests } in
-    subst (λ (p : List StageForm × List Lexeme). AreRoomy room p.0 lexemes p.1) (same_ok _ _ a.2) whole
+    let are = stages_read false room.depth room.tests room.stages lexemes stages rest h in
+    record { are = record { chained = are.chained; one_parser = omega (arith, are.one_parser) }; few = are.few; few_tests = are.few_tests }
 
-pub stages_are_read : (room : Room) (stages : List StageForm) (lexemes rest : List Lexeme) → AreRoomy room stages lexemes rest → Ends rest → stages_in false room lexemes ≡ Ok (stages, rest)
-unfolding stages_in
+pub stages_are_read : (room : Room) (stages : List StageForm) (lexemes rest : List Lexeme) → AreRoomy room stages lexemes rest → Ends rest → stages_in room lexemes ≡ Ok (stages, rest)
 stages_are_read room stages lexemes rest roomy stops =
     let up_to : AreUpTo false room.depth room.tests room.stages stages lexemes rest = record { chained = roomy.are.chained; few = roomy.few; one_parser = omega (arith, roomy.are.one_parser); few_tests = roomy.few_tests } in
-    rw (stages_are false room.depth room.tests room.stages stages lexemes rest up_to stops) refl
+    stages_are false room.depth room.tests room.stages stages lexemes rest up_to stops

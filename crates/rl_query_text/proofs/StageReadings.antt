@@ -7,7 +7,7 @@ use Rattle.std.proofs.lemmas.List.Folds.{list_any_at}
 use Rattle.rl_plain.specs.Answers.{Fails}
 use Rattle.rl_plain.specs.declared.refusal.OrMemory.{OrMemory}
 use Rattle.rl_plain.specs.declared.refusal.OrMemory.TheVariants as errors
-use Rattle.rl_query.specs.declared.fault.QueryFault.{QueryFault}
+use Rattle.rl_query_text.specs.declared.stop.Stop.{Stop}
 use Rattle.rl_query.specs.declared.stages.Stage.{Stage}
 use Rattle.rl_query.specs.declared.token.Lexeme.{Lexeme}
 use Rattle.rl_query.specs.Form.{StageForm, stage_form, stage_has_pattern, stages_have_pattern, parses}
@@ -15,10 +15,10 @@ use Rattle.rl_query_text.specs.Parsing.{stage_comes, stage_at, stages_at}
 use Rattle.rl_query_text.proofs.Elements.{with_front, regroup}
 
 -- what is read so far, and is read of the tokens that are left, is the whole
-abbrev pub AreRead : List StageForm → Bool → (depth left most : ℕ) → List Lexeme → Result (List StageForm × List Lexeme) QueryFault → Type 0
+abbrev pub AreRead : List StageForm → Bool → (depth left most : ℕ) → List Lexeme → Result (List StageForm × List Lexeme) Stop → Type 0
 AreRead front parsed depth left most lexemes whole = with_front front (stages_at parsed depth left most lexemes) ≡ whole
 
-pub one_more : (front : List StageForm) (parsed : Bool) (depth left count i : ℕ) (lexemes after : List Lexeme) (s : StageForm) (fewer : ℕ) (whole : Result (List StageForm × List Lexeme) QueryFault) → i < count → stage_comes lexemes ≡ Ok true
+pub one_more : (front : List StageForm) (parsed : Bool) (depth left count i : ℕ) (lexemes after : List Lexeme) (s : StageForm) (fewer : ℕ) (whole : Result (List StageForm × List Lexeme) Stop) → i < count → stage_comes lexemes ≡ Ok true
     → stage_at parsed depth left lexemes ≡ Ok (s, fewer, after) → AreRead front parsed depth left (count - i) lexemes whole → AreRead (front ++ s ∷ []) (parsed || parses s) depth fewer (count - (i + 1)) after whole
 unfolding stages_at
 one_more front parsed depth left count i lexemes after s fewer whole lt comes h so_far =
@@ -26,14 +26,14 @@ one_more front parsed depth left count i lexemes after s fewer whole lt comes h 
     let one : with_front front (stages_at parsed depth left (count - i) lexemes) ≡ with_front (front ++ s ∷ []) (stages_at (parsed || parses s) depth fewer (count - (i + 1)) after) = rw (k, comes, h) (regroup front s (stages_at (parsed || parses s) depth fewer (count - (i + 1)) after)) in
     sym one ∙ so_far
 
-pub stops : (front : List StageForm) (parsed : Bool) (depth left count i : ℕ) (lexemes : List Lexeme) (whole : Result (List StageForm × List Lexeme) QueryFault) → i < count → stage_comes lexemes ≡ Ok false → AreRead front parsed depth left (count - i) lexemes whole → whole ≡ Ok (front, lexemes)
+pub stops : (front : List StageForm) (parsed : Bool) (depth left count i : ℕ) (lexemes : List Lexeme) (whole : Result (List StageForm × List Lexeme) Stop) → i < count → stage_comes lexemes ≡ Ok false → AreRead front parsed depth left (count - i) lexemes whole → whole ≡ Ok (front, lexemes)
 unfolding stages_at
 stops front parsed depth left count i lexemes whole lt comes so_far =
     let k : count - i ≡ suc (count - (i + 1)) = omega arith in
     let one : with_front front (stages_at parsed depth left (count - i) lexemes) ≡ Ok (front, lexemes) = rw (k, comes) (ap (λ (ss : List StageForm). Ok (ss, lexemes)) (append-nil front)) in
     sym so_far ∙ one
 
-pub fails : (e : OrMemory QueryFault) (front : List StageForm) (parsed : Bool) (depth left count i : ℕ) (lexemes : List Lexeme) (whole : Result (List StageForm × List Lexeme) QueryFault) → i < count → stage_comes lexemes ≡ Ok true
+pub fails : (e : OrMemory Stop) (front : List StageForm) (parsed : Bool) (depth left count i : ℕ) (lexemes : List Lexeme) (whole : Result (List StageForm × List Lexeme) Stop) → i < count → stage_comes lexemes ≡ Ok true
     → Fails e (stage_at parsed depth left lexemes) → AreRead front parsed depth left (count - i) lexemes whole → Fails e whole
 unfolding stages_at
 fails errors.Memory front parsed depth left count i lexemes whole lt comes h so_far = tt
@@ -42,36 +42,18 @@ fails (errors.Fault f) front parsed depth left count i lexemes whole lt comes h 
     let one : with_front front (stages_at parsed depth left (count - i) lexemes) ≡ Err f = rw (k, comes, h) refl in
     sym so_far ∙ one
 
-pub no_token : (f : QueryFault) (front : List StageForm) (parsed : Bool) (depth left most : ℕ) (lexemes : List Lexeme) (whole : Result (List StageForm × List Lexeme) QueryFault) → stage_comes lexemes ≡ Err f → AreRead front parsed depth left most lexemes whole → whole ≡ Err f
+pub no_token : (f : Stop) (front : List StageForm) (parsed : Bool) (depth left most : ℕ) (lexemes : List Lexeme) (whole : Result (List StageForm × List Lexeme) Stop) → stage_comes lexemes ≡ Err f → AreRead front parsed depth left most lexemes whole → whole ≡ Err f
 unfolding stages_at
 no_token f front parsed depth left zero lexemes whole n so_far = sym so_far ∙ rw n refl
 no_token f front parsed depth left (suc most) lexemes whole n so_far = sym so_far ∙ rw n refl
 
 -- no more may be read
-pub at_end : (front : List StageForm) (parsed : Bool) (depth left count i : ℕ) (lexemes : List Lexeme) (whole : Result (List StageForm × List Lexeme) QueryFault) → count ≤ i → stages_at parsed depth left 0 lexemes ≡ Ok ([], lexemes) → AreRead front parsed depth left (count - i) lexemes whole → whole ≡ Ok (front, lexemes)
+pub at_end : (front : List StageForm) (parsed : Bool) (depth left count i : ℕ) (lexemes : List Lexeme) (whole : Result (List StageForm × List Lexeme) Stop) → count ≤ i → stages_at parsed depth left 0 lexemes ≡ Ok ([], lexemes) → AreRead front parsed depth left (count - i) lexemes whole → whole ≡ Ok (front, lexemes)
 at_end front parsed depth left count i lexemes whole le h so_far =
     let k : count - i ≡ 0 = omega arith in
     sym so_far ∙ ap (λ n. with_front front (stages_at parsed depth left n lexemes)) k ∙ ap (with_front front) h ∙ ap (λ (ss : List StageForm). Ok (ss, lexemes)) (append-nil front)
 
-pub too_many : (f : QueryFault) (front : List StageForm) (parsed : Bool) (depth left count i : ℕ) (lexemes : List Lexeme) (whole : Result (List StageForm × List Lexeme) QueryFault) → count ≤ i → stages_at parsed depth left 0 lexemes ≡ Err f → AreRead front parsed depth left (count - i) lexemes whole → whole ≡ Err f
+pub too_many : (f : Stop) (front : List StageForm) (parsed : Bool) (depth left count i : ℕ) (lexemes : List Lexeme) (whole : Result (List StageForm × List Lexeme) Stop) → count ≤ i → stages_at parsed depth left 0 lexemes ≡ Err f → AreRead front parsed depth left (count - i) lexemes whole → whole ≡ Err f
 too_many f front parsed depth left count i lexemes whole le h so_far =
     let k : count - i ≡ 0 = omega arith in
     sym so_far ∙ ap (λ n. with_front front (stages_at parsed depth left n lexemes)) k ∙ ap (with_front front) h
-
--- a stage with a pattern is one of all
-pub some_pattern : (stages : List Stage) (i : ℕ) (s : Stage) → i < length stages → s ≡ get_or stages i s → stage_has_pattern (stage_form s) ≡ true → stages_have_pattern (map stage_form stages) ≡ true
-some_pattern stages i s within is pattern =
-    let there : get_or (map stage_form stages) i (stage_form s) ≡ stage_form s = get_or-map stage_form stages i s (stage_form s) within ∙ ap stage_form (sym is) in
-    list_any_at stage_has_pattern (map stage_form stages) i (stage_form s) (omega (arith, within, length-map stages stage_form)) (ap stage_has_pattern there ∙ pattern)
-
--- a pattern of one of two is a pattern of both
-pub room_left : (a b : Bool) (e : OrMemory QueryFault) → IsForRoom a e → IsForRoom (a || b) e
-room_left a b errors.Memory h = tt
-room_left a b (errors.Fault faults.BadRegex) h = ap (λ x. x || b) h
-room_left a b (errors.Fault _) h = absurd h
-
-pub room_right : (a b : Bool) (e : OrMemory QueryFault) → IsForRoom b e → IsForRoom (a || b) e
-room_right a b errors.Memory h = tt
-room_right true b (errors.Fault faults.BadRegex) h = refl
-room_right false b (errors.Fault faults.BadRegex) h = h
-room_right a b (errors.Fault _) h = absurd h

@@ -25,7 +25,7 @@ use Rattle.rl_query.specs.Tables.{function_text, all_functions, function_with_te
 use Rattle.rl_query_text.specs.TermGrammar.{IsParameter, IsAggregation, IsBare, IsTerm}
 use Rattle.rl_query_text.proofs.AggregationProductions.{front_read, ended_read}
 use Rattle.rl_query_text.proofs.AggregationReadings.{EndsTerm, ends_term_at, word_of_operator, front_of, front_is, ended_is}
-use Rattle.rl_query_text.proofs.CrampedQueries.{aggregated_by}
+use Rattle.rl_query_text.proofs.Openings.{aggregated_by}
 use Rattle.rl_query_text.proofs.Parentheses.{inside_room, parentheses_read, parentheses_are}
 use Rattle.rl_query_text.proofs.Productions.{bind_ok, chosen, by_option, no_err, same_ok, one_read, next_is}
 use Rattle.rl_query_text.proofs.RangeProductions.{range_derived, range_is}
@@ -68,10 +68,10 @@ pub record IsRoomyTerm (nest : ℕ) (room : Room) (term : TermForm) (lexemes res
 abbrev IsSound : TermReader → Type 0
 IsSound inside = (position : Position) (nest : ℕ) (room : Room) (lexemes : List Lexeme) (term : TermForm) (rest : List Lexeme) → inside position nest room lexemes ≡ Ok (term, rest) → IsRoomyTerm nest room term lexemes rest
 
-ranged_sound : (function : RangeFunction) (nest : ℕ) (room : Room) (lexemes behind : List Lexeme) (term : TermForm) (rest : List Lexeme) → Stand (tokens.Word (function_text function) ∷ []) lexemes behind → ranged_at false function room behind ≡ Ok (term, rest) → IsRoomyTerm nest room term lexemes rest
+ranged_sound : (function : RangeFunction) (nest : ℕ) (room : Room) (lexemes behind : List Lexeme) (term : TermForm) (rest : List Lexeme) → Stand (tokens.Word (function_text function) ∷ []) lexemes behind → ranged_at function room behind ≡ Ok (term, rest) → IsRoomyTerm nest room term lexemes rest
 unfolding ranged_at
 ranged_sound function nest room lexemes behind term rest word h =
-    let a = bind_ok (range_at false room behind) _ (term, rest) h in
+    let a = bind_ok (range_at room behind) _ (term, rest) h in
     let range = range_derived room behind a.0.0 a.0.1 a.1 in
     let made : TermForm = record { aggregations = []; function = function; range = a.0.0 } in
     let is : IsTerm (suc range.inside) made lexemes a.0.1 = inl (behind, word, range.is) in
@@ -130,7 +130,7 @@ enclosed_sound inside sound nest room lexemes term rest h =
       };
     }
 
-begun_sound : (inside : TermReader) → IsSound inside → (position : Position) (place : ℕ) (token : Token) (nest : ℕ) (room : Room) (all behind : List Lexeme) (term : TermForm) (rest : List Lexeme) → Stand (token ∷ []) all behind → begun_at false inside position place token nest room all behind ≡ Ok (term, rest)
+begun_sound : (inside : TermReader) → IsSound inside → (position : Position) (place : ℕ) (token : Token) (nest : ℕ) (room : Room) (all behind : List Lexeme) (term : TermForm) (rest : List Lexeme) → Stand (token ∷ []) all behind → begun_at inside position place token nest room all behind ≡ Ok (term, rest)
     → IsRoomyTerm nest room term all rest
 begun_sound inside sound position place (tokens.Word word) nest room all behind term rest stand h =
     ⊎_elim
@@ -138,23 +138,23 @@ begun_sound inside sound position place (tokens.Word word) nest room all behind 
     (λ other. ⊎_elim
     (λ none. absurd (no_err _ (term, rest) none.1))
     (λ some. ranged_sound some.0 nest room all behind term rest (subst (λ w. Stand (tokens.Word w ∷ []) all behind) (function_read word some.0 some.1) stand) some.2)
-    (by_option (λ function. ranged_at false function room behind) (function_with_text word) (Err (refusal position place (tokens.Word word))) (term, rest) other.1))
+    (by_option (λ function. ranged_at function room behind) (function_with_text word) (Err (refusal position place (tokens.Word word))) (term, rest) other.1))
     (chosen (is_operator_word word) _ _ (Ok (term, rest)) h)
 begun_sound inside sound position place (tokens.Sign sign) nest room all behind term rest stand h =
     ⊎_elim (λ yes. enclosed_sound inside sound nest room all term rest yes.1) (λ no. absurd (no_err _ (term, rest) no.1)) (chosen (is_sign signs.OpenParenthesis (tokens.Sign sign)) _ _ (Ok (term, rest)) h)
 begun_sound inside sound position place _ nest room all behind term rest stand h = absurd (no_err _ (term, rest) h)
 
-by_sound : (inside : TermReader) → IsSound inside → IsSound (term_by false inside)
+by_sound : (inside : TermReader) → IsSound inside → IsSound (term_by inside)
 unfolding term_by
 by_sound inside sound position nest room lexemes term rest h =
     let a = bind_ok (next lexemes) _ (term, rest) h in
     begun_sound inside sound position a.0.0.place a.0.0.token nest room lexemes a.0.1 term rest (one_read a.0.0.token lexemes a.0.1 a.0.0 a.1 refl) a.2
 
-in_sound : (turns : ℕ) → IsSound (term_in false turns)
+in_sound : (turns : ℕ) → IsSound (term_in turns)
 in_sound zero position nest room lexemes term rest h = absurd (no_err _ (term, rest) h)
-in_sound (suc turns) position nest room lexemes term rest h = by_sound (term_in false turns) (in_sound turns) position nest room lexemes term rest h
+in_sound (suc turns) position nest room lexemes term rest h = by_sound (term_in turns) (in_sound turns) position nest room lexemes term rest h
 
-pub term_derived : (position : Position) (room : Room) (lexemes : List Lexeme) (term : TermForm) (rest : List Lexeme) → term_at false position room lexemes ≡ Ok (term, rest) → IsRoomyTerm most_aggregations room term lexemes rest
+pub term_derived : (position : Position) (room : Room) (lexemes : List Lexeme) (term : TermForm) (rest : List Lexeme) → term_at position room lexemes ≡ Ok (term, rest) → IsRoomyTerm most_aggregations room term lexemes rest
 term_derived position room lexemes term rest h = in_sound (suc room.depth) position most_aggregations room lexemes term rest h
 
 -- What is derived is read.
@@ -170,10 +170,10 @@ aggregated_complete depth inside complete fewer room aggregation term lexemes re
     let before = front_is aggregation.operator is.front fewer room depth is.behind_word is.behind_grouping is.behind_parenthesis is.behind_parameter deep is.grouped is.opened is.parameter in
     let read = complete positions.InTerm fewer inner is.behind_parameter term is.end refl is.inside (record { nested = fits.nested; few = fits.few; few_tests = fits.few_tests }) (ends_term_at (tokens.Sign signs.CloseParenthesis) [] is.end is.behind_end is.closed refl refl) in
     let ended = ended_is front room depth is.back aggregation is.end is.behind_end rest deep refl is.closed is.one_side is.grouped_behind ends in
-    aggregated_by inside (operator_word aggregation.operator) (suc fewer) room is.behind_word is.behind_parameter front (Ok (around aggregation term, rest)) before (rw (read, ended) refl)
+    aggregated_by inside (operator_word aggregation.operator) (suc fewer) room is.behind_word is.behind_parameter front before ∙ rw (read, ended) refl
 
 bare_complete : (depth : ℕ) (inside : TermReader) → IsComplete depth inside → (position : Position) (nest : ℕ) (room : Room) (lexemes : List Lexeme) (aggregations : List AggregationForm) (function : RangeFunction) (range : RangeForm) (rest : List Lexeme) → room.depth ≡ suc depth
-    → IsBare depth (IsTerm depth) aggregations function range lexemes rest → Fits nest room (record { aggregations = aggregations; function = function; range = range }) → EndsTerm rest → term_by false inside position nest room lexemes ≡ Ok (record { aggregations = aggregations; function = function; range = range }, rest)
+    → IsBare depth (IsTerm depth) aggregations function range lexemes rest → Fits nest room (record { aggregations = aggregations; function = function; range = range }) → EndsTerm rest → term_by inside position nest room lexemes ≡ Ok (record { aggregations = aggregations; function = function; range = range }, rest)
 unfolding term_by ranged_at
 bare_complete depth inside complete position nest room lexemes [] function range rest deep is fits ends =
     let a = next_is (tokens.Word (function_text function)) [] lexemes is.0 is.1 in
@@ -187,15 +187,15 @@ bare_complete depth inside complete position (suc fewer) room lexemes (aggregati
     let there = subst (λ ls. aggregated_at inside (operator_word aggregation.operator) (suc fewer) room ls ≡ Ok (around aggregation term, rest)) (sym a.more) read in
     rw (a.is, word_of_operator aggregation.operator, there) refl
 
-in_complete : (depth : ℕ) → IsComplete depth (term_in false (suc depth))
+in_complete : (depth : ℕ) → IsComplete depth (term_in (suc depth))
 unfolding term_by
 in_complete zero position nest room lexemes term rest deep is fits ends = absurd is
-in_complete (suc depth) position nest room lexemes term rest deep (inl bare) fits ends = bare_complete depth (term_in false (suc depth)) (in_complete depth) position nest room lexemes term.aggregations term.function term.range rest deep bare fits ends
+in_complete (suc depth) position nest room lexemes term rest deep (inl bare) fits ends = bare_complete depth (term_in (suc depth)) (in_complete depth) position nest room lexemes term.aggregations term.function term.range rest deep bare fits ends
 in_complete (suc depth) position nest room lexemes term rest deep (inr p) fits ends =
     let a = next_is (tokens.Sign signs.OpenParenthesis) [] lexemes p.behind p.opened in
     let stops = ends_term_at (tokens.Sign signs.CloseParenthesis) [] p.end rest p.closed refl refl in
     let read = in_complete depth positions.InTerm nest (inside_room room depth) p.behind term p.end refl p.inside (record { nested = fits.nested; few = fits.few; few_tests = fits.few_tests }) stops in
-    rw (a.is, parentheses_are positions.InTerm (term_in false (suc depth) positions.InTerm nest) room depth term lexemes p.behind p.end rest deep p.opened p.closed read) refl
+    rw (a.is, parentheses_are positions.InTerm (term_in (suc depth) positions.InTerm nest) room depth term lexemes p.behind p.end rest deep p.opened p.closed read) refl
 
-pub term_is : (position : Position) (room : Room) (lexemes : List Lexeme) (term : TermForm) (rest : List Lexeme) → IsRoomyTerm most_aggregations room term lexemes rest → EndsTerm rest → term_at false position room lexemes ≡ Ok (term, rest)
+pub term_is : (position : Position) (room : Room) (lexemes : List Lexeme) (term : TermForm) (rest : List Lexeme) → IsRoomyTerm most_aggregations room term lexemes rest → EndsTerm rest → term_at position room lexemes ≡ Ok (term, rest)
 term_is position room lexemes term rest roomy ends = in_complete room.depth position most_aggregations room lexemes term rest refl roomy.is roomy.fits ends

@@ -32,19 +32,19 @@ pub only_word : (word : List ℕ) (t : Token) → is_word word t ≡ true → t 
 only_word word (tokens.Word found) h = ap tokens.Word (same_text found word h)
 only_word word _ h = cc
 
-fewer_read : (left fewer : ℕ) → one_fewer left ≡ Ok fewer → 1 + fewer ≡ left
-fewer_read zero fewer h = absurd (no_err _ fewer h)
-fewer_read (suc left) fewer h = let same = same_ok left fewer h in omega (arith, same)
+fewer_read : (place left fewer : ℕ) → one_fewer place left ≡ Ok fewer → 1 + fewer ≡ left
+fewer_read place zero fewer h = absurd (no_err _ fewer h)
+fewer_read place (suc left) fewer h = let same = same_ok left fewer h in omega (arith, same)
 
 test_sound : (Inside : Rule) → IsSound test_at (IsOne Inside)
 unfolding test_at
 test_sound Inside left lexemes read h =
     let a = bind_ok (next lexemes) _ read h in
     let b = bind_ok (label_at a.0.0.place a.0.0.token) _ read a.2 in
-    let c = bind_ok (one_fewer left) _ read b.2 in
+    let c = bind_ok (one_fewer a.0.0.place left) _ read b.2 in
     let d = bind_ok (label_test_at lexemes) _ read c.2 in
     let test = label_test_read lexemes d.0.0 d.0.1 (label_first lexemes a.0.1 a.0.0 a.1 (sym b.1)) d.1 in
-    subst (IsRead (IsOne Inside) left lexemes) (same_ok _ _ d.2) (alone d.0.0 lexemes d.0.1 test, fewer_read left c.0 c.1)
+    subst (IsRead (IsOne Inside) left lexemes) (same_ok _ _ d.2) (alone d.0.0 lexemes d.0.1 test, fewer_read a.0.0.place left c.0 c.1)
 
 enclosed_sound : (inside : Reader) (Inside : Rule) → IsSound inside Inside → (left : ℕ) (lexemes behind : List Lexeme) (read : Read) → Stand (tokens.Sign signs.OpenParenthesis ∷ []) lexemes behind → enclosed_at inside left behind ≡ Ok read → IsRead (IsOne Inside) left lexemes read
 unfolding enclosed_at

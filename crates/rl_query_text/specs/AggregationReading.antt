@@ -10,7 +10,8 @@ use Rattle.rl_query.specs.declared.aggregation.Grouping.{Grouping}
 use Rattle.rl_query.specs.declared.aggregation.Grouping.TheVariants as groupings
 use Rattle.rl_query.specs.declared.aggregation.VectorOperator.{VectorOperator}
 use Rattle.rl_query.specs.declared.aggregation.VectorOperator.TheVariants as operators
-use Rattle.rl_query.specs.declared.fault.QueryFault.{QueryFault}
+use Rattle.rl_query_text.specs.declared.stop.Stop.{Stop}
+use Rattle.rl_query_text.specs.Stops.{stop, syntax, unsupported, place_of}
 use Rattle.rl_query.specs.declared.fault.QueryFault.TheVariants as faults
 use Rattle.rl_query_text.specs.declared.aggregation_reading.Front.{Front}
 use Rattle.rl_query_text.specs.declared.parser.Position.{Position}
@@ -29,15 +30,15 @@ use Rattle.rl_query.specs.Tables.{comparison_of, plain_operator}
 use Rattle.rl_query_text.specs.Testing.{is_word}
 
 -- a name that a label may have
-abbrev pub label_name : ℕ → Token → Result (List ℕ) QueryFault
-label_name place token = name_of place token >>= λ name. if is_name name then Ok name else Err (faults.Syntax place)
+abbrev pub label_name : ℕ → Token → Result (List ℕ) Stop
+label_name place token = name_of place token >>= λ name. if is_name name then Ok name else Err (syntax place)
 
 -- behind a name: whether another follows
-abbrev pub name_follows : ℕ → Token → Result Bool QueryFault
+abbrev pub name_follows : ℕ → Token → Result Bool Stop
 name_follows place token = if is_sign signs.Comma token then Ok true else (if is_sign signs.CloseParenthesis token then Ok false else Err (refusal positions.Elsewhere place token))
 
 -- a name, and whether another follows
-unfoldable pub named_at : List Lexeme → Result (List ℕ × Bool × List Lexeme) QueryFault
+unfoldable pub named_at : List Lexeme → Result (List ℕ × Bool × List Lexeme) Stop
 named_at lexemes = do
   first ← next lexemes
   name ← label_name first.0.place first.0.token
@@ -46,30 +47,30 @@ named_at lexemes = do
   Ok (name, more, behind.1)
 
 -- names joined by commas up to the closing parenthesis, or none
-unfoldable pub names_in : List Lexeme → Result (List (List ℕ) × List Lexeme) QueryFault
+unfoldable pub names_in : List Lexeme → Result (List (List ℕ) × List Lexeme) Stop
 names_in lexemes = do
   first ← next lexemes
   if is_sign signs.CloseParenthesis first.0.token then Ok ([], first.1) else listed_at named_at (length lexemes) lexemes
 
 -- the names of a grouping in their parentheses
-unfoldable pub grouped_at : Room → List Lexeme → Result (List (List ℕ) × List Lexeme) QueryFault
+unfoldable pub grouped_at : Room → List Lexeme → Result (List (List ℕ) × List Lexeme) Stop
 grouped_at room lexemes = do
   opened ← opened_at positions.Elsewhere room lexemes
   names_in opened.1
 
 -- by (names), without (names), or all where no such word comes
-unfoldable pub grouping_at : Room → List Lexeme → Result (Grouping × List Lexeme) QueryFault
+unfoldable pub grouping_at : Room → List Lexeme → Result (Grouping × List Lexeme) Stop
 grouping_at room lexemes = do
   first ← next lexemes
   if is_word (codes "by") first.0.token then (grouped_at room first.1 >>= λ names. Ok (groupings.By names.0, names.1)) else (if is_word (codes "without") first.0.token then (grouped_at room first.1 >>= λ names. Ok (groupings.Without names.0, names.1)) else Ok (groupings.All, lexemes))
 
 -- the number of elements that topk keeps
-abbrev pub top_at : ℕ → Token → Result ℕ QueryFault
-top_at place (tokens.Number number) = option_map_or Ok (top_of number) (Err (faults.Unsupported place))
+abbrev pub top_at : ℕ → Token → Result ℕ Stop
+top_at place (tokens.Number number) = option_map_or Ok (top_of number) (Err (unsupported place))
 top_at place token = Err (refusal positions.Elsewhere place token)
 
 -- that number and a comma
-unfoldable pub topk_at : List Lexeme → Result (VectorOperator × List Lexeme) QueryFault
+unfoldable pub topk_at : List Lexeme → Result (VectorOperator × List Lexeme) Stop
 topk_at lexemes = do
   number ← next lexemes
   top ← top_at number.0.place number.0.token
@@ -77,7 +78,7 @@ topk_at lexemes = do
   Ok (operators.Topk top, behind)
 
 -- an operator of the word, and the number that topk has behind the parenthesis
-abbrev pub operator_at : List ℕ → List Lexeme → Result (VectorOperator × List Lexeme) QueryFault
+abbrev pub operator_at : List ℕ → List Lexeme → Result (VectorOperator × List Lexeme) Stop
 operator_at word lexemes = option_map_or (λ operator. Ok (operator, lexemes)) (plain_operator word) (topk_at lexemes)
 
 -- the word of a vector aggregation
@@ -85,9 +86,9 @@ abbrev pub is_operator_word : List ℕ → Bool
 is_operator_word word = is_some (plain_operator word) || is_text word (codes "topk")
 
 -- one vector aggregation more
-abbrev pub nested : ℕ → Result ℕ QueryFault
-nested zero = Err faults.TooDeep
-nested (suc nest) = Ok nest
+abbrev pub nested : (place nest : ℕ) → Result ℕ Stop
+nested place zero = Err (stop faults.TooDeep place)
+nested place (suc nest) = Ok nest
 
 -- the position behind the word of a vector aggregation and its grouping; behind a grouping no other may come
 abbrev pub behind_operator : Grouping → Position
@@ -95,21 +96,21 @@ behind_operator groupings.All = positions.BehindOperator
 behind_operator grouping = positions.Elsewhere
 
 -- what stands behind the word of a vector aggregation, up to the term in it
-unfoldable pub front_at : (word : List ℕ) → (nest : ℕ) → Room → List Lexeme → Result (Front × List Lexeme) QueryFault
+unfoldable pub front_at : (word : List ℕ) → (nest : ℕ) → Room → List Lexeme → Result (Front × List Lexeme) Stop
 front_at word nest room lexemes = do
-  fewer ← nested nest
+  fewer ← nested (place_of lexemes) nest
   grouping ← grouping_at room lexemes
   opened ← opened_at (behind_operator grouping.0) room grouping.1
   operator ← operator_at word opened.1
   Ok (record { operator = operator.0; grouping = grouping.0; nest = fewer; room = opened.0 }, operator.1)
 
 -- the grouping behind the parentheses, where none stands before them
-abbrev pub back_at : Grouping → Room → List Lexeme → Result (Grouping × List Lexeme) QueryFault
+abbrev pub back_at : Grouping → Room → List Lexeme → Result (Grouping × List Lexeme) Stop
 back_at groupings.All room lexemes = grouping_at room lexemes
 back_at grouping room lexemes = Ok (grouping, lexemes)
 
 -- the parenthesis behind the term, and the grouping
-unfoldable pub ended_at : Front → Room → List Lexeme → Result (AggregationForm × List Lexeme) QueryFault
+unfoldable pub ended_at : Front → Room → List Lexeme → Result (AggregationForm × List Lexeme) Stop
 ended_at front room lexemes = do
   closed ← expected signs.CloseParenthesis positions.BehindTerm lexemes
   grouping ← back_at front.grouping room closed
@@ -124,8 +125,8 @@ abbrev pub is_digits : List ℕ → Bool
 is_digits number = option_map_or (λ place. are_digits (take place number) && are_digits (drop (place + 1) number)) (position (λ b. b == 46) number) (are_digits number)
 
 -- the number of a threshold
-abbrev pub number_at : ℕ → Token → Result DecimalForm QueryFault
-number_at place (tokens.Number number) = option_map_or Ok (threshold_of number) (Err (if is_digits number then faults.Unsupported place else faults.Syntax place))
+abbrev pub number_at : ℕ → Token → Result DecimalForm Stop
+number_at place (tokens.Number number) = option_map_or Ok (threshold_of number) (Err (if is_digits number then unsupported place else syntax place))
 number_at place token = Err (refusal positions.InThreshold place token)
 
 -- the comparison of a threshold that a token is; `=` is none
@@ -135,7 +136,7 @@ compared_by (tokens.Sign sign) = comparison_of sign
 compared_by _ = None
 
 -- the number behind a comparison
-unfoldable pub threshold_at : Comparison → List Lexeme → Result (ThresholdForm × List Lexeme) QueryFault
+unfoldable pub threshold_at : Comparison → List Lexeme → Result (ThresholdForm × List Lexeme) Stop
 threshold_at comparison lexemes = do
   first ← next lexemes
   value ← number_at first.0.place first.0.token

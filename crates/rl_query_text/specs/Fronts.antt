@@ -7,7 +7,8 @@ use Rattle.rl_labels.specs.Name.{is_text, is_name}
 use Rattle.rl_labels.specs.Operators.{is_comparable}
 use Rattle.rl_labels.specs.declared.matcher.MatchOp.{MatchOp}
 use Rattle.rl_labels.specs.declared.matcher.MatchOp.TheVariants as operators
-use Rattle.rl_query.specs.declared.fault.QueryFault.{QueryFault}
+use Rattle.rl_query_text.specs.declared.stop.Stop.{Stop}
+use Rattle.rl_query_text.specs.Stops.{stop, syntax, unsupported}
 use Rattle.rl_query.specs.declared.fault.QueryFault.TheVariants as faults
 use Rattle.rl_query_text.specs.declared.parser.Position.{Position}
 use Rattle.rl_query_text.specs.declared.parser.Position.TheVariants as positions
@@ -135,8 +136,8 @@ is_unsupported position (tokens.Sign sign) = is_unsupported_sign position sign
 is_unsupported position _ = false
 
 -- the fault of a token that does not fit its position
-abbrev pub refusal : Position → ℕ → Token → QueryFault
-refusal position place token = if is_unsupported position token then faults.Unsupported place else faults.Syntax place
+abbrev pub refusal : Position → ℕ → Token → Stop
+refusal position place token = if is_unsupported position token then unsupported place else syntax place
 
 -- a token is the sign
 abbrev pub is_sign : Sign → Token → Bool
@@ -144,23 +145,23 @@ is_sign sign (tokens.Sign found) = is_text (sign_text found) (sign_text sign)
 is_sign sign _ = false
 
 -- the first token, and those behind it. The end is a token, so one is there until it was read
-abbrev pub next : List Lexeme → Result (Lexeme × List Lexeme) QueryFault
-next [] = Err (faults.Syntax 0)
+abbrev pub next : List Lexeme → Result (Lexeme × List Lexeme) Stop
+next [] = Err (syntax 0)
 next (lexeme ∷ lexemes) = Ok (lexeme, lexemes)
 
 -- what follows the sign, which has to stand at the front
-unfoldable pub expected : Sign → Position → List Lexeme → Result (List Lexeme) QueryFault
+unfoldable pub expected : Sign → Position → List Lexeme → Result (List Lexeme) Stop
 expected sign position lexemes = do
   lexeme ← next lexemes
   if is_sign sign lexeme.0.token then Ok lexeme.1 else Err (refusal position lexeme.0.place lexeme.0.token)
 
 -- the name that a token is
-abbrev pub name_of : ℕ → Token → Result (List ℕ) QueryFault
+abbrev pub name_of : ℕ → Token → Result (List ℕ) Stop
 name_of place (tokens.Word name) = Ok name
 name_of place token = Err (refusal positions.Elsewhere place token)
 
 -- the text that a token is
-abbrev pub content_of : ℕ → Token → Result (List ℕ) QueryFault
+abbrev pub content_of : ℕ → Token → Result (List ℕ) Stop
 content_of place (tokens.Text content) = Ok content
 content_of place token = Err (refusal positions.Elsewhere place token)
 
@@ -178,18 +179,18 @@ is_match (tokens.Sign sign) = is_some (match_of sign)
 is_match _ = false
 
 -- the operator that a token is
-abbrev pub operator_of : ℕ → Token → Result MatchOp QueryFault
+abbrev pub operator_of : ℕ → Token → Result MatchOp Stop
 operator_of place (tokens.Sign sign) = option_map_or Ok (match_of sign) (Err (refusal positions.Elsewhere place (tokens.Sign sign)))
 operator_of place token = Err (refusal positions.Elsewhere place token)
 
 -- the matcher of its parts, where its name is one, and its pattern
-abbrev pub checked_matcher : (place : ℕ) → MatcherForm → Result MatcherForm QueryFault
+abbrev pub checked_matcher : (place : ℕ) → MatcherForm → Result MatcherForm Stop
 checked_matcher place matcher =
-    if not (is_name matcher.name) then Err (faults.Syntax place)
-    else (if is_comparable matcher.op matcher.value then Ok matcher else Err faults.BadRegex)
+    if not (is_name matcher.name) then Err (syntax place)
+    else (if is_comparable matcher.op matcher.value then Ok matcher else Err (stop faults.BadRegex place))
 
 -- a row of three tokens: a name, a sign and a value, and what they make at the place of the name. Its fault is that of the first that does not fit
-abbrev pub row_at : {Op Value Made : Type 0} → (op_of : ℕ → Token → Result Op QueryFault) → (value_of : ℕ → Token → Result Value QueryFault) → (made : (place : ℕ) → List ℕ → Op → Value → Result Made QueryFault) → List Lexeme → Result (Made × List Lexeme) QueryFault
+abbrev pub row_at : {Op Value Made : Type 0} → (op_of : ℕ → Token → Result Op Stop) → (value_of : ℕ → Token → Result Value Stop) → (made : (place : ℕ) → List ℕ → Op → Value → Result Made Stop) → List Lexeme → Result (Made × List Lexeme) Stop
 row_at op_of value_of made lexemes = do
   first ← next lexemes
   name ← name_of first.0.place first.0.token
@@ -201,5 +202,5 @@ row_at op_of value_of made lexemes = do
   Ok (whole, third.1)
 
 -- a name, an operator and a text
-unfoldable pub matcher_at : List Lexeme → Result (MatcherForm × List Lexeme) QueryFault
+unfoldable pub matcher_at : List Lexeme → Result (MatcherForm × List Lexeme) Stop
 matcher_at lexemes = row_at operator_of content_of (λ place name op value. checked_matcher place (record { name = name; op = op; value = value })) lexemes

@@ -14,3 +14,5 @@ pub mod Testing
 pub mod Fronts
 pub mod Standing
 pub mod MatcherPrinting
+pub mod Meeting
+pub mod Stops

@@ -8,7 +8,8 @@ use Rattle.rl_query.specs.Form.{by_tests, MatcherForm, FilterForm, StageForm, by
 use Rattle.std.specs.Option.{option_map_or}
 use Rattle.std.specs.Char.{is_ascii_digit}
 use Rattle.rl_labels.specs.Name.{is_text}
-use Rattle.rl_query.specs.declared.fault.QueryFault.{QueryFault}
+use Rattle.rl_query_text.specs.declared.stop.Stop.{Stop}
+use Rattle.rl_query_text.specs.Stops.{stop, syntax, unsupported, place_of}
 use Rattle.rl_query.specs.declared.fault.QueryFault.TheVariants as faults
 use Rattle.rl_query.specs.declared.filter.LineOp.{LineOp}
 use Rattle.rl_query.specs.declared.filter.LineOp.TheVariants as lines
@@ -29,11 +30,11 @@ use Rattle.rl_query.specs.Tables.{function_with_text}
 use Rattle.rl_plain.specs.Answers.{◌>>=◌}
 
 -- behind a matcher: whether another follows
-abbrev pub goes_on : ℕ → Token → Result Bool QueryFault
+abbrev pub goes_on : ℕ → Token → Result Bool Stop
 goes_on place token = if is_sign signs.Comma token then Ok true else (if is_sign signs.CloseBrace token then Ok false else Err (refusal positions.Elsewhere place token))
 
 -- a matcher, and whether another follows
-unfoldable pub element_at : List Lexeme → Result (MatcherForm × Bool × List Lexeme) QueryFault
+unfoldable pub element_at : List Lexeme → Result (MatcherForm × Bool × List Lexeme) Stop
 element_at lexemes = do
   matcher ← matcher_at lexemes
   lexeme ← next matcher.1
@@ -41,33 +42,31 @@ element_at lexemes = do
   Ok (matcher.0, more, lexeme.1)
 
 -- elements joined by commas up to what closes them, at most so many; each tells whether another follows
-unfoldable pub listed_at : {A : Type 0} → (element : List Lexeme → Result (A × Bool × List Lexeme) QueryFault) → ℕ → List Lexeme → Result (List A × List Lexeme) QueryFault
-listed_at element zero lexemes = Err (faults.Syntax 0)
+unfoldable pub listed_at : {A : Type 0} → (element : List Lexeme → Result (A × Bool × List Lexeme) Stop) → ℕ → List Lexeme → Result (List A × List Lexeme) Stop
+listed_at element zero lexemes = Err (syntax 0)
 listed_at element (suc most) lexemes = do
   first ← element lexemes
   if first.1 then (listed_at element most first.2 >>= λ others. Ok (first.0 ∷ others.0, others.1)) else Ok (first.0 ∷ [], first.2)
 
 -- the matchers of a selector
-abbrev pub matchers_at : ℕ → List Lexeme → Result (List MatcherForm × List Lexeme) QueryFault
+abbrev pub matchers_at : ℕ → List Lexeme → Result (List MatcherForm × List Lexeme) Stop
 matchers_at = listed_at element_at
 
 -- a selector that closes at once has no matcher
-abbrev pub some_matcher : Token → Result (Unit {0}) QueryFault
-some_matcher token = if is_sign signs.CloseBrace token then Err faults.NoRealMatcher else Ok tt
+abbrev pub some_matcher : ℕ → Token → Result (Unit {0}) Stop
+some_matcher place token = if is_sign signs.CloseBrace token then Err (stop faults.NoRealMatcher place) else Ok tt
 
--- Matchers of which one at least refuses the empty text. Where it is cramped no pattern has room, and each is refused.
-abbrev pub real_matchers : (cramped : Bool) → List MatcherForm → Result (List MatcherForm) QueryFault
-real_matchers cramped matchers =
-    if cramped && has_pattern matchers then Err faults.BadRegex
-    else (if has_real_form matchers then Ok matchers else Err faults.NoRealMatcher)
+-- matchers of which one at least refuses the empty text
+abbrev pub real_matchers : (place : ℕ) → List MatcherForm → Result (List MatcherForm) Stop
+real_matchers place matchers = if has_real_form matchers then Ok matchers else Err (stop faults.NoRealMatcher place)
 
 -- behind the opening brace: the matchers of a selector
-unfoldable pub selector_at : (cramped : Bool) → List Lexeme → Result (List MatcherForm × List Lexeme) QueryFault
-selector_at cramped lexemes = do
+unfoldable pub selector_at : List Lexeme → Result (List MatcherForm × List Lexeme) Stop
+selector_at lexemes = do
   lexeme ← next lexemes
-  some ← some_matcher lexeme.0.token
+  some ← some_matcher lexeme.0.place lexeme.0.token
   found ← matchers_at (length lexemes) lexemes
-  matchers ← real_matchers cramped found.0
+  matchers ← real_matchers (place_of found.1) found.0
   Ok (matchers, found.1)
 
 -- the line filter that a sign begins
@@ -83,48 +82,37 @@ filter_op (tokens.Sign sign) = filter_of sign
 filter_op _ = None
 
 -- the text of a line filter; LogQL has words there too
-abbrev pub filter_text : ℕ → Token → Result (List ℕ) QueryFault
+abbrev pub filter_text : ℕ → Token → Result (List ℕ) Stop
 filter_text place (tokens.Text text) = Ok text
 filter_text place token = Err (refusal positions.InFilter place token)
 
 -- what is looked for by a pattern has to be one
-abbrev pub checked_filter : FilterForm → Result FilterForm QueryFault
-checked_filter filter = if is_filter filter.op filter.text then Ok filter else Err faults.BadRegex
+abbrev pub checked_filter : ℕ → FilterForm → Result FilterForm Stop
+checked_filter place filter = if is_filter filter.op filter.text then Ok filter else Err (stop faults.BadRegex place)
 
 -- the text of a line filter, behind its sign
-unfoldable pub filter_at : LineOp → List Lexeme → Result (FilterForm × List Lexeme) QueryFault
+unfoldable pub filter_at : LineOp → List Lexeme → Result (FilterForm × List Lexeme) Stop
 filter_at op lexemes = do
   text ← next lexemes
   value ← filter_text text.0.place text.0.token
-  filter ← checked_filter (record { op = op; text = value })
+  filter ← checked_filter text.0.place (record { op = op; text = value })
   Ok (filter, text.1)
 
 -- line filters, at most so many
-unfoldable pub filters_at : ℕ → List Lexeme → Result (List FilterForm × List Lexeme) QueryFault
+unfoldable pub filters_at : ℕ → List Lexeme → Result (List FilterForm × List Lexeme) Stop
 filters_at zero lexemes = do
   first ← next lexemes
-  if is_some (filter_op first.0.token) then Err faults.TooDeep else Ok ([], lexemes)
+  if is_some (filter_op first.0.token) then Err (stop faults.TooDeep first.0.place) else Ok ([], lexemes)
 filters_at (suc most) lexemes = do
   first ← next lexemes
   option_map_or (λ op. filter_at op first.1 >>= λ filter. filters_at most filter.1 >>= λ others. Ok (filter.0 ∷ others.0, others.1)) (filter_op first.0.token) (Ok ([], lexemes))
-
--- where it is cramped no pattern has room, and each is refused
-abbrev pub roomy_filters : (cramped : Bool) → List FilterForm → Result (List FilterForm) QueryFault
-roomy_filters cramped filters = if cramped && filters_have_pattern filters then Err faults.BadRegex else Ok filters
-
--- line filters, each of whose patterns has room
-unfoldable pub filters_in : (cramped : Bool) → List Lexeme → Result (List FilterForm × List Lexeme) QueryFault
-filters_in cramped lexemes = do
-  found ← filters_at most_stages lexemes
-  filters ← roomy_filters cramped found.0
-  Ok (filters, found.1)
 
 -- a token begins a stage: a line filter, or what stands behind a pipe
 abbrev pub begins_stage : Token → Bool
 begins_stage token = is_some (filter_op token) || is_sign signs.Pipe token
 
 -- whether a stage comes
-abbrev pub stage_comes : List Lexeme → Result Bool QueryFault
+abbrev pub stage_comes : List Lexeme → Result Bool Stop
 stage_comes lexemes = next lexemes >>= λ first. Ok (begins_stage first.0.token)
 
 -- the parser that a token names
@@ -136,8 +124,8 @@ parser_of (tokens.Word word) = named_parser word
 parser_of _ = None
 
 -- a parser comes once
-abbrev pub only_parser : (parsed : Bool) → Parser → Result Parser QueryFault
-only_parser parsed parser = if parsed then Err faults.TwoParsers else Ok parser
+abbrev pub only_parser : ℕ → (parsed : Bool) → Parser → Result Parser Stop
+only_parser place parsed parser = if parsed then Err (stop faults.TwoParsers place) else Ok parser
 
 -- the words that begin a stage in LogQL
 abbrev pub later_stages : List (List ℕ)
@@ -154,18 +142,18 @@ operator_comes [] = false
 operator_comes (lexeme ∷ lexemes) = is_match lexeme.token || compares lexeme.token
 
 -- label tests begin with a word or a parenthesis; a word of LogQL's names a label only before an operator
-abbrev pub word_begins : ℕ → List ℕ → List Lexeme → Result (Unit {0}) QueryFault
-word_begins place word lexemes = if is_later_stage_word word && not (operator_comes lexemes) then Err (faults.Unsupported place) else Ok tt
+abbrev pub word_begins : ℕ → List ℕ → List Lexeme → Result (Unit {0}) Stop
+word_begins place word lexemes = if is_later_stage_word word && not (operator_comes lexemes) then Err (unsupported place) else Ok tt
 
-abbrev pub parenthesis_begins : ℕ → Token → Result (Unit {0}) QueryFault
+abbrev pub parenthesis_begins : ℕ → Token → Result (Unit {0}) Stop
 parenthesis_begins place token = if is_sign signs.OpenParenthesis token then Ok tt else Err (refusal positions.Elsewhere place token)
 
-abbrev pub tests_begin : ℕ → Token → List Lexeme → Result (Unit {0}) QueryFault
+abbrev pub tests_begin : ℕ → Token → List Lexeme → Result (Unit {0}) Stop
 tests_begin place (tokens.Word word) lexemes = word_begins place word lexemes
 tests_begin place token lexemes = parenthesis_begins place token
 
 -- label tests behind their pipe, how many may still come, and the tokens that follow
-unfoldable pub tested_at : (depth left : ℕ) → List Lexeme → Result (StageForm × ℕ × List Lexeme) QueryFault
+unfoldable pub tested_at : (depth left : ℕ) → List Lexeme → Result (StageForm × ℕ × List Lexeme) Stop
 tested_at depth left lexemes = do
   first ← next lexemes
   begin ← tests_begin first.0.place first.0.token first.1
@@ -173,36 +161,29 @@ tested_at depth left lexemes = do
   Ok (by_tests tests.0, tests.1, tests.2)
 
 -- a parser or label tests, behind the pipe
-unfoldable pub piped_at : (parsed : Bool) (depth left : ℕ) → List Lexeme → Result (StageForm × ℕ × List Lexeme) QueryFault
+unfoldable pub piped_at : (parsed : Bool) (depth left : ℕ) → List Lexeme → Result (StageForm × ℕ × List Lexeme) Stop
 piped_at parsed depth left lexemes = do
   first ← next lexemes
-  option_map_or (λ parser. only_parser parsed parser >>= λ only. Ok (by_parser only, left, first.1)) (parser_of first.0.token) (tested_at depth left lexemes)
+  option_map_or (λ parser. only_parser first.0.place parsed parser >>= λ only. Ok (by_parser only, left, first.1)) (parser_of first.0.token) (tested_at depth left lexemes)
 
 -- a stage, where one comes, and how many label tests may still come behind it
-unfoldable pub stage_at : (parsed : Bool) (depth left : ℕ) → List Lexeme → Result (StageForm × ℕ × List Lexeme) QueryFault
+unfoldable pub stage_at : (parsed : Bool) (depth left : ℕ) → List Lexeme → Result (StageForm × ℕ × List Lexeme) Stop
 stage_at parsed depth left lexemes = do
   sign ← next lexemes
   option_map_or (λ op. filter_at op sign.1 >>= λ filter. Ok (by_filter filter.0, left, filter.1)) (filter_op sign.0.token) (piped_at parsed depth left sign.1)
 
 -- stages, at most so many, where a parser was read before or not, and so many label tests may come
-unfoldable pub stages_at : (parsed : Bool) (depth left most : ℕ) → List Lexeme → Result (List StageForm × List Lexeme) QueryFault
+unfoldable pub stages_at : (parsed : Bool) (depth left most : ℕ) → List Lexeme → Result (List StageForm × List Lexeme) Stop
 stages_at parsed depth left zero lexemes = do
   more ← stage_comes lexemes
-  if more then Err faults.TooDeep else Ok ([], lexemes)
+  if more then Err (stop faults.TooDeep (place_of lexemes)) else Ok ([], lexemes)
 stages_at parsed depth left (suc most) lexemes = do
   more ← stage_comes lexemes
   if more then (stage_at parsed depth left lexemes >>= λ stage. stages_at (parsed || parses stage.0) depth stage.1 most stage.2 >>= λ others. Ok (stage.0 ∷ others.0, others.1)) else Ok ([], lexemes)
 
--- where it is cramped no pattern has room, and each is refused
-abbrev pub roomy_stages : (cramped : Bool) → List StageForm → Result (List StageForm) QueryFault
-roomy_stages cramped stages = if cramped && stages_have_pattern stages then Err faults.BadRegex else Ok stages
-
--- stages, each of whose patterns has room
-unfoldable pub stages_in : (cramped : Bool) → Room → List Lexeme → Result (List StageForm × List Lexeme) QueryFault
-stages_in cramped room lexemes = do
-  found ← stages_at false room.depth room.tests room.stages lexemes
-  stages ← roomy_stages cramped found.0
-  Ok (stages, found.1)
+-- stages, as many as there is room for
+abbrev pub stages_in : Room → List Lexeme → Result (List StageForm × List Lexeme) Stop
+stages_in room lexemes = stages_at false room.depth room.tests room.stages lexemes
 
 abbrev pub behind_stage : StageForm → Position
 behind_stage (by_filter filter) = positions.BehindFilter
@@ -225,20 +206,20 @@ abbrev pub looks_like_duration : List ℕ → Bool
 looks_like_duration bytes = list_all is_duration_byte bytes && is_unit_letter (slice_index bytes (length bytes - 1))
 
 -- whole seconds, from 1 to the longest range
-abbrev pub checked_range : ℕ → Result ℕ QueryFault
-checked_range seconds = if nat_le 1 seconds && nat_le seconds longest_range then Ok seconds else Err faults.BadRange
+abbrev pub checked_range : (place seconds : ℕ) → Result ℕ Stop
+checked_range place seconds = if nat_le 1 seconds && nat_le seconds longest_range then Ok seconds else Err (stop faults.BadRange place)
 
 -- the seconds of a number with units
-abbrev pub seconds_of : Option ℕ → ℕ → List ℕ → Result ℕ QueryFault
-seconds_of (Some seconds) place number = checked_range seconds
-seconds_of None place number = if looks_like_duration number then Err faults.BadRange else Err (faults.Syntax place)
+abbrev pub seconds_of : Option ℕ → ℕ → List ℕ → Result ℕ Stop
+seconds_of (Some seconds) place number = checked_range place seconds
+seconds_of None place number = if looks_like_duration number then Err (stop faults.BadRange place) else Err (syntax place)
 
-abbrev pub range_of : ℕ → Token → Result ℕ QueryFault
+abbrev pub range_of : ℕ → Token → Result ℕ Stop
 range_of place (tokens.Number number) = seconds_of (duration_of number) place number
 range_of place token = Err (refusal positions.Elsewhere place token)
 
 -- a range in brackets
-unfoldable pub seconds_at : Position → List Lexeme → Result (ℕ × List Lexeme) QueryFault
+unfoldable pub seconds_at : Position → List Lexeme → Result (ℕ × List Lexeme) Stop
 seconds_at position lexemes = do
   bracket ← expected signs.OpenBracket position lexemes
   number ← next bracket
@@ -247,45 +228,45 @@ seconds_at position lexemes = do
   Ok (seconds, closed)
 
 -- the parenthesis behind a range, and the stages before it, if none stand before the range
-unfoldable pub closed_at : (cramped : Bool) → Room → List StageForm → List Lexeme → Result (List StageForm × List Lexeme) QueryFault
-closed_at cramped room [] lexemes = do
-  stages ← stages_in cramped room lexemes
+unfoldable pub closed_at : Room → List StageForm → List Lexeme → Result (List StageForm × List Lexeme) Stop
+closed_at room [] lexemes = do
+  stages ← stages_in room lexemes
   closed ← expected signs.CloseParenthesis (behind_stages positions.BehindRange stages.0) stages.1
   Ok (stages.0, closed)
-closed_at cramped room (stage ∷ stages) lexemes = do
+closed_at room (stage ∷ stages) lexemes = do
   closed ← expected signs.CloseParenthesis positions.BehindFilteredRange lexemes
   Ok (stage ∷ stages, closed)
 
 -- a range in brackets behind stages or none, and what closes it
-unfoldable pub timed_at : (cramped : Bool) → Room → List StageForm → List Lexeme → Result (List StageForm × ℕ × List Lexeme) QueryFault
-timed_at cramped room front lexemes = do
+unfoldable pub timed_at : Room → List StageForm → List Lexeme → Result (List StageForm × ℕ × List Lexeme) Stop
+timed_at room front lexemes = do
   seconds ← seconds_at (behind_stages positions.BehindSelector front) lexemes
-  closed ← closed_at cramped room front seconds.1
+  closed ← closed_at room front seconds.1
   Ok (closed.0, seconds.0, closed.1)
 
 -- behind a selector: stages and a range in brackets, whichever stand first, and the parenthesis
-unfoldable pub closing_at : (cramped : Bool) → Room → List Lexeme → Result (List StageForm × ℕ × List Lexeme) QueryFault
-closing_at cramped room lexemes = do
-  front ← stages_in cramped room lexemes
-  timed_at cramped room front.0 front.1
+unfoldable pub closing_at : Room → List Lexeme → Result (List StageForm × ℕ × List Lexeme) Stop
+closing_at room lexemes = do
+  front ← stages_in room lexemes
+  timed_at room front.0 front.1
 
 -- the room inside one parenthesis more
-abbrev pub deeper : ℕ → Room → Result Room QueryFault
-deeper zero room = Err faults.TooDeep
-deeper (suc depth) room = Ok (record { depth = depth; stages = room.stages; tests = room.tests })
+abbrev pub deeper : (place depth : ℕ) → Room → Result Room Stop
+deeper place zero room = Err (stop faults.TooDeep place)
+deeper place (suc depth) room = Ok (record { depth = depth; stages = room.stages; tests = room.tests })
 
 -- an opening parenthesis, and the room inside it
-unfoldable pub opened_at : Position → Room → List Lexeme → Result (Room × List Lexeme) QueryFault
+unfoldable pub opened_at : Position → Room → List Lexeme → Result (Room × List Lexeme) Stop
 opened_at position room lexemes = do
   behind ← expected signs.OpenParenthesis position lexemes
-  inside ← deeper room.depth room
+  inside ← deeper (place_of lexemes) room.depth room
   Ok (inside, behind)
 
 -- a selector, stages and a range in parentheses
-unfoldable pub range_at : (cramped : Bool) → Room → List Lexeme → Result (RangeForm × List Lexeme) QueryFault
-range_at cramped room lexemes = do
+unfoldable pub range_at : Room → List Lexeme → Result (RangeForm × List Lexeme) Stop
+range_at room lexemes = do
   opened ← opened_at positions.Elsewhere room lexemes
   braced ← expected signs.OpenBrace positions.Elsewhere opened.1
-  matchers ← selector_at cramped braced
-  closing ← closing_at cramped opened.0 matchers.1
+  matchers ← selector_at braced
+  closing ← closing_at opened.0 matchers.1
   Ok (record { matchers = matchers.0; stages = closing.0; seconds = closing.1 }, closing.2)

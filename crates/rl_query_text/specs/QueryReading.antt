@@ -2,6 +2,8 @@
 use Rattle.std.specs.Prelude.{ℕ, zero, suc, ◌-◌, Bool, not, ◌&&◌, List, [], ◌∷◌, length, Option, Some, None, is_some, Result, Ok, Err, if◌then◌else◌}
 use Rattle.std.specs.Option.{option_map_or}
 use Rattle.rl_plain.specs.Answers.{◌>>=◌}
+use Rattle.rl_query_text.specs.declared.stop.Stop.{Stop}
+use Rattle.rl_query_text.specs.Stops.{stop, place_of, fault_of}
 use Rattle.rl_query.specs.declared.fault.QueryFault.{QueryFault}
 use Rattle.rl_query.specs.declared.fault.QueryFault.TheVariants as faults
 use Rattle.rl_query_text.specs.declared.parser.Position.{Position}
@@ -17,13 +19,14 @@ use Rattle.rl_query_text.specs.AggregationReading.{is_operator_word, front_at, e
 use Rattle.rl_query.specs.Form.{AggregationForm, TermForm, ThresholdForm, QueryForm, label_tests}
 use Rattle.rl_query_text.specs.Fronts.{refusal, is_sign, next, expected}
 use Rattle.rl_query_text.specs.Lexing.{lexemes_of}
+use Rattle.rl_query_text.specs.Meeting.{meets_pattern}
 use Rattle.rl_query.specs.Limits.{most_aggregations, most_parentheses, most_stages, most_tests}
 use Rattle.rl_query_text.specs.Parsing.{opened_at, range_at}
 use Rattle.rl_query.specs.Tables.{function_with_text}
 
 -- what reads something from tokens, and leaves those that follow
 abbrev pub Reader : Type 0 → Type 0
-Reader A = Room → List Lexeme → Result (A × List Lexeme) QueryFault
+Reader A = Room → List Lexeme → Result (A × List Lexeme) Stop
 
 -- "(" what is inside ")"
 unfoldable pub in_parentheses : {A : Type 0} → Position → Reader A → Reader A
@@ -49,36 +52,36 @@ aggregated_at inside word nest room lexemes = do
   Ok (around aggregation.0 term.0, aggregation.1)
 
 -- a range aggregation behind its name
-unfoldable pub ranged_at : (cramped : Bool) → RangeFunction → Reader TermForm
-ranged_at cramped function room lexemes = do
-  range ← range_at cramped room lexemes
+unfoldable pub ranged_at : RangeFunction → Reader TermForm
+ranged_at function room lexemes = do
+  range ← range_at room lexemes
   Ok (record { aggregations = []; function = function; range = range.0 }, range.1)
 
 -- a term behind the word with which it begins
-abbrev pub worded_at : (cramped : Bool) → TermReader → Position → (place : ℕ) → (word : List ℕ) → (nest : ℕ) → Reader TermForm
-worded_at cramped inside position place word nest room lexemes =
+abbrev pub worded_at : TermReader → Position → (place : ℕ) → (word : List ℕ) → (nest : ℕ) → Reader TermForm
+worded_at inside position place word nest room lexemes =
     if is_operator_word word then aggregated_at inside word nest room lexemes
-    else option_map_or (λ function. ranged_at cramped function room lexemes) (function_with_text word) (Err (refusal position place (tokens.Word word)))
+    else option_map_or (λ function. ranged_at function room lexemes) (function_with_text word) (Err (refusal position place (tokens.Word word)))
 
 -- a term that begins with the token; behind it stand the others
-abbrev pub begun_at : (cramped : Bool) → TermReader → Position → (place : ℕ) → Token → (nest : ℕ) → Room → (all behind : List Lexeme) → Result (TermForm × List Lexeme) QueryFault
-begun_at cramped inside position place (tokens.Word word) nest room all behind = worded_at cramped inside position place word nest room behind
-begun_at cramped inside position place token nest room all behind = if is_sign signs.OpenParenthesis token then in_parentheses positions.InTerm (inside positions.InTerm nest) room all else Err (refusal position place token)
+abbrev pub begun_at : TermReader → Position → (place : ℕ) → Token → (nest : ℕ) → Room → (all behind : List Lexeme) → Result (TermForm × List Lexeme) Stop
+begun_at inside position place (tokens.Word word) nest room all behind = worded_at inside position place word nest room behind
+begun_at inside position place token nest room all behind = if is_sign signs.OpenParenthesis token then in_parentheses positions.InTerm (inside positions.InTerm nest) room all else Err (refusal position place token)
 
 -- a term whose inside is read so
-unfoldable pub term_by : (cramped : Bool) → TermReader → TermReader
-term_by cramped inside position nest room lexemes = do
+unfoldable pub term_by : TermReader → TermReader
+term_by inside position nest room lexemes = do
   first ← next lexemes
-  begun_at cramped inside position first.0.place first.0.token nest room lexemes first.1
+  begun_at inside position first.0.place first.0.token nest room lexemes first.1
 
 -- a term in which terms stand within one another at most so often
-abbrev pub term_in : (cramped : Bool) → (turns : ℕ) → TermReader
-term_in cramped zero position nest room lexemes = Err faults.TooDeep
-term_in cramped (suc turns) position nest room lexemes = term_by cramped (term_in cramped turns) position nest room lexemes
+abbrev pub term_in : (turns : ℕ) → TermReader
+term_in zero position nest room lexemes = Err (stop faults.TooDeep (place_of lexemes))
+term_in (suc turns) position nest room lexemes = term_by (term_in turns) position nest room lexemes
 
 -- each term within another takes a parenthesis
-abbrev pub term_at : (cramped : Bool) → Position → Reader TermForm
-term_at cramped position room lexemes = term_in cramped (suc room.depth) position most_aggregations room lexemes
+abbrev pub term_at : Position → Reader TermForm
+term_at position room lexemes = term_in (suc room.depth) position most_aggregations room lexemes
 
 abbrev pub alone : TermForm → QueryForm
 alone term = record { left = term; over = None; test = None }
@@ -92,23 +95,23 @@ abbrev pub is_term : QueryForm → Bool
 is_term query = not (is_some query.over) && not (is_some query.test)
 
 -- the divisor behind a term
-unfoldable pub over_at : (cramped : Bool) → TermForm → Reader QueryForm
-over_at cramped left room lexemes = do
-  over ← term_at cramped positions.Divisor (room_behind left room) lexemes
+unfoldable pub over_at : TermForm → Reader QueryForm
+over_at left room lexemes = do
+  over ← term_at positions.Divisor (room_behind left room) lexemes
   Ok (record { left = left; over = Some over.0; test = None }, over.1)
 
 -- the same where a slash comes
-unfoldable pub divided_at : (cramped : Bool) → QueryForm → Reader QueryForm
-divided_at cramped query room lexemes = do
+unfoldable pub divided_at : QueryForm → Reader QueryForm
+divided_at query room lexemes = do
   first ← next lexemes
-  if is_term query && is_sign signs.Slash first.0.token then over_at cramped query.left room first.1 else Ok (query, lexemes)
+  if is_term query && is_sign signs.Slash first.0.token then over_at query.left room first.1 else Ok (query, lexemes)
 
 -- the comparison that comes, where the query has none
 abbrev pub comes_to_test : QueryForm → Token → Option Comparison
 comes_to_test query token = if is_some query.test then None else compared_by token
 
 -- the threshold behind a quotient, where a comparison comes
-unfoldable pub compared_at : QueryForm → List Lexeme → Result (Option ThresholdForm × List Lexeme) QueryFault
+unfoldable pub compared_at : QueryForm → List Lexeme → Result (Option ThresholdForm × List Lexeme) Stop
 compared_at query lexemes = do
   first ← next lexemes
   option_map_or (λ comparison. threshold_at comparison first.1 >>= λ test. Ok (Some test.0, test.1)) (comes_to_test query first.0.token) (Ok (None, lexemes))
@@ -119,37 +122,37 @@ with_test query None = query
 with_test query (Some test) = record { left = query.left; over = query.over; test = Some test }
 
 -- a term as a query
-unfoldable pub lone_at : (cramped : Bool) → Reader QueryForm
-lone_at cramped room lexemes = do
-  term ← term_at cramped positions.Start room lexemes
+unfoldable pub lone_at : Reader QueryForm
+lone_at room lexemes = do
+  term ← term_at positions.Start room lexemes
   Ok (alone term.0, term.1)
 
 -- a query in parentheses, or a term
-unfoldable pub operand_at : (cramped : Bool) → (inside : Reader QueryForm) → Reader QueryForm
-operand_at cramped inside room lexemes = do
+unfoldable pub operand_at : (inside : Reader QueryForm) → Reader QueryForm
+operand_at inside room lexemes = do
   first ← next lexemes
-  if is_sign signs.OpenParenthesis first.0.token then in_parentheses positions.Start inside room lexemes else lone_at cramped room lexemes
+  if is_sign signs.OpenParenthesis first.0.token then in_parentheses positions.Start inside room lexemes else lone_at room lexemes
 
 -- what an operand is divided by and compared with
-unfoldable pub behind_at : (cramped : Bool) → QueryForm → Reader QueryForm
-behind_at cramped operand room lexemes = do
-  divided ← divided_at cramped operand room lexemes
+unfoldable pub behind_at : QueryForm → Reader QueryForm
+behind_at operand room lexemes = do
+  divided ← divided_at operand room lexemes
   compared ← compared_at divided.0 divided.1
   Ok (with_test divided.0 compared.0, compared.1)
 
 -- an operand, and what stands behind it
-unfoldable pub query_by : (cramped : Bool) → (inside : Reader QueryForm) → Reader QueryForm
-query_by cramped inside room lexemes = do
-  operand ← operand_at cramped inside room lexemes
-  behind_at cramped operand.0 room operand.1
+unfoldable pub query_by : (inside : Reader QueryForm) → Reader QueryForm
+query_by inside room lexemes = do
+  operand ← operand_at inside room lexemes
+  behind_at operand.0 room operand.1
 
 -- a query in which queries stand within one another at most so often
-abbrev pub query_within : (cramped : Bool) → (turns : ℕ) → Reader QueryForm
-query_within cramped zero room lexemes = Err faults.TooDeep
-query_within cramped (suc turns) room lexemes = query_by cramped (query_within cramped turns) room lexemes
+abbrev pub query_within : (turns : ℕ) → Reader QueryForm
+query_within zero room lexemes = Err (stop faults.TooDeep (place_of lexemes))
+query_within (suc turns) room lexemes = query_by (query_within turns) room lexemes
 
 -- nothing follows a query
-abbrev pub ends : ℕ → Token → Result (Unit {0}) QueryFault
+abbrev pub ends : ℕ → Token → Result (Unit {0}) Stop
 ends place tokens.End = Ok tt
 ends place token = Err (refusal positions.BehindTerm place token)
 
@@ -158,17 +161,24 @@ abbrev pub whole_room : Room
 whole_room = record { depth = most_parentheses; stages = most_stages; tests = most_tests }
 
 -- a query with all of that
-unfoldable pub whole_at : (cramped : Bool) → List Lexeme → Result (QueryForm × List Lexeme) QueryFault
-whole_at cramped lexemes = query_within cramped (suc most_parentheses) whole_room lexemes
+unfoldable pub whole_at : List Lexeme → Result (QueryForm × List Lexeme) Stop
+whole_at lexemes = query_within (suc most_parentheses) whole_room lexemes
 
 -- a query is all of its tokens
-unfoldable pub query_in : (cramped : Bool) → List Lexeme → Result QueryForm QueryFault
-query_in cramped lexemes = do
-  query ← whole_at cramped lexemes
+unfoldable pub query_in : List Lexeme → Result QueryForm Stop
+query_in lexemes = do
+  query ← whole_at lexemes
   lexeme ← next query.1
   nothing ← ends lexeme.0.place lexeme.0.token
   Ok query.0
 
--- the query that a text is, or its first fault from the left
-abbrev pub query_of : (cramped : Bool) → List ℕ → Result QueryForm QueryFault
-query_of cramped text = query_in cramped (lexemes_of text)
+-- the query that a text is, or where reading it from the left stops
+abbrev pub query_reading : List ℕ → Result QueryForm Stop
+query_reading text = query_in (lexemes_of text)
+
+-- the query that a text is as if each of its patterns had room, or its first fault
+abbrev pub query_of : List ℕ → Result QueryForm QueryFault
+query_of text = fault_of (query_reading text)
+
+abbrev pub query_meets_pattern : List ℕ → Bool
+query_meets_pattern text = meets_pattern (query_reading text) (lexemes_of text)

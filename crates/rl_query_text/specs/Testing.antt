@@ -3,7 +3,8 @@ use Rattle.std.specs.Prelude.{◌≡◌, ℕ, zero, suc, Bool, true, false, not,
 use Rattle.std.specs.Option.{option_map_or}
 use Rattle.rl_labels.specs.Name.{is_text, is_name}
 use Rattle.rl_plain.specs.Answers.{◌>>=◌}
-use Rattle.rl_query.specs.declared.fault.QueryFault.{QueryFault}
+use Rattle.rl_query_text.specs.declared.stop.Stop.{Stop}
+use Rattle.rl_query_text.specs.Stops.{stop, syntax, place_of}
 use Rattle.rl_query.specs.declared.fault.QueryFault.TheVariants as faults
 use Rattle.rl_query.specs.declared.label_test.Join.{Join}
 use Rattle.rl_query.specs.declared.label_test.Join.TheVariants.{And, Or}
@@ -27,7 +28,7 @@ Read = TestTree TestForm × ℕ × List Lexeme
 
 -- the same, or the first fault
 abbrev pub Reading : Type 0
-Reading = Result Read QueryFault
+Reading = Result Read Stop
 
 -- how tests are read, where so many may still come
 abbrev pub Reader : Type 0
@@ -43,7 +44,7 @@ abbrev pub is_label : Token → Bool
 is_label (tokens.Word word) = not (is_taken word)
 is_label _ = false
 
-abbrev pub label_at : ℕ → Token → Result (Unit {0}) QueryFault
+abbrev pub label_at : ℕ → Token → Result (Unit {0}) Stop
 label_at place token = if is_label token then Ok tt else Err (refusal positions.Elsewhere place token)
 
 -- the first token names a label
@@ -52,26 +53,26 @@ label_comes [] = false
 label_comes (lexeme ∷ lexemes) = is_label lexeme.token
 
 -- one of so many is taken
-abbrev pub one_fewer : ℕ → Result ℕ QueryFault
-one_fewer zero = Err faults.TooDeep
-one_fewer (suc fewer) = Ok fewer
+abbrev pub one_fewer : (place left : ℕ) → Result ℕ Stop
+one_fewer place zero = Err (stop faults.TooDeep place)
+one_fewer place (suc fewer) = Ok fewer
 
 -- the comparison that a token is
-abbrev pub comparison_at : ℕ → Token → Result Comparison QueryFault
+abbrev pub comparison_at : ℕ → Token → Result Comparison Stop
 comparison_at place (tokens.Sign sign) = option_map_or Ok (comparison_of sign) (Err (refusal positions.Elsewhere place (tokens.Sign sign)))
 comparison_at place token = Err (refusal positions.Elsewhere place token)
 
 -- the quantity that a token is; LogQL has `ip(..)` there, and negative numbers
-abbrev pub quantity_at : ℕ → Token → Result Quantity QueryFault
-quantity_at place (tokens.Number number) = option_map_or Ok (quantity_of number) (Err (faults.Syntax place))
+abbrev pub quantity_at : ℕ → Token → Result Quantity Stop
+quantity_at place (tokens.Number number) = option_map_or Ok (quantity_of number) (Err (syntax place))
 quantity_at place token = Err (refusal positions.InTest place token)
 
 -- the test by quantity of its parts, where its name is one
-abbrev pub named_test : (place : ℕ) → QuantityForm → Result QuantityForm QueryFault
-named_test place test = if is_name test.name then Ok test else Err (faults.Syntax place)
+abbrev pub named_test : (place : ℕ) → QuantityForm → Result QuantityForm Stop
+named_test place test = if is_name test.name then Ok test else Err (syntax place)
 
 -- a name, a comparison and a quantity
-unfoldable pub quantity_test_at : List Lexeme → Result (QuantityForm × List Lexeme) QueryFault
+unfoldable pub quantity_test_at : List Lexeme → Result (QuantityForm × List Lexeme) Stop
 quantity_test_at lexemes = row_at comparison_at quantity_at (λ place name comparison quantity. named_test place (record { name = name; comparison = comparison; quantity = quantity })) lexemes
 
 -- a token is a comparison
@@ -90,7 +91,7 @@ quantity_comes (name ∷ sign ∷ value ∷ lexemes) = compares sign.token && no
 quantity_comes _ = false
 
 -- the test of a label's quantity, or of its text
-unfoldable pub label_test_at : List Lexeme → Result (TestForm × List Lexeme) QueryFault
+unfoldable pub label_test_at : List Lexeme → Result (TestForm × List Lexeme) Stop
 label_test_at lexemes =
     if quantity_comes lexemes then (quantity_test_at lexemes >>= λ test. Ok (by_quantity test.0, test.1))
     else (matcher_at lexemes >>= λ matcher. Ok (by_text matcher.0, matcher.1))
@@ -100,7 +101,7 @@ unfoldable pub test_at : Reader
 test_at left lexemes = do
   first ← next lexemes
   label ← label_at first.0.place first.0.token
-  fewer ← one_fewer left
+  fewer ← one_fewer first.0.place left
   test ← label_test_at lexemes
   Ok (one test.0, fewer, test.1)
 
@@ -167,7 +168,7 @@ tests_in inside = joined_at Or (part_at Or inside)
 
 -- tests in parentheses, so many of which may be opened within one another
 abbrev pub inside_at : ℕ → Reader
-inside_at zero left lexemes = Err faults.TooDeep
+inside_at zero left lexemes = Err (stop faults.TooDeep (place_of lexemes))
 inside_at (suc depth) left lexemes = tests_in (inside_at depth) left lexemes
 
 -- tests in which so many parentheses may be opened within one another

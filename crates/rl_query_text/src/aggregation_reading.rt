@@ -12,7 +12,8 @@ ghost use Rattle.rl_query_text.specs.Parsing.{listed_at};
 ghost use Rattle.rl_query.specs.Tables.{plain_operator};
 
 use rl_query::aggregation::{Aggregation, Grouping, Threshold, VectorOperator};
-use rl_query::fault::{QueryError, QueryFault};
+use crate::stop::{Stop, Stopped, place_of};
+use rl_query::fault::QueryFault;
 use crate::parser::{Position, expected, is_sign, name_of, next, opened_at, refusal};
 use rl_query::quantity_test::Comparison;
 use crate::room::Room;
@@ -36,18 +37,18 @@ pub struct Front {
 }
 
 // The name of a label.
-fn label_name(lexeme: &Lexeme) -> Result<&PlainText, QueryFault>
+fn label_name(lexeme: &Lexeme) -> Result<&PlainText, Stop>
     ensures { Answers (λ name. name.now) result (label_name lexeme.now.place lexeme.now.token) }
 {
     let name = name_of(lexeme)?;
     if is_label_name(name.as_str()) {
         return Ok(name);
     }
-    Err(QueryFault::Syntax(lexeme.place))
+    Err(Stop::syntax(lexeme.place))
 }
 
 // Whether another name follows.
-fn name_follows(lexeme: &Lexeme) -> Result<bool, QueryFault>
+fn name_follows(lexeme: &Lexeme) -> Result<bool, Stop>
     ensures { result ≡ name_follows lexeme.now.place lexeme.now.token }
 {
     if is_sign(Sign::Comma, &lexeme.token) {
@@ -61,7 +62,7 @@ fn name_follows(lexeme: &Lexeme) -> Result<bool, QueryFault>
 
 // A name, and whether another follows.
 #[tactic(auto, unfolding(crate::specs::AggregationReading::named_at))]
-fn named_at(lexemes: &[Lexeme]) -> Result<(PlainText, bool, &[Lexeme]), QueryError>
+fn named_at(lexemes: &[Lexeme]) -> Result<(PlainText, bool, &[Lexeme]), Stopped>
     ensures { Gives (λ x. (x.0, x.1, x.2.now)) result (named_at lexemes.now) }
 {
     let (first, rest) = next(lexemes)?;
@@ -73,7 +74,7 @@ fn named_at(lexemes: &[Lexeme]) -> Result<(PlainText, bool, &[Lexeme]), QueryErr
 }
 
 // Names joined by commas, up to the closing parenthesis.
-fn names_at(alloc: Global, lexemes: &[Lexeme]) -> Result<(Vec<PlainText>, &[Lexeme]), QueryError>
+fn names_at(alloc: Global, lexemes: &[Lexeme]) -> Result<(Vec<PlainText>, &[Lexeme]), Stopped>
     ensures { Gives (λ x. (x.0.items, x.1.now)) result (listed_at named_at (length lexemes.now) lexemes.now) }
 {
     let mut names = Vec::new(alloc);
@@ -86,12 +87,12 @@ fn names_at(alloc: Global, lexemes: &[Lexeme]) -> Result<(Vec<PlainText>, &[Lexe
         }
         rest = behind;
     }
-    Err(QueryError::Fault(QueryFault::Syntax(0)))
+    Err(Stopped::Fault(Stop::syntax(0)))
 }
 
 // Such names, or none.
 #[tactic(auto, unfolding(crate::specs::AggregationReading::names_in))]
-fn names_in(alloc: Global, lexemes: &[Lexeme]) -> Result<(Vec<PlainText>, &[Lexeme]), QueryError>
+fn names_in(alloc: Global, lexemes: &[Lexeme]) -> Result<(Vec<PlainText>, &[Lexeme]), Stopped>
     ensures { Gives (λ x. (x.0.items, x.1.now)) result (names_in lexemes.now) }
 {
     let (first, rest) = next(lexemes)?;
@@ -107,7 +108,7 @@ fn grouped_at(
     alloc: Global,
     room: Room,
     lexemes: &[Lexeme],
-) -> Result<(PlainList<PlainText>, &[Lexeme]), QueryError>
+) -> Result<(PlainList<PlainText>, &[Lexeme]), Stopped>
     ensures { Gives (λ x. (x.0, x.1.now)) result (grouped_at room lexemes.now) }
 {
     let (_, rest) = opened_at(Position::Elsewhere, room, lexemes)?;
@@ -121,7 +122,7 @@ fn grouping_in(
     alloc: Global,
     room: Room,
     lexemes: &[Lexeme],
-) -> Result<(Grouping, &[Lexeme]), QueryError>
+) -> Result<(Grouping, &[Lexeme]), Stopped>
     ensures { Gives (λ x. (x.0, x.1.now)) result (grouping_at room lexemes.now) }
 {
     let (first, rest) = next(lexemes)?;
@@ -142,7 +143,7 @@ fn grouping_at(
     alloc: Global,
     room: Room,
     lexemes: &[Lexeme],
-) -> Result<(Grouping, &[Lexeme]), QueryError>
+) -> Result<(Grouping, &[Lexeme]), Stopped>
     ensures read { Gives (λ x. (x.0, x.1.now)) result (grouping_at room lexemes.now) }
     ensures named { IfOk result (λ x. IsTrue (is_grouping x.0)) }
 {
@@ -161,21 +162,19 @@ fn top_of(number: &str) -> Option<u16>
     None
 }
 
-fn top_at(lexeme: &Lexeme) -> Result<u16, QueryFault>
+fn top_at(lexeme: &Lexeme) -> Result<u16, Stop>
     ensures top { result ≡ top_at lexeme.now.place lexeme.now.token }
     ensures proper { IfOk result (λ top. IsTrue (is_top top)) }
 {
     match &lexeme.token {
-        Token::Number(number) => top_of(number.as_str()).ok_or(QueryFault::Unsupported(
-            lexeme.place,
-        )),
+        Token::Number(number) => top_of(number.as_str()).ok_or(Stop::unsupported(lexeme.place)),
         token => Err(refusal(Position::Elsewhere, lexeme.place, token)),
     }
 }
 
 // That number and a comma.
 #[tactic(auto, unfolding(crate::specs::AggregationReading::topk_at))]
-fn topk_at(lexemes: &[Lexeme]) -> Result<(VectorOperator, &[Lexeme]), QueryFault>
+fn topk_at(lexemes: &[Lexeme]) -> Result<(VectorOperator, &[Lexeme]), Stop>
     ensures read { Answers (λ x. (x.0, x.1.now)) result (topk_at lexemes.now) }
     ensures proper { IfOk result (λ x. IsTrue (is_operator x.0)) }
 {
@@ -203,7 +202,7 @@ fn plain_operator(word: &str) -> Option<VectorOperator>
 fn operator_at<'a>(
     word: &str,
     lexemes: &'a [Lexeme],
-) -> Result<(VectorOperator, &'a [Lexeme]), QueryFault>
+) -> Result<(VectorOperator, &'a [Lexeme]), Stop>
     ensures read { Answers (λ x. (x.0, x.1.now)) result (operator_at word.now lexemes.now) }
     ensures proper { IfOk result (λ x. IsTrue (is_operator x.0)) }
 {
@@ -221,11 +220,11 @@ pub(crate) fn is_operator_word(word: &str) -> bool
 }
 
 // One vector aggregation more.
-fn nested(nest: usize) -> Result<usize, QueryFault>
-    ensures { result ≡ nested nest }
+fn nested(place: usize, nest: usize) -> Result<usize, Stop>
+    ensures { result ≡ nested place nest }
 {
     if nest == 0 {
-        return Err(QueryFault::TooDeep);
+        return Err(Stop::new(QueryFault::TooDeep, place));
     }
     Ok(nest - 1)
 }
@@ -248,12 +247,12 @@ pub(crate) fn front_at<'a>(
     nest: usize,
     room: Room,
     lexemes: &'a [Lexeme],
-) -> Result<(Front, &'a [Lexeme]), QueryError>
+) -> Result<(Front, &'a [Lexeme]), Stopped>
     ensures read { Gives (λ x. (x.0, x.1.now)) result (front_at word.now nest room lexemes.now) }
     ensures proper { IfOk result (λ x. IsTrue (is_operator x.0.operator)) }
     ensures named { IfOk result (λ x. IsTrue (is_grouping x.0.grouping)) }
 {
-    let nest = nested(nest)?;
+    let nest = nested(place_of(lexemes), nest)?;
     let (grouping, rest) = grouping_at(alloc, room, lexemes)?;
     let (room, rest) = opened_at(behind_operator(&grouping), room, rest)?;
     let (operator, rest) = operator_at(word, rest)?;
@@ -272,7 +271,7 @@ fn back_at(
     front: Grouping,
     room: Room,
     lexemes: &[Lexeme],
-) -> Result<(Grouping, &[Lexeme]), QueryError>
+) -> Result<(Grouping, &[Lexeme]), Stopped>
     requires { IsTrue (is_grouping front) }
     ensures read { Gives (λ x. (x.0, x.1.now)) result (back_at front room lexemes.now) }
     ensures named { IfOk result (λ x. IsTrue (is_grouping x.0)) }
@@ -290,7 +289,7 @@ pub(crate) fn ended_at(
     front: Front,
     room: Room,
     lexemes: &[Lexeme],
-) -> Result<(Aggregation, &[Lexeme]), QueryError>
+) -> Result<(Aggregation, &[Lexeme]), Stopped>
     requires proper { IsTrue (is_operator front.operator) }
     requires named { IsTrue (is_grouping front.grouping) }
     ensures { Gives (λ x. (aggregation_form x.0, x.1.now)) result (ended_at front room lexemes.now) }
@@ -358,7 +357,7 @@ fn threshold_of(number: &str) -> Option<Decimal>
     None
 }
 
-fn number_at(lexeme: &Lexeme) -> Result<Decimal, QueryFault>
+fn number_at(lexeme: &Lexeme) -> Result<Decimal, Stop>
     ensures value { result ≡ number_at lexeme.now.place lexeme.now.token }
     ensures proper { IfOk result (λ value. IsTrue (is_threshold value)) }
 {
@@ -366,9 +365,9 @@ fn number_at(lexeme: &Lexeme) -> Result<Decimal, QueryFault>
         Token::Number(number) => match threshold_of(number.as_str()) {
             Some(value) => Ok(value),
             None => Err(if is_digits(number.as_str().as_bytes()) {
-                QueryFault::Unsupported(lexeme.place)
+                Stop::unsupported(lexeme.place)
             } else {
-                QueryFault::Syntax(lexeme.place)
+                Stop::syntax(lexeme.place)
             }),
         },
         token => Err(refusal(Position::InThreshold, lexeme.place, token)),
@@ -391,7 +390,7 @@ pub(crate) fn compared_by(token: &Token) -> Option<Comparison>
 pub(crate) fn threshold_at(
     comparison: Comparison,
     lexemes: &[Lexeme],
-) -> Result<(Threshold, &[Lexeme]), QueryFault>
+) -> Result<(Threshold, &[Lexeme]), Stop>
     ensures { Answers (λ x. (threshold_form x.0, x.1.now)) result (threshold_at comparison lexemes.now) }
 {
     let (first, rest) = next(lexemes)?;

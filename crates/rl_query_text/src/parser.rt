@@ -12,7 +12,7 @@ ghost use Rattle.rl_query.specs.declared.query.Query.{Query};
 ghost use Rattle.rl_query_text.specs.Fronts.{is_unsupported, is_unsupported_word, is_unsupported_sign, is_later_stage, is_pipe, is_minus, is_operator, is_in_any_case, is_later_word, is_matching_word, refusal, next, expected, is_sign, name_of, content_of, match_of, is_match, operator_of, checked_matcher, matcher_at};
 ghost use Rattle.rl_query_text.specs.Drafts.{range_draft};
 ghost use Rattle.rl_query_text.specs.Parsing.{goes_on, element_at, matchers_at, some_matcher, real_matchers, selector_at, is_unit_letter, is_duration_byte, looks_like_duration, range_of, seconds_of, checked_range, seconds_at, closed_at, timed_at, closing_at, deeper, opened_at, range_at};
-ghost use Rattle.rl_query_text.specs.QueryReading.{query_of};
+ghost use Rattle.rl_query_text.specs.QueryReading.{query_reading, query_of, query_meets_pattern};
 ghost use Rattle.rl_query.specs.declared.token.Token.TheVariants as tokens;
 ghost use Rattle.rl_query.specs.Durations.{duration_of};
 ghost use Rattle.rl_query.specs.Tables.{function_text};
@@ -22,18 +22,20 @@ ghost use Rattle.rl_labels.specs.Selects.{are_by_text};
 ghost use Rattle.std.specs.Char.{is_ascii_digit};
 
 use crate::draft::DraftRange;
+use crate::meeting::{have_room, refused};
 use rl_query::duration::{LONGEST_RANGE, duration_of};
+use crate::stop::{Stop, Stopped, place_of};
 use rl_query::fault::{QueryError, QueryFault};
 use crate::lexer::lexemes_of;
 use rl_query::query::{ALL_FUNCTIONS, Query, RangeFunction, Selector};
 use crate::query_reading::query_in;
 use crate::room::Room;
-use crate::stage::{behind_stages, stages_in};
+use crate::stage::{behind_stages, stages_at};
 use rl_query::stages::Stage;
 use rl_query::token::{Lexeme, Sign, Token};
 use rl_labels::{Labels, MatchOp, Matcher, MatcherFault, SelectorCode};
 use rl_plain::{OrMemory, PlainList, PlainText, TryCopy};
-use std::alloc::Global;
+use std::alloc::{AllocError, Global};
 
 /// The words that begin a query in LogQL, beside those of range aggregations. The ruler reads the first five, in lower case.
 pub const LATER_WORDS: [&str; 24] = [
@@ -104,24 +106,24 @@ pub enum Position {
 }
 
 // The fault of a token that does not fit its position.
-pub(crate) fn refusal(position: Position, place: usize, token: &Token) -> QueryFault
+pub(crate) fn refusal(position: Position, place: usize, token: &Token) -> Stop
     ensures { result ≡ refusal position place token.now }
 {
     if is_unsupported(position, token) {
-        QueryFault::Unsupported(place)
+        Stop::unsupported(place)
     } else {
-        QueryFault::Syntax(place)
+        Stop::syntax(place)
     }
 }
 
 // The same of a word.
-pub(crate) fn refused_word(position: Position, place: usize, word: &str) -> QueryFault
+pub(crate) fn refused_word(position: Position, place: usize, word: &str) -> Stop
     ensures { result ≡ refusal position place (tokens.Word word.now) }
 {
     if is_unsupported_word(position, word) {
-        QueryFault::Unsupported(place)
+        Stop::unsupported(place)
     } else {
-        QueryFault::Syntax(place)
+        Stop::syntax(place)
     }
 }
 
@@ -249,12 +251,12 @@ fn is_operator(sign: Sign) -> bool
 }
 
 // The first token, and those behind it.
-pub(crate) fn next(lexemes: &[Lexeme]) -> Result<(&Lexeme, &[Lexeme]), QueryFault>
+pub(crate) fn next(lexemes: &[Lexeme]) -> Result<(&Lexeme, &[Lexeme]), Stop>
     ensures { Answers (λ x. (x.0.now, x.1.now)) result (next lexemes.now) }
 {
     match lexemes {
         [first, rest @ ..] => Ok((first, rest)),
-        [] => Err(QueryFault::Syntax(0)),
+        [] => Err(Stop::syntax(0)),
     }
 }
 
@@ -264,7 +266,7 @@ pub(crate) fn expected(
     sign: Sign,
     position: Position,
     lexemes: &[Lexeme],
-) -> Result<&[Lexeme], QueryFault>
+) -> Result<&[Lexeme], Stop>
     ensures { Answers (λ rest. rest.now) result (expected sign position lexemes.now) }
 {
     let (lexeme, rest) = next(lexemes)?;
@@ -284,7 +286,7 @@ pub(crate) fn is_sign(sign: Sign, token: &Token) -> bool
 }
 
 // The word that a token is.
-pub(crate) fn name_of(lexeme: &Lexeme) -> Result<&PlainText, QueryFault>
+pub(crate) fn name_of(lexeme: &Lexeme) -> Result<&PlainText, Stop>
     ensures { Answers (λ name. name.now) result (name_of lexeme.now.place lexeme.now.token) }
 {
     match &lexeme.token {
@@ -294,7 +296,7 @@ pub(crate) fn name_of(lexeme: &Lexeme) -> Result<&PlainText, QueryFault>
 }
 
 // The text that a token is.
-fn content_of(lexeme: &Lexeme) -> Result<&PlainText, QueryFault>
+fn content_of(lexeme: &Lexeme) -> Result<&PlainText, Stop>
     ensures { Answers (λ content. content.now) result (content_of lexeme.now.place lexeme.now.token) }
 {
     match &lexeme.token {
@@ -314,7 +316,7 @@ pub(crate) fn is_match(token: &Token) -> bool
 }
 
 // The operator of a matcher that a token is.
-fn operator_of(lexeme: &Lexeme) -> Result<MatchOp, QueryFault>
+fn operator_of(lexeme: &Lexeme) -> Result<MatchOp, Stop>
     ensures { result ≡ operator_of lexeme.now.place lexeme.now.token }
 {
     match &lexeme.token {
@@ -333,24 +335,23 @@ fn checked_matcher(
     name: &PlainText,
     op: MatchOp,
     value: &PlainText,
-) -> Result<Matcher, QueryError>
+) -> Result<Matcher, Stopped>
     ensures { Gives matcher_form result (checked_matcher place (record { name = name.now; op = op; value = value.now })) }
 {
     match Matcher::read(name.try_copy()?, op, value.try_copy()?) {
         Ok(matcher) => Ok(matcher),
-        Err(OrMemory::Fault(MatcherFault::BadName)) => Err(QueryError::Fault(QueryFault::Syntax(
+        Err(OrMemory::Fault(MatcherFault::BadName)) => Err(Stopped::Fault(Stop::syntax(place))),
+        Err(OrMemory::Fault(MatcherFault::BadRegex)) => Err(Stopped::Fault(Stop::new(
+            QueryFault::BadRegex,
             place,
         ))),
-        Err(OrMemory::Fault(MatcherFault::BadRegex)) => Err(QueryError::Fault(
-            QueryFault::BadRegex,
-        )),
-        Err(OrMemory::Memory) => Err(QueryError::Memory),
+        Err(OrMemory::Memory) => Err(Stopped::Memory),
     }
 }
 
 // One matcher: a name, an operator and a text.
 #[tactic(auto, unfolding(crate::specs::Fronts::matcher_at))]
-pub(crate) fn matcher_at(lexemes: &[Lexeme]) -> Result<(Matcher, &[Lexeme]), QueryError>
+pub(crate) fn matcher_at(lexemes: &[Lexeme]) -> Result<(Matcher, &[Lexeme]), Stopped>
     ensures { Gives (λ x. (matcher_form x.0, x.1.now)) result (matcher_at lexemes.now) }
 {
     let (first, rest) = next(lexemes)?;
@@ -364,7 +365,7 @@ pub(crate) fn matcher_at(lexemes: &[Lexeme]) -> Result<(Matcher, &[Lexeme]), Que
 }
 
 // Whether another matcher follows.
-fn goes_on(lexeme: &Lexeme) -> Result<bool, QueryFault>
+fn goes_on(lexeme: &Lexeme) -> Result<bool, Stop>
     ensures { result ≡ goes_on lexeme.now.place lexeme.now.token }
 {
     if is_sign(Sign::Comma, &lexeme.token) {
@@ -378,7 +379,7 @@ fn goes_on(lexeme: &Lexeme) -> Result<bool, QueryFault>
 
 // A matcher, and whether another follows.
 #[tactic(auto, unfolding(crate::specs::Parsing::element_at))]
-fn element_at(lexemes: &[Lexeme]) -> Result<(Matcher, bool, &[Lexeme]), QueryError>
+fn element_at(lexemes: &[Lexeme]) -> Result<(Matcher, bool, &[Lexeme]), Stopped>
     ensures { Gives (λ x. (matcher_form x.0, x.1, x.2.now)) result (element_at lexemes.now) }
 {
     let (matcher, rest) = matcher_at(lexemes)?;
@@ -388,7 +389,7 @@ fn element_at(lexemes: &[Lexeme]) -> Result<(Matcher, bool, &[Lexeme]), QueryErr
 }
 
 // Matchers joined by commas, up to the closing brace.
-fn matchers_at(alloc: Global, lexemes: &[Lexeme]) -> Result<(Vec<Matcher>, &[Lexeme]), QueryError>
+fn matchers_at(alloc: Global, lexemes: &[Lexeme]) -> Result<(Vec<Matcher>, &[Lexeme]), Stopped>
     ensures { Gives (λ x. (map matcher_form x.0.items, x.1.now)) result (matchers_at (length lexemes.now) lexemes.now) }
 {
     let mut matchers = Vec::new(alloc);
@@ -401,7 +402,7 @@ fn matchers_at(alloc: Global, lexemes: &[Lexeme]) -> Result<(Vec<Matcher>, &[Lex
         }
         rest = behind;
     }
-    Err(QueryError::Fault(QueryFault::Syntax(0)))
+    Err(Stopped::Fault(Stop::syntax(0)))
 }
 
 // The selector behind its opening brace.
@@ -409,49 +410,48 @@ fn matchers_at(alloc: Global, lexemes: &[Lexeme]) -> Result<(Vec<Matcher>, &[Lex
 pub(crate) fn selector_at(
     alloc: Global,
     lexemes: &[Lexeme],
-) -> Result<(Selector, &[Lexeme]), QueryError>
-    ensures { Reads (λ x. (map matcher_form x.0.matchers, x.1.now)) result (λ cramped. selector_at cramped lexemes.now) }
+) -> Result<(Selector, &[Lexeme]), Stopped>
+    ensures { Gives (λ x. (map matcher_form x.0.matchers, x.1.now)) result (selector_at lexemes.now) }
 {
     let (lexeme, _) = next(lexemes)?;
     some_matcher(lexeme)?;
     let (matchers, rest) = matchers_at(alloc, lexemes)?;
-    let selector = real_selector(alloc, matchers)?;
+    let selector = real_selector(place_of(rest), matchers)?;
     Ok((selector, rest))
 }
 
 // A selector that closes at once has no matcher.
-fn some_matcher(lexeme: &Lexeme) -> Result<(), QueryFault>
-    ensures { result ≡ some_matcher lexeme.now.token }
+fn some_matcher(lexeme: &Lexeme) -> Result<(), Stop>
+    ensures { result ≡ some_matcher lexeme.now.place lexeme.now.token }
 {
     if is_sign(Sign::CloseBrace, &lexeme.token) {
-        return Err(QueryFault::NoRealMatcher);
+        return Err(Stop::new(QueryFault::NoRealMatcher, lexeme.place));
     }
     Ok(())
 }
 
 // The selector of matchers of which one at least refuses a stream without its label.
-#[tactic(auto, using(crate::proofs::Elements::real_forms, crate::proofs::Elements::pattern_forms))]
-fn real_selector(alloc: Global, matchers: Vec<Matcher>) -> Result<Selector, QueryError>
-    ensures { Reads (λ selector. map matcher_form selector.matchers) result (λ cramped. real_matchers cramped (map matcher_form matchers.items)) }
+#[tactic(auto, using(crate::proofs::Elements::real_forms))]
+fn real_selector(place: usize, matchers: Vec<Matcher>) -> Result<Selector, Stopped>
+    ensures { Gives (λ selector. map matcher_form selector.matchers) result (real_matchers place (map matcher_form matchers.items)) }
 {
-    if !has_real_matcher(alloc, &matchers)? {
-        return Err(QueryError::Fault(QueryFault::NoRealMatcher));
+    if !has_real_matcher(&matchers)? {
+        return Err(Stopped::Fault(Stop::new(QueryFault::NoRealMatcher, place)));
     }
     let matchers = PlainList::from_vec(matchers);
     Ok(Selector { matchers })
 }
 
 // Whether some matcher refuses the empty text, as which the labels of a stream without labels read.
-#[tactic(auto, using(crate::proofs::Elements::refuses_empty))]
-fn has_real_matcher(alloc: Global, matchers: &[Matcher]) -> Result<bool, QueryError>
-    ensures answer { IfOk result (λ answer. answer ≡ has_real_matcher matchers.now) }
-    ensures refused { IfErr result (IsForRoom (not (are_by_text matchers.now))) }
+fn has_real_matcher(matchers: &[Matcher]) -> Result<bool, AllocError>
+    ensures { IfOk result (λ answer. answer ≡ has_real_matcher matchers.now) }
 {
-    match SelectorCode::build(alloc, matchers) {
-        Ok(code) => Ok(!code.accepts(&Labels::empty(alloc)?)?),
-        Err(OrMemory::Fault(_)) => Err(QueryError::Fault(QueryFault::BadRegex)),
-        Err(OrMemory::Memory) => Err(QueryError::Memory),
+    for matcher in matchers {
+        if !matcher.accepts_missing()? {
+            return Ok(true);
+        }
     }
+    Ok(false)
 }
 
 fn is_unit_letter(byte: u8) -> bool
@@ -488,7 +488,7 @@ fn is_duration_byte(byte: u8) -> bool
 }
 
 // The seconds of a range.
-fn range_of(lexeme: &Lexeme) -> Result<u64, QueryFault>
+fn range_of(lexeme: &Lexeme) -> Result<u64, Stop>
     ensures read { result ≡ range_of lexeme.now.place lexeme.now.token }
     ensures fits { IfOk result (λ seconds. (1 ≤ seconds) × (seconds ≤ longest_range)) }
 {
@@ -498,33 +498,33 @@ fn range_of(lexeme: &Lexeme) -> Result<u64, QueryFault>
     }
 }
 
-fn seconds_of(place: usize, number: &[u8]) -> Result<u64, QueryFault>
+fn seconds_of(place: usize, number: &[u8]) -> Result<u64, Stop>
     ensures read { result ≡ seconds_of (duration_of number.now) place number.now }
     ensures fits { IfOk result (λ seconds. (1 ≤ seconds) × (seconds ≤ longest_range)) }
 {
     match duration_of(number) {
-        Some(seconds) => checked_range(seconds),
+        Some(seconds) => checked_range(place, seconds),
         None => Err(if looks_like_duration(number) {
-            QueryFault::BadRange
+            Stop::new(QueryFault::BadRange, place)
         } else {
-            QueryFault::Syntax(place)
+            Stop::syntax(place)
         }),
     }
 }
 
-fn checked_range(seconds: u64) -> Result<u64, QueryFault>
-    ensures read { result ≡ checked_range seconds }
+fn checked_range(place: usize, seconds: u64) -> Result<u64, Stop>
+    ensures read { result ≡ checked_range place seconds }
     ensures fits { IfOk result (λ seconds. (1 ≤ seconds) × (seconds ≤ longest_range)) }
 {
     if seconds >= 1 && seconds <= LONGEST_RANGE {
         return Ok(seconds);
     }
-    Err(QueryFault::BadRange)
+    Err(Stop::new(QueryFault::BadRange, place))
 }
 
 // The seconds of a range between its brackets.
 #[tactic(auto, unfolding(crate::specs::Parsing::seconds_at))]
-fn seconds_at(position: Position, lexemes: &[Lexeme]) -> Result<(u64, &[Lexeme]), QueryFault>
+fn seconds_at(position: Position, lexemes: &[Lexeme]) -> Result<(u64, &[Lexeme]), Stop>
     ensures read { Answers (λ x. (x.0, x.1.now)) result (seconds_at position lexemes.now) }
     ensures fits { IfOk result (λ x. (1 ≤ x.0) × (x.0 ≤ longest_range)) }
 {
@@ -542,8 +542,8 @@ fn closed_at(
     room: Room,
     front: Vec<Stage>,
     lexemes: &[Lexeme],
-) -> Result<(Vec<Stage>, &[Lexeme]), QueryError>
-    ensures { Reads (λ x. (map stage_form x.0.items, x.1.now)) result (λ cramped. closed_at cramped room (map stage_form front.items) lexemes.now) }
+) -> Result<(Vec<Stage>, &[Lexeme]), Stopped>
+    ensures { Gives (λ x. (map stage_form x.0.items, x.1.now)) result (closed_at room (map stage_form front.items) lexemes.now) }
 {
     if front.is_empty() {
         return staged_at(alloc, room, lexemes);
@@ -557,15 +557,15 @@ fn closed_at(
 }
 
 // Stages behind a range, and the parenthesis.
-#[tactic(auto, using(crate::proofs::Cramped::closed_late), unfolding(crate::specs::Parsing::closed_at))]
+#[tactic(auto, unfolding(crate::specs::Parsing::closed_at))]
 fn staged_at(
     alloc: Global,
     room: Room,
     lexemes: &[Lexeme],
-) -> Result<(Vec<Stage>, &[Lexeme]), QueryError>
-    ensures { Reads (λ x. (map stage_form x.0.items, x.1.now)) result (λ cramped. closed_at cramped room [] lexemes.now) }
+) -> Result<(Vec<Stage>, &[Lexeme]), Stopped>
+    ensures { Gives (λ x. (map stage_form x.0.items, x.1.now)) result (closed_at room [] lexemes.now) }
 {
-    let (stages, rest) = stages_in(alloc, room, lexemes)?;
+    let (stages, rest) = stages_at(alloc, room, lexemes)?;
     let position = behind_stages(Position::BehindRange, &stages);
     let rest = expected(Sign::CloseParenthesis, position, rest)?;
     Ok((stages, rest))
@@ -578,8 +578,8 @@ fn timed_at(
     room: Room,
     front: Vec<Stage>,
     lexemes: &[Lexeme],
-) -> Result<(Vec<Stage>, u64, &[Lexeme]), QueryError>
-    ensures { Reads (λ x. (map stage_form x.0.items, x.1, x.2.now)) result (λ cramped. timed_at cramped room (map stage_form front.items) lexemes.now) }
+) -> Result<(Vec<Stage>, u64, &[Lexeme]), Stopped>
+    ensures { Gives (λ x. (map stage_form x.0.items, x.1, x.2.now)) result (timed_at room (map stage_form front.items) lexemes.now) }
 {
     let position = behind_stages(Position::BehindSelector, &front);
     let (seconds, rest) = seconds_at(position, lexemes)?;
@@ -588,24 +588,24 @@ fn timed_at(
 }
 
 // Behind a selector: stages and a range in brackets, whichever stand first, and the parenthesis.
-#[tactic(auto, using(crate::proofs::Cramped::closing_late), unfolding(crate::specs::Parsing::closing_at))]
+#[tactic(auto, unfolding(crate::specs::Parsing::closing_at))]
 fn closing_at(
     alloc: Global,
     room: Room,
     lexemes: &[Lexeme],
-) -> Result<(Vec<Stage>, u64, &[Lexeme]), QueryError>
-    ensures { Reads (λ x. (map stage_form x.0.items, x.1, x.2.now)) result (λ cramped. closing_at cramped room lexemes.now) }
+) -> Result<(Vec<Stage>, u64, &[Lexeme]), Stopped>
+    ensures { Gives (λ x. (map stage_form x.0.items, x.1, x.2.now)) result (closing_at room lexemes.now) }
 {
-    let (front, rest) = stages_in(alloc, room, lexemes)?;
+    let (front, rest) = stages_at(alloc, room, lexemes)?;
     timed_at(alloc, room, front, rest)
 }
 
 // The room inside one parenthesis more.
-fn deeper(room: Room) -> Result<Room, QueryFault>
-    ensures { result ≡ deeper room.depth room }
+fn deeper(place: usize, room: Room) -> Result<Room, Stop>
+    ensures { result ≡ deeper place room.depth room }
 {
     if room.depth == 0 {
-        return Err(QueryFault::TooDeep);
+        return Err(Stop::new(QueryFault::TooDeep, place));
     }
     Ok(Room {
         depth: room.depth - 1,
@@ -620,22 +620,22 @@ pub(crate) fn opened_at(
     position: Position,
     room: Room,
     lexemes: &[Lexeme],
-) -> Result<(Room, &[Lexeme]), QueryFault>
+) -> Result<(Room, &[Lexeme]), Stop>
     ensures { Answers (λ x. (x.0, x.1.now)) result (opened_at position room lexemes.now) }
 {
     let behind = expected(Sign::OpenParenthesis, position, lexemes)?;
-    let inside = deeper(room)?;
+    let inside = deeper(place_of(lexemes), room)?;
     Ok((inside, behind))
 }
 
 // The selector, the stages and the range in parentheses, behind the name of the aggregation.
-#[tactic(auto, using(crate::proofs::Cramped::range_late), unfolding(crate::specs::Parsing::range_at))]
+#[tactic(auto, unfolding(crate::specs::Parsing::range_at))]
 pub(crate) fn range_at(
     alloc: Global,
     room: Room,
     lexemes: &[Lexeme],
-) -> Result<(DraftRange, &[Lexeme]), QueryError>
-    ensures { Reads (λ x. (range_draft x.0, x.1.now)) result (λ cramped. range_at cramped room lexemes.now) }
+) -> Result<(DraftRange, &[Lexeme]), Stopped>
+    ensures { Gives (λ x. (range_draft x.0, x.1.now)) result (range_at room lexemes.now) }
 {
     let (inside, rest) = opened_at(Position::Elsewhere, room, lexemes)?;
     let rest = expected(Sign::OpenBrace, Position::Elsewhere, rest)?;
@@ -651,7 +651,7 @@ pub(crate) fn range_at(
 
 /// The query that a whole text is, or the first fault from the left (LogQL).
 pub fn parse(alloc: Global, text: &str) -> Result<Query, QueryError>
-    ensures read { Reads query_form result (λ cramped. query_of cramped text.now) }
+    ensures read { Reads query_form result (query_of text.now) (query_meets_pattern text.now) }
     ensures derives { IfOk result (λ query. Derives text.now (query_form query)) }
     ensures complete { (query : QueryForm) → Derives text.now query → MatchResult result (λ same. query_form same ≡ query) (IsForRoom (query_has_pattern query)) }
     ensures again { (query : Query) → text.now ≡ query_text (query_form query) → MatchResult result (λ same. same ≡ query) (IsForRoom (query_has_pattern (query_form query))) }
@@ -659,9 +659,16 @@ pub fn parse(alloc: Global, text: &str) -> Result<Query, QueryError>
     read(alloc, text)
 }
 
+#[tactic(auto, using(crate::proofs::Meetings::read_told, crate::proofs::Meetings::stop_told))]
 fn read(alloc: Global, text: &str) -> Result<Query, QueryError>
-    ensures { Reads query_form result (λ cramped. query_of cramped text.now) }
+    ensures { Reads query_form result (query_of text.now) (query_meets_pattern text.now) }
 {
     let lexemes = lexemes_of(alloc, text)?;
-    query_in(alloc, &lexemes)
+    match query_in(alloc, &lexemes) {
+        Ok(query) => {
+            have_room(alloc, &lexemes)?;
+            Ok(query)
+        }
+        Err(stopped) => Err(refused(alloc, &lexemes, stopped)),
+    }
 }

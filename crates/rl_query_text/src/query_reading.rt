@@ -1,7 +1,6 @@
 //! Queries, read from their tokens: ratios of terms and their thresholds.
 ghost use Rattle.std.specs.Prelude.{◌≡◌, ◌-◌, Ok, IfOk, suc, map, length, option_map};
-ghost use Rattle.rl_plain.specs.Answers.{Answers};
-ghost use Rattle.rl_query_text.specs.Answering.{Reads};
+ghost use Rattle.rl_plain.specs.Answers.{Gives, Answers};
 ghost use Rattle.rl_query_text.specs.Drafts.{term_draft, query_draft, KeepsQuery};
 ghost use Rattle.rl_query.specs.Form.{stage_form, tests_of, label_tests, query_form, threshold_form};
 ghost use Rattle.rl_query.specs.TestTree.{count_tests};
@@ -11,7 +10,7 @@ ghost use Rattle.rl_query_text.specs.declared.parser.Position.TheVariants as pos
 use rl_query::aggregation::Threshold;
 use crate::aggregation_reading::{compared_by, threshold_at};
 use crate::draft::{DraftQuery, DraftTerm, made_query};
-use rl_query::fault::{QueryError, QueryFault};
+use crate::stop::{Stop, Stopped};
 use rl_query::label_test::{LabelTests, TestParts};
 use crate::parser::{Position, expected, is_sign, next, opened_at, refusal};
 use rl_query::quantity_test::Comparison;
@@ -82,8 +81,8 @@ fn over_at(
     left: DraftTerm,
     room: Room,
     lexemes: &[Lexeme],
-) -> Result<(DraftQuery, &[Lexeme]), QueryError>
-    ensures { Reads (λ x. (query_draft x.0, x.1.now)) result (λ cramped. over_at cramped (term_draft left) room lexemes.now) }
+) -> Result<(DraftQuery, &[Lexeme]), Stopped>
+    ensures { Gives (λ x. (query_draft x.0, x.1.now)) result (over_at (term_draft left) room lexemes.now) }
 {
     let room = room_behind(&left, room);
     let (over, rest) = term_at(alloc, Position::Divisor, room, lexemes)?;
@@ -102,8 +101,8 @@ fn divided_at(
     query: DraftQuery,
     room: Room,
     lexemes: &[Lexeme],
-) -> Result<(DraftQuery, &[Lexeme]), QueryError>
-    ensures { Reads (λ x. (query_draft x.0, x.1.now)) result (λ cramped. divided_at cramped (query_draft query) room lexemes.now) }
+) -> Result<(DraftQuery, &[Lexeme]), Stopped>
+    ensures { Gives (λ x. (query_draft x.0, x.1.now)) result (divided_at (query_draft query) room lexemes.now) }
 {
     let (first, rest) = next(lexemes)?;
     if is_term(&query) && is_sign(Sign::Slash, &first.token) {
@@ -127,7 +126,7 @@ fn comes_to_test(query: &DraftQuery, token: &Token) -> Option<Comparison>
 fn compared_at<'a>(
     query: &DraftQuery,
     lexemes: &'a [Lexeme],
-) -> Result<(Option<Threshold>, &'a [Lexeme]), QueryFault>
+) -> Result<(Option<Threshold>, &'a [Lexeme]), Stop>
     ensures { Answers (λ x. (option_map threshold_form x.0, x.1.now)) result (compared_at (query_draft query.now) lexemes.now) }
 {
     let (first, rest) = next(lexemes)?;
@@ -155,19 +154,19 @@ fn with_test(query: DraftQuery, test: Option<Threshold>) -> DraftQuery
 }
 
 // What an operand is divided by and compared with.
-#[tactic(auto, using(crate::proofs::CrampedQueries::behind_late), unfolding(crate::specs::QueryReading::behind_at))]
+#[tactic(auto, unfolding(crate::specs::QueryReading::behind_at))]
 fn behind_at(
     alloc: Global,
     operand: DraftQuery,
     room: Room,
     lexemes: &[Lexeme],
-) -> Result<(DraftQuery, &[Lexeme]), QueryError>
-    ensures { Reads (λ x. (query_draft x.0, x.1.now)) result (λ cramped. behind_at cramped (query_draft operand) room lexemes.now) }
+) -> Result<(DraftQuery, &[Lexeme]), Stopped>
+    ensures { Gives (λ x. (query_draft x.0, x.1.now)) result (behind_at (query_draft operand) room lexemes.now) }
 {
     let (query, rest) = divided_at(alloc, operand, room, lexemes)?;
     match compared_at(&query, rest) {
         Ok((test, rest)) => Ok((with_test(query, test), rest)),
-        Err(fault) => Err(QueryError::Fault(fault)),
+        Err(fault) => Err(Stopped::Fault(fault)),
     }
 }
 
@@ -177,8 +176,8 @@ fn lone_at(
     alloc: Global,
     room: Room,
     lexemes: &[Lexeme],
-) -> Result<(DraftQuery, &[Lexeme]), QueryError>
-    ensures { Reads (λ x. (query_draft x.0, x.1.now)) result (λ cramped. lone_at cramped room lexemes.now) }
+) -> Result<(DraftQuery, &[Lexeme]), Stopped>
+    ensures { Gives (λ x. (query_draft x.0, x.1.now)) result (lone_at room lexemes.now) }
 {
     let (left, rest) = term_at(alloc, Position::Start, room, lexemes)?;
     let query = DraftQuery {
@@ -196,8 +195,8 @@ fn inner_at(
     alloc: Global,
     room: Room,
     lexemes: &[Lexeme],
-) -> Result<(DraftQuery, &[Lexeme]), QueryError>
-    ensures { Reads (λ x. (query_draft x.0, x.1.now)) result (λ cramped. in_parentheses positions.Start (query_within cramped room.depth) room lexemes.now) }
+) -> Result<(DraftQuery, &[Lexeme]), Stopped>
+    ensures { Gives (λ x. (query_draft x.0, x.1.now)) result (in_parentheses positions.Start (query_within room.depth) room lexemes.now) }
 {
     let (inside, rest) = opened_at(Position::Start, room, lexemes)?;
     let (query, rest) = query_at(alloc, inside, rest)?;
@@ -212,8 +211,8 @@ fn operand_at(
     alloc: Global,
     room: Room,
     lexemes: &[Lexeme],
-) -> Result<(DraftQuery, &[Lexeme]), QueryError>
-    ensures { Reads (λ x. (query_draft x.0, x.1.now)) result (λ cramped. operand_at cramped (query_within cramped room.depth) room lexemes.now) }
+) -> Result<(DraftQuery, &[Lexeme]), Stopped>
+    ensures { Gives (λ x. (query_draft x.0, x.1.now)) result (operand_at (query_within room.depth) room lexemes.now) }
 {
     let (first, _) = next(lexemes)?;
     if is_sign(Sign::OpenParenthesis, &first.token) {
@@ -229,8 +228,8 @@ fn query_at(
     alloc: Global,
     room: Room,
     lexemes: &[Lexeme],
-) -> Result<(DraftQuery, &[Lexeme]), QueryError>
-    ensures { Reads (λ x. (query_draft x.0, x.1.now)) result (λ cramped. query_within cramped (suc room.depth) room lexemes.now) }
+) -> Result<(DraftQuery, &[Lexeme]), Stopped>
+    ensures { Gives (λ x. (query_draft x.0, x.1.now)) result (query_within (suc room.depth) room lexemes.now) }
 {
     let (operand, rest) = operand_at(alloc, room, lexemes)?;
     let (query, rest) = behind_at(alloc, operand, room, rest)?;
@@ -238,7 +237,7 @@ fn query_at(
 }
 
 // Nothing follows a query.
-fn ends(lexeme: &Lexeme) -> Result<(), QueryFault>
+fn ends(lexeme: &Lexeme) -> Result<(), Stop>
     ensures { result ≡ ends lexeme.now.place lexeme.now.token }
 {
     match &lexeme.token {
@@ -259,17 +258,17 @@ fn whole_room() -> Room
 }
 
 // A query with all of that.
-fn whole_at(alloc: Global, lexemes: &[Lexeme]) -> Result<(DraftQuery, &[Lexeme]), QueryError>
-    ensures read { Reads (λ x. (query_draft x.0, x.1.now)) result (λ cramped. whole_at cramped lexemes.now) }
+fn whole_at(alloc: Global, lexemes: &[Lexeme]) -> Result<(DraftQuery, &[Lexeme]), Stopped>
+    ensures read { Gives (λ x. (query_draft x.0, x.1.now)) result (whole_at lexemes.now) }
     ensures keeps { IfOk result (λ x. KeepsQuery x.0) }
 {
     query_at(alloc, whole_room(), lexemes)
 }
 
 // The query that all tokens are.
-#[tactic(auto, using(crate::proofs::CrampedQueries::query_late), unfolding(crate::specs::QueryReading::query_in))]
-pub(crate) fn query_in(alloc: Global, lexemes: &[Lexeme]) -> Result<Query, QueryError>
-    ensures { Reads query_form result (λ cramped. query_in cramped lexemes.now) }
+#[tactic(auto, unfolding(crate::specs::QueryReading::query_in))]
+pub(crate) fn query_in(alloc: Global, lexemes: &[Lexeme]) -> Result<Query, Stopped>
+    ensures { Gives query_form result (query_in lexemes.now) }
 {
     let (query, rest) = whole_at(alloc, lexemes)?;
     let (lexeme, _) = next(rest)?;

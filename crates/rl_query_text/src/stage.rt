@@ -1,14 +1,14 @@
 //! Line filters and stages, read from their tokens.
 ghost use Rattle.std.specs.Prelude.{◌≡◌, ℕ, ◌≤◌, Bool, ◌||◌, List, [], ◌∷◌, Option, None, Some, IfOk, IfErr, length, map, true, false};
 ghost use Rattle.rl_plain.specs.Answers.{Gives, Answers};
-ghost use Rattle.rl_query_text.specs.Answering.{Reads, IsForRoom};
 ghost use Rattle.rl_labels.specs.Operators.{is_by_pattern};
 ghost use Rattle.rl_query.specs.TestTree.{any_test};
 ghost use Rattle.rl_query.specs.Form.{test_form, tests_form, test_has_pattern, filter_form, filters_have_pattern, stage_form, stage_has_pattern, stages_have_pattern, parses};
 ghost use Rattle.rl_query.specs.Limits.{is_line_pattern, most_stages};
-ghost use Rattle.rl_query_text.specs.Parsing.{filter_op, filter_text, checked_filter, filter_at, filters_at, roomy_filters, filters_in, begins_stage, stage_comes, named_parser, parser_of, only_parser, is_later_stage_word, operator_comes, word_begins, parenthesis_begins, tests_begin, tested_at, piped_at, stage_at, stages_at, roomy_stages, stages_in, behind_stage, behind_stages};
+ghost use Rattle.rl_query_text.specs.Parsing.{filter_op, filter_text, checked_filter, filter_at, filters_at, begins_stage, stage_comes, named_parser, parser_of, only_parser, is_later_stage_word, operator_comes, word_begins, parenthesis_begins, tests_begin, tested_at, piped_at, stage_at, stages_at, stages_in, behind_stage, behind_stages};
 
-use rl_query::fault::{QueryError, QueryFault};
+use crate::stop::{Stop, Stopped, place_of};
+use rl_query::fault::QueryFault;
 use rl_query::filter::{LineFilter, LineOp};
 use rl_query::label_test::{LabelTest, LabelTests, TestParts};
 use crate::parser::{Position, is_match, is_one_of, is_sign, next, refusal};
@@ -16,9 +16,8 @@ use crate::room::Room;
 use rl_query::stages::{Parser, Stage};
 use crate::testing::{compares, tests_at};
 use rl_query::token::{Lexeme, Sign, Token};
-use rl_labels::Matcher;
-use rl_patterns::{PatternCode, is_pattern};
-use rl_plain::{OrMemory, PlainText, TryCopy};
+use rl_patterns::is_pattern;
+use rl_plain::{PlainText, TryCopy};
 use std::alloc::Global;
 
 // The most stages of a text.
@@ -54,7 +53,7 @@ fn filter_op(token: &Token) -> Option<LineOp>
 }
 
 // The text of a line filter.
-fn filter_text(lexeme: &Lexeme) -> Result<&PlainText, QueryFault>
+fn filter_text(lexeme: &Lexeme) -> Result<&PlainText, Stop>
     ensures { Answers (λ text. text.now) result (filter_text lexeme.now.place lexeme.now.token) }
 {
     match &lexeme.token {
@@ -70,11 +69,11 @@ fn is_line_pattern(op: LineOp) -> bool
 }
 
 // The line filter of its parts, where its pattern is one.
-fn checked_filter(op: LineOp, text: &PlainText) -> Result<LineFilter, QueryError>
-    ensures { Gives filter_form result (checked_filter (record { op = op; text = text.now })) }
+fn checked_filter(op: LineOp, place: usize, text: &PlainText) -> Result<LineFilter, Stopped>
+    ensures { Gives filter_form result (checked_filter place (record { op = op; text = text.now })) }
 {
     if is_line_pattern(op) && !is_pattern(text.allocator(), text.as_str())? {
-        return Err(QueryError::Fault(QueryFault::BadRegex));
+        return Err(Stopped::Fault(Stop::new(QueryFault::BadRegex, place)));
     }
     let text = text.try_copy()?;
     Ok(LineFilter { op, text })
@@ -82,17 +81,20 @@ fn checked_filter(op: LineOp, text: &PlainText) -> Result<LineFilter, QueryError
 
 // The text of a line filter, behind its sign.
 #[tactic(auto, unfolding(crate::specs::Parsing::filter_at))]
-fn filter_at(op: LineOp, lexemes: &[Lexeme]) -> Result<(LineFilter, &[Lexeme]), QueryError>
+fn filter_at(op: LineOp, lexemes: &[Lexeme]) -> Result<(LineFilter, &[Lexeme]), Stopped>
     ensures { Gives (λ x. (filter_form x.0, x.1.now)) result (filter_at op lexemes.now) }
 {
     let (lexeme, rest) = next(lexemes)?;
     let text = filter_text(lexeme)?;
-    let filter = checked_filter(op, text)?;
+    let filter = checked_filter(op, lexeme.place, text)?;
     Ok((filter, rest))
 }
 
 // Line filters, as many as there are.
-fn filters_at(alloc: Global, lexemes: &[Lexeme]) -> Result<(Vec<LineFilter>, &[Lexeme]), QueryError>
+pub(crate) fn filters_at(
+    alloc: Global,
+    lexemes: &[Lexeme],
+) -> Result<(Vec<LineFilter>, &[Lexeme]), Stopped>
     ensures read { Gives (λ x. (map filter_form x.0.items, x.1.now)) result (filters_at most_stages lexemes.now) }
     ensures few { IfOk result (λ x. length x.0.items ≤ most_stages) }
 {
@@ -113,51 +115,14 @@ fn filters_at(alloc: Global, lexemes: &[Lexeme]) -> Result<(Vec<LineFilter>, &[L
 
 // No line filter begins where there may be no more.
 #[tactic(auto, unfolding(crate::specs::Parsing::filters_at))]
-fn no_filter(lexemes: &[Lexeme]) -> Result<(), QueryFault>
+fn no_filter(lexemes: &[Lexeme]) -> Result<(), Stop>
     ensures { Answers (λ _. ([], lexemes.now)) result (filters_at 0 lexemes.now) }
 {
     let (first, _) = next(lexemes)?;
     if filter_op(&first.token).is_some() {
-        return Err(QueryFault::TooDeep);
+        return Err(Stop::new(QueryFault::TooDeep, first.place));
     }
     Ok(())
-}
-
-// That each pattern has room.
-#[tactic(auto, using(crate::proofs::Filters::some_pattern))]
-fn have_room(alloc: Global, filters: &[LineFilter]) -> Result<(), QueryError>
-    ensures { Reads (λ _. map filter_form filters.now) result (λ cramped. roomy_filters cramped (map filter_form filters.now)) }
-{
-    for filter in filters {
-        if is_line_pattern(filter.op) {
-            has_room(alloc, &filter.text)?;
-        }
-    }
-    Ok(())
-}
-
-fn has_room(alloc: Global, pattern: &PlainText) -> Result<(), QueryError>
-    ensures { IfErr result (IsForRoom true) }
-{
-    match PatternCode::build(alloc, pattern.as_str()) {
-        Ok(_) => Ok(()),
-        Err(OrMemory::Fault(_)) => Err(QueryError::Fault(QueryFault::BadRegex)),
-        Err(OrMemory::Memory) => Err(QueryError::Memory),
-    }
-}
-
-// Line filters, each of whose patterns has room.
-#[tactic(auto, unfolding(crate::specs::Parsing::filters_in))]
-pub(crate) fn filters_in(
-    alloc: Global,
-    lexemes: &[Lexeme],
-) -> Result<(Vec<LineFilter>, &[Lexeme]), QueryError>
-    ensures read { Reads (λ x. (map filter_form x.0.items, x.1.now)) result (λ cramped. filters_in cramped lexemes.now) }
-    ensures few { IfOk result (λ x. length x.0.items ≤ most_stages) }
-{
-    let (filters, rest) = filters_at(alloc, lexemes)?;
-    have_room(alloc, &filters)?;
-    Ok((filters, rest))
 }
 
 // A token that begins a stage: a line filter, or what stands behind a pipe.
@@ -168,7 +133,7 @@ fn begins_stage(token: &Token) -> bool
 }
 
 // Whether a stage comes.
-fn stage_comes(lexemes: &[Lexeme]) -> Result<bool, QueryFault>
+fn stage_comes(lexemes: &[Lexeme]) -> Result<bool, Stop>
     ensures { result ≡ stage_comes lexemes.now }
 {
     let (first, _) = next(lexemes)?;
@@ -198,11 +163,11 @@ fn named_parser(word: &str) -> Option<Parser>
 }
 
 // A parser comes once.
-fn only_parser(parsed: bool, parser: Parser) -> Result<Parser, QueryFault>
-    ensures { result ≡ only_parser parsed parser }
+fn only_parser(place: usize, parsed: bool, parser: Parser) -> Result<Parser, Stop>
+    ensures { result ≡ only_parser place parsed parser }
 {
     if parsed {
-        return Err(QueryFault::TwoParsers);
+        return Err(Stop::new(QueryFault::TwoParsers, place));
     }
     Ok(parser)
 }
@@ -224,7 +189,7 @@ fn operator_comes(lexemes: &[Lexeme]) -> bool
 }
 
 // That label tests begin with a token; a word of LogQL's names a label only before an operator.
-fn tests_begin(first: &Lexeme, rest: &[Lexeme]) -> Result<(), QueryFault>
+fn tests_begin(first: &Lexeme, rest: &[Lexeme]) -> Result<(), Stop>
     ensures { result ≡ tests_begin first.now.place first.now.token rest.now }
 {
     match &first.token {
@@ -233,16 +198,16 @@ fn tests_begin(first: &Lexeme, rest: &[Lexeme]) -> Result<(), QueryFault>
     }
 }
 
-fn word_begins(place: usize, word: &str, rest: &[Lexeme]) -> Result<(), QueryFault>
+fn word_begins(place: usize, word: &str, rest: &[Lexeme]) -> Result<(), Stop>
     ensures { result ≡ word_begins place word.now rest.now }
 {
     if is_later_stage_word(word) && !operator_comes(rest) {
-        return Err(QueryFault::Unsupported(place));
+        return Err(Stop::unsupported(place));
     }
     Ok(())
 }
 
-fn parenthesis_begins(place: usize, token: &Token) -> Result<(), QueryFault>
+fn parenthesis_begins(place: usize, token: &Token) -> Result<(), Stop>
     ensures { result ≡ parenthesis_begins place token.now }
 {
     if is_sign(Sign::OpenParenthesis, token) {
@@ -258,7 +223,7 @@ fn tested_at(
     depth: usize,
     left: usize,
     lexemes: &[Lexeme],
-) -> Result<(Stage, usize, &[Lexeme]), QueryError>
+) -> Result<(Stage, usize, &[Lexeme]), Stopped>
     ensures { Gives (λ x. (stage_form x.0, x.1, x.2.now)) result (tested_at depth left lexemes.now) }
 {
     let (first, rest) = next(lexemes)?;
@@ -275,12 +240,12 @@ fn piped_at(
     depth: usize,
     left: usize,
     lexemes: &[Lexeme],
-) -> Result<(Stage, usize, &[Lexeme]), QueryError>
+) -> Result<(Stage, usize, &[Lexeme]), Stopped>
     ensures { Gives (λ x. (stage_form x.0, x.1, x.2.now)) result (piped_at parsed depth left lexemes.now) }
 {
     let (first, rest) = next(lexemes)?;
     if let Some(parser) = parser_of(&first.token) {
-        let parser = only_parser(parsed, parser)?;
+        let parser = only_parser(first.place, parsed, parser)?;
         return Ok((Stage::Parser(parser), left, rest));
     }
     tested_at(alloc, depth, left, lexemes)
@@ -294,7 +259,7 @@ fn stage_at(
     depth: usize,
     left: usize,
     lexemes: &[Lexeme],
-) -> Result<(Stage, usize, &[Lexeme]), QueryError>
+) -> Result<(Stage, usize, &[Lexeme]), Stopped>
     ensures { Gives (λ x. (stage_form x.0, x.1, x.2.now)) result (stage_at parsed depth left lexemes.now) }
 {
     let (sign, rest) = next(lexemes)?;
@@ -313,12 +278,12 @@ fn is_parsed(before: bool, stage: &Stage) -> bool
 }
 
 // Stages, as many as there are.
-fn stages_at(
+pub(crate) fn stages_at(
     alloc: Global,
     room: Room,
     lexemes: &[Lexeme],
-) -> Result<(Vec<Stage>, &[Lexeme]), QueryError>
-    ensures { Gives (λ x. (map stage_form x.0.items, x.1.now)) result (stages_at false room.depth room.tests room.stages lexemes.now) }
+) -> Result<(Vec<Stage>, &[Lexeme]), Stopped>
+    ensures { Gives (λ x. (map stage_form x.0.items, x.1.now)) result (stages_in room lexemes.now) }
 {
     let mut stages = Vec::new(alloc);
     let mut parsed = false;
@@ -340,82 +305,13 @@ fn stages_at(
 
 // No stage comes where there may be no more.
 #[tactic(auto, unfolding(crate::specs::Parsing::stages_at))]
-fn no_stage(lexemes: &[Lexeme]) -> Result<(), QueryFault>
+fn no_stage(lexemes: &[Lexeme]) -> Result<(), Stop>
     ensures { (parsed : Bool) (depth left : ℕ) → Answers (λ _. ([], lexemes.now)) result (stages_at parsed depth left 0 lexemes.now) }
 {
     if stage_comes(lexemes)? {
-        return Err(QueryFault::TooDeep);
+        return Err(Stop::new(QueryFault::TooDeep, place_of(lexemes)));
     }
     Ok(())
-}
-
-// That each pattern of stages has room.
-#[tactic(auto, using(crate::proofs::StageReadings::some_pattern))]
-fn stages_have_room(alloc: Global, stages: &[Stage]) -> Result<(), QueryError>
-    ensures { Reads (λ _. map stage_form stages.now) result (λ cramped. roomy_stages cramped (map stage_form stages.now)) }
-{
-    for stage in stages {
-        stage_has_room(alloc, stage)?;
-    }
-    Ok(())
-}
-
-fn stage_has_room(alloc: Global, stage: &Stage) -> Result<(), QueryError>
-    ensures { IfErr result (IsForRoom (stage_has_pattern (stage_form stage.now))) }
-{
-    match stage {
-        Stage::Filter(filter) if is_line_pattern(filter.op) => has_room(alloc, &filter.text),
-        Stage::Tests(tests) => tests_have_room(tests),
-        _ => Ok(()),
-    }
-}
-
-// That each pattern of label tests has room.
-#[tactic(auto, using(crate::proofs::StageReadings::room_left, crate::proofs::StageReadings::room_right))]
-fn tests_have_room(tests: &LabelTests) -> Result<(), QueryError>
-    ensures { IfErr result (IsForRoom (any_test test_has_pattern (tests_form tests.now))) }
-{
-    match tests.parts() {
-        TestParts::One(test) => test_has_room(test),
-        TestParts::Joined(_, left, right) => {
-            tests_have_room(left)?;
-            tests_have_room(right)
-        }
-    }
-}
-
-fn test_has_room(test: &LabelTest) -> Result<(), QueryError>
-    ensures { IfErr result (IsForRoom (test_has_pattern (test_form test.now))) }
-{
-    match test {
-        LabelTest::Text(test) => matcher_has_room(&test.matcher),
-        LabelTest::Quantity(_) => Ok(()),
-    }
-}
-
-// That a matcher's pattern has room as one of whole values.
-fn matcher_has_room(matcher: &Matcher) -> Result<(), QueryError>
-    ensures { IfErr result (IsForRoom (is_by_pattern matcher.now.op)) }
-{
-    match matcher.build() {
-        Ok(_) => Ok(()),
-        Err(OrMemory::Fault(_)) => Err(QueryError::Fault(QueryFault::BadRegex)),
-        Err(OrMemory::Memory) => Err(QueryError::Memory),
-    }
-}
-
-// Stages, each of whose patterns has room.
-#[tactic(auto, unfolding(crate::specs::Parsing::stages_in))]
-pub(crate) fn stages_in(
-    alloc: Global,
-    room: Room,
-    lexemes: &[Lexeme],
-) -> Result<(Vec<Stage>, &[Lexeme]), QueryError>
-    ensures { Reads (λ x. (map stage_form x.0.items, x.1.now)) result (λ cramped. stages_in cramped room lexemes.now) }
-{
-    let (stages, rest) = stages_at(alloc, room, lexemes)?;
-    stages_have_room(alloc, &stages)?;
-    Ok((stages, rest))
 }
 
 fn behind_stage(stage: &Stage) -> Position

@@ -1,6 +1,6 @@
 //! Terms, read from their tokens: vector aggregations around a range aggregation.
 ghost use Rattle.std.specs.Prelude.{◌≡◌, ◌∷◌, Ok, IfOk, suc};
-ghost use Rattle.rl_query_text.specs.Answering.{Reads};
+ghost use Rattle.rl_plain.specs.Answers.{Gives};
 ghost use Rattle.rl_query_text.specs.Drafts.{term_draft};
 ghost use Rattle.rl_query.specs.Form.{aggregation_form};
 ghost use Rattle.rl_query_text.specs.QueryReading.{in_parentheses, around, aggregated_at, ranged_at, worded_at, term_in, term_at};
@@ -9,7 +9,7 @@ ghost use Rattle.rl_query_text.specs.declared.parser.Position.TheVariants as pos
 use rl_query::aggregation::Aggregation;
 use crate::aggregation_reading::{ended_at, front_at, is_operator_word};
 use crate::draft::DraftTerm;
-use rl_query::fault::{QueryError, QueryFault};
+use crate::stop::{Stop, Stopped};
 use crate::parser::{
     Position, expected, is_sign, next, opened_at, range_at, refusal, refused_word,
 };
@@ -41,8 +41,8 @@ fn ranged_at(
     function: RangeFunction,
     room: Room,
     lexemes: &[Lexeme],
-) -> Result<(DraftTerm, &[Lexeme]), QueryError>
-    ensures { Reads (λ x. (term_draft x.0, x.1.now)) result (λ cramped. ranged_at cramped function room lexemes.now) }
+) -> Result<(DraftTerm, &[Lexeme]), Stopped>
+    ensures { Gives (λ x. (term_draft x.0, x.1.now)) result (ranged_at function room lexemes.now) }
 {
     let (range, rest) = range_at(alloc, room, lexemes)?;
     let aggregations = Vec::new(alloc);
@@ -63,8 +63,8 @@ fn aggregated_at<'a>(
     nest: usize,
     room: Room,
     lexemes: &'a [Lexeme],
-) -> Result<(DraftTerm, &'a [Lexeme]), QueryError>
-    ensures { Reads (λ x. (term_draft x.0, x.1.now)) result (λ cramped. aggregated_at (term_in cramped room.depth) word.now nest room lexemes.now) }
+) -> Result<(DraftTerm, &'a [Lexeme]), Stopped>
+    ensures { Gives (λ x. (term_draft x.0, x.1.now)) result (aggregated_at (term_in room.depth) word.now nest room lexemes.now) }
 {
     let (front, rest) = front_at(alloc, word, nest, room, lexemes)?;
     let (term, rest) = term_in(alloc, Position::InTerm, front.nest, front.room, rest)?;
@@ -75,14 +75,14 @@ fn aggregated_at<'a>(
 
 // A term in parentheses.
 #[cycle(terms)]
-#[tactic(auto, using(crate::proofs::CrampedQueries::enclosed_late), unfolding(crate::specs::QueryReading::in_parentheses))]
+#[tactic(auto, unfolding(crate::specs::QueryReading::in_parentheses))]
 fn enclosed_at(
     alloc: Global,
     nest: usize,
     room: Room,
     lexemes: &[Lexeme],
-) -> Result<(DraftTerm, &[Lexeme]), QueryError>
-    ensures { Reads (λ x. (term_draft x.0, x.1.now)) result (λ cramped. in_parentheses positions.InTerm (term_in cramped room.depth positions.InTerm nest) room lexemes.now) }
+) -> Result<(DraftTerm, &[Lexeme]), Stopped>
+    ensures { Gives (λ x. (term_draft x.0, x.1.now)) result (in_parentheses positions.InTerm (term_in room.depth positions.InTerm nest) room lexemes.now) }
 {
     let (inside, rest) = opened_at(Position::InTerm, room, lexemes)?;
     let (term, rest) = term_in(alloc, Position::InTerm, nest, inside, rest)?;
@@ -100,15 +100,15 @@ fn worded_at<'a>(
     nest: usize,
     room: Room,
     lexemes: &'a [Lexeme],
-) -> Result<(DraftTerm, &'a [Lexeme]), QueryError>
-    ensures { Reads (λ x. (term_draft x.0, x.1.now)) result (λ cramped. worded_at cramped (term_in cramped room.depth) position place word.now nest room lexemes.now) }
+) -> Result<(DraftTerm, &'a [Lexeme]), Stopped>
+    ensures { Gives (λ x. (term_draft x.0, x.1.now)) result (worded_at (term_in room.depth) position place word.now nest room lexemes.now) }
 {
     if is_operator_word(word) {
         return aggregated_at(alloc, word, nest, room, lexemes);
     }
     match RangeFunction::with_text(word) {
         Some(function) => ranged_at(alloc, function, room, lexemes),
-        None => Err(QueryError::Fault(refused_word(position, place, word))),
+        None => Err(Stopped::Fault(refused_word(position, place, word))),
     }
 }
 
@@ -121,8 +121,8 @@ fn term_in(
     nest: usize,
     room: Room,
     lexemes: &[Lexeme],
-) -> Result<(DraftTerm, &[Lexeme]), QueryError>
-    ensures { Reads (λ x. (term_draft x.0, x.1.now)) result (λ cramped. term_in cramped (suc room.depth) position nest room lexemes.now) }
+) -> Result<(DraftTerm, &[Lexeme]), Stopped>
+    ensures { Gives (λ x. (term_draft x.0, x.1.now)) result (term_in (suc room.depth) position nest room lexemes.now) }
 {
     let (first, rest) = next(lexemes)?;
     match &first.token {
@@ -141,7 +141,7 @@ fn term_in(
             if is_sign(Sign::OpenParenthesis, token) {
                 return enclosed_at(alloc, nest, room, lexemes);
             }
-            Err(QueryError::Fault(refusal(position, first.place, token)))
+            Err(Stopped::Fault(refusal(position, first.place, token)))
         }
     }
 }
@@ -152,8 +152,8 @@ pub(crate) fn term_at(
     position: Position,
     room: Room,
     lexemes: &[Lexeme],
-) -> Result<(DraftTerm, &[Lexeme]), QueryError>
-    ensures { Reads (λ x. (term_draft x.0, x.1.now)) result (λ cramped. term_at cramped position room lexemes.now) }
+) -> Result<(DraftTerm, &[Lexeme]), Stopped>
+    ensures { Gives (λ x. (term_draft x.0, x.1.now)) result (term_at position room lexemes.now) }
 {
     term_in(alloc, position, MOST_AGGREGATIONS, room, lexemes)
 }

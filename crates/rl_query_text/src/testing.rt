@@ -10,7 +10,8 @@ ghost use Rattle.rl_query_text.specs.TestGrammar.{AreTests};
 ghost use Rattle.rl_query.specs.TestTree.{count_tests};
 ghost use Rattle.rl_query_text.specs.Testing.{IsEnd, Read, is_word, is_label, label_at, label_comes, one_fewer, comparison_at, quantity_at, named_test, quantity_test_at, compares, is_content, quantity_comes, label_test_at, test_at, is_and, begins, behind_and, behind_or, behind_join, enclosed_at, one_at, joined_at, part_at, inside_at, tests_at};
 
-use rl_query::fault::{QueryError, QueryFault};
+use crate::stop::{Stop, Stopped, place_of};
+use rl_query::fault::QueryFault;
 use rl_query::label_test::{Join, LabelTest, LabelTests};
 use rl_query::matcher_test::MatcherTest;
 use crate::parser::{Position, expected, is_match, is_sign, matcher_at, name_of, next, refusal};
@@ -37,7 +38,7 @@ fn is_taken(word: &str) -> bool
     word == "and" || word == "or" || word == "json" || word == "logfmt"
 }
 
-fn is_label(token: &Token) -> bool
+pub(crate) fn is_label(token: &Token) -> bool
     ensures { result ≡ is_label token.now }
 {
     match token {
@@ -46,7 +47,7 @@ fn is_label(token: &Token) -> bool
     }
 }
 
-fn label_at(lexeme: &Lexeme) -> Result<(), QueryFault>
+fn label_at(lexeme: &Lexeme) -> Result<(), Stop>
     ensures { result ≡ label_at lexeme.now.place lexeme.now.token }
 {
     if is_label(&lexeme.token) {
@@ -56,11 +57,11 @@ fn label_at(lexeme: &Lexeme) -> Result<(), QueryFault>
 }
 
 // One of so many is taken.
-fn one_fewer(most: usize) -> Result<usize, QueryFault>
-    ensures { result ≡ one_fewer most }
+fn one_fewer(place: usize, most: usize) -> Result<usize, Stop>
+    ensures { result ≡ one_fewer place most }
 {
     if most == 0 {
-        return Err(QueryFault::TooDeep);
+        return Err(Stop::new(QueryFault::TooDeep, place));
     }
     Ok(most - 1)
 }
@@ -80,7 +81,7 @@ pub(crate) fn comparison_of(sign: Sign) -> Option<Comparison>
     }
 }
 
-fn comparison_at(lexeme: &Lexeme) -> Result<Comparison, QueryFault>
+fn comparison_at(lexeme: &Lexeme) -> Result<Comparison, Stop>
     ensures { result ≡ comparison_at lexeme.now.place lexeme.now.token }
 {
     match &lexeme.token {
@@ -117,14 +118,12 @@ fn quantity_of(text: &str) -> Option<Quantity>
     Some(Quantity::Size(size))
 }
 
-fn quantity_at(lexeme: &Lexeme) -> Result<Quantity, QueryFault>
+fn quantity_at(lexeme: &Lexeme) -> Result<Quantity, Stop>
     ensures quantity { result ≡ quantity_at lexeme.now.place lexeme.now.token }
     ensures proper { IfOk result (λ quantity. IsTrue (is_quantity quantity)) }
 {
     match &lexeme.token {
-        Token::Number(number) => quantity_of(number.as_str()).ok_or(QueryFault::Syntax(
-            lexeme.place,
-        )),
+        Token::Number(number) => quantity_of(number.as_str()).ok_or(Stop::syntax(lexeme.place)),
         token => Err(refusal(Position::InTest, lexeme.place, token)),
     }
 }
@@ -135,13 +134,13 @@ fn named_test(
     name: &PlainText,
     comparison: Comparison,
     quantity: Quantity,
-) -> Result<QuantityTest, QueryError>
+) -> Result<QuantityTest, Stopped>
     requires free { IsTrue (not (is_taken name.now)) }
     requires proper { IsTrue (is_quantity quantity) }
     ensures { Gives quantity_form result (named_test place (record { name = name.now; comparison = comparison; quantity = quantity })) }
 {
     if !is_label_name(name.as_str()) {
-        return Err(QueryError::Fault(QueryFault::Syntax(place)));
+        return Err(Stopped::Fault(Stop::syntax(place)));
     }
     let name = name.try_copy()?;
     Ok(QuantityTest {
@@ -153,7 +152,7 @@ fn named_test(
 
 // A name, a comparison and a quantity.
 #[tactic(auto, using(crate::proofs::FreeNames::free_word), unfolding(crate::specs::Testing::quantity_test_at))]
-fn quantity_test_at(lexemes: &[Lexeme]) -> Result<(QuantityTest, &[Lexeme]), QueryError>
+fn quantity_test_at(lexemes: &[Lexeme]) -> Result<(QuantityTest, &[Lexeme]), Stopped>
     requires { label_comes lexemes.now ≡ true }
     ensures { Gives (λ x. (quantity_form x.0, x.1.now)) result (quantity_test_at lexemes.now) }
 {
@@ -197,7 +196,7 @@ fn quantity_comes(lexemes: &[Lexeme]) -> bool
 
 // The test of a label's quantity, or of its text.
 #[tactic(auto, unfolding(crate::specs::Testing::label_test_at))]
-fn label_test_at(lexemes: &[Lexeme]) -> Result<(LabelTest, &[Lexeme]), QueryError>
+fn label_test_at(lexemes: &[Lexeme]) -> Result<(LabelTest, &[Lexeme]), Stopped>
     requires { label_comes lexemes.now ≡ true }
     ensures { Gives (λ x. (test_form x.0, x.1.now)) result (label_test_at lexemes.now) }
 {
@@ -217,12 +216,12 @@ fn test_at(
     alloc: Global,
     left: usize,
     lexemes: &[Lexeme],
-) -> Result<(LabelTests, usize, &[Lexeme]), QueryError>
+) -> Result<(LabelTests, usize, &[Lexeme]), Stopped>
     ensures { Gives (λ x. (tests_form x.0, x.1, x.2.now)) result (test_at left lexemes.now) }
 {
     let (first, _) = next(lexemes)?;
     label_at(first)?;
-    let fewer = one_fewer(left)?;
+    let fewer = one_fewer(first.place, left)?;
     let (test, rest) = label_test_at(lexemes)?;
     let tests = LabelTests::one(alloc, test)?;
     Ok((tests, fewer, rest))
@@ -283,10 +282,10 @@ fn enclosed_at(
     depth: usize,
     left: usize,
     lexemes: &[Lexeme],
-) -> Result<(LabelTests, usize, &[Lexeme]), QueryError>
+) -> Result<(LabelTests, usize, &[Lexeme]), Stopped>
     ensures { Gives (λ x. (tests_form x.0, x.1, x.2.now)) result (enclosed_at (inside_at depth) left lexemes.now) }
 {
-    let fewer = one_fewer(depth)?;
+    let fewer = one_fewer(place_of(lexemes), depth)?;
     let (tests, left, rest) = joined_at(alloc, Join::Or, fewer, left, lexemes)?;
     let rest = expected(Sign::CloseParenthesis, Position::Elsewhere, rest)?;
     Ok((tests, left, rest))
@@ -300,7 +299,7 @@ fn one_at(
     depth: usize,
     left: usize,
     lexemes: &[Lexeme],
-) -> Result<(LabelTests, usize, &[Lexeme]), QueryError>
+) -> Result<(LabelTests, usize, &[Lexeme]), Stopped>
     ensures { Gives (λ x. (tests_form x.0, x.1, x.2.now)) result (one_at (inside_at depth) left lexemes.now) }
 {
     let (first, rest) = next(lexemes)?;
@@ -318,7 +317,7 @@ fn part_at(
     depth: usize,
     left: usize,
     lexemes: &[Lexeme],
-) -> Result<(LabelTests, usize, &[Lexeme]), QueryError>
+) -> Result<(LabelTests, usize, &[Lexeme]), Stopped>
     ensures { Gives (λ x. (tests_form x.0, x.1, x.2.now)) result (part_at join (inside_at depth) left lexemes.now) }
 {
     match join {
@@ -335,7 +334,7 @@ fn joined_at(
     depth: usize,
     left: usize,
     lexemes: &[Lexeme],
-) -> Result<(LabelTests, usize, &[Lexeme]), QueryError>
+) -> Result<(LabelTests, usize, &[Lexeme]), Stopped>
     ensures { Gives (λ x. (tests_form x.0, x.1, x.2.now)) result (joined_at join (part_at join (inside_at depth)) left lexemes.now) }
 {
     let (mut tests, mut fewer, mut rest) = part_at(alloc, join, depth, left, lexemes)?;
@@ -358,7 +357,7 @@ pub(crate) fn tests_at(
     depth: usize,
     left: usize,
     lexemes: &[Lexeme],
-) -> Result<(LabelTests, usize, &[Lexeme]), QueryError>
+) -> Result<(LabelTests, usize, &[Lexeme]), Stopped>
     ensures read { Gives (λ x. (tests_form x.0, x.1, x.2.now)) result (tests_at depth left lexemes.now) }
     ensures derives { IfOk result (λ x. AreTests depth (tests_form x.0) lexemes.now x.2.now × (count_tests (tests_form x.0) + x.1 ≡ left)) }
     ensures complete { (read : Read) → AreTests depth read.0 lexemes.now read.2 → IsEnd read.2 → count_tests read.0 + read.1 ≡ left → Gives (λ x. (tests_form x.0, x.1, x.2.now)) result (Ok read) }

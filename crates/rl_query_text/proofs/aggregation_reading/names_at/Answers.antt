@@ -22,4 +22,4 @@ loop-turn-preserved c =
     rw c.in_ok-push.ensures.items (one_more named_at c.loop-turn.names.items (length c.args.lexemes.now) c.loop-turn._turn c.loop-turn.rest.now m c.in_ok-name.behind.now (listed_at named_at (length c.args.lexemes.now) c.args.lexemes.now) c.loop-turn-test.true (c.in_ok-name.ensures ∙ ap (λ (b : Bool). Ok (m, b, c.in_ok-name.behind.now)) c.if-not-more.false) c.loop-turn.invariant)
 
 pub returns : goal.returns
-returns c = none_ends named_at c.loop-turn.names.items (length c.args.lexemes.now) c.loop-turn._turn c.loop-turn.rest.now (listed_at named_at (length c.args.lexemes.now) c.args.lexemes.now) c.loop-turn-test.false c.loop-turn.invariant
+returns c = rw c.syntax.ensures (none_ends named_at c.loop-turn.names.items (length c.args.lexemes.now) c.loop-turn._turn c.loop-turn.rest.now (listed_at named_at (length c.args.lexemes.now) c.args.lexemes.now) c.loop-turn-test.false c.loop-turn.invariant)

@@ -25,4 +25,4 @@ loop-turn-preserved c =
     rw e (one_more element_at (map matcher_form c.loop-turn.matchers.items) (length c.args.lexemes.now) c.loop-turn._turn c.loop-turn.rest.now (matcher_form m) c.in_ok-matcher.behind.now (matchers_at (length c.args.lexemes.now) c.args.lexemes.now) c.loop-turn-test.true (c.in_ok-matcher.ensures ∙ ap (λ (b : Bool). Ok (matcher_form m, b, c.in_ok-matcher.behind.now)) c.if-not-more.false) c.loop-turn.invariant)
 
 pub returns : goal.returns
-returns c = none_ends element_at (map matcher_form c.loop-turn.matchers.items) (length c.args.lexemes.now) c.loop-turn._turn c.loop-turn.rest.now (matchers_at (length c.args.lexemes.now) c.args.lexemes.now) c.loop-turn-test.false c.loop-turn.invariant
+returns c = rw c.syntax.ensures (none_ends element_at (map matcher_form c.loop-turn.matchers.items) (length c.args.lexemes.now) c.loop-turn._turn c.loop-turn.rest.now (matchers_at (length c.args.lexemes.now) c.args.lexemes.now) c.loop-turn-test.false c.loop-turn.invariant)

@@ -1,5 +1,5 @@
 -- What is inside takes a parenthesis.
-use Rattle.std.proofs.Common.{List, Bor, arith}
+use Rattle.std.proofs.Common.{List, Bor, refl, arith}
 use Rattle.std.proofs.lemmas.Result.{err_from_is_err_and}
 use Rattle.rl_query_text.specs.Drafts.{query_draft}
 use Rattle.rl_query.specs.Form.{QueryForm}
@@ -7,7 +7,7 @@ use Rattle.rl_query_text.specs.QueryReading.{query_within}
 use Rattle.rl_query_text.specs.declared.draft.DraftQuery.{DraftQuery}
 use Rattle.rl_query.specs.declared.token.Lexeme.{Lexeme}
 use Rattle.rl_query_text.specs.declared.parser.Position.TheVariants as positions
-use Rattle.rl_query_text.proofs.CrampedQueries.{opened_depth, inside_stops, inner_is, inner_late, operand_then}
+use Rattle.rl_query_text.proofs.Openings.{first_stops, opened_depth, opened_reads}
 use Rattle.rl_query_text.proofs.query_reading.+queries.Goals as goal
 
 -- a draft and the tokens behind it
@@ -22,17 +22,13 @@ inner_at-query_at-requires t c =
 pub inner_at-returns-in_err-query : goal.inner_at-returns-in_err-query
 inner_at-returns-in_err-query t c =
     let p = err_from_is_err_and c.from_residual-in_err-query.result c.from_residual-in_err-query.ensures.1 in
-    rw (p.1, p.2) (inside_stops view positions.Start c.in_err-query.field-0.0 query_within c.args.room c.in_ok-inside.inside c.args.lexemes.now c.in_ok-inside.rest.now c.in_ok-inside.ensures c.in_err-query.ensures)
+    rw (p.1, p.2, opened_reads query_within positions.Start c.args.room c.in_ok-inside.inside c.args.lexemes.now c.in_ok-inside.rest.now c.in_ok-inside.ensures) (first_stops c.in_err-query.field-0.0 _ _ c.in_err-query.ensures)
 
 pub inner_at-returns-in_err-rest : goal.inner_at-returns-in_err-rest
 inner_at-returns-in_err-rest t c =
     let p = err_from_is_err_and c.from_residual-in_err-rest.result c.from_residual-in_err-rest.ensures.1 in
-    rw (p.1, p.2) (inner_late c.args.room c.in_ok-inside.inside c.args.lexemes.now c.in_ok-inside.rest.now (query_draft c.in_ok-query.query) c.in_ok-query.rest.now c.in_err-rest.field-0.0 c.in_ok-inside.ensures c.in_ok-query.ensures c.in_err-rest.ensures)
+    rw (p.1, p.2, opened_reads query_within positions.Start c.args.room c.in_ok-inside.inside c.args.lexemes.now c.in_ok-inside.rest.now c.in_ok-inside.ensures, c.in_ok-query.ensures, c.in_err-rest.ensures) refl
 
 pub inner_at-returns : goal.inner_at-returns
-inner_at-returns t c = inner_is c.args.room c.in_ok-inside.inside c.args.lexemes.now c.in_ok-inside.rest.now (query_draft c.in_ok-query.query) c.in_ok-query.rest.now c.in_ok-rest.rest.now c.in_ok-inside.ensures c.in_ok-query.ensures c.in_ok-rest.ensures
-
-pub query_at-returns-in_err-query : goal.query_at-returns-in_err-query
-query_at-returns-in_err-query t c =
-    let p = err_from_is_err_and c.from_residual-in_err-query.result c.from_residual-in_err-query.ensures.1 in
-    rw (p.1, p.2) (operand_then view c.in_err-query.field-0.0 c.args.room.depth c.args.room c.args.lexemes.now (query_draft c.in_ok-operand.operand) c.in_ok-operand.rest.now c.in_ok-operand.ensures c.in_err-query.ensures)
+inner_at-returns t c =
+    rw (opened_reads query_within positions.Start c.args.room c.in_ok-inside.inside c.args.lexemes.now c.in_ok-inside.rest.now c.in_ok-inside.ensures, c.in_ok-query.ensures, c.in_ok-rest.ensures) refl

@@ -1,16 +1,16 @@
 -- What is read with all the room of a text keeps its limits.
-use Rattle.std.proofs.Common.{List, Bor, Result, Ok, Err, IfOk}
+use Rattle.std.proofs.Common.{subst, suc, List, Bor, Result, Ok, Err, IfOk}
 use Rattle.rl_plain.specs.declared.refusal.OrMemory.{OrMemory}
-use Rattle.rl_query_text.specs.Answering.{Reads}
+use Rattle.rl_plain.specs.Answers.{Gives}
 use Rattle.rl_query_text.specs.Drafts.{query_draft, KeepsQuery}
 use Rattle.rl_query.specs.Form.{QueryForm}
+use Rattle.rl_query_text.specs.declared.room.Room.{Room}
 use Rattle.rl_query_text.specs.declared.draft.DraftQuery.{DraftQuery}
-use Rattle.rl_query.specs.declared.fault.QueryFault.{QueryFault}
+use Rattle.rl_query_text.specs.declared.stop.Stop.{Stop}
 use Rattle.rl_query.specs.declared.token.Lexeme.{Lexeme}
-use Rattle.rl_query_text.specs.QueryReading.{whole_at}
+use Rattle.rl_query_text.specs.QueryReading.{query_within, whole_at}
 use Rattle.rl_query_text.proofs.DraftLimits.{query_keeps}
 use Rattle.rl_query_text.proofs.QueryProductions.{whole_derived}
-use Rattle.rl_query_text.proofs.CrampedQueries.{whole_read}
 use Rattle.rl_query_text.proofs.query_reading.whole_at.Goals as goal
 
 -- a draft and the tokens behind it
@@ -18,9 +18,10 @@ abbrev view : DraftQuery × Bor (List Lexeme) → QueryForm × List Lexeme
 view read = (query_draft read.0, read.1.now)
 
 pub returns-clause-read : goal.returns-clause-read
-returns-clause-read c = whole_read view c.query_at.result c.whole_room.result c.args.lexemes.now c.whole_room.ensures c.query_at.ensures
+unfolding whole_at
+returns-clause-read c = subst (λ (room : Room). Gives view c.query_at.result (query_within (suc room.depth) room c.args.lexemes.now)) c.whole_room.ensures c.query_at.ensures
 
-kept : (r : Result (DraftQuery × Bor (List Lexeme)) (OrMemory QueryFault)) (lexemes : List Lexeme) → Reads view r (λ cramped. whole_at cramped lexemes) → IfOk r (λ x. KeepsQuery x.0)
+kept : (r : Result (DraftQuery × Bor (List Lexeme)) (OrMemory Stop)) (lexemes : List Lexeme) → Gives view r (whole_at lexemes) → IfOk r (λ x. KeepsQuery x.0)
 kept (Ok x) lexemes h = query_keeps x.0 lexemes x.1.now (whole_derived lexemes (query_draft x.0) x.1.now h)
 kept (Err e) lexemes h = tt
 

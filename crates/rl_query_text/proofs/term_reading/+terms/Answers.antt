@@ -1,5 +1,5 @@
 -- What is inside takes a parenthesis.
-use Rattle.std.proofs.Common.{◌≡◌, List, Bor, ◌∙◌, Ok, sym, ap, arith}
+use Rattle.std.proofs.Common.{◌≡◌, List, Bor, ◌∙◌, Ok, refl, sym, ap, arith}
 use Rattle.std.proofs.lemmas.Result.{err_from_is_err_and}
 use Rattle.rl_query_text.specs.Drafts.{term_draft}
 use Rattle.rl_query.specs.Form.{TermForm, aggregation_form}
@@ -8,7 +8,7 @@ use Rattle.rl_query_text.specs.declared.draft.DraftTerm.{DraftTerm}
 use Rattle.rl_query.specs.declared.token.Lexeme.{Lexeme}
 use Rattle.rl_query.specs.declared.token.Token.TheVariants as tokens
 use Rattle.rl_query_text.specs.declared.parser.Position.TheVariants as positions
-use Rattle.rl_query_text.proofs.CrampedQueries.{opened_depth, enclosed_is, inside_stops, front_depth, aggregated_is, aggregated_stops, aggregated_late, worded_then}
+use Rattle.rl_query_text.proofs.Openings.{first_stops, opened_depth, opened_reads, front_depth, front_reads, word_reads}
 use Rattle.rl_query_text.proofs.term_reading.+terms.Goals as goal
 
 -- a draft and the tokens behind it
@@ -23,17 +23,16 @@ aggregated_at-term_in-requires t c =
 pub aggregated_at-returns-in_err-term : goal.aggregated_at-returns-in_err-term
 aggregated_at-returns-in_err-term t c =
     let p = err_from_is_err_and c.from_residual-in_err-term.result c.from_residual-in_err-term.ensures.1 in
-    rw (p.1, p.2) (aggregated_stops view c.in_err-term.field-0.0 c.args.word.now c.args.nest c.args.room c.args.lexemes.now c.in_ok-front.rest.now c.in_ok-front.front c.in_ok-front.ensures.read c.in_err-term.ensures)
+    rw (p.1, p.2, front_reads c.args.word.now c.args.nest c.args.room c.args.lexemes.now c.in_ok-front.rest.now c.in_ok-front.front c.in_ok-front.ensures.read) (first_stops c.in_err-term.field-0.0 _ _ c.in_err-term.ensures)
 
 pub aggregated_at-returns-in_err-aggregation : goal.aggregated_at-returns-in_err-aggregation
 aggregated_at-returns-in_err-aggregation t c =
     let p = err_from_is_err_and c.from_residual-in_err-aggregation.result c.from_residual-in_err-aggregation.ensures.1 in
-    rw (p.1, p.2) (aggregated_late view c.in_err-aggregation.field-0.0 c.args.word.now c.args.nest c.args.room c.args.lexemes.now c.in_ok-front.rest.now c.in_ok-front.front (term_draft c.in_ok-term.term) c.in_ok-term.rest.now c.in_ok-front.ensures.read c.in_ok-term.ensures c.in_err-aggregation.ensures)
+    rw (p.1, p.2, front_reads c.args.word.now c.args.nest c.args.room c.args.lexemes.now c.in_ok-front.rest.now c.in_ok-front.front c.in_ok-front.ensures.read, c.in_ok-term.ensures) (first_stops c.in_err-aggregation.field-0.0 _ _ c.in_err-aggregation.ensures)
 
 pub aggregated_at-returns : goal.aggregated_at-returns
 aggregated_at-returns t c =
-    aggregated_is c.args.word.now c.args.nest c.args.room c.args.lexemes.now c.in_ok-front.rest.now c.in_ok-front.front (term_draft c.in_ok-term.term) c.in_ok-term.rest.now (aggregation_form c.in_ok-aggregation.aggregation) c.in_ok-aggregation.rest.now c.in_ok-front.ensures.read c.in_ok-term.ensures c.in_ok-aggregation.ensures
-    ∙ ap (λ term. Ok (term, c.in_ok-aggregation.rest.now)) (sym c.in_ok-term-2.ensures)
+    rw (front_reads c.args.word.now c.args.nest c.args.room c.args.lexemes.now c.in_ok-front.rest.now c.in_ok-front.front c.in_ok-front.ensures.read, c.in_ok-term.ensures, c.in_ok-aggregation.ensures) (ap (λ term. Ok (term, c.in_ok-aggregation.rest.now)) (sym c.in_ok-term-2.ensures))
 
 pub enclosed_at-term_in-requires : goal.enclosed_at-term_in-requires
 enclosed_at-term_in-requires t c =
@@ -43,13 +42,19 @@ enclosed_at-term_in-requires t c =
 pub enclosed_at-returns-in_err-term : goal.enclosed_at-returns-in_err-term
 enclosed_at-returns-in_err-term t c =
     let p = err_from_is_err_and c.from_residual-in_err-term.result c.from_residual-in_err-term.ensures.1 in
-    rw (p.1, p.2) (inside_stops view positions.InTerm c.in_err-term.field-0.0 (λ cramped turns. term_in cramped turns positions.InTerm c.args.nest) c.args.room c.in_ok-inside.inside c.args.lexemes.now c.in_ok-inside.rest.now c.in_ok-inside.ensures c.in_err-term.ensures)
+    rw (p.1, p.2, opened_reads (λ turns. term_in turns positions.InTerm c.args.nest) positions.InTerm c.args.room c.in_ok-inside.inside c.args.lexemes.now c.in_ok-inside.rest.now c.in_ok-inside.ensures) (first_stops c.in_err-term.field-0.0 _ _ c.in_err-term.ensures)
+
+pub enclosed_at-returns-in_err-rest : goal.enclosed_at-returns-in_err-rest
+enclosed_at-returns-in_err-rest t c =
+    let p = err_from_is_err_and c.from_residual-in_err-rest.result c.from_residual-in_err-rest.ensures.1 in
+    rw (p.1, p.2, opened_reads (λ turns. term_in turns positions.InTerm c.args.nest) positions.InTerm c.args.room c.in_ok-inside.inside c.args.lexemes.now c.in_ok-inside.rest.now c.in_ok-inside.ensures, c.in_ok-term.ensures, c.in_err-rest.ensures) refl
 
 pub enclosed_at-returns : goal.enclosed_at-returns
-enclosed_at-returns t c = enclosed_is c.args.nest c.args.room c.in_ok-inside.inside c.args.lexemes.now c.in_ok-inside.rest.now (term_draft c.in_ok-term.term) c.in_ok-term.rest.now c.in_ok-rest.rest.now c.in_ok-inside.ensures c.in_ok-term.ensures c.in_ok-rest.ensures
+enclosed_at-returns t c =
+    rw (opened_reads (λ turns. term_in turns positions.InTerm c.args.nest) positions.InTerm c.args.room c.in_ok-inside.inside c.args.lexemes.now c.in_ok-inside.rest.now c.in_ok-inside.ensures, c.in_ok-term.ensures, c.in_ok-rest.ensures) refl
 
 pub term_in-returns-in-Word : goal.term_in-returns-in-Word
 term_in-returns-in-Word t c =
     let word = c.as_str.result.now in
     let token : c.in_ok-first.first.now.token ≡ tokens.Word word = c.in-Word.is ∙ ap tokens.Word (sym c.as_str.ensures) in
-    worded_then view c.worded_at.result c.args.position c.args.nest c.args.room c.args.lexemes.now c.in_ok-first.rest.now c.in_ok-first.first.now word c.in_ok-first.ensures token c.worded_at.ensures
+    rw (sym (word_reads c.args.position c.args.nest c.args.room c.args.lexemes.now c.in_ok-first.rest.now c.in_ok-first.first.now word c.in_ok-first.ensures token)) c.worded_at.ensures

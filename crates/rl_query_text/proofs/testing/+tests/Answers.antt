@@ -40,7 +40,7 @@ joined_at-returns t c =
 pub enclosed_at-returns-in_err-rest : goal.enclosed_at-returns-in_err-rest
 enclosed_at-returns-in_err-rest t c =
     let p = err_from_is_err_and c.from_residual-in_err-rest.result c.from_residual-in_err-rest.ensures.1 in
-    rw (p.1, p.2) (not_closed c.in_err-rest.field-0.0 c.args.depth c.in_ok-fewer.fewer c.args.left c.args.lexemes.now (tests_form c.in_ok-tests.tests) c.in_ok-tests.left c.in_ok-tests.rest.now c.in_ok-fewer.ensures c.in_ok-tests.ensures c.in_err-rest.ensures)
+    rw (p.1, p.2) (not_closed c.in_err-rest.field-0.0 c.place_of.result c.args.depth c.in_ok-fewer.fewer c.args.left c.args.lexemes.now (tests_form c.in_ok-tests.tests) c.in_ok-tests.left c.in_ok-tests.rest.now c.in_ok-fewer.ensures c.in_ok-tests.ensures c.in_err-rest.ensures)
 
 pub enclosed_at-returns : goal.enclosed_at-returns
-enclosed_at-returns t c = closed_read c.args.depth c.in_ok-fewer.fewer c.args.left c.args.lexemes.now (tests_form c.in_ok-tests.tests) c.in_ok-tests.left c.in_ok-tests.rest.now c.in_ok-rest.rest.now c.in_ok-fewer.ensures c.in_ok-tests.ensures c.in_ok-rest.ensures
+enclosed_at-returns t c = closed_read c.place_of.result c.args.depth c.in_ok-fewer.fewer c.args.left c.args.lexemes.now (tests_form c.in_ok-tests.tests) c.in_ok-tests.left c.in_ok-tests.rest.now c.in_ok-rest.rest.now c.in_ok-fewer.ensures c.in_ok-tests.ensures c.in_ok-rest.ensures

@@ -1,0 +1,75 @@
+-- What is inside takes a parenthesis, and reads as what it is inside of reads it.
+use Rattle.std.proofs.Common.{◌≡◌, ℕ, zero, suc, List, Result, Ok, Err, refl, sym, ap, ◌∙◌}
+use Rattle.rl_plain.specs.Answers.{◌>>=◌, Gives, Fails}
+use Rattle.rl_plain.specs.declared.refusal.OrMemory.{OrMemory}
+use Rattle.rl_plain.specs.declared.refusal.OrMemory.TheVariants as errors
+use Rattle.rl_query.specs.declared.token.Lexeme.{Lexeme}
+use Rattle.rl_query.specs.declared.token.Sign.TheVariants as signs
+use Rattle.rl_query.specs.declared.token.Token.TheVariants as tokens
+use Rattle.rl_query.specs.Form.{TermForm}
+use Rattle.rl_query_text.specs.declared.aggregation_reading.Front.{Front}
+use Rattle.rl_query_text.specs.declared.parser.Position.{Position}
+use Rattle.rl_query_text.specs.declared.parser.Position.TheVariants as positions
+use Rattle.rl_query_text.specs.declared.room.Room.{Room}
+use Rattle.rl_query_text.specs.declared.stop.Stop.{Stop}
+use Rattle.rl_query_text.specs.AggregationReading.{nested, grouping_at, operator_at, behind_operator, front_at, ended_at}
+use Rattle.rl_query_text.specs.Fronts.{next, expected}
+use Rattle.rl_query_text.specs.Parsing.{deeper, opened_at}
+use Rattle.rl_query_text.specs.QueryReading.{Reader, TermReader, in_parentheses, around, aggregated_at, worded_at, begun_at, term_by, term_in}
+use Rattle.rl_query_text.specs.Stops.{place_of}
+use Rattle.rl_query_text.proofs.Productions.{bind_ok, no_err, same_ok}
+
+-- what stops the first stops what follows it too
+pub first_stops : {A B : Type 0} (e : OrMemory Stop) (first : Result A Stop) (behind : A → Result B Stop) → Fails e first → Fails e (first >>= behind)
+first_stops errors.Memory first behind h = tt
+first_stops (errors.Fault stop) first behind h = ap (λ r. r >>= behind) h
+
+-- one parenthesis more takes one of the depth
+pub opened_depth : (position : Position) (room inside : Room) (lexemes behind : List Lexeme) → opened_at position room lexemes ≡ Ok (inside, behind) → room.depth ≡ suc inside.depth
+unfolding opened_at
+opened_depth position room inside lexemes behind h =
+    let a = bind_ok (expected signs.OpenParenthesis position lexemes) _ (inside, behind) h in
+    let b = bind_ok (deeper (place_of lexemes) room.depth room) _ (inside, behind) a.2 in
+    by_depth room.depth b.0 b.1 ∙ ap (λ (found : Room × List Lexeme). suc found.0.depth) (same_ok _ _ b.2)
+  where
+    by_depth : (depth : ℕ) (opened : Room) → deeper (place_of lexemes) depth room ≡ Ok opened → depth ≡ suc opened.depth
+    by_depth zero opened h = absurd (no_err _ opened h)
+    by_depth (suc depth) opened h = ap (λ (r : Room). suc r.depth) (same_ok _ _ h)
+
+-- a vector aggregation takes a parenthesis
+pub front_depth : (word : List ℕ) (nest : ℕ) (room : Room) (lexemes : List Lexeme) (front : Front) (opened : List Lexeme) → front_at word nest room lexemes ≡ Ok (front, opened) → room.depth ≡ suc front.room.depth
+unfolding front_at
+front_depth word nest room lexemes front opened h =
+    let a = bind_ok (nested (place_of lexemes) nest) _ (front, opened) h in
+    let b = bind_ok (grouping_at room lexemes) _ (front, opened) a.2 in
+    let c = bind_ok (opened_at (behind_operator b.0.0) room b.0.1) _ (front, opened) b.2 in
+    let d = bind_ok (operator_at word c.0.1) _ (front, opened) c.2 in
+    opened_depth (behind_operator b.0.0) room c.0.0 b.0.1 c.0.1 c.1 ∙ ap (λ (found : Front × List Lexeme). suc found.0.room.depth) (same_ok _ _ d.2)
+
+-- what stands in parentheses, behind the first
+pub opened_reads : {A : Type 0} (reader : ℕ → Reader A) (position : Position) (room inside : Room) (lexemes opened : List Lexeme) → opened_at position room lexemes ≡ Ok (inside, opened)
+    → in_parentheses position (reader room.depth) room lexemes ≡ (reader (suc inside.depth) inside opened >>= λ read. expected signs.CloseParenthesis positions.BehindTerm read.1 >>= λ closed. Ok (read.0, closed))
+unfolding in_parentheses
+opened_reads reader position room inside lexemes opened parenthesis =
+    let depth = opened_depth position room inside lexemes opened parenthesis in
+    rw (parenthesis, depth) refl
+
+-- a vector aggregation, behind what stands before its term
+pub aggregated_by : (inside : TermReader) (word : List ℕ) (nest : ℕ) (room : Room) (lexemes opened : List Lexeme) (front : Front) → front_at word nest room lexemes ≡ Ok (front, opened)
+    → aggregated_at inside word nest room lexemes ≡ (inside positions.InTerm front.nest front.room opened >>= λ term. ended_at front room term.1 >>= λ closed. Ok (around closed.0 term.0, closed.1))
+unfolding aggregated_at
+aggregated_by inside word nest room lexemes opened front before = rw before refl
+
+-- the same of what takes a parenthesis
+pub front_reads : (word : List ℕ) (nest : ℕ) (room : Room) (lexemes opened : List Lexeme) (front : Front) → front_at word nest room lexemes ≡ Ok (front, opened)
+    → aggregated_at (term_in room.depth) word nest room lexemes ≡ (term_in (suc front.room.depth) positions.InTerm front.nest front.room opened >>= λ term. ended_at front room term.1 >>= λ closed. Ok (around closed.0 term.0, closed.1))
+front_reads word nest room lexemes opened front before =
+    aggregated_by (term_in room.depth) word nest room lexemes opened front before
+    ∙ ap (λ n. term_in n positions.InTerm front.nest front.room opened >>= λ term. ended_at front room term.1 >>= λ closed. Ok (around closed.0 term.0, closed.1)) (front_depth word nest room lexemes front opened before)
+
+-- a term that begins with a word
+pub word_reads : (position : Position) (nest : ℕ) (room : Room) (lexemes behind : List Lexeme) (first : Lexeme) (word : List ℕ) → next lexemes ≡ Ok (first, behind) → first.token ≡ tokens.Word word
+    → worded_at (term_in room.depth) position first.place word nest room behind ≡ term_in (suc room.depth) position nest room lexemes
+unfolding term_by
+word_reads position nest room lexemes behind first word is token =
+    sym (ap (λ r. r >>= λ found. begun_at (term_in room.depth) position found.0.place found.0.token nest room lexemes found.1) is ∙ ap (λ t. begun_at (term_in room.depth) position first.place t nest room lexemes behind) token)
