@@ -19,7 +19,7 @@ use Rattle.rl_query.specs.declared.token.Sign.TheVariants as signs
 use Rattle.rl_query.specs.declared.token.Token.{Token}
 use Rattle.rl_query.specs.declared.token.Token.TheVariants as tokens
 use Rattle.rl_query.specs.Aggregations.{is_grouping, top_of}
-use Rattle.rl_query_text.specs.AggregationReading.{label_name, name_follows, named_at, names_in, grouped_at, grouping_at, top_at, topk_at, operator_at, is_operator_word, nested, behind_operator, front_at, back_at, ended_at}
+use Rattle.rl_query_text.specs.AggregationReading.{label_name, name_follows, named_at, names_in, grouped_at, groups_loudly, grouping_at, top_at, topk_at, operator_at, is_operator_word, nested, front_at, back_at, ended_at}
 use Rattle.rl_query.specs.Form.{AggregationForm}
 use Rattle.rl_query_text.specs.Fronts.{is_sign, next, expected, name_of}
 use Rattle.rl_query_text.specs.Parsing.{listed_at, opened_at}
@@ -84,7 +84,8 @@ grouping_named room lexemes grouping rest h =
     (λ other. ⊎_elim
     (λ without. let b = bind_ok (grouped_at room a.0.1) _ (grouping, rest) without.1 in
     subst (λ (p : Grouping × List Lexeme). is_grouping p.0 ≡ true) (same_ok _ _ b.2) (grouped_proper room a.0.1 b.0.0 b.0.1 b.1))
-    (λ none. subst (λ (p : Grouping × List Lexeme). is_grouping p.0 ≡ true) (same_ok _ _ none.1) refl)
+    (λ none. let quiet = chosen (groups_loudly a.0.0.token) _ _ (Ok (grouping, rest)) none.1 in
+    subst (λ (p : Grouping × List Lexeme). is_grouping p.0 ≡ true) (same_ok _ _ (⊎_elim (λ loud. absurd (no_err _ _ loud.1)) (λ all. all.1) quiet)) refl)
     (chosen (is_word (codes "without") a.0.0.token) _ _ (Ok (grouping, rest)) other.1))
     (chosen (is_word (codes "by") a.0.0.token) _ _ (Ok (grouping, rest)) a.2)
 
@@ -170,7 +171,8 @@ grouping_stands room lexemes grouping rest h =
     (λ other. ⊎_elim
     (λ without. let b = bind_ok (grouped_at room a.0.1) _ (grouping, rest) without.1 in
     subst (λ (p : Grouping × List Lexeme). Stand (grouping_tokens p.0) lexemes p.1) (same_ok _ _ b.2) (grouped_read room (codes "without") lexemes a.0.1 b.0.0 b.0.1 (one_read (tokens.Word (codes "without")) lexemes a.0.1 a.0.0 a.1 (only_word (codes "without") a.0.0.token without.0)) b.1))
-    (λ none. subst (λ (p : Grouping × List Lexeme). Stand (grouping_tokens p.0) lexemes p.1) (same_ok _ _ none.1) refl)
+    (λ none. let quiet = chosen (groups_loudly a.0.0.token) _ _ (Ok (grouping, rest)) none.1 in
+    subst (λ (p : Grouping × List Lexeme). Stand (grouping_tokens p.0) lexemes p.1) (same_ok _ _ (⊎_elim (λ loud. absurd (no_err _ _ loud.1)) (λ all. all.1) quiet)) refl)
     (chosen (is_word (codes "without") a.0.0.token) _ _ (Ok (grouping, rest)) other.1))
     (chosen (is_word (codes "by") a.0.0.token) _ _ (Ok (grouping, rest)) a.2)
 
@@ -246,7 +248,7 @@ unfolding front_at
 front_read word nest room front lexemes rest is h =
     let a = bind_ok (nested (place_of lexemes) nest) _ (front, rest) h in
     let b = bind_ok (grouping_at room lexemes) _ (front, rest) a.2 in
-    let c = bind_ok (opened_at (behind_operator b.0.0) room b.0.1) _ (front, rest) b.2 in
+    let c = bind_ok (opened_at positions.Elsewhere room b.0.1) _ (front, rest) b.2 in
     let d = bind_ok (operator_at word c.0.1) _ (front, rest) c.2 in
     let operator = operator_read word c.0.1 d.0.0 d.0.1 is d.1 in
     let whole : IsFront word nest room (record { operator = d.0.0; grouping = b.0.0; nest = a.0; room = c.0.0 }) lexemes d.0.1 = record {
@@ -254,7 +256,7 @@ front_read word nest room front lexemes rest is h =
       behind_parenthesis = c.0.1;
       fewer = nested_read (place_of lexemes) nest a.0 a.1;
       grouped = grouping_read room lexemes b.0.0 b.0.1 b.1;
-      opened = opened_read (behind_operator b.0.0) room c.0.0 b.0.1 c.0.1 c.1;
+      opened = opened_read positions.Elsewhere room c.0.0 b.0.1 c.0.1 c.1;
       word_is = operator.0;
       parameter = operator.1;
     } in

@@ -14,7 +14,7 @@ use Rattle.rl_query.specs.declared.token.Lexeme.{Lexeme}
 use Rattle.rl_query.specs.declared.token.Sign.TheVariants as signs
 use Rattle.rl_query.specs.declared.token.Token.{Token}
 use Rattle.rl_query.specs.declared.token.Token.TheVariants as tokens
-use Rattle.rl_query_text.specs.AggregationReading.{named_at, names_in, grouped_at, grouping_at, topk_at, operator_at, is_operator_word, behind_operator, front_at, back_at, ended_at}
+use Rattle.rl_query_text.specs.AggregationReading.{named_at, names_in, grouped_at, groups_loudly, grouping_at, topk_at, operator_at, is_operator_word, front_at, back_at, ended_at}
 use Rattle.rl_query.specs.Form.{AggregationForm}
 use Rattle.rl_query_text.specs.Fronts.{next}
 use Rattle.rl_query_text.specs.Parsing.{listed_at}
@@ -32,9 +32,10 @@ pub record EndsTerm (lexemes : List Lexeme) : Type 0 where
   pub is : next lexemes ≡ Ok (first, behind)
   pub no_by : is_word (codes "by") first.token ≡ false
   pub no_without : is_word (codes "without") first.token ≡ false
+  pub no_loud : groups_loudly first.token ≡ false
 
-pub ends_term_at : (token : Token) (others : List Token) (lexemes rest : List Lexeme) → Stand (token ∷ others) lexemes rest → is_word (codes "by") token ≡ false → is_word (codes "without") token ≡ false → EndsTerm lexemes
-ends_term_at token others lexemes rest stand no_by no_without = let n = next_is token others lexemes rest stand in record { first = record { token = token; place = n.place }; behind = n.behind; is = n.is; no_by = no_by; no_without = no_without }
+pub ends_term_at : (token : Token) (others : List Token) (lexemes rest : List Lexeme) → Stand (token ∷ others) lexemes rest → is_word (codes "by") token ≡ false → is_word (codes "without") token ≡ false → groups_loudly token ≡ false → EndsTerm lexemes
+ends_term_at token others lexemes rest stand no_by no_without no_loud = let n = next_is token others lexemes rest stand in record { first = record { token = token; place = n.place }; behind = n.behind; is = n.is; no_by = no_by; no_without = no_without; no_loud = no_loud }
 
 abbrev follows : Bool → Token
 follows more = tokens.Sign (cond more signs.Comma signs.CloseParenthesis)
@@ -87,7 +88,7 @@ grouped_is room depth names lexemes rest deep stand proper = let a = opened_is p
 
 pub grouping_is : (room : Room) (depth : ℕ) (grouping : Grouping) (lexemes rest : List Lexeme) → room.depth ≡ suc depth → IsGrouping grouping lexemes rest → EndsTerm rest → grouping_at room lexemes ≡ Ok (grouping, rest)
 unfolding grouping_at
-grouping_is room depth groupings.All lexemes rest deep is ends = rw (is.0, ends.is, ends.no_by, ends.no_without) refl
+grouping_is room depth groupings.All lexemes rest deep is ends = rw (is.0, ends.is, ends.no_by, ends.no_without, ends.no_loud) refl
 grouping_is room depth (groupings.By names) lexemes rest deep is ends =
     let a = next_is (tokens.Word (codes "by")) (tokens.Sign signs.OpenParenthesis ∷ names_tokens names) lexemes rest is.0 in
     rw (a.is, grouped_is room depth names a.behind rest deep a.more is.1) refl
@@ -124,8 +125,8 @@ pub front_is : (operator : VectorOperator) (grouping : Grouping) (fewer : ℕ) (
     → IsParameter operator behind_parenthesis rest → front_at (operator_word operator) (suc fewer) room lexemes ≡ Ok (front_of operator grouping fewer (inside_room room depth), rest)
 unfolding front_at
 front_is operator grouping fewer room depth lexemes behind_grouping behind_parenthesis rest deep grouped opened parameter =
-    let ends = ends_term_at (tokens.Sign signs.OpenParenthesis) [] behind_grouping behind_parenthesis opened refl refl in
-    let a = opened_is (behind_operator grouping) room depth [] behind_grouping behind_parenthesis deep opened in
+    let ends = ends_term_at (tokens.Sign signs.OpenParenthesis) [] behind_grouping behind_parenthesis opened refl refl refl in
+    let a = opened_is positions.Elsewhere room depth [] behind_grouping behind_parenthesis deep opened in
     let read = operator_is operator a.0 rest (subst (λ ls. IsParameter operator ls rest) (sym a.2) parameter) in
     rw (grouping_is room depth grouping lexemes behind_grouping deep grouped ends, a.1, read) refl
 

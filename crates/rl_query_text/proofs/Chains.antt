@@ -67,12 +67,12 @@ deeper : (place depth fewer : ℕ) → Ok fewer ≡ one_fewer place depth → de
 deeper place zero fewer h = cc
 deeper place (suc depth) fewer h = cc
 
-pub closed_read : (place depth fewer left : ℕ) (lexemes : List Lexeme) (tests : TestTree TestForm) (still : ℕ) (behind closed : List Lexeme) → Ok fewer ≡ one_fewer place depth → tests_in (inside_at fewer) left lexemes ≡ Ok (tests, still, behind) → expected signs.CloseParenthesis positions.Elsewhere behind ≡ Ok closed
+pub closed_read : (place depth fewer left : ℕ) (lexemes : List Lexeme) (tests : TestTree TestForm) (still : ℕ) (behind closed : List Lexeme) → Ok fewer ≡ one_fewer place depth → tests_in (inside_at fewer) left lexemes ≡ Ok (tests, still, behind) → expected signs.CloseParenthesis positions.BehindInnerTests behind ≡ Ok closed
     → enclosed_at (inside_at depth) left lexemes ≡ Ok (tests, still, closed)
 unfolding enclosed_at
 closed_read place depth fewer left lexemes tests still behind closed d h e = rw (deeper place depth fewer d, h, e) refl
 
-pub not_closed : (f : Stop) (place depth fewer left : ℕ) (lexemes : List Lexeme) (tests : TestTree TestForm) (still : ℕ) (behind : List Lexeme) → Ok fewer ≡ one_fewer place depth → tests_in (inside_at fewer) left lexemes ≡ Ok (tests, still, behind) → expected signs.CloseParenthesis positions.Elsewhere behind ≡ Err f
+pub not_closed : (f : Stop) (place depth fewer left : ℕ) (lexemes : List Lexeme) (tests : TestTree TestForm) (still : ℕ) (behind : List Lexeme) → Ok fewer ≡ one_fewer place depth → tests_in (inside_at fewer) left lexemes ≡ Ok (tests, still, behind) → expected signs.CloseParenthesis positions.BehindInnerTests behind ≡ Err f
     → enclosed_at (inside_at depth) left lexemes ≡ Err f
 unfolding enclosed_at
 not_closed f place depth fewer left lexemes tests still behind d h e = rw (deeper place depth fewer d, h, e) refl

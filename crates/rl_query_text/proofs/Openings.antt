@@ -12,7 +12,7 @@ use Rattle.rl_query_text.specs.declared.parser.Position.{Position}
 use Rattle.rl_query_text.specs.declared.parser.Position.TheVariants as positions
 use Rattle.rl_query_text.specs.declared.room.Room.{Room}
 use Rattle.rl_query_text.specs.declared.stop.Stop.{Stop}
-use Rattle.rl_query_text.specs.AggregationReading.{nested, grouping_at, operator_at, behind_operator, front_at, ended_at}
+use Rattle.rl_query_text.specs.AggregationReading.{nested, grouping_at, operator_at, front_at, ended_at}
 use Rattle.rl_query_text.specs.Fronts.{next, expected}
 use Rattle.rl_query_text.specs.Parsing.{deeper, opened_at}
 use Rattle.rl_query_text.specs.QueryReading.{Reader, TermReader, in_parentheses, around, aggregated_at, worded_at, begun_at, term_by, term_in}
@@ -42,9 +42,9 @@ unfolding front_at
 front_depth word nest room lexemes front opened h =
     let a = bind_ok (nested (place_of lexemes) nest) _ (front, opened) h in
     let b = bind_ok (grouping_at room lexemes) _ (front, opened) a.2 in
-    let c = bind_ok (opened_at (behind_operator b.0.0) room b.0.1) _ (front, opened) b.2 in
+    let c = bind_ok (opened_at positions.Elsewhere room b.0.1) _ (front, opened) b.2 in
     let d = bind_ok (operator_at word c.0.1) _ (front, opened) c.2 in
-    opened_depth (behind_operator b.0.0) room c.0.0 b.0.1 c.0.1 c.1 ∙ ap (λ (found : Front × List Lexeme). suc found.0.room.depth) (same_ok _ _ d.2)
+    opened_depth positions.Elsewhere room c.0.0 b.0.1 c.0.1 c.1 ∙ ap (λ (found : Front × List Lexeme). suc found.0.room.depth) (same_ok _ _ d.2)
 
 -- what stands in parentheses, behind the first
 pub opened_reads : {A : Type 0} (reader : ℕ → Reader A) (position : Position) (room inside : Room) (lexemes opened : List Lexeme) → opened_at position room lexemes ≡ Ok (inside, opened)

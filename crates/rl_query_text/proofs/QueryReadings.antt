@@ -23,6 +23,7 @@ use Rattle.rl_query_text.specs.Standing.{Stand}
 use Rattle.rl_query.specs.Tables.{comparison_sign, function_text, operator_word}
 use Rattle.rl_query_text.specs.TermGrammar.{InParentheses, IsBare, IsTerm, IsOperand, IsQuotient, IsThreshold, IsQuery, Derives}
 use Rattle.rl_query_text.specs.Testing.{is_word}
+use Rattle.rl_query_text.specs.AggregationReading.{groups_loudly}
 use Rattle.rl_query_text.proofs.AggregationReadings.{EndsTerm, ends_term_at}
 use Rattle.rl_query_text.proofs.Parentheses.{inside_room, parentheses_are}
 use Rattle.rl_query_text.proofs.Productions.{next_is}
@@ -38,6 +39,7 @@ record EndsQuotient (lexemes : List Lexeme) : Type 0 where
   pub is : next lexemes ≡ Ok (first, behind)
   pub no_by : is_word (codes "by") first.token ≡ false
   pub no_without : is_word (codes "without") first.token ≡ false
+  pub no_loud : groups_loudly first.token ≡ false
   pub no_slash : is_sign signs.Slash first.token ≡ false
 
 -- and no threshold
@@ -45,19 +47,19 @@ record EndsQuery (lexemes : List Lexeme) : Type 0 where
   pub quotient : EndsQuotient lexemes
   pub no_test : compared_by quotient.first.token ≡ None
 
-ends_quotient_at : (token : Token) (others : List Token) (lexemes rest : List Lexeme) → Stand (token ∷ others) lexemes rest → is_word (codes "by") token ≡ false → is_word (codes "without") token ≡ false → is_sign signs.Slash token ≡ false → EndsQuotient lexemes
-ends_quotient_at token others lexemes rest stand no_by no_without no_slash = let n = next_is token others lexemes rest stand in record { first = record { token = token; place = n.place }; behind = n.behind; is = n.is; no_by = no_by; no_without = no_without; no_slash = no_slash }
+ends_quotient_at : (token : Token) (others : List Token) (lexemes rest : List Lexeme) → Stand (token ∷ others) lexemes rest → is_word (codes "by") token ≡ false → is_word (codes "without") token ≡ false → groups_loudly token ≡ false → is_sign signs.Slash token ≡ false → EndsQuotient lexemes
+ends_quotient_at token others lexemes rest stand no_by no_without no_loud no_slash = let n = next_is token others lexemes rest stand in record { first = record { token = token; place = n.place }; behind = n.behind; is = n.is; no_by = no_by; no_without = no_without; no_loud = no_loud; no_slash = no_slash }
 
 closed_ends : (lexemes rest : List Lexeme) → Stand (tokens.Sign signs.CloseParenthesis ∷ []) lexemes rest → EndsQuery lexemes
 unfolding ends_quotient_at
-closed_ends lexemes rest stand = record { quotient = ends_quotient_at (tokens.Sign signs.CloseParenthesis) [] lexemes rest stand refl refl refl; no_test = refl }
+closed_ends lexemes rest stand = record { quotient = ends_quotient_at (tokens.Sign signs.CloseParenthesis) [] lexemes rest stand refl refl refl refl; no_test = refl }
 
 text_ends : (lexemes rest : List Lexeme) → Stand (tokens.End ∷ []) lexemes rest → EndsQuery lexemes
 unfolding ends_quotient_at
-text_ends lexemes rest stand = record { quotient = ends_quotient_at tokens.End [] lexemes rest stand refl refl refl; no_test = refl }
+text_ends lexemes rest stand = record { quotient = ends_quotient_at tokens.End [] lexemes rest stand refl refl refl refl; no_test = refl }
 
 ends_term : (lexemes : List Lexeme) → EndsQuotient lexemes → EndsTerm lexemes
-ends_term lexemes ends = record { first = ends.first; behind = ends.behind; is = ends.is; no_by = ends.no_by; no_without = ends.no_without }
+ends_term lexemes ends = record { first = ends.first; behind = ends.behind; is = ends.is; no_by = ends.no_by; no_without = ends.no_without; no_loud = ends.no_loud }
 
 no_slash : (comparison : Comparison) → is_sign signs.Slash (tokens.Sign (comparison_sign comparison)) ≡ false
 no_slash comparisons.Equal = refl
@@ -77,7 +79,7 @@ compared_is comparisons.LessOrEqual = refl
 
 threshold_ends : (test : Option ThresholdForm) (middle rest : List Lexeme) → IsThreshold test middle rest → EndsQuery rest → EndsQuotient middle
 threshold_ends None middle rest is ends = subst EndsQuotient (sym is) ends.quotient
-threshold_ends (Some test) middle rest is ends = ends_quotient_at (tokens.Sign (comparison_sign test.comparison)) (tokens.Number is.0 ∷ []) middle rest is.1 refl refl (no_slash test.comparison)
+threshold_ends (Some test) middle rest is ends = ends_quotient_at (tokens.Sign (comparison_sign test.comparison)) (tokens.Number is.0 ∷ []) middle rest is.1 refl refl refl (no_slash test.comparison)
 
 -- What is read behind an operand.
 
@@ -204,7 +206,7 @@ tested_complete depth inside complete room lexemes left None test middle rest de
     by_operand inside room lexemes (alone left) middle (parts_of_query left None test) rest read (behind_is (alone left) room middle left None test middle rest (undivided (alone left) room middle stops) threshold ends)
 tested_complete depth inside complete room lexemes left (Some over) test middle rest deep (inl divided) threshold fits ends =
     let stops = threshold_ends test middle rest threshold ends in
-    let slash = ends_term_at (tokens.Sign signs.Slash) [] divided.middle divided.behind divided.slash refl refl in
+    let slash = ends_term_at (tokens.Sign signs.Slash) [] divided.middle divided.behind divided.slash refl refl refl in
     let read = operand_complete depth inside complete room lexemes left None divided.middle deep divided.dividend (dividend_fits room left over test fits) slash in
     let divisor : IsTerm room.depth over divided.behind middle = subst (λ n. IsTerm n over divided.behind middle) (sym deep) (quotient_term (suc depth) over divided.behind middle divided.divisor) in
     let quotient = divided_is left over room divided.middle divided.behind middle divided.slash divisor (divisor_fits room left over test fits) (ends_term middle stops) in

@@ -62,7 +62,7 @@ closed_behind : (room : Room) (stages : List StageForm) (lexemes behind rest : L
 unfolding closed_at
 closed_behind room stages lexemes behind rest are closed =
     let a = expected_is signs.CloseParenthesis [] (behind_stages positions.BehindRange stages) behind rest closed in
-    rw (stages_are_read room stages lexemes behind are (ends_at (tokens.Sign signs.CloseParenthesis) [] behind rest closed refl refl refl refl), a.1) (ap (λ r. Ok (stages, r)) a.2)
+    rw (stages_are_read room stages lexemes behind are (ends_at (tokens.Sign signs.CloseParenthesis) [] behind rest closed refl refl (λ _. refl) refl), a.1) (ap (λ r. Ok (stages, r)) a.2)
 
 no_stages : (room : Room) (lexemes : List Lexeme) → AreRoomy room [] lexemes lexemes
 no_stages room lexemes = record { are = record { chained = refl; one_parser = omega arith }; few = omega arith; few_tests = omega arith }
@@ -108,7 +108,7 @@ closing_read room lexemes stages seconds rest h =
         subst (λ (p : List StageForm × List Lexeme). IsClosing room p.0 n lexemes p.1) (same_ok _ _ a.2) whole
 
 bracket_stops : (n : ℕ) (ls end : List Lexeme) → IsDuration n ls end → Ends ls
-bracket_stops n ls end duration = ends_at (tokens.Sign signs.OpenBracket) (tokens.Number duration.duration ∷ tokens.Sign signs.CloseBracket ∷ []) ls end duration.stand refl refl refl refl
+bracket_stops n ls end duration = ends_at (tokens.Sign signs.OpenBracket) (tokens.Number duration.duration ∷ tokens.Sign signs.CloseBracket ∷ []) ls end duration.stand refl refl (λ _. refl) refl
 
 closing_is : (room : Room) (stages : List StageForm) (seconds : ℕ) (lexemes rest behind : List Lexeme) → length stages ≤ room.stages → label_tests stages ≤ room.tests → IsTimed room.depth stages seconds lexemes behind → Stand (tokens.Sign signs.CloseParenthesis ∷ []) behind rest
     → closing_at room lexemes ≡ Ok (stages, seconds, rest)

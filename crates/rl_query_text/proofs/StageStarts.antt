@@ -1,7 +1,7 @@
 -- The tokens with which label tests and stages begin.
 use Rattle.std.proofs.Common.{◌≡◌, true, false, not, ◌&&◌, ◌||◌, List, [], ◌∷◌, codes, None, Some, is_some, Ok, refl, sym, ap, subst, ◌∙◌, ℕ}
-use Rattle.std.proofs.Math.Bool.{and-false}
-use Rattle.std.proofs.lemmas.Bool.{cond-false, or_parts, or_left, or_right}
+use Rattle.std.proofs.Math.Bool.{and-false, or-true}
+use Rattle.std.proofs.lemmas.Bool.{and_from, cond-true, cond-false, or_parts, or_left, or_right}
 use Rattle.rl_labels.specs.Name.{is_text}
 use Rattle.rl_labels.specs.declared.matcher.MatchOp.{MatchOp}
 use Rattle.rl_labels.specs.declared.matcher.MatchOp.TheVariants as operators
@@ -15,13 +15,13 @@ use Rattle.rl_query.specs.declared.token.Sign.TheVariants as signs
 use Rattle.rl_query.specs.declared.token.Token.{Token}
 use Rattle.rl_query.specs.declared.token.Token.TheVariants as tokens
 use Rattle.rl_query.specs.Form.{StageForm, by_filter, by_parser, by_tests, TestForm, by_text, by_quantity}
-use Rattle.rl_query_text.specs.Fronts.{next, is_match}
+use Rattle.rl_query_text.specs.Fronts.{is_joining_word, next, is_match}
 use Rattle.rl_query_text.specs.Grammar.{filter_sign, IsStage, AreChained}
-use Rattle.rl_query_text.specs.Parsing.{begins_stage, stage_comes, parser_of, is_later_stage_word, operator_comes, tests_begin}
+use Rattle.rl_query_text.specs.Parsing.{begins_stage, stage_comes, parser_of, is_later_stage_word, tests_begin}
 use Rattle.rl_query_text.specs.Printing.{parser_text}
 use Rattle.rl_query_text.specs.Standing.{Stand, operator_sign}
 use Rattle.rl_query_text.specs.TestGrammar.{Rule, test_name, Compares, IsLabelTest, IsOne, alone, in_parentheses, AreJoined, part, more, AreInside, AreTests}
-use Rattle.rl_query_text.specs.Testing.{IsEnd, is_word, is_and, begins, compares, behind_and}
+use Rattle.rl_query_text.specs.Testing.{operator_comes, IsEnd, is_word, is_and, begins, compares, behind_and}
 use Rattle.rl_query.specs.TestTree.{TestTree}
 use Rattle.rl_query_text.proofs.Productions.{next_is}
 
@@ -43,6 +43,10 @@ sign_comes : (test : TestForm) (sign : Sign) (value : Token) → Compares test s
 sign_comes (by_text m) sign value is = or_left (is_match (tokens.Sign sign)) _ (ap (λ s. is_match (tokens.Sign s)) is.0 ∙ is_operator m.op)
 sign_comes (by_quantity t) sign value is = or_right (is_match (tokens.Sign sign)) _ (ap is_some is.0)
 
+-- a name behind which the operator of a test comes
+name_begins : (name : List ℕ) (behind : List Lexeme) → is_text name (codes "or") ≡ false → operator_comes behind ≡ true → begins (tokens.Word name) behind ≡ true
+name_begins name behind no_or comes = and_from _ _ (ap not no_or) (ap (λ t. not (is_joining_word name) || t) comes ∙ or-true (not (is_joining_word name)))
+
 test_starts : (test : TestForm) (lexemes rest : List Lexeme) → IsLabelTest test lexemes rest → Starts lexemes
 test_starts test [] rest is = absurd is.stand
 test_starts test (a ∷ []) rest is = absurd is.stand.1
@@ -56,7 +60,7 @@ test_starts test (a ∷ b ∷ lexemes) rest is =
       first = a;
       behind = b ∷ lexemes;
       is = refl;
-      goes_on = rw (is.stand.0, no_and.0, no_or.0) refl;
+      goes_on = cond-false (is_and a.token) _ _ (ap is_and is.stand.0 ∙ ap (λ t. t || false) no_and.0) ∙ cond-true (begins a.token (b ∷ lexemes)) _ _ (ap (λ t. begins t (b ∷ lexemes)) is.stand.0 ∙ name_begins name (b ∷ lexemes) no_or.0 comes);
       no_parser = rw (is.stand.0, no_json.0, no_json.1) refl;
       begin = rw is.stand.0 (cond-false (is_later_stage_word name && not (operator_comes (b ∷ lexemes))) _ _ (ap (λ t. is_later_stage_word name && not t) comes ∙ and-false (is_later_stage_word name)));
     }
@@ -78,10 +82,10 @@ tests_start depth tests lexemes rest are =
     joined_starts _ _ (joined_starts _ _ (one_starts (AreInside depth))) tests lexemes rest are
 
 -- no test goes on with a token
-pub no_more : (token : Token) (others : List Token) (lexemes rest : List Lexeme) → Stand (token ∷ others) lexemes rest → is_and token ≡ false → begins token ≡ false → is_word (codes "or") token ≡ false → IsEnd lexemes
+pub no_more : (token : Token) (others : List Token) (lexemes rest : List Lexeme) → Stand (token ∷ others) lexemes rest → is_and token ≡ false → ((behind : List Lexeme) → begins token behind ≡ false) → is_word (codes "or") token ≡ false → IsEnd lexemes
 no_more token others [] rest stand a b o = absurd stand
 no_more token others (l ∷ lexemes) rest stand a b o =
-    (cond-false (is_and l.token) _ _ (ap is_and stand.0 ∙ a) ∙ cond-false (begins l.token) _ _ (ap begins stand.0 ∙ b), cond-false (is_word (codes "or") l.token) _ _ (ap (λ t. is_word (codes "or") t) stand.0 ∙ o))
+    (cond-false (is_and l.token) _ _ (ap is_and stand.0 ∙ a) ∙ cond-false (begins l.token lexemes) _ _ (ap (λ t. begins t lexemes) stand.0 ∙ b lexemes), cond-false (is_word (codes "or") l.token) _ _ (ap (λ t. is_word (codes "or") t) stand.0 ∙ o))
 
 filter_ends : (op : LineOp) (others : List Token) (lexemes rest : List Lexeme) → Stand (tokens.Sign (filter_sign op) ∷ others) lexemes rest → IsEnd lexemes
 filter_ends op others [] rest stand = absurd stand
@@ -90,8 +94,8 @@ filter_ends _ others (l ∷ lexemes) rest stand = (rw stand.0 refl, rw stand.0 r
 
 stage_ends : (depth : ℕ) (stage : StageForm) (lexemes rest : List Lexeme) → IsStage depth stage lexemes rest → IsEnd lexemes
 stage_ends depth (by_filter f) lexemes rest is = filter_ends f.op (tokens.Text f.text ∷ []) lexemes rest is.0
-stage_ends depth (by_parser p) lexemes rest is = no_more (tokens.Sign signs.Pipe) (tokens.Word (parser_text p) ∷ []) lexemes rest is refl refl refl
-stage_ends depth (by_tests t) lexemes rest is = no_more (tokens.Sign signs.Pipe) [] lexemes is.behind is.pipe refl refl refl
+stage_ends depth (by_parser p) lexemes rest is = no_more (tokens.Sign signs.Pipe) (tokens.Word (parser_text p) ∷ []) lexemes rest is refl (λ _. refl) refl
+stage_ends depth (by_tests t) lexemes rest is = no_more (tokens.Sign signs.Pipe) [] lexemes is.behind is.pipe refl (λ _. refl) refl
 
 -- tests end where stages begin
 pub chain_ends : (depth : ℕ) (stages : List StageForm) (lexemes rest : List Lexeme) → AreChained depth stages lexemes rest → IsEnd rest → IsEnd lexemes
@@ -103,7 +107,7 @@ pub record Ends (lexemes : List Lexeme) : Type 0 where
   pub comes : stage_comes lexemes ≡ Ok false
   pub end : IsEnd lexemes
 
-pub ends_at : (token : Token) (others : List Token) (lexemes rest : List Lexeme) → Stand (token ∷ others) lexemes rest → begins_stage token ≡ false → is_and token ≡ false → begins token ≡ false → is_word (codes "or") token ≡ false → Ends lexemes
+pub ends_at : (token : Token) (others : List Token) (lexemes rest : List Lexeme) → Stand (token ∷ others) lexemes rest → begins_stage token ≡ false → is_and token ≡ false → ((behind : List Lexeme) → begins token behind ≡ false) → is_word (codes "or") token ≡ false → Ends lexemes
 ends_at token others lexemes rest stand s a b o =
     let n = next_is token others lexemes rest stand in
     record { comes = ap (λ r. r >>= λ first. Ok (begins_stage first.0.token)) n.is ∙ ap (λ b. Ok b) s; end = no_more token others lexemes rest stand a b o }

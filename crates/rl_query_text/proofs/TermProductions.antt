@@ -168,7 +168,7 @@ aggregated_complete depth inside complete fewer room aggregation term lexemes re
     let inner = inside_room room depth in
     let front = front_of aggregation.operator is.front fewer inner in
     let before = front_is aggregation.operator is.front fewer room depth is.behind_word is.behind_grouping is.behind_parenthesis is.behind_parameter deep is.grouped is.opened is.parameter in
-    let read = complete positions.InTerm fewer inner is.behind_parameter term is.end refl is.inside (record { nested = fits.nested; few = fits.few; few_tests = fits.few_tests }) (ends_term_at (tokens.Sign signs.CloseParenthesis) [] is.end is.behind_end is.closed refl refl) in
+    let read = complete positions.InTerm fewer inner is.behind_parameter term is.end refl is.inside (record { nested = fits.nested; few = fits.few; few_tests = fits.few_tests }) (ends_term_at (tokens.Sign signs.CloseParenthesis) [] is.end is.behind_end is.closed refl refl refl) in
     let ended = ended_is front room depth is.back aggregation is.end is.behind_end rest deep refl is.closed is.one_side is.grouped_behind ends in
     aggregated_by inside (operator_word aggregation.operator) (suc fewer) room is.behind_word is.behind_parameter front before ∙ rw (read, ended) refl
 
@@ -193,7 +193,7 @@ in_complete zero position nest room lexemes term rest deep is fits ends = absurd
 in_complete (suc depth) position nest room lexemes term rest deep (inl bare) fits ends = bare_complete depth (term_in (suc depth)) (in_complete depth) position nest room lexemes term.aggregations term.function term.range rest deep bare fits ends
 in_complete (suc depth) position nest room lexemes term rest deep (inr p) fits ends =
     let a = next_is (tokens.Sign signs.OpenParenthesis) [] lexemes p.behind p.opened in
-    let stops = ends_term_at (tokens.Sign signs.CloseParenthesis) [] p.end rest p.closed refl refl in
+    let stops = ends_term_at (tokens.Sign signs.CloseParenthesis) [] p.end rest p.closed refl refl refl in
     let read = in_complete depth positions.InTerm nest (inside_room room depth) p.behind term p.end refl p.inside (record { nested = fits.nested; few = fits.few; few_tests = fits.few_tests }) stops in
     rw (a.is, parentheses_are positions.InTerm (term_in (suc depth) positions.InTerm nest) room depth term lexemes p.behind p.end rest deep p.opened p.closed read) refl
 

@@ -50,9 +50,9 @@ enclosed_sound : (inside : Reader) (Inside : Rule) → IsSound inside Inside →
 unfolding enclosed_at
 enclosed_sound inside Inside sound left lexemes behind read opened h =
     let a = bind_ok (inside left behind) _ read h in
-    let b = bind_ok (expected signs.CloseParenthesis positions.Elsewhere a.0.2) _ read a.2 in
+    let b = bind_ok (expected signs.CloseParenthesis positions.BehindInnerTests a.0.2) _ read a.2 in
     let tests = sound left behind a.0 a.1 in
-    subst (IsRead (IsOne Inside) left lexemes) (same_ok _ _ b.2) (in_parentheses a.0.0 lexemes behind a.0.2 b.0 opened tests.0 (expected_read signs.CloseParenthesis positions.Elsewhere a.0.2 b.0 b.1), tests.1)
+    subst (IsRead (IsOne Inside) left lexemes) (same_ok _ _ b.2) (in_parentheses a.0.0 lexemes behind a.0.2 b.0 opened tests.0 (expected_read signs.CloseParenthesis positions.BehindInnerTests a.0.2 b.0 b.1), tests.1)
 
 one_sound : (inside : Reader) (Inside : Rule) → IsSound inside Inside → IsSound (one_at inside) (IsOne Inside)
 unfolding one_at
@@ -69,7 +69,7 @@ joins_read Or [] behind h = absurd (none-some behind h)
 joins_read And (l ∷ lexemes) behind h =
     ⊎_elim
     (λ by_and. ⊎_elim (λ word. inl (only_word (codes "and") l.token word, same_Some _ _ by_and.1)) (λ comma. inr (inl (only_sign signs.Comma l.token comma, same_Some _ _ by_and.1))) (or_cases _ _ by_and.0))
-    (λ other. inr (inr (cond_some (begins l.token) _ behind other.1).1))
+    (λ other. inr (inr (cond_some (begins l.token lexemes) _ behind other.1).1))
     (chosen (is_and l.token) _ _ (Some behind) h)
 joins_read Or (l ∷ lexemes) behind h = let found = cond_some (is_word (codes "or") l.token) lexemes behind h in (only_word (codes "or") l.token found.0, found.1)
 

@@ -68,8 +68,8 @@ unfolding one_at enclosed_at
 one_complete inside Inside complete _ _ _ left fewer (alone test lexemes rest is) ends count = let some : left ≡ suc fewer = omega (arith, count) in rw some (test_complete inside test lexemes rest fewer is)
 one_complete inside Inside complete _ _ _ left fewer (in_parentheses tests lexemes behind end rest opened is closed) ends count =
     let n = next_is (tokens.Sign signs.OpenParenthesis) [] lexemes behind opened in
-    let read = complete tests behind end left fewer is (no_more (tokens.Sign signs.CloseParenthesis) [] end rest closed refl refl refl) count in
-    let last = expected_is signs.CloseParenthesis [] positions.Elsewhere end rest closed in
+    let read = complete tests behind end left fewer is (no_more (tokens.Sign signs.CloseParenthesis) [] end rest closed refl (λ _. refl) refl) count in
+    let last = expected_is signs.CloseParenthesis [] positions.BehindInnerTests end rest closed in
     rw (n.is, n.more, read, last.1, last.2) refl
 
 in_complete : (inside : Reader) (Inside : Rule) → IsComplete inside Inside IsEnd → IsComplete (tests_in inside) (AreTestsIn Inside) IsEnd

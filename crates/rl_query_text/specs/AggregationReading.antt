@@ -14,7 +14,6 @@ use Rattle.rl_query_text.specs.declared.stop.Stop.{Stop}
 use Rattle.rl_query_text.specs.Stops.{stop, syntax, unsupported, place_of}
 use Rattle.rl_query.specs.declared.fault.QueryFault.TheVariants as faults
 use Rattle.rl_query_text.specs.declared.aggregation_reading.Front.{Front}
-use Rattle.rl_query_text.specs.declared.parser.Position.{Position}
 use Rattle.rl_query_text.specs.declared.parser.Position.TheVariants as positions
 use Rattle.rl_query.specs.declared.quantity_test.Comparison.{Comparison}
 use Rattle.rl_query_text.specs.declared.room.Room.{Room}
@@ -24,7 +23,7 @@ use Rattle.rl_query.specs.declared.token.Token.{Token}
 use Rattle.rl_query.specs.declared.token.Token.TheVariants as tokens
 use Rattle.rl_query.specs.Aggregations.{threshold_of, top_of}
 use Rattle.rl_query.specs.Form.{AggregationForm, ThresholdForm}
-use Rattle.rl_query_text.specs.Fronts.{refusal, is_sign, next, expected, name_of}
+use Rattle.rl_query_text.specs.Fronts.{is_in_any_case, refusal, is_sign, next, expected, name_of}
 use Rattle.rl_query_text.specs.Parsing.{listed_at, opened_at}
 use Rattle.rl_query.specs.Tables.{comparison_of, plain_operator}
 use Rattle.rl_query_text.specs.Testing.{is_word}
@@ -58,16 +57,21 @@ grouped_at room lexemes = do
   opened ← opened_at positions.Elsewhere room lexemes
   names_in opened.1
 
+-- a word of groupings in another case
+abbrev pub groups_loudly : Token → Bool
+groups_loudly (tokens.Word word) = is_in_any_case word (codes "by") || is_in_any_case word (codes "without")
+groups_loudly _ = false
+
 -- by (names), without (names), or all where no such word comes
 unfoldable pub grouping_at : Room → List Lexeme → Result (Grouping × List Lexeme) Stop
 grouping_at room lexemes = do
   first ← next lexemes
-  if is_word (codes "by") first.0.token then (grouped_at room first.1 >>= λ names. Ok (groupings.By names.0, names.1)) else (if is_word (codes "without") first.0.token then (grouped_at room first.1 >>= λ names. Ok (groupings.Without names.0, names.1)) else Ok (groupings.All, lexemes))
+  if is_word (codes "by") first.0.token then (grouped_at room first.1 >>= λ names. Ok (groupings.By names.0, names.1)) else (if is_word (codes "without") first.0.token then (grouped_at room first.1 >>= λ names. Ok (groupings.Without names.0, names.1)) else (if groups_loudly first.0.token then Err (unsupported first.0.place) else Ok (groupings.All, lexemes)))
 
 -- the number of elements that topk keeps
 abbrev pub top_at : ℕ → Token → Result ℕ Stop
 top_at place (tokens.Number number) = option_map_or Ok (top_of number) (Err (unsupported place))
-top_at place token = Err (refusal positions.Elsewhere place token)
+top_at place token = Err (refusal positions.InParameter place token)
 
 -- that number and a comma
 unfoldable pub topk_at : List Lexeme → Result (VectorOperator × List Lexeme) Stop
@@ -90,17 +94,12 @@ abbrev pub nested : (place nest : ℕ) → Result ℕ Stop
 nested place zero = Err (stop faults.TooDeep place)
 nested place (suc nest) = Ok nest
 
--- the position behind the word of a vector aggregation and its grouping; behind a grouping no other may come
-abbrev pub behind_operator : Grouping → Position
-behind_operator groupings.All = positions.BehindOperator
-behind_operator grouping = positions.Elsewhere
-
 -- what stands behind the word of a vector aggregation, up to the term in it
 unfoldable pub front_at : (word : List ℕ) → (nest : ℕ) → Room → List Lexeme → Result (Front × List Lexeme) Stop
 front_at word nest room lexemes = do
   fewer ← nested (place_of lexemes) nest
   grouping ← grouping_at room lexemes
-  opened ← opened_at (behind_operator grouping.0) room grouping.1
+  opened ← opened_at positions.Elsewhere room grouping.1
   operator ← operator_at word opened.1
   Ok (record { operator = operator.0; grouping = grouping.0; nest = fewer; room = opened.0 }, operator.1)
 

@@ -86,7 +86,11 @@ is_later_word word = list_any (λ later. is_in_any_case later word) later_words 
 
 -- the words that LogQL has behind an operator
 abbrev pub is_matching_word : List ℕ → Bool
-is_matching_word word = is_in_any_case word (codes "bool") || (is_in_any_case word (codes "on") || is_in_any_case word (codes "ignoring"))
+is_matching_word word = list_any (λ matching. is_in_any_case matching word) (codes "bool" ∷ codes "on" ∷ codes "ignoring" ∷ codes "group_left" ∷ codes "group_right" ∷ [])
+
+-- the words that join label tests
+abbrev pub is_joining_word : List ℕ → Bool
+is_joining_word word = is_in_any_case word (codes "and") || is_in_any_case word (codes "or")
 
 abbrev pub is_opening : Sign → Bool
 is_opening signs.OpenParenthesis = true
@@ -98,12 +102,13 @@ is_unsupported_word positions.Start word = is_later_word word
 is_unsupported_word positions.InTerm word = is_later_word word
 is_unsupported_word positions.Divisor word = is_later_word word || is_matching_word word
 is_unsupported_word positions.InThreshold word = is_later_word word || is_matching_word word
-is_unsupported_word positions.BehindOperator word = is_in_any_case word (codes "by") || is_in_any_case word (codes "without")
 is_unsupported_word positions.BehindRange word = is_in_any_case word (codes "offset")
 is_unsupported_word positions.BehindFilteredRange word = is_in_any_case word (codes "offset")
-is_unsupported_word positions.BehindTerm word = is_in_any_case word (codes "and") || (is_in_any_case word (codes "or") || is_in_any_case word (codes "unless"))
+is_unsupported_word positions.BehindTerm word = is_joining_word word || is_in_any_case word (codes "unless")
 is_unsupported_word positions.InFilter word = true
 is_unsupported_word positions.InTest word = is_in_any_case word (codes "ip")
+is_unsupported_word positions.BehindTests word = is_joining_word word
+is_unsupported_word positions.BehindInnerTests word = is_joining_word word
 is_unsupported_word positions.BehindFilter word = is_in_any_case word (codes "or")
 is_unsupported_word positions.BehindSieveFilter word = is_in_any_case word (codes "or")
 is_unsupported_word positions.BehindParser word = true
@@ -115,12 +120,13 @@ is_unsupported_sign positions.Start sign = is_later_start sign
 is_unsupported_sign positions.InTerm sign = false
 is_unsupported_sign positions.Divisor sign = is_minus sign
 is_unsupported_sign positions.InThreshold sign = is_minus sign || is_opening sign
-is_unsupported_sign positions.BehindOperator sign = false
 is_unsupported_sign positions.BehindSelector sign = is_later_stage sign
 is_unsupported_sign positions.BehindFilter sign = is_later_stage sign
 is_unsupported_sign positions.BehindSieveSelector sign = is_later_stage sign || is_pipe sign
 is_unsupported_sign positions.BehindSieveFilter sign = is_later_stage sign || is_pipe sign
 is_unsupported_sign positions.BehindTests sign = is_later_stage sign
+is_unsupported_sign positions.BehindInnerTests sign = false
+is_unsupported_sign positions.InParameter sign = is_minus sign
 is_unsupported_sign positions.BehindParser sign = is_later_stage sign || is_minus sign
 is_unsupported_sign positions.InRange sign = is_colon sign
 is_unsupported_sign positions.BehindRange sign = is_later_stage sign || is_at sign

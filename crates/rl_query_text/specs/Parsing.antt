@@ -2,7 +2,7 @@
 use Rattle.std.specs.List.{list_any, list_all}
 use Rattle.std.specs.Prelude.{not, Some, None, ℕ, zero, suc, ◌-◌, ◌==◌, nat_le, Bool, true, false, ◌&&◌, ◌||◌, List, [], ◌∷◌, length, slice_index, Option, is_some, Result, Ok, Err, if◌then◌else◌, codes}
 use Rattle.rl_query_text.specs.Fronts.{is_in_any_case, is_match, is_later_word, refusal, is_sign, next, expected, matcher_at}
-use Rattle.rl_query_text.specs.Testing.{compares, tests_at}
+use Rattle.rl_query_text.specs.Testing.{operator_comes, tests_at}
 use Rattle.rl_query.specs.Limits.{is_filter, longest_range, most_stages}
 use Rattle.rl_query.specs.Form.{by_tests, MatcherForm, FilterForm, StageForm, by_filter, by_parser, RangeForm, TermForm, QueryForm, has_real_form, has_pattern, filters_have_pattern, stages_have_pattern, parses}
 use Rattle.std.specs.Option.{option_map_or}
@@ -25,6 +25,7 @@ use Rattle.rl_query.specs.declared.token.Lexeme.{Lexeme}
 use Rattle.rl_query.specs.declared.token.Token.{Token}
 use Rattle.rl_query.specs.declared.token.Token.TheVariants as tokens
 use Rattle.rl_query.specs.Durations.{duration_of}
+use Rattle.rl_labels.specs.Quantities.{duration_of as label_duration_of}
 use Rattle.rl_query_text.specs.Lexing.{lexemes_of}
 use Rattle.rl_query.specs.Tables.{function_with_text}
 use Rattle.rl_plain.specs.Answers.{◌>>=◌}
@@ -136,11 +137,6 @@ later_stages =
 abbrev pub is_later_stage_word : List ℕ → Bool
 is_later_stage_word word = list_any (λ later. is_in_any_case later word) later_stages
 
--- the operator of a test comes
-abbrev pub operator_comes : List Lexeme → Bool
-operator_comes [] = false
-operator_comes (lexeme ∷ lexemes) = is_match lexeme.token || compares lexeme.token
-
 -- label tests begin with a word or a parenthesis; a word of LogQL's names a label only before an operator
 abbrev pub word_begins : ℕ → List ℕ → List Lexeme → Result (Unit {0}) Stop
 word_begins place word lexemes = if is_later_stage_word word && not (operator_comes lexemes) then Err (unsupported place) else Ok tt
@@ -195,15 +191,20 @@ abbrev pub behind_stages : Position → List StageForm → Position
 behind_stages position [] = position
 behind_stages position (stage ∷ stages) = behind_stages (behind_stage stage) stages
 
--- digits, points and letters of units, with a letter at the end
+-- `.`
+abbrev pub point : ℕ
+point = 46
+
+-- the letters of units
 abbrev pub is_unit_letter : ℕ → Bool
-is_unit_letter byte = byte == 119 || (byte == 100 || (byte == 104 || (byte == 109 || (byte == 115 || (byte == 121 || (byte == 110 || byte == 117))))))
+is_unit_letter letter = list_any (λ unit. letter == unit) (codes "wdhmsynu")
 
 abbrev pub is_duration_byte : ℕ → Bool
-is_duration_byte byte = is_ascii_digit byte || (byte == 46 || is_unit_letter byte)
+is_duration_byte byte = is_ascii_digit byte || (byte == point || is_unit_letter byte)
 
+-- digits, points and letters of units, with a letter at the end, or a duration as label tests have it, with a micro sign
 abbrev pub looks_like_duration : List ℕ → Bool
-looks_like_duration bytes = list_all is_duration_byte bytes && is_unit_letter (slice_index bytes (length bytes - 1))
+looks_like_duration bytes = (list_all is_duration_byte bytes && is_unit_letter (slice_index bytes (length bytes - 1))) || is_some (label_duration_of bytes)
 
 -- whole seconds, from 1 to the longest range
 abbrev pub checked_range : (place seconds : ℕ) → Result ℕ Stop

@@ -16,7 +16,7 @@ use Rattle.rl_query.specs.declared.token.Sign.TheVariants as signs
 use Rattle.rl_query.specs.declared.token.Token.{Token}
 use Rattle.rl_query.specs.declared.token.Token.TheVariants as tokens
 use Rattle.rl_query.specs.Limits.{is_taken}
-use Rattle.rl_query_text.specs.Fronts.{next, expected, refusal, is_sign, is_match, row_at, matcher_at}
+use Rattle.rl_query_text.specs.Fronts.{is_joining_word, next, expected, refusal, is_sign, is_match, row_at, matcher_at}
 use Rattle.rl_query.specs.Form.{QuantityForm, TestForm, by_text, by_quantity}
 use Rattle.rl_query.specs.Quantities.{quantity_of}
 use Rattle.rl_query.specs.Tables.{comparison_of}
@@ -109,7 +109,7 @@ test_at left lexemes = do
 unfoldable pub enclosed_at : (inside : Reader) → Reader
 enclosed_at inside left lexemes = do
   tests ← inside left lexemes
-  closed ← expected signs.CloseParenthesis positions.Elsewhere tests.2
+  closed ← expected signs.CloseParenthesis positions.BehindInnerTests tests.2
   Ok (tests.0, tests.1, closed)
 
 -- "(" tests ")", or the test of a label
@@ -122,15 +122,20 @@ one_at inside left lexemes = do
 abbrev pub is_and : Token → Bool
 is_and token = is_word (codes "and") token || is_sign signs.Comma token
 
--- a token stands where a test begins
-abbrev pub begins : Token → Bool
-begins (tokens.Word word) = not (is_text word (codes "or"))
-begins token = is_sign signs.OpenParenthesis token
+-- the operator of a test comes
+abbrev pub operator_comes : List Lexeme → Bool
+operator_comes [] = false
+operator_comes (lexeme ∷ lexemes) = is_match lexeme.token || compares lexeme.token
+
+-- a token stands where a test begins; a word that joins tests in another case names a label only before an operator
+abbrev pub begins : Token → (behind : List Lexeme) → Bool
+begins (tokens.Word word) behind = not (is_text word (codes "or")) && (not (is_joining_word word) || operator_comes behind)
+begins token behind = is_sign signs.OpenParenthesis token
 
 -- the tokens of what `and` joins, if it joins more: behind the word or a comma, or at once
 abbrev pub behind_and : List Lexeme → Option (List Lexeme)
 behind_and [] = None
-behind_and (lexeme ∷ lexemes) = if is_and lexeme.token then Some lexemes else (if begins lexeme.token then Some (lexeme ∷ lexemes) else None)
+behind_and (lexeme ∷ lexemes) = if is_and lexeme.token then Some lexemes else (if begins lexeme.token lexemes then Some (lexeme ∷ lexemes) else None)
 
 -- the tokens of what `or` joins, if it joins more
 abbrev pub behind_or : List Lexeme → Option (List Lexeme)

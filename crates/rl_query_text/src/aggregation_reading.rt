@@ -6,7 +6,7 @@ ghost use Rattle.std.specs.List.{list_all};
 ghost use Rattle.rl_labels.specs.Decimals.{decimal_of};
 ghost use Rattle.rl_plain.specs.Answers.{Gives, Answers};
 ghost use Rattle.rl_query.specs.Aggregations.{is_top, is_operator, is_grouping, is_threshold, top_of, threshold_of};
-ghost use Rattle.rl_query_text.specs.AggregationReading.{label_name, name_follows, named_at, names_in, grouped_at, grouping_at, top_at, topk_at, operator_at, is_operator_word, nested, behind_operator, front_at, back_at, ended_at, are_digits, is_digits, number_at, compared_by, threshold_at};
+ghost use Rattle.rl_query_text.specs.AggregationReading.{label_name, name_follows, named_at, names_in, grouped_at, groups_loudly, grouping_at, top_at, topk_at, operator_at, is_operator_word, nested, front_at, back_at, ended_at, are_digits, is_digits, number_at, compared_by, threshold_at};
 ghost use Rattle.rl_query.specs.Form.{aggregation_form, threshold_form};
 ghost use Rattle.rl_query_text.specs.Parsing.{listed_at};
 ghost use Rattle.rl_query.specs.Tables.{plain_operator};
@@ -116,6 +116,19 @@ fn grouped_at(
     Ok((PlainList::from_vec(names), rest))
 }
 
+// A word of groupings in another case.
+fn groups_loudly(token: &Token) -> bool
+    ensures { result ≡ groups_loudly token.now }
+{
+    match token {
+        Token::Word(word) => {
+            let word = word.as_str();
+            word.eq_ignore_ascii_case("by") || word.eq_ignore_ascii_case("without")
+        }
+        _ => false,
+    }
+}
+
 // A grouping, of all where none comes.
 #[tactic(auto, unfolding(crate::specs::AggregationReading::grouping_at))]
 fn grouping_in(
@@ -133,6 +146,9 @@ fn grouping_in(
     if is_word("without", &first.token) {
         let (names, rest) = grouped_at(alloc, room, rest)?;
         return Ok((Grouping::Without(names), rest));
+    }
+    if groups_loudly(&first.token) {
+        return Err(Stopped::Fault(Stop::unsupported(first.place)));
     }
     Ok((Grouping::All, lexemes))
 }
@@ -168,7 +184,7 @@ fn top_at(lexeme: &Lexeme) -> Result<u16, Stop>
 {
     match &lexeme.token {
         Token::Number(number) => top_of(number.as_str()).ok_or(Stop::unsupported(lexeme.place)),
-        token => Err(refusal(Position::Elsewhere, lexeme.place, token)),
+        token => Err(refusal(Position::InParameter, lexeme.place, token)),
     }
 }
 
@@ -229,16 +245,6 @@ fn nested(place: usize, nest: usize) -> Result<usize, Stop>
     Ok(nest - 1)
 }
 
-// The position behind the word of a vector aggregation and its grouping. Behind a grouping no other may come.
-fn behind_operator(grouping: &Grouping) -> Position
-    ensures { result ≡ behind_operator grouping.now }
-{
-    match grouping {
-        Grouping::All => Position::BehindOperator,
-        _ => Position::Elsewhere,
-    }
-}
-
 // What stands behind the word of a vector aggregation, up to the term in it.
 #[tactic(auto, unfolding(crate::specs::AggregationReading::front_at))]
 pub(crate) fn front_at<'a>(
@@ -254,7 +260,7 @@ pub(crate) fn front_at<'a>(
 {
     let nest = nested(place_of(lexemes), nest)?;
     let (grouping, rest) = grouping_at(alloc, room, lexemes)?;
-    let (room, rest) = opened_at(behind_operator(&grouping), room, rest)?;
+    let (room, rest) = opened_at(Position::Elsewhere, room, rest)?;
     let (operator, rest) = operator_at(word, rest)?;
     let front = Front {
         operator,

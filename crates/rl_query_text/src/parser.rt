@@ -1,5 +1,5 @@
 //! The parser: queries from texts, by the first fault from the left.
-ghost use Rattle.std.specs.Prelude.{◌≡◌, ◌+◌, ◌-◌, slice_index, ◌<◌, ◌≤◌, ℕ, List, [], Option, None, Ok, Err, Some, IfSome, IfOk, IfErr, MatchResult, IsTrue, length, map, min, not};
+ghost use Rattle.std.specs.Prelude.{◌≡◌, ◌&&◌, ◌+◌, ◌-◌, slice_index, ◌<◌, ◌≤◌, ℕ, List, [], Option, None, Ok, Err, Some, IfSome, IfOk, IfErr, MatchResult, IsTrue, length, map, min, not};
 ghost use Rattle.std.specs.List.{list_all, list_any};
 ghost use Rattle.std.specs.Result.{result_map_both};
 ghost use Rattle.rl_labels.specs.Name.{is_text};
@@ -9,7 +9,7 @@ ghost use Rattle.rl_query_text.specs.TermGrammar.{Derives};
 ghost use Rattle.rl_query_text.specs.Printing.{query_text};
 ghost use Rattle.rl_plain.specs.Answers.{Gives, Answers};
 ghost use Rattle.rl_query.specs.declared.query.Query.{Query};
-ghost use Rattle.rl_query_text.specs.Fronts.{is_unsupported, is_unsupported_word, is_unsupported_sign, is_later_stage, is_pipe, is_minus, is_operator, is_in_any_case, is_later_word, is_matching_word, refusal, next, expected, is_sign, name_of, content_of, match_of, is_match, operator_of, checked_matcher, matcher_at};
+ghost use Rattle.rl_query_text.specs.Fronts.{is_unsupported, is_unsupported_word, is_unsupported_sign, is_later_stage, is_pipe, is_minus, is_operator, is_in_any_case, is_later_word, is_matching_word, is_joining_word, refusal, next, expected, is_sign, name_of, content_of, match_of, is_match, operator_of, checked_matcher, matcher_at};
 ghost use Rattle.rl_query_text.specs.Drafts.{range_draft};
 ghost use Rattle.rl_query_text.specs.Parsing.{goes_on, element_at, matchers_at, some_matcher, real_matchers, selector_at, is_unit_letter, is_duration_byte, looks_like_duration, range_of, seconds_of, checked_range, seconds_at, closed_at, timed_at, closing_at, deeper, opened_at, range_at};
 ghost use Rattle.rl_query_text.specs.QueryReading.{query_reading, query_of, query_meets_pattern};
@@ -33,7 +33,7 @@ use crate::room::Room;
 use crate::stage::{behind_stages, stages_at};
 use rl_query::stages::Stage;
 use rl_query::token::{Lexeme, Sign, Token};
-use rl_labels::{Labels, MatchOp, Matcher, MatcherFault, SelectorCode};
+use rl_labels::{Duration, MatchOp, Matcher, MatcherFault};
 use rl_plain::{OrMemory, PlainList, PlainText, TryCopy};
 use std::alloc::{AllocError, Global};
 
@@ -65,6 +65,9 @@ pub const LATER_WORDS: [&str; 24] = [
     "rate_counter",
 ];
 
+// The words that LogQL has behind an operator.
+const MATCHING_WORDS: [&str; 5] = ["bool", "on", "ignoring", "group_left", "group_right"];
+
 /// Where in a query a token was looked for.
 #[derive(Clone, Copy)]
 pub enum Position {
@@ -76,8 +79,8 @@ pub enum Position {
     Divisor,
     /// Behind the comparison of a threshold.
     InThreshold,
-    /// Behind the word of a vector aggregation.
-    BehindOperator,
+    /// Behind the parenthesis of `topk`.
+    InParameter,
     /// Behind the selector of a range.
     BehindSelector,
     /// Behind the sign of a line filter.
@@ -90,6 +93,8 @@ pub enum Position {
     InTest,
     /// Behind label tests.
     BehindTests,
+    /// Behind label tests in parentheses.
+    BehindInnerTests,
     /// Behind the selector of a sieve.
     BehindSieveSelector,
     /// Behind a line filter of a sieve.
@@ -144,17 +149,11 @@ fn is_unsupported_word(position: Position, word: &str) -> bool
     match position {
         Position::Start | Position::InTerm => is_later_word(word),
         Position::Divisor | Position::InThreshold => is_later_word(word) || is_matching_word(word),
-        Position::BehindOperator => {
-            word.eq_ignore_ascii_case("by") || word.eq_ignore_ascii_case("without")
-        }
         Position::BehindRange | Position::BehindFilteredRange => {
             word.eq_ignore_ascii_case("offset")
         }
-        Position::BehindTerm => {
-            word.eq_ignore_ascii_case("and")
-                || word.eq_ignore_ascii_case("or")
-                || word.eq_ignore_ascii_case("unless")
-        }
+        Position::BehindTests | Position::BehindInnerTests => is_joining_word(word),
+        Position::BehindTerm => is_joining_word(word) || word.eq_ignore_ascii_case("unless"),
         Position::InFilter | Position::BehindParser => true,
         Position::InTest => word.eq_ignore_ascii_case("ip"),
         Position::BehindFilter | Position::BehindSieveFilter => word.eq_ignore_ascii_case("or"),
@@ -166,9 +165,14 @@ fn is_unsupported_word(position: Position, word: &str) -> bool
 fn is_matching_word(word: &str) -> bool
     ensures { result ≡ is_matching_word word.now }
 {
-    word.eq_ignore_ascii_case("bool")
-        || word.eq_ignore_ascii_case("on")
-        || word.eq_ignore_ascii_case("ignoring")
+    is_one_of(&MATCHING_WORDS, word)
+}
+
+// A word that joins label tests.
+pub(crate) fn is_joining_word(word: &str) -> bool
+    ensures { result ≡ is_joining_word word.now }
+{
+    word.eq_ignore_ascii_case("and") || word.eq_ignore_ascii_case("or")
 }
 
 // Such a word, or that of a range aggregation in any case.
@@ -210,13 +214,15 @@ fn is_unsupported_sign(position: Position, sign: Sign) -> bool
             is_later_stage(sign) || matches!(sign, Sign::Pipe)
         }
         Position::BehindParser => is_later_stage(sign) || matches!(sign, Sign::Minus),
-        Position::InTest => matches!(sign, Sign::Minus),
+        Position::InTest | Position::InParameter => matches!(sign, Sign::Minus),
         Position::InRange => matches!(sign, Sign::Colon),
         Position::BehindRange => is_later_stage(sign) || matches!(sign, Sign::At),
         Position::BehindFilteredRange => matches!(sign, Sign::At),
         Position::BehindTerm => is_operator(sign),
-        Position::InTerm | Position::BehindOperator | Position::InFilter | Position::Elsewhere =>
-            false,
+        Position::InTerm
+        | Position::InFilter
+        | Position::BehindInnerTests
+        | Position::Elsewhere => false,
     }
 }
 
@@ -454,25 +460,17 @@ fn has_real_matcher(matchers: &[Matcher]) -> Result<bool, AllocError>
     Ok(false)
 }
 
-fn is_unit_letter(byte: u8) -> bool
-    ensures { result ≡ is_unit_letter byte }
+// Digits, points and letters of units, with a letter at the end, or a duration as label tests have it.
+fn looks_like_duration(number: &str) -> bool
+    ensures { result ≡ looks_like_duration number.now }
 {
-    matches!(byte, b'w' | b'd' | b'h' | b'm' | b's' | b'y' | b'n' | b'u')
+    is_like_duration(number.as_bytes()) || Duration::read(number).is_ok()
 }
 
-fn looks_like_duration(bytes: &[u8]) -> bool
-    ensures { result ≡ looks_like_duration bytes.now }
+fn is_like_duration(bytes: &[u8]) -> bool
+    ensures { result ≡ (list_all is_duration_byte bytes.now && is_unit_letter (slice_index bytes.now (length bytes.now - 1))) }
 {
     are_duration_bytes(bytes) && ends_with_letter(bytes)
-}
-
-fn ends_with_letter(bytes: &[u8]) -> bool
-    ensures { result ≡ is_unit_letter (slice_index bytes.now (length bytes.now - 1)) }
-{
-    if bytes.is_empty() {
-        return false;
-    }
-    is_unit_letter(bytes[bytes.len() - 1])
 }
 
 fn are_duration_bytes(bytes: &[u8]) -> bool
@@ -487,22 +485,37 @@ fn is_duration_byte(byte: u8) -> bool
     byte.is_ascii_digit() || byte == b'.' || is_unit_letter(byte)
 }
 
+fn is_unit_letter(byte: u8) -> bool
+    ensures { result ≡ is_unit_letter byte }
+{
+    matches!(byte, b'w' | b'd' | b'h' | b'm' | b's' | b'y' | b'n' | b'u')
+}
+
+fn ends_with_letter(bytes: &[u8]) -> bool
+    ensures { result ≡ is_unit_letter (slice_index bytes.now (length bytes.now - 1)) }
+{
+    if bytes.is_empty() {
+        return false;
+    }
+    is_unit_letter(bytes[bytes.len() - 1])
+}
+
 // The seconds of a range.
 fn range_of(lexeme: &Lexeme) -> Result<u64, Stop>
     ensures read { result ≡ range_of lexeme.now.place lexeme.now.token }
     ensures fits { IfOk result (λ seconds. (1 ≤ seconds) × (seconds ≤ longest_range)) }
 {
     match &lexeme.token {
-        Token::Number(number) => seconds_of(lexeme.place, number.as_str().as_bytes()),
+        Token::Number(number) => seconds_of(lexeme.place, number.as_str()),
         token => Err(refusal(Position::Elsewhere, lexeme.place, token)),
     }
 }
 
-fn seconds_of(place: usize, number: &[u8]) -> Result<u64, Stop>
+fn seconds_of(place: usize, number: &str) -> Result<u64, Stop>
     ensures read { result ≡ seconds_of (duration_of number.now) place number.now }
     ensures fits { IfOk result (λ seconds. (1 ≤ seconds) × (seconds ≤ longest_range)) }
 {
-    match duration_of(number) {
+    match duration_of(number.as_bytes()) {
         Some(seconds) => checked_range(place, seconds),
         None => Err(if looks_like_duration(number) {
             Stop::new(QueryFault::BadRange, place)

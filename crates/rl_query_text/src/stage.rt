@@ -5,16 +5,17 @@ ghost use Rattle.rl_labels.specs.Operators.{is_by_pattern};
 ghost use Rattle.rl_query.specs.TestTree.{any_test};
 ghost use Rattle.rl_query.specs.Form.{test_form, tests_form, test_has_pattern, filter_form, filters_have_pattern, stage_form, stage_has_pattern, stages_have_pattern, parses};
 ghost use Rattle.rl_query.specs.Limits.{is_line_pattern, most_stages};
-ghost use Rattle.rl_query_text.specs.Parsing.{filter_op, filter_text, checked_filter, filter_at, filters_at, begins_stage, stage_comes, named_parser, parser_of, only_parser, is_later_stage_word, operator_comes, word_begins, parenthesis_begins, tests_begin, tested_at, piped_at, stage_at, stages_at, stages_in, behind_stage, behind_stages};
+ghost use Rattle.rl_query_text.specs.Testing.{operator_comes};
+ghost use Rattle.rl_query_text.specs.Parsing.{filter_op, filter_text, checked_filter, filter_at, filters_at, begins_stage, stage_comes, named_parser, parser_of, only_parser, is_later_stage_word, word_begins, parenthesis_begins, tests_begin, tested_at, piped_at, stage_at, stages_at, stages_in, behind_stage, behind_stages};
 
 use crate::stop::{Stop, Stopped, place_of};
 use rl_query::fault::QueryFault;
 use rl_query::filter::{LineFilter, LineOp};
 use rl_query::label_test::{LabelTest, LabelTests, TestParts};
-use crate::parser::{Position, is_match, is_one_of, is_sign, next, refusal};
+use crate::parser::{Position, is_one_of, is_sign, next, refusal};
 use crate::room::Room;
 use rl_query::stages::{Parser, Stage};
-use crate::testing::{compares, tests_at};
+use crate::testing::{operator_comes, tests_at};
 use rl_query::token::{Lexeme, Sign, Token};
 use rl_patterns::is_pattern;
 use rl_plain::{PlainText, TryCopy};
@@ -176,16 +177,6 @@ fn is_later_stage_word(word: &str) -> bool
     ensures { result ≡ is_later_stage_word word.now }
 {
     is_one_of(&LATER_STAGES, word)
-}
-
-// Whether the operator of a test comes.
-fn operator_comes(lexemes: &[Lexeme]) -> bool
-    ensures { result ≡ operator_comes lexemes.now }
-{
-    match lexemes {
-        [first, ..] => is_match(&first.token) || compares(&first.token),
-        [] => false,
-    }
 }
 
 // That label tests begin with a token; a word of LogQL's names a label only before an operator.

@@ -8,13 +8,15 @@ ghost use Rattle.rl_query.specs.Quantities.{has_unit, quantity_of, is_quantity};
 ghost use Rattle.rl_query.specs.Tables.{comparison_of};
 ghost use Rattle.rl_query_text.specs.TestGrammar.{AreTests};
 ghost use Rattle.rl_query.specs.TestTree.{count_tests};
-ghost use Rattle.rl_query_text.specs.Testing.{IsEnd, Read, is_word, is_label, label_at, label_comes, one_fewer, comparison_at, quantity_at, named_test, quantity_test_at, compares, is_content, quantity_comes, label_test_at, test_at, is_and, begins, behind_and, behind_or, behind_join, enclosed_at, one_at, joined_at, part_at, inside_at, tests_at};
+ghost use Rattle.rl_query_text.specs.Testing.{IsEnd, Read, is_word, is_label, label_at, label_comes, one_fewer, comparison_at, quantity_at, named_test, quantity_test_at, compares, is_content, quantity_comes, label_test_at, test_at, is_and, operator_comes, begins, behind_and, behind_or, behind_join, enclosed_at, one_at, joined_at, part_at, inside_at, tests_at};
 
 use crate::stop::{Stop, Stopped, place_of};
 use rl_query::fault::QueryFault;
 use rl_query::label_test::{Join, LabelTest, LabelTests};
 use rl_query::matcher_test::MatcherTest;
-use crate::parser::{Position, expected, is_match, is_sign, matcher_at, name_of, next, refusal};
+use crate::parser::{
+    Position, expected, is_joining_word, is_match, is_sign, matcher_at, name_of, next, refusal,
+};
 use rl_query::quantity_test::{Comparison, Quantity, QuantityTest};
 use rl_query::token::{Lexeme, Sign, Token};
 use rl_labels::labels::is_label_name;
@@ -234,12 +236,24 @@ fn is_and(token: &Token) -> bool
     is_word("and", token) || is_sign(Sign::Comma, token)
 }
 
-// A token that stands where a test begins.
-fn begins(token: &Token) -> bool
-    ensures { result ≡ begins token.now }
+// Whether the operator of a test comes.
+pub(crate) fn operator_comes(lexemes: &[Lexeme]) -> bool
+    ensures { result ≡ operator_comes lexemes.now }
+{
+    match lexemes {
+        [first, ..] => is_match(&first.token) || compares(&first.token),
+        [] => false,
+    }
+}
+
+// A token that stands where a test begins. A word that joins tests in another case names a label only before an operator.
+fn begins(token: &Token, behind: &[Lexeme]) -> bool
+    ensures { result ≡ begins token.now behind.now }
 {
     match token {
-        Token::Word(word) => word.as_str() != "or",
+        Token::Word(word) => {
+            word.as_str() != "or" && (!is_joining_word(word.as_str()) || operator_comes(behind))
+        }
         token => is_sign(Sign::OpenParenthesis, token),
     }
 }
@@ -250,7 +264,7 @@ fn behind_and(lexemes: &[Lexeme]) -> Option<&[Lexeme]>
 {
     match lexemes {
         [first, rest @ ..] if is_and(&first.token) => Some(rest),
-        [first, ..] if begins(&first.token) => Some(lexemes),
+        [first, rest @ ..] if begins(&first.token, rest) => Some(lexemes),
         _ => None,
     }
 }
@@ -287,7 +301,7 @@ fn enclosed_at(
 {
     let fewer = one_fewer(place_of(lexemes), depth)?;
     let (tests, left, rest) = joined_at(alloc, Join::Or, fewer, left, lexemes)?;
-    let rest = expected(Sign::CloseParenthesis, Position::Elsewhere, rest)?;
+    let rest = expected(Sign::CloseParenthesis, Position::BehindInnerTests, rest)?;
     Ok((tests, left, rest))
 }
 
