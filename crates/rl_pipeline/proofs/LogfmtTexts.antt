@@ -1,34 +1,12 @@
--- Where the runs of logfmt end, and values between quotes piece by piece.
+-- Values between quotes, piece by piece.
 use Rattle.std.proofs.Common.{◌≡◌, ℕ, zero, suc, ◌+◌, ◌<◌, ◌==◌, true, false, cond, not, List, [], ◌∷◌, ◌++◌, Option, Some, None, length, get_or, take, drop, refl, sym, ap, ◌∙◌, arith, append_assoc, append-nil, take-append-drop}
 use Rattle.std.specs.Option.{option_map, option_and_then}
 use Rattle.std.specs.List.{prefix_len}
-use Rattle.std.specs.Str.{IsUtf8, IsCharBoundary}
 use Rattle.std.proofs.lemmas.Bool.Decides.{nat_tests}
 use Rattle.std.proofs.Math.Utf8.{encode}
-use Rattle.rl_query_text.proofs.Cuts.{run_boundary}
-use Rattle.rl_query_text.proofs.Texts.{stop_boundary, stops, first_of, none_left}
-use Rattle.rl_pipeline.specs.LogfmtPairs.{is_blank, is_of_key, is_of_pair, is_plain, is_in_run, escape_at, escape_front, onto, unescaped}
-use Rattle.rl_pipeline.specs.declared.logfmt.Run.{Run}
-use Rattle.rl_pipeline.specs.declared.logfmt.Run.TheVariants as runs
-
-blank_small : (b : ℕ) → is_blank b ≡ true → b < 128
-blank_small b h = grind (arith, nat_tests)
-
-key_stop : (b : ℕ) → is_of_key b ≡ false → b < 128
-key_stop b h = grind (arith, nat_tests)
-
-pair_stop : (b : ℕ) → is_of_pair b ≡ false → b < 128
-pair_stop b h = grind (arith, nat_tests)
-
-pub plain_stop : (b : ℕ) → is_plain b ≡ false → b < 128
-plain_stop b h = grind (arith, nat_tests)
-
--- a text may be cut behind a run
-pub run_ends : (run : Run) (bytes : List ℕ) → IsUtf8 bytes → IsCharBoundary bytes (prefix_len (is_in_run run) bytes)
-run_ends runs.Blank bytes utf8 = run_boundary is_blank bytes blank_small utf8
-run_ends runs.Key bytes utf8 = stop_boundary is_of_key bytes key_stop
-run_ends runs.Pair bytes utf8 = stop_boundary is_of_pair bytes pair_stop
-run_ends runs.Plain bytes utf8 = stop_boundary is_plain bytes plain_stop
+use Rattle.rl_plain.specs.laws.Cuts.{stops, first_of, none_left}
+use Rattle.rl_pipeline.specs.LogfmtPairs.{is_plain, escape_at, escape_front, onto, unescaped}
+use Rattle.rl_pipeline.specs.laws.Runs.{plain_stop}
 
 onto-nil : (read : Option (List ℕ)) → onto [] read ≡ read
 onto-nil None = refl

@@ -4,7 +4,8 @@ use Rattle.std.specs.Option.{option_map_or}
 use Rattle.std.proofs.lemmas.Bool.{cond-true, cond-false}
 use Rattle.rl_labels.specs.LabelSet.{LabelSet, Pair, is_empty}
 use Rattle.rl_pipeline.specs.Extracting.{with_pair, with_pairs}
-use Rattle.rl_pipeline.specs.LogfmtPairs.{is_blank, run_at, pair_at, pairs_in}
+use Rattle.rl_plain.specs.Runs.{run_at}
+use Rattle.rl_pipeline.specs.LogfmtPairs.{is_blank, pair_at, pairs_in}
 
 -- the pairs of what is left, where more turns may come
 left : (total turns : ℕ) (rest start : List ℕ) → turns < total → start ≡ (run_at is_blank rest).1

@@ -16,3 +16,4 @@ pub mod Sieving
 pub mod Sought
 pub mod Steps
 pub mod TestNodes
+pub mod laws

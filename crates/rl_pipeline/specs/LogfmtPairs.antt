@@ -1,10 +1,11 @@
 -- The pairs of a line, as `logfmt` of LogQL takes them: by cases on the rest of the line.
-use Rattle.std.specs.Prelude.{ℕ, zero, suc, ◌+◌, ◌-◌, ◌*◌, ◌==◌, nat_lt, nat_le, Bool, false, not, ◌&&◌, ◌||◌, List, [], ◌∷◌, ◌++◌, length, take, drop, Option, Some, None, if◌then◌else◌, encode_utf8}
+use Rattle.std.specs.Prelude.{ℕ, zero, suc, ◌+◌, ◌-◌, ◌*◌, ◌==◌, nat_lt, nat_le, Bool, false, not, ◌&&◌, ◌||◌, List, [], ◌∷◌, ◌++◌, length, drop, Option, Some, None, if◌then◌else◌, encode_utf8}
 use Rattle.std.specs.Option.{option_and_then, option_map, option_map_or}
-use Rattle.std.specs.List.{prefix_len, list_any}
+use Rattle.std.specs.List.{list_any}
 use Rattle.rl_labels.specs.LabelSet.{Pair, is_empty}
 use Rattle.rl_plain.specs.Escapes.{Escapes, unescape}
-use Rattle.rl_query_text.specs.Lexing.{hex_number}
+use Rattle.rl_plain.specs.Hexadecimal.{hex_number}
+use Rattle.rl_plain.specs.Runs.{run_at}
 use Rattle.rl_pipeline.specs.declared.logfmt.Run.{Run}
 use Rattle.rl_pipeline.specs.declared.logfmt.Run.TheVariants as runs
 
@@ -29,10 +30,6 @@ is_in_run runs.Blank = is_blank
 is_in_run runs.Key = is_of_key
 is_in_run runs.Pair = is_of_pair
 is_in_run runs.Plain = is_plain
-
--- the longest front whose bytes pass, and what follows it
-abbrev pub run_at : (ℕ → Bool) → List ℕ → List ℕ × List ℕ
-run_at passes bytes = (take (prefix_len passes bytes) bytes, drop (prefix_len passes bytes) bytes)
 
 -- what follows the rest of a pair
 abbrev pub behind_pair : List ℕ → List ℕ

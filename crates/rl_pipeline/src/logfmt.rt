@@ -1,16 +1,17 @@
 //! The parser `logfmt`: the pairs of a line.
-ghost use Rattle.std.specs.Prelude.{◌≡◌, [], ◌∷◌, ◌+◌, ◌-◌, ◌<◌, ◌≤◌, ◌==◌, ◌||◌, false, length, take, drop, IfSome, IfOk, OnOk, slice_index};
+ghost use Rattle.std.specs.Prelude.{◌≡◌, [], ◌+◌, ◌-◌, ◌<◌, ◌≤◌, ◌==◌, ◌||◌, false, length, take, drop, IfSome, IfOk, OnOk, slice_index};
 ghost use Rattle.std.specs.Option.{option_map, option_map_or};
-ghost use Rattle.std.specs.List.{prefix_len, list_any};
+ghost use Rattle.std.specs.List.{list_any};
 ghost use Rattle.rl_pipeline.specs.Extracting.{with_pair, with_pairs};
 ghost use Rattle.rl_pipeline.specs.Parsed.{logfmt_labels};
-ghost use Rattle.rl_query_text.specs.Lexing.{hex_digit, hex_number};
-ghost use Rattle.rl_pipeline.specs.LogfmtPairs.{is_blank, is_of_pair, is_in_run, run_at, behind_pair, closed_at, unit_at, is_high, is_low, low_at, character_at, escape_at, escape_front, unescaped, goes_on, quoted_pair, plain_pair, value_at, behind_key, pair_at, logfmt_pairs};
+ghost use Rattle.rl_plain.specs.Runs.{run_at};
+ghost use Rattle.rl_pipeline.specs.LogfmtPairs.{is_blank, is_of_pair, is_in_run, behind_pair, closed_at, unit_at, is_high, is_low, low_at, character_at, escape_at, escape_front, unescaped, goes_on, quoted_pair, plain_pair, value_at, behind_key, pair_at, logfmt_pairs};
+ghost use Rattle.rl_pipeline.specs.laws.Runs.{run_ends};
 
 use crate::extracting::add_pair;
 use crate::lent::LentText;
 use rl_labels::{Labels, LabelsBuilder};
-use rl_plain::{PlainText, unescape};
+use rl_plain::{ByteClass, PlainText, behind_first, hex_number, run_front, unescape};
 use std::alloc::{AllocError, Global};
 
 // The escapes of one byte. 8 is a backspace, 12 a form feed.
@@ -82,7 +83,7 @@ fn pair_at<'a>(
 ) -> Result<(Option<(&'a str, LentText<'a>)>, &'a str), AllocError>
     ensures { IfOk result (λ x. (option_map (λ p. (p.0.now, p.1)) x.0, x.1.now) ≡ pair_at text.now) }
 {
-    let (key, rest) = run_front(Run::Key, text);
+    let (key, rest) = run_front(&Run::Key, text);
     behind_key(alloc, key, rest)
 }
 
@@ -90,7 +91,7 @@ fn pair_at<'a>(
 fn behind_blanks(text: &str) -> &str
     ensures { result.now ≡ (run_at is_blank text.now).1 }
 {
-    let (_, rest) = run_front(Run::Blank, text);
+    let (_, rest) = run_front(&Run::Blank, text);
     rest
 }
 
@@ -160,7 +161,7 @@ fn quoted_pair<'a>(
 fn read_content<'a>(alloc: Global, content: &'a str) -> Result<Option<LentText<'a>>, AllocError>
     ensures { IfOk result (λ value. value ≡ unescaped 0 content.now) }
 {
-    let (_, behind) = run_front(Run::Plain, content);
+    let (_, behind) = run_front(&Run::Plain, content);
     if behind.is_empty() {
         return Ok(Some(LentText::lent(content)));
     }
@@ -174,7 +175,7 @@ fn read_content<'a>(alloc: Global, content: &'a str) -> Result<Option<LentText<'
 fn plain_pair<'a>(key: &'a str, text: &'a str) -> (Option<(&'a str, LentText<'a>)>, &'a str)
     ensures { (option_map (λ p. (p.0.now, p.1)) result.0, result.1.now) ≡ plain_pair key.now (run_at is_of_pair text.now) }
 {
-    let (value, rest) = run_front(Run::Pair, text);
+    let (value, rest) = run_front(&Run::Pair, text);
     if has_sign(value.as_bytes()) {
         return (None, rest);
     }
@@ -194,7 +195,7 @@ fn goes_on(bytes: &[u8]) -> bool
 {
     match bytes {
         [] => false,
-        [byte, ..] => is_in_run(Run::Pair, *byte),
+        [byte, ..] => Run::Pair.has(*byte),
     }
 }
 
@@ -202,7 +203,7 @@ fn goes_on(bytes: &[u8]) -> bool
 fn behind_pair(text: &str) -> &str
     ensures { result.now ≡ behind_pair text.now }
 {
-    let (_, rest) = run_front(Run::Pair, text);
+    let (_, rest) = run_front(&Run::Pair, text);
     rest
 }
 
@@ -219,45 +220,19 @@ pub enum Run {
     Plain,
 }
 
-fn is_in_run(run: Run, byte: u8) -> bool
-    ensures { result ≡ is_in_run run byte }
-{
-    match run {
-        Run::Blank => byte <= b' ',
-        Run::Key => byte > b' ' && byte != b'=' && byte != b'"',
-        Run::Pair => byte > b' ',
-        Run::Plain => byte != b'\\',
-    }
-}
+impl ByteClass for Run {
+    ghost has = { is_in_run };
 
-// How many bytes of the run stand at the front.
-fn run_len(run: Run, bytes: &[u8]) -> usize
-    ensures { result ≡ prefix_len (is_in_run run) bytes.now }
-{
-    for (index, byte) in bytes.iter().enumerate() {
-        if !is_in_run(run, *byte) {
-            return index;
+    fn has(&self, byte: u8) -> bool {
+        match *self {
+            Run::Blank => byte <= b' ',
+            Run::Key => byte > b' ' && byte != b'=' && byte != b'"',
+            Run::Pair => byte > b' ',
+            Run::Plain => byte != b'\\',
         }
     }
-    bytes.len()
-}
 
-// The longest run at the front, and what follows it.
-fn run_front(run: Run, text: &str) -> (&str, &str)
-    ensures front { result.0.now ≡ take (prefix_len (is_in_run run) text.now) text.now }
-    ensures behind { result.1.now ≡ drop (prefix_len (is_in_run run) text.now) text.now }
-{
-    text.split_at(run_len(run, text.as_bytes()))
-}
-
-// What follows the first byte, which is ASCII.
-fn behind_first(text: &str) -> &str
-    requires some { 0 < length text.now }
-    requires ascii { slice_index text.now 0 < 128 }
-    ensures { result.now ≡ drop 1 text.now }
-{
-    let (_, rest) = text.split_at(1);
-    rest
+    ghost cuts = { run_ends };
 }
 
 // What stands up to the quote that closes, and what follows it.
@@ -291,7 +266,7 @@ fn unescaped(alloc: Global, content: &str) -> Result<Option<PlainText>, AllocErr
     let mut value = String::new(alloc);
     let mut rest = content;
     loop {
-        let (plain, behind) = run_front(Run::Plain, rest);
+        let (plain, behind) = run_front(&Run::Plain, rest);
         value.push_str(plain)?;
         if behind.is_empty() {
             return Ok(Some(PlainText::from_string(value)));
@@ -386,30 +361,6 @@ fn unit_at(bytes: &[u8]) -> Option<u32>
 {
     match bytes {
         [a, b, c, d, ..] => hex_number(*a, *b, *c, *d),
-        _ => None,
-    }
-}
-
-// The number of four hexadecimal digits, if they are.
-fn hex_number(a: u8, b: u8, c: u8, d: u8) -> Option<u32>
-    ensures number { result ≡ hex_number 0 (a ∷ b ∷ c ∷ d ∷ []) }
-    ensures fits { IfSome result (λ number. number < 65536) }
-    ensures ascii { IfSome result (λ number. d < 128) }
-{
-    let number = 16 * hex_digit(a)? + hex_digit(b)?;
-    let number = 16 * number + hex_digit(c)?;
-    Some(16 * number + hex_digit(d)?)
-}
-
-fn hex_digit(byte: u8) -> Option<u32>
-    ensures value { result ≡ hex_digit byte }
-    ensures digit { IfSome result (λ digit. digit < 16) }
-    ensures ascii { IfSome result (λ digit. byte < 128) }
-{
-    match byte {
-        b'0'..=b'9' => Some(u32::from(byte - b'0')),
-        b'a'..=b'f' => Some(u32::from(byte - b'a') + 10),
-        b'A'..=b'F' => Some(u32::from(byte - b'A') + 10),
         _ => None,
     }
 }

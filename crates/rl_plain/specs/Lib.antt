@@ -1,3 +1,5 @@
 pub mod Answers
 pub mod Escapes
+pub mod Hexadecimal
+pub mod Runs
 pub mod laws

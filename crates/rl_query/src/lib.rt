@@ -1,3 +1,19 @@
+//! Queries as values: LogQL metric queries, the sieves of delete requests, and what both are made of.
+//!
+//! The limits of a query are facts of its types, so each `Query`, `Term` and `Sieve` that exists keeps them. Whether two
+//! queries are one can be told without memory. Texts of queries are read and printed in rl_query_text.
+//!
+//! - `query`: `Query`, `Term`, `LogRange`, `RangeFunction` and `Selector`.
+//! - `aggregation`: `Aggregation`, `Grouping`, `VectorOperator` and `Threshold`.
+//! - `stages`: `Stage` and `Parser`.
+//! - `filter`: `LineFilter`, `LineOp` and `Sieve`.
+//! - `label_test`: `LabelTests`, trees of `LabelTest` under a `Join`.
+//! - `matcher_test`: `MatcherTest`, a test of a text.
+//! - `quantity_test`: `QuantityTest`, a test of a quantity.
+//! - `token`: `Token`, `Sign` and `Lexeme`, of which texts of queries are made.
+//! - `duration`: the seconds of a range.
+//! - `fault`: `QueryFault`, why a text is refused.
+//! - `sending`: what may be sent to another thread, and looked at from two.
 #![tactic(auto)]
 
 pub mod aggregation;

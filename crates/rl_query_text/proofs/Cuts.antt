@@ -1,28 +1,11 @@
--- Where a text may be cut: behind an ASCII byte.
+-- A text may be cut behind spaces and comments.
 use Rattle.std.proofs.Common.{◌≡◌, inl, inr, ℕ, zero, suc, ◌+◌, ◌-◌, ◌<◌, ◌≤◌, ◌==◌, Bool, true, false, cond, not, List, [], ◌∷◌, length, get_or, refl, sym, subst, arith}
-use Rattle.std.specs.List.{prefix_len}
 use Rattle.std.specs.Str.{IsUtf8, IsCharBoundary}
 use Rattle.std.proofs.lemmas.Bool.Decides.{nat_tests}
 use Rattle.std.proofs.lemmas.Bool.{eqb-true, cases_lt}
-use Rattle.std.proofs.lemmas.List.Sums.{prefix_len-le-length, prefix_len_passes}
-use Rattle.std.proofs.lemmas.Str.{IsCharBoundary-from_take, IsCharBoundary-after_ascii, IsCharBoundary-end}
-use Rattle.rl_labels.specs.Name.{is_name_byte}
+use Rattle.std.proofs.lemmas.Str.{IsCharBoundary-end}
+use Rattle.rl_plain.specs.laws.Cuts.{behind_ascii}
 use Rattle.rl_query_text.specs.Lexing.{is_space, gap_len}
-
--- a cut behind an ASCII byte, or at the front
-pub behind_ascii : (bytes : List ℕ) (n : ℕ) → IsUtf8 bytes → n ≤ length bytes → (0 < n → get_or bytes (n - 1) 0 < 128) → IsCharBoundary bytes n
-behind_ascii bytes zero utf8 fits ascii = IsCharBoundary-from_take bytes 0 utf8 (omega arith) ([], (refl, refl))
-behind_ascii bytes (suc m) utf8 fits ascii =
-    let same : suc m - 1 ≡ m = omega arith in
-    let next : m + 1 ≡ suc m = omega arith in
-    subst (IsCharBoundary bytes) next (IsCharBoundary-after_ascii bytes m utf8 (omega arith) (subst (λ k. get_or bytes k 0 < 128) same (ascii (omega arith))))
-
--- behind a run of ASCII bytes
-pub run_boundary : (p : ℕ → Bool) (bytes : List ℕ) → ((b : ℕ) → p b ≡ true → b < 128) → IsUtf8 bytes → IsCharBoundary bytes (prefix_len p bytes)
-run_boundary p bytes small utf8 = behind_ascii bytes (prefix_len p bytes) utf8 (prefix_len-le-length p bytes) (λ some. small _ (prefix_len_passes p bytes (prefix_len p bytes - 1) 0 (omega arith)))
-
-pub name_byte_small : (b : ℕ) → is_name_byte b ≡ true → b < 128
-name_byte_small b h = grind (arith, nat_tests)
 
 gap_fits : (comment : Bool) (bytes : List ℕ) → gap_len comment bytes ≤ length bytes
 gap_fits true [] = omega arith

@@ -24,7 +24,8 @@ use Rattle.rl_query.specs.Durations.{duration_from, duration_of}
 use Rattle.rl_query.specs.Form.{MatcherForm, FilterForm}
 use Rattle.rl_query_text.specs.Standing.{Stand, operator_sign, is_matcher, matcher_tokens}
 use Rattle.rl_query_text.specs.Grammar.{matchers_tokens, filter_sign, filter_tokens, filters_tokens}
-use Rattle.rl_query_text.specs.Lexing.{is_space, is_number_byte, gap_len, run_at, onto, quoted, or_bad, or_else, sign_at, token_at, lexemes_in, lexemes_of}
+use Rattle.rl_plain.specs.Runs.{onto, run_at}
+use Rattle.rl_query_text.specs.Lexing.{is_space, is_number_byte, gap_len, quoted, or_bad, or_else, sign_at, token_at, lexemes_in, lexemes_of}
 use Rattle.rl_query_text.specs.MatcherPrinting.{operator_text, matcher_text}
 use Rattle.rl_query_text.specs.Printing.{filter_op_text, filter_print, filters_text}
 use Rattle.rl_plain.specs.Escapes.{escaped}

@@ -8,56 +8,12 @@ use Rattle.std.proofs.lemmas.Bool.{and_parts, eqb-true, true≢false, cases_lt, 
 use Rattle.std.proofs.lemmas.Str.{IsUtf8-drop}
 use Rattle.std.proofs.Math.Utf8.{encode}
 use Rattle.rl_plain.specs.Escapes.{Escapes, are_ascii, unescape}
+use Rattle.rl_plain.specs.Hexadecimal.{hex_digit, hex_number}
+use Rattle.rl_plain.specs.Runs.{onto}
+use Rattle.rl_plain.specs.laws.Cuts.{behind_ascii, stops, first_of, none_left}
 use Rattle.rl_query.specs.Tables.{escapes}
-use Rattle.rl_query_text.specs.Lexing.{is_plain, is_raw, is_number_byte, is_in_run, hex_digit, hex_number, character, unicode_at, escape_at, escape_front, onto, quoted, backquoted}
-use Rattle.rl_query_text.proofs.Cuts.{behind_ascii, run_boundary, name_byte_small}
-use Rattle.rl_query_text.specs.declared.lexer.Run.{Run}
-use Rattle.rl_query_text.specs.declared.lexer.Run.TheVariants as runs
-use Rattle.rl_labels.specs.Name.{is_name_byte}
-
--- what stands at the place where a run ends
-abbrev at_stop : (ℕ → Bool) → List ℕ → Type 0
-at_stop p [] = Unit {0}
-at_stop p (b ∷ rest) = p b ≡ false
-
-stop_at : (p : ℕ → Bool) (bytes : List ℕ) → at_stop p (drop (prefix_len p bytes) bytes)
-stop_at p [] = tt
-stop_at p (b ∷ bytes) =
-    elim (p b) as (λ t. p b ≡ t → at_stop p (drop (cond t (1 + prefix_len p bytes) 0) (b ∷ bytes))) [
-      | true ↦ λ _. let next : 1 + prefix_len p bytes ≡ suc (prefix_len p bytes) = omega arith in subst (λ n. at_stop p (drop n (b ∷ bytes))) (sym next) (stop_at p bytes)
-      | false ↦ λ stops. stops
-    ] refl
-
-pub stops : (p : ℕ → Bool) (bytes : List ℕ) (b : ℕ) (rest : List ℕ) → drop (prefix_len p bytes) bytes ≡ b ∷ rest → p b ≡ false
-stops p bytes b rest is = subst (at_stop p) is (stop_at p bytes)
-
--- a cut before a byte that ends a run, which is ASCII, or at the end
-pub stop_boundary : (p : ℕ → Bool) (bytes : List ℕ) → ((b : ℕ) → p b ≡ false → b < 128) → IsCharBoundary bytes (prefix_len p bytes)
-stop_boundary p [] small = (omega arith, λ below _. absurd (omega arith))
-stop_boundary p (b ∷ bytes) small =
-    elim (p b) as (λ t. p b ≡ t → IsCharBoundary (b ∷ bytes) (cond t (1 + prefix_len p bytes) 0)) [
-      | true ↦ λ _.
-          let rest = stop_boundary p bytes small in
-          let next : 1 + prefix_len p bytes ≡ suc (prefix_len p bytes) = omega arith in
-          subst (IsCharBoundary (b ∷ bytes)) (sym next) (omega (arith, rest.0), λ below. rest.1 (omega arith))
-      | false ↦ λ stops. (omega arith, λ _ high. absurd (let low = small b stops in omega arith))
-    ] refl
-
-pub number_stop : (b : ℕ) → is_number_byte b ≡ false → b < 128
-number_stop b h = grind (arith, nat_tests)
-
-pub plain_stop : (b : ℕ) → is_plain b ≡ false → b < 128
-plain_stop b h = grind (arith, nat_tests)
-
-pub raw_stop : (b : ℕ) → is_raw b ≡ false → b < 128
-raw_stop b h = grind (arith, nat_tests)
-
--- a text may be cut behind a run
-pub run_ends : (run : Run) (bytes : List ℕ) → IsUtf8 bytes → IsCharBoundary bytes (prefix_len (is_in_run run) bytes)
-run_ends runs.Word bytes utf8 = run_boundary is_name_byte bytes name_byte_small utf8
-run_ends runs.Number bytes utf8 = stop_boundary is_number_byte bytes number_stop
-run_ends runs.Plain bytes utf8 = stop_boundary is_plain bytes plain_stop
-run_ends runs.Raw bytes utf8 = stop_boundary is_raw bytes raw_stop
+use Rattle.rl_query_text.specs.Lexing.{is_plain, is_raw, character, unicode_at, escape_at, escape_front, quoted, backquoted}
+use Rattle.rl_query_text.specs.laws.Runs.{plain_stop}
 
 raw_is : (b : ℕ) → is_raw b ≡ false → (b == 96) ≡ true
 raw_is b h = elim (b == 96) as (λ t. not t ≡ false → t ≡ true) [ true ↦ λ _. refl | false ↦ λ e. absurd (true≢false e) ] h
@@ -183,14 +139,6 @@ escape_boundary bytes c n utf8 is =
 -- no text, and a text, from what stands behind a run
 pub backquoted_none : (bytes : List ℕ) → drop (prefix_len is_raw bytes) bytes ≡ [] → None ≡ backquoted bytes
 backquoted_none bytes ends = sym (backquoted_run bytes ∙ ap (λ t. onto (take (prefix_len is_raw bytes) bytes) (backquoted t)) ends)
-
-pub first_of : (bytes : List ℕ) → (length bytes == 0) ≡ false → bytes ≡ get_or bytes 0 0 ∷ drop 1 bytes
-first_of [] h = absurd (true≢false h)
-first_of (b ∷ bytes) h = refl
-
-pub none_left : (bytes : List ℕ) → (length bytes == 0) ≡ true → bytes ≡ []
-none_left [] h = refl
-none_left (b ∷ bytes) h = absurd (let is : length (b ∷ bytes) ≡ 0 = eqb-true _ _ h in omega arith)
 
 pub backquoted_some : (bytes : List ℕ) → (length (drop (prefix_len is_raw bytes) bytes) == 0) ≡ false → ◌≡◌ {A = Option (List ℕ × List ℕ)} (Some (take (prefix_len is_raw bytes) bytes, drop 1 (drop (prefix_len is_raw bytes) bytes))) (backquoted bytes)
 backquoted_some bytes more =

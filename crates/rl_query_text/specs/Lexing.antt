@@ -1,9 +1,10 @@
 -- The tokens of a text.
-use Rattle.std.specs.Prelude.{ℕ, zero, suc, ◌+◌, ◌-◌, ◌*◌, ◌==◌, nat_le, nat_lt, Bool, true, false, not, ◌&&◌, ◌||◌, List, [], ◌∷◌, ◌++◌, length, take, drop, slice_index, Option, Some, None, if◌then◌else◌, encode_utf8}
+use Rattle.std.specs.Prelude.{ℕ, zero, suc, ◌+◌, ◌-◌, ◌==◌, nat_le, nat_lt, Bool, true, false, not, ◌&&◌, ◌||◌, List, [], ◌∷◌, length, drop, slice_index, Option, Some, None, if◌then◌else◌, encode_utf8}
 use Rattle.std.specs.Option.{option_and_then, option_map}
-use Rattle.std.specs.List.{prefix_len}
 use Rattle.std.specs.Char.{is_ascii_digit}
 use Rattle.rl_plain.specs.Escapes.{unescape}
+use Rattle.rl_plain.specs.Hexadecimal.{hex_number}
+use Rattle.rl_plain.specs.Runs.{onto, run_at}
 use Rattle.rl_labels.specs.Name.{is_name_start, is_name_byte}
 use Rattle.rl_query.specs.declared.token.Sign.{Sign}
 use Rattle.rl_query_text.specs.declared.lexer.Run.{Run}
@@ -27,23 +28,6 @@ gap_len false (byte ∷ bytes) = if is_space byte then 1 + gap_len false bytes e
 abbrev pub is_number_byte : ℕ → Bool
 is_number_byte byte = is_name_byte byte || (byte == 46 || nat_le 128 byte)
 
--- the longest front whose bytes pass, and what follows it
-abbrev pub run_at : (ℕ → Bool) → List ℕ → List ℕ × List ℕ
-run_at passes bytes = (take (prefix_len passes bytes) bytes, drop (prefix_len passes bytes) bytes)
-
--- the value of a hexadecimal digit
-abbrev pub hex_digit : ℕ → Option ℕ
-hex_digit byte =
-    if is_ascii_digit byte then Some (byte - 48)
-    else (if nat_le 97 byte && nat_le byte 102 then Some (byte - 87)
-    else (if nat_le 65 byte && nat_le byte 70 then Some (byte - 55)
-    else None))
-
--- the number of hexadecimal digits, behind those read so far
-abbrev pub hex_number : ℕ → List ℕ → Option ℕ
-hex_number so_far [] = Some so_far
-hex_number so_far (byte ∷ bytes) = option_and_then (λ digit. hex_number (16 * so_far + digit) bytes) (hex_digit byte)
-
 -- the character of a number, which is no surrogate
 abbrev pub character : ℕ → Option ℕ
 character n = if nat_le 55296 n && nat_le n 57343 then None else Some n
@@ -62,10 +46,6 @@ escape_at (byte ∷ bytes) =
 -- the same with what follows it
 abbrev pub escape_front : List ℕ → Option (ℕ × List ℕ)
 escape_front bytes = option_map (λ (e : ℕ × ℕ). (e.0, drop e.1 bytes)) (escape_at bytes)
-
--- a text that was read, behind the bytes before it
-abbrev pub onto : List ℕ → Option (List ℕ × List ℕ) → Option (List ℕ × List ℕ)
-onto front read = option_map (λ x. (front ++ x.0, x.1)) read
 
 -- behind a quote: the text up to the next quote that is not escaped, and what follows it; some bytes at the front are passed over
 abbrev pub quoted : ℕ → List ℕ → Option (List ℕ × List ℕ)

@@ -3,6 +3,7 @@ pub mod Answering
 pub mod Drafts
 pub mod Grammar
 pub mod Lexing
+pub mod laws
 pub mod Parsing
 pub mod Printing
 pub mod QueryReading

@@ -1,14 +1,14 @@
 //! The lexer: the tokens of a text.
-ghost use Rattle.std.specs.Prelude.{◌≡◌, [], ◌∷◌, ◌+◌, ◌-◌, ◌<◌, ◌≤◌, Bool, true, false, length, take, drop, IfSome, IfOk, Some, slice_index, string_bytes, encode_utf8, ◌++◌};
+ghost use Rattle.std.specs.Prelude.{◌≡◌, [], ◌∷◌, ◌+◌, ◌-◌, ◌<◌, ◌≤◌, Bool, true, false, length, drop, IfSome, IfOk, Some, slice_index, string_bytes, encode_utf8, ◌++◌};
 ghost use Rattle.std.specs.Option.{option_map};
-ghost use Rattle.std.specs.List.{prefix_len};
 ghost use Rattle.rl_labels.specs.Name.{is_name_start, is_name_byte};
-ghost use Rattle.rl_query_text.specs.Lexing.{is_space, gap_len, hex_digit, hex_number, character, unicode_at, escape_at, escape_front, quoted, backquoted, sign_at, token_at, lexemes_of, or_bad, is_in_run};
+ghost use Rattle.rl_query_text.specs.Lexing.{is_space, gap_len, character, unicode_at, escape_at, escape_front, quoted, backquoted, sign_at, token_at, lexemes_of, or_bad, is_in_run};
+ghost use Rattle.rl_query_text.specs.laws.Runs.{run_ends};
 ghost use Rattle.rl_query.specs.Tables.{two_bytes, one_byte};
 ghost use Rattle.rl_query.specs.declared.token.Token.TheVariants as tokens;
 
+use rl_plain::{ByteClass, PlainText, behind_first, hex_number, run_front, unescape};
 use rl_query::token::{ESCAPES, Lexeme, Sign, Token};
-use rl_plain::{PlainText, unescape};
 use std::alloc::{AllocError, Global};
 
 /// The tokens of a text with the bytes at which they begin. The last is the end.
@@ -83,11 +83,11 @@ fn token_at(alloc: Global, text: &str) -> Result<(Token, &str), AllocError>
     }
     let first = bytes[0];
     if is_name_start(first) {
-        let (word, rest) = run_front(Run::Word, text);
+        let (word, rest) = run_front(&Run::Word, text);
         return Ok((Token::Word(PlainText::from_str(alloc, word)?), rest));
     }
     if first.is_ascii_digit() {
-        let (number, rest) = run_front(Run::Number, text);
+        let (number, rest) = run_front(&Run::Number, text);
         return Ok((Token::Number(PlainText::from_str(alloc, number)?), rest));
     }
     if first == b'"' {
@@ -112,35 +112,19 @@ pub enum Run {
     Raw,
 }
 
-fn is_in_run(run: Run, byte: u8) -> bool
-    ensures { result ≡ is_in_run run byte }
-{
-    match run {
-        Run::Word => is_name_byte(byte),
-        Run::Number => is_name_byte(byte) || byte == b'.' || byte >= 128,
-        Run::Plain => byte != b'"' && byte != b'\\',
-        Run::Raw => byte != b'`',
-    }
-}
+impl ByteClass for Run {
+    ghost has = { is_in_run };
 
-// How many bytes of the run stand at the front.
-fn run_len(run: Run, bytes: &[u8]) -> usize
-    ensures { result ≡ prefix_len (is_in_run run) bytes.now }
-{
-    for (index, byte) in bytes.iter().enumerate() {
-        if !is_in_run(run, *byte) {
-            return index;
+    fn has(&self, byte: u8) -> bool {
+        match *self {
+            Run::Word => is_name_byte(byte),
+            Run::Number => is_name_byte(byte) || byte == b'.' || byte >= 128,
+            Run::Plain => byte != b'"' && byte != b'\\',
+            Run::Raw => byte != b'`',
         }
     }
-    bytes.len()
-}
 
-// The longest run at the front, and what follows it.
-fn run_front(run: Run, text: &str) -> (&str, &str)
-    ensures front { result.0.now ≡ take (prefix_len (is_in_run run) text.now) text.now }
-    ensures behind { result.1.now ≡ drop (prefix_len (is_in_run run) text.now) text.now }
-{
-    text.split_at(run_len(run, text.as_bytes()))
+    ghost cuts = { run_ends };
 }
 
 // The longest sign at the front, and what follows it.
@@ -172,16 +156,6 @@ fn text_or_bad(read: Option<(PlainText, &str)>) -> (Token, &str)
     }
 }
 
-// What follows the first byte, which is ASCII.
-fn behind_first(text: &str) -> &str
-    requires some { 0 < length text.now }
-    requires ascii { slice_index text.now 0 < 128 }
-    ensures { result.now ≡ drop 1 text.now }
-{
-    let (_, rest) = text.split_at(1);
-    rest
-}
-
 // Behind a backslash: the character of the escape, and what follows it.
 fn escape_front(text: &str) -> Option<(char, &str)>
     ensures { option_map (λ x. (x.0, x.1.now)) result ≡ escape_front text.now }
@@ -195,7 +169,7 @@ fn escape_front(text: &str) -> Option<(char, &str)>
 fn backquoted(alloc: Global, text: &str) -> Result<Option<(PlainText, &str)>, AllocError>
     ensures { IfOk result (λ found. option_map (λ x. (x.0, x.1.now)) found ≡ backquoted text.now) }
 {
-    let (raw, behind) = run_front(Run::Raw, text);
+    let (raw, behind) = run_front(&Run::Raw, text);
     if behind.is_empty() {
         return Ok(None);
     }
@@ -210,7 +184,7 @@ fn quoted(alloc: Global, text: &str) -> Result<Option<(PlainText, &str)>, AllocE
     let mut content = String::new(alloc);
     let mut rest = text;
     loop {
-        let (plain, behind) = run_front(Run::Plain, rest);
+        let (plain, behind) = run_front(&Run::Plain, rest);
         content.push_str(plain)?;
         if behind.is_empty() {
             return Ok(None);
@@ -254,28 +228,6 @@ fn is_name_byte(byte: u8) -> bool
     ensures { result ≡ is_name_byte byte }
 {
     is_name_start(byte) || byte.is_ascii_digit()
-}
-
-// The number of four hexadecimal digits, if they are.
-fn hex_number(a: u8, b: u8, c: u8, d: u8) -> Option<u32>
-    ensures number { result ≡ hex_number 0 (a ∷ b ∷ c ∷ d ∷ []) }
-    ensures fits { IfSome result (λ number. number < 65536) }
-{
-    let number = 16 * hex_digit(a)? + hex_digit(b)?;
-    let number = 16 * number + hex_digit(c)?;
-    Some(16 * number + hex_digit(d)?)
-}
-
-fn hex_digit(byte: u8) -> Option<u32>
-    ensures value { result ≡ hex_digit byte }
-    ensures digit { IfSome result (λ digit. digit < 16) }
-{
-    match byte {
-        b'0'..=b'9' => Some(u32::from(byte - b'0')),
-        b'a'..=b'f' => Some(u32::from(byte - b'a') + 10),
-        b'A'..=b'F' => Some(u32::from(byte - b'A') + 10),
-        _ => None,
-    }
 }
 
 // The character of four hexadecimal digits at the front.

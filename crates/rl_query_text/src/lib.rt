@@ -1,3 +1,20 @@
+//! Query texts: LogQL metric queries and the sieves of delete requests, read from texts and printed canonically.
+//!
+//! `parse` reads a text as a `Query` only where the grammar derives it, and refuses by the first fault from the left.
+//! What `print` writes is read again as the same query. `parse_delete` and `print_sieve` do the same with sieves.
+//!
+//! - `parser`: `parse`.
+//! - `sieve`: `parse_delete` and `print_sieve`.
+//! - `printer`: `print` and `print_term`.
+//! - `test_printer`: `print_tests`.
+//! - `lexer`: the tokens of a text.
+//! - `query_reading`: queries from their tokens.
+//! - `term_reading`: terms from their tokens.
+//! - `aggregation_reading`: groupings, operators and thresholds from their tokens.
+//! - `stage`: line filters and stages from their tokens.
+//! - `testing`: label tests from their tokens.
+//! - `room`: what a text may still have at a place.
+//! - `draft`: what was read before it is known that it keeps its limits.
 #![tactic(auto)]
 
 pub mod aggregation_reading;

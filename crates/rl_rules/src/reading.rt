@@ -18,7 +18,8 @@ use crate::values::{
     items_at, kind_of, labels_at, name_of, number_at, seconds_at, text_at, texts_at,
 };
 use rl_plain::{PlainList, PlainText};
-use rl_query::{Query, QueryError, parse};
+use rl_query::{Query, QueryError};
+use rl_query_text::parse;
 use std::alloc::Global;
 use toml::{Table, Value};
 

@@ -3,7 +3,8 @@
 use crate::hint::push_hint;
 use crate::place::{Place, line_at, push_line};
 use crate::told::{Told, Untold};
-use rl_query::{QueryError, QueryFault, parse};
+use rl_query::{QueryError, QueryFault};
+use rl_query_text::parse;
 use std::fmt::Write;
 
 /// The fault of a query, if it has one: the line in which it is, a caret under the byte, and what a ruler has near it.

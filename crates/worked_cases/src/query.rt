@@ -3,10 +3,8 @@ use crate::compared::{halves, matched};
 use crate::given::Read;
 use crate::told::{tell, tell_debug};
 use crate::trouble::Trouble;
-use rl_query::{
-    Query, QueryError, QueryFault, Sieve, Stage, parse, parse_delete, print, print_sieve,
-    print_tests,
-};
+use rl_query::{Query, QueryError, QueryFault, Sieve, Stage};
+use rl_query_text::{parse, parse_delete, print, print_sieve, print_tests};
 use std::alloc::{AllocError, AllocFailed, Global};
 use std::mem;
 

@@ -7,7 +7,7 @@ use crate::told::tell;
 use crate::trouble::Trouble;
 use crate::world::{Kept, Sunk};
 use rl_plain::{PlainList, Same};
-use rl_query::print_term;
+use rl_query_text::print_term;
 use rl_rules::{Alert, Evaluation, Group};
 use rl_shard::ShardReply;
 use rl_sinks::{SinkKind, evaluation_text};

@@ -1,6 +1,6 @@
 -- An escape ends behind an ASCII byte.
 use Rattle.std.proofs.Common.{ℕ, List, ◌<◌, ◌≤◌, ◌-◌, length, get_or, subst}
-use Rattle.rl_query_text.proofs.Cuts.{behind_ascii}
+use Rattle.rl_plain.specs.laws.Cuts.{behind_ascii}
 use Rattle.rl_pipeline.proofs.logfmt.escape_front.Goals as goal
 
 pub split_at-requires : goal.split_at-requires

@@ -1,6 +1,6 @@
 -- What is left is closed where the whole is.
 use Rattle.std.proofs.Common.{◌≡◌, false, take, drop}
-use Rattle.rl_query_text.specs.Lexing.{onto}
+use Rattle.rl_plain.specs.Runs.{onto}
 use Rattle.rl_pipeline.specs.LogfmtPairs.{closed_at}
 use Rattle.rl_pipeline.proofs.logfmt.quote_at.Given as goal
 

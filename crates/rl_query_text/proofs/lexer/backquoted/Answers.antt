@@ -1,7 +1,9 @@
 -- The text up to the backquote.
 use Rattle.std.proofs.Common.{◌==◌, Some, length, drop, sym, ap, ◌∙◌}
 use Rattle.rl_query_text.specs.Lexing.{is_raw}
-use Rattle.rl_query_text.proofs.Texts.{backquoted_none, backquoted_some, none_left, first_of, stops, raw_stop}
+use Rattle.rl_plain.specs.laws.Cuts.{first_of, none_left, stops}
+use Rattle.rl_query_text.specs.laws.Runs.{raw_stop}
+use Rattle.rl_query_text.proofs.Texts.{backquoted_none, backquoted_some}
 use Rattle.rl_query_text.proofs.lexer.backquoted.Goals as goal
 
 pub returns-then-is_empty : goal.returns-then-is_empty

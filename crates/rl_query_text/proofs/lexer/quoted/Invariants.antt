@@ -1,7 +1,8 @@
 -- The text so far, and what is left to read.
 use Rattle.std.proofs.Common.{◌≡◌, string_bytes, length}
 use Rattle.std.specs.Str.{IsUtf8}
-use Rattle.rl_query_text.specs.Lexing.{quoted, onto}
+use Rattle.rl_plain.specs.Runs.{onto}
+use Rattle.rl_query_text.specs.Lexing.{quoted}
 use Rattle.rl_query_text.proofs.lexer.quoted.Given as goal
 
 abbrev pub invariant-loop-content : goal.invariant-loop-content

@@ -1,0 +1,2 @@
+-- Laws that the code rests on.
+pub mod Runs
