@@ -21,12 +21,12 @@ use Rattle.rl_deletes.specs.declared.fault.CancelFault.TheVariants as cancelling
 use Rattle.rl_deletes.specs.declared.fault.ProcessFault.{ProcessFault}
 use Rattle.rl_deletes.specs.declared.fault.ProcessFault.TheVariants as processing
 
--- requests by their numbers, and how long after its making each can be cancelled, in seconds
+-- requests by their numbers, and how long after its making each is not processed, in seconds
 pub record RequestsView : Type 0 where
   pub requests : FinMap nat_cmp Request
   pub cancel : ℕ
 
--- no requests: each can be cancelled for as long as the limits say
+-- no requests: each waits for as long as the limits say
 abbrev pub no_requests : Limits → RequestsView
 no_requests limits = record { requests = map.empty; cancel = limits.cancel }
 
@@ -150,7 +150,7 @@ cancel_fault all id = cancel_fault_of (map.get all.requests id)
 abbrev pub cancelled : RequestsView → ℕ → RequestsView
 cancelled all id = ended Cancelled all id
 
--- from when on a request that was made at the moment can no longer be cancelled, in nanoseconds
+-- from when on a request that was made at the moment can be processed, in nanoseconds
 abbrev pub due : RequestsView → (created : ℕ) → ℕ
 due all created = created + all.cancel * 10 ^ 9
 

@@ -23,7 +23,7 @@ pub const MOST_REQUESTS: usize = 65_536;
 // Nanoseconds in a second.
 const SECOND: u64 = 1_000_000_000;
 
-/// Delete requests by their numbers. Contracts see a finite map, and how long after its making a request can be cancelled.
+/// Delete requests by their numbers. Contracts see a finite map, and how long after its making a request is not processed.
 #[derive(Drop)]
 pub struct Requests {
     alloc: Global,
@@ -47,7 +47,7 @@ impl Model for Requests {
 }
 
 impl Requests {
-    /// No requests. Each can be cancelled for as long as the limits say.
+    /// No requests. Each waits for as long as the limits say before it can be processed.
     pub fn new(alloc: Global, limits: &Limits) -> Requests
         ensures { result ≡ no_requests limits.now }
     {
@@ -109,7 +109,7 @@ impl Requests {
         Ok(())
     }
 
-    /// Takes note that what a request covered is removed, once it can no longer be cancelled. A repeat changes nothing.
+    /// Takes note that what a request covered is removed, once it has waited its time. A repeat changes nothing.
     pub fn process(&mut self, id: u64, now: Ns) -> Result<(), ProcessFault>
         ensures { MatchResult result (λ _. (process_fault self.old id now ≡ None) × (self.new ≡ processed self.old id)) (λ fault. (process_fault self.old id now ≡ Some fault) × (self.new ≡ self.old)) }
     {

@@ -57,7 +57,7 @@ pub struct RawLimits {
     pub chunk_entries: u64,
     /// The greatest age of a chunk, 0 to 2,592,000. Entries up to half of it late are taken.
     pub chunk_age: u64,
-    /// How long a deletion can be cancelled, 0 to 31,536,000.
+    /// How long a deletion waits before it is processed, so that it can be cancelled, 0 to 31,536,000.
     pub cancel: u64,
     /// How long entries are kept, up to 315,360,000; 0 is for ever.
     pub keep: u64,

@@ -11,17 +11,17 @@ ghost use Rattle.rl_query.specs.Form.{aggregation_form, threshold_form};
 ghost use Rattle.rl_query_text.specs.Parsing.{listed_at};
 ghost use Rattle.rl_query.specs.Tables.{plain_operator};
 
-use rl_query::aggregation::{Aggregation, Grouping, Threshold, VectorOperator};
-use crate::stop::{Stop, Stopped, place_of};
-use rl_query::fault::QueryFault;
 use crate::parser::{Position, expected, is_sign, name_of, next, opened_at, refusal};
-use rl_query::quantity_test::Comparison;
 use crate::room::Room;
+use crate::stop::{Stop, Stopped, place_of};
 use crate::testing::{comparison_of, is_word};
-use rl_query::token::{Lexeme, Sign, Token};
 use rl_labels::labels::is_label_name;
 use rl_labels::{Decimal, number_of};
 use rl_plain::{PlainList, PlainText, TryCopy};
+use rl_query::aggregation::{Aggregation, Grouping, Threshold, VectorOperator};
+use rl_query::fault::QueryFault;
+use rl_query::quantity_test::Comparison;
+use rl_query::token::{Lexeme, Sign, Token};
 use std::alloc::Global;
 
 /// What stands before the term in a vector aggregation.

@@ -4,10 +4,10 @@ ghost use Rattle.rl_query_text.specs.Drafts.{range_draft, term_draft, query_draf
 ghost use Rattle.rl_query.specs.Form.{range_form, term_form, query_form};
 ghost use Rattle.std.specs.Prelude.{option_map};
 
+use rl_plain::PlainList;
 use rl_query::aggregation::{Aggregation, Threshold};
 use rl_query::query::{LogRange, Query, RangeFunction, Selector, Term};
 use rl_query::stages::Stage;
-use rl_plain::PlainList;
 
 /// A range.
 #[derive(Drop)]

@@ -22,19 +22,19 @@ ghost use Rattle.rl_labels.specs.Selects.{are_by_text};
 ghost use Rattle.std.specs.Char.{is_ascii_digit};
 
 use crate::draft::DraftRange;
-use crate::meeting::{have_room, refused};
-use rl_query::duration::{LONGEST_RANGE, duration_of};
-use crate::stop::{Stop, Stopped, place_of};
-use rl_query::fault::{QueryError, QueryFault};
 use crate::lexer::lexemes_of;
-use rl_query::query::{ALL_FUNCTIONS, Query, RangeFunction, Selector};
+use crate::meeting::{have_room, refused};
 use crate::query_reading::query_in;
 use crate::room::Room;
 use crate::stage::{behind_stages, stages_at};
-use rl_query::stages::Stage;
-use rl_query::token::{Lexeme, Sign, Token};
+use crate::stop::{Stop, Stopped, place_of};
 use rl_labels::{Duration, MatchOp, Matcher, MatcherFault};
 use rl_plain::{OrMemory, PlainList, PlainText, TryCopy};
+use rl_query::duration::{LONGEST_RANGE, duration_of};
+use rl_query::fault::{QueryError, QueryFault};
+use rl_query::query::{ALL_FUNCTIONS, Query, RangeFunction, Selector};
+use rl_query::stages::Stage;
+use rl_query::token::{Lexeme, Sign, Token};
 use std::alloc::{AllocError, Global};
 
 /// The words that begin a query in LogQL, beside those of range aggregations. The ruler reads the first five, in lower case.
@@ -219,10 +219,8 @@ fn is_unsupported_sign(position: Position, sign: Sign) -> bool
         Position::BehindRange => is_later_stage(sign) || matches!(sign, Sign::At),
         Position::BehindFilteredRange => matches!(sign, Sign::At),
         Position::BehindTerm => is_operator(sign),
-        Position::InTerm
-        | Position::InFilter
-        | Position::BehindInnerTests
-        | Position::Elsewhere => false,
+        Position::InTerm | Position::InFilter | Position::BehindInnerTests | Position::Elsewhere =>
+            false,
     }
 }
 

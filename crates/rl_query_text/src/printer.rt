@@ -8,14 +8,14 @@ ghost use Rattle.rl_query.specs.Tables.{operator_word};
 ghost use Rattle.rl_query.specs.declared.query.Term.{Term};
 ghost use Rattle.std.specs.Fmt.{decimal};
 
+use crate::test_printer::{comparison_sign, push_tests};
+use rl_labels::{MatchOp, Matcher};
+use rl_plain::{PlainText, push_escaped};
 use rl_query::aggregation::{Aggregation, Grouping, Threshold, VectorOperator};
 use rl_query::filter::{LineFilter, LineOp};
 use rl_query::query::{LogRange, Query, Term};
 use rl_query::stages::{Parser, Stage};
-use crate::test_printer::{comparison_sign, push_tests};
 use rl_query::token::ESCAPES;
-use rl_labels::{MatchOp, Matcher};
-use rl_plain::{PlainText, push_escaped};
 use std::alloc::{AllocError, Global};
 
 /// The canonical text of a query, as `sum by (app) (rate({app="a"} [300s])) / count_over_time({app="b"} [60s]) > 0.5`.

@@ -7,18 +7,18 @@ ghost use Rattle.rl_query.specs.TestTree.{count_tests};
 ghost use Rattle.rl_query_text.specs.QueryReading.{in_parentheses, room_behind, is_term, over_at, divided_at, comes_to_test, compared_at, with_test, lone_at, operand_at, behind_at, query_within, ends, whole_room, whole_at, query_in};
 ghost use Rattle.rl_query_text.specs.declared.parser.Position.TheVariants as positions;
 
-use rl_query::aggregation::Threshold;
 use crate::aggregation_reading::{compared_by, threshold_at};
 use crate::draft::{DraftQuery, DraftTerm, made_query};
-use crate::stop::{Stop, Stopped};
-use rl_query::label_test::{LabelTests, TestParts};
 use crate::parser::{Position, expected, is_sign, next, opened_at, refusal};
-use rl_query::quantity_test::Comparison;
-use rl_query::query::Query;
 use crate::room::Room;
 use crate::stage::MOST_STAGES;
-use rl_query::stages::Stage;
+use crate::stop::{Stop, Stopped};
 use crate::term_reading::term_at;
+use rl_query::aggregation::Threshold;
+use rl_query::label_test::{LabelTests, TestParts};
+use rl_query::quantity_test::Comparison;
+use rl_query::query::Query;
+use rl_query::stages::Stage;
 use rl_query::token::{Lexeme, Sign, Token};
 use std::alloc::Global;
 

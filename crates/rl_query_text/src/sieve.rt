@@ -9,16 +9,16 @@ ghost use Rattle.rl_query_text.specs.Printing.{sieve_text};
 ghost use Rattle.rl_query_text.specs.Sieving.{behind_filters, sieve_ends, rest_at, sieve_in, sieve_reading, sieve_of, sieve_meets_pattern};
 ghost use Rattle.rl_query.specs.declared.filter.Sieve.{Sieve};
 
-use crate::stop::{Stop, Stopped};
-use rl_query::fault::QueryError;
-use rl_query::filter::{LineFilter, Sieve};
 use crate::lexer::lexemes_of;
 use crate::meeting::{have_room, refused};
 use crate::parser::{Position, expected, next, refusal, selector_at};
 use crate::printer::{push_filters, push_matchers};
 use crate::stage::filters_at;
-use rl_query::token::{Lexeme, Sign, Token};
+use crate::stop::{Stop, Stopped};
 use rl_plain::PlainList;
+use rl_query::fault::QueryError;
+use rl_query::filter::{LineFilter, Sieve};
+use rl_query::token::{Lexeme, Sign, Token};
 use std::alloc::{AllocError, Global};
 
 /// The sieve that a whole text is, or the first fault from the left: a selector and line filters (LogQL).

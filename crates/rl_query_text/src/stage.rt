@@ -8,17 +8,17 @@ ghost use Rattle.rl_query.specs.Limits.{is_line_pattern, most_stages};
 ghost use Rattle.rl_query_text.specs.Testing.{operator_comes};
 ghost use Rattle.rl_query_text.specs.Parsing.{filter_op, filter_text, checked_filter, filter_at, filters_at, begins_stage, stage_comes, named_parser, parser_of, only_parser, is_later_stage_word, word_begins, parenthesis_begins, tests_begin, tested_at, piped_at, stage_at, stages_at, stages_in, behind_stage, behind_stages};
 
+use crate::parser::{Position, is_one_of, is_sign, next, refusal};
+use crate::room::Room;
 use crate::stop::{Stop, Stopped, place_of};
+use crate::testing::{operator_comes, tests_at};
+use rl_patterns::is_pattern;
+use rl_plain::{PlainText, TryCopy};
 use rl_query::fault::QueryFault;
 use rl_query::filter::{LineFilter, LineOp};
 use rl_query::label_test::{LabelTest, LabelTests, TestParts};
-use crate::parser::{Position, is_one_of, is_sign, next, refusal};
-use crate::room::Room;
 use rl_query::stages::{Parser, Stage};
-use crate::testing::{operator_comes, tests_at};
 use rl_query::token::{Lexeme, Sign, Token};
-use rl_patterns::is_pattern;
-use rl_plain::{PlainText, TryCopy};
 use std::alloc::Global;
 
 // The most stages of a text.

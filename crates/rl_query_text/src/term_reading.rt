@@ -6,15 +6,15 @@ ghost use Rattle.rl_query.specs.Form.{aggregation_form};
 ghost use Rattle.rl_query_text.specs.QueryReading.{in_parentheses, around, aggregated_at, ranged_at, worded_at, term_in, term_at};
 ghost use Rattle.rl_query_text.specs.declared.parser.Position.TheVariants as positions;
 
-use rl_query::aggregation::Aggregation;
 use crate::aggregation_reading::{ended_at, front_at, is_operator_word};
 use crate::draft::DraftTerm;
-use crate::stop::{Stop, Stopped};
 use crate::parser::{
     Position, expected, is_sign, next, opened_at, range_at, refusal, refused_word,
 };
-use rl_query::query::RangeFunction;
 use crate::room::Room;
+use crate::stop::{Stop, Stopped};
+use rl_query::aggregation::Aggregation;
+use rl_query::query::RangeFunction;
 use rl_query::token::{Lexeme, Sign, Token};
 use std::alloc::{AllocError, Global};
 

@@ -10,8 +10,8 @@ ghost use Rattle.rl_query_text.specs.Testing.{tests_at};
 ghost use Rattle.rl_query_text.specs.TestPrinting.{quantity_test_text, test_text, join_text, enclosed, tests_text};
 ghost use Rattle.rl_query.specs.TestDepth.{left_level, right_level, needs, text_depth};
 
-use rl_query::label_test::{Level, Join, LabelTest, LabelTests, TestParts};
 use crate::printer::push_matcher;
+use rl_query::label_test::{Join, LabelTest, LabelTests, Level, TestParts};
 use rl_query::quantity_test::{Comparison, Quantity, QuantityTest};
 use rl_query::token::Sign;
 use std::alloc::{AllocError, Global};

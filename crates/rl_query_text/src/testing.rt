@@ -10,18 +10,18 @@ ghost use Rattle.rl_query_text.specs.TestGrammar.{AreTests};
 ghost use Rattle.rl_query.specs.TestTree.{count_tests};
 ghost use Rattle.rl_query_text.specs.Testing.{IsEnd, Read, is_word, is_label, label_at, label_comes, one_fewer, comparison_at, quantity_at, named_test, quantity_test_at, compares, is_content, quantity_comes, label_test_at, test_at, is_and, operator_comes, begins, behind_and, behind_or, behind_join, enclosed_at, one_at, joined_at, part_at, inside_at, tests_at};
 
-use crate::stop::{Stop, Stopped, place_of};
-use rl_query::fault::QueryFault;
-use rl_query::label_test::{Join, LabelTest, LabelTests};
-use rl_query::matcher_test::MatcherTest;
 use crate::parser::{
     Position, expected, is_joining_word, is_match, is_sign, matcher_at, name_of, next, refusal,
 };
-use rl_query::quantity_test::{Comparison, Quantity, QuantityTest};
-use rl_query::token::{Lexeme, Sign, Token};
+use crate::stop::{Stop, Stopped, place_of};
 use rl_labels::labels::is_label_name;
 use rl_labels::{Decimal, Duration, Size};
 use rl_plain::{PlainText, TryCopy};
+use rl_query::fault::QueryFault;
+use rl_query::label_test::{Join, LabelTest, LabelTests};
+use rl_query::matcher_test::MatcherTest;
+use rl_query::quantity_test::{Comparison, Quantity, QuantityTest};
+use rl_query::token::{Lexeme, Sign, Token};
 use std::alloc::Global;
 
 pub(crate) fn is_word(word: &str, token: &Token) -> bool

@@ -36,7 +36,7 @@ pub enum ShardStep {
     Cancel {
         id: u64,
     },
-    /// Removes what a request covers, once it can no longer be cancelled.
+    /// Removes what a request covers, once it has waited its time.
     Process {
         id: u64,
         now: Ns,
@@ -78,7 +78,7 @@ pub enum ShardReply {
     AlreadyProcessed,
     /// The request was cancelled, and cannot be processed.
     WasCancelled,
-    /// The request can still be cancelled.
+    /// The request has not waited its time.
     TooEarly,
     /// One partial for each term.
     Collected(PlainList<Shared<Partial>>),
