@@ -2,7 +2,6 @@ mod Alerted
 pub mod Crossing
 pub mod Edited
 mod Named
-mod Places
 mod Recorded
 mod Shapes
 mod Walks

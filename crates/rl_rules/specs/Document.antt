@@ -11,7 +11,6 @@ use Rattle.rl_labels.specs.Pairs.{labels_from}
 use Rattle.rl_query.specs.Form.{QueryForm}
 use Rattle.rl_query_text.specs.QueryReading.{query_of}
 use Rattle.rl_query.specs.declared.fault.QueryFault.{QueryFault}
-use Rattle.rl_rules.specs.Answering.{Cramped}
 use Rattle.rl_rules.specs.Forms.{KeyForm, RuleForm, GroupForm}
 use Rattle.rl_rules.specs.RuleNames.{is_metric_name, is_group_name}
 use Rattle.rl_rules.specs.Values.{seconds_in, number_in, are_texts, text_at, texts_at, labels_at, kind_of, name_of}
@@ -151,9 +150,9 @@ query_at group rule (Err fault) = Err (faults.BadQuery group rule fault)
 abbrev pub hold_of : Members → ℕ
 hold_of members = unwrap_or (option_and_then (seconds_in 0) (get_member (codes "for") members)) 0
 
-abbrev pub rule_at : Cramped → ℕ → ℕ → Members → Result RuleForm RulesFault
-rule_at cramped group rule members = do
-  query ← query_at group rule (query_of (cramped group rule) (text_at (codes "expr") members))
+abbrev pub rule_at : ℕ → ℕ → Members → Result RuleForm RulesFault
+rule_at group rule members = do
+  query ← query_at group rule (query_of (text_at (codes "expr") members))
   Ok (record { kind = kind_of members; name = name_of members; query = query; labels = texts_at (codes "labels") members; hold = hold_of members; annotations = labels_at (codes "annotations") members })
 
 -- what is read of tables one after the other, each with its place
@@ -171,9 +170,9 @@ interval_of members = unwrap_or (option_and_then (seconds_in shortest_interval) 
 abbrev pub limit_of : Members → ℕ
 limit_of members = unwrap_or (option_and_then (number_in greatest_limit) (get_member (codes "limit") members)) 0
 
-abbrev pub group_at : Cramped → ℕ → Members → Result GroupForm RulesFault
-group_at cramped group members = do
-  rules ← each_from (rule_at cramped group) 0 (tables_at (codes "rules") members)
+abbrev pub group_at : ℕ → Members → Result GroupForm RulesFault
+group_at group members = do
+  rules ← each_from (rule_at group) 0 (tables_at (codes "rules") members)
   Ok (record { name = text_at (codes "name") members; interval = interval_of members; limit = limit_of members; rules = rules })
 
 -- texts that make a label set
@@ -225,17 +224,17 @@ check_keys document =
     else (if not (document_passes is_known document) then Err faults.UnknownKey
     else (if not (document_passes is_whole document) then Err faults.MissingKey else Ok tt))
 
--- the groups of a document
-abbrev pub document_groups : Cramped → Members → Result (List GroupForm) RulesFault
-document_groups cramped document = do
+-- the groups of a document as if each pattern had room
+abbrev pub document_groups : Members → Result (List GroupForm) RulesFault
+document_groups document = do
   _ ← check_keys document
-  groups ← each_from (group_at cramped) 0 (tables_at (codes "groups") document)
+  groups ← each_from group_at 0 (tables_at (codes "groups") document)
   checked (groups_are_named_well (tables_at (codes "groups") document)) groups
 
-abbrev pub groups_in : Cramped → Option Members → Result (List GroupForm) RulesFault
-groups_in cramped None = Err faults.BadToml
-groups_in cramped (Some document) = document_groups cramped document
+abbrev pub groups_in : Option Members → Result (List GroupForm) RulesFault
+groups_in None = Err faults.BadToml
+groups_in (Some document) = document_groups document
 
--- the groups of a text, as TOML reads it
-unfoldable pub groups_of : Cramped → List ℕ → Result (List GroupForm) RulesFault
-groups_of cramped text = groups_in cramped (parse_document text)
+-- the groups of a text, as TOML reads it, or its lowest fault
+unfoldable pub groups_of : List ℕ → Result (List GroupForm) RulesFault
+groups_of text = groups_in (parse_document text)

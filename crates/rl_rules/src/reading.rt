@@ -6,7 +6,7 @@ ghost use Rattle.rl_plain.specs.Answers.{Answers};
 ghost use Rattle.rl_labels.specs.Name.{is_text};
 ghost use Rattle.rl_query.specs.Form.{query_form};
 ghost use Rattle.rl_query_text.specs.QueryReading.{query_of};
-ghost use Rattle.rl_rules.specs.Answering.{Reads};
+ghost use Rattle.rl_rules.specs.Answering.{QueryLacksRoom, RuleLacksRoom, OneLacksRoom, GroupLacksRoom, DocumentLacksRoom, LacksRoom, Reads};
 ghost use Rattle.rl_rules.specs.Forms.{group_form, rule_form};
 ghost use Rattle.rl_rules.specs.Document.{groups_of, document_groups, tables_of, query_at, rule_at, group_at, each_from, most_rules, has_same_group, has_too_many, checked, check_keys};
 
@@ -35,7 +35,7 @@ const USUAL_INTERVAL: u64 = 60;
 /// The groups of a rule file, unless its document has a fault: the lowest that it has anywhere.
 #[tactic(auto, unfolding(crate::specs::Document::groups_of))]
 pub fn read_rules(alloc: Global, text: &str) -> Result<Vec<Group>, RulesError>
-    ensures { Reads (λ groups. map group_form groups.items) result (λ cramped. groups_of cramped text.now) }
+    ensures { Reads (λ groups. map group_form groups.items) result (groups_of text.now) (LacksRoom text.now) }
 {
     match toml::table_from_str(alloc, text) {
         Ok(document) => groups_in(alloc, &document),
@@ -46,7 +46,7 @@ pub fn read_rules(alloc: Global, text: &str) -> Result<Vec<Group>, RulesError>
 
 // The groups of a document.
 fn groups_in(alloc: Global, document: &Table) -> Result<Vec<Group>, RulesError>
-    ensures { Reads (λ groups. map group_form groups.items) result (λ cramped. document_groups cramped (table_view document.now)) }
+    ensures { Reads (λ groups. map group_form groups.items) result (document_groups (table_view document.now)) (DocumentLacksRoom (table_view document.now)) }
 {
     check_keys(document)?;
     let items = items_at(document, "groups");
@@ -73,7 +73,7 @@ fn check_keys(document: &Table) -> Result<(), RulesFault>
 
 // The groups of an array's tables.
 fn groups_from(alloc: Global, items: &[Value]) -> Result<Vec<Group>, RulesError>
-    ensures { Reads (λ groups. map group_form groups.items) result (λ cramped. each_from (group_at cramped) 0 (tables_of (items_view items.now))) }
+    ensures { Reads (λ groups. map group_form groups.items) result (each_from group_at 0 (tables_of (items_view items.now))) (OneLacksRoom group_at GroupLacksRoom (tables_of (items_view items.now))) }
 {
     let mut groups = Vec::new(alloc);
     for item in items {
@@ -86,7 +86,7 @@ fn groups_from(alloc: Global, items: &[Value]) -> Result<Vec<Group>, RulesError>
 }
 
 fn group_at(alloc: Global, group: usize, table: &Table) -> Result<Group, RulesError>
-    ensures { Reads group_form result (λ cramped. group_at cramped group (table_view table.now)) }
+    ensures { Reads group_form result (group_at group (table_view table.now)) (GroupLacksRoom group (table_view table.now)) }
 {
     let rules = rules_from(alloc, group, items_at(table, "rules"))?;
     let name = PlainText::from_str(alloc, text_at(table, "name"))?;
@@ -100,7 +100,7 @@ fn group_at(alloc: Global, group: usize, table: &Table) -> Result<Group, RulesEr
 
 // The rules of an array's tables.
 fn rules_from(alloc: Global, group: usize, items: &[Value]) -> Result<Vec<Rule>, RulesError>
-    ensures { Reads (λ rules. map rule_form rules.items) result (λ cramped. each_from (rule_at cramped group) 0 (tables_of (items_view items.now))) }
+    ensures { Reads (λ rules. map rule_form rules.items) result (each_from (rule_at group) 0 (tables_of (items_view items.now))) (OneLacksRoom (rule_at group) (RuleLacksRoom group) (tables_of (items_view items.now))) }
 {
     let mut rules = Vec::new(alloc);
     for item in items {
@@ -113,7 +113,7 @@ fn rules_from(alloc: Global, group: usize, items: &[Value]) -> Result<Vec<Rule>,
 }
 
 fn rule_at(alloc: Global, group: usize, rule: usize, table: &Table) -> Result<Rule, RulesError>
-    ensures { Reads rule_form result (λ cramped. rule_at cramped group rule (table_view table.now)) }
+    ensures { Reads rule_form result (rule_at group rule (table_view table.now)) (RuleLacksRoom group rule (table_view table.now)) }
 {
     let query = query_at(alloc, group, rule, text_at(table, "expr"))?;
     let name = PlainText::from_str(alloc, name_of(table))?;
@@ -131,7 +131,7 @@ fn rule_at(alloc: Global, group: usize, rule: usize, table: &Table) -> Result<Ru
 
 // The query of a rule, or its fault with the places of the group and of the rule.
 fn query_at(alloc: Global, group: usize, rule: usize, text: &str) -> Result<Query, RulesError>
-    ensures { Reads query_form result (λ cramped. query_at group rule (query_of (cramped group rule) text.now)) }
+    ensures { Reads query_form result (query_at group rule (query_of text.now)) (QueryLacksRoom group rule text.now) }
 {
     match parse(alloc, text) {
         Ok(query) => Ok(query),

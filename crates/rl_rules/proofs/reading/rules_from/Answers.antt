@@ -2,10 +2,9 @@
 use Rattle.std.proofs.Common.{◌≡◌, Ok, length, sym, ap, ◌∙◌, arith}
 use Rattle.std.proofs.lemmas.Result.{err_from_is_err_and}
 use Rattle.toml.specs.View.{table_view}
-use Rattle.rl_rules.specs.Answering.{nowhere, cramped_by}
+use Rattle.rl_rules.specs.Answering.{RuleLacksRoom}
 use Rattle.rl_rules.specs.Forms.{rule_form}
 use Rattle.rl_rules.specs.Document.{rule_at}
-use Rattle.rl_rules.proofs.Places.{IsFreeRule, same_rule, before_rule}
 use Rattle.rl_rules.proofs.Walks.{one_more_read, one_passed, refused}
 use Rattle.rl_rules.proofs.reading.rules_from.Goals as goal
 use Rattle.rl_rules.proofs.reading.rules_from.Goals.{in-Some+in_ok-rule+in_ok-push, in_default}
@@ -14,8 +13,7 @@ pub returns-in_err-rule : goal.returns-in_err-rule
 returns-in_err-rule c =
     let old = c.loop-item.rules.items in
     let error = err_from_is_err_and c.from_residual.result c.from_residual.ensures.1 in
-    rw (error.1, error.2) (refused (λ cramped. rule_at cramped c.args.group) rule_form (IsFreeRule c.args.group) (same_rule c.args.group) c.in_err-rule.field-0.0 old c.loop-item.item-index c.len.result c.args.items.now c.item-item.result (table_view c.in-Some.table.now) c.loop-item-test.true c.item-item.is c.in-Some.ensures (omega (arith, c.len.ensures, c.loop-item.rules.ok.0)) c.in_err-rule.ensures
-    (λ fault fails. before_rule (cramped_by fault) c.args.group (length old) (table_view c.in-Some.table.now) fault fails) c.loop-item.invariant)
+    rw (error.1, error.2) (refused (rule_at c.args.group) rule_form (RuleLacksRoom c.args.group) c.in_err-rule.field-0.0 old c.loop-item.item-index c.len.result c.args.items.now c.item-item.result (table_view c.in-Some.table.now) c.loop-item-test.true c.item-item.is c.in-Some.ensures (omega (arith, c.len.ensures, c.loop-item.rules.ok.0)) c.in_err-rule.ensures c.loop-item.invariant)
 
 pub loop-item-preserved : goal.loop-item-preserved
 loop-item-preserved c =
@@ -23,7 +21,7 @@ loop-item-preserved c =
     elim c.match-as_table.branch [
       | in-Some+in_ok-rule+in_ok-push w ↦
           let count : w.len.result ≡ length old = omega (arith, w.len.ensures, c.loop-item.rules.ok.0) in
-          let here : rule_at nowhere c.args.group (length old) (table_view w.in-Some.table.now) ≡ Ok (rule_form w.in_ok-rule.rule) = ap (λ n. rule_at nowhere c.args.group n (table_view w.in-Some.table.now)) (sym count) ∙ w.in_ok-rule.ensures in
-          one_more_read (λ cramped. rule_at cramped c.args.group) rule_form (IsFreeRule c.args.group) (same_rule c.args.group) old _ w.in_ok-rule.rule c.loop-item.item-index c.args.items.now c.item-item.result _ c.loop-item-test.true c.item-item.is w.in-Some.ensures here (ap (λ v. v.items) w.rules-is ∙ w.in_ok-push.ensures.items) c.loop-item.invariant
-      | in_default w ↦ one_passed (λ cramped. rule_at cramped c.args.group) rule_form (IsFreeRule c.args.group) (same_rule c.args.group) old _ c.loop-item.item-index c.args.items.now c.item-item.result c.loop-item-test.true c.item-item.is w.in_default.ensures (ap (λ v. v.items) w.rules-is) c.loop-item.invariant
+          let here : rule_at c.args.group (length old) (table_view w.in-Some.table.now) ≡ Ok (rule_form w.in_ok-rule.rule) = ap (λ n. rule_at c.args.group n (table_view w.in-Some.table.now)) (sym count) ∙ w.in_ok-rule.ensures in
+          one_more_read (rule_at c.args.group) rule_form old _ w.in_ok-rule.rule c.loop-item.item-index c.args.items.now c.item-item.result _ c.loop-item-test.true c.item-item.is w.in-Some.ensures here (ap (λ v. v.items) w.rules-is ∙ w.in_ok-push.ensures.items) c.loop-item.invariant
+      | in_default w ↦ one_passed (rule_at c.args.group) rule_form old _ c.loop-item.item-index c.args.items.now c.item-item.result c.loop-item-test.true c.item-item.is w.in_default.ensures (ap (λ v. v.items) w.rules-is) c.loop-item.invariant
     ]
