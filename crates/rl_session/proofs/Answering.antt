@@ -1,41 +1,40 @@
 -- What an input is answered, case by case.
-use Rattle.std.proofs.Common.{◌≡◌, ℕ, ◌≤◌, Bool, true, false, cond, List, ◌++◌, length, arith, Option, None, Some, IfSome, Result, Ok, Err, refl, sym, ap, subst, ◌∙◌}
+use Rattle.std.proofs.Common.{◌≡◌, ℕ, ◌≤◌, inl, inr, Bool, true, false, cond, List, ◌++◌, length, arith, Option, None, Some, IfSome, Result, Ok, Err, refl, sym, ap, subst, ◌∙◌}
 use Rattle.std.specs.List.{concat}
 use Rattle.std.specs.Str.{IsUtf8, is_utf8}
 use Rattle.std.proofs.lemmas.List.{append-nil}
 use Rattle.std.proofs.lemmas.Bool.{false_from_ne_true}
 use Rattle.std.proofs.lemmas.Str.{IsUtf8-from_is_utf8, is_utf8-from_IsUtf8}
-use Rattle.rl_plain.specs.Answers.{◌>>=◌}
 use Rattle.rl_plain.specs.declared.refusal.OrMemory.{OrMemory}
 use Rattle.rl_plain.specs.declared.refusal.OrMemory.TheVariants as errors
 use Rattle.rl_rules.specs.Forms.{GroupForm}
-use Rattle.rl_rules.specs.Answering.{Cramped, nowhere}
-use Rattle.rl_rules.specs.Document.{groups_of}
-use Rattle.rl_session.specs.Front.{FrontForm, front_of, front_from, front_in, cramped_at, cramped_in, with_rules_fault, with_commands, HasGroups, Says}
-use Rattle.rl_session.specs.Reading.{GivesOne, Reads, ReadsFront, Tells}
+use Rattle.rl_session.specs.Front.{FrontForm, front_of, front_from, front_in, with_commands, HasGroups, Says}
+use Rattle.rl_session.specs.Reading.{GivesOne, Reads, SaysRead, ReadsFront, Tells}
 use Rattle.rl_session.specs.declared.front.fault.FrontFault.{FrontFault}
 use Rattle.rl_session.specs.declared.front.fault.FrontFault.TheVariants as faults
 
-front_in-test : (cramped : Cramped) (bytes : List ℕ) (t : Bool) → is_utf8 bytes ≡ t → front_in cramped bytes ≡ cond t (front_from cramped (front_of bytes)) (Err faults.NotText)
-front_in-test cramped bytes t is = ap (λ b. cond b (front_from cramped (front_of bytes)) (Err faults.NotText)) is
+front_in-test : (bytes : List ℕ) (t : Bool) → is_utf8 bytes ≡ t → front_in bytes ≡ cond t (front_from (front_of bytes)) (Err faults.NotText)
+front_in-test bytes t is = ap (λ b. cond b (front_from (front_of bytes)) (Err faults.NotText)) is
 
 pub front_in-no_text : (bytes : List ℕ) → (IsUtf8 bytes → ⊥) → Says bytes (Err faults.NotText)
-front_in-no_text bytes not = sym (front_in-test nowhere bytes false (false_from_ne_true (is_utf8 bytes) (λ is. not (IsUtf8-from_is_utf8 bytes is))))
+front_in-no_text bytes not = inl (sym (front_in-test bytes false (false_from_ne_true (is_utf8 bytes) (λ is. not (IsUtf8-from_is_utf8 bytes is)))))
 
 pub front_in-no_mark : (bytes whole : List ℕ) → IsUtf8 bytes → whole ≡ bytes → None ≡ front_of whole → Says bytes (Err faults.NoMark)
-front_in-no_mark bytes whole utf8 same is = sym (front_in-test nowhere bytes true (is_utf8-from_IsUtf8 bytes utf8) ∙ ap (front_from nowhere) (ap front_of (sym same) ∙ sym is))
+front_in-no_mark bytes whole utf8 same is = inl (sym (front_in-test bytes true (is_utf8-from_IsUtf8 bytes utf8) ∙ ap front_from (ap front_of (sym same) ∙ sym is)))
 
-front_in-parts : (cramped : Cramped) (bytes whole document commands : List ℕ) (groups : Result (List GroupForm) FrontFault) → IsUtf8 bytes → whole ≡ bytes → Some (document, commands) ≡ front_of whole → groups ≡ with_rules_fault (groups_of cramped document) → with_commands commands groups ≡ front_in cramped bytes
-front_in-parts cramped bytes whole document commands groups utf8 same is read =
-    sym (front_in-test cramped bytes true (is_utf8-from_IsUtf8 bytes utf8) ∙ ap (front_from cramped) (ap front_of (sym same) ∙ sym is) ∙ ap (with_commands commands) (sym read))
+-- a document's groups or its fault, with the commands behind it
+front_in-parts : (bytes whole document commands : List ℕ) (groups : Result (List GroupForm) FrontFault) → IsUtf8 bytes → whole ≡ bytes → Some (document, commands) ≡ front_of whole → HasGroups document groups → Says bytes (with_commands commands groups)
+front_in-parts bytes whole document commands groups utf8 same is (inl read) =
+    inl (sym (front_in-test bytes true (is_utf8-from_IsUtf8 bytes utf8) ∙ ap front_from (ap front_of (sym same) ∙ sym is) ∙ ap (with_commands commands) (sym read)))
+front_in-parts bytes whole document commands groups utf8 same is (inr lacks) =
+    inr ((document, commands), is_utf8-from_IsUtf8 bytes utf8, ap front_of (sym same) ∙ sym is, (lacks.0, ap (with_commands commands) lacks.1, lacks.2))
 
 pub front_in-groups : (bytes whole document commands rest : List ℕ) (groups : List GroupForm) → IsUtf8 bytes → whole ≡ bytes → Some (document, commands) ≡ front_of whole → HasGroups document (Ok groups) → rest ≡ commands → Says bytes (Ok (record { groups = groups; commands = rest }))
-front_in-groups bytes whole document commands rest groups utf8 same is read behind =
-    ap (λ c. Ok (record { groups = groups; commands = c })) behind ∙ front_in-parts nowhere bytes whole document commands (Ok groups) utf8 same is read
+front_in-groups bytes whole document commands rest groups utf8 same is read behind = rw behind (front_in-parts bytes whole document commands (Ok groups) utf8 same is read)
 
 -- the fault of the document
 pub front_in-fault : {X Z : Type 0} (view : X → List GroupForm) (form : Z → FrontForm) (bytes whole document commands : List ℕ) (error : OrMemory FrontFault) → IsUtf8 bytes → whole ≡ bytes → Some (document, commands) ≡ front_of whole → GivesOne view (HasGroups document) (Err error) → GivesOne form (Says bytes) (Err error)
-front_in-fault view form bytes whole document commands (errors.Fault fault) utf8 same is read = front_in-parts (cramped_at fault) bytes whole document commands (Err fault) utf8 same is read
+front_in-fault view form bytes whole document commands (errors.Fault fault) utf8 same is read = front_in-parts bytes whole document commands (Err fault) utf8 same is read
 front_in-fault view form bytes whole document commands errors.Memory utf8 same is read = tt
 
 -- reading failed
@@ -64,10 +63,10 @@ Tells-all most all (Err faults.NotText) told = told
 Tells-all most all (Err faults.NoMark) told = told
 Tells-all most all (Err (faults.Rules fault)) told = told
 
-Tells-read : (most : ℕ) (all : List ℕ) (new : Option (List ℕ)) (answer : Result FrontForm FrontFault) (read : Result (List ℕ) FrontFault) → Reads most (Some all) new read → answer ≡ (read >>= front_in (cramped_in answer)) → Tells most all answer
-Tells-read most all new answer (Ok bytes) reads is =
+Tells-read : (most : ℕ) (all : List ℕ) (new : Option (List ℕ)) (answer : Result FrontForm FrontFault) (read : Result (List ℕ) FrontFault) → Reads most (Some all) new read → SaysRead read answer → Tells most all answer
+Tells-read most all new answer (Ok bytes) reads says =
     let whole = Reads-all most all new bytes reads in
-    Tells-all most all answer (whole.0, is ∙ ap (front_in (cramped_in answer)) whole.1)
+    Tells-all most all answer (whole.0, subst (λ known. Says known answer) whole.1 says)
 Tells-read most all new answer (Err faults.ReadFault) reads is = subst (Tells most all) (sym is) tt
 Tells-read most all new answer (Err faults.TooLong) reads is = subst (Tells most all) (sym is) tt
 Tells-read most all new answer (Err faults.NotText) reads is = absurd reads.3

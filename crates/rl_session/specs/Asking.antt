@@ -8,7 +8,7 @@ use Rattle.rl_query.specs.declared.filter.Sieve.{Sieve}
 use Rattle.rl_query.specs.declared.fault.QueryFault.{QueryFault}
 use Rattle.rl_query_text.specs.Answering.{Reads}
 use Rattle.rl_query.specs.Form.{sieve_form}
-use Rattle.rl_query_text.specs.Sieving.{sieve_of}
+use Rattle.rl_query_text.specs.Sieving.{sieve_of, sieve_meets_pattern}
 use Rattle.rl_shard.specs.declared.step.ShardReply.{ShardReply}
 use Rattle.rl_shard.specs.declared.step.ShardStep.{ShardStep}
 use Rattle.rl_shard.specs.declared.step.ShardStep.TheVariants as shard_steps
@@ -31,7 +31,7 @@ told_of_edit (Err refusal) = Err (causes.Engine refusal)
 
 -- the selector with line filters that a text is, or why it is none
 abbrev pub SelectsIn : List ℕ → Result Sieve (OrMemory QueryFault) → Type 0
-SelectsIn text result = Reads sieve_form result (λ cramped. sieve_of cramped text)
+SelectsIn text result = Reads sieve_form result (sieve_of text) (sieve_meets_pattern text)
 
 module _ {E : Type 0} (calls : Calls E) where
   -- entries are handed in one after the other, each with an answer of its own

@@ -1,7 +1,6 @@
 -- What the document of an edit gives: one group, or why it has not one.
 use Rattle.std.specs.Prelude.{◌≡◌, ℕ, List, [], ◌∷◌, Option, None, Some, Result, Ok, Err}
-use Rattle.rl_plain.specs.declared.refusal.OrMemory.TheVariants as errors
-use Rattle.rl_rules.specs.Answering.{nowhere, cramped_by}
+use Rattle.rl_rules.specs.Answering.{LacksRoom, IsRefused}
 use Rattle.rl_rules.specs.Document.{groups_of}
 use Rattle.rl_rules.specs.Forms.{GroupForm, group_form}
 use Rattle.rl_rules.specs.declared.rule.Group.{Group}
@@ -15,16 +14,15 @@ only _ = None
 
 -- the document has this group and no other
 abbrev pub HasGroup : List ℕ → GroupForm → Type 0
-HasGroup document group = groups_of nowhere document ≡ Ok (group ∷ [])
+HasGroup document group = groups_of document ≡ Ok (group ∷ [])
 
 -- it has groups, and not one
 abbrev pub HasNotOneGroup : List ℕ → Type 0
-HasNotOneGroup document = (groups : List GroupForm) × (groups_of nowhere document ≡ Ok groups) × (only groups ≡ None)
+HasNotOneGroup document = (groups : List GroupForm) × (groups_of document ≡ Ok groups) × (only groups ≡ None)
 
 -- the one group of a document, or why it has none: the lowest fault of the document comes first, then that it has not one group
 abbrev pub GivesOneGroup : List ℕ → Result Group EditRefusal → Type 0
 GivesOneGroup document (Ok group) = HasGroup document (group_form group)
-GivesOneGroup document (Err (refusals.Rules (errors.Fault fault))) = groups_of (cramped_by fault) document ≡ Err fault
-GivesOneGroup document (Err (refusals.Rules errors.Memory)) = Unit {0}
+GivesOneGroup document (Err (refusals.Rules error)) = IsRefused error (groups_of document) (LacksRoom document)
 GivesOneGroup document (Err refusals.NotOneGroup) = HasNotOneGroup document
 GivesOneGroup document (Err _) = ⊥

@@ -1,12 +1,12 @@
 -- The input of the program: a document of rules, a line that is the mark, and commands.
-use Rattle.std.specs.Prelude.{◌≡◌, ◌⊎◌, ℕ, ◌==◌, Bool, List, [], ◌∷◌, ◌++◌, map, Option, None, Some, Result, Ok, Err, codes, if◌then◌else◌}
+use Rattle.std.specs.Prelude.{◌≡◌, ◌⊎◌, ℕ, ◌==◌, Bool, true, List, [], ◌∷◌, ◌++◌, map, Option, None, Some, Result, Ok, Err, codes, if◌then◌else◌}
 use Rattle.std.specs.List.{slice_split, join_with_byte}
 use Rattle.std.specs.Option.{option_map}
 use Rattle.std.specs.Str.{is_utf8}
 use Rattle.rl_plain.specs.Answers.{◌>>=◌}
 use Rattle.rl_labels.specs.Name.{is_text}
 use Rattle.rl_rules.specs.Forms.{GroupForm, group_form}
-use Rattle.rl_rules.specs.Answering.{Cramped, nowhere, cramped_by}
+use Rattle.rl_rules.specs.Answering.{LacksRoom}
 use Rattle.rl_rules.specs.Document.{groups_of}
 use Rattle.rl_rules.specs.declared.fault.RulesFault.{RulesFault}
 use Rattle.rl_session.specs.declared.front.Front.{Front}
@@ -60,28 +60,27 @@ with_rules_fault (Err fault) = Err (faults.Rules fault)
 abbrev pub with_commands : List ℕ → Result (List GroupForm) FrontFault → Result FrontForm FrontFault
 with_commands commands read = read >>= λ groups. Ok (record { groups = groups; commands = commands })
 
--- what the two parts of a text say
-abbrev pub front_from : Cramped → Option (List ℕ × List ℕ) → Result FrontForm FrontFault
-front_from cramped None = Err faults.NoMark
-front_from cramped (Some parts) = with_commands parts.1 (with_rules_fault (groups_of cramped parts.0))
+-- what the two parts of a text say as if each pattern had room
+abbrev pub front_from : Option (List ℕ × List ℕ) → Result FrontForm FrontFault
+front_from None = Err faults.NoMark
+front_from (Some parts) = with_commands parts.1 (with_rules_fault (groups_of parts.0))
 
--- what bytes say, or the lowest fault that they have
-abbrev pub front_in : Cramped → List ℕ → Result FrontForm FrontFault
-front_in cramped bytes = if is_utf8 bytes then front_from cramped (front_of bytes) else Err faults.NotText
+-- what bytes say as if each pattern had room, or the lowest fault that they have
+abbrev pub front_in : List ℕ → Result FrontForm FrontFault
+front_in bytes = if is_utf8 bytes then front_from (front_of bytes) else Err faults.NotText
 
--- at the rule that was refused as BadRegex, if that is the answer
-abbrev pub cramped_at : FrontFault → Cramped
-cramped_at (faults.Rules fault) = cramped_by fault
-cramped_at _ = nowhere
-
-abbrev pub cramped_in : {A : Type 0} → Result A FrontFault → Cramped
-cramped_in (Ok _) = nowhere
-cramped_in (Err fault) = cramped_at fault
+-- the rules of a document are refused for want of room
+abbrev pub RulesLackRoom : {A : Type 0} → List ℕ → Result A FrontFault → Type 0
+RulesLackRoom document answer = (fault : RulesFault) × (answer ≡ Err (faults.Rules fault)) × LacksRoom document fault
 
 -- the groups that a document is answered to have, or its fault
 abbrev pub HasGroups : List ℕ → Result (List GroupForm) FrontFault → Type 0
-HasGroups document answer = answer ≡ with_rules_fault (groups_of (cramped_in answer) document)
+HasGroups document answer = (answer ≡ with_rules_fault (groups_of document)) ⊎ RulesLackRoom document answer
+
+-- bytes are a text with the mark, and the rules before it are refused for want of room
+abbrev pub FrontLacksRoom : List ℕ → Result FrontForm FrontFault → Type 0
+FrontLacksRoom bytes answer = (parts : List ℕ × List ℕ) × (is_utf8 bytes ≡ true) × (front_of bytes ≡ Some parts) × RulesLackRoom parts.0 answer
 
 -- what bytes are answered to say
 abbrev pub Says : List ℕ → Result FrontForm FrontFault → Type 0
-Says bytes answer = answer ≡ front_in (cramped_in answer) bytes
+Says bytes answer = (answer ≡ front_in bytes) ⊎ FrontLacksRoom bytes answer

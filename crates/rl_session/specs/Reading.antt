@@ -2,10 +2,9 @@
 use Rattle.std.specs.Prelude.{◌≡◌, ℕ, ◌<◌, ◌≤◌, ◌⊎◌, List, length, Option, Result, Ok, Err}
 use Rattle.std.specs.List.{concat}
 use Rattle.std.specs.Io.KnownBytes.{Consumes, IsAtEnd}
-use Rattle.rl_plain.specs.Answers.{◌>>=◌}
 use Rattle.rl_plain.specs.declared.refusal.OrMemory.{OrMemory}
 use Rattle.rl_plain.specs.declared.refusal.OrMemory.TheVariants.{Fault, Memory}
-use Rattle.rl_session.specs.Front.{FrontForm, front_in, cramped_in, Says}
+use Rattle.rl_session.specs.Front.{FrontForm, Says}
 use Rattle.rl_session.specs.declared.front.fault.FrontFault.{FrontFault}
 use Rattle.rl_session.specs.declared.front.fault.FrontFault.TheVariants as faults
 
@@ -20,9 +19,14 @@ Ends most new pieces (Err _) = ⊥
 abbrev pub Reads : ℕ → Option (List ℕ) → Option (List ℕ) → Result (List ℕ) FrontFault → Type 0
 Reads most old new answer = (pieces : List (List ℕ)) × (length pieces ≤ most) × Consumes old new (concat pieces) × Ends most new pieces answer
 
--- reading ended, and the bytes that were read say this, unless reading them failed
+-- what the bytes that were read are answered to say, or why reading them failed
+abbrev pub SaysRead : Result (List ℕ) FrontFault → Result FrontForm FrontFault → Type 0
+SaysRead (Ok bytes) answer = Says bytes answer
+SaysRead (Err fault) answer = answer ≡ Err fault
+
+-- reading ended, and this is answered of what was read
 abbrev pub ReadsFront : ℕ → Option (List ℕ) → Option (List ℕ) → Result FrontForm FrontFault → Type 0
-ReadsFront most old new answer = (read : Result (List ℕ) FrontFault) × Reads most old new read × (answer ≡ (read >>= front_in (cramped_in answer)))
+ReadsFront most old new answer = (read : Result (List ℕ) FrontFault) × Reads most old new read × SaysRead read answer
 
 -- what is answered where all bytes of the reader are known: what they say, unless reading them failed
 abbrev pub Tells : ℕ → List ℕ → Result FrontForm FrontFault → Type 0
