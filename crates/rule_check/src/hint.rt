@@ -54,7 +54,7 @@ fn push_near_syntax(text: &mut String, front: &str, back: &str) -> Result<(), Un
             "at most 15 digits before the point and nine behind it",
         );
     }
-    push_lower_syntax(text, front, before, word)
+    Ok(())
 }
 
 // The number of a label test at the front of a text, without its unit.
@@ -74,29 +74,6 @@ fn is_too_long(number: &str) -> bool {
 
 fn are_digits(text: &str) -> bool {
     !text.is_empty() && text.bytes().all(|byte| byte.is_ascii_digit())
-}
-
-// A word that is lawful in lower case: a grouping behind a parenthesis, or what joined the tests before the byte.
-fn push_lower_syntax(
-    text: &mut String,
-    front: &str,
-    before: &str,
-    word: &str,
-) -> Result<(), Untold> {
-    let is_closed = front.ends_with(')');
-    let word = if is_closed { word } else { before };
-    let lower = word.to_ascii_lowercase(*text.allocator())?;
-    let lower = lower.as_str();
-    if lower != word
-        && (if is_closed {
-            is_grouping(lower)
-        } else {
-            is_join(lower)
-        })
-    {
-        return push(text, lower);
-    }
-    Ok(())
 }
 
 // Whether a bracket closes that has names or matchers before it.
@@ -145,6 +122,9 @@ fn push_near_unsupported(text: &mut String, front: &str, back: &str) -> Result<(
     if lower.as_str() != word && is_lawful_behind(front, lower.as_str()) {
         return push(text, lower.as_str());
     }
+    if is_join(lower.as_str()) && is_behind_tests(front) {
+        return push(text, lower.as_str());
+    }
     if lower.as_str() == "or" && ends_text(front) {
         return push(text, "|~ or !~ with a regular expression, as |~ \"x|y\"");
     }
@@ -155,6 +135,18 @@ fn push_known(text: &mut String, hint: Option<&'static str>) -> Result<(), Untol
     match hint {
         Some(hint) => push(text, hint),
         None => Ok(()),
+    }
+}
+
+// Whether label tests end there: a stage that is neither a line filter nor a parser, and in which as much is closed as opened.
+fn is_behind_tests(front: &str) -> bool {
+    match front.rsplit_once('|') {
+        Some((_, stage)) => {
+            let is_filter = stage.starts_with('=') || stage.starts_with('~');
+            let is_closed = stage.contains(']') || stage.split(')').count() > stage.split('(').count();
+            !is_filter && !is_closed && !is_parser(first_word(stage.trim_start()))
+        }
+        None => false,
     }
 }
 
