@@ -1,10 +1,8 @@
 -- What `parse` and `print_term` answer of derived and of printed texts.
-use Rattle.std.proofs.Common.{subst, ◌≡◌, Bool, true, false, cond, List, ℕ, Result, Ok, Err, sym, ap, ◌∙◌, MatchResult, IfOk, refl}
+use Rattle.std.proofs.Common.{subst, ◌≡◌, List, ℕ, Result, Ok, Err, sym, ap, ◌∙◌, MatchResult, IfOk, refl}
 use Rattle.rl_query.specs.declared.fault.QueryFault.{QueryFault}
 use Rattle.rl_query_text.specs.declared.stop.Stop.{Stop}
-use Rattle.rl_query.specs.declared.fault.QueryFault.TheVariants as faults
 use Rattle.rl_plain.specs.declared.refusal.OrMemory.{OrMemory}
-use Rattle.rl_plain.specs.declared.refusal.OrMemory.TheVariants as errors
 use Rattle.rl_query_text.specs.Answering.{Reads, IsForRoom}
 use Rattle.rl_query.specs.declared.query.Query.{Query}
 use Rattle.rl_query.specs.declared.query.Term.{Term}
@@ -22,7 +20,7 @@ use Rattle.rl_query_text.proofs.QueryReadings.{derived_is_read}
 
 -- a query that was read is derived
 pub derived : (r : Result Query (OrMemory QueryFault)) (text : List ℕ) → Reads query_form r (query_of text) (query_meets_pattern text) → IfOk r (λ q. Derives text (query_form q))
-derived (Ok q) text read = query_derived text (query_form q) (read_of (query_reading text) (query_form q) read)
+derived (Ok q) text read = (query_derived text).is (query_form q) (read_of (query_reading text) (query_form q) read)
 derived (Err e) text read = tt
 
 -- a query that is derived was read

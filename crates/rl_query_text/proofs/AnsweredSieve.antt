@@ -1,13 +1,11 @@
 -- What `parse_delete` and `print_sieve` answer of derived and of printed texts.
-use Rattle.std.proofs.Common.{subst, ◌≡◌, ℕ, ◌≤◌, arith, Bool, true, false, cond, List, length, Result, Ok, Err, refl, sym, ap, ◌∙◌, MatchResult, IfOk}
+use Rattle.std.proofs.Common.{subst, ◌≡◌, ℕ, ◌≤◌, arith, List, length, Result, Ok, Err, refl, sym, ap, ◌∙◌, MatchResult, IfOk}
 use Rattle.std.proofs.Props.{props}
 use Rattle.std.proofs.lemmas.List.{length-map}
 use mathlib.Core.HLevel.{Σ_prop_path}
 use Rattle.rl_plain.specs.declared.refusal.OrMemory.{OrMemory}
-use Rattle.rl_plain.specs.declared.refusal.OrMemory.TheVariants as errors
 use Rattle.rl_query.specs.declared.fault.QueryFault.{QueryFault}
 use Rattle.rl_query_text.specs.declared.stop.Stop.{Stop}
-use Rattle.rl_query.specs.declared.fault.QueryFault.TheVariants as faults
 use Rattle.rl_query.specs.declared.filter.LineFilter.{LineFilter}
 use Rattle.rl_query.specs.declared.filter.Sieve.{Sieve}
 use Rattle.rl_query_text.specs.Answering.{Reads, IsForRoom}
@@ -43,7 +41,7 @@ keeps_limits s = record {
 
 -- a sieve that was read is derived
 pub derived : (r : Result Sieve (OrMemory QueryFault)) (text : List ℕ) → Reads sieve_form r (sieve_of text) (sieve_meets_pattern text) → IfOk r (λ s. DerivesSieve text (sieve_form s))
-derived (Ok s) text read = sieve_derived text (sieve_form s) (read_of (sieve_reading text) (sieve_form s) read)
+derived (Ok s) text read = (sieve_derived text).is (sieve_form s) (read_of (sieve_reading text) (sieve_form s) read)
 derived (Err e) text read = tt
 
 -- a sieve that is derived was read

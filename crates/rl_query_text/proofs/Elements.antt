@@ -1,66 +1,40 @@
 -- Reading matchers one after the other, as a loop does.
-use Rattle.std.proofs.Common.{◌≡◌, ℕ, suc, ◌-◌, ◌+◌, ◌≤◌, ◌<◌, Bool, true, false, not, ◌||◌, ◌&&◌, map, List, [], ◌∷◌, ◌++◌, Result, Ok, Err, refl, sym, ap, ◌∙◌, append_assoc, arith}
+use Rattle.std.proofs.Common.{◌≡◌, ℕ, not, ◌||◌, map, List, [], ◌∷◌, ◌++◌, Result, Ok, Err, refl, sym, ap, ◌∙◌, append_assoc}
 use Rattle.rl_query.specs.declared.token.Lexeme.{Lexeme}
 use Rattle.rl_query_text.specs.Stops.{stop, syntax}
 use Rattle.rl_query_text.specs.declared.stop.Stop.{Stop}
 use Rattle.rl_query.specs.declared.fault.QueryFault.TheVariants as faults
-use Rattle.rl_plain.specs.declared.refusal.OrMemory.{OrMemory}
 use Rattle.rl_plain.specs.declared.refusal.OrMemory.TheVariants as errors
-use Rattle.std.specs.Option.{unwrap_or}
-use Rattle.std.specs.FinMap.Entries.{find}
 use Rattle.std.proofs.lemmas.Bool.{cond-true, cond-false}
-use Rattle.rl_labels.specs.LabelSet.{value_of, no_labels, labels_of-no_labels}
-use Rattle.rl_labels.specs.Name.{name_cmp, is_name}
-use Rattle.rl_labels.specs.Operators.{passes, is_by_pattern, is_comparable, IsUnread}
-use Rattle.rl_labels.specs.Selects.{are_by_text, selects}
+use Rattle.rl_labels.specs.Name.{is_name}
+use Rattle.rl_labels.specs.Operators.{passes, is_comparable, IsUnread}
 use Rattle.rl_labels.specs.declared.matcher.MatcherFault.{MatcherFault}
 use Rattle.rl_labels.specs.declared.matcher.MatcherFault.TheVariants as matchers
 use Rattle.rl_labels.specs.declared.matcher.Matcher.{Matcher}
 use Rattle.rl_query.specs.Limits.{has_real_matcher}
-use Rattle.rl_query.specs.Form.{MatcherForm, matcher_form, has_real_form, has_pattern}
-use Rattle.rl_plain.specs.Answers.{◌>>=◌, Fails}
+use Rattle.rl_query.specs.Form.{MatcherForm, matcher_form, has_real_form}
+use Rattle.rl_plain.specs.Answers.{◌>>=◌}
 use Rattle.rl_query_text.specs.Fronts.{checked_matcher}
-use Rattle.rl_query_text.specs.Parsing.{listed_at}
 
 -- what was read before, and what is still read
 abbrev pub with_front : {A : Type 0} → List A → Result (List A × List Lexeme) Stop → Result (List A × List Lexeme) Stop
 with_front front read = read >>= λ x. Ok (front ++ x.0, x.1)
 
-pub regroup : {A : Type 0} (front : List A) (m : A) (read : Result (List A × List Lexeme) Stop) → with_front front (read >>= λ x. Ok (m ∷ x.0, x.1)) ≡ with_front (front ++ m ∷ []) read
+regroup : {A : Type 0} (front : List A) (m : A) (read : Result (List A × List Lexeme) Stop) → with_front front (read >>= λ x. Ok (m ∷ x.0, x.1)) ≡ with_front (front ++ m ∷ []) read
 regroup {A} front m (Ok x) = ap (λ (ms : List A). Ok (ms, x.1)) (simp append_assoc)
 regroup front m (Err f) = refl
 
-pub one_more : {A : Type 0} (element : List Lexeme → Result (A × Bool × List Lexeme) Stop) (front : List A) (count i : ℕ) (lexemes : List Lexeme) (m : A) (after : List Lexeme) (whole : Result (List A × List Lexeme) Stop) → i < count → element lexemes ≡ Ok (m, true, after)
-    → with_front front (listed_at element (count - i) lexemes) ≡ whole → with_front (front ++ m ∷ []) (listed_at element (count - (i + 1)) after) ≡ whole
-unfolding listed_at
-one_more element front count i lexemes m after whole lt h so_far =
-    let k : count - i ≡ suc (count - (i + 1)) = omega arith in
-    let one : with_front front (listed_at element (count - i) lexemes) ≡ with_front (front ++ m ∷ []) (listed_at element (count - (i + 1)) after) = rw (k, h) (regroup front m (listed_at element (count - (i + 1)) after)) in
-    sym one ∙ so_far
+-- nothing was read before
+pub none_before : {A : Type 0} (reader : ℕ → Result (List A × List Lexeme) Stop) (n most : ℕ) → n ≡ most → with_front [] (reader n) ≡ reader most
+none_before {A} reader n most same = whole (reader n) ∙ ap reader same
+  where
+    whole : (read : Result (List A × List Lexeme) Stop) → with_front [] read ≡ read
+    whole (Ok x) = refl
+    whole (Err f) = refl
 
-pub last_one : {A : Type 0} (element : List Lexeme → Result (A × Bool × List Lexeme) Stop) (front : List A) (count i : ℕ) (lexemes : List Lexeme) (m : A) (after : List Lexeme) (whole : Result (List A × List Lexeme) Stop) → i < count → element lexemes ≡ Ok (m, false, after)
-    → with_front front (listed_at element (count - i) lexemes) ≡ whole → whole ≡ Ok (front ++ m ∷ [], after)
-unfolding listed_at
-last_one element front count i lexemes m after whole lt h so_far =
-    let k : count - i ≡ suc (count - (i + 1)) = omega arith in
-    let one : with_front front (listed_at element (count - i) lexemes) ≡ Ok (front ++ m ∷ [], after) = rw (k, h) refl in
-    sym so_far ∙ one
-
-pub ends : {A : Type 0} (element : List Lexeme → Result (A × Bool × List Lexeme) Stop) (e : OrMemory Stop) (front : List A) (count i : ℕ) (lexemes : List Lexeme) (whole : Result (List A × List Lexeme) Stop) → i < count → Fails e (element lexemes)
-    → with_front front (listed_at element (count - i) lexemes) ≡ whole → Fails e whole
-unfolding listed_at
-ends element errors.Memory front count i lexemes whole lt h so_far = tt
-ends element (errors.Fault f) front count i lexemes whole lt h so_far =
-    let k : count - i ≡ suc (count - (i + 1)) = omega arith in
-    let one : with_front front (listed_at element (count - i) lexemes) ≡ Err f = rw (k, h) refl in
-    sym so_far ∙ one
-
-pub none_ends : {A : Type 0} (element : List Lexeme → Result (A × Bool × List Lexeme) Stop) (front : List A) (count i : ℕ) (lexemes : List Lexeme) (whole : Result (List A × List Lexeme) Stop) → count ≤ i → with_front front (listed_at element (count - i) lexemes) ≡ whole → whole ≡ Err (syntax 0)
-unfolding listed_at
-none_ends element front count i lexemes whole le so_far =
-    let k : count - i ≡ 0 = omega arith in
-    let one : with_front front (listed_at element (count - i) lexemes) ≡ Err (syntax 0) = rw k refl in
-    sym so_far ∙ one
+-- one more was read
+pub one_more : {A : Type 0} (front : List A) (m : A) (read whole : Result (List A × List Lexeme) Stop) → with_front front (read >>= λ x. Ok (m ∷ x.0, x.1)) ≡ whole → with_front (front ++ m ∷ []) read ≡ whole
+one_more front m read whole so_far = sym (regroup front m read) ∙ so_far
 
 -- matchers and their forms refuse the empty text alike
 pub real_forms : (matchers : List Matcher) → has_real_form (map matcher_form matchers) ≡ has_real_matcher matchers

@@ -1,7 +1,6 @@
 pub mod AggregationProductions
 pub mod Answered
 pub mod AnsweredSieve
-pub mod Chains
 pub mod Openings
 pub mod Meetings
 pub mod MetPatterns
@@ -9,7 +8,7 @@ pub mod Cuts
 pub mod Elements
 mod Examples
 pub mod FilterProductions
-pub mod Filters
+pub mod Finding
 pub mod FreeNames
 pub mod Lexemes
 pub mod Printed
@@ -24,7 +23,6 @@ pub mod RangeProductions
 pub mod SameQuery
 pub mod Sieves
 pub mod StageProductions
-pub mod StageReadings
 pub mod TestPrinted
 pub mod TestProductions
 pub mod TestReadings
@@ -35,7 +33,6 @@ pub mod Thresholds
 pub mod PrintedTerm
 pub mod Numbers
 pub mod Parentheses
-pub mod AggregationReadings
 pub mod TermProductions
 pub mod QueryProductions
 pub mod QueryReadings

@@ -1,5 +1,5 @@
 -- The tokens of a query have a pattern exactly where the query has one.
-use Rattle.std.proofs.Common.{◌≡◌, ◌⊎◌, ℕ, zero, suc, ◌-◌, ◌==◌, Bool, true, false, cond, ◌&&◌, ◌||◌, List, [], ◌∷◌, ◌++◌, length, drop, Option, Some, None, refl, sym, ap, subst, inl, inr, ◌∙◌}
+use Rattle.std.proofs.Common.{◌≡◌, ℕ, zero, suc, ◌-◌, ◌==◌, Bool, true, false, cond, ◌&&◌, ◌||◌, List, [], ◌∷◌, length, drop, Option, Some, None, refl, sym, ap, subst, inl, inr, ◌∙◌}
 use Rattle.std.proofs.Math.Bool.{or-false}
 use Rattle.std.specs.Char.{is_ascii_digit}
 use Rattle.rl_labels.specs.Name.{is_name_start}
@@ -15,21 +15,20 @@ use Rattle.rl_query.specs.declared.filter.LineOp.TheVariants as lines
 use Rattle.rl_query.specs.declared.label_test.Join.{Join}
 use Rattle.rl_query.specs.declared.label_test.Join.TheVariants.{And, Or}
 use Rattle.rl_query.specs.declared.query.RangeFunction.{RangeFunction}
-use Rattle.rl_query.specs.declared.quantity_test.Comparison.TheVariants as comparisons
 use Rattle.rl_query.specs.declared.token.Lexeme.{Lexeme}
 use Rattle.rl_query.specs.declared.token.Sign.{Sign}
 use Rattle.rl_query.specs.declared.token.Sign.TheVariants as signs
 use Rattle.rl_query.specs.declared.token.Token.{Token}
 use Rattle.rl_query.specs.declared.token.Token.TheVariants as tokens
 use Rattle.rl_query.specs.Form.{AggregationForm, MatcherForm, FilterForm, TestForm, by_text, by_quantity, StageForm, by_filter, by_parser, by_tests, RangeForm, TermForm, ThresholdForm, QueryForm, SieveForm, has_pattern, filters_have_pattern, test_has_pattern, stage_has_pattern, stages_have_pattern, range_has_pattern, query_has_pattern, sieve_has_pattern}
-use Rattle.rl_query.specs.Limits.{is_line_pattern, most_parentheses, most_stages}
-use Rattle.rl_query.specs.TestTree.{TestTree, any_test, one, joined}
-use Rattle.rl_query_text.specs.Grammar.{matchers_tokens, IsSelector, IsDuration, filter_sign, filters_tokens, IsStage, AreChained, AreStages, IsTimed, IsRange, DerivesSieve}
+use Rattle.rl_query.specs.Limits.{is_line_pattern, most_parentheses}
+use Rattle.rl_query.specs.TestTree.{TestTree, any_test}
+use Rattle.rl_query_text.specs.Grammar.{matchers_tokens, IsSelector, IsDuration, filter_sign, filters_tokens, IsStage, AreChained, IsTimed, IsRange, DerivesSieve}
 use Rattle.rl_query_text.specs.Lexing.{gap_len, quoted, backquoted, sign_at, or_bad, token_at, lexemes_in, lexemes_of}
 use Rattle.rl_query_text.specs.Meeting.{precedes_pattern, has_pattern_token}
 use Rattle.rl_query_text.specs.Standing.{Stand, operator_sign}
-use Rattle.rl_query_text.specs.TermGrammar.{names_tokens, grouping_tokens, IsGrouping, IsParameter, IsAggregation, InParentheses, IsBare, IsTerm, IsOperand, IsDivided, IsQuotientIn, IsQuotient, IsThreshold, IsTested, IsQuery, Derives}
-use Rattle.rl_query_text.specs.TestGrammar.{Compares, IsLabelTest, IsOne, alone, in_parentheses, Joins, AreJoined, part, more, AreTestsIn, AreInside, AreTests}
+use Rattle.rl_query_text.specs.TermGrammar.{names_tokens, grouping_tokens, IsGrouping, IsParameter, IsAggregation, InParentheses, IsTerm, IsOperand, IsQuotientIn, IsQuotient, IsThreshold, IsQuery, Derives}
+use Rattle.rl_query_text.specs.TestGrammar.{Compares, IsLabelTest, IsOne, alone, in_parentheses, Joins, AreJoined, part, more, AreTestsIn, AreInside}
 use Rattle.rl_query_text.specs.Testing.{is_content}
 
 -- The end of a text is the last of its tokens.

@@ -1,12 +1,11 @@
 -- What is inside takes a parenthesis, and reads as what it is inside of reads it.
-use Rattle.std.proofs.Common.{◌≡◌, ℕ, zero, suc, List, Result, Ok, Err, refl, sym, ap, ◌∙◌}
-use Rattle.rl_plain.specs.Answers.{◌>>=◌, Gives, Fails}
+use Rattle.std.proofs.Common.{◌≡◌, ℕ, suc, List, Result, Ok, refl, sym, ap, ◌∙◌}
+use Rattle.rl_plain.specs.Answers.{◌>>=◌, Fails}
 use Rattle.rl_plain.specs.declared.refusal.OrMemory.{OrMemory}
 use Rattle.rl_plain.specs.declared.refusal.OrMemory.TheVariants as errors
 use Rattle.rl_query.specs.declared.token.Lexeme.{Lexeme}
 use Rattle.rl_query.specs.declared.token.Sign.TheVariants as signs
 use Rattle.rl_query.specs.declared.token.Token.TheVariants as tokens
-use Rattle.rl_query.specs.Form.{TermForm}
 use Rattle.rl_query_text.specs.declared.aggregation_reading.Front.{Front}
 use Rattle.rl_query_text.specs.declared.parser.Position.{Position}
 use Rattle.rl_query_text.specs.declared.parser.Position.TheVariants as positions
@@ -14,45 +13,35 @@ use Rattle.rl_query_text.specs.declared.room.Room.{Room}
 use Rattle.rl_query_text.specs.declared.stop.Stop.{Stop}
 use Rattle.rl_query_text.specs.AggregationReading.{nested, grouping_at, operator_at, front_at, ended_at}
 use Rattle.rl_query_text.specs.Fronts.{next, expected}
-use Rattle.rl_query_text.specs.Parsing.{deeper, opened_at}
+use Rattle.rl_query_text.specs.Parsing.{opened_at}
 use Rattle.rl_query_text.specs.QueryReading.{Reader, TermReader, in_parentheses, around, aggregated_at, worded_at, begun_at, term_by, term_in}
 use Rattle.rl_query_text.specs.Stops.{place_of}
-use Rattle.rl_query_text.proofs.Productions.{bind_ok, no_err, same_ok}
+use Rattle.rl_query_text.proofs.Parentheses.{opened_read}
+use Rattle.rl_query_text.proofs.Finding.{Finds, found, itself, then}
 
 -- what stops the first stops what follows it too
 pub first_stops : {A B : Type 0} (e : OrMemory Stop) (first : Result A Stop) (behind : A → Result B Stop) → Fails e first → Fails e (first >>= behind)
 first_stops errors.Memory first behind h = tt
 first_stops (errors.Fault stop) first behind h = ap (λ r. r >>= behind) h
 
--- one parenthesis more takes one of the depth
-pub opened_depth : (position : Position) (room inside : Room) (lexemes behind : List Lexeme) → opened_at position room lexemes ≡ Ok (inside, behind) → room.depth ≡ suc inside.depth
-unfolding opened_at
-opened_depth position room inside lexemes behind h =
-    let a = bind_ok (expected signs.OpenParenthesis position lexemes) _ (inside, behind) h in
-    let b = bind_ok (deeper (place_of lexemes) room.depth room) _ (inside, behind) a.2 in
-    by_depth room.depth b.0 b.1 ∙ ap (λ (found : Room × List Lexeme). suc found.0.depth) (same_ok _ _ b.2)
-  where
-    by_depth : (depth : ℕ) (opened : Room) → deeper (place_of lexemes) depth room ≡ Ok opened → depth ≡ suc opened.depth
-    by_depth zero opened h = absurd (no_err _ opened h)
-    by_depth (suc depth) opened h = ap (λ (r : Room). suc r.depth) (same_ok _ _ h)
-
 -- a vector aggregation takes a parenthesis
 pub front_depth : (word : List ℕ) (nest : ℕ) (room : Room) (lexemes : List Lexeme) (front : Front) (opened : List Lexeme) → front_at word nest room lexemes ≡ Ok (front, opened) → room.depth ≡ suc front.room.depth
 unfolding front_at
-front_depth word nest room lexemes front opened h =
-    let a = bind_ok (nested (place_of lexemes) nest) _ (front, opened) h in
-    let b = bind_ok (grouping_at room lexemes) _ (front, opened) a.2 in
-    let c = bind_ok (opened_at positions.Elsewhere room b.0.1) _ (front, opened) b.2 in
-    let d = bind_ok (operator_at word c.0.1) _ (front, opened) c.2 in
-    opened_depth positions.Elsewhere room c.0.0 b.0.1 c.0.1 c.1 ∙ ap (λ (found : Front × List Lexeme). suc found.0.room.depth) (same_ok _ _ d.2)
+front_depth word nest room lexemes front opened h = depths.is (front, opened) h
+  where
+    depths : Finds (λ x. room.depth ≡ suc x.0.room.depth) (front_at word nest room lexemes)
+    depths =
+        then _ (itself (nested (place_of lexemes) nest)) (λ _ _.
+        then _ (itself (grouping_at room lexemes)) (λ grouping _.
+        then _ (opened_read positions.Elsewhere room grouping.1) (λ opened is.
+        then _ (itself (operator_at word opened.1)) (λ _ _. found is.depth))))
 
 -- what stands in parentheses, behind the first
 pub opened_reads : {A : Type 0} (reader : ℕ → Reader A) (position : Position) (room inside : Room) (lexemes opened : List Lexeme) → opened_at position room lexemes ≡ Ok (inside, opened)
     → in_parentheses position (reader room.depth) room lexemes ≡ (reader (suc inside.depth) inside opened >>= λ read. expected signs.CloseParenthesis positions.BehindTerm read.1 >>= λ closed. Ok (read.0, closed))
 unfolding in_parentheses
 opened_reads reader position room inside lexemes opened parenthesis =
-    let depth = opened_depth position room inside lexemes opened parenthesis in
-    rw (parenthesis, depth) refl
+    rw (parenthesis, ((opened_read position room lexemes).is (inside, opened) parenthesis).depth) refl
 
 -- a vector aggregation, behind what stands before its term
 pub aggregated_by : (inside : TermReader) (word : List ℕ) (nest : ℕ) (room : Room) (lexemes opened : List Lexeme) (front : Front) → front_at word nest room lexemes ≡ Ok (front, opened)

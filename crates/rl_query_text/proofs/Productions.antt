@@ -1,7 +1,6 @@
 -- The productions of selectors: what is read is derived, and what is derived is read.
-use Rattle.std.proofs.Common.{◌≡◌, inl, inr, ◌⊎◌, ⊎_elim, ℕ, zero, suc, ◌≤◌, Bool, true, false, cond, not, ◌&&◌, List, [], ◌∷◌, ◌++◌, Option, Some, None, Result, Ok, Err, length, refl, sym, ap, subst, ◌∙◌, arith}
+use Rattle.std.proofs.Common.{◌≡◌, append_assoc, length-append, drop, inl, inr, ◌⊎◌, ℕ, zero, suc, ◌≤◌, Bool, true, false, cond, not, ◌&&◌, List, [], ◌∷◌, ◌++◌, Option, Some, Result, Ok, Err, length, refl, sym, ap, subst, ◌∙◌, arith}
 use Rattle.std.specs.List.{list_all}
-use Rattle.std.specs.Option.{option_map_or}
 use Rattle.std.proofs.lemmas.Bool.{true≢false, and_parts, and_from, cond-true, cond-false}
 use Rattle.rl_labels.specs.Name.{is_name, is_text}
 use Rattle.rl_labels.specs.Operators.{is_comparable}
@@ -22,34 +21,14 @@ use Rattle.rl_query.specs.Form.{MatcherForm, has_real_form}
 use Rattle.rl_query_text.specs.Standing.{Stand, operator_sign, is_matcher, matcher_tokens}
 use Rattle.rl_query_text.specs.Grammar.{matchers_tokens, IsSelector}
 use Rattle.rl_query_text.specs.Lexing.{sign_at}
-use Rattle.rl_query_text.specs.Fronts.{is_sign, next, refusal, expected, name_of, content_of, operator_of, checked_matcher, row_at, matcher_at}
-use Rattle.rl_query_text.specs.Parsing.{goes_on, element_at, listed_at, matchers_at, some_matcher, real_matchers, selector_at}
+use Rattle.rl_query_text.specs.Fronts.{is_sign, next, expected, name_of, content_of, operator_of, checked_matcher, row_at, matcher_at}
+use Rattle.rl_query_text.specs.Parsing.{element_at, listed_at, some_matcher, selector_at}
 use Rattle.rl_query.specs.Tables.{sign_text}
-use Rattle.rl_plain.specs.Answers.{◌>>=◌}
-
-pub bind_ok : {A B : Type 0} (r : Result A Stop) (f : A → Result B Stop) (y : B) → (r >>= f) ≡ Ok y → (x : A) × (r ≡ Ok x) × (f x ≡ Ok y)
-bind_ok (Ok x) f y h = (x, refl, h)
-bind_ok (Err e) f y h = cc
+use Rattle.rl_query_text.proofs.Finding.{Finds, found, fault, itself, then, by_test, checked, next_found, told_by}
 
 pub chosen : {A : Type 0} (b : Bool) (x y z : A) → cond b x y ≡ z → ((b ≡ true) × (x ≡ z)) ⊎ ((b ≡ false) × (y ≡ z))
 chosen true x y z h = inl (refl, h)
 chosen false x y z h = inr (refl, h)
-
--- an answer by what is there, or by nothing
-pub by_option : {A B : Type 0} (f : A → Result B Stop) (o : Option A) (d : Result B Stop) (y : B) → option_map_or f o d ≡ Ok y → ((o ≡ None) × (d ≡ Ok y)) ⊎ ((x : A) × (o ≡ Some x) × (f x ≡ Ok y))
-by_option f None d y h = inl (refl, h)
-by_option f (Some x) d y h = inr (x, refl, h)
-
-pub no_err : {B : Type 0} (e : Stop) (y : B) → Err e ≡ Ok y → ⊥
-no_err e y h = cc
-
-pub same_ok : {A : Type 0} (x y : A) → ◌≡◌ {A = Result A Stop} (Ok x) (Ok y) → x ≡ y
-same_ok x y e = cc
-
--- an answer that is chosen by a test
-pub if_ok : {A : Type 0} (b : Bool) (x y : A) (e : Stop) → cond b (Ok x) (Err e) ≡ Ok y → (b ≡ true) × (x ≡ y)
-if_ok true x y e h = (refl, same_ok x y h)
-if_ok false x y e h = absurd (no_err e y h)
 
 -- tokens that stand at the front, and others behind them
 pub stand_then : (front others : List Token) (lexemes behind rest : List Lexeme) → Stand front lexemes behind → Stand others behind rest → Stand (front ++ others) lexemes rest
@@ -63,11 +42,10 @@ stand_split [] others lexemes rest stand = (lexemes, refl, stand)
 stand_split (t ∷ front) others [] rest stand = absurd stand
 stand_split (t ∷ front) others (l ∷ lexemes) rest stand = let s = stand_split front others lexemes rest stand.1 in (s.0, (stand.0, s.1), s.2)
 
-pub one_read : (token : Token) (lexemes rest : List Lexeme) (l : Lexeme) → next lexemes ≡ Ok (l, rest) → l.token ≡ token → Stand (token ∷ []) lexemes rest
-one_read token [] rest l h is = absurd (no_err _ _ h)
-one_read token (x ∷ lexemes) rest l h is =
-    let same : ◌≡◌ {A = Lexeme × List Lexeme} (x, lexemes) (l, rest) = same_ok _ _ h in
-    (ap (λ (p : Lexeme × List Lexeme). p.0.token) same ∙ is, ap (λ (p : Lexeme × List Lexeme). p.1) same)
+stand_length : (ts : List Token) (lexemes rest : List Lexeme) → Stand ts lexemes rest → length ts ≤ length lexemes
+stand_length [] lexemes rest stand = omega arith
+stand_length (t ∷ ts) [] rest stand = absurd stand
+stand_length (t ∷ ts) (l ∷ lexemes) rest stand = omega (arith, stand_length ts lexemes rest stand.1)
 
 -- the token at the front, and those behind it
 pub record Next (token : Token) (others : List Token) (lexemes rest : List Lexeme) : Type 0 where
@@ -95,46 +73,52 @@ pub only_sign : (s : Sign) (t : Token) → is_sign s t ≡ true → t ≡ tokens
 only_sign s (tokens.Sign x) h = ap tokens.Sign (one_sign x s h)
 only_sign s _ h = absurd (true≢false (sym h))
 
-pub expected_read : (sign : Sign) (position : Position) (lexemes rest : List Lexeme) → expected sign position lexemes ≡ Ok rest → Stand (tokens.Sign sign ∷ []) lexemes rest
+pub expected_found : (sign : Sign) (position : Position) (lexemes : List Lexeme) → Finds (λ rest. Stand (tokens.Sign sign ∷ []) lexemes rest) (expected sign position lexemes)
 unfolding expected
-expected_read sign position lexemes rest h =
-    let a = bind_ok (next lexemes) _ rest h in
-    let b = if_ok (is_sign sign a.0.0.token) a.0.1 rest (refusal position a.0.0.place a.0.0.token) a.2 in
-    one_read (tokens.Sign sign) lexemes rest a.0.0 (a.1 ∙ ap (λ r. Ok (a.0.0, r)) b.1) (only_sign sign a.0.0.token b.0)
+expected_found sign position lexemes = then _ (next_found lexemes) (λ first stand. by_test (is_sign sign first.0.token) (λ is. found (told_by lexemes first.1 (only_sign sign first.0.token is) stand)) (λ _. fault))
 
-pub expected_is : (sign : Sign) (others : List Token) (position : Position) (lexemes rest : List Lexeme) → Stand (tokens.Sign sign ∷ others) lexemes rest → (behind : List Lexeme) × (expected sign position lexemes ≡ Ok behind) × Stand others behind rest
+-- tokens, placed as others are, and what stands behind them
+abbrev pub placed : List Token → List Lexeme → List Lexeme → List Lexeme
+placed [] lexemes rest = rest
+placed (t ∷ ts) lexemes rest = record { token = t; place = place_of lexemes } ∷ placed ts (drop 1 lexemes) rest
+
+-- tokens that stand at the front are placed so
+pub stood : (ts : List Token) (lexemes rest : List Lexeme) → Stand ts lexemes rest → lexemes ≡ placed ts lexemes rest
+stood [] lexemes rest stand = stand
+stood (t ∷ ts) [] rest stand = absurd stand
+stood (t ∷ ts) (l ∷ ls) rest stand = λ i. record { token = stand.0 i; place = l.place } ∷ stood ts ls rest stand.1 i
+
+pub expected_is : (sign : Sign) (position : Position) (lexemes rest : List Lexeme) → Stand (tokens.Sign sign ∷ []) lexemes rest → expected sign position lexemes ≡ Ok rest
 unfolding expected
-expected_is sign others position lexemes rest stand =
-    let a = next_is (tokens.Sign sign) others lexemes rest stand in
-    (a.behind, rw a.is (cond-true (is_sign sign (tokens.Sign sign)) _ _ (is_text_itself (sign_text sign))), a.more)
+expected_is sign position lexemes rest stand = rw (stood (tokens.Sign sign ∷ []) lexemes rest stand) (cond-true (is_sign sign (tokens.Sign sign)) _ _ (is_text_itself (sign_text sign)))
 
-pub named : (place : ℕ) (t : Token) (name : List ℕ) → name_of place t ≡ Ok name → t ≡ tokens.Word name
-named place (tokens.Word w) name h = ap tokens.Word (same_ok _ _ h)
-named place _ name h = absurd (no_err _ name h)
+pub named_found : (place : ℕ) (t : Token) → Finds (λ name. t ≡ tokens.Word name) (name_of place t)
+named_found place (tokens.Word w) = found refl
+named_found place _ = fault
 
-content : (place : ℕ) (t : Token) (value : List ℕ) → content_of place t ≡ Ok value → t ≡ tokens.Text value
-content place (tokens.Text w) value h = ap tokens.Text (same_ok _ _ h)
-content place _ value h = absurd (no_err _ value h)
+content_found : (place : ℕ) (t : Token) → Finds (λ value. t ≡ tokens.Text value) (content_of place t)
+content_found place (tokens.Text w) = found refl
+content_found place _ = fault
 
-operator_read : (place : ℕ) (t : Token) (op : MatchOp) → operator_of place t ≡ Ok op → t ≡ tokens.Sign (operator_sign op)
-operator_read place (tokens.Sign signs.Equal) op h = ap (λ o. tokens.Sign (operator_sign o)) (same_ok _ _ h)
-operator_read place (tokens.Sign signs.NotEqual) op h = ap (λ o. tokens.Sign (operator_sign o)) (same_ok _ _ h)
-operator_read place (tokens.Sign signs.Matches) op h = ap (λ o. tokens.Sign (operator_sign o)) (same_ok _ _ h)
-operator_read place (tokens.Sign signs.NotMatches) op h = ap (λ o. tokens.Sign (operator_sign o)) (same_ok _ _ h)
-operator_read place (tokens.Sign _) op h = absurd (no_err _ op h)
-operator_read place _ op h = absurd (no_err _ op h)
+operator_found : (place : ℕ) (t : Token) → Finds (λ op. t ≡ tokens.Sign (operator_sign op)) (operator_of place t)
+operator_found place (tokens.Sign signs.Equal) = found refl
+operator_found place (tokens.Sign signs.NotEqual) = found refl
+operator_found place (tokens.Sign signs.Matches) = found refl
+operator_found place (tokens.Sign signs.NotMatches) = found refl
+operator_found place (tokens.Sign _) = fault
+operator_found place _ = fault
 
 operator_is : (place : ℕ) (op : MatchOp) → operator_of place (tokens.Sign (operator_sign op)) ≡ Ok op
 operator_is place operators.Equal = refl
 operator_is place _ = refl
 
-checked_read : (place : ℕ) (m made : MatcherForm) → checked_matcher place m ≡ Ok made → (is_matcher m ≡ true) × (m ≡ made)
-checked_read place m made h = by_tests (is_name m.name) (is_comparable m.op m.value) h
+checked_found : (place : ℕ) (m : MatcherForm) → Finds (λ made. (is_matcher m ≡ true) × (m ≡ made)) (checked_matcher place m)
+checked_found place m = by_tests (is_name m.name) (is_comparable m.op m.value)
   where
-    by_tests : (named comparable : Bool) → cond (not named) (Err (syntax place)) (cond comparable (Ok m) (Err (stop faults.BadRegex place))) ≡ Ok made → (named && comparable ≡ true) × (m ≡ made)
-    by_tests true true h = (refl, same_ok m made h)
-    by_tests true false h = absurd (no_err _ made h)
-    by_tests false comparable h = absurd (no_err _ made h)
+    by_tests : (named comparable : Bool) → Finds (λ made. (named && comparable ≡ true) × (m ≡ made)) (cond (not named) (Err (syntax place)) (cond comparable (Ok m) (Err (stop faults.BadRegex place))))
+    by_tests true true = found (refl, refl)
+    by_tests true false = fault
+    by_tests false comparable = fault
 
 checked_is : (place : ℕ) (m : MatcherForm) → is_matcher m ≡ true → checked_matcher place m ≡ Ok m
 checked_is place m proper =
@@ -146,158 +130,129 @@ pub record IsMatcher (m : MatcherForm) (lexemes rest : List Lexeme) : Type 0 whe
   pub stand : Stand (matcher_tokens m) lexemes rest
   pub proper : is_matcher m ≡ true
 
--- a row that was read: its tokens stood there, and each was read as what it is
-pub record IsRow {Op Value Made : Type 0} (op_of : ℕ → Token → Result Op Stop) (value_of : ℕ → Token → Result Value Stop) (made : ℕ → List ℕ → Op → Value → Result Made Stop) (whole : Made) (lexemes rest : List Lexeme) : Type 0 where
-  pub place : ℕ
-  pub name : List ℕ
-  pub sign : Lexeme
-  pub content : Lexeme
-  pub op : Op
-  pub value : Value
-  pub stand : Stand (tokens.Word name ∷ sign.token ∷ content.token ∷ []) lexemes rest
-  pub op_is : op_of sign.place sign.token ≡ Ok op
-  pub value_is : value_of content.place content.token ≡ Ok value
-  pub whole_is : made place name op value ≡ Ok whole
+-- a row that is read: its tokens stand there, and each is read as what it is
+pub row_found : {Op Value Made : Type 0} {OpIs : Op → Token → Type 0} {ValueIs : Value → Token → Type 0} {Q : Made × List Lexeme → Type 0} (op_of : ℕ → Token → Result Op Stop) (value_of : ℕ → Token → Result Value Stop) (made : ℕ → List ℕ → Op → Value → Result Made Stop) (lexemes : List Lexeme)
+    → ((place : ℕ) (t : Token) → Finds (λ op. OpIs op t) (op_of place t)) → ((place : ℕ) (t : Token) → Finds (λ value. ValueIs value t) (value_of place t))
+    → ((place : ℕ) (name : List ℕ) (sign content : Token) (op : Op) (value : Value) (rest : List Lexeme) → Stand (tokens.Word name ∷ sign ∷ content ∷ []) lexemes rest → OpIs op sign → ValueIs value content → Finds (λ whole. Q (whole, rest)) (made place name op value)) → Finds Q (row_at op_of value_of made lexemes)
+row_found op_of value_of made lexemes ops values whole =
+    then _ (next_found lexemes) (λ first a.
+    then _ (named_found first.0.place first.0.token) (λ name b.
+    then _ (next_found first.1) (λ second c.
+    then _ (ops second.0.place second.0.token) (λ op d.
+    then _ (next_found second.1) (λ third e.
+    then _ (values third.0.place third.0.token) (λ value f.
+    then _ (whole first.0.place name second.0.token third.0.token op value third.1 (stand_then (tokens.Word name ∷ []) (second.0.token ∷ third.0.token ∷ []) lexemes first.1 third.1 (told_by lexemes first.1 b a) (stand_then (second.0.token ∷ []) (third.0.token ∷ []) first.1 second.1 third.1 c e)) d f) (λ made is. found is)))))))
 
-pub row_read : {Op Value Made : Type 0} (op_of : ℕ → Token → Result Op Stop) (value_of : ℕ → Token → Result Value Stop) (made : ℕ → List ℕ → Op → Value → Result Made Stop) (whole : Made) (lexemes rest : List Lexeme) → row_at op_of value_of made lexemes ≡ Ok (whole, rest) → IsRow op_of value_of made whole lexemes rest
-row_read op_of value_of made whole [] rest h = absurd (no_err _ (whole, rest) h)
-row_read op_of value_of made whole (a ∷ []) rest h = absurd (no_err _ (whole, rest) (bind_ok (name_of a.place a.token) _ (whole, rest) h).2)
-row_read op_of value_of made whole (a ∷ b ∷ []) rest h = let n = bind_ok (name_of a.place a.token) _ (whole, rest) h in absurd (no_err _ (whole, rest) (bind_ok (op_of b.place b.token) _ (whole, rest) n.2).2)
-row_read {Op} {Value} {Made} op_of value_of made whole (a ∷ b ∷ c ∷ lexemes) rest h =
-    let n = bind_ok (name_of a.place a.token) _ (whole, rest) h in
-    let o = bind_ok (op_of b.place b.token) _ (whole, rest) n.2 in
-    let v = bind_ok (value_of c.place c.token) _ (whole, rest) o.2 in
-    let m = bind_ok (made a.place n.0 o.0 v.0) _ (whole, rest) v.2 in
-    let same : ◌≡◌ {A = Made × List Lexeme} (m.0, lexemes) (whole, rest) = same_ok _ _ m.2 in
-    record { place = a.place; name = n.0; sign = b; content = c; op = o.0; value = v.0; stand = (named a.place a.token n.0 n.1, (refl, (refl, ap (λ (p : Made × List Lexeme). p.1) same))); op_is = o.1; value_is = v.1; whole_is = m.1 ∙ ap (λ (p : Made × List Lexeme). Ok p.0) same }
-
--- a row that stands is read to its end
-pub row_is : {Op Value Made : Type 0} (op_of : ℕ → Token → Result Op Stop) (value_of : ℕ → Token → Result Value Stop) (made : ℕ → List ℕ → Op → Value → Result Made Stop) (name : List ℕ) (sign content : Token) (op : Op) (value : Value) (whole : Made) (others : List Token) (lexemes rest : List Lexeme)
-    → Stand (tokens.Word name ∷ sign ∷ content ∷ others) lexemes rest → ((place : ℕ) → op_of place sign ≡ Ok op) → ((place : ℕ) → value_of place content ≡ Ok value) → ((place : ℕ) → made place name op value ≡ Ok whole) → (behind : List Lexeme) × (row_at op_of value_of made lexemes ≡ Ok (whole, behind)) × Stand others behind rest
-row_is op_of value_of made name sign content op value whole others [] rest stand op_is value_is whole_is = absurd stand
-row_is op_of value_of made name sign content op value whole others (a ∷ []) rest stand op_is value_is whole_is = absurd stand.1
-row_is op_of value_of made name sign content op value whole others (a ∷ b ∷ []) rest stand op_is value_is whole_is = absurd stand.1.1
-row_is op_of value_of made name sign content op value whole others (a ∷ b ∷ c ∷ lexemes) rest stand op_is value_is whole_is = (lexemes, rw (stand.0, stand.1.0, stand.1.1.0, op_is b.place, value_is c.place, whole_is a.place) refl, stand.1.1.1)
-
-pub matcher_read : (lexemes : List Lexeme) (m : MatcherForm) (rest : List Lexeme) → matcher_at lexemes ≡ Ok (m, rest) → IsMatcher m lexemes rest
+pub matcher_found : (lexemes : List Lexeme) → Finds (λ x. IsMatcher x.0 lexemes x.1) (matcher_at lexemes)
 unfolding matcher_at
-matcher_read lexemes m rest h =
-    let row = row_read operator_of content_of _ m lexemes rest h in
-    let sign = operator_read row.sign.place row.sign.token row.op row.op_is in
-    let text = content row.content.place row.content.token row.value row.value_is in
-    let read : MatcherForm = record { name = row.name; op = row.op; value = row.value } in
-    let checked = checked_read row.place read m row.whole_is in
-    subst (λ x. IsMatcher x lexemes rest) checked.1 (record { stand = subst (λ ts. Stand ts lexemes rest) (λ i. tokens.Word row.name ∷ sign i ∷ text i ∷ []) row.stand; proper = checked.0 })
+matcher_found lexemes = row_found {Q = λ x. IsMatcher x.0 lexemes x.1} operator_of content_of _ lexemes operator_found content_found (λ place name sign content op value rest stand sign_is content_is.
+    let read : MatcherForm = record { name = name; op = op; value = value } in
+    let there = subst (λ ts. Stand ts lexemes rest) (λ i. tokens.Word name ∷ sign_is i ∷ content_is i ∷ []) stand in
+    record { is = λ m h. let proper = (checked_found place read).is m h in subst (λ x. IsMatcher x lexemes rest) proper.1 (record { stand = there; proper = proper.0 }) })
 
-pub matcher_is : (others : List Token) (m : MatcherForm) (lexemes rest : List Lexeme) → Stand (matcher_tokens m ++ others) lexemes rest → is_matcher m ≡ true → (behind : List Lexeme) × (matcher_at lexemes ≡ Ok (m, behind)) × Stand others behind rest
+pub matcher_is : (m : MatcherForm) (lexemes rest : List Lexeme) → Stand (matcher_tokens m) lexemes rest → is_matcher m ≡ true → matcher_at lexemes ≡ Ok (m, rest)
 unfolding matcher_at
-matcher_is others m lexemes rest stand is = row_is operator_of content_of _ m.name (tokens.Sign (operator_sign m.op)) (tokens.Text m.value) m.op m.value m others lexemes rest stand (λ place. operator_is place m.op) (λ place. refl) (λ place. checked_is place m is)
+matcher_is m lexemes rest stand is = rw (stood (matcher_tokens m) lexemes rest stand, operator_is (place_of (drop 1 lexemes)) m.op, checked_is (place_of lexemes) m is) refl
 
-goes_on_read : (place : ℕ) (t : Token) (more : Bool) → goes_on place t ≡ Ok more → t ≡ tokens.Sign (cond more signs.Comma signs.CloseBrace)
-goes_on_read place t more h =
-    ⊎_elim
-    (λ yes. only_sign signs.Comma t yes.0 ∙ ap (λ b. tokens.Sign (cond b signs.Comma signs.CloseBrace)) (same_ok _ _ yes.1))
-    (λ other. let last = if_ok (is_sign signs.CloseBrace t) _ more _ other.1 in only_sign signs.CloseBrace t last.0 ∙ ap (λ b. tokens.Sign (cond b signs.Comma signs.CloseBrace)) last.1)
-    (chosen (is_sign signs.Comma t) _ _ (Ok more) h)
+-- What is listed with commas.
 
--- a matcher and the sign behind it
-record IsElement (m : MatcherForm) (more : Bool) (lexemes rest : List Lexeme) : Type 0 where
-  pub stand : Stand (matcher_tokens m ++ tokens.Sign (cond more signs.Comma signs.CloseBrace) ∷ []) lexemes rest
-  pub proper : is_matcher m ≡ true
+-- the sign behind an element: a comma where another follows, or what closes the list
+abbrev pub follows : Sign → Bool → Token
+follows close more = tokens.Sign (cond more signs.Comma close)
 
-element_read : (lexemes : List Lexeme) (m : MatcherForm) (more : Bool) (rest : List Lexeme) → element_at lexemes ≡ Ok (m, more, rest) → IsElement m more lexemes rest
+pub follows_found : (close : Sign) (t : Token) (e : Stop) → Finds (λ more. t ≡ follows close more) (cond (is_sign signs.Comma t) (Ok true) (cond (is_sign close t) (Ok false) (Err e)))
+follows_found close t e = by_test (is_sign signs.Comma t) (λ is. found (only_sign signs.Comma t is)) (λ _. by_test (is_sign close t) (λ is. found (only_sign close t is)) (λ _. fault))
+
+-- the tokens behind the first element
+abbrev pub behind_first : {A : Type 0} → (A → List Token) → Sign → List A → List Token
+behind_first of_one close [] = tokens.Sign close ∷ []
+behind_first of_one close (x ∷ xs) = tokens.Sign signs.Comma ∷ (of_one x ++ behind_first of_one close xs)
+
+-- an element that is read stands there with the sign behind it, and is proper
+abbrev pub IsSoundElement : {A : Type 0} → (A → List Token) → (A → Bool) → Sign → (List Lexeme → Result (A × Bool × List Lexeme) Stop) → Type 0
+IsSoundElement {A} of_one proper close element = (lexemes : List Lexeme) → Finds (λ x. Stand (of_one x.0 ++ follows close x.1 ∷ []) lexemes x.2 × (proper x.0 ≡ true)) (element lexemes)
+
+-- and one that stands there is read
+abbrev pub IsCompleteElement : {A : Type 0} → (A → List Token) → (A → Bool) → Sign → (List Lexeme → Result (A × Bool × List Lexeme) Stop) → Type 0
+IsCompleteElement {A} of_one proper close element = (lexemes : List Lexeme) (x : A) (more : Bool) (rest : List Lexeme) → Stand (of_one x ++ follows close more ∷ []) lexemes rest → proper x ≡ true → element lexemes ≡ Ok (x, more, rest)
+
+-- elements, one at least, up to the sign that closes them
+abbrev pub AreListed : {A : Type 0} → (A → List Token) → (A → Bool) → Sign → List A → List Lexeme → List Lexeme → Type 0
+AreListed of_one proper close [] lexemes rest = ⊥
+AreListed of_one proper close (x ∷ xs) lexemes rest = Stand (of_one x ++ behind_first of_one close xs) lexemes rest × (list_all proper (x ∷ xs) ≡ true)
+
+module _ {A : Type 0} (of_one : A → List Token) (proper : A → Bool) (close : Sign) (element : List Lexeme → Result (A × Bool × List Lexeme) Stop) where
+  join : (x : A) (others : List A) (lexemes behind rest : List Lexeme) → Stand (of_one x ++ follows close true ∷ []) lexemes behind → proper x ≡ true → AreListed of_one proper close others behind rest → AreListed of_one proper close (x ∷ others) lexemes rest
+  join x [] lexemes behind rest stand is others = absurd others
+  join x (y ∷ ys) lexemes behind rest stand is others =
+      let all : Stand ((of_one x ++ follows close true ∷ []) ++ (of_one y ++ behind_first of_one close ys)) lexemes rest = stand_then (of_one x ++ follows close true ∷ []) (of_one y ++ behind_first of_one close ys) lexemes behind rest stand others.0 in
+      (subst (λ ts. Stand ts lexemes rest) (append_assoc (of_one x) (follows close true ∷ []) _) all, and_from (proper x) _ is others.1)
+
+  pub listed_found : IsSoundElement of_one proper close element → (most : ℕ) (lexemes : List Lexeme) → Finds (λ x. AreListed of_one proper close x.0 lexemes x.1) (listed_at element most lexemes)
+  unfolding listed_at
+  listed_found sound zero lexemes = fault
+  listed_found sound (suc most) lexemes = then _ (sound lexemes) (λ first one. by_test first.1
+      (λ more. then _ (listed_found sound most first.2) (λ others are. found (join first.0 others.0 lexemes first.2 others.1 (subst (λ b. Stand (of_one first.0 ++ follows close b ∷ []) lexemes first.2) more one.0) one.1 are)))
+      (λ last. found (subst (λ b. Stand (of_one first.0 ++ follows close b ∷ []) lexemes first.2) last one.0, and_from (proper first.0) true one.1 refl)))
+
+  -- no more elements than tokens
+  few_listed : (x : A) (xs : List A) → length (x ∷ xs) ≤ length (of_one x ++ behind_first of_one close xs)
+  few_listed x [] = omega (arith, length-append (of_one x) (tokens.Sign close ∷ []))
+  few_listed x (y ∷ ys) = omega (arith, length-append (of_one x) (behind_first of_one close (y ∷ ys)), few_listed y ys)
+
+  listed_within : IsCompleteElement of_one proper close element → (most : ℕ) (x : A) (xs : List A) (lexemes rest : List Lexeme) → Stand (of_one x ++ behind_first of_one close xs) lexemes rest → list_all proper (x ∷ xs) ≡ true → length (x ∷ xs) ≤ most → listed_at element most lexemes ≡ Ok (x ∷ xs, rest)
+  unfolding listed_at
+  listed_within complete zero x xs lexemes rest stand all few = absurd (omega (arith, few))
+  listed_within complete (suc most) x [] lexemes rest stand all few = rw (complete lexemes x false rest stand (and_parts (proper x) true all).0) refl
+  listed_within complete (suc most) x (y ∷ ys) lexemes rest stand all few =
+      let parts = and_parts (proper x) (list_all proper (y ∷ ys)) all in
+      let split = stand_split (of_one x ++ follows close true ∷ []) (of_one y ++ behind_first of_one close ys) lexemes rest (subst (λ ts. Stand ts lexemes rest) (sym (append_assoc (of_one x) (follows close true ∷ []) _)) stand) in
+      rw (complete lexemes x true split.0 split.1 parts.0, listed_within complete most y ys split.0 rest split.2 parts.1 (omega (arith, few))) refl
+
+  pub listed_is : IsCompleteElement of_one proper close element → (x : A) (xs : List A) (lexemes rest : List Lexeme) → Stand (of_one x ++ behind_first of_one close xs) lexemes rest → list_all proper (x ∷ xs) ≡ true → listed_at element (length lexemes) lexemes ≡ Ok (x ∷ xs, rest)
+  listed_is complete x xs lexemes rest stand all = listed_within complete (length lexemes) x xs lexemes rest stand all (omega (arith, few_listed x xs, stand_length _ lexemes rest stand))
+
+-- A selector.
+
+element_found : IsSoundElement matcher_tokens is_matcher signs.CloseBrace element_at
 unfolding element_at
-element_read lexemes m more rest h =
-    let a = bind_ok (matcher_at lexemes) _ (m, more, rest) h in
-    let b = bind_ok (next a.0.1) _ (m, more, rest) a.2 in
-    let c = bind_ok (goes_on b.0.0.place b.0.0.token) _ (m, more, rest) b.2 in
-    let made : ◌≡◌ {A = MatcherForm × Bool × List Lexeme} (a.0.0, c.0, b.0.1) (m, more, rest) = same_ok _ _ c.2 in
-    let matcher = matcher_read lexemes a.0.0 a.0.1 a.1 in
-    let whole : IsElement a.0.0 c.0 lexemes b.0.1 = record { stand = stand_then (matcher_tokens a.0.0) (tokens.Sign (cond c.0 signs.Comma signs.CloseBrace) ∷ []) lexemes a.0.1 b.0.1 matcher.stand (one_read (tokens.Sign (cond c.0 signs.Comma signs.CloseBrace)) a.0.1 b.0.1 b.0.0 b.1 (goes_on_read b.0.0.place b.0.0.token c.0 c.1)); proper = matcher.proper } in
-    subst (λ (p : MatcherForm × Bool × List Lexeme). IsElement p.0 p.1 lexemes p.2) made whole
+element_found lexemes =
+    then _ (matcher_found lexemes) (λ matcher is.
+    then _ (next_found matcher.1) (λ sign stand.
+    then _ (follows_found signs.CloseBrace sign.0.token _) (λ more told.
+    found (stand_then (matcher_tokens matcher.0) (follows signs.CloseBrace more ∷ []) lexemes matcher.1 sign.1 is.stand (told_by matcher.1 sign.1 told stand), is.proper))))
 
-element_is : (others : List Token) (m : MatcherForm) (more : Bool) (lexemes rest : List Lexeme) → Stand (matcher_tokens m ++ tokens.Sign (cond more signs.Comma signs.CloseBrace) ∷ others) lexemes rest → is_matcher m ≡ true → (behind : List Lexeme) × (element_at lexemes ≡ Ok (m, more, behind)) × Stand others behind rest
+element_is : IsCompleteElement matcher_tokens is_matcher signs.CloseBrace element_at
 unfolding element_at
-element_is others m true lexemes rest stand is = let a = matcher_is (tokens.Sign signs.Comma ∷ others) m lexemes rest stand is in let b = next_is (tokens.Sign signs.Comma) others a.0 rest a.2 in (b.behind, rw (a.1, b.is) refl, b.more)
-element_is others m false lexemes rest stand is = let a = matcher_is (tokens.Sign signs.CloseBrace ∷ others) m lexemes rest stand is in let b = next_is (tokens.Sign signs.CloseBrace) others a.0 rest a.2 in (b.behind, rw (a.1, b.is) refl, b.more)
+element_is lexemes m true rest stand is =
+    let split = stand_split (matcher_tokens m) (tokens.Sign signs.Comma ∷ []) lexemes rest stand in
+    rw (matcher_is m lexemes split.0 split.1 is, stood (tokens.Sign signs.Comma ∷ []) split.0 rest split.2) refl
+element_is lexemes m false rest stand is =
+    let split = stand_split (matcher_tokens m) (tokens.Sign signs.CloseBrace ∷ []) lexemes rest stand in
+    rw (matcher_is m lexemes split.0 split.1 is, stood (tokens.Sign signs.CloseBrace ∷ []) split.0 rest split.2) refl
 
-abbrev are_proper : List MatcherForm → Bool
-are_proper = list_all is_matcher
+matchers_listed : (m : MatcherForm) (ms : List MatcherForm) → matchers_tokens (m ∷ ms) ≡ matcher_tokens m ++ behind_first matcher_tokens signs.CloseBrace ms
+matchers_listed m [] = refl
+matchers_listed m (o ∷ os) = ap (λ ts. matcher_tokens m ++ tokens.Sign signs.Comma ∷ ts) (matchers_listed o os)
 
--- matchers, one at least, up to the closing brace
-abbrev AreMatchers : List MatcherForm → List Lexeme → List Lexeme → Type 0
-AreMatchers [] lexemes rest = ⊥
-AreMatchers (m ∷ ms) lexemes rest = Stand (matchers_tokens (m ∷ ms)) lexemes rest × (are_proper (m ∷ ms) ≡ true)
-
-join : (m : MatcherForm) (others : List MatcherForm) (lexemes behind rest : List Lexeme) → IsElement m true lexemes behind → AreMatchers others behind rest → AreMatchers (m ∷ others) lexemes rest
-join m [] lexemes behind rest element others = absurd others
-join m (o ∷ os) lexemes behind rest element others =
-    (stand_then (matcher_tokens m ++ tokens.Sign signs.Comma ∷ []) (matchers_tokens (o ∷ os)) lexemes behind rest element.stand others.0, and_from (is_matcher m) _ element.proper others.1)
-
-matchers_read : (most : ℕ) (lexemes : List Lexeme) (ms : List MatcherForm) (rest : List Lexeme) → matchers_at most lexemes ≡ Ok (ms, rest) → AreMatchers ms lexemes rest
-unfolding listed_at
-matchers_read zero lexemes ms rest h = absurd (no_err _ (ms, rest) h)
-matchers_read (suc most) lexemes ms rest h =
-    let a = bind_ok (element_at lexemes) _ (ms, rest) h in
-    let element = element_read lexemes a.0.0 a.0.1 a.0.2 a.1 in
-    ⊎_elim
-    (λ yes. let b = bind_ok (matchers_at most a.0.2) _ (ms, rest) yes.1 in
-    subst (λ (p : List MatcherForm × List Lexeme). AreMatchers p.0 lexemes p.1) (same_ok _ _ b.2) (join a.0.0 b.0.0 lexemes a.0.2 b.0.1 (subst (λ more. IsElement a.0.0 more lexemes a.0.2) yes.0 element) (matchers_read most a.0.2 b.0.0 b.0.1 b.1)))
-    (λ no. subst (λ (p : List MatcherForm × List Lexeme). AreMatchers p.0 lexemes p.1) (same_ok _ _ no.1) ((subst (λ more. IsElement a.0.0 more lexemes a.0.2) no.0 element).stand, and_from (is_matcher a.0.0) true element.proper refl))
-    (chosen a.0.1 _ _ (Ok (ms, rest)) a.2)
-
-few_matchers : (ms : List MatcherForm) (lexemes rest : List Lexeme) → Stand (matchers_tokens ms) lexemes rest → length ms ≤ length lexemes
-few_matchers [] lexemes rest stand = omega arith
-few_matchers (m ∷ []) [] rest stand = absurd stand
-few_matchers (m ∷ []) (l ∷ lexemes) rest stand = omega arith
-few_matchers (m ∷ o ∷ os) (a ∷ b ∷ c ∷ d ∷ lexemes) rest stand = omega (arith, few_matchers (o ∷ os) lexemes rest stand.1.1.1.1)
-few_matchers (m ∷ o ∷ os) (a ∷ b ∷ c ∷ []) rest stand = absurd stand.1.1.1
-few_matchers (m ∷ o ∷ os) (a ∷ b ∷ []) rest stand = absurd stand.1.1
-few_matchers (m ∷ o ∷ os) (a ∷ []) rest stand = absurd stand.1
-few_matchers (m ∷ o ∷ os) [] rest stand = absurd stand
-
-matchers_are : (most : ℕ) (m : MatcherForm) (ms : List MatcherForm) (lexemes rest : List Lexeme) → Stand (matchers_tokens (m ∷ ms)) lexemes rest → are_proper (m ∷ ms) ≡ true → length (m ∷ ms) ≤ most → matchers_at most lexemes ≡ Ok (m ∷ ms, rest)
-unfolding listed_at
-matchers_are zero m ms lexemes rest stand names few = absurd (omega (arith, few))
-matchers_are (suc most) m [] lexemes rest stand names few =
-    let a = element_is [] m false lexemes rest stand (and_parts (is_matcher m) true names).0 in
-    rw a.1 (ap (λ r. Ok (m ∷ [], r)) a.2)
-matchers_are (suc most) m (o ∷ os) lexemes rest stand names few =
-    let parts = and_parts (is_matcher m) (are_proper (o ∷ os)) names in
-    let a = element_is (matchers_tokens (o ∷ os)) m true lexemes rest stand parts.0 in
-    rw (a.1, matchers_are most o os a.0 rest a.2 parts.1 (omega (arith, few))) refl
-
-pub selector_read : (lexemes braced : List Lexeme) (ms : List MatcherForm) (rest : List Lexeme) → Stand (tokens.Sign signs.OpenBrace ∷ []) lexemes braced → selector_at braced ≡ Ok (ms, rest) → IsSelector ms lexemes rest
+pub selector_found : (lexemes braced : List Lexeme) → Stand (tokens.Sign signs.OpenBrace ∷ []) lexemes braced → Finds (λ x. IsSelector x.0 lexemes x.1) (selector_at braced)
 unfolding selector_at
-selector_read lexemes braced ms rest opened h =
-    let a = bind_ok (next braced) _ (ms, rest) h in
-    let b = bind_ok (some_matcher a.0.0.place a.0.0.token) _ (ms, rest) a.2 in
-    let c = bind_ok (matchers_at (length braced) braced) _ (ms, rest) b.2 in
-    let d = bind_ok (real_matchers (place_of c.0.1) c.0.0) _ (ms, rest) c.2 in
-    let made : ◌≡◌ {A = List MatcherForm × List Lexeme} (d.0, c.0.1) (ms, rest) = same_ok _ _ d.2 in
-    let real = if_ok (has_real_form c.0.0) c.0.0 d.0 _ d.1 in
-    let whole = by_matchers c.0.0 c.0.1 (matchers_read (length braced) braced c.0.0 c.0.1 c.1) real.0 in
-    subst (λ (p : List MatcherForm × List Lexeme). IsSelector p.0 lexemes p.1) (ap (λ found. (found, c.0.1)) real.1 ∙ made) whole
+selector_found lexemes braced opened =
+    then _ (next_found braced) (λ first _.
+    then _ (itself (some_matcher first.0.place first.0.token)) (λ _ _.
+    then _ (listed_found matcher_tokens is_matcher signs.CloseBrace element_at element_found (length braced) braced) (λ read are.
+    then _ (checked (has_real_form read.0) read.0 (stop faults.NoRealMatcher (place_of read.1))) (λ matchers is.
+    found (subst (λ ms. IsSelector ms lexemes read.1) is.1 (by_matchers read.0 read.1 are is.0))))))
   where
-    by_matchers : (found : List MatcherForm) (behind : List Lexeme) → AreMatchers found braced behind → has_real_form found ≡ true → IsSelector found lexemes behind
+    by_matchers : (ms : List MatcherForm) (behind : List Lexeme) → AreListed matcher_tokens is_matcher signs.CloseBrace ms braced behind → has_real_form ms ≡ true → IsSelector ms lexemes behind
     by_matchers [] behind are real = absurd are
-    by_matchers (x ∷ xs) behind are real = record { stand = stand_then (tokens.Sign signs.OpenBrace ∷ []) (matchers_tokens (x ∷ xs)) lexemes braced behind opened are.0; proper = are.1; real = real }
+    by_matchers (x ∷ xs) behind are real = record { stand = stand_then (tokens.Sign signs.OpenBrace ∷ []) (matchers_tokens (x ∷ xs)) lexemes braced behind opened (subst (λ ts. Stand ts braced behind) (sym (matchers_listed x xs)) are.0); proper = are.1; real = real }
 
 pub selector_is : (ms : List MatcherForm) (lexemes rest : List Lexeme) → IsSelector ms lexemes rest → (braced : List Lexeme) × (expected signs.OpenBrace positions.Elsewhere lexemes ≡ Ok braced) × (selector_at braced ≡ Ok (ms, rest))
 unfolding selector_at
 selector_is [] lexemes rest is = absurd (true≢false (sym is.real))
 selector_is (m ∷ ms) lexemes rest is =
-    let a = expected_is signs.OpenBrace (matchers_tokens (m ∷ ms)) positions.Elsewhere lexemes rest is.stand in
-    let first = first_name m ms a.0 a.2 in (
-      a.0,
-      a.1,
-      rw (first.2, matchers_are (length a.0) m ms a.0 rest a.2 is.proper (few_matchers (m ∷ ms) a.0 rest a.2))
-          (ap (λ r. r >>= λ (matchers : List MatcherForm). Ok (matchers, rest)) (cond-true (has_real_form (m ∷ ms)) _ _ is.real)),
-    )
-  where
-    behind_name : MatcherForm → List Token → List Token
-    behind_name m others = tokens.Sign (operator_sign m.op) ∷ tokens.Text m.value ∷ others
-
-    first_name : (m : MatcherForm) (ms : List MatcherForm) (braced : List Lexeme) → Stand (matchers_tokens (m ∷ ms)) braced rest → (place : ℕ) × (behind : List Lexeme) × (next braced ≡ Ok (record { token = tokens.Word m.name; place = place }, behind))
-    first_name m [] braced stand = let n = next_is (tokens.Word m.name) (behind_name m (tokens.Sign signs.CloseBrace ∷ [])) braced rest stand in (n.place, n.behind, n.is)
-    first_name m (o ∷ os) braced stand = let n = next_is (tokens.Word m.name) (behind_name m (tokens.Sign signs.Comma ∷ matchers_tokens (o ∷ os))) braced rest stand in (n.place, n.behind, n.is)
+    let split = stand_split (tokens.Sign signs.OpenBrace ∷ []) (matchers_tokens (m ∷ ms)) lexemes rest is.stand in
+    let stand = subst (λ ts. Stand ts split.0 rest) (matchers_listed m ms) split.2 in
+    let first = next_is (tokens.Word m.name) (tokens.Sign (operator_sign m.op) ∷ tokens.Text m.value ∷ behind_first matcher_tokens signs.CloseBrace ms) split.0 rest stand in
+    (split.0, expected_is signs.OpenBrace positions.Elsewhere lexemes split.0 split.1, rw (first.is, listed_is matcher_tokens is_matcher signs.CloseBrace element_at element_is m ms split.0 rest stand is.proper, is.real) refl)

@@ -1,8 +1,7 @@
 -- The productions of queries: what is read is derived.
-use Rattle.std.proofs.Common.{◌≡◌, inl, inr, ⊎_elim, ℕ, zero, suc, ◌-◌, ◌≤◌, true, false, not, ◌&&◌, List, [], ◌∷◌, length, Option, Some, None, is_some, Ok, refl, sym, ap, subst, ◌∙◌, arith}
-use Rattle.std.proofs.lemmas.Bool.{true≢false, and_parts, and_from, le-leb}
+use Rattle.std.proofs.Common.{◌≡◌, inl, inr, ℕ, zero, suc, ◌-◌, ◌≤◌, true, not, ◌&&◌, List, [], ◌∷◌, length, Option, Some, None, is_some, Result, Ok, refl, sym, ap, subst, arith}
+use Rattle.std.proofs.lemmas.Bool.{and_parts, and_from, le-leb}
 use Rattle.std.proofs.lemmas.Option.{same_Some, none-some}
-use Rattle.rl_labels.specs.Decimals.{DecimalForm}
 use Rattle.rl_query_text.specs.declared.parser.Position.TheVariants as positions
 use Rattle.rl_query.specs.declared.quantity_test.Comparison.{Comparison}
 use Rattle.rl_query_text.specs.declared.room.Room.{Room}
@@ -16,12 +15,14 @@ use Rattle.rl_query.specs.Form.{TermForm, ThresholdForm, QueryForm, label_tests,
 use Rattle.rl_query_text.specs.Fronts.{is_sign, next}
 use Rattle.rl_query_text.specs.Lexing.{lexemes_of}
 use Rattle.rl_query.specs.Limits.{most_aggregations, most_parentheses}
-use Rattle.rl_query_text.specs.QueryReading.{Reader, in_parentheses, alone, room_behind, is_term, term_at, over_at, divided_at, comes_to_test, compared_at, with_test, lone_at, operand_at, behind_at, query_by, query_within, ends, whole_room, whole_at, query_in, query_reading}
+use Rattle.rl_query_text.specs.QueryReading.{Reader, in_parentheses, alone, room_behind, is_term, over_at, divided_at, comes_to_test, compared_at, with_test, lone_at, operand_at, behind_at, query_by, query_within, ends, whole_room, whole_at, query_in, query_reading}
 use Rattle.rl_query_text.specs.Standing.{Stand}
 use Rattle.rl_query.specs.Tables.{comparison_sign}
 use Rattle.rl_query_text.specs.TermGrammar.{InParentheses, IsTerm, IsDivided, IsQuotient, IsThreshold, IsQuery, Derives}
 use Rattle.rl_query_text.proofs.Parentheses.{parentheses_read}
-use Rattle.rl_query_text.proofs.Productions.{bind_ok, chosen, by_option, no_err, same_ok, stand_then, one_read, only_sign}
+use Rattle.rl_query_text.proofs.Finding.{Finds, found, fault, itself, then, by_test, of_option, next_found, told_by}
+use Rattle.rl_query_text.specs.declared.stop.Stop.{Stop}
+use Rattle.rl_query_text.proofs.Productions.{stand_then, only_sign}
 use Rattle.rl_query_text.proofs.TermProductions.{term_derived}
 
 -- What is a term, a quotient and a query.
@@ -77,54 +78,46 @@ pub record IsRoomyQuery (room : Room) (query : QueryForm) (lexemes rest : List L
   pub few_tests : all_label_tests query ≤ room.tests
   pub nested : are_nested query ≡ true
 
-lone_sound : (room : Room) (lexemes : List Lexeme) (query : QueryForm) (rest : List Lexeme) → lone_at room lexemes ≡ Ok (query, rest) → IsRoomyQuery room query lexemes rest
+abbrev Finding : Room → (lexemes : List Lexeme) → Result (QueryForm × List Lexeme) Stop → Type 0
+Finding room lexemes read = Finds (λ x. IsRoomyQuery room x.0 lexemes x.1) read
+
+lone_sound : (room : Room) (lexemes : List Lexeme) → Finding room lexemes (lone_at room lexemes)
 unfolding lone_at
-lone_sound room lexemes query rest h =
-    let a = bind_ok (term_at positions.Start room lexemes) _ (query, rest) h in
-    let term = term_derived positions.Start room lexemes a.0.0 a.0.1 a.1 in
+lone_sound room lexemes = then _ (term_derived positions.Start room lexemes) (λ x term.
     let fits = term.fits in
-    let whole : IsRoomyQuery room (alone a.0.0) lexemes a.0.1 = record {
-      is = quotient_query room.depth a.0.0 None lexemes a.0.1 (term_quotient room.depth a.0.0 lexemes a.0.1 term.is);
+    found (record {
+      is = quotient_query room.depth x.0 None lexemes x.1 (term_quotient room.depth x.0 lexemes x.1 term.is);
       few = omega (arith, fits.few);
       few_tests = omega (arith, fits.few_tests);
-      nested = and_from (is_nested a.0.0) true (le-leb (length a.0.0.aggregations) most_aggregations fits.nested) refl;
-    } in
-    subst (λ (p : QueryForm × List Lexeme). IsRoomyQuery room p.0 lexemes p.1) (same_ok _ _ a.2) whole
+      nested = and_from (is_nested x.0) true (le-leb (length x.0.aggregations) most_aggregations fits.nested) refl;
+    }))
 
 lone_term : (left : TermForm) (over : Option TermForm) (test : Option ThresholdForm) → not (is_some over) && not (is_some test) ≡ true → parts_of_query left over test ≡ alone left
 lone_term left None None h = refl
-lone_term left None (Some test) h = absurd (true≢false (sym h))
-lone_term left (Some over) test h = absurd (true≢false (sym h))
+lone_term left None (Some test) h = cc
+lone_term left (Some over) test h = cc
 
-over_sound : (room : Room) (left : TermForm) (lexemes middle behind : List Lexeme) (found : QueryForm) (rest : List Lexeme) → IsRoomyQuery room (alone left) lexemes middle → Stand (tokens.Sign signs.Slash ∷ []) middle behind → over_at left room behind ≡ Ok (found, rest) → IsRoomyQuery room found lexemes rest
+over_sound : (room : Room) (left : TermForm) (lexemes middle behind : List Lexeme) → IsRoomyQuery room (alone left) lexemes middle → Stand (tokens.Sign signs.Slash ∷ []) middle behind → Finding room lexemes (over_at left room behind)
 unfolding over_at
-over_sound room left lexemes middle behind found rest before slash h =
-    let a = bind_ok (term_at positions.Divisor (room_behind left room) behind) _ (found, rest) h in
-    let over = term_derived positions.Divisor (room_behind left room) behind a.0.0 a.0.1 a.1 in
+over_sound room left lexemes middle behind before slash = then _ (term_derived positions.Divisor (room_behind left room) behind) (λ x over.
     let fits = over.fits in
-    let few : length a.0.0.range.stages ≤ room.stages - length left.range.stages = fits.few in
-    let few_tests : label_tests a.0.0.range.stages ≤ room.tests - label_tests left.range.stages = fits.few_tests in
-    let whole : IsRoomyQuery room (parts_of_query left (Some a.0.0) None) lexemes a.0.1 = record {
-      is = divided_query room.depth left a.0.0 lexemes middle behind a.0.1 (query_quotient room.depth left None lexemes middle before.is) slash over.is;
+    let few : length x.0.range.stages ≤ room.stages - length left.range.stages = fits.few in
+    let few_tests : label_tests x.0.range.stages ≤ room.tests - label_tests left.range.stages = fits.few_tests in
+    found (record {
+      is = divided_query room.depth left x.0 lexemes middle behind x.1 (query_quotient room.depth left None lexemes middle before.is) slash over.is;
       few = omega (arith, before.few, few);
       few_tests = omega (arith, before.few_tests, few_tests);
-      nested = and_from (is_nested left) (is_nested a.0.0) (and_parts (is_nested left) true before.nested).0 (le-leb (length a.0.0.aggregations) most_aggregations fits.nested);
-    } in
-    subst (λ (p : QueryForm × List Lexeme). IsRoomyQuery room p.0 lexemes p.1) (same_ok _ _ a.2) whole
+      nested = and_from (is_nested left) (is_nested x.0) (and_parts (is_nested left) true before.nested).0 (le-leb (length x.0.aggregations) most_aggregations fits.nested);
+    }))
 
-divided_sound : (room : Room) (query : QueryForm) (lexemes middle : List Lexeme) (found : QueryForm) (rest : List Lexeme) → IsRoomyQuery room query lexemes middle → divided_at query room middle ≡ Ok (found, rest) → IsRoomyQuery room found lexemes rest
+divided_sound : (room : Room) (query : QueryForm) (lexemes middle : List Lexeme) → IsRoomyQuery room query lexemes middle → Finding room lexemes (divided_at query room middle)
 unfolding divided_at
-divided_sound room query lexemes middle found rest before h =
-    let a = bind_ok (next middle) _ (found, rest) h in
-    ⊎_elim
-    (λ yes. let parts = and_parts (is_term query) (is_sign signs.Slash a.0.0.token) yes.0 in
-    let lone = lone_term query.left query.over query.test parts.0 in
-    over_sound room query.left lexemes middle a.0.1 found rest (subst (λ q. IsRoomyQuery room q lexemes middle) lone before) (one_read (tokens.Sign signs.Slash) middle a.0.1 a.0.0 a.1 (only_sign signs.Slash a.0.0.token parts.1)) yes.1)
-    (λ no. subst (λ (p : QueryForm × List Lexeme). IsRoomyQuery room p.0 lexemes p.1) (same_ok _ _ no.1) before)
-    (chosen (is_term query && is_sign signs.Slash a.0.0.token) _ _ (Ok (found, rest)) a.2)
+divided_sound room query lexemes middle before = then _ (next_found middle) (λ first stand. by_test (is_term query && is_sign signs.Slash first.0.token)
+    (λ divides. let parts = and_parts (is_term query) (is_sign signs.Slash first.0.token) divides in
+    over_sound room query.left lexemes middle first.1 (subst (λ q. IsRoomyQuery room q lexemes middle) (lone_term query.left query.over query.test parts.0) before) (told_by middle first.1 (only_sign signs.Slash first.0.token parts.1) stand))
+    (λ _. found before))
 
 compared_read : (token : Token) (comparison : Comparison) → compared_by token ≡ Some comparison → token ≡ tokens.Sign (comparison_sign comparison)
-compared_read (tokens.Sign signs.Equal) comparison h = absurd (none-some comparison h)
 compared_read (tokens.Sign signs.EqualTo) comparison h = ap (λ c. tokens.Sign (comparison_sign c)) (same_Some _ _ h)
 compared_read (tokens.Sign signs.NotEqual) comparison h = ap (λ c. tokens.Sign (comparison_sign c)) (same_Some _ _ h)
 compared_read (tokens.Sign signs.Greater) comparison h = ap (λ c. tokens.Sign (comparison_sign c)) (same_Some _ _ h)
@@ -134,20 +127,16 @@ compared_read (tokens.Sign signs.LessOrEqual) comparison h = ap (λ c. tokens.Si
 compared_read (tokens.Sign _) comparison h = absurd (none-some comparison h)
 compared_read _ comparison h = absurd (none-some comparison h)
 
-number_read : (place : ℕ) (token : Token) (value : DecimalForm) → number_at place token ≡ Ok value → (number : List ℕ) × (token ≡ tokens.Number number) × (threshold_of number ≡ Some value)
-number_read place (tokens.Number number) value h =
-    ⊎_elim (λ none. absurd (no_err _ value none.1)) (λ some. (number, refl, some.1 ∙ ap (λ n. Some n) (same_ok _ _ some.2))) (by_option Ok (threshold_of number) _ value h)
-number_read place _ value h = absurd (no_err _ value h)
+number_found : (place : ℕ) (token : Token) → Finds (λ value. (number : List ℕ) × (token ≡ tokens.Number number) × (threshold_of number ≡ Some value)) (number_at place token)
+number_found place (tokens.Number number) = of_option Ok (threshold_of number) (λ value is. found (number, refl, is)) (λ _. fault)
+number_found place _ = fault
 
-threshold_read : (comparison : Comparison) (lexemes middle : List Lexeme) (test : ThresholdForm) (rest : List Lexeme) → Stand (tokens.Sign (comparison_sign comparison) ∷ []) lexemes middle → threshold_at comparison middle ≡ Ok (test, rest) → IsThreshold (Some test) lexemes rest
+threshold_found : (comparison : Comparison) (lexemes middle : List Lexeme) → Stand (tokens.Sign (comparison_sign comparison) ∷ []) lexemes middle → Finds (λ x. IsThreshold (Some x.0) lexemes x.1) (threshold_at comparison middle)
 unfolding threshold_at
-threshold_read comparison lexemes middle test rest sign h =
-    let a = bind_ok (next middle) _ (test, rest) h in
-    let b = bind_ok (number_at a.0.0.place a.0.0.token) _ (test, rest) a.2 in
-    let number = number_read a.0.0.place a.0.0.token b.0 b.1 in
-    let stand = stand_then (tokens.Sign (comparison_sign comparison) ∷ []) (tokens.Number number.0 ∷ []) lexemes middle a.0.1 sign (one_read (tokens.Number number.0) middle a.0.1 a.0.0 a.1 number.1) in
-    let whole : IsThreshold (Some (record { comparison = comparison; value = b.0 })) lexemes a.0.1 = (number.0, stand, number.2) in
-    subst (λ (p : ThresholdForm × List Lexeme). IsThreshold (Some p.0) lexemes p.1) (same_ok _ _ b.2) whole
+threshold_found comparison lexemes middle sign =
+    then _ (next_found middle) (λ first stand.
+    then _ (number_found first.0.place first.0.token) (λ value number.
+    found (number.0, stand_then (tokens.Sign (comparison_sign comparison) ∷ []) (tokens.Number number.0 ∷ []) lexemes middle first.1 sign (told_by middle first.1 number.1 stand), number.2)))
 
 -- a query that gets a threshold has none
 untested : (left : TermForm) (over : Option TermForm) (test : Option ThresholdForm) (token : Token) (comparison : Comparison) → comes_to_test (parts_of_query left over test) token ≡ Some comparison → (test ≡ None) × (compared_by token ≡ Some comparison)
@@ -157,82 +146,54 @@ untested left over (Some test) token comparison h = absurd (none-some comparison
 tested_sound : (room : Room) (left : TermForm) (over : Option TermForm) (test : ThresholdForm) (lexemes middle rest : List Lexeme) → IsRoomyQuery room (parts_of_query left over None) lexemes middle → IsThreshold (Some test) middle rest → IsRoomyQuery room (parts_of_query left over (Some test)) lexemes rest
 tested_sound room left over test lexemes middle rest before threshold = record { is = tested_query room.depth left over test lexemes middle rest (query_quotient room.depth left over lexemes middle before.is) threshold; few = before.few; few_tests = before.few_tests; nested = before.nested }
 
-compared_sound : (room : Room) (query : QueryForm) (lexemes middle : List Lexeme) (test : Option ThresholdForm) (rest : List Lexeme) → IsRoomyQuery room query lexemes middle → compared_at query middle ≡ Ok (test, rest) → IsRoomyQuery room (with_test query test) lexemes rest
+compared_sound : (room : Room) (query : QueryForm) (lexemes middle : List Lexeme) → IsRoomyQuery room query lexemes middle → Finds (λ x. IsRoomyQuery room (with_test query x.0) lexemes x.1) (compared_at query middle)
 unfolding compared_at
-compared_sound room query lexemes middle test rest before h =
-    let a = bind_ok (next middle) _ (test, rest) h in
-    ⊎_elim
-    (λ none. subst (λ (p : Option ThresholdForm × List Lexeme). IsRoomyQuery room (with_test query p.0) lexemes p.1) (same_ok _ _ none.1) before)
-    (λ some. let b = bind_ok (threshold_at some.0 a.0.1) _ (test, rest) some.2 in
-    let comes = untested query.left query.over query.test a.0.0.token some.0 some.1 in
-    let sign = one_read (tokens.Sign (comparison_sign some.0)) middle a.0.1 a.0.0 a.1 (compared_read a.0.0.token some.0 comes.1) in
-    let threshold = threshold_read some.0 middle a.0.1 b.0.0 b.0.1 sign b.1 in
-    let quotient = subst (λ t. IsRoomyQuery room (parts_of_query query.left query.over t) lexemes middle) comes.0 before in
-    subst (λ (p : Option ThresholdForm × List Lexeme). IsRoomyQuery room (with_test query p.0) lexemes p.1) (same_ok _ _ b.2) (tested_sound room query.left query.over b.0.0 lexemes middle b.0.1 quotient threshold))
-    (by_option _ (comes_to_test query a.0.0.token) _ (test, rest) a.2)
+compared_sound room query lexemes middle before = then _ (next_found middle) (λ first stand. of_option _ (comes_to_test query first.0.token)
+    (λ comparison is. let comes = untested query.left query.over query.test first.0.token comparison is in
+    then _ (threshold_found comparison middle first.1 (told_by middle first.1 (compared_read first.0.token comparison comes.1) stand)) (λ test threshold.
+    found (tested_sound room query.left query.over test.0 lexemes middle test.1 (subst (λ t. IsRoomyQuery room (parts_of_query query.left query.over t) lexemes middle) comes.0 before) threshold)))
+    (λ _. found before))
 
-behind_sound : (room : Room) (operand : QueryForm) (lexemes middle : List Lexeme) (query : QueryForm) (rest : List Lexeme) → IsRoomyQuery room operand lexemes middle → behind_at operand room middle ≡ Ok (query, rest) → IsRoomyQuery room query lexemes rest
+behind_sound : (room : Room) (operand : QueryForm) (lexemes middle : List Lexeme) → IsRoomyQuery room operand lexemes middle → Finding room lexemes (behind_at operand room middle)
 unfolding behind_at
-behind_sound room operand lexemes middle query rest before h =
-    let a = bind_ok (divided_at operand room middle) _ (query, rest) h in
-    let b = bind_ok (compared_at a.0.0 a.0.1) _ (query, rest) a.2 in
-    let divided = divided_sound room operand lexemes middle a.0.0 a.0.1 before a.1 in
-    subst (λ (p : QueryForm × List Lexeme). IsRoomyQuery room p.0 lexemes p.1) (same_ok _ _ b.2) (compared_sound room a.0.0 lexemes a.0.1 b.0.0 b.0.1 divided b.1)
+behind_sound room operand lexemes middle before = then _ (divided_sound room operand lexemes middle before) (λ divided is. then _ (compared_sound room divided.0 lexemes divided.1 is) (λ compared whole. found whole))
 
 abbrev IsSound : Reader QueryForm → Type 0
-IsSound inside = (room : Room) (lexemes : List Lexeme) (query : QueryForm) (rest : List Lexeme) → inside room lexemes ≡ Ok (query, rest) → IsRoomyQuery room query lexemes rest
+IsSound inside = (room : Room) (lexemes : List Lexeme) → Finding room lexemes (inside room lexemes)
 
 inner_sound : (inside : Reader QueryForm) → IsSound inside → IsSound (in_parentheses positions.Start inside)
-inner_sound inside sound room lexemes query rest h =
-    let p = parentheses_read positions.Start inside room query lexemes rest h in
-    let inner = sound p.room_inside p.behind query p.end p.read in
-    let is : IsQuery (suc p.room_inside.depth) query lexemes rest = inr (record { behind = p.behind; end = p.end; opened = p.opened.stand; inside = inner.is; closed = p.closed }) in
+inner_sound inside sound room lexemes = record { is = λ x h.
+    let p = (parentheses_read IsRoomyQuery positions.Start inside room lexemes sound).is x h in
+    let is : IsQuery (suc p.0.depth) x.0 lexemes x.1 = inr (record { behind = p.1; end = p.2; opened = p.3.stand; inside = p.4.is; closed = p.5 }) in
     record {
-      is = subst (λ n. IsQuery n query lexemes rest) (sym p.opened.depth) is;
-      few = subst (λ n. all_stages query ≤ n) p.opened.stages inner.few;
-      few_tests = subst (λ n. all_label_tests query ≤ n) p.opened.tests inner.few_tests;
-      nested = inner.nested;
-    }
+      is = subst (λ n. IsQuery n x.0 lexemes x.1) (sym p.3.depth) is;
+      few = subst (λ n. all_stages x.0 ≤ n) p.3.stages p.4.few;
+      few_tests = subst (λ n. all_label_tests x.0 ≤ n) p.3.tests p.4.few_tests;
+      nested = p.4.nested;
+    } }
 
 operand_sound : (inside : Reader QueryForm) → IsSound inside → IsSound (operand_at inside)
 unfolding operand_at
-operand_sound inside sound room lexemes query rest h =
-    let a = bind_ok (next lexemes) _ (query, rest) h in
-    ⊎_elim (λ yes. inner_sound inside sound room lexemes query rest yes.1) (λ no. lone_sound room lexemes query rest no.1) (chosen (is_sign signs.OpenParenthesis a.0.0.token) _ _ (Ok (query, rest)) a.2)
-
-by_sound : (inside : Reader QueryForm) → IsSound inside → IsSound (query_by inside)
-unfolding query_by
-by_sound inside sound room lexemes query rest h =
-    let a = bind_ok (operand_at inside room lexemes) _ (query, rest) h in
-    behind_sound room a.0.0 lexemes a.0.1 query rest (operand_sound inside sound room lexemes a.0.0 a.0.1 a.1) a.2
+operand_sound inside sound room lexemes = then _ (itself (next lexemes)) (λ first _. by_test (is_sign signs.OpenParenthesis first.0.token) (λ _. inner_sound inside sound room lexemes) (λ _. lone_sound room lexemes))
 
 within_sound : (turns : ℕ) → IsSound (query_within turns)
-within_sound zero room lexemes query rest h = absurd (no_err _ (query, rest) h)
-within_sound (suc turns) room lexemes query rest h = by_sound (query_within turns) (within_sound turns) room lexemes query rest h
+unfolding query_by
+within_sound zero room lexemes = fault
+within_sound (suc turns) room lexemes = then _ (operand_sound (query_within turns) (within_sound turns) room lexemes) (λ operand is. behind_sound room operand.0 lexemes operand.1 is)
 
-pub whole_derived : (lexemes : List Lexeme) (query : QueryForm) (rest : List Lexeme) → whole_at lexemes ≡ Ok (query, rest) → IsRoomyQuery whole_room query lexemes rest
+pub whole_derived : (lexemes : List Lexeme) → Finding whole_room lexemes (whole_at lexemes)
 unfolding whole_at
-whole_derived lexemes query rest h = within_sound (suc most_parentheses) whole_room lexemes query rest h
+whole_derived lexemes = within_sound (suc most_parentheses) whole_room lexemes
 
-end_read : (place : ℕ) (token : Token) → ends place token ≡ Ok tt → token ≡ tokens.End
-end_read place tokens.End h = refl
-end_read place _ h = absurd (no_err _ tt h)
+end_found : (place : ℕ) (token : Token) → Finds (λ _. token ≡ tokens.End) (ends place token)
+end_found place tokens.End = found refl
+end_found place _ = fault
 
 -- a query that is read is derived
-pub query_derived : (text : List ℕ) (query : QueryForm) → query_reading text ≡ Ok query → Derives text query
+pub query_derived : (text : List ℕ) → Finds (Derives text) (query_reading text)
 unfolding query_in
-query_derived text query h =
-    let a = bind_ok (whole_at (lexemes_of text)) _ query h in
-    let b = bind_ok (next a.0.1) _ query a.2 in
-    let c = bind_ok (ends b.0.0.place b.0.0.token) _ query b.2 in
-    let roomy = whole_derived (lexemes_of text) a.0.0 a.0.1 a.1 in
-    let whole : Derives text a.0.0 = record {
-      behind = a.0.1;
-      rest = b.0.1;
-      is = roomy.is;
-      end = one_read tokens.End a.0.1 b.0.1 b.0.0 b.1 (end_read b.0.0.place b.0.0.token c.1);
-      few = roomy.few;
-      few_tests = roomy.few_tests;
-      nested = roomy.nested;
-    } in
-    subst (Derives text) (same_ok _ _ c.2) whole
+query_derived text =
+    then _ (whole_derived (lexemes_of text)) (λ query roomy.
+    then _ (next_found query.1) (λ last stand.
+    then _ (end_found last.0.place last.0.token) (λ _ is.
+    found (record { behind = query.1; rest = last.1; is = roomy.is; end = told_by query.1 last.1 is stand; few = roomy.few; few_tests = roomy.few_tests; nested = roomy.nested }))))

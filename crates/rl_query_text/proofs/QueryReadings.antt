@@ -24,7 +24,7 @@ use Rattle.rl_query.specs.Tables.{comparison_sign, function_text, operator_word}
 use Rattle.rl_query_text.specs.TermGrammar.{InParentheses, IsBare, IsTerm, IsOperand, IsQuotient, IsThreshold, IsQuery, Derives}
 use Rattle.rl_query_text.specs.Testing.{is_word}
 use Rattle.rl_query_text.specs.AggregationReading.{groups_loudly}
-use Rattle.rl_query_text.proofs.AggregationReadings.{EndsTerm, ends_term_at}
+use Rattle.rl_query_text.proofs.AggregationProductions.{EndsTerm, ends_term_at}
 use Rattle.rl_query_text.proofs.Parentheses.{inside_room, parentheses_are}
 use Rattle.rl_query_text.proofs.Productions.{next_is}
 use Rattle.rl_query_text.proofs.QueryProductions.{parts_of_query, quotient_query, quotient_term, term_quotient}

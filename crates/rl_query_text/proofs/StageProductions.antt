@@ -1,11 +1,11 @@
 -- The productions of stages: what is read is derived, and what is derived is read.
 use Rattle.rl_query_text.proofs.TestReadings.{tests_are_read}
-use Rattle.rl_query_text.proofs.TestProductions.{tests_derived}
+use Rattle.rl_query_text.proofs.TestProductions.{tests_found}
 use Rattle.rl_query_text.proofs.StageStarts.{tests_start, chain_ends, Ends}
-use Rattle.rl_query_text.specs.Testing.{IsEnd, tests_at}
+use Rattle.rl_query_text.specs.Testing.{IsEnd}
 use Rattle.rl_query_text.specs.declared.room.Room.{Room}
 use Rattle.rl_query.specs.Form.{by_tests, tests_of, label_tests, StageForm, by_filter, by_parser, parses, parsers_of}
-use Rattle.std.proofs.Common.{◌-◌, ◌≡◌, ⊎_elim, ℕ, zero, suc, ◌+◌, ◌≤◌, Bool, true, false, cond, ◌||◌, ◌&&◌, List, [], ◌∷◌, codes, length, Some, is_some, Result, Ok, refl, sym, ap, subst, ◌∙◌, arith}
+use Rattle.std.proofs.Common.{◌-◌, ◌≡◌, ⊎_elim, ℕ, zero, suc, ◌+◌, ◌≤◌, Bool, true, false, cond, ◌||◌, ◌&&◌, List, [], ◌∷◌, codes, length, Some, is_some, Ok, refl, sym, ap, ◌∙◌, arith}
 use Rattle.std.proofs.Math.Bool.{and-false}
 use Rattle.std.proofs.lemmas.Bool.{true≢false}
 use Rattle.std.proofs.lemmas.Option.{cond_some, none-some, same_Some}
@@ -13,7 +13,6 @@ use Rattle.std.proofs.lemmas.List.Sums.{sum_by-cons}
 use Rattle.rl_labels.specs.Name.{is_text}
 use Rattle.rl_labels.specs.laws.LabelLaws.{same_text}
 use Rattle.rl_plain.specs.Answers.{◌>>=◌}
-use Rattle.rl_query_text.specs.declared.stop.Stop.{Stop}
 use Rattle.rl_query.specs.declared.stages.Parser.{Parser}
 use Rattle.rl_query.specs.declared.stages.Parser.TheVariants as parsers
 use Rattle.rl_query.specs.declared.token.Lexeme.{Lexeme}
@@ -23,10 +22,11 @@ use Rattle.rl_query.specs.declared.token.Token.TheVariants as tokens
 use Rattle.rl_query_text.specs.Standing.{Stand}
 use Rattle.rl_query_text.specs.Grammar.{filter_sign, IsStage, AreChained, AreStages}
 use Rattle.rl_query_text.specs.Fronts.{next, is_sign}
-use Rattle.rl_query_text.specs.Parsing.{filter_op, filter_at, begins_stage, stage_comes, parser_of, only_parser, tests_begin, tested_at, piped_at, stage_at, stages_at, stages_in}
+use Rattle.rl_query_text.specs.Parsing.{filter_op, begins_stage, stage_comes, parser_of, only_parser, tests_begin, tested_at, piped_at, stage_at, stages_at, stages_in}
 use Rattle.rl_query_text.specs.Printing.{parser_text}
-use Rattle.rl_query_text.proofs.Productions.{bind_ok, chosen, by_option, same_ok, no_err, stand_then, one_read, next_is, only_sign}
-use Rattle.rl_query_text.proofs.FilterProductions.{op_is, filter_read, filter_is}
+use Rattle.rl_query_text.proofs.Finding.{Finds, found, fault, itself, then, by_test, of_option, same_ok, one_read, next_found, told_by}
+use Rattle.rl_query_text.proofs.Productions.{chosen, stand_then, next_is, only_sign}
+use Rattle.rl_query_text.proofs.FilterProductions.{op_read, op_is, filter_read, filter_is}
 
 parser_read : (t : Token) (parser : Parser) → parser_of t ≡ Some parser → t ≡ tokens.Word (parser_text parser)
 parser_read (tokens.Word word) parser h =
@@ -41,9 +41,8 @@ parser_is : (parser : Parser) → parser_of (tokens.Word (parser_text parser)) �
 parser_is parsers.Json = refl
 parser_is parsers.Logfmt = refl
 
-only_read : (place : ℕ) (parsed : Bool) (named parser : Parser) → only_parser place parsed named ≡ Ok parser → (parsed ≡ false) × (named ≡ parser)
-only_read place true named parser h = absurd (no_err _ parser h)
-only_read place false named parser h = (refl, same_ok named parser h)
+only_found : (place : ℕ) (parsed : Bool) (named : Parser) → Finds (λ parser. (parsed ≡ false) × (named ≡ parser)) (only_parser place parsed named)
+only_found place parsed named = by_test parsed (λ _. fault) (λ none. found (none, refl))
 
 -- a stage, no parser where one was read before, and how many label tests may still come
 record IsNext (parsed : Bool) (depth left : ℕ) (lexemes : List Lexeme) (read : StageForm × ℕ × List Lexeme) : Type 0 where
@@ -51,41 +50,30 @@ record IsNext (parsed : Bool) (depth left : ℕ) (lexemes : List Lexeme) (read :
   pub only : parsed && parses read.0 ≡ false
   pub counts : tests_of read.0 + read.1 ≡ left
 
-tested_read : (parsed : Bool) (depth left : ℕ) (lexemes behind : List Lexeme) (read : StageForm × ℕ × List Lexeme) → Stand (tokens.Sign signs.Pipe ∷ []) lexemes behind → tested_at depth left behind ≡ Ok read → IsNext parsed depth left lexemes read
+tested_found : (parsed : Bool) (depth left : ℕ) (lexemes behind : List Lexeme) → Stand (tokens.Sign signs.Pipe ∷ []) lexemes behind → Finds (IsNext parsed depth left lexemes) (tested_at depth left behind)
 unfolding tested_at
-tested_read parsed depth left lexemes behind read pipe h =
-    let a = bind_ok (next behind) _ read h in
-    let b = bind_ok (tests_begin a.0.0.place a.0.0.token a.0.1) _ read a.2 in
-    let c = bind_ok (tests_at depth left behind) _ read b.2 in
-    let tests = tests_derived depth left behind c.0.0 c.0.1 c.0.2 c.1 in
-    let whole : IsNext parsed depth left lexemes (by_tests c.0.0, c.0.1, c.0.2) = record { is = record { behind = behind; pipe = pipe; are = tests.0 }; only = and-false parsed; counts = tests.1 } in
-    subst (IsNext parsed depth left lexemes) (same_ok _ _ c.2) whole
+tested_found parsed depth left lexemes behind pipe =
+    then _ (itself (next behind)) (λ first _.
+    then _ (itself (tests_begin first.0.place first.0.token first.1)) (λ _ _.
+    then _ (tests_found depth left behind) (λ tests are.
+    found (record { is = record { behind = behind; pipe = pipe; are = are.0 }; only = and-false parsed; counts = are.1 }))))
 
-piped_read : (parsed : Bool) (depth left : ℕ) (lexemes behind : List Lexeme) (read : StageForm × ℕ × List Lexeme) → Stand (tokens.Sign signs.Pipe ∷ []) lexemes behind → piped_at parsed depth left behind ≡ Ok read → IsNext parsed depth left lexemes read
+piped_found : (parsed : Bool) (depth left : ℕ) (lexemes behind : List Lexeme) → Stand (tokens.Sign signs.Pipe ∷ []) lexemes behind → Finds (IsNext parsed depth left lexemes) (piped_at parsed depth left behind)
 unfolding piped_at
-piped_read parsed depth left lexemes behind read pipe h =
-    let a = bind_ok (next behind) _ read h in
-    ⊎_elim
-    (λ none. tested_read parsed depth left lexemes behind read pipe none.1)
-    (λ some. let b = bind_ok (only_parser a.0.0.place parsed some.0) _ read some.2 in
-    let only = only_read a.0.0.place parsed some.0 b.0 b.1 in
-    let word = one_read (tokens.Word (parser_text b.0)) behind a.0.1 a.0.0 a.1 (parser_read a.0.0.token some.0 some.1 ∙ ap (λ p. tokens.Word (parser_text p)) only.1) in
-    let whole : IsNext parsed depth left lexemes (by_parser b.0, left, a.0.1) = record { is = stand_then (tokens.Sign signs.Pipe ∷ []) (tokens.Word (parser_text b.0) ∷ []) lexemes behind a.0.1 pipe word; only = ap (λ b. b && true) only.0; counts = omega arith } in
-    subst (IsNext parsed depth left lexemes) (same_ok _ _ b.2) whole)
-    (by_option _ (parser_of a.0.0.token) _ read a.2)
+piped_found parsed depth left lexemes behind pipe = then _ (next_found behind) (λ first stand. of_option _ (parser_of first.0.token)
+    (λ named is. then _ (only_found first.0.place parsed named) (λ parser only.
+    let word = told_by behind first.1 (parser_read first.0.token named is ∙ ap (λ p. tokens.Word (parser_text p)) only.1) stand in
+    found (record { is = stand_then (tokens.Sign signs.Pipe ∷ []) (tokens.Word (parser_text parser) ∷ []) lexemes behind first.1 pipe word; only = ap (λ b. b && true) only.0; counts = omega arith })))
+    (λ _. tested_found parsed depth left lexemes behind pipe))
 
-stage_read : (parsed : Bool) (depth left : ℕ) (lexemes : List Lexeme) (read : StageForm × ℕ × List Lexeme) → stage_comes lexemes ≡ Ok true → stage_at parsed depth left lexemes ≡ Ok read → IsNext parsed depth left lexemes read
+stage_found : (parsed : Bool) (depth left : ℕ) (lexemes : List Lexeme) → stage_comes lexemes ≡ Ok true → Finds (IsNext parsed depth left lexemes) (stage_at parsed depth left lexemes)
 unfolding stage_at
-stage_read parsed depth left lexemes read comes h =
-    let a = bind_ok (next lexemes) _ read h in
-    let begins : begins_stage a.0.0.token ≡ true = same_ok _ _ (sym (ap (λ r. r >>= λ first. Ok (begins_stage first.0.token)) a.1) ∙ comes) in
-    ⊎_elim
-    (λ none. let pipe : is_sign signs.Pipe a.0.0.token ≡ true = ap (λ o. is_some o || is_sign signs.Pipe a.0.0.token) (sym none.0) ∙ begins in
-    piped_read parsed depth left lexemes a.0.1 read (one_read (tokens.Sign signs.Pipe) lexemes a.0.1 a.0.0 a.1 (only_sign signs.Pipe a.0.0.token pipe)) none.1)
-    (λ some. let b = bind_ok (filter_at some.0 a.0.1) _ read some.2 in
-    let whole : IsNext parsed depth left lexemes (by_filter b.0.0, left, b.0.1) = record { is = filter_read a.0.0 lexemes a.0.1 some.0 b.0.0 b.0.1 a.1 some.1 b.1; only = and-false parsed; counts = omega arith } in
-    subst (IsNext parsed depth left lexemes) (same_ok _ _ b.2) whole)
-    (by_option _ (filter_op a.0.0.token) _ read a.2)
+stage_found parsed depth left lexemes comes = then _ (itself (next lexemes)) (λ first n.
+    let begins : begins_stage first.0.token ≡ true = same_ok _ _ (sym (ap (λ r. r >>= λ first. Ok (begins_stage first.0.token)) n) ∙ comes) in
+    of_option _ (filter_op first.0.token)
+    (λ op is. then _ (filter_read lexemes first.1 op (one_read (tokens.Sign (filter_sign op)) lexemes first.1 first.0 n (op_read first.0.token op is))) (λ filter is. found (record { is = is; only = and-false parsed; counts = omega arith })))
+    (λ none. let pipe : is_sign signs.Pipe first.0.token ≡ true = ap (λ o. is_some o || is_sign signs.Pipe first.0.token) (sym none) ∙ begins in
+    piped_found parsed depth left lexemes first.1 (one_read (tokens.Sign signs.Pipe) lexemes first.1 first.0 n (only_sign signs.Pipe first.0.token pipe))))
 
 -- a stage is read where one comes
 record IsTaken (parsed : Bool) (depth left : ℕ) (stage : StageForm) (fewer : ℕ) (lexemes rest : List Lexeme) : Type 0 where
@@ -116,10 +104,8 @@ record AreUpTo (parsed : Bool) (depth left most : ℕ) (stages : List StageForm)
   pub one_parser : cond parsed 1 0 + parsers_of stages ≤ 1
   pub few_tests : label_tests stages ≤ left
 
-none_read : (parsed : Bool) (depth left most : ℕ) (lexemes : List Lexeme) (stages : List StageForm) (rest : List Lexeme) → ◌≡◌ {A = Result (List StageForm × List Lexeme) Stop} (Ok ([], lexemes)) (Ok (stages, rest)) → AreUpTo parsed depth left most stages lexemes rest
-none_read parsed depth left most lexemes stages rest h =
-    let whole : AreUpTo parsed depth left most [] lexemes lexemes = record { chained = refl; few = omega arith; one_parser = small parsed; few_tests = omega arith } in
-    subst (λ (p : List StageForm × List Lexeme). AreUpTo parsed depth left most p.0 lexemes p.1) (same_ok _ _ h) whole
+no_stages : (parsed : Bool) (depth left most : ℕ) (lexemes : List Lexeme) → AreUpTo parsed depth left most [] lexemes lexemes
+no_stages parsed depth left most lexemes = record { chained = refl; few = omega arith; one_parser = small parsed; few_tests = omega arith }
   where
     small : (b : Bool) → cond b 1 0 + 0 ≤ 1
     small true = omega arith
@@ -139,22 +125,15 @@ one_parser true false n all is = (λ h. omega (arith, is, h.1), λ h. (refl, ome
 one_parser false true n all is = (λ h. omega (arith, is, h.1), λ h. (refl, omega (arith, is, h)))
 one_parser false false n all is = (λ h. omega (arith, is, h.1), λ h. (refl, omega (arith, is, h)))
 
-stages_read : (parsed : Bool) (depth left most : ℕ) (lexemes : List Lexeme) (stages : List StageForm) (rest : List Lexeme) → stages_at parsed depth left most lexemes ≡ Ok (stages, rest) → AreUpTo parsed depth left most stages lexemes rest
+stages_found : (parsed : Bool) (depth left most : ℕ) (lexemes : List Lexeme) → Finds (λ x. AreUpTo parsed depth left most x.0 lexemes x.1) (stages_at parsed depth left most lexemes)
 unfolding stages_at
-stages_read parsed depth left zero lexemes stages rest h =
-    let a = bind_ok (stage_comes lexemes) _ (stages, rest) h in
-    ⊎_elim (λ more. absurd (no_err _ (stages, rest) more.1)) (λ none. none_read parsed depth left zero lexemes stages rest none.1) (chosen a.0 _ _ (Ok (stages, rest)) a.2)
-stages_read parsed depth left (suc most) lexemes stages rest h =
-    let a = bind_ok (stage_comes lexemes) _ (stages, rest) h in
-    ⊎_elim
-    (λ yes. let b = bind_ok (stage_at parsed depth left lexemes) _ (stages, rest) yes.1 in
-    let c = bind_ok (stages_at (parsed || parses b.0.0) depth b.0.1 most b.0.2) _ (stages, rest) b.2 in
-    let one = stage_read parsed depth left lexemes b.0 (a.1 ∙ ap (λ (b : Bool). Ok b) yes.0) b.1 in
-    let more = stages_read (parsed || parses b.0.0) depth b.0.1 most b.0.2 c.0.0 c.0.1 c.1 in
-    let whole : AreUpTo parsed depth left (suc most) (b.0.0 ∷ c.0.0) lexemes c.0.1 = record { chained = (b.0.2, one.is, more.chained); few = omega (arith, more.few); one_parser = (one_parser parsed (parses b.0.0) (parsers_of c.0.0) (parsers_of (b.0.0 ∷ c.0.0)) (parsers_more b.0.0 c.0.0)).0 (one.only, more.one_parser); few_tests = omega (arith, more.few_tests, one.counts, tests_more b.0.0 c.0.0) } in
-    subst (λ (p : List StageForm × List Lexeme). AreUpTo parsed depth left (suc most) p.0 lexemes p.1) (same_ok _ _ c.2) whole)
-    (λ none. none_read parsed depth left (suc most) lexemes stages rest none.1)
-    (chosen a.0 _ _ (Ok (stages, rest)) a.2)
+stages_found parsed depth left zero lexemes = then _ (itself (stage_comes lexemes)) (λ comes _. by_test comes (λ _. fault) (λ _. found (no_stages parsed depth left zero lexemes)))
+stages_found parsed depth left (suc most) lexemes = then _ (itself (stage_comes lexemes)) (λ comes is. by_test comes
+    (λ yes. then _ (stage_found parsed depth left lexemes (is ∙ ap (λ (b : Bool). Ok b) yes)) (λ stage one.
+    then _ (stages_found (parsed || parses stage.0) depth stage.1 most stage.2) (λ others more.
+    let one_more = (one_parser parsed (parses stage.0) (parsers_of others.0) (parsers_of (stage.0 ∷ others.0)) (parsers_more stage.0 others.0)).0 (one.only, more.one_parser) in
+    found (record { chained = (stage.2, one.is, more.chained); few = omega (arith, more.few); one_parser = one_more; few_tests = omega (arith, more.few_tests, one.counts, tests_more stage.0 others.0) }))))
+    (λ _. found (no_stages parsed depth left (suc most) lexemes)))
 
 stages_are : (parsed : Bool) (depth left most : ℕ) (stages : List StageForm) (lexemes rest : List Lexeme) → AreUpTo parsed depth left most stages lexemes rest → Ends rest → stages_at parsed depth left most lexemes ≡ Ok (stages, rest)
 unfolding stages_at
@@ -174,10 +153,10 @@ pub record AreRoomy (room : Room) (stages : List StageForm) (lexemes rest : List
   pub few : length stages ≤ room.stages
   pub few_tests : label_tests stages ≤ room.tests
 
-pub stages_derived : (room : Room) (lexemes : List Lexeme) (stages : List StageForm) (rest : List Lexeme) → stages_in room lexemes ≡ Ok (stages, rest) → AreRoomy room stages lexemes rest
-stages_derived room lexemes stages rest h =
-    let are = stages_read false room.depth room.tests room.stages lexemes stages rest h in
-    record { are = record { chained = are.chained; one_parser = omega (arith, are.one_parser) }; few = are.few; few_tests = are.few_tests }
+pub stages_derived : (room : Room) (lexemes : List Lexeme) → Finds (λ x. AreRoomy room x.0 lexemes x.1) (stages_in room lexemes)
+stages_derived room lexemes = record { is = λ x h.
+    let are = (stages_found false room.depth room.tests room.stages lexemes).is x h in
+    record { are = record { chained = are.chained; one_parser = omega (arith, are.one_parser) }; few = are.few; few_tests = are.few_tests } }
 
 pub stages_are_read : (room : Room) (stages : List StageForm) (lexemes rest : List Lexeme) → AreRoomy room stages lexemes rest → Ends rest → stages_in room lexemes ≡ Ok (stages, rest)
 stages_are_read room stages lexemes rest roomy stops =

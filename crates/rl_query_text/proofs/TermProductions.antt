@@ -1,5 +1,5 @@
 -- The productions of terms: what is read is derived, and what is derived is read.
-use Rattle.std.proofs.Common.{◌≡◌, inl, inr, ⊎_elim, ℕ, zero, suc, ◌≤◌, true, false, List, [], ◌∷◌, length, Some, Ok, Err, refl, sym, ap, subst, ◌∙◌, arith}
+use Rattle.std.proofs.Common.{◌≡◌, inl, inr, ⊎_elim, ℕ, zero, suc, ◌≤◌, true, false, List, [], ◌∷◌, length, Some, Ok, refl, sym, ap, subst, ◌∙◌, arith}
 use Rattle.std.specs.List.{find}
 use Rattle.std.proofs.lemmas.Option.{same_Some, none-some}
 use Rattle.rl_labels.specs.Name.{is_text}
@@ -13,21 +13,20 @@ use Rattle.rl_query.specs.declared.token.Lexeme.{Lexeme}
 use Rattle.rl_query.specs.declared.token.Sign.TheVariants as signs
 use Rattle.rl_query.specs.declared.token.Token.{Token}
 use Rattle.rl_query.specs.declared.token.Token.TheVariants as tokens
-use Rattle.rl_query_text.specs.AggregationReading.{is_operator_word, front_at, ended_at}
+use Rattle.rl_query_text.specs.AggregationReading.{is_operator_word}
 use Rattle.rl_query.specs.Form.{AggregationForm, RangeForm, TermForm, label_tests}
-use Rattle.rl_query_text.specs.Fronts.{refusal, is_sign, next}
+use Rattle.rl_query_text.specs.Fronts.{is_sign}
 use Rattle.rl_query_text.specs.Grammar.{IsRange}
 use Rattle.rl_query.specs.Limits.{most_aggregations}
-use Rattle.rl_query_text.specs.Parsing.{range_at}
 use Rattle.rl_query_text.specs.QueryReading.{TermReader, in_parentheses, around, aggregated_at, ranged_at, begun_at, term_by, term_in, term_at}
 use Rattle.rl_query_text.specs.Standing.{Stand}
 use Rattle.rl_query.specs.Tables.{function_text, all_functions, function_with_text, operator_word}
 use Rattle.rl_query_text.specs.TermGrammar.{IsParameter, IsAggregation, IsBare, IsTerm}
-use Rattle.rl_query_text.proofs.AggregationProductions.{front_read, ended_read}
-use Rattle.rl_query_text.proofs.AggregationReadings.{EndsTerm, ends_term_at, word_of_operator, front_of, front_is, ended_is}
+use Rattle.rl_query_text.proofs.AggregationProductions.{front_found, ended_found, EndsTerm, ends_term_at, word_of_operator, front_of, front_is, ended_is}
 use Rattle.rl_query_text.proofs.Openings.{aggregated_by}
 use Rattle.rl_query_text.proofs.Parentheses.{inside_room, parentheses_read, parentheses_are}
-use Rattle.rl_query_text.proofs.Productions.{bind_ok, chosen, by_option, no_err, same_ok, one_read, next_is}
+use Rattle.rl_query_text.proofs.Finding.{Finds, found, fault, then, by_test, of_option, next_found}
+use Rattle.rl_query_text.proofs.Productions.{chosen, next_is}
 use Rattle.rl_query_text.proofs.RangeProductions.{range_derived, range_is}
 
 -- Range aggregations, by their words.
@@ -66,96 +65,76 @@ pub record IsRoomyTerm (nest : ℕ) (room : Room) (term : TermForm) (lexemes res
 -- What is read is derived.
 
 abbrev IsSound : TermReader → Type 0
-IsSound inside = (position : Position) (nest : ℕ) (room : Room) (lexemes : List Lexeme) (term : TermForm) (rest : List Lexeme) → inside position nest room lexemes ≡ Ok (term, rest) → IsRoomyTerm nest room term lexemes rest
+IsSound inside = (position : Position) (nest : ℕ) (room : Room) (lexemes : List Lexeme) → Finds (λ x. IsRoomyTerm nest room x.0 lexemes x.1) (inside position nest room lexemes)
 
-ranged_sound : (function : RangeFunction) (nest : ℕ) (room : Room) (lexemes behind : List Lexeme) (term : TermForm) (rest : List Lexeme) → Stand (tokens.Word (function_text function) ∷ []) lexemes behind → ranged_at function room behind ≡ Ok (term, rest) → IsRoomyTerm nest room term lexemes rest
+ranged_sound : (function : RangeFunction) (nest : ℕ) (room : Room) (lexemes behind : List Lexeme) → Stand (tokens.Word (function_text function) ∷ []) lexemes behind → Finds (λ x. IsRoomyTerm nest room x.0 lexemes x.1) (ranged_at function room behind)
 unfolding ranged_at
-ranged_sound function nest room lexemes behind term rest word h =
-    let a = bind_ok (range_at room behind) _ (term, rest) h in
-    let range = range_derived room behind a.0.0 a.0.1 a.1 in
-    let made : TermForm = record { aggregations = []; function = function; range = a.0.0 } in
-    let is : IsTerm (suc range.inside) made lexemes a.0.1 = inl (behind, word, range.is) in
-    let whole : IsRoomyTerm nest room made lexemes a.0.1 = record { is = subst (λ n. IsTerm n made lexemes a.0.1) (sym range.depth) is; fits = record { nested = omega arith; few = range.few; few_tests = range.few_tests } } in
-    subst (λ (p : TermForm × List Lexeme). IsRoomyTerm nest room p.0 lexemes p.1) (same_ok _ _ a.2) whole
+ranged_sound function nest room lexemes behind word = then _ (range_derived room behind) (λ x range.
+    let made : TermForm = record { aggregations = []; function = function; range = x.0 } in
+    let is : IsTerm (suc range.inside) made lexemes x.1 = inl (behind, word, range.is) in
+    found (record { is = subst (λ n. IsTerm n made lexemes x.1) (sym range.depth) is; fits = record { nested = omega arith; few = range.few; few_tests = range.few_tests } }))
 
-aggregated_sound : (inside : TermReader) → IsSound inside → (word : List ℕ) (nest : ℕ) (room : Room) (lexemes behind : List Lexeme) (term : TermForm) (rest : List Lexeme) → is_operator_word word ≡ true → Stand (tokens.Word word ∷ []) lexemes behind → aggregated_at inside word nest room behind ≡ Ok (term, rest)
-    → IsRoomyTerm nest room term lexemes rest
+aggregated_sound : (inside : TermReader) → IsSound inside → (word : List ℕ) (nest : ℕ) (room : Room) (lexemes behind : List Lexeme) → is_operator_word word ≡ true → Stand (tokens.Word word ∷ []) lexemes behind → Finds (λ x. IsRoomyTerm nest room x.0 lexemes x.1) (aggregated_at inside word nest room behind)
 unfolding aggregated_at
-aggregated_sound inside sound word nest room lexemes behind term rest operator stand h =
-    let a = bind_ok (front_at word nest room behind) _ (term, rest) h in
-    let b = bind_ok (inside positions.InTerm a.0.0.nest a.0.0.room a.0.1) _ (term, rest) a.2 in
-    let c = bind_ok (ended_at a.0.0 room b.0.1) _ (term, rest) b.2 in
-    let front = front_read word nest room a.0.0 behind a.0.1 operator a.1 in
-    let inner = sound positions.InTerm a.0.0.nest a.0.0.room a.0.1 b.0.0 b.0.1 b.1 in
-    let ended = ended_read a.0.0 room c.0.0 b.0.1 c.0.1 c.1 in
-    let aggregation : IsAggregation (IsTerm a.0.0.room.depth b.0.0) c.0.0 lexemes c.0.1 = record {
+aggregated_sound inside sound word nest room lexemes behind operator stand =
+    then _ (front_found word nest room behind operator) (λ x front.
+    then _ (sound positions.InTerm x.0.nest x.0.room x.1) (λ term inner.
+    then _ (ended_found x.0 room term.1) (λ y ended.
+    let aggregation : IsAggregation (IsTerm x.0.room.depth term.0) y.0 lexemes y.1 = record {
       behind_word = behind;
       behind_grouping = front.behind_grouping;
       behind_parenthesis = front.behind_parenthesis;
-      behind_parameter = a.0.1;
-      end = b.0.1;
+      behind_parameter = x.1;
+      end = term.1;
       behind_end = ended.behind;
-      front = a.0.0.grouping;
+      front = x.0.grouping;
       back = ended.back.back;
       word = subst (λ w. Stand (tokens.Word w ∷ []) lexemes behind) (front.word_is ∙ ap operator_word ended.operator) stand;
       grouped = front.grouped;
       opened = front.opened.stand;
-      parameter = subst (λ o. IsParameter o front.behind_parenthesis a.0.1) ended.operator front.parameter;
+      parameter = subst (λ o. IsParameter o front.behind_parenthesis x.1) ended.operator front.parameter;
       inside = inner.is;
       closed = ended.closed;
       grouped_behind = ended.back.grouped;
       one_side = ended.back.one_side;
     } in
-    let made : TermForm = around c.0.0 b.0.0 in
-    let is : IsTerm (suc a.0.0.room.depth) made lexemes c.0.1 = inl aggregation in
-    let fits : Fits nest room made = record {
-      nested = omega (arith, front.fewer, inner.fits.nested);
-      few = subst (λ n. length b.0.0.range.stages ≤ n) front.opened.stages inner.fits.few;
-      few_tests = subst (λ n. label_tests b.0.0.range.stages ≤ n) front.opened.tests inner.fits.few_tests;
-    } in
-    let whole : IsRoomyTerm nest room made lexemes c.0.1 = record { is = subst (λ n. IsTerm n made lexemes c.0.1) (sym front.opened.depth) is; fits = fits } in
-    subst (λ (p : TermForm × List Lexeme). IsRoomyTerm nest room p.0 lexemes p.1) (same_ok _ _ c.2) whole
-
-enclosed_sound : (inside : TermReader) → IsSound inside → (nest : ℕ) (room : Room) (lexemes : List Lexeme) (term : TermForm) (rest : List Lexeme) → in_parentheses positions.InTerm (inside positions.InTerm nest) room lexemes ≡ Ok (term, rest) → IsRoomyTerm nest room term lexemes rest
-enclosed_sound inside sound nest room lexemes term rest h =
-    let p = parentheses_read positions.InTerm (inside positions.InTerm nest) room term lexemes rest h in
-    let inner = sound positions.InTerm nest p.room_inside p.behind term p.end p.read in
-    let is : IsTerm (suc p.room_inside.depth) term lexemes rest = inr (record { behind = p.behind; end = p.end; opened = p.opened.stand; inside = inner.is; closed = p.closed }) in
-    record {
-      is = subst (λ n. IsTerm n term lexemes rest) (sym p.opened.depth) is;
+    let is : IsTerm (suc x.0.room.depth) (around y.0 term.0) lexemes y.1 = inl aggregation in
+    found (record {
+      is = subst (λ n. IsTerm n (around y.0 term.0) lexemes y.1) (sym front.opened.depth) is;
       fits = record {
-        nested = inner.fits.nested;
-        few = subst (λ n. length term.range.stages ≤ n) p.opened.stages inner.fits.few;
-        few_tests = subst (λ n. label_tests term.range.stages ≤ n) p.opened.tests inner.fits.few_tests;
+        nested = omega (arith, front.fewer, inner.fits.nested);
+        few = subst (λ n. length term.0.range.stages ≤ n) front.opened.stages inner.fits.few;
+        few_tests = subst (λ n. label_tests term.0.range.stages ≤ n) front.opened.tests inner.fits.few_tests;
       };
-    }
+    }))))
 
-begun_sound : (inside : TermReader) → IsSound inside → (position : Position) (place : ℕ) (token : Token) (nest : ℕ) (room : Room) (all behind : List Lexeme) (term : TermForm) (rest : List Lexeme) → Stand (token ∷ []) all behind → begun_at inside position place token nest room all behind ≡ Ok (term, rest)
-    → IsRoomyTerm nest room term all rest
-begun_sound inside sound position place (tokens.Word word) nest room all behind term rest stand h =
-    ⊎_elim
-    (λ aggregated. aggregated_sound inside sound word nest room all behind term rest aggregated.0 stand aggregated.1)
-    (λ other. ⊎_elim
-    (λ none. absurd (no_err _ (term, rest) none.1))
-    (λ some. ranged_sound some.0 nest room all behind term rest (subst (λ w. Stand (tokens.Word w ∷ []) all behind) (function_read word some.0 some.1) stand) some.2)
-    (by_option (λ function. ranged_at function room behind) (function_with_text word) (Err (refusal position place (tokens.Word word))) (term, rest) other.1))
-    (chosen (is_operator_word word) _ _ (Ok (term, rest)) h)
-begun_sound inside sound position place (tokens.Sign sign) nest room all behind term rest stand h =
-    ⊎_elim (λ yes. enclosed_sound inside sound nest room all term rest yes.1) (λ no. absurd (no_err _ (term, rest) no.1)) (chosen (is_sign signs.OpenParenthesis (tokens.Sign sign)) _ _ (Ok (term, rest)) h)
-begun_sound inside sound position place _ nest room all behind term rest stand h = absurd (no_err _ (term, rest) h)
+enclosed_sound : (inside : TermReader) → IsSound inside → (nest : ℕ) (room : Room) (lexemes : List Lexeme) → Finds (λ x. IsRoomyTerm nest room x.0 lexemes x.1) (in_parentheses positions.InTerm (inside positions.InTerm nest) room lexemes)
+enclosed_sound inside sound nest room lexemes = record { is = λ x h.
+    let p = (parentheses_read (IsRoomyTerm nest) positions.InTerm (inside positions.InTerm nest) room lexemes (sound positions.InTerm nest)).is x h in
+    let is : IsTerm (suc p.0.depth) x.0 lexemes x.1 = inr (record { behind = p.1; end = p.2; opened = p.3.stand; inside = p.4.is; closed = p.5 }) in
+    record {
+      is = subst (λ n. IsTerm n x.0 lexemes x.1) (sym p.3.depth) is;
+      fits = record {
+        nested = p.4.fits.nested;
+        few = subst (λ n. length x.0.range.stages ≤ n) p.3.stages p.4.fits.few;
+        few_tests = subst (λ n. label_tests x.0.range.stages ≤ n) p.3.tests p.4.fits.few_tests;
+      };
+    } }
 
-by_sound : (inside : TermReader) → IsSound inside → IsSound (term_by inside)
-unfolding term_by
-by_sound inside sound position nest room lexemes term rest h =
-    let a = bind_ok (next lexemes) _ (term, rest) h in
-    begun_sound inside sound position a.0.0.place a.0.0.token nest room lexemes a.0.1 term rest (one_read a.0.0.token lexemes a.0.1 a.0.0 a.1 refl) a.2
+begun_sound : (inside : TermReader) → IsSound inside → (position : Position) (place : ℕ) (token : Token) (nest : ℕ) (room : Room) (all behind : List Lexeme) → Stand (token ∷ []) all behind → Finds (λ x. IsRoomyTerm nest room x.0 all x.1) (begun_at inside position place token nest room all behind)
+begun_sound inside sound position place (tokens.Word word) nest room all behind stand = by_test (is_operator_word word)
+    (λ operator. aggregated_sound inside sound word nest room all behind operator stand)
+    (λ _. of_option _ (function_with_text word) (λ function is. ranged_sound function nest room all behind (subst (λ w. Stand (tokens.Word w ∷ []) all behind) (function_read word function is) stand)) (λ _. fault))
+begun_sound inside sound position place (tokens.Sign sign) nest room all behind stand = by_test (is_sign signs.OpenParenthesis (tokens.Sign sign)) (λ _. enclosed_sound inside sound nest room all) (λ _. fault)
+begun_sound inside sound position place _ nest room all behind stand = fault
 
 in_sound : (turns : ℕ) → IsSound (term_in turns)
-in_sound zero position nest room lexemes term rest h = absurd (no_err _ (term, rest) h)
-in_sound (suc turns) position nest room lexemes term rest h = by_sound (term_in turns) (in_sound turns) position nest room lexemes term rest h
+unfolding term_by
+in_sound zero position nest room lexemes = fault
+in_sound (suc turns) position nest room lexemes = then _ (next_found lexemes) (λ first stand. begun_sound (term_in turns) (in_sound turns) position first.0.place first.0.token nest room lexemes first.1 stand)
 
-pub term_derived : (position : Position) (room : Room) (lexemes : List Lexeme) (term : TermForm) (rest : List Lexeme) → term_at position room lexemes ≡ Ok (term, rest) → IsRoomyTerm most_aggregations room term lexemes rest
-term_derived position room lexemes term rest h = in_sound (suc room.depth) position most_aggregations room lexemes term rest h
+pub term_derived : (position : Position) (room : Room) (lexemes : List Lexeme) → Finds (λ x. IsRoomyTerm most_aggregations room x.0 lexemes x.1) (term_at position room lexemes)
+term_derived position room lexemes = in_sound (suc room.depth) position most_aggregations room lexemes
 
 -- What is derived is read.
 

@@ -11,7 +11,6 @@ use Rattle.rl_query_text.specs.Fronts.{is_sign}
 use Rattle.rl_query_text.specs.TestGrammar.{Rule, IsLabelTest, IsOne, alone, in_parentheses, Joins, AreJoined, part, more, AreTestsIn, AreInside, AreTests}
 use Rattle.rl_query_text.specs.Testing.{IsEnd, Reading, Reader, is_label, test_at, enclosed_at, one_at, behind_and, behind_join, others_at, joined_at, tests_in, inside_at, tests_at}
 use Rattle.rl_query.specs.TestTree.{TestTree, one, joined, count_tests}
-use Rattle.rl_query_text.proofs.Chains.{stops}
 use Rattle.rl_query_text.proofs.StageStarts.{one_starts, no_more}
 use Rattle.rl_query_text.proofs.Productions.{next_is, expected_is}
 use Rattle.rl_query_text.proofs.QuantityProductions.{label_test_is}
@@ -39,6 +38,12 @@ some_test : (tests : TestTree TestForm) → 1 ≤ count_tests tests
 some_test (one test) = omega arith
 some_test (joined join l r) = omega (arith, some_test l)
 
+-- nothing is joined, however often it may be
+stops : (join : Join) (reader : Reader) (most : ℕ) (tests : TestTree TestForm) (left : ℕ) (lexemes : List Lexeme) → behind_join join lexemes ≡ None → others_at join reader most tests left lexemes ≡ Ok (tests, left, lexemes)
+unfolding others_at
+stops join reader zero tests left lexemes none = refl
+stops join reader (suc most) tests left lexemes none = rw none refl
+
 -- what is read of parts is what is read behind them, where no fewer may be joined than tests may still come
 chain : (join : Join) (reader : Reader) (Part : Rule) (Ends : List Lexeme → Type 0) → IsComplete reader Part Ends → JoinsAre join Part Ends → (tests : TestTree TestForm) (lexemes rest : List Lexeme) (left fewer : ℕ) (whole : Reading) → AreJoined join Part tests lexemes rest → Ends rest
     → count_tests tests + fewer ≡ left → ((most : ℕ) → fewer ≤ most → others_at join reader most tests fewer rest ≡ whole) → joined_at join reader left lexemes ≡ whole
@@ -53,7 +58,7 @@ chain join reader Part Ends complete are _ _ _ left fewer whole (more l r lexeme
 
 joined_complete : (join : Join) (reader : Reader) (Part : Rule) (Ends : List Lexeme → Type 0) → IsComplete reader Part Ends → JoinsAre join Part Ends → IsComplete (joined_at join reader) (AreJoined join Part) (λ rest. Ends rest × (behind_join join rest ≡ None))
 joined_complete join reader Part Ends complete are tests lexemes rest left fewer is ends count =
-    chain join reader Part Ends complete are tests lexemes rest left fewer (Ok (tests, fewer, rest)) is ends.0 count (λ most enough. stops join reader most tests fewer rest (others_at join reader most tests fewer rest) ends.1 refl)
+    chain join reader Part Ends complete are tests lexemes rest left fewer (Ok (tests, fewer, rest)) is ends.0 count (λ most enough. stops join reader most tests fewer rest ends.1)
 
 test_complete : (inside : Reader) (test : TestForm) (lexemes rest : List Lexeme) (fewer : ℕ) → IsLabelTest test lexemes rest → one_at inside (suc fewer) lexemes ≡ Ok (one test, fewer, rest)
 unfolding one_at test_at
@@ -69,8 +74,7 @@ one_complete inside Inside complete _ _ _ left fewer (alone test lexemes rest is
 one_complete inside Inside complete _ _ _ left fewer (in_parentheses tests lexemes behind end rest opened is closed) ends count =
     let n = next_is (tokens.Sign signs.OpenParenthesis) [] lexemes behind opened in
     let read = complete tests behind end left fewer is (no_more (tokens.Sign signs.CloseParenthesis) [] end rest closed refl (λ _. refl) refl) count in
-    let last = expected_is signs.CloseParenthesis [] positions.BehindInnerTests end rest closed in
-    rw (n.is, n.more, read, last.1, last.2) refl
+    rw (n.is, n.more, read, expected_is signs.CloseParenthesis positions.BehindInnerTests end rest closed) refl
 
 in_complete : (inside : Reader) (Inside : Rule) → IsComplete inside Inside IsEnd → IsComplete (tests_in inside) (AreTestsIn Inside) IsEnd
 in_complete inside Inside complete tests lexemes rest left fewer is ends count =

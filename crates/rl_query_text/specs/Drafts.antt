@@ -1,5 +1,5 @@
 -- What is read before it is known that it keeps its limits: what it is, and what these are.
-use Rattle.std.specs.Prelude.{◌≡◌, ℕ, ◌+◌, ◌≤◌, true, List, length, map, Option, Some, None, option_map}
+use Rattle.std.specs.Prelude.{◌≡◌, ℕ, ◌+◌, ◌≤◌, true, length, map, Option, Some, None, option_map}
 use Rattle.std.specs.Option.{option_map_or}
 use Rattle.rl_query_text.specs.declared.draft.DraftRange.{DraftRange}
 use Rattle.rl_query_text.specs.declared.draft.DraftTerm.{DraftTerm}

@@ -1,10 +1,10 @@
 -- Reading a query from its tokens: what is read and the tokens that follow it, or the first fault from the left.
 use Rattle.std.specs.List.{list_any, list_all}
 use Rattle.std.specs.Prelude.{not, Some, None, ℕ, zero, suc, ◌-◌, ◌==◌, nat_le, Bool, true, false, ◌&&◌, ◌||◌, List, [], ◌∷◌, length, slice_index, Option, is_some, Result, Ok, Err, if◌then◌else◌, codes}
-use Rattle.rl_query_text.specs.Fronts.{is_in_any_case, is_match, is_later_word, refusal, is_sign, next, expected, matcher_at}
+use Rattle.rl_query_text.specs.Fronts.{is_in_any_case, refusal, is_sign, next, expected, matcher_at}
 use Rattle.rl_query_text.specs.Testing.{operator_comes, tests_at}
-use Rattle.rl_query.specs.Limits.{is_filter, longest_range, most_stages}
-use Rattle.rl_query.specs.Form.{by_tests, MatcherForm, FilterForm, StageForm, by_filter, by_parser, RangeForm, TermForm, QueryForm, has_real_form, has_pattern, filters_have_pattern, stages_have_pattern, parses}
+use Rattle.rl_query.specs.Limits.{is_filter, longest_range}
+use Rattle.rl_query.specs.Form.{by_tests, MatcherForm, FilterForm, StageForm, by_filter, by_parser, RangeForm, has_real_form, parses}
 use Rattle.std.specs.Option.{option_map_or}
 use Rattle.std.specs.Char.{is_ascii_digit}
 use Rattle.rl_labels.specs.Name.{is_text}
@@ -15,7 +15,6 @@ use Rattle.rl_query.specs.declared.filter.LineOp.{LineOp}
 use Rattle.rl_query.specs.declared.filter.LineOp.TheVariants as lines
 use Rattle.rl_query_text.specs.declared.parser.Position.{Position}
 use Rattle.rl_query_text.specs.declared.parser.Position.TheVariants as positions
-use Rattle.rl_query.specs.declared.query.RangeFunction.{RangeFunction}
 use Rattle.rl_query.specs.declared.stages.Parser.{Parser}
 use Rattle.rl_query.specs.declared.stages.Parser.TheVariants as parsers
 use Rattle.rl_query_text.specs.declared.room.Room.{Room}
@@ -26,8 +25,6 @@ use Rattle.rl_query.specs.declared.token.Token.{Token}
 use Rattle.rl_query.specs.declared.token.Token.TheVariants as tokens
 use Rattle.rl_query.specs.Durations.{duration_of}
 use Rattle.rl_labels.specs.Quantities.{duration_of as label_duration_of}
-use Rattle.rl_query_text.specs.Lexing.{lexemes_of}
-use Rattle.rl_query.specs.Tables.{function_with_text}
 use Rattle.rl_plain.specs.Answers.{◌>>=◌}
 
 -- behind a matcher: whether another follows

@@ -1,28 +1,37 @@
 -- Each turn reads one matcher more.
-use Rattle.std.proofs.Common.{◌≡◌, ◌++◌, ◌∷◌, [], length, map, Bool, Ok, ap, ◌∙◌}
+use Rattle.std.proofs.Common.{◌≡◌, ◌++◌, ◌∷◌, [], map, ◌-◌, ◌+◌, suc, length, Bool, Ok, refl, sym, ap, ◌∙◌, arith}
 use Rattle.std.proofs.lemmas.Result.{err_from_is_err_and}
 use Rattle.std.proofs.lemmas.List.{map_push}
 use Rattle.rl_query.specs.Form.{matcher_form}
-use Rattle.rl_query_text.specs.Parsing.{element_at, matchers_at}
-use Rattle.rl_query_text.proofs.Elements.{one_more, last_one, ends, none_ends}
+use Rattle.rl_query_text.specs.Parsing.{matchers_at, listed_at}
+use Rattle.rl_query_text.proofs.Elements.{none_before, one_more}
+use Rattle.rl_query_text.proofs.Openings.{first_stops}
 use Rattle.rl_query_text.proofs.parser.matchers_at.Goals as goal
 
+pub loop-turn-init : goal.loop-turn-init
+loop-turn-init c = λ n many. rw c.new-matchers.ensures.items (none_before (λ n. matchers_at n c.args.lexemes.now) n (length c.args.lexemes.now) (omega arith))
+
 pub returns-in_err-matcher : goal.returns-in_err-matcher
+unfolding listed_at
 returns-in_err-matcher c =
     let p = err_from_is_err_and c.from_residual.result c.from_residual.ensures.1 in
-    rw (p.1, p.2) (ends element_at c.in_err-matcher.field-0.0 (map matcher_form c.loop-turn.matchers.items) (length c.args.lexemes.now) c.loop-turn._turn c.loop-turn.rest.now (matchers_at (length c.args.lexemes.now) c.args.lexemes.now) c.loop-turn-test.true c.in_err-matcher.ensures c.loop-turn.invariant)
+    let so_far = c.loop-turn.invariant (suc (length c.args.lexemes.now - (c.loop-turn._turn + 1))) (omega arith) in
+    rw (p.1, p.2, sym so_far) (first_stops c.in_err-matcher.field-0.0 _ _ (first_stops c.in_err-matcher.field-0.0 _ _ c.in_err-matcher.ensures))
 
 pub returns-then-not-more : goal.returns-then-not-more
+unfolding listed_at
 returns-then-not-more c =
-    let m = c.in_ok-matcher.matcher in
-    let e : map matcher_form c.push.new.self.items ≡ map matcher_form c.loop-turn.matchers.items ++ matcher_form m ∷ [] = rw c.in_ok-push.ensures.items (map_push _ c.loop-turn.matchers.items m) in
-    rw e (last_one element_at (map matcher_form c.loop-turn.matchers.items) (length c.args.lexemes.now) c.loop-turn._turn c.loop-turn.rest.now (matcher_form m) c.in_ok-matcher.behind.now (matchers_at (length c.args.lexemes.now) c.args.lexemes.now) c.loop-turn-test.true (c.in_ok-matcher.ensures ∙ ap (λ (b : Bool). Ok (matcher_form m, b, c.in_ok-matcher.behind.now)) c.if-not-more.true) c.loop-turn.invariant)
+    let e : map matcher_form c.push.new.self.items ≡ map matcher_form c.loop-turn.matchers.items ++ matcher_form c.in_ok-matcher.matcher ∷ [] = rw c.in_ok-push.ensures.items (map_push _ c.loop-turn.matchers.items c.in_ok-matcher.matcher) in
+    let last = c.in_ok-matcher.ensures ∙ ap (λ (b : Bool). Ok (matcher_form c.in_ok-matcher.matcher, b, c.in_ok-matcher.behind.now)) c.if-not-more.true in
+    rw e (sym (c.loop-turn.invariant (suc (length c.args.lexemes.now - (c.loop-turn._turn + 1))) (omega arith)) ∙ rw last refl)
 
 pub loop-turn-preserved : goal.loop-turn-preserved
+unfolding listed_at
 loop-turn-preserved c =
-    let m = c.in_ok-matcher.matcher in
-    let e : map matcher_form c.push.new.self.items ≡ map matcher_form c.loop-turn.matchers.items ++ matcher_form m ∷ [] = rw c.in_ok-push.ensures.items (map_push _ c.loop-turn.matchers.items m) in
-    rw e (one_more element_at (map matcher_form c.loop-turn.matchers.items) (length c.args.lexemes.now) c.loop-turn._turn c.loop-turn.rest.now (matcher_form m) c.in_ok-matcher.behind.now (matchers_at (length c.args.lexemes.now) c.args.lexemes.now) c.loop-turn-test.true (c.in_ok-matcher.ensures ∙ ap (λ (b : Bool). Ok (matcher_form m, b, c.in_ok-matcher.behind.now)) c.if-not-more.false) c.loop-turn.invariant)
+    let e : map matcher_form c.push.new.self.items ≡ map matcher_form c.loop-turn.matchers.items ++ matcher_form c.in_ok-matcher.matcher ∷ [] = rw c.in_ok-push.ensures.items (map_push _ c.loop-turn.matchers.items c.in_ok-matcher.matcher) in
+    let more = c.in_ok-matcher.ensures ∙ ap (λ (b : Bool). Ok (matcher_form c.in_ok-matcher.matcher, b, c.in_ok-matcher.behind.now)) c.if-not-more.false in
+    λ n many. rw e (one_more _ (matcher_form c.in_ok-matcher.matcher) _ _ (rw more at (c.loop-turn.invariant (suc n) (omega arith))))
 
 pub returns : goal.returns
-returns c = rw c.syntax.ensures (none_ends element_at (map matcher_form c.loop-turn.matchers.items) (length c.args.lexemes.now) c.loop-turn._turn c.loop-turn.rest.now (matchers_at (length c.args.lexemes.now) c.args.lexemes.now) c.loop-turn-test.false c.loop-turn.invariant)
+unfolding listed_at
+returns c = rw c.syntax.ensures (sym (c.loop-turn.invariant 0 (omega arith)))

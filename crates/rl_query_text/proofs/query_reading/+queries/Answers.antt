@@ -7,7 +7,8 @@ use Rattle.rl_query_text.specs.QueryReading.{query_within}
 use Rattle.rl_query_text.specs.declared.draft.DraftQuery.{DraftQuery}
 use Rattle.rl_query.specs.declared.token.Lexeme.{Lexeme}
 use Rattle.rl_query_text.specs.declared.parser.Position.TheVariants as positions
-use Rattle.rl_query_text.proofs.Openings.{first_stops, opened_depth, opened_reads}
+use Rattle.rl_query_text.proofs.Parentheses.{opened_read}
+use Rattle.rl_query_text.proofs.Openings.{first_stops, opened_reads}
 use Rattle.rl_query_text.proofs.query_reading.+queries.Goals as goal
 
 -- a draft and the tokens behind it
@@ -16,8 +17,7 @@ view read = (query_draft read.0, read.1.now)
 
 pub inner_at-query_at-requires : goal.inner_at-query_at-requires
 inner_at-query_at-requires t c =
-    let depth = opened_depth positions.Start c.args.room c.in_ok-inside.inside c.args.lexemes.now c.in_ok-inside.rest.now c.in_ok-inside.ensures in
-    (omega (arith, depth), tt)
+    (omega (arith, ((opened_read positions.Start c.args.room c.args.lexemes.now).is (c.in_ok-inside.inside, c.in_ok-inside.rest.now) c.in_ok-inside.ensures).depth), tt)
 
 pub inner_at-returns-in_err-query : goal.inner_at-returns-in_err-query
 inner_at-returns-in_err-query t c =

@@ -22,7 +22,7 @@ unfolding whole_at
 returns-clause-read c = subst (λ (room : Room). Gives view c.query_at.result (query_within (suc room.depth) room c.args.lexemes.now)) c.whole_room.ensures c.query_at.ensures
 
 kept : (r : Result (DraftQuery × Bor (List Lexeme)) (OrMemory Stop)) (lexemes : List Lexeme) → Gives view r (whole_at lexemes) → IfOk r (λ x. KeepsQuery x.0)
-kept (Ok x) lexemes h = query_keeps x.0 lexemes x.1.now (whole_derived lexemes (query_draft x.0) x.1.now h)
+kept (Ok x) lexemes h = query_keeps x.0 lexemes x.1.now ((whole_derived lexemes).is (query_draft x.0, x.1.now) h)
 kept (Err e) lexemes h = tt
 
 pub returns-clause-keeps : goal.returns-clause-keeps

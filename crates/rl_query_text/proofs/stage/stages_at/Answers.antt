@@ -1,28 +1,48 @@
 -- Each turn reads one stage more.
-use Rattle.std.proofs.Common.{◌≡◌, ◌++◌, ◌∷◌, [], ◌∙◌, Bool, Ok, ap, sym, false, map}
+use Rattle.std.proofs.Common.{◌≡◌, ◌++◌, ◌∷◌, [], ◌-◌, ◌+◌, suc, ◌∙◌, Bool, Ok, refl, ap, sym, false, map, arith, append-nil}
 use Rattle.std.proofs.lemmas.Result.{err_from_is_err_and}
 use Rattle.std.proofs.lemmas.List.{map_push}
 use Rattle.rl_query.specs.Form.{stage_form}
 use Rattle.rl_query_text.specs.Parsing.{stages_at}
-use Rattle.rl_query_text.proofs.StageReadings.{one_more, stops, fails, no_token}
+use Rattle.rl_query_text.proofs.Elements.{none_before, one_more}
+use Rattle.rl_query_text.proofs.Openings.{first_stops}
 use Rattle.rl_query_text.proofs.stage.stages_at.Goals as goal
 
+pub loop-turn-init : goal.loop-turn-init
+loop-turn-init c = λ n many. rw c.new-stages.ensures.items (none_before (λ n. stages_at false c.args.room.depth c.args.room.tests n c.args.lexemes.now) n c.args.room.stages (omega arith))
+
 pub returns-in_err-stage_comes : goal.returns-in_err-stage_comes
+unfolding stages_at
 returns-in_err-stage_comes c =
     let p = err_from_is_err_and c.from_residual.result c.from_residual.ensures.1 in
-    rw (p.1, p.2) (no_token c.in_err-stage_comes.field-0.0 (map stage_form c.loop-turn.stages.items) c.loop-turn.parsed c.args.room.depth c.loop-turn.left _ c.loop-turn.rest.now (stages_at false c.args.room.depth c.args.room.tests c.args.room.stages c.args.lexemes.now) (sym c.in_err-stage_comes.ensures) c.loop-turn.invariant)
+    rw (p.1, p.2) (sym (c.loop-turn.invariant (suc (c.args.room.stages - (c.loop-turn._turn + 1))) (omega arith)) ∙ rw (sym c.in_err-stage_comes.ensures) refl)
 
 pub returns-then-not-branch : goal.returns-then-not-branch
+unfolding stages_at
 returns-then-not-branch c =
-    stops (map stage_form c.loop-turn.stages.items) c.loop-turn.parsed c.args.room.depth c.loop-turn.left c.args.room.stages c.loop-turn._turn c.loop-turn.rest.now (stages_at false c.args.room.depth c.args.room.tests c.args.room.stages c.args.lexemes.now) c.loop-turn-test.true (sym c.in_ok-stage_comes.ensures ∙ ap (λ (b : Bool). Ok b) c.if-not-branch.true) c.loop-turn.invariant
+    let none = sym c.in_ok-stage_comes.ensures ∙ ap (λ (b : Bool). Ok b) c.if-not-branch.true in
+    sym (c.loop-turn.invariant (suc (c.args.room.stages - (c.loop-turn._turn + 1))) (omega arith)) ∙ rw none (simp append-nil)
 
 pub returns-in_err-stage : goal.returns-in_err-stage
+unfolding stages_at
 returns-in_err-stage c =
     let p = err_from_is_err_and c.from_residual-in_err-stage.result c.from_residual-in_err-stage.ensures.1 in
-    rw (p.1, p.2) (fails c.in_err-stage.field-0.0 (map stage_form c.loop-turn.stages.items) c.loop-turn.parsed c.args.room.depth c.loop-turn.left c.args.room.stages c.loop-turn._turn c.loop-turn.rest.now (stages_at false c.args.room.depth c.args.room.tests c.args.room.stages c.args.lexemes.now) c.loop-turn-test.true (sym c.in_ok-stage_comes.ensures ∙ ap (λ (b : Bool). Ok b) c.if-not-branch.false) c.in_err-stage.ensures c.loop-turn.invariant)
+    let comes = sym c.in_ok-stage_comes.ensures ∙ ap (λ (b : Bool). Ok b) c.if-not-branch.false in
+    let so_far = c.loop-turn.invariant (suc (c.args.room.stages - (c.loop-turn._turn + 1))) (omega arith) in
+    rw (p.1, p.2, sym so_far, comes) (first_stops c.in_err-stage.field-0.0 _ _ (first_stops c.in_err-stage.field-0.0 _ _ c.in_err-stage.ensures))
 
 pub loop-turn-preserved : goal.loop-turn-preserved
+unfolding stages_at
 loop-turn-preserved c =
     let s = c.in_ok-stage.stage in
     let e : map stage_form c.push.new.self.items ≡ map stage_form c.loop-turn.stages.items ++ stage_form s ∷ [] = rw c.in_ok-push.ensures.items (map_push _ c.loop-turn.stages.items s) in
-    rw (e, c.is_parsed-parsed.ensures) (one_more (map stage_form c.loop-turn.stages.items) c.loop-turn.parsed c.args.room.depth c.loop-turn.left c.args.room.stages c.loop-turn._turn c.loop-turn.rest.now c.in_ok-stage.behind.now (stage_form s) c.in_ok-stage.fewer (stages_at false c.args.room.depth c.args.room.tests c.args.room.stages c.args.lexemes.now) c.loop-turn-test.true (sym c.in_ok-stage_comes.ensures ∙ ap (λ (b : Bool). Ok b) c.if-not-branch.false) c.in_ok-stage.ensures c.loop-turn.invariant)
+    let comes = sym c.in_ok-stage_comes.ensures ∙ ap (λ (b : Bool). Ok b) c.if-not-branch.false in
+    λ n many. rw (e, c.is_parsed-parsed.ensures) (one_more _ (stage_form s) _ _ (rw (comes, c.in_ok-stage.ensures) at (c.loop-turn.invariant (suc n) (omega arith))))
+
+pub returns-in_err-no_stage : goal.returns-in_err-no_stage
+returns-in_err-no_stage c =
+    let p = err_from_is_err_and c.from_residual-in_err-no_stage.result c.from_residual-in_err-no_stage.ensures.1 in
+    rw (p.1, p.2) (sym (c.loop-turn.invariant 0 (omega arith)) ∙ rw (c.in_err-no_stage.ensures c.loop-turn.parsed c.args.room.depth c.loop-turn.left) refl)
+
+pub returns : goal.returns
+returns c = sym (c.loop-turn.invariant 0 (omega arith)) ∙ rw (c.in_ok-no_stage.ensures c.loop-turn.parsed c.args.room.depth c.loop-turn.left) (simp append-nil)

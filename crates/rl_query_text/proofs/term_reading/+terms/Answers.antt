@@ -2,13 +2,14 @@
 use Rattle.std.proofs.Common.{◌≡◌, List, Bor, ◌∙◌, Ok, refl, sym, ap, arith}
 use Rattle.std.proofs.lemmas.Result.{err_from_is_err_and}
 use Rattle.rl_query_text.specs.Drafts.{term_draft}
-use Rattle.rl_query.specs.Form.{TermForm, aggregation_form}
+use Rattle.rl_query.specs.Form.{TermForm}
 use Rattle.rl_query_text.specs.QueryReading.{term_in}
 use Rattle.rl_query_text.specs.declared.draft.DraftTerm.{DraftTerm}
 use Rattle.rl_query.specs.declared.token.Lexeme.{Lexeme}
 use Rattle.rl_query.specs.declared.token.Token.TheVariants as tokens
 use Rattle.rl_query_text.specs.declared.parser.Position.TheVariants as positions
-use Rattle.rl_query_text.proofs.Openings.{first_stops, opened_depth, opened_reads, front_depth, front_reads, word_reads}
+use Rattle.rl_query_text.proofs.Parentheses.{opened_read}
+use Rattle.rl_query_text.proofs.Openings.{first_stops, opened_reads, front_depth, front_reads, word_reads}
 use Rattle.rl_query_text.proofs.term_reading.+terms.Goals as goal
 
 -- a draft and the tokens behind it
@@ -36,8 +37,7 @@ aggregated_at-returns t c =
 
 pub enclosed_at-term_in-requires : goal.enclosed_at-term_in-requires
 enclosed_at-term_in-requires t c =
-    let depth = opened_depth positions.InTerm c.args.room c.in_ok-inside.inside c.args.lexemes.now c.in_ok-inside.rest.now c.in_ok-inside.ensures in
-    (omega (arith, depth), tt)
+    (omega (arith, ((opened_read positions.InTerm c.args.room c.args.lexemes.now).is (c.in_ok-inside.inside, c.in_ok-inside.rest.now) c.in_ok-inside.ensures).depth), tt)
 
 pub enclosed_at-returns-in_err-term : goal.enclosed_at-returns-in_err-term
 enclosed_at-returns-in_err-term t c =
