@@ -16,7 +16,6 @@ pub mod PrintedQuery
 pub mod PrintedSieve
 pub mod PrintedStages
 pub mod Productions
-pub mod QuantityPrinted
 pub mod QuantityProductions
 pub mod QuantityTokens
 pub mod RangeProductions
@@ -29,7 +28,6 @@ pub mod TestReadings
 pub mod Texts
 pub mod TestDepths
 pub mod StageStarts
-pub mod Thresholds
 pub mod PrintedTerm
 pub mod Numbers
 pub mod Parentheses

@@ -1,10 +1,10 @@
 -- Texts between quotes, piece by piece.
-use Rattle.std.proofs.Common.{◌≡◌, inl, inr, ℕ, zero, suc, ◌+◌, ◌-◌, ◌*◌, ◌<◌, ◌≤◌, ◌==◌, Bool, true, false, cond, not, ◌&&◌, ◌||◌, nat_lt, List, [], ◌∷◌, ◌++◌, Option, Some, None, length, get_or, take, drop, refl, sym, ap, subst, ◌∙◌, arith, append_assoc, append-nil, length-drop}
+use Rattle.std.proofs.Common.{◌≡◌, inl, inr, ℕ, zero, suc, ◌+◌, ◌-◌, ◌*◌, ◌<◌, ◌≤◌, ◌==◌, Bool, true, false, cond, ◌&&◌, nat_lt, List, [], ◌∷◌, ◌++◌, Option, Some, None, length, get_or, take, drop, refl, sym, ap, subst, ◌∙◌, arith, append_assoc, append-nil, length-drop}
 use Rattle.std.specs.List.{prefix_len}
 use Rattle.std.specs.Option.{option_map, option_and_then}
 use Rattle.std.specs.Str.{IsUtf8, IsCharBoundary}
 use Rattle.std.proofs.lemmas.Bool.Decides.{nat_tests}
-use Rattle.std.proofs.lemmas.Bool.{and_parts, eqb-true, true≢false, cases_lt, le-ltb, ltb-true}
+use Rattle.std.proofs.lemmas.Bool.{and_parts, eqb-true, true≢false, not-true, not-false, ne_eqb, cond-true, cond-false, cases_lt, le-ltb, ltb-true}
 use Rattle.std.proofs.lemmas.Str.{IsUtf8-drop}
 use Rattle.std.proofs.Math.Utf8.{encode}
 use Rattle.rl_plain.specs.Escapes.{Escapes, are_ascii, unescape}
@@ -15,65 +15,46 @@ use Rattle.rl_query.specs.Tables.{escapes}
 use Rattle.rl_query_text.specs.Lexing.{is_plain, is_raw, character, unicode_at, escape_at, escape_front, quoted, backquoted}
 use Rattle.rl_query_text.specs.laws.Runs.{plain_stop}
 
-raw_is : (b : ℕ) → is_raw b ≡ false → (b == 96) ≡ true
-raw_is b h = elim (b == 96) as (λ t. not t ≡ false → t ≡ true) [ true ↦ λ _. refl | false ↦ λ e. absurd (true≢false e) ] h
-
-pub onto-nil : (read : Option (List ℕ × List ℕ)) → onto [] read ≡ read
+onto-nil : (read : Option (List ℕ × List ℕ)) → onto [] read ≡ read
 onto-nil None = refl
 onto-nil (Some x) = refl
 
-pub onto-onto : (front more : List ℕ) (read : Option (List ℕ × List ℕ)) → onto front (onto more read) ≡ onto (front ++ more) read
+onto-onto : (front more : List ℕ) (read : Option (List ℕ × List ℕ)) → onto front (onto more read) ≡ onto (front ++ more) read
 onto-onto front more None = refl
 onto-onto front more (Some x) = ap (λ t. Some (t, x.1)) (sym (append_assoc front more x.0))
 
--- a raw text is read up to the backquote
-pub backquoted_run : (bytes : List ℕ) → backquoted bytes ≡ onto (take (prefix_len is_raw bytes) bytes) (backquoted (drop (prefix_len is_raw bytes) bytes))
-backquoted_run [] = refl
-backquoted_run (b ∷ bytes) =
-    elim (b == 96) as (λ t. (b == 96) ≡ t → backquoted (b ∷ bytes) ≡ onto (take (cond (not t) (1 + prefix_len is_raw bytes) 0) (b ∷ bytes)) (backquoted (drop (cond (not t) (1 + prefix_len is_raw bytes) 0) (b ∷ bytes)))) [
-      | true ↦ λ _. sym (onto-nil (backquoted (b ∷ bytes)))
-      | false ↦ λ other.
-          let next : suc (prefix_len is_raw bytes) ≡ 1 + prefix_len is_raw bytes = omega arith in
-          ap (λ t. cond t (Some ([], bytes)) (onto (b ∷ []) (backquoted bytes))) other
-          ∙ ap (onto (b ∷ [])) (backquoted_run bytes)
-          ∙ onto-onto (b ∷ []) (take (prefix_len is_raw bytes) bytes) (backquoted (drop (prefix_len is_raw bytes) bytes))
-          ∙ ap (λ n. onto (take n (b ∷ bytes)) (backquoted (drop n (b ∷ bytes)))) next
+-- what is read byte by byte is read run by run
+run_read : (p : ℕ → Bool) (f : List ℕ → Option (List ℕ × List ℕ)) → ((b : ℕ) (bytes : List ℕ) → p b ≡ true → f (b ∷ bytes) ≡ onto (b ∷ []) (f bytes)) → (bytes : List ℕ) → f bytes ≡ onto (take (prefix_len p bytes) bytes) (f (drop (prefix_len p bytes) bytes))
+run_read p f more [] = sym (onto-nil (f []))
+run_read p f more (b ∷ bytes) =
+    elim (p b) as (λ t. p b ≡ t → f (b ∷ bytes) ≡ onto (take (cond t (1 + prefix_len p bytes) 0) (b ∷ bytes)) (f (drop (cond t (1 + prefix_len p bytes) 0) (b ∷ bytes)))) [
+      | true ↦ λ goes_on.
+          let next : suc (prefix_len p bytes) ≡ 1 + prefix_len p bytes = omega arith in
+          more b bytes goes_on ∙ ap (onto (b ∷ [])) (run_read p f more bytes) ∙ onto-onto (b ∷ []) (take (prefix_len p bytes) bytes) (f (drop (prefix_len p bytes) bytes)) ∙ ap (λ n. onto (take n (b ∷ bytes)) (f (drop n (b ∷ bytes)))) next
+      | false ↦ λ _. sym (onto-nil (f (b ∷ bytes)))
     ] refl
 
--- a quoted text is read up to the next quote or backslash
-pub quoted_run : (bytes : List ℕ) → quoted 0 bytes ≡ onto (take (prefix_len is_plain bytes) bytes) (quoted 0 (drop (prefix_len is_plain bytes) bytes))
-quoted_run [] = refl
-quoted_run (b ∷ bytes) =
-    elim (b == 34 || b == 92) as (λ t. (b == 34 || b == 92) ≡ t → quoted 0 (b ∷ bytes) ≡ onto (take (cond (not t) (1 + prefix_len is_plain bytes) 0) (b ∷ bytes)) (quoted 0 (drop (cond (not t) (1 + prefix_len is_plain bytes) 0) (b ∷ bytes)))) [
-      | true ↦ λ _. sym (onto-nil (quoted 0 (b ∷ bytes)))
-      | false ↦ λ other.
-          let next : suc (prefix_len is_plain bytes) ≡ 1 + prefix_len is_plain bytes = omega arith in
-          plain_byte b bytes other
-          ∙ ap (onto (b ∷ [])) (quoted_run bytes)
-          ∙ onto-onto (b ∷ []) (take (prefix_len is_plain bytes) bytes) (quoted 0 (drop (prefix_len is_plain bytes) bytes))
-          ∙ ap (λ n. onto (take n (b ∷ bytes)) (quoted 0 (drop n (b ∷ bytes)))) next
-    ] refl
+raw_run : (bytes : List ℕ) → backquoted bytes ≡ onto (take (prefix_len is_raw bytes) bytes) (backquoted (drop (prefix_len is_raw bytes) bytes))
+raw_run = run_read is_raw backquoted (λ b bytes raw. cond-false (b == 96) _ _ (not-true (b == 96) raw))
+
+plain_run : (bytes : List ℕ) → quoted 0 bytes ≡ onto (take (prefix_len is_plain bytes) bytes) (quoted 0 (drop (prefix_len is_plain bytes) bytes))
+plain_run = run_read is_plain (quoted 0) (λ b bytes plain. cond-false (b == 34) _ _ (no_quote b plain) ∙ cond-false (b == 92) _ _ (no_backslash b plain))
   where
-    plain_byte : (b : ℕ) (bytes : List ℕ) → (b == 34 || b == 92) ≡ false → quoted 0 (b ∷ bytes) ≡ onto (b ∷ []) (quoted 0 bytes)
-    plain_byte b bytes other = by_tests (b == 34) (b == 92) other
-      where
-        by_tests : (s t : Bool) → (s || t) ≡ false → cond s (Some ([], bytes)) (cond t (option_and_then (λ c. onto (encode c.0) (quoted c.1 bytes)) (escape_at bytes)) (onto (b ∷ []) (quoted 0 bytes))) ≡ onto (b ∷ []) (quoted 0 bytes)
-        by_tests true t e = absurd (true≢false e)
-        by_tests false true e = absurd (true≢false e)
-        by_tests false false e = refl
+    no_quote : (b : ℕ) → is_plain b ≡ true → (b == 34) ≡ false
+    no_quote b h = grind (arith, nat_tests)
+
+    no_backslash : (b : ℕ) → is_plain b ≡ true → (b == 92) ≡ false
+    no_backslash b h = grind (arith, nat_tests)
 
 -- bytes that are passed over
-pub quoted_skip : (skip : ℕ) (bytes : List ℕ) → quoted skip bytes ≡ quoted 0 (drop skip bytes)
+quoted_skip : (skip : ℕ) (bytes : List ℕ) → quoted skip bytes ≡ quoted 0 (drop skip bytes)
 quoted_skip zero bytes = refl
 quoted_skip (suc skip) [] = refl
 quoted_skip (suc skip) (b ∷ bytes) = quoted_skip skip bytes
 
 -- the digits of an escape are ASCII
-digit_small : (b : ℕ) → (hex_digit b ≡ None → ⊥) → b < 128
-digit_small b some = elim (cases_lt b 128) [ inl low ↦ low | inr high ↦ absurd (some (no_digit b high)) ]
-  where
-    no_digit : (b : ℕ) → 128 ≤ b → hex_digit b ≡ None
-    no_digit b high = grind (arith, nat_tests)
+no_digit : (b : ℕ) → 128 ≤ b → hex_digit b ≡ None
+no_digit b high = grind (arith, nat_tests)
 
 hex_last : (so_far : ℕ) (front : List ℕ) (d : ℕ) → hex_digit d ≡ None → hex_number so_far (front ++ d ∷ []) ≡ None
 hex_last so_far [] d none = ap (option_and_then (λ digit. hex_number (16 * so_far + digit) [])) none
@@ -93,23 +74,13 @@ unicode_ascii b [] = tt
 unicode_ascii b (d1 ∷ []) = tt
 unicode_ascii b (d1 ∷ d2 ∷ []) = tt
 unicode_ascii b (d1 ∷ d2 ∷ d3 ∷ []) = tt
-unicode_ascii b (d1 ∷ d2 ∷ d3 ∷ d4 ∷ rest) =
-    elim (cases_lt (length (d1 ∷ d2 ∷ d3 ∷ d4 ∷ rest)) 4) [
-      | inl short ↦ absurd (omega arith)
-      | inr long ↦ rw (le-ltb (length (d1 ∷ d2 ∷ d3 ∷ d4 ∷ rest)) 4 long) (by_last (hex_digit d4) refl)
-    ]
+unicode_ascii b (d1 ∷ d2 ∷ d3 ∷ d4 ∷ rest) = rw (le-ltb (length (d1 ∷ d2 ∷ d3 ∷ d4 ∷ rest)) 4 (omega arith)) by_last
   where
-    by_last : (o : Option ℕ) → hex_digit d4 ≡ o → EndsAscii (b ∷ d1 ∷ d2 ∷ d3 ∷ d4 ∷ rest) (option_map (λ c. (c, 5)) (option_and_then character (hex_number 0 (d1 ∷ d2 ∷ d3 ∷ d4 ∷ []))))
-    by_last None none = rw (hex_last 0 (d1 ∷ d2 ∷ d3 ∷ []) d4 none) tt
-    by_last (Some digit) some =
-        let small : d4 < 128 = digit_small d4 (λ none. not_both (sym none ∙ some)) in
-        elim (option_and_then character (hex_number 0 (d1 ∷ d2 ∷ d3 ∷ d4 ∷ []))) as (λ o. EndsAscii (b ∷ d1 ∷ d2 ∷ d3 ∷ d4 ∷ rest) (option_map (λ c. (c, 5)) o)) [
-          | None ↦ tt
-          | Some c ↦ (omega arith, omega arith, small)
-        ]
-      where
-        not_both : None ≡ Some digit → ⊥
-        not_both e = cc
+    by_last : EndsAscii (b ∷ d1 ∷ d2 ∷ d3 ∷ d4 ∷ rest) (option_map (λ c. (c, 5)) (option_and_then character (hex_number 0 (d1 ∷ d2 ∷ d3 ∷ d4 ∷ []))))
+    by_last = elim (cases_lt d4 128) [
+      | inl small ↦ elim (option_and_then character (hex_number 0 (d1 ∷ d2 ∷ d3 ∷ d4 ∷ []))) as (λ o. EndsAscii (b ∷ d1 ∷ d2 ∷ d3 ∷ d4 ∷ rest) (option_map (λ c. (c, 5)) o)) [ None ↦ tt | Some c ↦ (omega arith, omega arith, small) ]
+      | inr high ↦ rw (hex_last 0 (d1 ∷ d2 ∷ d3 ∷ []) d4 (no_digit d4 high)) tt
+    ]
 
 -- a letter of the table
 letter_ascii : (b : ℕ) (bytes : List ℕ) (table : Escapes) → are_ascii table ≡ true → EndsAscii (b ∷ bytes) (option_map (λ c. (c, 1)) (unescape table b))
@@ -136,39 +107,60 @@ escape_boundary bytes c n utf8 is =
     let ends : EndsAscii bytes (Some (c, n)) = subst (EndsAscii bytes) (sym is) (escape_ascii bytes) in
     behind_ascii bytes n utf8 ends.1 (λ _. ends.2)
 
--- no text, and a text, from what stands behind a run
-pub backquoted_none : (bytes : List ℕ) → drop (prefix_len is_raw bytes) bytes ≡ [] → None ≡ backquoted bytes
-backquoted_none bytes ends = sym (backquoted_run bytes ∙ ap (λ t. onto (take (prefix_len is_raw bytes) bytes) (backquoted t)) ends)
+-- the byte behind a run
+pub stop_first : (p : ℕ → Bool) (rest behind : List ℕ) → behind ≡ drop (prefix_len p rest) rest → (length behind == 0) ≡ false → p (get_or behind 0 0) ≡ false
+stop_first p rest behind is more = stops p rest _ _ (sym is ∙ first_of behind more)
 
-pub backquoted_some : (bytes : List ℕ) → (length (drop (prefix_len is_raw bytes) bytes) == 0) ≡ false → ◌≡◌ {A = Option (List ℕ × List ℕ)} (Some (take (prefix_len is_raw bytes) bytes, drop 1 (drop (prefix_len is_raw bytes) bytes))) (backquoted bytes)
-backquoted_some bytes more =
-    let behind = drop (prefix_len is_raw bytes) bytes in
-    let split = first_of behind more in
-    let front = take (prefix_len is_raw bytes) bytes in
-    sym (backquoted_run bytes ∙ ap (λ t. onto front (backquoted t)) split
-    ∙ ap (λ t. onto front (cond t (Some ([], drop 1 behind)) (onto (get_or behind 0 0 ∷ []) (backquoted (drop 1 behind))))) (raw_is _ (stops is_raw bytes _ _ split))
-    ∙ ap (λ t. Some (t, drop 1 behind)) (append-nil front))
+-- a text between backquotes is the run, if a backquote is behind it
+pub raw_read : (bytes : List ℕ) → backquoted bytes ≡ cond (length (drop (prefix_len is_raw bytes) bytes) == 0) None (Some (take (prefix_len is_raw bytes) bytes, drop 1 (drop (prefix_len is_raw bytes) bytes)))
+raw_read bytes = raw_run bytes ∙ by_behind (drop (prefix_len is_raw bytes) bytes) refl
+  where
+    by_behind : (behind : List ℕ) → drop (prefix_len is_raw bytes) bytes ≡ behind → onto (take (prefix_len is_raw bytes) bytes) (backquoted behind) ≡ cond (length behind == 0) None (Some (take (prefix_len is_raw bytes) bytes, drop 1 behind))
+    by_behind [] is = refl
+    by_behind (b ∷ rest) is = ap (onto (take (prefix_len is_raw bytes) bytes)) (cond-true (b == 96) _ _ (not-false (b == 96) (stops is_raw bytes b rest is))) ∙ ap (λ t. Some (t, rest)) (append-nil (take (prefix_len is_raw bytes) bytes)) ∙ sym (cond-false (length (b ∷ rest) == 0) _ _ (ne_eqb (length (b ∷ rest)) 0 (λ e. omega (arith, e))))
 
--- the same between quotes
-pub quoted_none : (bytes : List ℕ) → drop (prefix_len is_plain bytes) bytes ≡ [] → quoted 0 bytes ≡ None
-quoted_none bytes ends = quoted_run bytes ∙ ap (λ t. onto (take (prefix_len is_plain bytes) bytes) (quoted 0 t)) ends
+-- what an escape is followed by
+escape_left : (bytes : List ℕ) (c : ℕ) (rest : List ℕ) → ◌≡◌ {A = Option (ℕ × List ℕ)} (Some (c, rest)) (escape_front bytes) → (n : ℕ) × (◌≡◌ {A = Option (ℕ × ℕ)} (Some (c, n)) (escape_at bytes)) × (rest ≡ drop n bytes)
+escape_left bytes c rest is = by_escape (escape_at bytes) is
+  where
+    by_escape : (e : Option (ℕ × ℕ)) → ◌≡◌ {A = Option (ℕ × List ℕ)} (Some (c, rest)) (option_map (λ (x : ℕ × ℕ). (x.0, drop x.1 bytes)) e) → (n : ℕ) × (◌≡◌ {A = Option (ℕ × ℕ)} (Some (c, n)) e) × (rest ≡ drop n bytes)
+    by_escape None is = absurd (let no : ⊥ = cc in no)
+    by_escape (Some x) is =
+        let pairs : ◌≡◌ {A = ℕ × List ℕ} (c, rest) (x.0, drop x.1 bytes) = cc in
+        (x.1, ap (λ (p : ℕ × List ℕ). Some (p.0, x.1)) pairs, ap (λ (p : ℕ × List ℕ). p.1) pairs)
 
-pub quoted_end : (bytes : List ℕ) → (length (drop (prefix_len is_plain bytes) bytes) == 0) ≡ false → get_or (drop (prefix_len is_plain bytes) bytes) 0 0 ≡ 34 → quoted 0 bytes ≡ Some (take (prefix_len is_plain bytes) bytes, drop 1 (drop (prefix_len is_plain bytes) bytes))
-quoted_end bytes more is =
-    let behind = drop (prefix_len is_plain bytes) bytes in
-    let front = take (prefix_len is_plain bytes) bytes in
-    quoted_run bytes ∙ ap (λ t. onto front (quoted 0 t)) (first_of behind more ∙ ap (λ b. b ∷ drop 1 behind) is)
-    ∙ ap (λ t. Some (t, drop 1 behind)) (append-nil front)
+pub escape_utf8 : (bytes : List ℕ) (c : ℕ) (rest : List ℕ) → IsUtf8 bytes → ◌≡◌ {A = Option (ℕ × List ℕ)} (Some (c, rest)) (escape_front bytes) → IsUtf8 rest
+escape_utf8 bytes c rest utf8 is = let left = escape_left bytes c rest is in subst IsUtf8 (sym left.2) (IsUtf8-drop bytes left.0 utf8 (escape_boundary bytes c left.0 utf8 left.1))
 
-pub quoted_escape : (bytes : List ℕ) → (length (drop (prefix_len is_plain bytes) bytes) == 0) ≡ false → (get_or (drop (prefix_len is_plain bytes) bytes) 0 0 ≡ 34 → ⊥) → quoted 0 bytes ≡ onto (take (prefix_len is_plain bytes) bytes) (option_and_then (λ (c : ℕ × List ℕ). onto (encode c.0) (quoted 0 c.1)) (escape_front (drop 1 (drop (prefix_len is_plain bytes) bytes))))
-quoted_escape bytes more other =
-    let behind = drop (prefix_len is_plain bytes) bytes in
-    let front = take (prefix_len is_plain bytes) bytes in
-    let after = drop 1 behind in
-    let split = first_of behind more in
-    let backslash : get_or behind 0 0 ≡ 92 = must_be (get_or behind 0 0) (stops is_plain bytes _ _ split) other in
-    quoted_run bytes ∙ ap (λ t. onto front (quoted 0 t)) (split ∙ ap (λ b. b ∷ after) backslash)
-    ∙ ap (onto front) (by_escape (escape_at after) after)
+pub escape_shorter : (bytes : List ℕ) (c : ℕ) (rest : List ℕ) → ◌≡◌ {A = Option (ℕ × List ℕ)} (Some (c, rest)) (escape_front bytes) → length rest ≤ length bytes
+escape_shorter bytes c rest is = let left = escape_left bytes c rest is in omega (arith, ap length left.2, length-drop left.0 bytes)
+
+-- what is left to read behind the run at the front
+pub record Left (whole : Option (List ℕ × List ℕ)) (so_far behind : List ℕ) : Type 0 where
+  pub read : onto so_far (quoted 0 behind) ≡ whole
+  pub stop : (length behind == 0) ≡ false → is_plain (get_or behind 0 0) ≡ false
+
+pub left_of : (whole : Option (List ℕ × List ℕ)) (so_far rest front behind pushed : List ℕ) → onto so_far (quoted 0 rest) ≡ whole → front ≡ take (prefix_len is_plain rest) rest → behind ≡ drop (prefix_len is_plain rest) rest → pushed ≡ so_far ++ front → Left whole pushed behind
+left_of whole so_far rest front behind pushed read front_is behind_is pushed_is = record {
+  read = ap (λ t. onto t (quoted 0 behind)) pushed_is ∙ sym (onto-onto so_far front (quoted 0 behind)) ∙ (λ i. onto so_far (onto (front_is i) (quoted 0 (behind_is i)))) ∙ sym (ap (onto so_far) (plain_run rest)) ∙ read;
+  stop = stop_first is_plain rest behind behind_is;
+}
+
+-- it is empty, begins with a quote, or begins with an escape
+pub left_none : {whole : Option (List ℕ × List ℕ)} {so_far behind : List ℕ} → Left whole so_far behind → (length behind == 0) ≡ true → None ≡ whole
+left_none {so_far = so_far} {behind = behind} left ends = ap (λ t. onto so_far (quoted 0 t)) (sym (none_left behind ends)) ∙ left.read
+
+pub left_end : {whole : Option (List ℕ × List ℕ)} {so_far behind : List ℕ} → Left whole so_far behind → (length behind == 0) ≡ false → get_or behind 0 0 ≡ 34 → ◌≡◌ {A = Option (List ℕ × List ℕ)} (Some (so_far, drop 1 behind)) whole
+left_end {so_far = so_far} {behind = behind} left more quote = ap (λ t. Some (t, drop 1 behind)) (sym (append-nil so_far)) ∙ ap (λ t. onto so_far (quoted 0 t)) (sym (first_of behind more ∙ ap (λ b. b ∷ drop 1 behind) quote)) ∙ left.read
+
+-- an escape, and the text behind it
+abbrev pub onto_escape : List ℕ → Option (ℕ × List ℕ) → Option (List ℕ × List ℕ)
+onto_escape so_far = λ e. onto so_far (option_and_then (λ (c : ℕ × List ℕ). onto (encode c.0) (quoted 0 c.1)) e)
+
+pub left_escape : {whole : Option (List ℕ × List ℕ)} {so_far behind : List ℕ} → Left whole so_far behind → (length behind == 0) ≡ false → (get_or behind 0 0 ≡ 34 → ⊥) → onto_escape so_far (escape_front (drop 1 behind)) ≡ whole
+left_escape {so_far = so_far} {behind = behind} left more other =
+    let backslash : get_or behind 0 0 ≡ 92 = must_be (get_or behind 0 0) (left.stop more) other in
+    ap (onto so_far) (sym (by_escape (escape_at (drop 1 behind)) (drop 1 behind))) ∙ ap (λ t. onto so_far (quoted 0 t)) (sym (first_of behind more ∙ ap (λ b. b ∷ drop 1 behind) backslash)) ∙ left.read
   where
     must_be : (b : ℕ) → is_plain b ≡ false → (b ≡ 34 → ⊥) → b ≡ 92
     must_be b h other' = grind (arith, nat_tests)
@@ -177,68 +169,5 @@ quoted_escape bytes more other =
     by_escape None after = refl
     by_escape (Some e) after = ap (onto (encode e.0)) (quoted_skip e.1 after)
 
--- what follows an escape is a text
-pub escape_utf8 : (bytes : List ℕ) (c : ℕ) (rest : List ℕ) → IsUtf8 bytes → ◌≡◌ {A = Option (ℕ × List ℕ)} (Some (c, rest)) (escape_front bytes) → IsUtf8 rest
-escape_utf8 bytes c rest utf8 is = by_escape (escape_at bytes) refl is
-  where
-    by_escape : (e : Option (ℕ × ℕ)) → escape_at bytes ≡ e → ◌≡◌ {A = Option (ℕ × List ℕ)} (Some (c, rest)) (option_map (λ (x : ℕ × ℕ). (x.0, drop x.1 bytes)) e) → IsUtf8 rest
-    by_escape None at is = cc
-    by_escape (Some x) at is =
-        let pairs : ◌≡◌ {A = ℕ × List ℕ} (c, rest) (x.0, drop x.1 bytes) = cc in
-        let same : rest ≡ drop x.1 bytes = ap (λ (p : ℕ × List ℕ). p.1) pairs in
-        subst IsUtf8 (sym same) (IsUtf8-drop bytes x.1 utf8 (escape_boundary bytes x.0 x.1 utf8 (sym at)))
-
--- an escape takes at least one byte
-pub escape_shorter : (bytes : List ℕ) (c : ℕ) (rest : List ℕ) → ◌≡◌ {A = Option (ℕ × List ℕ)} (Some (c, rest)) (escape_front bytes) → length rest ≤ length bytes
-escape_shorter bytes c rest is = by_escape (escape_at bytes) is
-  where
-    by_escape : (e : Option (ℕ × ℕ)) → ◌≡◌ {A = Option (ℕ × List ℕ)} (Some (c, rest)) (option_map (λ (x : ℕ × ℕ). (x.0, drop x.1 bytes)) e) → length rest ≤ length bytes
-    by_escape None is = cc
-    by_escape (Some x) is =
-        let pairs : ◌≡◌ {A = ℕ × List ℕ} (c, rest) (x.0, drop x.1 bytes) = cc in
-        let same : rest ≡ drop x.1 bytes = ap (λ p. p.1) pairs in
-        omega (arith, ap length same, length-drop x.1 bytes)
-
--- One turn of the loop: what was read so far, the run at the front of what is left, and what begins behind the run.
-pub record Turn (whole : Option (List ℕ × List ℕ)) (so_far rest pushed front behind : List ℕ) : Type 0 where
-  pub read : onto so_far (quoted 0 rest) ≡ whole
-  pub front_is : front ≡ take (prefix_len is_plain rest) rest
-  pub behind_is : behind ≡ drop (prefix_len is_plain rest) rest
-  pub pushed_is : pushed ≡ so_far ++ front
-
-pub turn_none : {whole : Option (List ℕ × List ℕ)} {so_far rest pushed front behind : List ℕ} → Turn whole so_far rest pushed front behind → (length behind == 0) ≡ true → None ≡ whole
-turn_none {so_far = so_far} {rest = rest} {pushed = pushed} {behind = behind} turn ends =
-    sym (ap (onto so_far) (quoted_none rest (sym turn.behind_is ∙ none_left behind ends))) ∙ turn.read
-
-full_behind : {whole : Option (List ℕ × List ℕ)} {so_far rest pushed front behind : List ℕ} → Turn whole so_far rest pushed front behind → (length behind == 0) ≡ false → (length (drop (prefix_len is_plain rest) rest) == 0) ≡ false
-full_behind {so_far = so_far} {rest = rest} {pushed = pushed} {behind = behind} turn more = ap (λ t. length t == 0) (sym turn.behind_is) ∙ more
-
-pub turn_ascii : {whole : Option (List ℕ × List ℕ)} {so_far rest pushed front behind : List ℕ} → Turn whole so_far rest pushed front behind → (length behind == 0) ≡ false → get_or behind 0 0 < 128
-turn_ascii {so_far = so_far} {rest = rest} {pushed = pushed} {behind = behind} turn more = plain_stop _ (stops is_plain rest _ _ (sym turn.behind_is ∙ first_of behind more))
-
-pub turn_end : {whole : Option (List ℕ × List ℕ)} {so_far rest pushed front behind : List ℕ} → Turn whole so_far rest pushed front behind → (length behind == 0) ≡ false → get_or behind 0 0 ≡ 34 → (after : List ℕ) → after ≡ drop 1 behind → ◌≡◌ {A = Option (List ℕ × List ℕ)} (Some (pushed, after)) whole
-turn_end {so_far = so_far} {rest = rest} {pushed = pushed} {behind = behind} turn more quote after after_is =
-    (λ i. Some ((turn.pushed_is ∙ ap (λ t. so_far ++ t) turn.front_is) i, (after_is ∙ ap (drop 1) turn.behind_is) i))
-    ∙ sym (ap (onto so_far) (quoted_end rest (full_behind turn more) (ap (λ t. get_or t 0 0) (sym turn.behind_is) ∙ quote)))
-    ∙ turn.read
-
-escaped_turn : {whole : Option (List ℕ × List ℕ)} {so_far rest pushed front behind : List ℕ} → Turn whole so_far rest pushed front behind → (length behind == 0) ≡ false → (get_or behind 0 0 ≡ 34 → ⊥) → (after : List ℕ) → after ≡ drop 1 behind → onto pushed (option_and_then (λ (c : ℕ × List ℕ). onto (encode c.0) (quoted 0 c.1)) (escape_front after)) ≡ whole
-escaped_turn {so_far = so_far} {rest = rest} {pushed = pushed} {behind = behind} turn more other after after_is =
-    let reads = option_and_then (λ (c : ℕ × List ℕ). onto (encode c.0) (quoted 0 c.1)) in
-    ap (λ t. onto pushed (reads (escape_front t))) (after_is ∙ ap (drop 1) turn.behind_is)
-    ∙ ap (λ t. onto t (reads (escape_front (drop 1 (drop (prefix_len is_plain rest) rest))))) (turn.pushed_is ∙ ap (λ t. so_far ++ t) turn.front_is)
-    ∙ sym (onto-onto so_far (take (prefix_len is_plain rest) rest) _)
-    ∙ sym (ap (onto so_far) (quoted_escape rest (full_behind turn more) (λ e. other (ap (λ t. get_or t 0 0) turn.behind_is ∙ e))))
-    ∙ turn.read
-
-pub turn_broken : {whole : Option (List ℕ × List ℕ)} {so_far rest pushed front behind : List ℕ} → Turn whole so_far rest pushed front behind → (length behind == 0) ≡ false → (get_or behind 0 0 ≡ 34 → ⊥) → (after : List ℕ) → after ≡ drop 1 behind → None ≡ escape_front after → None ≡ whole
-turn_broken {so_far = so_far} {rest = rest} {pushed = pushed} {behind = behind} turn more other after after_is none =
-    ap (λ e. onto pushed (option_and_then (λ (c : ℕ × List ℕ). onto (encode c.0) (quoted 0 c.1)) e)) none
-    ∙ escaped_turn turn more other after after_is
-
-pub turn_more : {whole : Option (List ℕ × List ℕ)} {so_far rest pushed front behind : List ℕ} → Turn whole so_far rest pushed front behind → (length behind == 0) ≡ false → (get_or behind 0 0 ≡ 34 → ⊥) → (after : List ℕ) → after ≡ drop 1 behind → (c : ℕ) (left : List ℕ) → ◌≡◌ {A = Option (ℕ × List ℕ)} (Some (c, left)) (escape_front after) → (next : List ℕ) → next ≡ pushed ++ encode c → onto next (quoted 0 left) ≡ whole
-turn_more {so_far = so_far} {rest = rest} {pushed = pushed} {behind = behind} turn more other after after_is c left some next next_is =
-    ap (λ t. onto t (quoted 0 left)) next_is
-    ∙ sym (onto-onto pushed (encode c) (quoted 0 left))
-    ∙ ap (λ e. onto pushed (option_and_then (λ (c : ℕ × List ℕ). onto (encode c.0) (quoted 0 c.1)) e)) some
-    ∙ escaped_turn turn more other after after_is
+pub escape_onto : (so_far next left : List ℕ) (c : ℕ) → next ≡ so_far ++ encode c → onto next (quoted 0 left) ≡ onto_escape so_far (Some (c, left))
+escape_onto so_far next left c is = ap (λ t. onto t (quoted 0 left)) is ∙ sym (onto-onto so_far (encode c) (quoted 0 left))

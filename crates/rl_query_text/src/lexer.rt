@@ -43,6 +43,7 @@ fn with_end(lexemes: Vec<Lexeme>, place: usize) -> Result<Vec<Lexeme>, AllocErro
 }
 
 // What stands behind spaces and comments.
+#[tactic(auto, using(crate::proofs::Cuts::gap_boundary))]
 fn behind_gap(text: &str) -> &str
     ensures { result.now ≡ drop (gap_len false text.now) text.now }
 {
@@ -128,6 +129,7 @@ impl ByteClass for Run {
 }
 
 // The longest sign at the front, and what follows it.
+#[tactic(auto, using(rl_plain::specs::laws::Cuts::behind_ascii))]
 fn sign_front(text: &str) -> Option<(Sign, &str)>
     ensures { option_map (λ x. (x.0, x.1.now)) result ≡ sign_at text.now }
 {
@@ -157,6 +159,7 @@ fn text_or_bad(read: Option<(PlainText, &str)>) -> (Token, &str)
 }
 
 // Behind a backslash: the character of the escape, and what follows it.
+#[tactic(auto, using(crate::proofs::Texts::escape_boundary))]
 fn escape_front(text: &str) -> Option<(char, &str)>
     ensures { option_map (λ x. (x.0, x.1.now)) result ≡ escape_front text.now }
 {
@@ -166,6 +169,7 @@ fn escape_front(text: &str) -> Option<(char, &str)>
 }
 
 // Behind a backquote: the text up to the next one, and what follows it.
+#[tactic(auto, using(crate::proofs::Texts::raw_read, crate::proofs::Texts::stop_first, crate::specs::laws::Runs::raw_stop))]
 fn backquoted(alloc: Global, text: &str) -> Result<Option<(PlainText, &str)>, AllocError>
     ensures { IfOk result (λ found. option_map (λ x. (x.0, x.1.now)) found ≡ backquoted text.now) }
 {
@@ -178,6 +182,7 @@ fn backquoted(alloc: Global, text: &str) -> Result<Option<(PlainText, &str)>, Al
 }
 
 // Behind a quote: the text up to the next quote that is not escaped, and what follows it.
+#[tactic(auto, using(crate::proofs::Texts::stop_first, crate::specs::laws::Runs::plain_stop))]
 fn quoted(alloc: Global, text: &str) -> Result<Option<(PlainText, &str)>, AllocError>
     ensures { IfOk result (λ found. option_map (λ x. (x.0, x.1.now)) found ≡ quoted 0 text.now) }
 {

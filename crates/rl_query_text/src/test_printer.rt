@@ -17,6 +17,7 @@ use rl_query::token::Sign;
 use std::alloc::{AllocError, Global};
 
 /// The canonical text of label tests, as `a="x" and (b="y" or c="z")`: parentheses stand where they are needed.
+#[tactic(auto, using(crate::proofs::TestPrinted::tests_kept, crate::proofs::TestPrinted::tests_printed, crate::proofs::TestPrinted::tests_again))]
 pub fn print_tests(alloc: Global, tests: &LabelTests) -> Result<String, AllocError>
     ensures text { IfOk result (λ text. string_bytes text ≡ tests_text (tests_form tests.now)) }
     ensures derived { IfOk result (λ text. (depth : ℕ) → text_depth (tests_form tests.now) ≤ depth → AreTests depth (tests_form tests.now) (lexemes_of (string_bytes text)) (ended (string_bytes text))) }
