@@ -10,6 +10,7 @@ use Rattle.rl_query.specs.declared.aggregation.Grouping.{Grouping}
 use Rattle.rl_query.specs.declared.aggregation.Grouping.TheVariants as groupings
 use Rattle.rl_query.specs.declared.aggregation.VectorOperator.{VectorOperator}
 use Rattle.rl_query.specs.declared.aggregation.VectorOperator.TheVariants as operators
+use Rattle.rl_query_text.specs.Bytes.{point}
 use Rattle.rl_query_text.specs.declared.stop.Stop.{Stop}
 use Rattle.rl_query_text.specs.Stops.{stop, syntax, unsupported, place_of}
 use Rattle.rl_query.specs.declared.fault.QueryFault.TheVariants as faults
@@ -121,7 +122,7 @@ are_digits bytes = nat_lt 0 (length bytes) && list_all is_ascii_digit bytes
 
 -- digits, and perhaps a point and digits behind it, however many
 abbrev pub is_digits : List ℕ → Bool
-is_digits number = option_map_or (λ place. are_digits (take place number) && are_digits (drop (place + 1) number)) (position (λ b. b == 46) number) (are_digits number)
+is_digits number = option_map_or (λ place. are_digits (take place number) && are_digits (drop (place + 1) number)) (position (λ b. b == point) number) (are_digits number)
 
 -- the number of a threshold
 abbrev pub number_at : ℕ → Token → Result DecimalForm Stop

@@ -7,6 +7,7 @@ use Rattle.rl_plain.specs.Hexadecimal.{hex_number}
 use Rattle.rl_plain.specs.Runs.{onto, run_at}
 use Rattle.rl_labels.specs.Name.{is_name_start, is_name_byte}
 use Rattle.rl_query.specs.declared.token.Sign.{Sign}
+use Rattle.rl_query_text.specs.Bytes.{tab, line_feed, carriage_return, space, quote, hash, point, backslash, backquote, letter_u}
 use Rattle.rl_query_text.specs.declared.lexer.Run.{Run}
 use Rattle.rl_query_text.specs.declared.lexer.Run.TheVariants as runs
 use Rattle.rl_query.specs.declared.token.Token.{Token}
@@ -16,17 +17,17 @@ use Rattle.rl_query.specs.Tables.{one_byte, two_bytes, escapes}
 
 -- a space, a tab, a carriage return or a line feed
 abbrev pub is_space : ℕ → Bool
-is_space byte = byte == 32 || (byte == 9 || (byte == 13 || byte == 10))
+is_space byte = byte == space || (byte == tab || (byte == carriage_return || byte == line_feed))
 
 -- how many bytes of spaces and of comments, `#` up to the end of the line, stand at the front; in a comment from the start or not
 abbrev pub gap_len : Bool → List ℕ → ℕ
 gap_len comment [] = 0
-gap_len true (byte ∷ bytes) = 1 + gap_len (not (byte == 10)) bytes
-gap_len false (byte ∷ bytes) = if is_space byte then 1 + gap_len false bytes else (if byte == 35 then 1 + gap_len true bytes else 0)
+gap_len true (byte ∷ bytes) = 1 + gap_len (not (byte == line_feed)) bytes
+gap_len false (byte ∷ bytes) = if is_space byte then 1 + gap_len false bytes else (if byte == hash then 1 + gap_len true bytes else 0)
 
 -- a byte of a number: a digit, a letter, an underscore, a point, or one of a character beyond ASCII, as micro signs are
 abbrev pub is_number_byte : ℕ → Bool
-is_number_byte byte = is_name_byte byte || (byte == 46 || nat_le 128 byte)
+is_number_byte byte = is_name_byte byte || (byte == point || nat_le 128 byte)
 
 -- the character of a number, which is no surrogate
 abbrev pub character : ℕ → Option ℕ
@@ -40,7 +41,7 @@ unicode_at bytes = if nat_lt (length bytes) 4 then None else option_and_then cha
 abbrev pub escape_at : List ℕ → Option (ℕ × ℕ)
 escape_at [] = None
 escape_at (byte ∷ bytes) =
-    if byte == 117 then option_map (λ c. (c, 5)) (unicode_at bytes)
+    if byte == letter_u then option_map (λ c. (c, 5)) (unicode_at bytes)
     else option_map (λ c. (c, 1)) (unescape escapes byte)
 
 -- the same with what follows it
@@ -52,14 +53,14 @@ abbrev pub quoted : ℕ → List ℕ → Option (List ℕ × List ℕ)
 quoted skip [] = None
 quoted (suc skip) (byte ∷ bytes) = quoted skip bytes
 quoted zero (byte ∷ bytes) =
-    if byte == 34 then Some ([], bytes)
-    else (if byte == 92 then option_and_then (λ c. onto (encode_utf8 c.0) (quoted c.1 bytes)) (escape_at bytes)
+    if byte == quote then Some ([], bytes)
+    else (if byte == backslash then option_and_then (λ c. onto (encode_utf8 c.0) (quoted c.1 bytes)) (escape_at bytes)
     else onto (byte ∷ []) (quoted 0 bytes))
 
 -- behind a backquote: the text up to the next one, and what follows it
 abbrev pub backquoted : List ℕ → Option (List ℕ × List ℕ)
 backquoted [] = None
-backquoted (byte ∷ bytes) = if byte == 96 then Some ([], bytes) else onto (byte ∷ []) (backquoted bytes)
+backquoted (byte ∷ bytes) = if byte == backquote then Some ([], bytes) else onto (byte ∷ []) (backquoted bytes)
 
 -- the first of two answers
 abbrev pub or_else : Option (Sign × List ℕ) → Option (Sign × List ℕ) → Option (Sign × List ℕ)
@@ -83,8 +84,8 @@ token_at [] = (tokens.End, [])
 token_at (byte ∷ bytes) =
     if is_name_start byte then (tokens.Word (run_at is_name_byte (byte ∷ bytes)).0, (run_at is_name_byte (byte ∷ bytes)).1)
     else (if is_ascii_digit byte then (tokens.Number (run_at is_number_byte (byte ∷ bytes)).0, (run_at is_number_byte (byte ∷ bytes)).1)
-    else (if byte == 34 then or_bad tokens.Text (quoted 0 bytes)
-    else (if byte == 96 then or_bad tokens.Text (backquoted bytes)
+    else (if byte == quote then or_bad tokens.Text (quoted 0 bytes)
+    else (if byte == backquote then or_bad tokens.Text (backquoted bytes)
     else or_bad tokens.Sign (sign_at (byte ∷ bytes)))))
 
 -- at most so many tokens and the end, each behind spaces and comments, with their places in a text that had so many bytes
@@ -100,10 +101,10 @@ lexemes_of text = lexemes_in (length text) (length text) text
 
 -- a byte that stands for itself between quotes, and between backquotes
 abbrev pub is_plain : ℕ → Bool
-is_plain byte = not (byte == 34 || byte == 92)
+is_plain byte = not (byte == quote || byte == backslash)
 
 abbrev pub is_raw : ℕ → Bool
-is_raw byte = not (byte == 96)
+is_raw byte = not (byte == backquote)
 
 -- a byte goes on with a run
 abbrev pub is_in_run : Run → ℕ → Bool

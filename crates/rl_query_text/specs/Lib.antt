@@ -1,3 +1,4 @@
+pub mod Bytes
 pub mod AggregationReading
 pub mod Answering
 pub mod Drafts

@@ -1,6 +1,7 @@
 -- Reading a query from its tokens: what is read and the tokens that follow it, or the first fault from the left.
 use Rattle.std.specs.List.{list_any, list_all}
 use Rattle.std.specs.Prelude.{not, Some, None, ℕ, zero, suc, ◌-◌, ◌==◌, nat_le, Bool, true, false, ◌&&◌, ◌||◌, List, [], ◌∷◌, length, slice_index, Option, is_some, Result, Ok, Err, if◌then◌else◌, codes}
+use Rattle.rl_query_text.specs.Bytes.{point}
 use Rattle.rl_query_text.specs.Fronts.{is_in_any_case, refusal, is_sign, next, expected, matcher_at}
 use Rattle.rl_query_text.specs.Testing.{operator_comes, tests_at}
 use Rattle.rl_query.specs.Limits.{is_filter, longest_range}
@@ -187,10 +188,6 @@ behind_stage (by_tests tests) = positions.BehindTests
 abbrev pub behind_stages : Position → List StageForm → Position
 behind_stages position [] = position
 behind_stages position (stage ∷ stages) = behind_stages (behind_stage stage) stages
-
--- `.`
-abbrev pub point : ℕ
-point = 46
 
 -- the letters of units
 abbrev pub is_unit_letter : ℕ → Bool
