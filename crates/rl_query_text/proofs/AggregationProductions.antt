@@ -25,7 +25,7 @@ use Rattle.rl_query_text.specs.Testing.{is_word}
 use Rattle.rl_query_text.specs.declared.aggregation_reading.Front.{Front}
 use Rattle.rl_query_text.specs.declared.parser.Position.TheVariants as positions
 use Rattle.rl_query_text.specs.declared.room.Room.{Room}
-use Rattle.std.proofs.Common.{List, Ok, Option, Some, [], ap, codes, false, inl, inr, is_some, length, refl, subst, suc, sym, true, zero, ℕ, ⊎_elim, ◌++◌, ◌||◌, ◌∙◌, ◌∷◌, ◌≡◌}
+use Rattle.std.proofs.Common.{cond, List, Ok, Option, Some, [], ap, codes, false, inl, inr, is_some, length, refl, subst, suc, sym, true, zero, ℕ, ⊎_elim, ◌++◌, ◌||◌, ◌∙◌, ◌∷◌, ◌≡◌}
 use Rattle.std.proofs.lemmas.Option.{none-some, same_Some}
 use Rattle.std.specs.List.{list_all}
 
@@ -84,9 +84,11 @@ AreGrouped word names lexemes rest = Stand (tokens.Word word ∷ tokens.Sign sig
 grouped_read : (room : Room) (word : List ℕ) (lexemes behind : List Lexeme) → Stand (tokens.Word word ∷ []) lexemes behind → Finds (λ x. AreGrouped word x.0 lexemes x.1) (grouped_at room behind)
 unfolding grouped_at
 grouped_read room word lexemes behind stand =
-    then _ (opened_read positions.Elsewhere room behind) (λ opened is. record { is = λ x h.
-    let inside = (in_read opened.1).is x h in
-    (stand_then (tokens.Word word ∷ []) (tokens.Sign signs.OpenParenthesis ∷ names_tokens x.0) lexemes behind x.1 stand (stand_then (tokens.Sign signs.OpenParenthesis ∷ []) (names_tokens x.0) behind opened.1 x.1 is.stand inside.0), inside.1) })
+    then _ (opened_read positions.Elsewhere room behind) (λ opened is. record {
+      is = λ x h.
+          let inside = (in_read opened.1).is x h in
+          (stand_then (tokens.Word word ∷ []) (tokens.Sign signs.OpenParenthesis ∷ names_tokens x.0) lexemes behind x.1 stand (stand_then (tokens.Sign signs.OpenParenthesis ∷ []) (names_tokens x.0) behind opened.1 x.1 is.stand inside.0), inside.1);
+    })
 
 -- behind the word
 grouped_is : (room : Room) (depth : ℕ) (word : List ℕ) (names : List (List ℕ)) (lexemes rest : List Lexeme) → room.depth ≡ suc depth → AreGrouped word names lexemes rest → (place : ℕ) × (behind : List Lexeme) × (next lexemes ≡ Ok (record { token = tokens.Word word; place = place }, behind)) × (grouped_at room behind ≡ Ok (names, rest))
@@ -117,7 +119,7 @@ pub record EndsTerm (lexemes : List Lexeme) : Type 0 where
   pub no_without : is_word (codes "without") first.token ≡ false
   pub no_loud : groups_loudly first.token ≡ false
 
-pub ends_term_at : (token : Token) (others : List Token) (lexemes rest : List Lexeme) → Stand (token ∷ others) lexemes rest → is_word (codes "by") token ≡ false → is_word (codes "without") token ≡ false → groups_loudly token ≡ false → EndsTerm lexemes
+unfoldable pub ends_term_at : (token : Token) (others : List Token) (lexemes rest : List Lexeme) → Stand (token ∷ others) lexemes rest → is_word (codes "by") token ≡ false → is_word (codes "without") token ≡ false → groups_loudly token ≡ false → EndsTerm lexemes
 ends_term_at token others lexemes rest stand no_by no_without no_loud = let n = next_is token others lexemes rest stand in record { first = record { token = token; place = n.place }; behind = n.behind; is = n.is; no_by = no_by; no_without = no_without; no_loud = no_loud }
 
 grouping_is : (room : Room) (depth : ℕ) (grouping : Grouping) (lexemes rest : List Lexeme) → room.depth ≡ suc depth → IsGrouping grouping lexemes rest → EndsTerm rest → grouping_at room lexemes ≡ Ok (grouping, rest)
@@ -146,19 +148,12 @@ record IsPlain (word : List ℕ) (operator : VectorOperator) : Type 0 where
   pub none : (lexemes : List Lexeme) → IsParameter operator lexemes lexemes
 
 plain_read : (word : List ℕ) (operator : VectorOperator) → plain_operator word ≡ Some operator → IsPlain word operator
-plain_read word operator h =
-    ⊎_elim (λ yes. this operators.Sum (λ ls. refl) yes.0 yes.1)
-    (λ no. ⊎_elim (λ yes. this operators.Count (λ ls. refl) yes.0 yes.1)
-    (λ no. ⊎_elim (λ yes. this operators.Min (λ ls. refl) yes.0 yes.1)
-    (λ no. ⊎_elim (λ yes. this operators.Max (λ ls. refl) yes.0 yes.1) (λ none. absurd (none-some operator none.1)) (chosen (is_text word (codes "max")) _ _ (Some operator) no.1))
-    (chosen (is_text word (codes "min")) _ _ (Some operator) no.1))
-    (chosen (is_text word (codes "count")) _ _ (Some operator) no.1))
-    (chosen (is_text word (codes "sum")) _ _ (Some operator) h)
+plain_read word operator h = this operators.Sum _ (λ ls. refl) (this operators.Count _ (λ ls. refl) (this operators.Min _ (λ ls. refl) (this operators.Max _ (λ ls. refl) (λ none. absurd (none-some operator none))))) h
   where
-    this : (found : VectorOperator) → ((ls : List Lexeme) → IsParameter found ls ls) → is_text word (operator_word found) ≡ true → Some found ≡ Some operator → IsPlain word operator
-    this found none is same =
-        let plain : IsPlain word found = record { word_is = same_text word (operator_word found) is; none = none } in
-        subst (IsPlain word) (same_Some found operator same) plain
+    this : (found : VectorOperator) (others : Option VectorOperator) → ((ls : List Lexeme) → IsParameter found ls ls) → (others ≡ Some operator → IsPlain word operator) → cond (is_text word (operator_word found)) (Some found) others ≡ Some operator → IsPlain word operator
+    this found others none other h =
+        let plain : is_text word (operator_word found) ≡ true → IsPlain word found = λ is. record { word_is = same_text word (operator_word found) is; none = none } in
+        ⊎_elim (λ yes. subst (IsPlain word) (same_Some found operator yes.1) (plain yes.0)) (λ no. other no.1) (chosen (is_text word (operator_word found)) (Some found) others (Some operator) h)
 
 operator_found : (word : List ℕ) (lexemes : List Lexeme) → is_operator_word word ≡ true → Finds (λ x. (word ≡ operator_word x.0) × IsParameter x.0 lexemes x.1) (operator_at word lexemes)
 operator_found word lexemes is = of_option _ (plain_operator word)

@@ -20,7 +20,7 @@ use Rattle.rl_query_text.specs.Parsing.{filter_op, filter_text, filter_at, filte
 use Rattle.rl_query_text.proofs.Finding.{Finds, found, fault, then, by_test, of_option, checked, next_found, told_by}
 use Rattle.rl_query_text.specs.Stops.{stop}
 use Rattle.rl_query.specs.declared.fault.QueryFault.TheVariants as faults
-use Rattle.rl_query_text.proofs.Productions.{stand_then, next_is}
+use Rattle.rl_query_text.proofs.Productions.{stood, stand_split, stand_then, next_is}
 
 abbrev pub are_proper_filters : List FilterForm → Bool
 are_proper_filters = list_all (λ filter. is_filter filter.op filter.text)
@@ -49,10 +49,6 @@ filter_read lexemes behind op sign =
     then _ (text_read text.0.place text.0.token) (λ value is.
     then _ (checked (is_filter op value) (record { op = op; text = value }) (stop faults.BadRegex text.0.place)) (λ filter proper.
     found (subst (λ (f : FilterForm). Stand (filter_tokens f) lexemes text.1 × (is_filter f.op f.text ≡ true)) proper.1 (stand_then (tokens.Sign (filter_sign op) ∷ []) (tokens.Text value ∷ []) lexemes behind text.1 sign (told_by behind text.1 is stand), proper.0)))))
-
-pub filter_is : (filter : FilterForm) (lexemes rest : List Lexeme) → Stand (tokens.Text filter.text ∷ []) lexemes rest → is_filter filter.op filter.text ≡ true → filter_at filter.op lexemes ≡ Ok (filter, rest)
-unfolding filter_at
-filter_is filter lexemes rest stand proper = let a = next_is (tokens.Text filter.text) [] lexemes rest stand in rw (a.is, proper, a.more) refl
 
 -- one turn of reading them
 pub filters_turn : (most : ℕ) (lexemes : List Lexeme) → filters_at (suc most) lexemes ≡ (next lexemes >>= λ first. option_map_or (λ op. filter_at op first.1 >>= λ filter. filters_at most filter.1 >>= λ others. Ok (filter.0 ∷ others.0, others.1)) (filter_op first.0.token) (Ok ([], lexemes)))
@@ -86,9 +82,8 @@ filters_are (suc most) [] lexemes rest are stops = rw (are.stand, stops.is, stop
 filters_are zero (f ∷ filters) lexemes rest are stops = absurd (omega (arith, are.few))
 filters_are (suc most) (f ∷ filters) lexemes rest are stops =
     let parts = and_parts (is_filter f.op f.text) (are_proper_filters filters) are.proper in
-    let a = next_is (tokens.Sign (filter_sign f.op)) (tokens.Text f.text ∷ filters_tokens filters) lexemes rest are.stand in
-    let b = next_is (tokens.Text f.text) (filters_tokens filters) a.behind rest a.more in
-    rw (a.is, op_is f.op, b.is, parts.0, filters_are most filters b.behind rest (record { stand = b.more; proper = parts.1; few = omega (arith, are.few) }) stops) refl
+    let split = stand_split (filter_tokens f) (filters_tokens filters) lexemes rest are.stand in
+    rw (stood (filter_tokens f) lexemes split.0 split.1, op_is f.op, parts.0, filters_are most filters split.0 rest (record { stand = split.2; proper = parts.1; few = omega (arith, are.few) }) stops) refl
 
 -- a sign or the end begins no line filter
 pub stops_at : (token : Token) (others : List Token) (lexemes rest : List Lexeme) → Stand (token ∷ others) lexemes rest → filter_op token ≡ None → Stops lexemes

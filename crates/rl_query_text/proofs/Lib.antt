@@ -1,6 +1,5 @@
 pub mod AggregationProductions
 pub mod Answered
-pub mod AnsweredSieve
 pub mod Openings
 pub mod Meetings
 pub mod MetPatterns

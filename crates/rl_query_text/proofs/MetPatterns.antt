@@ -1,6 +1,6 @@
 -- The tokens of a query have a pattern exactly where the query has one.
 use Rattle.std.proofs.Common.{◌≡◌, ℕ, zero, suc, ◌-◌, ◌==◌, Bool, true, false, cond, ◌&&◌, ◌||◌, List, [], ◌∷◌, length, drop, Option, Some, None, refl, sym, ap, subst, inl, inr, ◌∙◌}
-use Rattle.std.proofs.Math.Bool.{or-false}
+use Rattle.std.proofs.Math.Bool.{or-false, or_assoc, and-true, and-false}
 use Rattle.std.specs.Char.{is_ascii_digit}
 use Rattle.rl_labels.specs.Name.{is_name_start}
 use Rattle.rl_labels.specs.Operators.{is_by_pattern}
@@ -70,16 +70,12 @@ record Meets (patterned : Bool) (lexemes rest : List Lexeme) : Type 0 where
   pub patterns : has_pattern_token false lexemes ≡ (patterned || has_pattern_token false rest)
   pub ended : IsEnded lexemes → IsEnded rest
 
-or_or : (a b c : Bool) → (a || (b || c)) ≡ ((a || b) || c)
-or_or true b c = refl
-or_or false b c = refl
-
 nothing : (lexemes rest : List Lexeme) → lexemes ≡ rest → Meets false lexemes rest
 nothing lexemes rest same = record { patterns = ap (has_pattern_token false) same; ended = subst IsEnded same }
 
 then : {p q : Bool} {lexemes behind rest : List Lexeme} → Meets p lexemes behind → Meets q behind rest → Meets (p || q) lexemes rest
 then {p} {q} {lexemes} {behind} {rest} first second = record {
-  patterns = first.patterns ∙ ap (λ b. p || b) second.patterns ∙ or_or p q (has_pattern_token false rest);
+  patterns = first.patterns ∙ ap (λ b. p || b) second.patterns ∙ sym (or_assoc p q (has_pattern_token false rest));
   ended = λ e. second.ended (first.ended e);
 }
 
@@ -105,7 +101,7 @@ stand_has behind (t ∷ ts) [] rest stand = absurd stand
 stand_has behind (t ∷ ts) (l ∷ ls) rest stand =
     ap (λ (u : Token). (behind && is_content u) || has_pattern_token (precedes_pattern u) ls) stand.0
     ∙ ap (λ b. (behind && is_content t) || b) (stand_has (precedes_pattern t) ts ls rest stand.1)
-    ∙ or_or (behind && is_content t) (patterns_in (precedes_pattern t) ts) (has_pattern_token (sign_at_end (precedes_pattern t) ts) rest)
+    ∙ sym (or_assoc (behind && is_content t) (patterns_in (precedes_pattern t) ts) (has_pattern_token (sign_at_end (precedes_pattern t) ts) rest))
 
 stand_ended : (ts : List Token) (lexemes rest : List Lexeme) → Stand ts lexemes rest → IsEnded lexemes → IsEnded rest
 stand_ended [] lexemes rest same ended = subst IsEnded same ended
@@ -124,12 +120,8 @@ operator_patterns : (op : MatchOp) → precedes_pattern (tokens.Sign (operator_s
 operator_patterns operators.Equal = refl
 operator_patterns _ = refl
 
-and_true : (a : Bool) → (a && true) ≡ a
-and_true true = refl
-and_true false = refl
-
 value_patterns : (b other : Bool) → ((b && true) || other) ≡ (b || other)
-value_patterns b other = ap (λ c. c || other) (and_true b)
+value_patterns b other = ap (λ c. c || other) (and-true b)
 
 matchers_patterns : (ms : List MatcherForm) → patterns_in false (matchers_tokens ms) ≡ has_pattern ms
 matchers_patterns [] = refl
@@ -162,8 +154,7 @@ duration_meets seconds is = stands (tokens.Sign signs.OpenBracket ∷ tokens.Num
 -- Label tests.
 
 number_patterns : (b : Bool) → ((b && false) || false) ≡ false
-number_patterns true = refl
-number_patterns false = refl
+number_patterns b = ap (λ c. c || false) (and-false b)
 
 compared : (test : TestForm) (sign : Sign) (value : Token) → Compares test sign value → (sign_at_end false (value ∷ []) ≡ false) × (patterns_in (precedes_pattern (tokens.Sign sign)) (value ∷ []) ≡ test_has_pattern test)
 compared (by_text m) sign value is = rw (is.0, is.1) (refl, value_patterns (precedes_pattern (tokens.Sign (operator_sign m.op))) false ∙ or-false (precedes_pattern (tokens.Sign (operator_sign m.op))) ∙ operator_patterns m.op)

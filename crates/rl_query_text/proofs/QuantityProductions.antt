@@ -13,13 +13,13 @@ use Rattle.rl_query.specs.Form.{MatcherForm, TestForm, by_text, by_quantity}
 use Rattle.rl_query_text.specs.Fronts.{is_match}
 use Rattle.rl_query.specs.Limits.{is_taken}
 use Rattle.rl_query.specs.Quantities.{quantity_of}
-use Rattle.rl_query_text.specs.Standing.{Stand, operator_sign}
+use Rattle.rl_query_text.specs.Standing.{Stand, matcher_tokens, operator_sign}
 use Rattle.rl_query.specs.Tables.{comparison_of}
 use Rattle.rl_query_text.specs.TestGrammar.{IsLabelTest}
 use Rattle.rl_query_text.specs.Testing.{label_comes, compares, comparison_at, quantity_at, quantity_test_at, quantity_comes, label_test_at}
 use Rattle.rl_query_text.proofs.FreeNames.{free_name}
 use Rattle.rl_query_text.proofs.Finding.{Finds, found, fault, then, by_test, of_option}
-use Rattle.rl_query_text.proofs.Productions.{IsMatcher, row_found, matcher_found, matcher_is}
+use Rattle.rl_query_text.proofs.Productions.{stood, IsMatcher, row_found, matcher_found, matcher_is}
 
 comparison_found : (place : ℕ) (t : Token) → Finds (λ c. (sign : Sign) × (t ≡ tokens.Sign sign) × (comparison_of sign ≡ Some c)) (comparison_at place t)
 comparison_found place (tokens.Sign sign) = of_option Ok (comparison_of sign) (λ c is. found (sign, refl, is)) (λ _. fault)
@@ -53,12 +53,8 @@ no_comparison _ = refl
 -- the test of a label that is derived is read
 pub label_test_is : (test : TestForm) (lexemes rest : List Lexeme) → IsLabelTest test lexemes rest → label_test_at lexemes ≡ Ok (test, rest)
 unfolding label_test_at quantity_test_at
-label_test_is test [] rest is = absurd is.stand
-label_test_is test (a ∷ []) rest is = absurd is.stand.1
-label_test_is test (a ∷ b ∷ []) rest is = absurd is.stand.1.1
-label_test_is (by_text m) (a ∷ b ∷ c ∷ ls) rest is =
-    let stand = subst (λ ts. Stand ts (a ∷ b ∷ c ∷ ls) rest) (λ i. tokens.Word m.name ∷ tokens.Sign (is.compares.0 i) ∷ is.compares.1 i ∷ []) is.stand in
-    let read = matcher_is m (a ∷ b ∷ c ∷ ls) rest stand (and_from (is_name m.name) _ is.named is.compares.2) in
-    let none : quantity_comes (a ∷ b ∷ c ∷ ls) ≡ false = rw (stand.1.0, stand.1.1.0) (no_comparison m.op) in
-    rw (none, read) refl
-label_test_is (by_quantity test) (a ∷ b ∷ c ∷ ls) rest is = rw (is.stand.0, is.stand.1.0, is.stand.1.1.0, is.stand.1.1.1, is.compares.1.1, is.compares.0, is.compares.1.2, is.named) refl
+label_test_is (by_text m) lexemes rest is =
+    let stand = subst (λ ts. Stand ts lexemes rest) (λ i. tokens.Word m.name ∷ tokens.Sign (is.compares.0 i) ∷ is.compares.1 i ∷ []) is.stand in
+    let none : quantity_comes lexemes ≡ false = rw (stood (matcher_tokens m) lexemes rest stand) (no_comparison m.op) in
+    rw (none, matcher_is m lexemes rest stand (and_from (is_name m.name) _ is.named is.compares.2)) refl
+label_test_is (by_quantity test) lexemes rest is = rw (stood (tokens.Word test.name ∷ tokens.Sign is.sign ∷ is.value ∷ []) lexemes rest is.stand, is.compares.1.1, is.compares.0, is.compares.1.2, is.named) refl

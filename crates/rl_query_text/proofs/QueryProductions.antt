@@ -162,15 +162,17 @@ abbrev IsSound : Reader QueryForm → Type 0
 IsSound inside = (room : Room) (lexemes : List Lexeme) → Finding room lexemes (inside room lexemes)
 
 inner_sound : (inside : Reader QueryForm) → IsSound inside → IsSound (in_parentheses positions.Start inside)
-inner_sound inside sound room lexemes = record { is = λ x h.
-    let p = (parentheses_read IsRoomyQuery positions.Start inside room lexemes sound).is x h in
-    let is : IsQuery (suc p.0.depth) x.0 lexemes x.1 = inr (record { behind = p.1; end = p.2; opened = p.3.stand; inside = p.4.is; closed = p.5 }) in
-    record {
-      is = subst (λ n. IsQuery n x.0 lexemes x.1) (sym p.3.depth) is;
-      few = subst (λ n. all_stages x.0 ≤ n) p.3.stages p.4.few;
-      few_tests = subst (λ n. all_label_tests x.0 ≤ n) p.3.tests p.4.few_tests;
-      nested = p.4.nested;
-    } }
+inner_sound inside sound room lexemes = record {
+  is = λ x h.
+      let p = (parentheses_read IsRoomyQuery positions.Start inside room lexemes sound).is x h in
+      let is : IsQuery (suc p.0.depth) x.0 lexemes x.1 = inr (record { behind = p.1; end = p.2; opened = p.3.stand; inside = p.4.is; closed = p.5 }) in
+      record {
+        is = subst (λ n. IsQuery n x.0 lexemes x.1) (sym p.3.depth) is;
+        few = subst (λ n. all_stages x.0 ≤ n) p.3.stages p.4.few;
+        few_tests = subst (λ n. all_label_tests x.0 ≤ n) p.3.tests p.4.few_tests;
+        nested = p.4.nested;
+      };
+}
 
 operand_sound : (inside : Reader QueryForm) → IsSound inside → IsSound (operand_at inside)
 unfolding operand_at

@@ -26,7 +26,7 @@ use Rattle.rl_query_text.specs.Testing.{is_word}
 use Rattle.rl_query_text.specs.AggregationReading.{groups_loudly}
 use Rattle.rl_query_text.proofs.AggregationProductions.{EndsTerm, ends_term_at}
 use Rattle.rl_query_text.proofs.Parentheses.{inside_room, parentheses_are}
-use Rattle.rl_query_text.proofs.Productions.{next_is}
+use Rattle.rl_query_text.proofs.Productions.{next_is, stood}
 use Rattle.rl_query_text.proofs.QueryProductions.{parts_of_query, quotient_query, quotient_term, term_quotient}
 use Rattle.rl_query_text.proofs.TermProductions.{Fits, IsRoomyTerm, term_is}
 
@@ -34,48 +34,33 @@ use Rattle.rl_query_text.proofs.TermProductions.{Fits, IsRoomyTerm, term_is}
 
 -- no grouping comes, and no divisor
 record EndsQuotient (lexemes : List Lexeme) : Type 0 where
-  pub first : Lexeme
-  pub behind : List Lexeme
-  pub is : next lexemes ≡ Ok (first, behind)
-  pub no_by : is_word (codes "by") first.token ≡ false
-  pub no_without : is_word (codes "without") first.token ≡ false
-  pub no_loud : groups_loudly first.token ≡ false
-  pub no_slash : is_sign signs.Slash first.token ≡ false
+  pub term : EndsTerm lexemes
+  pub no_slash : is_sign signs.Slash term.first.token ≡ false
 
 -- and no threshold
 record EndsQuery (lexemes : List Lexeme) : Type 0 where
   pub quotient : EndsQuotient lexemes
-  pub no_test : compared_by quotient.first.token ≡ None
+  pub no_test : compared_by quotient.term.first.token ≡ None
 
 ends_quotient_at : (token : Token) (others : List Token) (lexemes rest : List Lexeme) → Stand (token ∷ others) lexemes rest → is_word (codes "by") token ≡ false → is_word (codes "without") token ≡ false → groups_loudly token ≡ false → is_sign signs.Slash token ≡ false → EndsQuotient lexemes
-ends_quotient_at token others lexemes rest stand no_by no_without no_loud no_slash = let n = next_is token others lexemes rest stand in record { first = record { token = token; place = n.place }; behind = n.behind; is = n.is; no_by = no_by; no_without = no_without; no_loud = no_loud; no_slash = no_slash }
+unfolding ends_term_at
+ends_quotient_at token others lexemes rest stand no_by no_without no_loud no_slash = record { term = ends_term_at token others lexemes rest stand no_by no_without no_loud; no_slash = no_slash }
 
 closed_ends : (lexemes rest : List Lexeme) → Stand (tokens.Sign signs.CloseParenthesis ∷ []) lexemes rest → EndsQuery lexemes
-unfolding ends_quotient_at
+unfolding ends_quotient_at ends_term_at
 closed_ends lexemes rest stand = record { quotient = ends_quotient_at (tokens.Sign signs.CloseParenthesis) [] lexemes rest stand refl refl refl refl; no_test = refl }
 
 text_ends : (lexemes rest : List Lexeme) → Stand (tokens.End ∷ []) lexemes rest → EndsQuery lexemes
-unfolding ends_quotient_at
+unfolding ends_quotient_at ends_term_at
 text_ends lexemes rest stand = record { quotient = ends_quotient_at tokens.End [] lexemes rest stand refl refl refl refl; no_test = refl }
-
-ends_term : (lexemes : List Lexeme) → EndsQuotient lexemes → EndsTerm lexemes
-ends_term lexemes ends = record { first = ends.first; behind = ends.behind; is = ends.is; no_by = ends.no_by; no_without = ends.no_without; no_loud = ends.no_loud }
 
 no_slash : (comparison : Comparison) → is_sign signs.Slash (tokens.Sign (comparison_sign comparison)) ≡ false
 no_slash comparisons.Equal = refl
-no_slash comparisons.NotEqual = refl
-no_slash comparisons.Greater = refl
-no_slash comparisons.GreaterOrEqual = refl
-no_slash comparisons.Less = refl
-no_slash comparisons.LessOrEqual = refl
+no_slash _ = refl
 
 compared_is : (comparison : Comparison) → compared_by (tokens.Sign (comparison_sign comparison)) ≡ Some comparison
 compared_is comparisons.Equal = refl
-compared_is comparisons.NotEqual = refl
-compared_is comparisons.Greater = refl
-compared_is comparisons.GreaterOrEqual = refl
-compared_is comparisons.Less = refl
-compared_is comparisons.LessOrEqual = refl
+compared_is _ = refl
 
 threshold_ends : (test : Option ThresholdForm) (middle rest : List Lexeme) → IsThreshold test middle rest → EndsQuery rest → EndsQuotient middle
 threshold_ends None middle rest is ends = subst EndsQuotient (sym is) ends.quotient
@@ -86,7 +71,7 @@ threshold_ends (Some test) middle rest is ends = ends_quotient_at (tokens.Sign (
 undivided : (query : QueryForm) (room : Room) (middle : List Lexeme) → EndsQuotient middle → divided_at query room middle ≡ Ok (query, middle)
 unfolding divided_at
 undivided query room middle ends =
-    ap (λ r. r >>= λ first. chosen first) ends.is ∙ cond-false (is_term query && is_sign signs.Slash ends.first.token) _ _ (ap (λ b. is_term query && b) ends.no_slash ∙ and-false (is_term query))
+    ap (λ r. r >>= λ first. chosen first) ends.term.is ∙ cond-false (is_term query && is_sign signs.Slash ends.term.first.token) _ _ (ap (λ b. is_term query && b) ends.no_slash ∙ and-false (is_term query))
   where
     chosen : Lexeme × List Lexeme → Result (QueryForm × List Lexeme) Stop
     chosen first = cond (is_term query && is_sign signs.Slash first.0.token) (over_at query.left room first.1) (Ok (query, middle))
@@ -97,14 +82,11 @@ no_test_comes false token none = none
 
 untested : (query : QueryForm) (middle : List Lexeme) → EndsQuery middle → compared_at query middle ≡ Ok (None, middle)
 unfolding compared_at
-untested query middle ends = rw (ends.quotient.is, no_test_comes (is_some query.test) ends.quotient.first.token ends.no_test) refl
+untested query middle ends = rw (ends.quotient.term.is, no_test_comes (is_some query.test) ends.quotient.term.first.token ends.no_test) refl
 
 threshold_is : (left : TermForm) (over : Option TermForm) (test : ThresholdForm) (middle rest : List Lexeme) → IsThreshold (Some test) middle rest → compared_at (parts_of_query left over None) middle ≡ Ok (Some test, rest)
 unfolding compared_at threshold_at
-threshold_is left over test middle rest is =
-    let a = next_is (tokens.Sign (comparison_sign test.comparison)) (tokens.Number is.0 ∷ []) middle rest is.1 in
-    let b = next_is (tokens.Number is.0) [] a.behind rest a.more in
-    rw (a.is, compared_is test.comparison, b.is, is.2) (ap (λ r. Ok (Some test, r)) b.more)
+threshold_is left over test middle rest is = rw (stood (tokens.Sign (comparison_sign test.comparison) ∷ tokens.Number is.0 ∷ []) middle rest is.1, compared_is test.comparison, is.2) refl
 
 behind_is : (operand : QueryForm) (room : Room) (lexemes : List Lexeme) (left : TermForm) (over : Option TermForm) (test : Option ThresholdForm) (middle rest : List Lexeme) → divided_at operand room lexemes ≡ Ok (parts_of_query left over None, middle) → IsThreshold test middle rest → EndsQuery rest
     → behind_at operand room lexemes ≡ Ok (parts_of_query left over test, rest)
@@ -177,10 +159,7 @@ operand_complete depth inside complete room lexemes left (Some over) rest deep p
 
 divided_is : (left over : TermForm) (room : Room) (middle behind rest : List Lexeme) → Stand (tokens.Sign signs.Slash ∷ []) middle behind → IsTerm room.depth over behind rest → Fits most_aggregations (room_behind left room) over → EndsTerm rest → divided_at (alone left) room middle ≡ Ok (parts_of_query left (Some over) None, rest)
 unfolding divided_at over_at
-divided_is left over room middle behind rest slash is fits ends =
-    let a = next_is (tokens.Sign signs.Slash) [] middle behind slash in
-    let there : IsTerm room.depth over a.behind rest = subst (λ ls. IsTerm room.depth over ls rest) (sym a.more) is in
-    rw (a.is, term_is positions.Divisor (room_behind left room) a.behind over rest (record { is = there; fits = fits }) ends) refl
+divided_is left over room middle behind rest slash is fits ends = rw (stood (tokens.Sign signs.Slash ∷ []) middle behind slash, term_is positions.Divisor (room_behind left room) behind over rest (record { is = is; fits = fits }) ends) refl
 
 by_operand : (inside : Reader QueryForm) (room : Room) (lexemes : List Lexeme) (operand : QueryForm) (middle : List Lexeme) (query : QueryForm) (rest : List Lexeme) → operand_at inside room lexemes ≡ Ok (operand, middle) → behind_at operand room middle ≡ Ok (query, rest) → query_by inside room lexemes ≡ Ok (query, rest)
 unfolding query_by
@@ -202,19 +181,19 @@ tested_complete : (depth : ℕ) (inside : Reader QueryForm) → IsComplete depth
     → FitsQuery room (parts_of_query left over test) → EndsQuery rest → query_by inside room lexemes ≡ Ok (parts_of_query left over test, rest)
 tested_complete depth inside complete room lexemes left None test middle rest deep operand threshold fits ends =
     let stops = threshold_ends test middle rest threshold ends in
-    let read = operand_complete depth inside complete room lexemes left None middle deep operand (untested_fits room left None test fits) (ends_term middle stops) in
+    let read = operand_complete depth inside complete room lexemes left None middle deep operand (untested_fits room left None test fits) stops.term in
     by_operand inside room lexemes (alone left) middle (parts_of_query left None test) rest read (behind_is (alone left) room middle left None test middle rest (undivided (alone left) room middle stops) threshold ends)
 tested_complete depth inside complete room lexemes left (Some over) test middle rest deep (inl divided) threshold fits ends =
     let stops = threshold_ends test middle rest threshold ends in
     let slash = ends_term_at (tokens.Sign signs.Slash) [] divided.middle divided.behind divided.slash refl refl refl in
     let read = operand_complete depth inside complete room lexemes left None divided.middle deep divided.dividend (dividend_fits room left over test fits) slash in
     let divisor : IsTerm room.depth over divided.behind middle = subst (λ n. IsTerm n over divided.behind middle) (sym deep) (quotient_term (suc depth) over divided.behind middle divided.divisor) in
-    let quotient = divided_is left over room divided.middle divided.behind middle divided.slash divisor (divisor_fits room left over test fits) (ends_term middle stops) in
+    let quotient = divided_is left over room divided.middle divided.behind middle divided.slash divisor (divisor_fits room left over test fits) stops.term in
     by_operand inside room lexemes (alone left) divided.middle (parts_of_query left (Some over) test) rest read (behind_is (alone left) room divided.middle left (Some over) test middle rest quotient threshold ends)
 tested_complete depth inside complete room lexemes left (Some over) test middle rest deep (inr operand) threshold fits ends =
     let stops = threshold_ends test middle rest threshold ends in
     let quotient = parts_of_query left (Some over) None in
-    let read = operand_complete depth inside complete room lexemes left (Some over) middle deep operand (untested_fits room left (Some over) test fits) (ends_term middle stops) in
+    let read = operand_complete depth inside complete room lexemes left (Some over) middle deep operand (untested_fits room left (Some over) test fits) stops.term in
     by_operand inside room lexemes quotient middle (parts_of_query left (Some over) test) rest read (behind_is quotient room middle left (Some over) test middle rest (undivided quotient room middle stops) threshold ends)
 
 within_complete : (depth : ℕ) → IsComplete depth (query_within (suc depth))

@@ -20,13 +20,13 @@ use Rattle.rl_query.specs.declared.token.Sign.TheVariants as signs
 use Rattle.rl_query.specs.declared.token.Token.{Token}
 use Rattle.rl_query.specs.declared.token.Token.TheVariants as tokens
 use Rattle.rl_query_text.specs.Standing.{Stand}
-use Rattle.rl_query_text.specs.Grammar.{filter_sign, IsStage, AreChained, AreStages}
+use Rattle.rl_query_text.specs.Grammar.{filter_sign, filter_tokens, parser_tokens, IsStage, AreChained, AreStages}
 use Rattle.rl_query_text.specs.Fronts.{next, is_sign}
-use Rattle.rl_query_text.specs.Parsing.{filter_op, begins_stage, stage_comes, parser_of, only_parser, tests_begin, tested_at, piped_at, stage_at, stages_at, stages_in}
+use Rattle.rl_query_text.specs.Parsing.{filter_op, filter_at, begins_stage, stage_comes, parser_of, only_parser, tests_begin, tested_at, piped_at, stage_at, stages_at, stages_in}
 use Rattle.rl_query_text.specs.Printing.{parser_text}
 use Rattle.rl_query_text.proofs.Finding.{Finds, found, fault, itself, then, by_test, of_option, same_ok, one_read, next_found, told_by}
-use Rattle.rl_query_text.proofs.Productions.{chosen, stand_then, next_is, only_sign}
-use Rattle.rl_query_text.proofs.FilterProductions.{op_read, op_is, filter_read, filter_is}
+use Rattle.rl_query_text.proofs.Productions.{chosen, stand_then, stood, next_is, only_sign}
+use Rattle.rl_query_text.proofs.FilterProductions.{op_read, op_is, filter_read}
 
 parser_read : (t : Token) (parser : Parser) → parser_of t ≡ Some parser → t ≡ tokens.Word (parser_text parser)
 parser_read (tokens.Word word) parser h =
@@ -81,17 +81,16 @@ record IsTaken (parsed : Bool) (depth left : ℕ) (stage : StageForm) (fewer : �
   pub read : stage_at parsed depth left lexemes ≡ Ok (stage, fewer, rest)
 
 stage_is : (parsed : Bool) (depth left : ℕ) (stage : StageForm) (fewer : ℕ) (lexemes rest : List Lexeme) → IsStage depth stage lexemes rest → IsEnd rest → parsed && parses stage ≡ false → tests_of stage + fewer ≡ left → IsTaken parsed depth left stage fewer lexemes rest
-unfolding stage_at piped_at tested_at
+unfolding stage_at piped_at tested_at filter_at
 stage_is parsed depth left (by_filter f) fewer lexemes rest is end only counts =
-    let a = next_is (tokens.Sign (filter_sign f.op)) (tokens.Text f.text ∷ []) lexemes rest is.0 in
     let same : left ≡ fewer = omega (arith, counts) in
-    record { comes = rw (a.is, op_is f.op) refl; read = rw (a.is, op_is f.op, filter_is f a.behind rest a.more is.1, same) refl }
+    let stands = stood (filter_tokens f) lexemes rest is.0 in
+    record { comes = rw (stands, op_is f.op) refl; read = rw (stands, op_is f.op, is.1, same) refl }
 stage_is true depth left (by_parser parser) fewer lexemes rest is end only counts = cc
 stage_is false depth left (by_parser parser) fewer lexemes rest is end only counts =
-    let a = next_is (tokens.Sign signs.Pipe) (tokens.Word (parser_text parser) ∷ []) lexemes rest is in
-    let b = next_is (tokens.Word (parser_text parser)) [] a.behind rest a.more in
     let same : left ≡ fewer = omega (arith, counts) in
-    record { comes = rw a.is refl; read = rw (a.is, b.is, parser_is parser, b.more, same) refl }
+    let stands = stood (parser_tokens parser) lexemes rest is in
+    record { comes = rw stands refl; read = rw (stands, parser_is parser, same) refl }
 stage_is parsed depth left (by_tests tests) fewer lexemes rest is end only counts =
     let a = next_is (tokens.Sign signs.Pipe) [] lexemes is.behind is.pipe in
     let starts = tests_start depth tests is.behind rest is.are in
@@ -154,9 +153,11 @@ pub record AreRoomy (room : Room) (stages : List StageForm) (lexemes rest : List
   pub few_tests : label_tests stages ≤ room.tests
 
 pub stages_derived : (room : Room) (lexemes : List Lexeme) → Finds (λ x. AreRoomy room x.0 lexemes x.1) (stages_in room lexemes)
-stages_derived room lexemes = record { is = λ x h.
-    let are = (stages_found false room.depth room.tests room.stages lexemes).is x h in
-    record { are = record { chained = are.chained; one_parser = omega (arith, are.one_parser) }; few = are.few; few_tests = are.few_tests } }
+stages_derived room lexemes = record {
+  is = λ x h.
+      let are = (stages_found false room.depth room.tests room.stages lexemes).is x h in
+      record { are = record { chained = are.chained; one_parser = omega (arith, are.one_parser) }; few = are.few; few_tests = are.few_tests };
+}
 
 pub stages_are_read : (room : Room) (stages : List StageForm) (lexemes rest : List Lexeme) → AreRoomy room stages lexemes rest → Ends rest → stages_in room lexemes ≡ Ok (stages, rest)
 stages_are_read room stages lexemes rest roomy stops =

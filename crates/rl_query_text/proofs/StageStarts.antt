@@ -1,5 +1,5 @@
 -- The tokens with which label tests and stages begin.
-use Rattle.std.proofs.Common.{◌≡◌, true, false, not, ◌&&◌, ◌||◌, List, [], ◌∷◌, codes, None, Some, is_some, Ok, refl, sym, ap, subst, ◌∙◌, ℕ}
+use Rattle.std.proofs.Common.{drop, ◌≡◌, true, false, not, ◌&&◌, ◌||◌, List, [], ◌∷◌, codes, None, Some, is_some, Ok, refl, sym, ap, subst, ◌∙◌, ℕ}
 use Rattle.std.proofs.Math.Bool.{and-false, or-true}
 use Rattle.std.proofs.lemmas.Bool.{and_from, cond-true, cond-false, or_parts, or_left, or_right}
 use Rattle.rl_labels.specs.Name.{is_text}
@@ -23,7 +23,8 @@ use Rattle.rl_query_text.specs.Standing.{Stand, operator_sign}
 use Rattle.rl_query_text.specs.TestGrammar.{Rule, test_name, Compares, IsLabelTest, IsOne, alone, in_parentheses, AreJoined, part, more, AreInside, AreTests}
 use Rattle.rl_query_text.specs.Testing.{operator_comes, IsEnd, is_word, is_and, begins, compares, behind_and}
 use Rattle.rl_query.specs.TestTree.{TestTree}
-use Rattle.rl_query_text.proofs.Productions.{next_is}
+use Rattle.rl_query_text.proofs.Productions.{next_is, placed, stood}
+use Rattle.rl_query_text.specs.Stops.{place_of}
 
 -- label tests begin there, whatever stands before them, and no parser is named
 pub record Starts (lexemes : List Lexeme) : Type 0 where
@@ -67,11 +68,9 @@ test_starts test (a ∷ b ∷ lexemes) rest is =
 
 pub one_starts : (Inside : Rule) (tests : TestTree TestForm) (lexemes rest : List Lexeme) → IsOne Inside tests lexemes rest → Starts lexemes
 one_starts Inside _ _ _ (alone test lexemes rest is) = test_starts test lexemes rest is
-one_starts Inside _ _ _ (in_parentheses tests lexemes behind end rest opened is closed) = by_sign lexemes opened
-  where
-    by_sign : (lexemes : List Lexeme) → Stand (tokens.Sign signs.OpenParenthesis ∷ []) lexemes behind → Starts lexemes
-    by_sign [] stand = absurd stand
-    by_sign (l ∷ ls) stand = record { first = l; behind = ls; is = refl; goes_on = rw stand.0 refl; no_parser = rw stand.0 refl; begin = rw stand.0 refl }
+one_starts Inside _ _ _ (in_parentheses tests lexemes behind end rest opened is closed) =
+    let stands = stood (tokens.Sign signs.OpenParenthesis ∷ []) lexemes behind opened in
+    record { first = record { token = tokens.Sign signs.OpenParenthesis; place = place_of lexemes }; behind = behind; is = rw stands refl; goes_on = rw stands refl; no_parser = refl; begin = refl }
 
 joined_starts : (join : Join) (Part : Rule) → ((tests : TestTree TestForm) (lexemes rest : List Lexeme) → Part tests lexemes rest → Starts lexemes) → (tests : TestTree TestForm) (lexemes rest : List Lexeme) → AreJoined join Part tests lexemes rest → Starts lexemes
 joined_starts join Part starts _ _ _ (part tests lexemes rest is) = starts tests lexemes rest is
@@ -83,14 +82,13 @@ tests_start depth tests lexemes rest are =
 
 -- no test goes on with a token
 pub no_more : (token : Token) (others : List Token) (lexemes rest : List Lexeme) → Stand (token ∷ others) lexemes rest → is_and token ≡ false → ((behind : List Lexeme) → begins token behind ≡ false) → is_word (codes "or") token ≡ false → IsEnd lexemes
-no_more token others [] rest stand a b o = absurd stand
-no_more token others (l ∷ lexemes) rest stand a b o =
-    (cond-false (is_and l.token) _ _ (ap is_and stand.0 ∙ a) ∙ cond-false (begins l.token lexemes) _ _ (ap (λ t. begins t lexemes) stand.0 ∙ b lexemes), cond-false (is_word (codes "or") l.token) _ _ (ap (λ t. is_word (codes "or") t) stand.0 ∙ o))
+no_more token others lexemes rest stand a b o =
+    let behind = placed others (drop 1 lexemes) rest in
+    rw (stood (token ∷ others) lexemes rest stand) (cond-false (is_and token) _ _ a ∙ cond-false (begins token behind) _ _ (b behind), cond-false (is_word (codes "or") token) _ _ o)
 
 filter_ends : (op : LineOp) (others : List Token) (lexemes rest : List Lexeme) → Stand (tokens.Sign (filter_sign op) ∷ others) lexemes rest → IsEnd lexemes
-filter_ends op others [] rest stand = absurd stand
-filter_ends lines.Contains others (l ∷ lexemes) rest stand = (rw stand.0 refl, rw stand.0 refl)
-filter_ends _ others (l ∷ lexemes) rest stand = (rw stand.0 refl, rw stand.0 refl)
+filter_ends lines.Contains others lexemes rest stand = no_more (tokens.Sign signs.Contains) others lexemes rest stand refl (λ _. refl) refl
+filter_ends op others lexemes rest stand = no_more (tokens.Sign (filter_sign op)) others lexemes rest stand refl (λ _. refl) refl
 
 stage_ends : (depth : ℕ) (stage : StageForm) (lexemes rest : List Lexeme) → IsStage depth stage lexemes rest → IsEnd lexemes
 stage_ends depth (by_filter f) lexemes rest is = filter_ends f.op (tokens.Text f.text ∷ []) lexemes rest is.0

@@ -16,7 +16,6 @@ use Rattle.rl_query.specs.declared.token.Token.TheVariants as tokens
 use Rattle.rl_query_text.specs.AggregationReading.{is_operator_word}
 use Rattle.rl_query.specs.Form.{AggregationForm, RangeForm, TermForm, label_tests}
 use Rattle.rl_query_text.specs.Fronts.{is_sign}
-use Rattle.rl_query_text.specs.Grammar.{IsRange}
 use Rattle.rl_query.specs.Limits.{most_aggregations}
 use Rattle.rl_query_text.specs.QueryReading.{TermReader, in_parentheses, around, aggregated_at, ranged_at, begun_at, term_by, term_in, term_at}
 use Rattle.rl_query_text.specs.Standing.{Stand}
@@ -26,7 +25,7 @@ use Rattle.rl_query_text.proofs.AggregationProductions.{front_found, ended_found
 use Rattle.rl_query_text.proofs.Openings.{aggregated_by}
 use Rattle.rl_query_text.proofs.Parentheses.{inside_room, parentheses_read, parentheses_are}
 use Rattle.rl_query_text.proofs.Finding.{Finds, found, fault, then, by_test, of_option, next_found}
-use Rattle.rl_query_text.proofs.Productions.{chosen, next_is}
+use Rattle.rl_query_text.proofs.Productions.{chosen, next_is, stood}
 use Rattle.rl_query_text.proofs.RangeProductions.{range_derived, range_is}
 
 -- Range aggregations, by their words.
@@ -40,17 +39,11 @@ function_read word function = has_text all_functions
 
 function_is : (function : RangeFunction) → function_with_text (function_text function) ≡ Some function
 function_is functions.CountOverTime = refl
-function_is functions.Rate = refl
-function_is functions.BytesOverTime = refl
-function_is functions.BytesRate = refl
-function_is functions.AbsentOverTime = refl
+function_is _ = refl
 
 no_operator : (function : RangeFunction) → is_operator_word (function_text function) ≡ false
 no_operator functions.CountOverTime = refl
-no_operator functions.Rate = refl
-no_operator functions.BytesOverTime = refl
-no_operator functions.BytesRate = refl
-no_operator functions.AbsentOverTime = refl
+no_operator _ = refl
 
 -- there is room for what a term has
 pub record Fits (nest : ℕ) (room : Room) (term : TermForm) : Type 0 where
@@ -109,17 +102,19 @@ aggregated_sound inside sound word nest room lexemes behind operator stand =
     }))))
 
 enclosed_sound : (inside : TermReader) → IsSound inside → (nest : ℕ) (room : Room) (lexemes : List Lexeme) → Finds (λ x. IsRoomyTerm nest room x.0 lexemes x.1) (in_parentheses positions.InTerm (inside positions.InTerm nest) room lexemes)
-enclosed_sound inside sound nest room lexemes = record { is = λ x h.
-    let p = (parentheses_read (IsRoomyTerm nest) positions.InTerm (inside positions.InTerm nest) room lexemes (sound positions.InTerm nest)).is x h in
-    let is : IsTerm (suc p.0.depth) x.0 lexemes x.1 = inr (record { behind = p.1; end = p.2; opened = p.3.stand; inside = p.4.is; closed = p.5 }) in
-    record {
-      is = subst (λ n. IsTerm n x.0 lexemes x.1) (sym p.3.depth) is;
-      fits = record {
-        nested = p.4.fits.nested;
-        few = subst (λ n. length x.0.range.stages ≤ n) p.3.stages p.4.fits.few;
-        few_tests = subst (λ n. label_tests x.0.range.stages ≤ n) p.3.tests p.4.fits.few_tests;
+enclosed_sound inside sound nest room lexemes = record {
+  is = λ x h.
+      let p = (parentheses_read (IsRoomyTerm nest) positions.InTerm (inside positions.InTerm nest) room lexemes (sound positions.InTerm nest)).is x h in
+      let is : IsTerm (suc p.0.depth) x.0 lexemes x.1 = inr (record { behind = p.1; end = p.2; opened = p.3.stand; inside = p.4.is; closed = p.5 }) in
+      record {
+        is = subst (λ n. IsTerm n x.0 lexemes x.1) (sym p.3.depth) is;
+        fits = record {
+          nested = p.4.fits.nested;
+          few = subst (λ n. length x.0.range.stages ≤ n) p.3.stages p.4.fits.few;
+          few_tests = subst (λ n. label_tests x.0.range.stages ≤ n) p.3.tests p.4.fits.few_tests;
+        };
       };
-    } }
+}
 
 begun_sound : (inside : TermReader) → IsSound inside → (position : Position) (place : ℕ) (token : Token) (nest : ℕ) (room : Room) (all behind : List Lexeme) → Stand (token ∷ []) all behind → Finds (λ x. IsRoomyTerm nest room x.0 all x.1) (begun_at inside position place token nest room all behind)
 begun_sound inside sound position place (tokens.Word word) nest room all behind stand = by_test (is_operator_word word)
@@ -155,16 +150,13 @@ bare_complete : (depth : ℕ) (inside : TermReader) → IsComplete depth inside 
     → IsBare depth (IsTerm depth) aggregations function range lexemes rest → Fits nest room (record { aggregations = aggregations; function = function; range = range }) → EndsTerm rest → term_by inside position nest room lexemes ≡ Ok (record { aggregations = aggregations; function = function; range = range }, rest)
 unfolding term_by ranged_at
 bare_complete depth inside complete position nest room lexemes [] function range rest deep is fits ends =
-    let a = next_is (tokens.Word (function_text function)) [] lexemes is.0 is.1 in
-    let read = range_is room range a.behind rest (record { inside = depth; depth = deep; is = subst (λ ls. IsRange depth range ls rest) (sym a.more) is.2; few = fits.few; few_tests = fits.few_tests }) in
-    rw (a.is, no_operator function, function_is function, read) refl
+    let read = range_is room range is.0 rest (record { inside = depth; depth = deep; is = is.2; few = fits.few; few_tests = fits.few_tests }) in
+    rw (stood (tokens.Word (function_text function) ∷ []) lexemes is.0 is.1, no_operator function, function_is function, read) refl
 bare_complete depth inside complete position zero room lexemes (aggregation ∷ aggregations) function range rest deep is fits ends = absurd (omega (arith, fits.nested))
 bare_complete depth inside complete position (suc fewer) room lexemes (aggregation ∷ aggregations) function range rest deep is fits ends =
     let term : TermForm = record { aggregations = aggregations; function = function; range = range } in
-    let a = next_is (tokens.Word (operator_word aggregation.operator)) [] lexemes is.behind_word is.word in
     let read = aggregated_complete depth inside complete fewer room aggregation term lexemes rest deep is (record { nested = omega (arith, fits.nested); few = fits.few; few_tests = fits.few_tests }) ends in
-    let there = subst (λ ls. aggregated_at inside (operator_word aggregation.operator) (suc fewer) room ls ≡ Ok (around aggregation term, rest)) (sym a.more) read in
-    rw (a.is, word_of_operator aggregation.operator, there) refl
+    rw (stood (tokens.Word (operator_word aggregation.operator) ∷ []) lexemes is.behind_word is.word, word_of_operator aggregation.operator, read) refl
 
 in_complete : (depth : ℕ) → IsComplete depth (term_in (suc depth))
 unfolding term_by

@@ -1,5 +1,5 @@
 -- The productions of label tests: what is derived is read.
-use Rattle.std.proofs.Common.{◌≡◌, inl, inr, ℕ, zero, suc, ◌+◌, ◌≤◌, true, false, not, List, [], ◌∷◌, Some, None, Ok, refl, ap, ◌∙◌, arith}
+use Rattle.std.proofs.Common.{◌≡◌, codes, inl, inr, ℕ, zero, suc, ◌+◌, ◌≤◌, true, false, not, List, [], ◌∷◌, Some, None, Ok, refl, ap, ◌∙◌, arith}
 use Rattle.rl_query.specs.declared.label_test.Join.{Join}
 use Rattle.rl_query.specs.declared.label_test.Join.TheVariants.{And, Or}
 use Rattle.rl_query_text.specs.declared.parser.Position.TheVariants as positions
@@ -12,7 +12,7 @@ use Rattle.rl_query_text.specs.TestGrammar.{Rule, IsLabelTest, IsOne, alone, in_
 use Rattle.rl_query_text.specs.Testing.{IsEnd, Reading, Reader, is_label, test_at, enclosed_at, one_at, behind_and, behind_join, others_at, joined_at, tests_in, inside_at, tests_at}
 use Rattle.rl_query.specs.TestTree.{TestTree, one, joined, count_tests}
 use Rattle.rl_query_text.proofs.StageStarts.{one_starts, no_more}
-use Rattle.rl_query_text.proofs.Productions.{next_is, expected_is}
+use Rattle.rl_query_text.proofs.Productions.{next_is, stood, expected_is}
 use Rattle.rl_query_text.proofs.QuantityProductions.{label_test_is}
 
 -- what is derived is read, where what follows ends it
@@ -24,15 +24,12 @@ abbrev JoinsAre : Join → Rule → (Ends : List Lexeme → Type 0) → Type 0
 JoinsAre join Part Ends = (right : TestTree TestForm) (middle behind rest : List Lexeme) → Joins join middle behind → Part right behind rest → (behind_join join middle ≡ Some behind) × Ends middle
 
 and_joins : (Inside : Rule) → JoinsAre And (IsOne Inside) (λ _. Unit {0})
-and_joins Inside right [] behind rest (inl joins) is = absurd joins
-and_joins Inside right (l ∷ middle) behind rest (inl joins) is = (rw (joins.0, joins.1) refl, tt)
-and_joins Inside right [] behind rest (inr (inl joins)) is = absurd joins
-and_joins Inside right (l ∷ middle) behind rest (inr (inl joins)) is = (rw (joins.0, joins.1) refl, tt)
+and_joins Inside right middle behind rest (inl joins) is = (rw (stood (tokens.Word (codes "and") ∷ []) middle behind joins) refl, tt)
+and_joins Inside right middle behind rest (inr (inl joins)) is = (rw (stood (tokens.Sign signs.Comma ∷ []) middle behind joins) refl, tt)
 and_joins Inside right middle behind rest (inr (inr joins)) is = (ap behind_and joins ∙ (one_starts Inside right behind rest is).goes_on, tt)
 
 or_joins : (Inside : Rule) → JoinsAre Or (AreJoined And (IsOne Inside)) (λ rest. Unit {0} × (behind_join And rest ≡ None))
-or_joins Inside right [] behind rest joins is = absurd joins
-or_joins Inside right (l ∷ middle) behind rest joins is = (rw (joins.0, joins.1) refl, (tt, rw joins.0 refl))
+or_joins Inside right middle behind rest joins is = let stands = stood (tokens.Word (codes "or") ∷ []) middle behind joins in (rw stands refl, (tt, rw stands refl))
 
 some_test : (tests : TestTree TestForm) → 1 ≤ count_tests tests
 some_test (one test) = omega arith

@@ -4,7 +4,7 @@ use Rattle.std.specs.List.{prefix_len}
 use Rattle.std.specs.Option.{option_map, option_and_then}
 use Rattle.std.specs.Str.{IsUtf8, IsCharBoundary}
 use Rattle.std.proofs.lemmas.Bool.Decides.{nat_tests}
-use Rattle.std.proofs.lemmas.Bool.{and_parts, eqb-true, true≢false, not-true, not-false, ne_eqb, cond-true, cond-false, cases_lt, le-ltb, ltb-true}
+use Rattle.std.proofs.lemmas.Bool.{and_parts, eqb-true, not-true, not-false, ne_eqb, cond-true, cond-false, cases_lt, le-ltb, ltb-true}
 use Rattle.std.proofs.lemmas.Str.{IsUtf8-drop}
 use Rattle.std.proofs.Math.Utf8.{encode}
 use Rattle.rl_plain.specs.Escapes.{Escapes, are_ascii, unescape}
@@ -13,7 +13,6 @@ use Rattle.rl_plain.specs.Runs.{onto}
 use Rattle.rl_plain.specs.laws.Cuts.{behind_ascii, stops, first_of, none_left}
 use Rattle.rl_query.specs.Tables.{escapes}
 use Rattle.rl_query_text.specs.Lexing.{is_plain, is_raw, character, unicode_at, escape_at, escape_front, quoted, backquoted}
-use Rattle.rl_query_text.specs.laws.Runs.{plain_stop}
 
 onto-nil : (read : Option (List ℕ × List ℕ)) → onto [] read ≡ read
 onto-nil None = refl

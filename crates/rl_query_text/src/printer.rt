@@ -30,7 +30,6 @@ pub fn print(alloc: Global, query: &Query) -> Result<String, AllocError>
 }
 
 /// The canonical text of a term, which no other term has.
-#[tactic(auto, using(crate::proofs::Answered::alone))]
 pub fn print_term(alloc: Global, term: &Term) -> Result<String, AllocError>
     ensures text { IfOk result (λ text. string_bytes text ≡ term_text (term_form term.now)) }
     ensures alone { IfOk result (λ text. (other : Term) → string_bytes text ≡ term_text (term_form other) → other ≡ term.now) }

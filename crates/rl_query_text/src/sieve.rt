@@ -46,7 +46,6 @@ fn read(alloc: Global, text: &str) -> Result<Sieve, QueryError>
 }
 
 /// The canonical text of a sieve, which no other sieve has, as `{app="a"} |= "error"`.
-#[tactic(auto, using(crate::proofs::AnsweredSieve::alone))]
 pub fn print_sieve(alloc: Global, sieve: &Sieve) -> Result<String, AllocError>
     ensures text { IfOk result (λ text. string_bytes text ≡ sieve_text (sieve_form sieve.now)) }
     ensures alone { IfOk result (λ text. (other : Sieve) → string_bytes text ≡ sieve_text (sieve_form other) → other ≡ sieve.now) }

@@ -1,12 +1,12 @@
 -- What is read is derived, and a printed sieve is read as itself.
-use Rattle.rl_query_text.proofs.AnsweredSieve.{derived, all_read, read_again}
+use Rattle.rl_query_text.proofs.Answered.{derived, all_read, read_again, sieves}
 use Rattle.rl_query_text.proofs.sieve.parse_delete.Goals as goal
 
 pub returns-clause-again : goal.returns-clause-again
-returns-clause-again c = read_again c.read.result c.args.text.now c.read.ensures
+returns-clause-again c = read_again sieves c.read.result c.args.text.now c.read.ensures
 
 pub returns-clause-derives : goal.returns-clause-derives
-returns-clause-derives c = derived c.read.result c.args.text.now c.read.ensures
+returns-clause-derives c = derived sieves c.read.result c.args.text.now c.read.ensures
 
 pub returns-clause-complete : goal.returns-clause-complete
-returns-clause-complete c = all_read c.read.result c.args.text.now c.read.ensures
+returns-clause-complete c = all_read sieves c.read.result c.args.text.now c.read.ensures
