@@ -7,7 +7,8 @@
 //! - `sieve`: `parse_delete` and `print_sieve`.
 //! - `printer`: `print` and `print_term`.
 //! - `test_printer`: `print_tests`.
-//! - `lexer`: the tokens of a text.
+//! - `lexer`: the tokens of a text. `stop`: where reading them stops, and why.
+//! - `meeting`: the patterns that a reading meets, and whether each has room.
 //! - `query_reading`: queries from their tokens.
 //! - `term_reading`: terms from their tokens.
 //! - `aggregation_reading`: groupings, operators and thresholds from their tokens.
