@@ -143,7 +143,8 @@ fn is_behind_tests(front: &str) -> bool {
     match front.rsplit_once('|') {
         Some((_, stage)) => {
             let is_filter = stage.starts_with('=') || stage.starts_with('~');
-            let is_closed = stage.contains(']') || stage.split(')').count() > stage.split('(').count();
+            let is_closed = stage.contains(']')
+                || stage.split(')').count() > stage.split('(').count();
             !is_filter && !is_closed && !is_parser(first_word(stage.trim_start()))
         }
         None => false,
