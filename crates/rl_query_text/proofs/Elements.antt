@@ -1,5 +1,5 @@
 -- Reading matchers one after the other, as a loop does.
-use Rattle.std.proofs.Common.{◌≡◌, ℕ, not, ◌||◌, map, List, [], ◌∷◌, ◌++◌, Result, Ok, Err, refl, sym, ap, ◌∙◌, append_assoc}
+use Rattle.std.proofs.Common.{◌≡◌, ℕ, not, ◌||◌, map, List, [], ◌∷◌, ◌++◌, Result, Ok, Err, refl, ap, ◌∙◌, append_assoc}
 use Rattle.rl_query.specs.declared.token.Lexeme.{Lexeme}
 use Rattle.rl_query_text.specs.Stops.{stop, syntax}
 use Rattle.rl_query_text.specs.declared.stop.Stop.{Stop}
@@ -20,21 +20,14 @@ use Rattle.rl_query_text.specs.Fronts.{checked_matcher}
 abbrev pub with_front : {A : Type 0} → List A → Result (List A × List Lexeme) Stop → Result (List A × List Lexeme) Stop
 with_front front read = read >>= λ x. Ok (front ++ x.0, x.1)
 
-regroup : {A : Type 0} (front : List A) (m : A) (read : Result (List A × List Lexeme) Stop) → with_front front (read >>= λ x. Ok (m ∷ x.0, x.1)) ≡ with_front (front ++ m ∷ []) read
-regroup {A} front m (Ok x) = ap (λ (ms : List A). Ok (ms, x.1)) (simp append_assoc)
-regroup front m (Err f) = refl
-
 -- nothing was read before
 pub none_before : {A : Type 0} (reader : ℕ → Result (List A × List Lexeme) Stop) (n most : ℕ) → n ≡ most → with_front [] (reader n) ≡ reader most
-none_before {A} reader n most same = whole (reader n) ∙ ap reader same
-  where
-    whole : (read : Result (List A × List Lexeme) Stop) → with_front [] read ≡ read
-    whole (Ok x) = refl
-    whole (Err f) = refl
+none_before reader n most same = elim (reader n) as (λ read. with_front [] read ≡ read) [ Ok x ↦ refl | Err f ↦ refl ] ∙ ap reader same
 
 -- one more was read
 pub one_more : {A : Type 0} (front : List A) (m : A) (read whole : Result (List A × List Lexeme) Stop) → with_front front (read >>= λ x. Ok (m ∷ x.0, x.1)) ≡ whole → with_front (front ++ m ∷ []) read ≡ whole
-one_more front m read whole so_far = sym (regroup front m read) ∙ so_far
+one_more {A} front m (Ok x) whole so_far = ap (λ (ms : List A). Ok (ms, x.1)) (append_assoc front (m ∷ []) x.0) ∙ so_far
+one_more front m (Err f) whole so_far = so_far
 
 -- matchers and their forms refuse the empty text alike
 pub real_forms : (matchers : List Matcher) → has_real_form (map matcher_form matchers) ≡ has_real_matcher matchers

@@ -1,16 +1,16 @@
 -- The numbers of topk and of thresholds, as they are read, and again from their canonical texts.
-use Rattle.std.proofs.Common.{◌≡◌, ℕ, ◌+◌, ◌==◌, ◌^◌, ◌<◌, ◌≤◌, nat_lt, nat_le, ◌&&◌, true, cond, not, List, [], ◌∷◌, ◌++◌, length, take, drop, Option, Some, None, refl, sym, ap, subst, ◌∙◌, arith, length-append, append-nil}
+use Rattle.std.proofs.Common.{◌≡◌, ℕ, ◌+◌, ◌==◌, ◌^◌, ◌<◌, ◌≤◌, nat_lt, nat_le, ◌&&◌, true, cond, not, List, [], ◌∷◌, ◌++◌, length, take, drop, Option, Some, None, refl, sym, ap, subst, ◌∙◌, arith, append-nil}
 use Rattle.std.specs.Char.{is_ascii_digit}
 use Rattle.std.specs.Fmt.{decimal}
 use Rattle.std.specs.List.{list_all, prefix_len}
 use Rattle.std.specs.Option.{option_map, option_and_then}
 use Rattle.std.specs.Str.Parse.{digits_value}
-use Rattle.std.proofs.lemmas.Bool.{and_parts, and_from, cond-true, cond-false, cond_both, le-ltb, le-leb, lt-ltb, leb-true, ltb-true, ltb-false}
+use Rattle.std.proofs.lemmas.Bool.{and_parts, and_from, cond-true, cond_both, le-leb, lt-ltb, leb-true, ltb-true, ltb-false, false_from_ne_true, cond-false}
 use Rattle.std.proofs.lemmas.Bool.Decides.{nat_tests}
 use Rattle.std.proofs.lemmas.Fmt.{length-decimal-le}
-use Rattle.std.proofs.lemmas.List.Folds.{length-prefix_len}
-use Rattle.std.proofs.lemmas.List.Sums.{prefix_len-le-length}
-use Rattle.std.proofs.lemmas.Option.{cond_some, none-some, same_Some}
+use Rattle.std.proofs.lemmas.List.Folds.{length-prefix_len, prefix_len-append}
+use Rattle.std.proofs.lemmas.List.Sums.{prefix_len-le-length, prefix_len_stops, AllPass-from_list_all}
+use Rattle.std.proofs.lemmas.Option.{cond_some}
 use Rattle.rl_labels.specs.Decimals.{DecimalForm, is_row, number_of, cut_at_point, decimal_of_parts, decimal_of}
 use Rattle.rl_labels.specs.QuantityTexts.{decimal_text, digits_text, is_decimal}
 use Rattle.rl_labels.specs.laws.QuantityLaws.{row-below, decimal_proper, decimal_again}
@@ -33,8 +33,7 @@ front_short text =
 -- a row of few digits reads alike where more are let through
 number_alike : (text : List ℕ) → length text ≤ 9 → number_of 9 text ≡ number_of 15 text
 number_alike text few =
-    let more : length text ≤ 15 = omega (arith, few) in
-    ap (λ b. cond (nat_lt 0 (length text) && (b && list_all is_ascii_digit text)) (Some (digits_value 10 text)) None) (le-leb (length text) 9 few ∙ sym (le-leb (length text) 15 more))
+    ap (λ b. cond (nat_lt 0 (length text) && (b && list_all is_ascii_digit text)) (Some (digits_value 10 text)) None) (le-leb (length text) 9 few ∙ sym (le-leb (length text) 15 (omega (arith, few))))
 
 parts_alike : (text : List ℕ) (parts : Option (List ℕ × List ℕ)) → length (front text parts) ≤ 9 → decimal_of_parts 9 text parts ≡ decimal_of_parts 15 text parts
 parts_alike text None few = rw (number_alike text few) refl
@@ -43,16 +42,14 @@ parts_alike text (Some parts) few = rw (number_alike parts.0 few) refl
 decimal_alike : (text : List ℕ) → front_len text ≤ 9 → decimal_of 9 text ≡ decimal_of 15 text
 decimal_alike text few = parts_alike text (cut_at_point text) (omega (arith, few, front_short text))
 
-stops_at : (digits behind : List ℕ) → front_len (digits ++ 46 ∷ behind) ≤ length digits
-stops_at [] behind = omega arith
-stops_at (d ∷ ds) behind = cond_both (not (d == 46)) (1 + front_len (ds ++ 46 ∷ behind)) 0 (λ n. n ≤ length (d ∷ ds)) (λ _. omega (arith, stops_at ds behind)) (λ _. omega arith)
+stops_at : (digits behind : List ℕ) → front_len behind ≡ 0 → front_len (digits ++ behind) ≤ length digits
+stops_at digits behind none = grind (arith, nat_tests, prefix_len-append (λ b. not (b == 46)) digits behind, prefix_len-le-length (λ b. not (b == 46)) digits)
 
 whole_short : (d : DecimalForm) → d.whole < 10 ^ 9 → front_len (decimal_text d) ≤ 9
 whole_short d below =
     let few = length-decimal-le 9 d.whole (omega arith) below (omega (arith, below)) in
-    cond_both (d.digits == 0) [] (46 ∷ digits_text d.digits d.fraction) (λ behind. front_len (decimal d.whole ++ behind) ≤ 9)
-    (λ _. omega (arith, few, length-append (decimal d.whole) [], prefix_len-le-length (λ b. not (b == 46)) (decimal d.whole ++ [])))
-    (λ _. omega (arith, few, stops_at (decimal d.whole) (digits_text d.digits d.fraction)))
+    let none = cond_both (d.digits == 0) [] (46 ∷ digits_text d.digits d.fraction) (λ behind. front_len behind ≡ 0) (λ _. refl) (λ _. refl) in
+    omega (arith, few, stops_at (decimal d.whole) (cond (d.digits == 0) [] (46 ∷ digits_text d.digits d.fraction)) none)
 
 -- a threshold is read from its canonical text
 pub threshold_again : (d : DecimalForm) → is_threshold d ≡ true → threshold_of (decimal_text d) ≡ Some d
@@ -73,43 +70,27 @@ pub top_again : (k : ℕ) → is_top k ≡ true → top_of (decimal k) ≡ Some 
 top_again k h = subst (λ text. top_of text ≡ Some k) (append-nil (decimal k))
     (ap (option_and_then (λ value. cond (value.digits == 0 && is_top value.whole) (Some value.whole) None)) (decimal_again (whole k) (whole_proper k (top_proper k h))) ∙ cond-true (is_top k) _ _ h)
 
-is_no_point : (b : ℕ) → is_ascii_digit b ≡ true → not (b == 46) ≡ true
-is_no_point b h = grind (arith, nat_tests)
-
-no_point : (text : List ℕ) → list_all is_ascii_digit text ≡ true → prefix_len (λ b. not (b == 46)) text ≡ length text
-no_point [] are = refl
-no_point (x ∷ xs) are =
-    let parts = and_parts (is_ascii_digit x) (list_all is_ascii_digit xs) are in
-    let more : 1 + prefix_len (λ b. not (b == 46)) xs ≡ length (x ∷ xs) = omega (arith, no_point xs parts.1) in
-    cond-true (not (x == 46)) _ _ (is_no_point x parts.0) ∙ more
-
 -- digits alone have no point
 no_cut : (text : List ℕ) → list_all is_ascii_digit text ≡ true → cut_at_point text ≡ None
-no_cut text are =
-    ap (option_map (λ place. (take place text, drop (place + 1) text))) (cond-false (nat_lt (prefix_len (λ b. not (b == 46)) text) (length text)) _ _ (le-ltb _ _ (omega (arith, no_point text are))))
+no_cut text are = ap (option_map (λ place. (take place text, drop (place + 1) text))) (cond-false (nat_lt (front_len text) (length text)) _ _ (false_from_ne_true _ (λ inside.
+    let stop = prefix_len_stops (λ b. not (b == 46)) text 0 (ltb-true _ _ inside) in
+    let digit = AllPass-from_list_all is_ascii_digit text are (front_len text) 0 (ltb-true _ _ inside) in
+    grind (arith, nat_tests))))
 
 -- what was read as a row of digits
 row_few : (most n : ℕ) (text : List ℕ) → number_of most text ≡ Some n → (length text ≤ most) × (n < 10 ^ most)
 row_few most n text h =
     let read = cond_some (is_row most text) (digits_value 10 text) n h in
-    let parts = and_parts (nat_lt 0 (length text)) (nat_le (length text) most && list_all is_ascii_digit text) read.0 in
-    let behind = and_parts (nat_le (length text) most) (list_all is_ascii_digit text) parts.1 in
-    let few = leb-true (length text) most behind.0 in
-    (few, subst (λ m. m < 10 ^ most) read.1 (row-below text most behind.1 few))
+    grind (arith, nat_tests, row-below text most)
 
 -- what was read in front of the point
 whole_read : (most : ℕ) (text : List ℕ) (parts : Option (List ℕ × List ℕ)) (d : DecimalForm) → decimal_of_parts most text parts ≡ Some d → number_of most (front text parts) ≡ Some d.whole
-whole_read most text None d = by_whole (number_of most text)
-  where
-    by_whole : (r : Option ℕ) → option_map whole r ≡ Some d → r ≡ Some d.whole
-    by_whole None h = absurd (none-some d h)
-    by_whole (Some n) h = ap (λ (e : DecimalForm). Some e.whole) (same_Some _ _ h)
-whole_read most text (Some parts) d = by_whole (number_of most parts.0) (number_of 9 parts.1)
-  where
-    by_whole : (r s : Option ℕ) → option_and_then (λ whole. option_map (λ fraction. record { whole = whole; fraction = fraction; digits = length parts.1 }) s) r ≡ Some d → r ≡ Some d.whole
-    by_whole None s h = absurd (none-some d h)
-    by_whole (Some n) None h = absurd (none-some d h)
-    by_whole (Some n) (Some m) h = ap (λ (e : DecimalForm). Some e.whole) (same_Some _ _ h)
+whole_read most text None d = elim (number_of most text) as (λ r. option_map whole r ≡ Some d → r ≡ Some d.whole) [ None ↦ λ h. cc | Some n ↦ λ h. cc ]
+whole_read most text (Some parts) d =
+    elim (number_of most parts.0) as (λ r. option_and_then (λ whole. option_map (λ fraction. record { whole = whole; fraction = fraction; digits = length parts.1 }) (number_of 9 parts.1)) r ≡ Some d → r ≡ Some d.whole) [
+      | None ↦ λ h. cc
+      | Some n ↦ elim (number_of 9 parts.1) as (λ s. option_map (λ fraction. record { whole = n; fraction = fraction; digits = length parts.1 }) s ≡ Some d → Some n ≡ Some d.whole) [ None ↦ λ h. cc | Some m ↦ λ h. cc ]
+    ]
 
 -- a decimal with few digits is a threshold
 pub threshold_proper : (text : List ℕ) (d : DecimalForm) → decimal_of 9 text ≡ Some d → nat_le d.digits 6 ≡ true → is_threshold d ≡ true

@@ -1,14 +1,14 @@
 -- The canonical text of a quantity is one token, and is read as the quantity.
-use Rattle.std.proofs.Common.{◌≡◌, ℕ, true, false, not, ◌||◌, ◌^◌, ◌<◌, List, [], ◌∷◌, ◌++◌, length, nat_lt, nat_le, Some, refl, sym, ap, subst, ◌∙◌, arith, append_assoc, append-nil}
+use Rattle.std.proofs.Common.{◌≡◌, ℕ, true, false, not, ◌^◌, ◌<◌, List, [], ◌∷◌, ◌++◌, length, nat_lt, nat_le, Some, refl, sym, ap, subst, ◌∙◌, arith, append_assoc, append-nil}
 use Rattle.std.specs.List.{list_all}
 use Rattle.std.specs.Fmt.{decimal}
 use Rattle.std.specs.Option.{option_map, option_or}
 use Rattle.std.specs.Char.{is_ascii_digit}
 use Rattle.std.proofs.lemmas.Bool.{and_parts, and_from, or_right, cond-true, cond-false, lt-ltb, true≢false}
 use Rattle.std.proofs.lemmas.Bool.Decides.{nat_tests}
-use Rattle.std.proofs.lemmas.List.Folds.{list_all-append, list_any-append}
+use Rattle.std.proofs.lemmas.List.Folds.{list_all-append, list_any-append, list_any_none}
 use Rattle.rl_labels.specs.Decimals.{DecimalForm}
-use Rattle.rl_labels.specs.Quantities.{is_byte_of, duration_of, size_of}
+use Rattle.rl_labels.specs.Quantities.{is_byte_of, size_of}
 use Rattle.rl_labels.specs.QuantityTexts.{decimal_text, duration_unit_text, size_unit_text, part_text, duration_text, size_text, is_decimal}
 use Rattle.rl_labels.specs.laws.QuantityLaws.{decimal_bytes, decimal_again, duration_again, size_again, size_no_duration}
 use Rattle.rl_labels.specs.declared.quantity.DurationUnit.{DurationUnit}
@@ -20,6 +20,7 @@ use Rattle.rl_query.specs.declared.quantity_test.Quantity.{Quantity}
 use Rattle.rl_query.specs.declared.quantity_test.Quantity.TheVariants as quantities
 use Rattle.rl_query_text.specs.Lexing.{is_number_byte}
 use Rattle.rl_query.specs.Quantities.{has_unit, quantity_of, quantity_text, is_quantity}
+use Rattle.std.proofs.lemmas.List.Sums.{AllPass-from_list_all}
 
 -- bytes of a number, the first of which is a digit
 pub record IsNumber (text : List ℕ) : Type 0 where
@@ -29,12 +30,9 @@ pub record IsNumber (text : List ℕ) : Type 0 where
   pub digit : is_ascii_digit first ≡ true
   pub bytes : list_all is_number_byte text ≡ true
 
-goes_on : (b : ℕ) → is_byte_of true b ≡ true → is_number_byte b ≡ true
-goes_on b h = grind (arith, nat_tests)
-
 weaker : (text : List ℕ) → list_all (is_byte_of true) text ≡ true → list_all is_number_byte text ≡ true
 weaker [] h = refl
-weaker (b ∷ bytes) h = let parts = and_parts (is_byte_of true b) (list_all (is_byte_of true) bytes) h in and_from (is_number_byte b) _ (goes_on b parts.0) (weaker bytes parts.1)
+weaker (b ∷ bytes) h = let parts = and_parts (is_byte_of true b) (list_all (is_byte_of true) bytes) h in and_from (is_number_byte b) _ (grind (arith, nat_tests, parts.0)) (weaker bytes parts.1)
 
 -- a decimal, and what follows it
 decimal_then : (d : DecimalForm) (rest : List ℕ) → is_decimal d ≡ true → list_all is_number_byte rest ≡ true → IsNumber (decimal_text d ++ rest)
@@ -70,28 +68,19 @@ parts_bytes : (parts : List DurationPart) → list_all (λ part. is_decimal part
 parts_bytes [] h = refl
 parts_bytes (part ∷ parts) h = let kept = and_parts (is_decimal part.number) _ h in (part_then part (duration_text parts) kept.0 (parts_bytes parts kept.1)).bytes
 
--- the facts of a duration that has a part
-has_part : (part : DurationPart) (parts : List DurationPart) → is_quantity (quantities.Duration (part ∷ parts)) ≡ true → (is_decimal part.number ≡ true) × (list_all (λ part. is_decimal part.number) parts ≡ true)
-has_part part parts h = and_parts (is_decimal part.number) _ (and_parts (nat_le (length (part ∷ parts)) 8) _ (and_parts (nat_lt 0 (length (part ∷ parts))) _ h).1).1
-
 pub quantity_number : (quantity : Quantity) → is_quantity quantity ≡ true → IsNumber (quantity_text quantity)
 quantity_number (quantities.Number d) h = subst IsNumber (append-nil (decimal_text d)) (decimal_then d [] h refl)
 quantity_number (quantities.Duration []) h = absurd (true≢false (sym h))
-quantity_number (quantities.Duration (part ∷ parts)) h = let kept = has_part part parts h in part_then part (duration_text parts) kept.0 (parts_bytes parts kept.1)
+quantity_number (quantities.Duration (part ∷ parts)) h =
+    let kept = and_parts (is_decimal part.number) _ (and_parts (nat_le (length (part ∷ parts)) 8) _ (and_parts (nat_lt 0 (length (part ∷ parts))) _ h).1).1 in
+    part_then part (duration_text parts) kept.0 (parts_bytes parts kept.1)
 quantity_number (quantities.Size size) h = decimal_then size.number (size_unit_text size.unit) h (size_unit size.unit).0
 
 no_unit : (text : List ℕ) → list_all (is_byte_of true) text ≡ true → has_unit text ≡ false
-no_unit [] h = refl
-no_unit (b ∷ bytes) h =
-    let parts = and_parts (is_byte_of true b) (list_all (is_byte_of true) bytes) h in
-    ap (λ t. not t || has_unit bytes) parts.0 ∙ no_unit bytes parts.1
+no_unit text h = list_any_none (is_byte_of false) text (λ k d below. ap not (AllPass-from_list_all (is_byte_of true) text h k d below))
 
 later : (front rest : List ℕ) → has_unit rest ≡ true → has_unit (front ++ rest) ≡ true
 later front rest h = list_any-append (is_byte_of false) front rest ∙ or_right (has_unit front) _ h
-
--- what has a unit is a duration or else a size
-with_unit : (text : List ℕ) → has_unit text ≡ true → quantity_of text ≡ option_or (option_map quantities.Duration (duration_of text)) (option_map quantities.Size (size_of text))
-with_unit text h = cond-true (has_unit text) _ _ h
 
 -- a quantity is read from its canonical text
 pub quantity_again : (quantity : Quantity) → is_quantity quantity ≡ true → quantity_of (quantity_text quantity) ≡ Some quantity
@@ -101,9 +90,9 @@ quantity_again (quantities.Duration []) h = absurd (true≢false (sym h))
 quantity_again (quantities.Duration (part ∷ parts)) h =
     let text = duration_text (part ∷ parts) in
     let unit : has_unit text ≡ true = ap has_unit (append_assoc (decimal_text part.number) (duration_unit_text part.unit) (duration_text parts)) ∙ later (decimal_text part.number) (duration_unit_text part.unit ++ duration_text parts) (duration_unit part.unit (duration_text parts)).1 in
-    with_unit text unit ∙ ap (λ read. option_or (option_map quantities.Duration read) (option_map quantities.Size (size_of text))) (duration_again (part ∷ parts) h)
+    cond-true (has_unit text) _ _ unit ∙ ap (λ read. option_or (option_map quantities.Duration read) (option_map quantities.Size (size_of text))) (duration_again (part ∷ parts) h)
 quantity_again (quantities.Size size) h =
     let text = size_text size in
-    with_unit text (later (decimal_text size.number) (size_unit_text size.unit) (size_unit size.unit).1)
+    cond-true (has_unit text) _ _ (later (decimal_text size.number) (size_unit_text size.unit) (size_unit size.unit).1)
     ∙ ap (λ read. option_or (option_map quantities.Duration read) (option_map quantities.Size (size_of text))) (size_no_duration size h)
     ∙ ap (option_map quantities.Size) (size_again size h)

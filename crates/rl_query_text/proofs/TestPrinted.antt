@@ -1,6 +1,5 @@
 -- What is printed of label tests is derived.
 use Rattle.std.proofs.Common.{◌≡◌, inl, ℕ, zero, suc, ◌-◌, ◌≤◌, ◌==◌, Bool, true, false, not, ◌&&◌, List, [], ◌∷◌, ◌++◌, codes, refl, sym, subst, arith, append_assoc, Ok, Some}
-use Rattle.std.specs.Char.{is_ascii_digit}
 use Rattle.std.proofs.lemmas.Bool.Decides.{nat_tests}
 use Rattle.rl_query.specs.declared.quantity_test.Comparison.{Comparison}
 use Rattle.rl_query.specs.declared.quantity_test.Comparison.TheVariants as comparisons
@@ -24,11 +23,11 @@ use Rattle.rl_query.specs.Tables.{comparison_of, comparison_sign}
 use Rattle.rl_query_text.specs.Lexing.{lexemes_of}
 use Rattle.rl_query_text.specs.TestGrammar.{Rule, test_name, IsLabelTest, IsOne, alone, in_parentheses, Joins, AreJoined, part, more, AreTestsIn, AreInside, AreTests, ended}
 use Rattle.rl_query.specs.Limits.{is_taken}
-use Rattle.rl_query_text.specs.TestPrinting.{quantity_test_text, test_text, join_text, enclosed, tests_text}
+use Rattle.rl_query_text.specs.TestPrinting.{test_text, join_text, enclosed, tests_text}
 use Rattle.rl_query.specs.TestDepth.{left_level, right_level, needs, deepened, text_depth}
 use Rattle.rl_query.specs.TestTree.{TestTree, one, joined, count_tests}
 use Rattle.rl_query_text.proofs.QuantityTokens.{quantity_number, quantity_again}
-use Rattle.rl_query_text.proofs.Printed.{Prints, Then, Stops, Ends, a_space, a_sign, a_word, a_number, printed, prints_as, then_prints, prints_all, before_space, regrouped, pieces_are, sign_stops, opens, closes, matcher_prints}
+use Rattle.rl_query_text.proofs.Printed.{Prints, Then, Stops, Ends, prints_as, then_prints, prints_all, before_space, regrouped, sign_stops, opens, closes, token_then, done, matcher_then, spaced}
 
 -- each test passes
 abbrev pub all_tests : {A : Type 0} → (A → Bool) → TestTree A → Bool
@@ -45,25 +44,14 @@ abbrev pub is_test : TestForm → Bool
 is_test test = is_name (test_name test) && (not (is_taken (test_name test)) && has_value test)
 
 join_prints : (join : Join) {R : List Lexeme → List Lexeme → Type 0} (bytes : List ℕ) {rest : List ℕ} → Prints R bytes rest → Prints (Then (Joins join) R) (join_text join ++ bytes) rest
-join_prints And bytes prints = then_prints (before_space bytes (prints_as (pieces_are (a_space ∷ a_word (codes "and") ∷ []) (32 ∷ bytes) refl (refl, refl, tt)) (λ a b word. inl word))) prints
-join_prints Or bytes prints = then_prints (before_space bytes (pieces_are (a_space ∷ a_word (codes "or") ∷ []) (32 ∷ bytes) refl (refl, refl, tt))) prints
-
-join_stops : (join : Join) (bytes : List ℕ) → Stops (join_text join ++ bytes)
-join_stops And bytes = refl
-join_stops Or bytes = refl
+join_prints And bytes prints = then_prints (before_space bytes (prints_as (spaced (token_then (tokens.Word (codes "and")) (32 ∷ bytes) (refl, refl) done)) (λ a b word. inl word))) prints
+join_prints Or bytes prints = then_prints (before_space bytes (spaced (token_then (tokens.Word (codes "or")) (32 ∷ bytes) (refl, refl) done))) prints
 
 -- a comparison, and no equals sign behind it
 pub comparison_ends : (c : Comparison) (b : ℕ) (rest : List ℕ) → (b == 61) ≡ false → Ends (comparison_sign c) (b ∷ rest)
 comparison_ends comparisons.Greater b rest other = rw other refl
 comparison_ends comparisons.Less b rest other = rw other refl
-comparison_ends _ b rest other = tt
-
-pub no_equal : (d : ℕ) → is_ascii_digit d ≡ true → (d == 61) ≡ false
-no_equal d h = grind (arith, nat_tests)
-
-comparison_again : (c : Comparison) → comparison_of (comparison_sign c) ≡ Some c
-comparison_again comparisons.Equal = refl
-comparison_again _ = refl
+comparison_ends _ b rest other = refl
 
 -- the facts of a test
 kept : (test : TestForm) → is_test test ≡ true → (is_name (test_name test) ≡ true) × (not (is_taken (test_name test)) ≡ true) × (has_value test ≡ true)
@@ -72,17 +60,16 @@ kept test proper = let parts = and_parts (is_name (test_name test)) _ proper in 
 test_prints : (test : TestForm) (rest : List ℕ) → is_test test ≡ true → Stops rest → Prints (IsLabelTest test) (test_text test ++ rest) rest
 test_prints (by_text m) rest proper stop =
     let k = kept (by_text m) proper in
-    prints_as (matcher_prints m rest (and_from (is_name m.name) _ k.0 k.2)) (λ a b stand. record { sign = operator_sign m.op; value = tokens.Text m.value; stand = stand; compares = (refl, refl, k.2); named = k.0; free = not-true (is_taken m.name) k.1 })
+    prints_as (matcher_then m rest (and_from (is_name m.name) _ k.0 k.2) done) (λ a b stand. record { sign = operator_sign m.op; value = tokens.Text m.value; stand = stand; compares = (refl, refl, k.2); named = k.0; free = not-true (is_taken m.name) k.1 })
 test_prints (by_quantity t) rest proper stop =
     let k = kept (by_quantity t) proper in
     let sign = comparison_sign t.comparison in
     let text = quantity_text t.quantity in
+    let again = elim t.comparison as (λ c. comparison_of (comparison_sign c) ≡ Some c) [ comparisons.Equal ↦ refl | _ ↦ refl ] in
     let number = quantity_number t.quantity k.2 in
-    let pieces = a_word t.name ∷ a_sign sign ∷ a_number text ∷ [] in
-    let is : quantity_test_text t ++ rest ≡ printed pieces rest = simp append_assoc in
-    let ends : Ends sign (text ++ rest) = subst (λ n. Ends sign (n ++ rest)) (sym number.is) (comparison_ends t.comparison number.first (number.others ++ rest) (no_equal number.first number.digit)) in
-    prints_as (pieces_are pieces rest is (k.0, sign_stops sign (text ++ rest), (ends, (number, stop, tt))))
-    (λ a b stand. record { sign = sign; value = tokens.Number text; stand = stand; compares = (comparison_again t.comparison, (text, refl, quantity_again t.quantity k.2)); named = k.0; free = not-true (is_taken t.name) k.1 })
+    let ends : Ends sign (text ++ rest) = subst (λ n. Ends sign (n ++ rest)) (sym number.is) (comparison_ends t.comparison number.first (number.others ++ rest) (grind (arith, nat_tests, number.digit))) in
+    prints_as (simp append_assoc (token_then (tokens.Word t.name) _ (k.0, sign_stops sign (text ++ rest)) (token_then (tokens.Sign sign) _ ends (token_then (tokens.Number text) rest (number, stop) done))))
+    (λ a b stand. record { sign = sign; value = tokens.Number text; stand = stand; compares = (again, (text, refl, quantity_again t.quantity k.2)); named = k.0; free = not-true (is_taken t.name) k.1 })
 
 -- what is printed of tests is read as tests, at each level with the parentheses that they need there
 abbrev pub RuleAt : Level → Rule → Rule
@@ -102,9 +89,10 @@ parenthesized tests at (suc depth) rest deep stop =
 joined_prints : (join : Join) (l r : TestTree TestForm) → PrintsAt (left_level join) l → PrintsAt (right_level join) r → (depth : ℕ) (rest : List ℕ) → text_depth (joined join l r) ≤ depth → Stops rest → Prints (RuleAt (left_level join) (AreInside depth) (joined join l r)) (tests_text (joined join l r) ++ rest) rest
 joined_prints join l r left right depth rest deep stop =
     let front = enclosed (needs (left_level join) l) (tests_text l) in
+    let stops = elim join as (λ j. Stops (join_text j ++ (enclosed (needs (right_level join) r) (tests_text r) ++ rest))) [ And ↦ refl | Or ↦ refl ] in
     let back = enclosed (needs (right_level join) r) (tests_text r) in
     regrouped (front ++ join_text join) back rest (regrouped front (join_text join) (back ++ rest)
-    (prints_as (then_prints (left depth (join_text join ++ (back ++ rest)) (omega (arith, deep)) (join_stops join (back ++ rest))) (join_prints join (back ++ rest) (right depth rest (omega (arith, deep)) stop))) (by_join join)))
+    (prints_as (then_prints (left depth (join_text join ++ (back ++ rest)) (omega (arith, deep)) stops) (join_prints join (back ++ rest) (right depth rest (omega (arith, deep)) stop))) (by_join join)))
   where
     by_join : (j : Join) (a c : List Lexeme) → Then (RuleAt (left_level j) (AreInside depth) l) (Then (Joins j) (RuleAt (right_level j) (AreInside depth) r)) a c → RuleAt (left_level j) (AreInside depth) (joined j l r) a c
     by_join And a c is = more l r a is.0 is.2.0 c is.1 is.2.1 is.2.2
