@@ -3,7 +3,7 @@ use Rattle.rl_labels.specs.Name.{is_name, is_text}
 use Rattle.rl_labels.specs.laws.LabelLaws.{same_text}
 use Rattle.rl_query.specs.Aggregations.{is_grouping, top_of}
 use Rattle.rl_query.specs.Form.{AggregationForm}
-use Rattle.rl_query.specs.Tables.{operator_word, plain_operator}
+use Rattle.rl_query.specs.Tables.{operator_word, plain_operators, plain_operator}
 use Rattle.rl_query.specs.declared.aggregation.Grouping.TheVariants as groupings
 use Rattle.rl_query.specs.declared.aggregation.Grouping.{Grouping}
 use Rattle.rl_query.specs.declared.aggregation.VectorOperator.TheVariants as operators
@@ -14,7 +14,7 @@ use Rattle.rl_query.specs.declared.token.Token.TheVariants as tokens
 use Rattle.rl_query.specs.declared.token.Token.{Token}
 use Rattle.rl_query_text.proofs.Parentheses.{IsOpened, inside_room, opened_is, opened_read}
 use Rattle.rl_query_text.proofs.Finding.{Finds, found, fault, then, by_test, of_option, next_found, told_by}
-use Rattle.rl_query_text.proofs.Productions.{chosen, named_found, follows, follows_found, behind_first, IsSoundElement, IsCompleteElement, AreListed, listed_found, listed_is, stood, stand_split, stand_then, next_is, expected_found, expected_is, only_sign}
+use Rattle.rl_query_text.proofs.Productions.{First, first_at, text_found, named_found, follows, follows_found, IsSoundElement, IsCompleteElement, listed_found, listed_is, first_listed, stood, stand_split, stand_then, next_is, expected_found, expected_is, only_sign}
 use Rattle.rl_query_text.proofs.TestProductions.{only_word}
 use Rattle.rl_query_text.specs.AggregationReading.{back_at, ended_at, front_at, grouped_at, groups_loudly, grouping_at, is_operator_word, label_name, named_at, names_in, nested, operator_at, top_at, topk_at}
 use Rattle.rl_query_text.specs.Fronts.{expected, is_sign, next}
@@ -25,18 +25,14 @@ use Rattle.rl_query_text.specs.Testing.{is_word}
 use Rattle.rl_query_text.specs.declared.aggregation_reading.Front.{Front}
 use Rattle.rl_query_text.specs.declared.parser.Position.TheVariants as positions
 use Rattle.rl_query_text.specs.declared.room.Room.{Room}
-use Rattle.std.proofs.Common.{cond, List, Ok, Option, Some, [], ap, codes, false, inl, inr, is_some, length, refl, subst, suc, sym, true, zero, ℕ, ⊎_elim, ◌++◌, ◌||◌, ◌∙◌, ◌∷◌, ◌≡◌}
-use Rattle.std.proofs.lemmas.Option.{none-some, same_Some}
+use Rattle.std.proofs.Common.{List, Ok, Option, Some, [], ap, codes, false, inl, inr, is_some, length, refl, subst, suc, sym, true, zero, ℕ, ◌||◌, ◌∙◌, ◌∷◌, ◌≡◌}
+use Rattle.std.proofs.lemmas.Option.{none-some}
 use Rattle.std.specs.List.{list_all}
 
 -- Groupings.
 
 abbrev name_tokens : List ℕ → List Token
 name_tokens name = tokens.Word name ∷ []
-
-names_listed : (name : List ℕ) (names : List (List ℕ)) → names_tokens (name ∷ names) ≡ name_tokens name ++ behind_first name_tokens signs.CloseParenthesis names
-names_listed name [] = refl
-names_listed name (other ∷ others) = ap (λ ts. tokens.Word name ∷ tokens.Sign signs.Comma ∷ ts) (names_listed other others)
 
 label_found : (place : ℕ) (token : Token) → Finds (λ name. (token ≡ tokens.Word name) × (is_name name ≡ true)) (label_name place token)
 label_found place token = then _ (named_found place token) (λ name told. by_test (is_name name) (λ is. found (told, is)) (λ _. fault))
@@ -63,19 +59,17 @@ in_read : (lexemes : List Lexeme) → Finds (λ x. AreNames x.0 lexemes x.1) (na
 unfolding names_in
 in_read lexemes = then _ (next_found lexemes) (λ first stand. by_test (is_sign signs.CloseParenthesis first.0.token)
     (λ none. found (told_by lexemes first.1 (only_sign signs.CloseParenthesis first.0.token none) stand, refl))
-    (λ _. record { is = λ x h. some_names x.0 x.1 ((listed_found name_tokens is_name signs.CloseParenthesis named_at named_read (length lexemes) lexemes).is x h) }))
-  where
-    some_names : (names : List (List ℕ)) (rest : List Lexeme) → AreListed name_tokens is_name signs.CloseParenthesis names lexemes rest → AreNames names lexemes rest
-    some_names [] rest are = absurd are
-    some_names (name ∷ names) rest are = (subst (λ ts. Stand ts lexemes rest) (sym (names_listed name names)) are.0, are.1)
+    (λ _. record {
+      is = λ x h. let are = (listed_found name_tokens is_name signs.CloseParenthesis named_at names_tokens (λ _. refl) (λ _ _ _. refl) named_read (length lexemes) lexemes).is x h in (are.0, are.1);
+    }))
 
 in_is : (names : List (List ℕ)) (lexemes rest : List Lexeme) → AreNames names lexemes rest → names_in lexemes ≡ Ok (names, rest)
 unfolding names_in
 in_is [] lexemes rest are = rw (stood (tokens.Sign signs.CloseParenthesis ∷ []) lexemes rest are.0) refl
 in_is (name ∷ names) lexemes rest are =
-    let stand = subst (λ ts. Stand ts lexemes rest) (names_listed name names) are.0 in
-    let first = next_is (tokens.Word name) (behind_first name_tokens signs.CloseParenthesis names) lexemes rest stand in
-    rw (first.is, listed_is name_tokens is_name signs.CloseParenthesis named_at named_is name names lexemes rest stand are.1) refl
+    let listed = first_listed name_tokens is_name signs.CloseParenthesis named_at names_tokens (λ _. refl) (λ _ _ _. refl) name names in
+    let first = next_is (tokens.Word name) listed.0 lexemes rest (subst (λ ts. Stand ts lexemes rest) listed.1 are.0) in
+    rw (first.is, listed_is name_tokens is_name signs.CloseParenthesis named_at names_tokens (λ _. refl) (λ _ _ _. refl) named_is name names lexemes rest are.0 are.1) refl
 
 -- a word and names in parentheses
 abbrev AreGrouped : (word : List ℕ) → List (List ℕ) → List Lexeme → List Lexeme → Type 0
@@ -111,20 +105,15 @@ pub grouping_named : (room : Room) (lexemes : List Lexeme) (grouping : Grouping)
 grouping_named room lexemes grouping rest h = ((grouping_read room lexemes).is (grouping, rest) h).1
 
 -- no grouping comes
-pub record EndsTerm (lexemes : List Lexeme) : Type 0 where
-  pub first : Lexeme
-  pub behind : List Lexeme
-  pub is : next lexemes ≡ Ok (first, behind)
-  pub no_by : is_word (codes "by") first.token ≡ false
-  pub no_without : is_word (codes "without") first.token ≡ false
-  pub no_loud : groups_loudly first.token ≡ false
+abbrev pub ends_term : Token → Type 0
+ends_term token = (is_word (codes "by") token ≡ false) × (is_word (codes "without") token ≡ false) × (groups_loudly token ≡ false)
 
-unfoldable pub ends_term_at : (token : Token) (others : List Token) (lexemes rest : List Lexeme) → Stand (token ∷ others) lexemes rest → is_word (codes "by") token ≡ false → is_word (codes "without") token ≡ false → groups_loudly token ≡ false → EndsTerm lexemes
-ends_term_at token others lexemes rest stand no_by no_without no_loud = let n = next_is token others lexemes rest stand in record { first = record { token = token; place = n.place }; behind = n.behind; is = n.is; no_by = no_by; no_without = no_without; no_loud = no_loud }
+abbrev pub EndsTerm : List Lexeme → Type 0
+EndsTerm = First ends_term
 
 grouping_is : (room : Room) (depth : ℕ) (grouping : Grouping) (lexemes rest : List Lexeme) → room.depth ≡ suc depth → IsGrouping grouping lexemes rest → EndsTerm rest → grouping_at room lexemes ≡ Ok (grouping, rest)
 unfolding grouping_at
-grouping_is room depth groupings.All lexemes rest deep is ends = rw (is.0, ends.is, ends.no_by, ends.no_without, ends.no_loud) refl
+grouping_is room depth groupings.All lexemes rest deep is ends = rw (is.0, ends.is, ends.passes.0, ends.passes.1, ends.passes.2) refl
 grouping_is room depth (groupings.By names) lexemes rest deep is ends = let a = grouped_is room depth (codes "by") names lexemes rest deep is in rw (a.2, a.3) refl
 grouping_is room depth (groupings.Without names) lexemes rest deep is ends = let a = grouped_is room depth (codes "without") names lexemes rest deep is in rw (a.2, a.3) refl
 
@@ -134,43 +123,26 @@ top_at_found : (place : ℕ) (token : Token) → Finds (λ k. (number : List ℕ
 top_at_found place (tokens.Number number) = of_option Ok (top_of number) (λ k is. found (number, refl, is)) (λ _. fault)
 top_at_found place _ = fault
 
-topk_found : (lexemes : List Lexeme) → Finds (λ x. (codes "topk" ≡ operator_word x.0) × IsParameter x.0 lexemes x.1) (topk_at lexemes)
+-- an operator without a number of elements
+no_parameter : (word : List ℕ) (operator : VectorOperator) (lexemes : List Lexeme) → plain_operator word ≡ Some operator → word ≡ operator_word operator → IsParameter operator lexemes lexemes
+no_parameter word (operators.Topk k) lexemes h is = absurd (none-some _ (subst (λ w. plain_operator w ≡ Some (operators.Topk k)) is h))
+no_parameter word _ lexemes h is = refl
+
+operator_found : (word : List ℕ) (lexemes : List Lexeme) → is_operator_word word ≡ true → Finds (λ x. (word ≡ operator_word x.0) × IsParameter x.0 lexemes x.1) (operator_at word lexemes)
 unfolding topk_at
-topk_found lexemes =
+operator_found word lexemes is = of_option _ (plain_operator word)
+    (λ operator plain. let known = text_found operator_word word plain_operators operator plain in found (known, no_parameter word operator lexemes plain known))
+    (λ none. let topk : is_text word (codes "topk") ≡ true = sym (ap (λ (o : Option VectorOperator). is_some o || is_text word (codes "topk")) none) ∙ is in
     then _ (next_found lexemes) (λ first stand.
     then _ (top_at_found first.0.place first.0.token) (λ top number.
     then _ (expected_found signs.Comma positions.Elsewhere first.1) (λ behind comma.
-    found (refl, (number.0, stand_then (tokens.Number number.0 ∷ []) (tokens.Sign signs.Comma ∷ []) lexemes first.1 behind (told_by lexemes first.1 number.1 stand) comma, number.2)))))
-
--- the word of an operator without a number of elements
-record IsPlain (word : List ℕ) (operator : VectorOperator) : Type 0 where
-  pub word_is : word ≡ operator_word operator
-  pub none : (lexemes : List Lexeme) → IsParameter operator lexemes lexemes
-
-plain_read : (word : List ℕ) (operator : VectorOperator) → plain_operator word ≡ Some operator → IsPlain word operator
-plain_read word operator h = this operators.Sum _ (λ ls. refl) (this operators.Count _ (λ ls. refl) (this operators.Min _ (λ ls. refl) (this operators.Max _ (λ ls. refl) (λ none. absurd (none-some operator none))))) h
-  where
-    this : (found : VectorOperator) (others : Option VectorOperator) → ((ls : List Lexeme) → IsParameter found ls ls) → (others ≡ Some operator → IsPlain word operator) → cond (is_text word (operator_word found)) (Some found) others ≡ Some operator → IsPlain word operator
-    this found others none other h =
-        let plain : is_text word (operator_word found) ≡ true → IsPlain word found = λ is. record { word_is = same_text word (operator_word found) is; none = none } in
-        ⊎_elim (λ yes. subst (IsPlain word) (same_Some found operator yes.1) (plain yes.0)) (λ no. other no.1) (chosen (is_text word (operator_word found)) (Some found) others (Some operator) h)
-
-operator_found : (word : List ℕ) (lexemes : List Lexeme) → is_operator_word word ≡ true → Finds (λ x. (word ≡ operator_word x.0) × IsParameter x.0 lexemes x.1) (operator_at word lexemes)
-operator_found word lexemes is = of_option _ (plain_operator word)
-    (λ operator plain. let known = plain_read word operator plain in found (known.word_is, known.none lexemes))
-    (λ none. let topk : is_text word (codes "topk") ≡ true = sym (ap (λ (o : Option VectorOperator). is_some o || is_text word (codes "topk")) none) ∙ is in
-    record { is = λ x h. let read = (topk_found lexemes).is x h in (same_text word (codes "topk") topk ∙ read.0, read.1) })
-
-topk_is : (k : ℕ) (lexemes rest : List Lexeme) → IsParameter (operators.Topk k) lexemes rest → topk_at lexemes ≡ Ok (operators.Topk k, rest)
-unfolding topk_at expected
-topk_is k lexemes rest is = rw (stood (tokens.Number is.0 ∷ tokens.Sign signs.Comma ∷ []) lexemes rest is.1, is.2) refl
+    let there = stand_then (tokens.Number number.0 ∷ []) (tokens.Sign signs.Comma ∷ []) lexemes first.1 behind (told_by lexemes first.1 number.1 stand) comma in
+    found (same_text word (codes "topk") topk, (number.0, there, number.2))))))
 
 operator_is : (operator : VectorOperator) (lexemes rest : List Lexeme) → IsParameter operator lexemes rest → operator_at (operator_word operator) lexemes ≡ Ok (operator, rest)
-operator_is operators.Sum lexemes rest is = ap (λ r. Ok (operators.Sum, r)) is
-operator_is operators.Count lexemes rest is = ap (λ r. Ok (operators.Count, r)) is
-operator_is operators.Min lexemes rest is = ap (λ r. Ok (operators.Min, r)) is
-operator_is operators.Max lexemes rest is = ap (λ r. Ok (operators.Max, r)) is
-operator_is (operators.Topk k) lexemes rest is = topk_is k lexemes rest is
+unfolding topk_at expected
+operator_is (operators.Topk k) lexemes rest is = rw (stood (tokens.Number is.0 ∷ tokens.Sign signs.Comma ∷ []) lexemes rest is.1, is.2) refl
+operator_is operator lexemes rest is = ap (λ r. Ok (operator, r)) is
 
 pub word_of_operator : (operator : VectorOperator) → is_operator_word (operator_word operator) ≡ true
 word_of_operator operators.Sum = refl
@@ -201,21 +173,15 @@ front_found word nest room lexemes is =
     found (record { behind_grouping = grouping.1; behind_parenthesis = behind.1; fewer = fewer; grouped = grouped; opened = opened; word_is = known.0; parameter = known.1 })))))
 
 -- the grouping behind a term
-pub record IsBack (front grouping : Grouping) (lexemes rest : List Lexeme) : Type 0 where
-  pub back : Grouping
-  pub grouped : IsGrouping back lexemes rest
-  pub one_side : OneSide front back grouping
-
-back_found : (front : Grouping) (room : Room) (lexemes : List Lexeme) → Finds (λ x. IsBack front x.0 lexemes x.1) (back_at front room lexemes)
-back_found groupings.All room lexemes = record { is = λ x h. record { back = x.0; grouped = (grouping_read room lexemes).is x h; one_side = inr (refl, refl) } }
-back_found (groupings.By names) room lexemes = found (record { back = groupings.All; grouped = (refl, refl); one_side = inl (refl, refl) })
-back_found (groupings.Without names) room lexemes = found (record { back = groupings.All; grouped = (refl, refl); one_side = inl (refl, refl) })
+back_found : (front : Grouping) (room : Room) (lexemes : List Lexeme) → Finds (λ x. (back : Grouping) × IsGrouping back lexemes x.1 × OneSide front back x.0) (back_at front room lexemes)
+back_found groupings.All room lexemes = record { is = λ x h. (x.0, (grouping_read room lexemes).is x h, inr (refl, refl)) }
+back_found _ room lexemes = found (groupings.All, (refl, refl), inl (refl, refl))
 
 pub record IsEnded (front : Front) (aggregation : AggregationForm) (lexemes rest : List Lexeme) : Type 0 where
   pub behind : List Lexeme
   pub closed : Stand (tokens.Sign signs.CloseParenthesis ∷ []) lexemes behind
   pub operator : front.operator ≡ aggregation.operator
-  pub back : IsBack front.grouping aggregation.grouping behind rest
+  pub back : (back : Grouping) × IsGrouping back behind rest × OneSide front.grouping back aggregation.grouping
 
 pub ended_found : (front : Front) (room : Room) (lexemes : List Lexeme) → Finds (λ x. IsEnded front x.0 lexemes x.1) (ended_at front room lexemes)
 unfolding ended_at
@@ -232,7 +198,7 @@ pub front_is : (operator : VectorOperator) (grouping : Grouping) (fewer : ℕ) (
     → IsParameter operator behind_parenthesis rest → front_at (operator_word operator) (suc fewer) room lexemes ≡ Ok (front_of operator grouping fewer (inside_room room depth), rest)
 unfolding front_at
 front_is operator grouping fewer room depth lexemes behind_grouping behind_parenthesis rest deep grouped opened parameter =
-    let ends = ends_term_at (tokens.Sign signs.OpenParenthesis) [] behind_grouping behind_parenthesis opened refl refl refl in
+    let ends = first_at (tokens.Sign signs.OpenParenthesis) [] behind_grouping behind_parenthesis opened (refl, refl, refl) in
     rw (grouping_is room depth grouping lexemes behind_grouping deep grouped ends, opened_is positions.Elsewhere room depth behind_grouping behind_parenthesis deep opened, operator_is operator behind_parenthesis rest parameter) refl
 
 back_is : (room : Room) (depth : ℕ) (front back grouping : Grouping) (lexemes rest : List Lexeme) → room.depth ≡ suc depth → OneSide front back grouping → IsGrouping back lexemes rest → EndsTerm rest → back_at front room lexemes ≡ Ok (grouping, rest)

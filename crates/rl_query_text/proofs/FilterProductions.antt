@@ -1,10 +1,9 @@
 -- The productions of line filters: what is read is derived, and what is derived is read.
-use Rattle.std.proofs.Common.{◌≡◌, ℕ, zero, suc, Bool, true, List, [], ◌∷◌, Some, None, is_some, Ok, refl, ap, subst, arith}
+use Rattle.std.proofs.Common.{◌≡◌, ℕ, zero, suc, Bool, true, List, [], ◌∷◌, Some, None, is_some, Ok, refl, subst, arith}
 use Rattle.std.specs.List.{list_all}
 use Rattle.std.specs.Option.{option_map_or}
 use Rattle.std.proofs.lemmas.Bool.{and_parts, and_from}
 use Rattle.rl_plain.specs.Answers.{◌>>=◌}
-use Rattle.std.proofs.lemmas.Option.{none-some, same_Some}
 use Rattle.rl_query.specs.declared.filter.LineOp.{LineOp}
 use Rattle.rl_query.specs.declared.filter.LineOp.TheVariants as lines
 use Rattle.rl_query.specs.declared.token.Lexeme.{Lexeme}
@@ -20,18 +19,12 @@ use Rattle.rl_query_text.specs.Parsing.{filter_op, filter_text, filter_at, filte
 use Rattle.rl_query_text.proofs.Finding.{Finds, found, fault, then, by_test, of_option, checked, next_found, told_by}
 use Rattle.rl_query_text.specs.Stops.{stop}
 use Rattle.rl_query.specs.declared.fault.QueryFault.TheVariants as faults
-use Rattle.rl_query_text.proofs.Productions.{stood, stand_split, stand_then, next_is}
-
-abbrev pub are_proper_filters : List FilterForm → Bool
-are_proper_filters = list_all (λ filter. is_filter filter.op filter.text)
+use Rattle.rl_query_text.proofs.Productions.{stood, stand_split, stand_then, First, first_at}
 
 pub op_read : (t : Token) (op : LineOp) → filter_op t ≡ Some op → t ≡ tokens.Sign (filter_sign op)
-op_read (tokens.Sign signs.Contains) op h = ap (λ o. tokens.Sign (filter_sign o)) (same_Some lines.Contains op h)
-op_read (tokens.Sign signs.NotEqual) op h = ap (λ o. tokens.Sign (filter_sign o)) (same_Some lines.Lacks op h)
-op_read (tokens.Sign signs.ContainsMatch) op h = ap (λ o. tokens.Sign (filter_sign o)) (same_Some lines.Matches op h)
-op_read (tokens.Sign signs.NotMatches) op h = ap (λ o. tokens.Sign (filter_sign o)) (same_Some lines.NotMatches op h)
-op_read (tokens.Sign _) op h = absurd (none-some op h)
-op_read _ op h = absurd (none-some op h)
+op_read (tokens.Sign signs.Contains) op h = cc
+op_read (tokens.Sign _) op h = cc
+op_read _ op h = cc
 
 pub op_is : (op : LineOp) → filter_op (tokens.Sign (filter_sign op)) ≡ Some op
 op_is lines.Contains = refl
@@ -69,22 +62,19 @@ filters_read (suc most) lexemes =
     (λ _. found (no_filters (suc most) lexemes)))
 
 -- what stands behind the line filters, and begins none
-pub record Stops (lexemes : List Lexeme) : Type 0 where
-  pub first : Lexeme
-  pub behind : List Lexeme
-  pub is : next lexemes ≡ Ok (first, behind)
-  pub none : filter_op first.token ≡ None
+abbrev pub Stops : List Lexeme → Type 0
+Stops = First (λ token. filter_op token ≡ None)
 
 pub filters_are : (most : ℕ) (filters : List FilterForm) (lexemes rest : List Lexeme) → AreFilters most filters lexemes rest → Stops rest → filters_at most lexemes ≡ Ok (filters, rest)
 unfolding filters_at filter_at
-filters_are zero [] lexemes rest are stops = rw (are.stand, stops.is, stops.none) refl
-filters_are (suc most) [] lexemes rest are stops = rw (are.stand, stops.is, stops.none) refl
+filters_are zero [] lexemes rest are stops = rw (are.stand, stops.is, stops.passes) refl
+filters_are (suc most) [] lexemes rest are stops = rw (are.stand, stops.is, stops.passes) refl
 filters_are zero (f ∷ filters) lexemes rest are stops = absurd (omega (arith, are.few))
 filters_are (suc most) (f ∷ filters) lexemes rest are stops =
-    let parts = and_parts (is_filter f.op f.text) (are_proper_filters filters) are.proper in
+    let parts = and_parts (is_filter f.op f.text) _ are.proper in
     let split = stand_split (filter_tokens f) (filters_tokens filters) lexemes rest are.stand in
     rw (stood (filter_tokens f) lexemes split.0 split.1, op_is f.op, parts.0, filters_are most filters split.0 rest (record { stand = split.2; proper = parts.1; few = omega (arith, are.few) }) stops) refl
 
 -- a sign or the end begins no line filter
 pub stops_at : (token : Token) (others : List Token) (lexemes rest : List Lexeme) → Stand (token ∷ others) lexemes rest → filter_op token ≡ None → Stops lexemes
-stops_at token others lexemes rest stand none = let a = next_is token others lexemes rest stand in record { first = record { token = token; place = a.place }; behind = a.behind; is = a.is; none = none }
+stops_at = first_at

@@ -33,9 +33,7 @@ stop_told view lexemes reading (errors.Fault stop) error fails (inr room) = rw f
 -- a text behind a sign of patterns, at a place among tokens
 pub pattern_found : (behind_sign : Bool) (lexemes : List Lexeme) (i : ℕ) (text : Lexeme) → i < length lexemes → text ≡ get_or lexemes i text → is_content text.token ≡ true → ends_before_pattern behind_sign (take i lexemes) ≡ true → has_pattern_token behind_sign lexemes ≡ true
 pattern_found behind_sign [] i text within is content sign = absurd (omega (arith, within))
-pattern_found behind_sign (l ∷ ls) zero text within is content sign =
-    let others = has_pattern_token (precedes_pattern l.token) ls in
-    ap (λ b. b && is_content l.token || others) sign ∙ ap (λ (t : Lexeme). is_content t.token || others) (sym is) ∙ ap (λ b. b || others) content
+pattern_found behind_sign (l ∷ ls) zero text within is content sign = rw (sign, sym is, content) refl
 pattern_found behind_sign (l ∷ ls) (suc i) text within is content sign = ap (λ b. behind_sign && is_content l.token || b) (pattern_found (precedes_pattern l.token) ls i text (omega (arith, within)) is content sign) ∙ or-true _
 
 -- it has no room, so that a pattern of the tokens has none
@@ -61,8 +59,6 @@ read_of (Err stop) x h = cc
 pub refused_read : {X Y : Type 0} (view : X → Y) (reading : Result Y Stop) (lexemes : List Lexeme) (error : OrMemory QueryFault) (y : Y) (patterned : Bool) → reading ≡ Ok y → has_pattern_token false lexemes ≡ patterned
     → Reads view (Err error) (fault_of reading) (meets_pattern reading lexemes) → IsForRoom patterned error
 refused_read view reading lexemes errors.Memory y patterned is patterns h = tt
-refused_read {X} {Y} view reading lexemes (errors.Fault fault) y patterned is patterns (inl read) =
-    let both : ◌≡◌ {A = Result Y QueryFault} (Ok y) (Err fault) = sym (ap fault_of is) ∙ read in
-    cc
+refused_read view reading lexemes (errors.Fault fault) y patterned is patterns (inl read) = cc (ap fault_of is)
 refused_read view reading lexemes (errors.Fault fault) y patterned is patterns (inr h) =
     subst (λ f. IsForRoom patterned (errors.Fault f)) (sym h.0) (sym patterns ∙ sym (ap (λ r. meets_pattern r lexemes) is) ∙ h.1)

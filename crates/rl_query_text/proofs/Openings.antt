@@ -1,6 +1,6 @@
 -- What is inside takes a parenthesis, and reads as what it is inside of reads it.
-use Rattle.std.proofs.Common.{◌≡◌, ℕ, suc, List, Result, Ok, refl, sym, ap, ◌∙◌}
-use Rattle.rl_plain.specs.Answers.{◌>>=◌, Fails}
+use Rattle.std.proofs.Common.{◌≡◌, ℕ, suc, List, Result, Ok, Err, IsErrAnd, refl, ap}
+use Rattle.rl_plain.specs.Answers.{◌>>=◌, Fails, Gives}
 use Rattle.rl_plain.specs.declared.refusal.OrMemory.{OrMemory}
 use Rattle.rl_plain.specs.declared.refusal.OrMemory.TheVariants as errors
 use Rattle.rl_query.specs.declared.token.Lexeme.{Lexeme}
@@ -14,7 +14,7 @@ use Rattle.rl_query_text.specs.declared.stop.Stop.{Stop}
 use Rattle.rl_query_text.specs.AggregationReading.{nested, grouping_at, operator_at, front_at, ended_at}
 use Rattle.rl_query_text.specs.Fronts.{next, expected}
 use Rattle.rl_query_text.specs.Parsing.{opened_at}
-use Rattle.rl_query_text.specs.QueryReading.{Reader, TermReader, in_parentheses, around, aggregated_at, worded_at, begun_at, term_by, term_in}
+use Rattle.rl_query_text.specs.QueryReading.{Reader, in_parentheses, around, aggregated_at, worded_at, term_by, term_in}
 use Rattle.rl_query_text.specs.Stops.{place_of}
 use Rattle.rl_query_text.proofs.Parentheses.{opened_read}
 use Rattle.rl_query_text.proofs.Finding.{Finds, found, itself, then}
@@ -24,41 +24,31 @@ pub first_stops : {A B : Type 0} (e : OrMemory Stop) (first : Result A Stop) (be
 first_stops errors.Memory first behind h = tt
 first_stops (errors.Fault stop) first behind h = ap (λ r. r >>= behind) h
 
+-- what a `?` returns is the fault of the reading
+pub fails_on : {X Y : Type 0} (view : X → Y) (e : OrMemory Stop) (result : Result X (OrMemory Stop)) (read : Result Y Stop) → IsErrAnd result (λ y. y ≡ e) → Fails e read → Gives view result read
+fails_on view e (Ok x) read is fails = absurd is
+fails_on view e (Err y) read is fails = rw is fails
+
 -- a vector aggregation takes a parenthesis
 pub front_depth : (word : List ℕ) (nest : ℕ) (room : Room) (lexemes : List Lexeme) (front : Front) (opened : List Lexeme) → front_at word nest room lexemes ≡ Ok (front, opened) → room.depth ≡ suc front.room.depth
 unfolding front_at
-front_depth word nest room lexemes front opened h = depths.is (front, opened) h
-  where
-    depths : Finds (λ x. room.depth ≡ suc x.0.room.depth) (front_at word nest room lexemes)
-    depths =
+front_depth word nest room lexemes front opened h =
+    let depths : Finds (λ x. room.depth ≡ suc x.0.room.depth) (front_at word nest room lexemes) =
         then _ (itself (nested (place_of lexemes) nest)) (λ _ _.
         then _ (itself (grouping_at room lexemes)) (λ grouping _.
         then _ (opened_read positions.Elsewhere room grouping.1) (λ opened is.
-        then _ (itself (operator_at word opened.1)) (λ _ _. found is.depth))))
+        then _ (itself (operator_at word opened.1)) (λ _ _. found (ap (λ (r : Room). r.depth) is.around))))) in
+    depths.is (front, opened) h
 
 -- what stands in parentheses, behind the first
 pub opened_reads : {A : Type 0} (reader : ℕ → Reader A) (position : Position) (room inside : Room) (lexemes opened : List Lexeme) → opened_at position room lexemes ≡ Ok (inside, opened)
     → in_parentheses position (reader room.depth) room lexemes ≡ (reader (suc inside.depth) inside opened >>= λ read. expected signs.CloseParenthesis positions.BehindTerm read.1 >>= λ closed. Ok (read.0, closed))
 unfolding in_parentheses
 opened_reads reader position room inside lexemes opened parenthesis =
-    rw (parenthesis, ((opened_read position room lexemes).is (inside, opened) parenthesis).depth) refl
+    rw (parenthesis, ap (λ (r : Room). r.depth) ((opened_read position room lexemes).is (inside, opened) parenthesis).around) refl
 
 -- a vector aggregation, behind what stands before its term
-pub aggregated_by : (inside : TermReader) (word : List ℕ) (nest : ℕ) (room : Room) (lexemes opened : List Lexeme) (front : Front) → front_at word nest room lexemes ≡ Ok (front, opened)
-    → aggregated_at inside word nest room lexemes ≡ (inside positions.InTerm front.nest front.room opened >>= λ term. ended_at front room term.1 >>= λ closed. Ok (around closed.0 term.0, closed.1))
-unfolding aggregated_at
-aggregated_by inside word nest room lexemes opened front before = rw before refl
-
--- the same of what takes a parenthesis
 pub front_reads : (word : List ℕ) (nest : ℕ) (room : Room) (lexemes opened : List Lexeme) (front : Front) → front_at word nest room lexemes ≡ Ok (front, opened)
     → aggregated_at (term_in room.depth) word nest room lexemes ≡ (term_in (suc front.room.depth) positions.InTerm front.nest front.room opened >>= λ term. ended_at front room term.1 >>= λ closed. Ok (around closed.0 term.0, closed.1))
-front_reads word nest room lexemes opened front before =
-    aggregated_by (term_in room.depth) word nest room lexemes opened front before
-    ∙ ap (λ n. term_in n positions.InTerm front.nest front.room opened >>= λ term. ended_at front room term.1 >>= λ closed. Ok (around closed.0 term.0, closed.1)) (front_depth word nest room lexemes front opened before)
-
--- a term that begins with a word
-pub word_reads : (position : Position) (nest : ℕ) (room : Room) (lexemes behind : List Lexeme) (first : Lexeme) (word : List ℕ) → next lexemes ≡ Ok (first, behind) → first.token ≡ tokens.Word word
-    → worded_at (term_in room.depth) position first.place word nest room behind ≡ term_in (suc room.depth) position nest room lexemes
-unfolding term_by
-word_reads position nest room lexemes behind first word is token =
-    sym (ap (λ r. r >>= λ found. begun_at (term_in room.depth) position found.0.place found.0.token nest room lexemes found.1) is ∙ ap (λ t. begun_at (term_in room.depth) position first.place t nest room lexemes behind) token)
+unfolding aggregated_at
+front_reads word nest room lexemes opened front before = rw (before, front_depth word nest room lexemes front opened before) refl

@@ -10,41 +10,49 @@ use Rattle.rl_query.specs.declared.token.Token.TheVariants as tokens
 use Rattle.rl_query_text.specs.Parsing.{deeper, opened_at}
 use Rattle.rl_query_text.specs.QueryReading.{Reader, in_parentheses}
 use Rattle.rl_query_text.specs.Standing.{Stand}
+use Rattle.rl_query_text.specs.TermGrammar.{Rule, InParentheses}
 use Rattle.rl_query_text.proofs.Finding.{Finds, found, fault, then}
 use Rattle.rl_query_text.proofs.Productions.{expected_found, expected_is}
 
--- the room inside a parenthesis
+-- the room inside a parenthesis, and around one
 abbrev pub inside_room : Room → ℕ → Room
 inside_room room depth = record { depth = depth; stages = room.stages; tests = room.tests }
+
+abbrev pub outside : Room → Room
+outside inside = record { depth = suc inside.depth; stages = inside.stages; tests = inside.tests }
 
 -- a parenthesis that was opened
 pub record IsOpened (room inside : Room) (lexemes behind : List Lexeme) : Type 0 where
   pub stand : Stand (tokens.Sign signs.OpenParenthesis ∷ []) lexemes behind
-  pub depth : room.depth ≡ suc inside.depth
-  pub stages : inside.stages ≡ room.stages
-  pub tests : inside.tests ≡ room.tests
+  pub around : room ≡ outside inside
+
+deeper_found : (place depth : ℕ) (room : Room) → Finds (λ inside. inside_room room depth ≡ outside inside) (deeper place depth room)
+deeper_found place zero room = fault
+deeper_found place (suc depth) room = found refl
 
 pub opened_read : (position : Position) (room : Room) (lexemes : List Lexeme) → Finds (λ x. IsOpened room x.0 lexemes x.1) (opened_at position room lexemes)
 unfolding opened_at
-opened_read position room lexemes = then _ (expected_found signs.OpenParenthesis position lexemes) (λ behind stand. then _ (by_depth behind stand room.depth refl) (λ inside is. found is))
-  where
-    by_depth : (behind : List Lexeme) → Stand (tokens.Sign signs.OpenParenthesis ∷ []) lexemes behind → (depth : ℕ) → room.depth ≡ depth → Finds (λ inside. IsOpened room inside lexemes behind) (deeper (place_of lexemes) depth room)
-    by_depth behind stand zero is = fault
-    by_depth behind stand (suc depth) is = found (record { stand = stand; depth = is; stages = refl; tests = refl })
+opened_read position room lexemes =
+    then _ (expected_found signs.OpenParenthesis position lexemes) (λ behind stand. then _ (deeper_found (place_of lexemes) room.depth room) (λ inside is. found (record { stand = stand; around = is })))
 
 pub opened_is : (position : Position) (room : Room) (depth : ℕ) (lexemes behind : List Lexeme) → room.depth ≡ suc depth → Stand (tokens.Sign signs.OpenParenthesis ∷ []) lexemes behind → opened_at position room lexemes ≡ Ok (inside_room room depth, behind)
 unfolding opened_at
 opened_is position room depth lexemes behind is stand = rw (expected_is signs.OpenParenthesis position lexemes behind stand, is) refl
 
+-- what stands in parentheses, told otherwise
+pub inside_told : {Inside Told : Rule} {lexemes rest : List Lexeme} → ((behind end : List Lexeme) → Inside behind end → Told behind end) → InParentheses Inside lexemes rest
+    → InParentheses Told lexemes rest
+inside_told told p = record { behind = p.behind; end = p.end; opened = p.opened; inside = told p.behind p.end p.inside; closed = p.closed }
+
 -- what is read in parentheses
-pub parentheses_read : {A : Type 0} (Inside : Room → A → List Lexeme → List Lexeme → Type 0) (position : Position) (inside : Reader A) (room : Room) (lexemes : List Lexeme) → ((room : Room) (lexemes : List Lexeme) → Finds (λ x. Inside room x.0 lexemes x.1) (inside room lexemes))
-    → Finds (λ x. (deeper : Room) × (behind : List Lexeme) × (end : List Lexeme) × IsOpened room deeper lexemes behind × Inside deeper x.0 behind end × Stand (tokens.Sign signs.CloseParenthesis ∷ []) end x.1) (in_parentheses position inside room lexemes)
+pub parentheses_read : {A : Type 0} (Inside : Room → A → Rule) (position : Position) (inside : Reader A) (room : Room) (lexemes : List Lexeme) → ((room : Room) (lexemes : List Lexeme) → Finds (λ x. Inside room x.0 lexemes x.1) (inside room lexemes))
+    → Finds (λ x. (deeper : Room) × (room ≡ outside deeper) × InParentheses (Inside deeper x.0) lexemes x.1) (in_parentheses position inside room lexemes)
 unfolding in_parentheses
 parentheses_read Inside position inside room lexemes sound =
     then _ (opened_read position room lexemes) (λ opened is.
     then _ (sound opened.0 opened.1) (λ read inner.
     then _ (expected_found signs.CloseParenthesis positions.BehindTerm read.1) (λ rest closed.
-    found (opened.0, opened.1, read.1, is, inner, closed))))
+    found (opened.0, is.around, record { behind = opened.1; end = read.1; opened = is.stand; inside = inner; closed = closed }))))
 
 pub parentheses_are : {A : Type 0} (position : Position) (inside : Reader A) (room : Room) (depth : ℕ) (x : A) (lexemes behind end rest : List Lexeme) → room.depth ≡ suc depth → Stand (tokens.Sign signs.OpenParenthesis ∷ []) lexemes behind
     → Stand (tokens.Sign signs.CloseParenthesis ∷ []) end rest → inside (inside_room room depth) behind ≡ Ok (x, end) → in_parentheses position inside room lexemes ≡ Ok (x, rest)

@@ -1,13 +1,14 @@
 -- The productions of selectors: what is read is derived, and what is derived is read.
-use Rattle.std.proofs.Common.{◌≡◌, append_assoc, length-append, drop, inl, inr, ◌⊎◌, ℕ, zero, suc, ◌≤◌, Bool, true, false, cond, not, ◌&&◌, List, [], ◌∷◌, ◌++◌, Option, Some, Result, Ok, Err, length, refl, sym, ap, subst, ◌∙◌, arith}
-use Rattle.std.specs.List.{list_all}
-use Rattle.std.proofs.lemmas.Bool.{true≢false, and_parts, and_from, cond-true, cond-false}
+use Rattle.std.proofs.Common.{◌≡◌, append_assoc, length-append, drop, inl, inr, ◌⊎◌, ℕ, zero, suc, ⊎_elim, ◌≤◌, Bool, true, false, cond, not, List, [], ◌∷◌, ◌++◌, Some, Result, Ok, Err, length, refl, sym, ap, subst, ◌∙◌, arith}
+use Rattle.std.specs.List.{find, list_all}
+use Rattle.std.proofs.lemmas.Option.{same_Some}
+use Rattle.std.proofs.lemmas.Bool.{true≢false, and_parts, and_from, not-false, cond-true}
 use Rattle.rl_labels.specs.Name.{is_name, is_text}
 use Rattle.rl_labels.specs.Operators.{is_comparable}
 use Rattle.rl_labels.specs.laws.LabelLaws.{same_text, is_text_itself}
 use Rattle.rl_labels.specs.declared.matcher.MatchOp.{MatchOp}
 use Rattle.rl_labels.specs.declared.matcher.MatchOp.TheVariants as operators
-use Rattle.rl_query_text.specs.Stops.{stop, syntax, place_of}
+use Rattle.rl_query_text.specs.Stops.{stop, place_of}
 use Rattle.rl_query_text.specs.declared.stop.Stop.{Stop}
 use Rattle.rl_query.specs.declared.fault.QueryFault.TheVariants as faults
 use Rattle.rl_query_text.specs.declared.parser.Position.{Position}
@@ -29,6 +30,12 @@ use Rattle.rl_query_text.proofs.Finding.{Finds, found, fault, itself, then, by_t
 pub chosen : {A : Type 0} (b : Bool) (x y z : A) → cond b x y ≡ z → ((b ≡ true) × (x ≡ z)) ⊎ ((b ≡ false) × (y ≡ z))
 chosen true x y z h = inl (refl, h)
 chosen false x y z h = inr (refl, h)
+
+-- what is found by its text has it
+pub text_found : {A : Type 0} (text : A → List ℕ) (word : List ℕ) (xs : List A) (x : A) → find (λ y. is_text word (text y)) xs ≡ Some x → word ≡ text x
+text_found text word [] x is = cc
+text_found text word (y ∷ ys) x is =
+    ⊎_elim (λ yes. same_text word (text y) yes.0 ∙ ap text (same_Some y x yes.1)) (λ other. text_found text word ys x other.1) (chosen (is_text word (text y)) _ _ _ is)
 
 -- tokens that stand at the front, and others behind them
 pub stand_then : (front others : List Token) (lexemes behind rest : List Lexeme) → Stand front lexemes behind → Stand others behind rest → Stand (front ++ others) lexemes rest
@@ -58,6 +65,19 @@ pub next_is : (token : Token) (others : List Token) (lexemes rest : List Lexeme)
 next_is token others [] rest stand = absurd stand
 next_is token others (l ∷ lexemes) rest stand = record { place = l.place; behind = lexemes; is = ap (λ t. Ok (record { token = t; place = l.place }, lexemes)) stand.0; more = stand.1 }
 
+-- the token at the front passes a test
+pub record First (Passes : Token → Type 0) (lexemes : List Lexeme) : Type 0 where
+  pub first : Lexeme
+  pub behind : List Lexeme
+  pub is : next lexemes ≡ Ok (first, behind)
+  pub passes : Passes first.token
+
+pub first_at : {Passes : Token → Type 0} (token : Token) (others : List Token) (lexemes rest : List Lexeme) → Stand (token ∷ others) lexemes rest → Passes token → First Passes lexemes
+first_at token others lexemes rest stand passes = let n = next_is token others lexemes rest stand in record { first = record { token = token; place = n.place }; behind = n.behind; is = n.is; passes = passes }
+
+pub first_half : {Passes Others : Token → Type 0} {lexemes : List Lexeme} → First (λ token. Passes token × Others token) lexemes → First Passes lexemes
+first_half first = record { first = first.first; behind = first.behind; is = first.is; passes = first.passes.0 }
+
 -- signs, by what they are written as
 sign_read : (s : Sign) → sign_at (sign_text s) ≡ Some (s, [])
 sign_read signs.OpenBrace = refl
@@ -65,8 +85,7 @@ sign_read _ = refl
 
 one_sign : (s t : Sign) → is_text (sign_text s) (sign_text t) ≡ true → s ≡ t
 one_sign s t h =
-    let both : ◌≡◌ {A = Option (Sign × List ℕ)} (Some (s, [])) (Some (t, [])) = sym (sign_read s) ∙ ap sign_at (same_text (sign_text s) (sign_text t) h) ∙ sign_read t in
-    let pairs : ◌≡◌ {A = Sign × List ℕ} (s, []) (t, []) = cc in
+    let pairs : ◌≡◌ {A = Sign × List ℕ} (s, []) (t, []) = cc (sign_read s, ap sign_at (same_text (sign_text s) (sign_text t) h), sign_read t) in
     ap (λ (p : Sign × List ℕ). p.0) pairs
 
 pub only_sign : (s : Sign) (t : Token) → is_sign s t ≡ true → t ≡ tokens.Sign s
@@ -113,17 +132,8 @@ operator_is place operators.Equal = refl
 operator_is place _ = refl
 
 checked_found : (place : ℕ) (m : MatcherForm) → Finds (λ made. (is_matcher m ≡ true) × (m ≡ made)) (checked_matcher place m)
-checked_found place m = by_tests (is_name m.name) (is_comparable m.op m.value)
-  where
-    by_tests : (named comparable : Bool) → Finds (λ made. (named && comparable ≡ true) × (m ≡ made)) (cond (not named) (Err (syntax place)) (cond comparable (Ok m) (Err (stop faults.BadRegex place))))
-    by_tests true true = found (refl, refl)
-    by_tests true false = fault
-    by_tests false comparable = fault
-
-checked_is : (place : ℕ) (m : MatcherForm) → is_matcher m ≡ true → checked_matcher place m ≡ Ok m
-checked_is place m proper =
-    let parts = and_parts (is_name m.name) (is_comparable m.op m.value) proper in
-    cond-false (not (is_name m.name)) _ _ (ap not parts.0) ∙ cond-true (is_comparable m.op m.value) _ _ parts.1
+checked_found place m = by_test (not (is_name m.name)) (λ _. fault)
+    (λ named. by_test (is_comparable m.op m.value) (λ comparable. found (and_from (is_name m.name) _ (not-false _ named) comparable, refl)) (λ _. fault))
 
 -- name="value", or another operator
 pub record IsMatcher (m : MatcherForm) (lexemes rest : List Lexeme) : Type 0 where
@@ -152,7 +162,9 @@ matcher_found lexemes = row_found {Q = λ x. IsMatcher x.0 lexemes x.1} operator
 
 pub matcher_is : (m : MatcherForm) (lexemes rest : List Lexeme) → Stand (matcher_tokens m) lexemes rest → is_matcher m ≡ true → matcher_at lexemes ≡ Ok (m, rest)
 unfolding matcher_at
-matcher_is m lexemes rest stand is = rw (stood (matcher_tokens m) lexemes rest stand, operator_is (place_of (drop 1 lexemes)) m.op, checked_is (place_of lexemes) m is) refl
+matcher_is m lexemes rest stand is =
+    let parts = and_parts (is_name m.name) (is_comparable m.op m.value) is in
+    rw (stood (matcher_tokens m) lexemes rest stand, operator_is (place_of (drop 1 lexemes)) m.op, parts.0, parts.1) refl
 
 -- What is listed with commas.
 
@@ -163,11 +175,6 @@ follows close more = tokens.Sign (cond more signs.Comma close)
 pub follows_found : (close : Sign) (t : Token) (e : Stop) → Finds (λ more. t ≡ follows close more) (cond (is_sign signs.Comma t) (Ok true) (cond (is_sign close t) (Ok false) (Err e)))
 follows_found close t e = by_test (is_sign signs.Comma t) (λ is. found (only_sign signs.Comma t is)) (λ _. by_test (is_sign close t) (λ is. found (only_sign close t is)) (λ _. fault))
 
--- the tokens behind the first element
-abbrev pub behind_first : {A : Type 0} → (A → List Token) → Sign → List A → List Token
-behind_first of_one close [] = tokens.Sign close ∷ []
-behind_first of_one close (x ∷ xs) = tokens.Sign signs.Comma ∷ (of_one x ++ behind_first of_one close xs)
-
 -- an element that is read stands there with the sign behind it, and is proper
 abbrev pub IsSoundElement : {A : Type 0} → (A → List Token) → (A → Bool) → Sign → (List Lexeme → Result (A × Bool × List Lexeme) Stop) → Type 0
 IsSoundElement {A} of_one proper close element = (lexemes : List Lexeme) → Finds (λ x. Stand (of_one x.0 ++ follows close x.1 ∷ []) lexemes x.2 × (proper x.0 ≡ true)) (element lexemes)
@@ -176,41 +183,47 @@ IsSoundElement {A} of_one proper close element = (lexemes : List Lexeme) → Fin
 abbrev pub IsCompleteElement : {A : Type 0} → (A → List Token) → (A → Bool) → Sign → (List Lexeme → Result (A × Bool × List Lexeme) Stop) → Type 0
 IsCompleteElement {A} of_one proper close element = (lexemes : List Lexeme) (x : A) (more : Bool) (rest : List Lexeme) → Stand (of_one x ++ follows close more ∷ []) lexemes rest → proper x ≡ true → element lexemes ≡ Ok (x, more, rest)
 
--- elements, one at least, up to the sign that closes them
-abbrev pub AreListed : {A : Type 0} → (A → List Token) → (A → Bool) → Sign → List A → List Lexeme → List Lexeme → Type 0
-AreListed of_one proper close [] lexemes rest = ⊥
-AreListed of_one proper close (x ∷ xs) lexemes rest = Stand (of_one x ++ behind_first of_one close xs) lexemes rest × (list_all proper (x ∷ xs) ≡ true)
+-- elements, one at least, by the tokens of all
+abbrev pub AreListed : {A : Type 0} → (List A → List Token) → (A → Bool) → List A → List Lexeme → List Lexeme → Type 0
+AreListed all proper xs lexemes rest = Stand (all xs) lexemes rest × (list_all proper xs ≡ true) × (1 ≤ length xs)
 
-module _ {A : Type 0} (of_one : A → List Token) (proper : A → Bool) (close : Sign) (element : List Lexeme → Result (A × Bool × List Lexeme) Stop) where
-  join : (x : A) (others : List A) (lexemes behind rest : List Lexeme) → Stand (of_one x ++ follows close true ∷ []) lexemes behind → proper x ≡ true → AreListed of_one proper close others behind rest → AreListed of_one proper close (x ∷ others) lexemes rest
-  join x [] lexemes behind rest stand is others = absurd others
+-- those of the last have the sign behind them that closes the list
+module _ {A : Type 0} (of_one : A → List Token) (proper : A → Bool) (close : Sign) (element : List Lexeme → Result (A × Bool × List Lexeme) Stop) (all : List A → List Token)
+    (last : (x : A) → all (x ∷ []) ≡ of_one x ++ follows close false ∷ []) (more : (x y : A) (ys : List A) → all (x ∷ y ∷ ys) ≡ of_one x ++ follows close true ∷ all (y ∷ ys)) where
+  join : (x : A) (others : List A) (lexemes behind rest : List Lexeme) → Stand (of_one x ++ follows close true ∷ []) lexemes behind → proper x ≡ true → AreListed all proper others behind rest → AreListed all proper (x ∷ others) lexemes rest
+  join x [] lexemes behind rest stand is others = absurd (omega (arith, others.2))
   join x (y ∷ ys) lexemes behind rest stand is others =
-      let all : Stand ((of_one x ++ follows close true ∷ []) ++ (of_one y ++ behind_first of_one close ys)) lexemes rest = stand_then (of_one x ++ follows close true ∷ []) (of_one y ++ behind_first of_one close ys) lexemes behind rest stand others.0 in
-      (subst (λ ts. Stand ts lexemes rest) (append_assoc (of_one x) (follows close true ∷ []) _) all, and_from (proper x) _ is others.1)
+      let both = stand_then (of_one x ++ follows close true ∷ []) (all (y ∷ ys)) lexemes behind rest stand others.0 in
+      (subst (λ ts. Stand ts lexemes rest) (append_assoc (of_one x) (follows close true ∷ []) _ ∙ sym (more x y ys)) both, and_from (proper x) _ is others.1, omega arith)
 
-  pub listed_found : IsSoundElement of_one proper close element → (most : ℕ) (lexemes : List Lexeme) → Finds (λ x. AreListed of_one proper close x.0 lexemes x.1) (listed_at element most lexemes)
+  pub listed_found : IsSoundElement of_one proper close element → (most : ℕ) (lexemes : List Lexeme) → Finds (λ x. AreListed all proper x.0 lexemes x.1) (listed_at element most lexemes)
   unfolding listed_at
   listed_found sound zero lexemes = fault
   listed_found sound (suc most) lexemes = then _ (sound lexemes) (λ first one. by_test first.1
-      (λ more. then _ (listed_found sound most first.2) (λ others are. found (join first.0 others.0 lexemes first.2 others.1 (subst (λ b. Stand (of_one first.0 ++ follows close b ∷ []) lexemes first.2) more one.0) one.1 are)))
-      (λ last. found (subst (λ b. Stand (of_one first.0 ++ follows close b ∷ []) lexemes first.2) last one.0, and_from (proper first.0) true one.1 refl)))
+      (λ goes_on. then _ (listed_found sound most first.2) (λ others are. found (join first.0 others.0 lexemes first.2 others.1 (subst (λ b. Stand (of_one first.0 ++ follows close b ∷ []) lexemes first.2) goes_on one.0) one.1 are)))
+      (λ ends. found (subst (λ ts. Stand ts lexemes first.2) (ap (λ b. of_one first.0 ++ follows close b ∷ []) ends ∙ sym (last first.0)) one.0, and_from (proper first.0) true one.1 refl, omega arith)))
 
   -- no more elements than tokens
-  few_listed : (x : A) (xs : List A) → length (x ∷ xs) ≤ length (of_one x ++ behind_first of_one close xs)
-  few_listed x [] = omega (arith, length-append (of_one x) (tokens.Sign close ∷ []))
-  few_listed x (y ∷ ys) = omega (arith, length-append (of_one x) (behind_first of_one close (y ∷ ys)), few_listed y ys)
+  few_listed : (x : A) (xs : List A) → length (x ∷ xs) ≤ length (all (x ∷ xs))
+  few_listed x [] = omega (arith, ap length (last x), length-append (of_one x) (follows close false ∷ []))
+  few_listed x (y ∷ ys) = omega (arith, ap length (more x y ys), length-append (of_one x) (follows close true ∷ all (y ∷ ys)), few_listed y ys)
 
-  listed_within : IsCompleteElement of_one proper close element → (most : ℕ) (x : A) (xs : List A) (lexemes rest : List Lexeme) → Stand (of_one x ++ behind_first of_one close xs) lexemes rest → list_all proper (x ∷ xs) ≡ true → length (x ∷ xs) ≤ most → listed_at element most lexemes ≡ Ok (x ∷ xs, rest)
+  listed_within : IsCompleteElement of_one proper close element → (most : ℕ) (x : A) (xs : List A) (lexemes rest : List Lexeme) → Stand (all (x ∷ xs)) lexemes rest → list_all proper (x ∷ xs) ≡ true → length (x ∷ xs) ≤ most → listed_at element most lexemes ≡ Ok (x ∷ xs, rest)
   unfolding listed_at
-  listed_within complete zero x xs lexemes rest stand all few = absurd (omega (arith, few))
-  listed_within complete (suc most) x [] lexemes rest stand all few = rw (complete lexemes x false rest stand (and_parts (proper x) true all).0) refl
-  listed_within complete (suc most) x (y ∷ ys) lexemes rest stand all few =
-      let parts = and_parts (proper x) (list_all proper (y ∷ ys)) all in
-      let split = stand_split (of_one x ++ follows close true ∷ []) (of_one y ++ behind_first of_one close ys) lexemes rest (subst (λ ts. Stand ts lexemes rest) (sym (append_assoc (of_one x) (follows close true ∷ []) _)) stand) in
+  listed_within complete zero x xs lexemes rest stand are few = absurd (omega (arith, few))
+  listed_within complete (suc most) x [] lexemes rest stand are few = rw (complete lexemes x false rest (subst (λ ts. Stand ts lexemes rest) (last x) stand) (and_parts (proper x) true are).0) refl
+  listed_within complete (suc most) x (y ∷ ys) lexemes rest stand are few =
+      let parts = and_parts (proper x) (list_all proper (y ∷ ys)) are in
+      let split = stand_split (of_one x ++ follows close true ∷ []) (all (y ∷ ys)) lexemes rest (subst (λ ts. Stand ts lexemes rest) (more x y ys ∙ sym (append_assoc (of_one x) (follows close true ∷ []) _)) stand) in
       rw (complete lexemes x true split.0 split.1 parts.0, listed_within complete most y ys split.0 rest split.2 parts.1 (omega (arith, few))) refl
 
-  pub listed_is : IsCompleteElement of_one proper close element → (x : A) (xs : List A) (lexemes rest : List Lexeme) → Stand (of_one x ++ behind_first of_one close xs) lexemes rest → list_all proper (x ∷ xs) ≡ true → listed_at element (length lexemes) lexemes ≡ Ok (x ∷ xs, rest)
-  listed_is complete x xs lexemes rest stand all = listed_within complete (length lexemes) x xs lexemes rest stand all (omega (arith, few_listed x xs, stand_length _ lexemes rest stand))
+  pub listed_is : IsCompleteElement of_one proper close element → (x : A) (xs : List A) (lexemes rest : List Lexeme) → Stand (all (x ∷ xs)) lexemes rest → list_all proper (x ∷ xs) ≡ true → listed_at element (length lexemes) lexemes ≡ Ok (x ∷ xs, rest)
+  listed_is complete x xs lexemes rest stand are = listed_within complete (length lexemes) x xs lexemes rest stand are (omega (arith, few_listed x xs, stand_length _ lexemes rest stand))
+
+  -- the tokens of the first stand at the front
+  pub first_listed : (x : A) (xs : List A) → (others : List Token) × (all (x ∷ xs) ≡ of_one x ++ others)
+  first_listed x [] = (follows close false ∷ [], last x)
+  first_listed x (y ∷ ys) = (follows close true ∷ all (y ∷ ys), more x y ys)
 
 -- A selector.
 
@@ -231,28 +244,22 @@ element_is lexemes m false rest stand is =
     let split = stand_split (matcher_tokens m) (tokens.Sign signs.CloseBrace ∷ []) lexemes rest stand in
     rw (matcher_is m lexemes split.0 split.1 is, stood (tokens.Sign signs.CloseBrace ∷ []) split.0 rest split.2) refl
 
-matchers_listed : (m : MatcherForm) (ms : List MatcherForm) → matchers_tokens (m ∷ ms) ≡ matcher_tokens m ++ behind_first matcher_tokens signs.CloseBrace ms
-matchers_listed m [] = refl
-matchers_listed m (o ∷ os) = ap (λ ts. matcher_tokens m ++ tokens.Sign signs.Comma ∷ ts) (matchers_listed o os)
-
 pub selector_found : (lexemes braced : List Lexeme) → Stand (tokens.Sign signs.OpenBrace ∷ []) lexemes braced → Finds (λ x. IsSelector x.0 lexemes x.1) (selector_at braced)
 unfolding selector_at
 selector_found lexemes braced opened =
     then _ (next_found braced) (λ first _.
     then _ (itself (some_matcher first.0.place first.0.token)) (λ _ _.
-    then _ (listed_found matcher_tokens is_matcher signs.CloseBrace element_at element_found (length braced) braced) (λ read are.
+    then _ (listed_found matcher_tokens is_matcher signs.CloseBrace element_at matchers_tokens (λ _. refl) (λ _ _ _. refl) element_found (length braced) braced) (λ read are.
     then _ (checked (has_real_form read.0) read.0 (stop faults.NoRealMatcher (place_of read.1))) (λ matchers is.
-    found (subst (λ ms. IsSelector ms lexemes read.1) is.1 (by_matchers read.0 read.1 are is.0))))))
-  where
-    by_matchers : (ms : List MatcherForm) (behind : List Lexeme) → AreListed matcher_tokens is_matcher signs.CloseBrace ms braced behind → has_real_form ms ≡ true → IsSelector ms lexemes behind
-    by_matchers [] behind are real = absurd are
-    by_matchers (x ∷ xs) behind are real = record { stand = stand_then (tokens.Sign signs.OpenBrace ∷ []) (matchers_tokens (x ∷ xs)) lexemes braced behind opened (subst (λ ts. Stand ts braced behind) (sym (matchers_listed x xs)) are.0); proper = are.1; real = real }
+    let stand = stand_then (tokens.Sign signs.OpenBrace ∷ []) (matchers_tokens read.0) lexemes braced read.1 opened are.0 in
+    found (subst (λ ms. IsSelector ms lexemes read.1) is.1 (record { stand = stand; proper = are.1; real = is.0 }))))))
 
 pub selector_is : (ms : List MatcherForm) (lexemes rest : List Lexeme) → IsSelector ms lexemes rest → (braced : List Lexeme) × (expected signs.OpenBrace positions.Elsewhere lexemes ≡ Ok braced) × (selector_at braced ≡ Ok (ms, rest))
 unfolding selector_at
 selector_is [] lexemes rest is = absurd (true≢false (sym is.real))
 selector_is (m ∷ ms) lexemes rest is =
     let split = stand_split (tokens.Sign signs.OpenBrace ∷ []) (matchers_tokens (m ∷ ms)) lexemes rest is.stand in
-    let stand = subst (λ ts. Stand ts split.0 rest) (matchers_listed m ms) split.2 in
-    let first = next_is (tokens.Word m.name) (tokens.Sign (operator_sign m.op) ∷ tokens.Text m.value ∷ behind_first matcher_tokens signs.CloseBrace ms) split.0 rest stand in
-    (split.0, expected_is signs.OpenBrace positions.Elsewhere lexemes split.0 split.1, rw (first.is, listed_is matcher_tokens is_matcher signs.CloseBrace element_at element_is m ms split.0 rest stand is.proper, is.real) refl)
+    let listed = first_listed matcher_tokens is_matcher signs.CloseBrace element_at matchers_tokens (λ _. refl) (λ _ _ _. refl) m ms in
+    let first = next_is (tokens.Word m.name) (tokens.Sign (operator_sign m.op) ∷ tokens.Text m.value ∷ listed.0) split.0 rest (subst (λ ts. Stand ts split.0 rest) listed.1 split.2) in
+    let read = listed_is matcher_tokens is_matcher signs.CloseBrace element_at matchers_tokens (λ _. refl) (λ _ _ _. refl) element_is m ms split.0 rest split.2 is.proper in
+    (split.0, expected_is signs.OpenBrace positions.Elsewhere lexemes split.0 split.1, rw (first.is, read, is.real) refl)

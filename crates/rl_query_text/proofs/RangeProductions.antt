@@ -3,7 +3,7 @@ use Rattle.rl_query_text.proofs.StageStarts.{Ends, ends_at}
 use Rattle.rl_query_text.specs.Grammar.{IsDuration, IsRange, IsTimed}
 use Rattle.rl_query.specs.Limits.{longest_range}
 use Rattle.rl_query.specs.Form.{RangeForm, StageForm, label_tests}
-use Rattle.std.proofs.Common.{◌≡◌, inl, inr, ℕ, suc, ◌≤◌, nat_le, true, ◌&&◌, List, [], ◌∷◌, length, Option, Some, None, Ok, refl, sym, subst, arith}
+use Rattle.std.proofs.Common.{◌≡◌, inl, inr, ℕ, suc, ◌≤◌, nat_le, true, ◌&&◌, List, [], ◌∷◌, length, Option, Some, None, Ok, refl, sym, ap, subst, arith}
 use Rattle.std.proofs.lemmas.Bool.{and_parts, and_from, leb-true, le-leb}
 use Rattle.rl_query_text.specs.declared.parser.Position.{Position}
 use Rattle.rl_query_text.specs.declared.parser.Position.TheVariants as positions
@@ -114,10 +114,10 @@ range_derived room lexemes =
     then _ (closing_read inside.0 matchers.1) (λ range closing.
     found (record {
       inside = inside.0.depth;
-      depth = opened.depth;
+      depth = ap (λ (r : Room). r.depth) opened.around;
       is = record { behind_parenthesis = inside.1; behind_selector = matchers.1; behind_duration = closing.behind; opened = opened.stand; selector = selector; timed = closing.timed; closed = closing.closed };
-      few = subst (λ n. length range.0 ≤ n) opened.stages closing.few;
-      few_tests = subst (λ n. label_tests range.0 ≤ n) opened.tests closing.few_tests;
+      few = subst (λ (r : Room). length range.0 ≤ r.stages) (sym opened.around) closing.few;
+      few_tests = subst (λ (r : Room). label_tests range.0 ≤ r.tests) (sym opened.around) closing.few_tests;
     })))))
 
 pub range_is : (room : Room) (range : RangeForm) (lexemes rest : List Lexeme) → IsRoomyRange room range lexemes rest → range_at room lexemes ≡ Ok (range, rest)

@@ -1,11 +1,11 @@
 -- The tokens with which label tests and stages begin.
-use Rattle.std.proofs.Common.{drop, ◌≡◌, true, false, not, ◌&&◌, ◌||◌, List, [], ◌∷◌, codes, None, Some, is_some, Ok, refl, sym, ap, subst, ◌∙◌, ℕ}
+use Rattle.std.proofs.Common.{drop, ◌≡◌, true, false, ◌||◌, List, [], ◌∷◌, codes, Some, is_some, Ok, refl, sym, ap, subst, ◌∙◌, ℕ}
 use Rattle.std.proofs.Math.Bool.{and-false, or-true}
-use Rattle.std.proofs.lemmas.Bool.{and_from, cond-true, cond-false, or_parts, or_left, or_right}
+use Rattle.std.proofs.lemmas.Bool.{true≢false, false_from_ne_true, cond-false, or_left, or_right}
 use Rattle.rl_labels.specs.Name.{is_text}
+use Rattle.rl_labels.specs.laws.LabelLaws.{same_text}
 use Rattle.rl_labels.specs.declared.matcher.MatchOp.{MatchOp}
 use Rattle.rl_labels.specs.declared.matcher.MatchOp.TheVariants as operators
-use Rattle.rl_plain.specs.Answers.{◌>>=◌}
 use Rattle.rl_query.specs.declared.filter.LineOp.{LineOp}
 use Rattle.rl_query.specs.declared.filter.LineOp.TheVariants as lines
 use Rattle.rl_query.specs.declared.label_test.Join.{Join}
@@ -14,25 +14,25 @@ use Rattle.rl_query.specs.declared.token.Sign.{Sign}
 use Rattle.rl_query.specs.declared.token.Sign.TheVariants as signs
 use Rattle.rl_query.specs.declared.token.Token.{Token}
 use Rattle.rl_query.specs.declared.token.Token.TheVariants as tokens
-use Rattle.rl_query.specs.Form.{StageForm, by_filter, by_parser, by_tests, TestForm, by_text, by_quantity}
-use Rattle.rl_query_text.specs.Fronts.{is_joining_word, next, is_match}
+use Rattle.rl_query.specs.Form.{StageForm, by_filter, by_tests, TestForm, by_text, by_quantity}
+use Rattle.rl_query.specs.Limits.{is_taken}
+use Rattle.rl_query_text.specs.Fronts.{next, is_match}
 use Rattle.rl_query_text.specs.Grammar.{filter_sign, IsStage, AreChained}
-use Rattle.rl_query_text.specs.Parsing.{begins_stage, stage_comes, parser_of, is_later_stage_word, tests_begin}
-use Rattle.rl_query_text.specs.Printing.{parser_text}
+use Rattle.rl_query_text.specs.Parsing.{begins_stage, stage_comes, tests_begin}
 use Rattle.rl_query_text.specs.Standing.{Stand, operator_sign}
 use Rattle.rl_query_text.specs.TestGrammar.{Rule, test_name, Compares, IsLabelTest, IsOne, alone, in_parentheses, AreJoined, part, more, AreInside, AreTests}
-use Rattle.rl_query_text.specs.Testing.{operator_comes, IsEnd, is_word, is_and, begins, compares, behind_and}
+use Rattle.rl_query_text.specs.Testing.{IsEnd, is_word, is_and, begins, compares, behind_and}
 use Rattle.rl_query.specs.TestTree.{TestTree}
-use Rattle.rl_query_text.proofs.Productions.{next_is, placed, stood}
+use Rattle.rl_query_text.proofs.Productions.{placed, stood}
 use Rattle.rl_query_text.specs.Stops.{place_of}
 
--- label tests begin there, whatever stands before them, and no parser is named
+-- label tests begin there, whatever stands before them, and with no word of the grammar
 pub record Starts (lexemes : List Lexeme) : Type 0 where
   pub first : Lexeme
   pub behind : List Lexeme
   pub is : next lexemes ≡ Ok (first, behind)
   pub goes_on : behind_and lexemes ≡ Some lexemes
-  pub no_parser : parser_of first.token ≡ None
+  pub free : (word : List ℕ) → is_taken word ≡ true → is_word word first.token ≡ false
   pub begin : tests_begin first.place first.token behind ≡ Ok tt
 
 is_operator : (op : MatchOp) → is_match (tokens.Sign (operator_sign op)) ≡ true
@@ -44,33 +44,28 @@ sign_comes : (test : TestForm) (sign : Sign) (value : Token) → Compares test s
 sign_comes (by_text m) sign value is = or_left (is_match (tokens.Sign sign)) _ (ap (λ s. is_match (tokens.Sign s)) is.0 ∙ is_operator m.op)
 sign_comes (by_quantity t) sign value is = or_right (is_match (tokens.Sign sign)) _ (ap is_some is.0)
 
--- a name behind which the operator of a test comes
-name_begins : (name : List ℕ) (behind : List Lexeme) → is_text name (codes "or") ≡ false → operator_comes behind ≡ true → begins (tokens.Word name) behind ≡ true
-name_begins name behind no_or comes = and_from _ _ (ap not no_or) (ap (λ t. not (is_joining_word name) || t) comes ∙ or-true (not (is_joining_word name)))
-
 test_starts : (test : TestForm) (lexemes rest : List Lexeme) → IsLabelTest test lexemes rest → Starts lexemes
-test_starts test [] rest is = absurd is.stand
-test_starts test (a ∷ []) rest is = absurd is.stand.1
-test_starts test (a ∷ b ∷ lexemes) rest is =
+test_starts test lexemes rest is =
     let name = test_name test in
-    let no_and = or_parts (is_text name (codes "and")) _ is.free in
-    let no_or = or_parts (is_text name (codes "or")) _ no_and.1 in
-    let no_json = or_parts (is_text name (codes "json")) _ no_or.1 in
-    let comes : operator_comes (b ∷ lexemes) ≡ true = ap (λ t. is_match t || compares t) is.stand.1.0 ∙ sign_comes test is.sign is.value is.compares in
+    let others = tokens.Sign is.sign ∷ is.value ∷ [] in
+    let stands = stood (tokens.Word name ∷ others) lexemes rest is.stand in
+    let comes = sign_comes test is.sign is.value is.compares in
+    let free : (word : List ℕ) → is_taken word ≡ true → is_text name word ≡ false =
+    λ word taken. false_from_ne_true _ (λ same. true≢false (sym taken ∙ ap is_taken (sym (same_text name word same)) ∙ is.free)) in
     record {
-      first = a;
-      behind = b ∷ lexemes;
-      is = refl;
-      goes_on = cond-false (is_and a.token) _ _ (ap is_and is.stand.0 ∙ ap (λ t. t || false) no_and.0) ∙ cond-true (begins a.token (b ∷ lexemes)) _ _ (ap (λ t. begins t (b ∷ lexemes)) is.stand.0 ∙ name_begins name (b ∷ lexemes) no_or.0 comes);
-      no_parser = rw (is.stand.0, no_json.0, no_json.1) refl;
-      begin = rw is.stand.0 (cond-false (is_later_stage_word name && not (operator_comes (b ∷ lexemes))) _ _ (ap (λ t. is_later_stage_word name && not t) comes ∙ and-false (is_later_stage_word name)));
+      first = record { token = tokens.Word name; place = place_of lexemes };
+      behind = placed others (drop 1 lexemes) rest;
+      is = rw stands refl;
+      goes_on = rw (stands, free (codes "and") refl, free (codes "or") refl, comes, or-true) refl;
+      free = free;
+      begin = rw (comes, and-false) refl;
     }
 
 pub one_starts : (Inside : Rule) (tests : TestTree TestForm) (lexemes rest : List Lexeme) → IsOne Inside tests lexemes rest → Starts lexemes
 one_starts Inside _ _ _ (alone test lexemes rest is) = test_starts test lexemes rest is
 one_starts Inside _ _ _ (in_parentheses tests lexemes behind end rest opened is closed) =
     let stands = stood (tokens.Sign signs.OpenParenthesis ∷ []) lexemes behind opened in
-    record { first = record { token = tokens.Sign signs.OpenParenthesis; place = place_of lexemes }; behind = behind; is = rw stands refl; goes_on = rw stands refl; no_parser = refl; begin = refl }
+    record { first = record { token = tokens.Sign signs.OpenParenthesis; place = place_of lexemes }; behind = behind; is = rw stands refl; goes_on = rw stands refl; free = λ _ _. refl; begin = refl }
 
 joined_starts : (join : Join) (Part : Rule) → ((tests : TestTree TestForm) (lexemes rest : List Lexeme) → Part tests lexemes rest → Starts lexemes) → (tests : TestTree TestForm) (lexemes rest : List Lexeme) → AreJoined join Part tests lexemes rest → Starts lexemes
 joined_starts join Part starts _ _ _ (part tests lexemes rest is) = starts tests lexemes rest is
@@ -82,9 +77,7 @@ tests_start depth tests lexemes rest are =
 
 -- no test goes on with a token
 pub no_more : (token : Token) (others : List Token) (lexemes rest : List Lexeme) → Stand (token ∷ others) lexemes rest → is_and token ≡ false → ((behind : List Lexeme) → begins token behind ≡ false) → is_word (codes "or") token ≡ false → IsEnd lexemes
-no_more token others lexemes rest stand a b o =
-    let behind = placed others (drop 1 lexemes) rest in
-    rw (stood (token ∷ others) lexemes rest stand) (cond-false (is_and token) _ _ a ∙ cond-false (begins token behind) _ _ (b behind), cond-false (is_word (codes "or") token) _ _ o)
+no_more token others lexemes rest stand a b o = rw (stood (token ∷ others) lexemes rest stand, a, b, o) (refl, refl)
 
 filter_ends : (op : LineOp) (others : List Token) (lexemes rest : List Lexeme) → Stand (tokens.Sign (filter_sign op) ∷ others) lexemes rest → IsEnd lexemes
 filter_ends lines.Contains others lexemes rest stand = no_more (tokens.Sign signs.Contains) others lexemes rest stand refl (λ _. refl) refl
@@ -92,8 +85,8 @@ filter_ends op others lexemes rest stand = no_more (tokens.Sign (filter_sign op)
 
 stage_ends : (depth : ℕ) (stage : StageForm) (lexemes rest : List Lexeme) → IsStage depth stage lexemes rest → IsEnd lexemes
 stage_ends depth (by_filter f) lexemes rest is = filter_ends f.op (tokens.Text f.text ∷ []) lexemes rest is.0
-stage_ends depth (by_parser p) lexemes rest is = no_more (tokens.Sign signs.Pipe) (tokens.Word (parser_text p) ∷ []) lexemes rest is refl (λ _. refl) refl
 stage_ends depth (by_tests t) lexemes rest is = no_more (tokens.Sign signs.Pipe) [] lexemes is.behind is.pipe refl (λ _. refl) refl
+stage_ends depth _ lexemes rest is = no_more (tokens.Sign signs.Pipe) (_ ∷ []) lexemes rest is refl (λ _. refl) refl
 
 -- tests end where stages begin
 pub chain_ends : (depth : ℕ) (stages : List StageForm) (lexemes rest : List Lexeme) → AreChained depth stages lexemes rest → IsEnd rest → IsEnd lexemes
@@ -107,5 +100,4 @@ pub record Ends (lexemes : List Lexeme) : Type 0 where
 
 pub ends_at : (token : Token) (others : List Token) (lexemes rest : List Lexeme) → Stand (token ∷ others) lexemes rest → begins_stage token ≡ false → is_and token ≡ false → ((behind : List Lexeme) → begins token behind ≡ false) → is_word (codes "or") token ≡ false → Ends lexemes
 ends_at token others lexemes rest stand s a b o =
-    let n = next_is token others lexemes rest stand in
-    record { comes = ap (λ r. r >>= λ first. Ok (begins_stage first.0.token)) n.is ∙ ap (λ b. Ok b) s; end = no_more token others lexemes rest stand a b o }
+    record { comes = rw (stood (token ∷ others) lexemes rest stand, s) refl; end = no_more token others lexemes rest stand a b o }

@@ -1,9 +1,5 @@
 -- The productions of terms: what is read is derived, and what is derived is read.
-use Rattle.std.proofs.Common.{◌≡◌, inl, inr, ⊎_elim, ℕ, zero, suc, ◌≤◌, true, false, List, [], ◌∷◌, length, Some, Ok, refl, sym, ap, subst, ◌∙◌, arith}
-use Rattle.std.specs.List.{find}
-use Rattle.std.proofs.lemmas.Option.{same_Some, none-some}
-use Rattle.rl_labels.specs.Name.{is_text}
-use Rattle.rl_labels.specs.laws.LabelLaws.{same_text}
+use Rattle.std.proofs.Common.{◌≡◌, inl, inr, ℕ, zero, suc, ◌≤◌, true, false, List, [], ◌∷◌, length, Some, Ok, refl, sym, ap, subst, ◌∙◌, arith}
 use Rattle.rl_query_text.specs.declared.parser.Position.{Position}
 use Rattle.rl_query_text.specs.declared.parser.Position.TheVariants as positions
 use Rattle.rl_query.specs.declared.query.RangeFunction.{RangeFunction}
@@ -17,39 +13,25 @@ use Rattle.rl_query_text.specs.AggregationReading.{is_operator_word}
 use Rattle.rl_query.specs.Form.{AggregationForm, RangeForm, TermForm, label_tests}
 use Rattle.rl_query_text.specs.Fronts.{is_sign}
 use Rattle.rl_query.specs.Limits.{most_aggregations}
-use Rattle.rl_query_text.specs.QueryReading.{TermReader, in_parentheses, around, aggregated_at, ranged_at, begun_at, term_by, term_in, term_at}
+use Rattle.rl_query_text.specs.QueryReading.{TermReader, around, aggregated_at, ranged_at, begun_at, term_by, term_in, term_at}
 use Rattle.rl_query_text.specs.Standing.{Stand}
 use Rattle.rl_query.specs.Tables.{function_text, all_functions, function_with_text, operator_word}
 use Rattle.rl_query_text.specs.TermGrammar.{IsParameter, IsAggregation, IsBare, IsTerm}
-use Rattle.rl_query_text.proofs.AggregationProductions.{front_found, ended_found, EndsTerm, ends_term_at, word_of_operator, front_of, front_is, ended_is}
-use Rattle.rl_query_text.proofs.Openings.{aggregated_by}
-use Rattle.rl_query_text.proofs.Parentheses.{inside_room, parentheses_read, parentheses_are}
-use Rattle.rl_query_text.proofs.Finding.{Finds, found, fault, then, by_test, of_option, next_found}
-use Rattle.rl_query_text.proofs.Productions.{chosen, next_is, stood}
+use Rattle.rl_query_text.proofs.AggregationProductions.{front_found, ended_found, EndsTerm, word_of_operator, front_of, front_is, ended_is}
+use Rattle.rl_query_text.proofs.Parentheses.{inside_room, outside, inside_told, parentheses_read, parentheses_are}
+use Rattle.rl_query_text.proofs.Finding.{Finds, found, fault, then, by_test, of_option, next_found, told_by}
+use Rattle.rl_query_text.proofs.Productions.{text_found, next_is, stood, first_at}
 use Rattle.rl_query_text.proofs.RangeProductions.{range_derived, range_is}
 
 -- Range aggregations, by their words.
 
-function_read : (word : List ℕ) (function : RangeFunction) → function_with_text word ≡ Some function → word ≡ function_text function
-function_read word function = has_text all_functions
-  where
-    has_text : (fs : List RangeFunction) → find (λ f. is_text word (function_text f)) fs ≡ Some function → word ≡ function_text function
-    has_text [] is = absurd (none-some function is)
-    has_text (f ∷ fs) is = ⊎_elim (λ yes. same_text word (function_text f) yes.0 ∙ ap function_text (same_Some f function yes.1)) (λ other. has_text fs other.1) (chosen (is_text word (function_text f)) (Some f) (find (λ f. is_text word (function_text f)) fs) (Some function) is)
-
-function_is : (function : RangeFunction) → function_with_text (function_text function) ≡ Some function
-function_is functions.CountOverTime = refl
-function_is _ = refl
-
-no_operator : (function : RangeFunction) → is_operator_word (function_text function) ≡ false
-no_operator functions.CountOverTime = refl
-no_operator _ = refl
+function_is : (function : RangeFunction) → (is_operator_word (function_text function) ≡ false) × (function_with_text (function_text function) ≡ Some function)
+function_is functions.CountOverTime = (refl, refl)
+function_is _ = (refl, refl)
 
 -- there is room for what a term has
-pub record Fits (nest : ℕ) (room : Room) (term : TermForm) : Type 0 where
-  pub nested : length term.aggregations ≤ nest
-  pub few : length term.range.stages ≤ room.stages
-  pub few_tests : label_tests term.range.stages ≤ room.tests
+abbrev pub Fits : (nest : ℕ) → Room → TermForm → Type 0
+Fits nest room term = (length term.aggregations ≤ nest) × (length term.range.stages ≤ room.stages) × (label_tests term.range.stages ≤ room.tests)
 
 pub record IsRoomyTerm (nest : ℕ) (room : Room) (term : TermForm) (lexemes rest : List Lexeme) : Type 0 where
   pub is : IsTerm room.depth term lexemes rest
@@ -59,13 +41,6 @@ pub record IsRoomyTerm (nest : ℕ) (room : Room) (term : TermForm) (lexemes res
 
 abbrev IsSound : TermReader → Type 0
 IsSound inside = (position : Position) (nest : ℕ) (room : Room) (lexemes : List Lexeme) → Finds (λ x. IsRoomyTerm nest room x.0 lexemes x.1) (inside position nest room lexemes)
-
-ranged_sound : (function : RangeFunction) (nest : ℕ) (room : Room) (lexemes behind : List Lexeme) → Stand (tokens.Word (function_text function) ∷ []) lexemes behind → Finds (λ x. IsRoomyTerm nest room x.0 lexemes x.1) (ranged_at function room behind)
-unfolding ranged_at
-ranged_sound function nest room lexemes behind word = then _ (range_derived room behind) (λ x range.
-    let made : TermForm = record { aggregations = []; function = function; range = x.0 } in
-    let is : IsTerm (suc range.inside) made lexemes x.1 = inl (behind, word, range.is) in
-    found (record { is = subst (λ n. IsTerm n made lexemes x.1) (sym range.depth) is; fits = record { nested = omega arith; few = range.few; few_tests = range.few_tests } }))
 
 aggregated_sound : (inside : TermReader) → IsSound inside → (word : List ℕ) (nest : ℕ) (room : Room) (lexemes behind : List Lexeme) → is_operator_word word ≡ true → Stand (tokens.Word word ∷ []) lexemes behind → Finds (λ x. IsRoomyTerm nest room x.0 lexemes x.1) (aggregated_at inside word nest room behind)
 unfolding aggregated_at
@@ -81,46 +56,36 @@ aggregated_sound inside sound word nest room lexemes behind operator stand =
       end = term.1;
       behind_end = ended.behind;
       front = x.0.grouping;
-      back = ended.back.back;
+      back = ended.back.0;
       word = subst (λ w. Stand (tokens.Word w ∷ []) lexemes behind) (front.word_is ∙ ap operator_word ended.operator) stand;
       grouped = front.grouped;
       opened = front.opened.stand;
       parameter = subst (λ o. IsParameter o front.behind_parenthesis x.1) ended.operator front.parameter;
       inside = inner.is;
       closed = ended.closed;
-      grouped_behind = ended.back.grouped;
-      one_side = ended.back.one_side;
+      grouped_behind = ended.back.1;
+      one_side = ended.back.2;
     } in
-    let is : IsTerm (suc x.0.room.depth) (around y.0 term.0) lexemes y.1 = inl aggregation in
-    found (record {
-      is = subst (λ n. IsTerm n (around y.0 term.0) lexemes y.1) (sym front.opened.depth) is;
-      fits = record {
-        nested = omega (arith, front.fewer, inner.fits.nested);
-        few = subst (λ n. length term.0.range.stages ≤ n) front.opened.stages inner.fits.few;
-        few_tests = subst (λ n. label_tests term.0.range.stages ≤ n) front.opened.tests inner.fits.few_tests;
-      };
-    }))))
-
-enclosed_sound : (inside : TermReader) → IsSound inside → (nest : ℕ) (room : Room) (lexemes : List Lexeme) → Finds (λ x. IsRoomyTerm nest room x.0 lexemes x.1) (in_parentheses positions.InTerm (inside positions.InTerm nest) room lexemes)
-enclosed_sound inside sound nest room lexemes = record {
-  is = λ x h.
-      let p = (parentheses_read (IsRoomyTerm nest) positions.InTerm (inside positions.InTerm nest) room lexemes (sound positions.InTerm nest)).is x h in
-      let is : IsTerm (suc p.0.depth) x.0 lexemes x.1 = inr (record { behind = p.1; end = p.2; opened = p.3.stand; inside = p.4.is; closed = p.5 }) in
-      record {
-        is = subst (λ n. IsTerm n x.0 lexemes x.1) (sym p.3.depth) is;
-        fits = record {
-          nested = p.4.fits.nested;
-          few = subst (λ n. length x.0.range.stages ≤ n) p.3.stages p.4.fits.few;
-          few_tests = subst (λ n. label_tests x.0.range.stages ≤ n) p.3.tests p.4.fits.few_tests;
-        };
-      };
-}
+    let roomy : IsRoomyTerm nest (outside x.0.room) (around y.0 term.0) lexemes y.1 = record { is = inl aggregation; fits = omega (arith, front.fewer, inner.fits) } in
+    found (subst (λ r. IsRoomyTerm nest r (around y.0 term.0) lexemes y.1) (sym front.opened.around) roomy))))
 
 begun_sound : (inside : TermReader) → IsSound inside → (position : Position) (place : ℕ) (token : Token) (nest : ℕ) (room : Room) (all behind : List Lexeme) → Stand (token ∷ []) all behind → Finds (λ x. IsRoomyTerm nest room x.0 all x.1) (begun_at inside position place token nest room all behind)
+unfolding ranged_at
 begun_sound inside sound position place (tokens.Word word) nest room all behind stand = by_test (is_operator_word word)
     (λ operator. aggregated_sound inside sound word nest room all behind operator stand)
-    (λ _. of_option _ (function_with_text word) (λ function is. ranged_sound function nest room all behind (subst (λ w. Stand (tokens.Word w ∷ []) all behind) (function_read word function is) stand)) (λ _. fault))
-begun_sound inside sound position place (tokens.Sign sign) nest room all behind stand = by_test (is_sign signs.OpenParenthesis (tokens.Sign sign)) (λ _. enclosed_sound inside sound nest room all) (λ _. fault)
+    (λ _. of_option _ (function_with_text word) (λ function is. then _ (range_derived room behind) (λ x range.
+    let begins = told_by all behind (ap tokens.Word (text_found function_text word all_functions function is)) stand in
+    let made : TermForm = record { aggregations = []; function = function; range = x.0 } in
+    let is : IsTerm (suc range.inside) made all x.1 = inl (behind, begins, range.is) in
+    found (record { is = subst (λ n. IsTerm n made all x.1) (sym range.depth) is; fits = (omega arith, range.few, range.few_tests) })))
+    (λ _. fault))
+begun_sound inside sound position place (tokens.Sign sign) nest room all behind stand = by_test (is_sign signs.OpenParenthesis (tokens.Sign sign))
+    (λ _. record {
+      is = λ x h.
+          let p = (parentheses_read (IsRoomyTerm nest) positions.InTerm (inside positions.InTerm nest) room all (sound positions.InTerm nest)).is x h in
+          subst (λ r. IsRoomyTerm nest r x.0 all x.1) (sym p.1) (record { is = inr (inside_told (λ _ _ inner. inner.is) p.2); fits = p.2.inside.fits });
+    })
+    (λ _. fault)
 begun_sound inside sound position place _ nest room all behind stand = fault
 
 in_sound : (turns : ℕ) → IsSound (term_in turns)
@@ -138,24 +103,23 @@ IsComplete depth inside = (position : Position) (nest : ℕ) (room : Room) (lexe
 
 aggregated_complete : (depth : ℕ) (inside : TermReader) → IsComplete depth inside → (fewer : ℕ) (room : Room) (aggregation : AggregationForm) (term : TermForm) (lexemes rest : List Lexeme) → room.depth ≡ suc depth → (is : IsAggregation (IsTerm depth term) aggregation lexemes rest) → Fits fewer room term → EndsTerm rest
     → aggregated_at inside (operator_word aggregation.operator) (suc fewer) room is.behind_word ≡ Ok (around aggregation term, rest)
+unfolding aggregated_at
 aggregated_complete depth inside complete fewer room aggregation term lexemes rest deep is fits ends =
     let inner = inside_room room depth in
-    let front = front_of aggregation.operator is.front fewer inner in
     let before = front_is aggregation.operator is.front fewer room depth is.behind_word is.behind_grouping is.behind_parenthesis is.behind_parameter deep is.grouped is.opened is.parameter in
-    let read = complete positions.InTerm fewer inner is.behind_parameter term is.end refl is.inside (record { nested = fits.nested; few = fits.few; few_tests = fits.few_tests }) (ends_term_at (tokens.Sign signs.CloseParenthesis) [] is.end is.behind_end is.closed refl refl refl) in
-    let ended = ended_is front room depth is.back aggregation is.end is.behind_end rest deep refl is.closed is.one_side is.grouped_behind ends in
-    aggregated_by inside (operator_word aggregation.operator) (suc fewer) room is.behind_word is.behind_parameter front before ∙ rw (read, ended) refl
+    let read = complete positions.InTerm fewer inner is.behind_parameter term is.end refl is.inside fits (first_at (tokens.Sign signs.CloseParenthesis) [] is.end is.behind_end is.closed (refl, refl, refl)) in
+    rw (before, read, ended_is (front_of aggregation.operator is.front fewer inner) room depth is.back aggregation is.end is.behind_end rest deep refl is.closed is.one_side is.grouped_behind ends) refl
 
 bare_complete : (depth : ℕ) (inside : TermReader) → IsComplete depth inside → (position : Position) (nest : ℕ) (room : Room) (lexemes : List Lexeme) (aggregations : List AggregationForm) (function : RangeFunction) (range : RangeForm) (rest : List Lexeme) → room.depth ≡ suc depth
     → IsBare depth (IsTerm depth) aggregations function range lexemes rest → Fits nest room (record { aggregations = aggregations; function = function; range = range }) → EndsTerm rest → term_by inside position nest room lexemes ≡ Ok (record { aggregations = aggregations; function = function; range = range }, rest)
 unfolding term_by ranged_at
 bare_complete depth inside complete position nest room lexemes [] function range rest deep is fits ends =
-    let read = range_is room range is.0 rest (record { inside = depth; depth = deep; is = is.2; few = fits.few; few_tests = fits.few_tests }) in
-    rw (stood (tokens.Word (function_text function) ∷ []) lexemes is.0 is.1, no_operator function, function_is function, read) refl
-bare_complete depth inside complete position zero room lexemes (aggregation ∷ aggregations) function range rest deep is fits ends = absurd (omega (arith, fits.nested))
+    let known = function_is function in
+    let read = range_is room range is.0 rest (record { inside = depth; depth = deep; is = is.2; few = fits.1; few_tests = fits.2 }) in
+    rw (stood (tokens.Word (function_text function) ∷ []) lexemes is.0 is.1, known.0, known.1, read) refl
+bare_complete depth inside complete position zero room lexemes (aggregation ∷ aggregations) function range rest deep is fits ends = absurd (omega (arith, fits))
 bare_complete depth inside complete position (suc fewer) room lexemes (aggregation ∷ aggregations) function range rest deep is fits ends =
-    let term : TermForm = record { aggregations = aggregations; function = function; range = range } in
-    let read = aggregated_complete depth inside complete fewer room aggregation term lexemes rest deep is (record { nested = omega (arith, fits.nested); few = fits.few; few_tests = fits.few_tests }) ends in
+    let read = aggregated_complete depth inside complete fewer room aggregation (record { aggregations = aggregations; function = function; range = range }) lexemes rest deep is (omega (arith, fits)) ends in
     rw (stood (tokens.Word (operator_word aggregation.operator) ∷ []) lexemes is.behind_word is.word, word_of_operator aggregation.operator, read) refl
 
 in_complete : (depth : ℕ) → IsComplete depth (term_in (suc depth))
@@ -164,8 +128,8 @@ in_complete zero position nest room lexemes term rest deep is fits ends = absurd
 in_complete (suc depth) position nest room lexemes term rest deep (inl bare) fits ends = bare_complete depth (term_in (suc depth)) (in_complete depth) position nest room lexemes term.aggregations term.function term.range rest deep bare fits ends
 in_complete (suc depth) position nest room lexemes term rest deep (inr p) fits ends =
     let a = next_is (tokens.Sign signs.OpenParenthesis) [] lexemes p.behind p.opened in
-    let stops = ends_term_at (tokens.Sign signs.CloseParenthesis) [] p.end rest p.closed refl refl refl in
-    let read = in_complete depth positions.InTerm nest (inside_room room depth) p.behind term p.end refl p.inside (record { nested = fits.nested; few = fits.few; few_tests = fits.few_tests }) stops in
+    let stops = first_at (tokens.Sign signs.CloseParenthesis) [] p.end rest p.closed (refl, refl, refl) in
+    let read = in_complete depth positions.InTerm nest (inside_room room depth) p.behind term p.end refl p.inside fits stops in
     rw (a.is, parentheses_are positions.InTerm (term_in (suc depth) positions.InTerm nest) room depth term lexemes p.behind p.end rest deep p.opened p.closed read) refl
 
 pub term_is : (position : Position) (room : Room) (lexemes : List Lexeme) (term : TermForm) (rest : List Lexeme) → IsRoomyTerm most_aggregations room term lexemes rest → EndsTerm rest → term_at position room lexemes ≡ Ok (term, rest)

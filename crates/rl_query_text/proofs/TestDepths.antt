@@ -6,7 +6,7 @@ use Rattle.rl_query.specs.declared.label_test.Level.TheVariants as levels
 use Rattle.rl_query.specs.declared.token.Lexeme.{Lexeme}
 use Rattle.rl_query.specs.Form.{TestForm}
 use Rattle.rl_query.specs.TestDepth.{left_level, right_level, needs, deepened, text_depth}
-use Rattle.rl_query_text.specs.TestGrammar.{Rule, IsOne, alone, in_parentheses, AreJoined, part, more, AreTestsIn, AreInside, AreTests}
+use Rattle.rl_query_text.specs.TestGrammar.{Rule, IsOne, alone, in_parentheses, AreJoined, part, more, AreInside, AreTests}
 use Rattle.rl_query.specs.TestTree.{TestTree, joined}
 
 -- what stands in parentheses takes one of so many
@@ -14,8 +14,7 @@ abbrev IsShallow : Rule → ℕ → Type 0
 IsShallow Inside depth = (tests : TestTree TestForm) (lexemes rest : List Lexeme) → Inside tests lexemes rest → suc (text_depth tests) ≤ depth
 
 no_more : (needed : Bool) (depth : ℕ) → deepened needed depth ≤ suc depth
-no_more true depth = omega arith
-no_more false depth = omega arith
+no_more needed depth = grind arith
 
 -- on the left of what joins no more parentheses are needed than on the right
 looser : (join : Join) (tests : TestTree TestForm) (depth : ℕ) → deepened (needs (left_level join) tests) depth ≤ deepened (needs (right_level join) tests) depth
@@ -32,12 +31,9 @@ joined_shallow join Part depth shallow _ _ _ (part tests lexemes rest is) = omeg
 joined_shallow And Part depth shallow _ _ _ (more left right lexemes middle behind rest are joins is) = omega (arith, joined_shallow And Part depth shallow left lexemes middle are, shallow right behind rest is)
 joined_shallow Or Part depth shallow _ _ _ (more left right lexemes middle behind rest are joins is) = omega (arith, joined_shallow Or Part depth shallow left lexemes middle are, shallow right behind rest is)
 
-in_shallow : (Inside : Rule) (depth : ℕ) → IsShallow Inside depth → (tests : TestTree TestForm) (lexemes rest : List Lexeme) → AreTestsIn Inside tests lexemes rest → text_depth tests ≤ depth
-in_shallow Inside depth shallow = joined_shallow Or (AreJoined And (IsOne Inside)) depth (joined_shallow And (IsOne Inside) depth (one_shallow Inside depth shallow))
-
 inside_shallow : (depth : ℕ) → IsShallow (AreInside depth) depth
 inside_shallow zero tests lexemes rest is = absurd is
-inside_shallow (suc depth) tests lexemes rest are = omega (arith, in_shallow (AreInside depth) depth (inside_shallow depth) tests lexemes rest are)
+inside_shallow (suc depth) tests lexemes rest are = omega (arith, joined_shallow Or _ depth (joined_shallow And _ depth (one_shallow (AreInside depth) depth (inside_shallow depth))) tests lexemes rest are)
 
 pub tests_shallow : (depth : ℕ) (tests : TestTree TestForm) (lexemes rest : List Lexeme) → AreTests depth tests lexemes rest → text_depth tests ≤ depth
-tests_shallow depth tests lexemes rest are = in_shallow (AreInside depth) depth (inside_shallow depth) tests lexemes rest are
+tests_shallow depth tests lexemes rest are = omega (arith, inside_shallow (suc depth) tests lexemes rest are)

@@ -10,11 +10,10 @@ use Rattle.rl_query.specs.declared.token.Lexeme.{Lexeme}
 use Rattle.rl_query.specs.declared.token.Sign.TheVariants as signs
 use Rattle.rl_query.specs.declared.token.Token.{Token}
 use Rattle.rl_query.specs.declared.token.Token.TheVariants as tokens
-use Rattle.rl_query_text.specs.Standing.{Stand}
 use Rattle.rl_query_text.specs.Fronts.{next, is_sign}
 use Rattle.rl_query.specs.Form.{TestForm}
-use Rattle.rl_query_text.specs.TestGrammar.{Rule, IsOne, alone, in_parentheses, Joins, AreJoined, part, more, AreTestsIn, AreInside, AreTests}
-use Rattle.rl_query_text.specs.Testing.{Read, Reader, is_word, label_at, one_fewer, test_at, enclosed_at, one_at, is_and, begins, behind_join, others_at, joined_at, tests_in, inside_at, tests_at}
+use Rattle.rl_query_text.specs.TestGrammar.{Rule, IsOne, alone, in_parentheses, Joins, AreJoined, part, more, AreInside, AreTests}
+use Rattle.rl_query_text.specs.Testing.{Read, Reader, is_word, label_at, one_fewer, test_at, enclosed_at, one_at, is_and, begins, behind_join, others_at, joined_at, inside_at, tests_at}
 use Rattle.rl_query.specs.TestTree.{TestTree, joined, count_tests}
 use Rattle.rl_query_text.proofs.FreeNames.{label_first}
 use Rattle.rl_query_text.proofs.Finding.{Finds, found, fault, itself, then, by_test, of_option, next_found, told_by}
@@ -46,17 +45,12 @@ test_sound Inside left lexemes =
     then _ (label_test_found lexemes (label_first lexemes first.1 first.0 n (sym label))) (λ test is.
     found (alone test.0 lexemes test.1 is, count)))))
 
-enclosed_sound : (inside : Reader) (Inside : Rule) → IsSound inside Inside → (left : ℕ) (lexemes behind : List Lexeme) → Stand (tokens.Sign signs.OpenParenthesis ∷ []) lexemes behind → Finds (IsRead (IsOne Inside) left lexemes) (enclosed_at inside left behind)
-unfolding enclosed_at
-enclosed_sound inside Inside sound left lexemes behind opened =
-    then _ (sound left behind) (λ tests are.
-    then _ (expected_found signs.CloseParenthesis positions.BehindInnerTests tests.2) (λ rest closed.
-    found (in_parentheses tests.0 lexemes behind tests.2 rest opened are.0 closed, are.1)))
-
 one_sound : (inside : Reader) (Inside : Rule) → IsSound inside Inside → IsSound (one_at inside) (IsOne Inside)
-unfolding one_at
+unfolding one_at enclosed_at
 one_sound inside Inside sound left lexemes = then _ (next_found lexemes) (λ first stand. by_test (is_sign signs.OpenParenthesis first.0.token)
-    (λ opens. enclosed_sound inside Inside sound left lexemes first.1 (told_by lexemes first.1 (only_sign signs.OpenParenthesis first.0.token opens) stand))
+    (λ opens. then _ (sound left first.1) (λ tests are.
+    then _ (expected_found signs.CloseParenthesis positions.BehindInnerTests tests.2) (λ rest closed.
+    found (in_parentheses tests.0 lexemes first.1 tests.2 rest (told_by lexemes first.1 (only_sign signs.OpenParenthesis first.0.token opens) stand) are.0 closed, are.1))))
     (λ _. test_sound Inside left lexemes))
 
 joins_read : (join : Join) (lexemes behind : List Lexeme) → behind_join join lexemes ≡ Some behind → Joins join lexemes behind
@@ -80,16 +74,13 @@ joined_sound : (join : Join) (reader : Reader) (Part : Rule) → IsSound reader 
 unfolding joined_at
 joined_sound join reader Part sound left lexemes = then _ (sound left lexemes) (λ first is. others_sound join reader Part sound left first.0 first.1 left lexemes first.2 (part first.0 lexemes first.2 is.0) is.1)
 
-in_sound : (inside : Reader) (Inside : Rule) → IsSound inside Inside → IsSound (tests_in inside) (AreTestsIn Inside)
-in_sound inside Inside sound = joined_sound Or (joined_at And (one_at inside)) (AreJoined And (IsOne Inside)) (joined_sound And (one_at inside) (IsOne Inside) (one_sound inside Inside sound))
-
 inside_sound : (depth : ℕ) → IsSound (inside_at depth) (AreInside depth)
-inside_sound zero left lexemes = fault
-inside_sound (suc depth) left lexemes = in_sound (inside_at depth) (AreInside depth) (inside_sound depth) left lexemes
+inside_sound zero = λ left lexemes. fault
+inside_sound (suc depth) = joined_sound Or _ _ (joined_sound And _ _ (one_sound _ _ (inside_sound depth)))
 
 -- what is read is derived, and takes no more tests than may come
 pub tests_found : (depth : ℕ) → IsSound (tests_at depth) (AreTests depth)
-tests_found depth = in_sound (inside_at depth) (AreInside depth) (inside_sound depth)
+tests_found depth = inside_sound (suc depth)
 
 pub tests_derived : (depth left : ℕ) (lexemes : List Lexeme) (tests : TestTree TestForm) (fewer : ℕ) (rest : List Lexeme) → tests_at depth left lexemes ≡ Ok (tests, fewer, rest) → AreTests depth tests lexemes rest × (count_tests tests + fewer ≡ left)
 tests_derived depth left lexemes tests fewer rest h = (tests_found depth left lexemes).is (tests, fewer, rest) h

@@ -1,5 +1,5 @@
 -- The productions of label tests: what is derived is read.
-use Rattle.std.proofs.Common.{◌≡◌, codes, inl, inr, ℕ, zero, suc, ◌+◌, ◌≤◌, true, false, not, List, [], ◌∷◌, Some, None, Ok, refl, ap, ◌∙◌, arith}
+use Rattle.std.proofs.Common.{◌≡◌, codes, inl, inr, ℕ, zero, suc, ◌+◌, ◌≤◌, List, [], ◌∷◌, Some, None, Ok, refl, ap, ◌∙◌, arith}
 use Rattle.rl_query.specs.declared.label_test.Join.{Join}
 use Rattle.rl_query.specs.declared.label_test.Join.TheVariants.{And, Or}
 use Rattle.rl_query_text.specs.declared.parser.Position.TheVariants as positions
@@ -7,9 +7,8 @@ use Rattle.rl_query.specs.declared.token.Lexeme.{Lexeme}
 use Rattle.rl_query.specs.declared.token.Sign.TheVariants as signs
 use Rattle.rl_query.specs.declared.token.Token.TheVariants as tokens
 use Rattle.rl_query.specs.Form.{TestForm}
-use Rattle.rl_query_text.specs.Fronts.{is_sign}
-use Rattle.rl_query_text.specs.TestGrammar.{Rule, IsLabelTest, IsOne, alone, in_parentheses, Joins, AreJoined, part, more, AreTestsIn, AreInside, AreTests}
-use Rattle.rl_query_text.specs.Testing.{IsEnd, Reading, Reader, is_label, test_at, enclosed_at, one_at, behind_and, behind_join, others_at, joined_at, tests_in, inside_at, tests_at}
+use Rattle.rl_query_text.specs.TestGrammar.{Rule, test_name, IsOne, alone, in_parentheses, Joins, AreJoined, part, more, AreInside, AreTests}
+use Rattle.rl_query_text.specs.Testing.{IsEnd, Reading, Reader, test_at, enclosed_at, one_at, behind_and, behind_join, others_at, joined_at, inside_at, tests_at}
 use Rattle.rl_query.specs.TestTree.{TestTree, one, joined, count_tests}
 use Rattle.rl_query_text.proofs.StageStarts.{one_starts, no_more}
 use Rattle.rl_query_text.proofs.Productions.{next_is, stood, expected_is}
@@ -57,31 +56,23 @@ joined_complete : (join : Join) (reader : Reader) (Part : Rule) (Ends : List Lex
 joined_complete join reader Part Ends complete are tests lexemes rest left fewer is ends count =
     chain join reader Part Ends complete are tests lexemes rest left fewer (Ok (tests, fewer, rest)) is ends.0 count (λ most enough. stops join reader most tests fewer rest ends.1)
 
-test_complete : (inside : Reader) (test : TestForm) (lexemes rest : List Lexeme) (fewer : ℕ) → IsLabelTest test lexemes rest → one_at inside (suc fewer) lexemes ≡ Ok (one test, fewer, rest)
-unfolding one_at test_at
-test_complete inside test [] rest fewer is = absurd is.stand
-test_complete inside test (l ∷ lexemes) rest fewer is =
-    let other : is_sign signs.OpenParenthesis l.token ≡ false = ap (is_sign signs.OpenParenthesis) is.stand.0 in
-    let label : is_label l.token ≡ true = ap is_label is.stand.0 ∙ ap not is.free in
-    rw (other, label, label_test_is test (l ∷ lexemes) rest is) refl
-
 one_complete : (inside : Reader) (Inside : Rule) → IsComplete inside Inside IsEnd → IsComplete (one_at inside) (IsOne Inside) (λ _. Unit {0})
-unfolding one_at enclosed_at
-one_complete inside Inside complete _ _ _ left fewer (alone test lexemes rest is) ends count = let some : left ≡ suc fewer = omega (arith, count) in rw some (test_complete inside test lexemes rest fewer is)
+unfolding one_at enclosed_at test_at
+one_complete inside Inside complete _ _ _ left fewer (alone test lexemes rest is) ends count =
+    let some : left ≡ suc fewer = omega (arith, count) in
+    let first = next_is (tokens.Word (test_name test)) (tokens.Sign is.sign ∷ is.value ∷ []) lexemes rest is.stand in
+    rw (some, first.is, is.free, label_test_is test lexemes rest is) refl
 one_complete inside Inside complete _ _ _ left fewer (in_parentheses tests lexemes behind end rest opened is closed) ends count =
     let n = next_is (tokens.Sign signs.OpenParenthesis) [] lexemes behind opened in
     let read = complete tests behind end left fewer is (no_more (tokens.Sign signs.CloseParenthesis) [] end rest closed refl (λ _. refl) refl) count in
     rw (n.is, n.more, read, expected_is signs.CloseParenthesis positions.BehindInnerTests end rest closed) refl
 
-in_complete : (inside : Reader) (Inside : Rule) → IsComplete inside Inside IsEnd → IsComplete (tests_in inside) (AreTestsIn Inside) IsEnd
-in_complete inside Inside complete tests lexemes rest left fewer is ends count =
-    let all = joined_complete And (one_at inside) (IsOne Inside) (λ _. Unit {0}) (one_complete inside Inside complete) (and_joins Inside) in
-    joined_complete Or (joined_at And (one_at inside)) (AreJoined And (IsOne Inside)) (λ rest. Unit {0} × (behind_join And rest ≡ None)) all (or_joins Inside) tests lexemes rest left fewer is ((tt, ends.0), ends.1) count
-
 inside_complete : (depth : ℕ) → IsComplete (inside_at depth) (AreInside depth) IsEnd
 inside_complete zero tests lexemes rest left fewer is ends count = absurd is
-inside_complete (suc depth) tests lexemes rest left fewer is ends count = in_complete (inside_at depth) (AreInside depth) (inside_complete depth) tests lexemes rest left fewer is ends count
+inside_complete (suc depth) tests lexemes rest left fewer is ends count =
+    let all = joined_complete And (one_at (inside_at depth)) (IsOne (AreInside depth)) (λ _. Unit {0}) (one_complete (inside_at depth) (AreInside depth) (inside_complete depth)) (and_joins (AreInside depth)) in
+    joined_complete Or _ _ (λ rest. Unit {0} × (behind_join And rest ≡ None)) all (or_joins (AreInside depth)) tests lexemes rest left fewer is ((tt, ends.0), ends.1) count
 
 -- what is derived is read, if so many tests may come
 pub tests_are_read : (depth left : ℕ) (lexemes : List Lexeme) (tests : TestTree TestForm) (fewer : ℕ) (rest : List Lexeme) → AreTests depth tests lexemes rest → IsEnd rest → count_tests tests + fewer ≡ left → tests_at depth left lexemes ≡ Ok (tests, fewer, rest)
-tests_are_read depth left lexemes tests fewer rest is ends count = in_complete (inside_at depth) (AreInside depth) (inside_complete depth) tests lexemes rest left fewer is ends count
+tests_are_read depth left lexemes tests fewer rest is ends count = inside_complete (suc depth) tests lexemes rest left fewer is ends count

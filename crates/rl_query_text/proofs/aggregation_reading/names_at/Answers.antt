@@ -1,10 +1,9 @@
 -- Each turn reads one name more.
 use Rattle.std.proofs.Common.{◌-◌, ◌+◌, suc, length, Bool, Ok, refl, sym, ap, ◌∙◌, arith}
-use Rattle.std.proofs.lemmas.Result.{err_from_is_err_and}
 use Rattle.rl_query_text.specs.AggregationReading.{named_at}
 use Rattle.rl_query_text.specs.Parsing.{listed_at}
 use Rattle.rl_query_text.proofs.Elements.{none_before, one_more}
-use Rattle.rl_query_text.proofs.Openings.{first_stops}
+use Rattle.rl_query_text.proofs.Openings.{first_stops, fails_on}
 use Rattle.rl_query_text.proofs.aggregation_reading.names_at.Goals as goal
 
 pub loop-turn-init : goal.loop-turn-init
@@ -13,9 +12,8 @@ loop-turn-init c = λ n many. rw c.new-names.ensures.items (none_before (λ n. l
 pub returns-in_err-name : goal.returns-in_err-name
 unfolding listed_at
 returns-in_err-name c =
-    let p = err_from_is_err_and c.from_residual.result c.from_residual.ensures.1 in
     let so_far = c.loop-turn.invariant (suc (length c.args.lexemes.now - (c.loop-turn._turn + 1))) (omega arith) in
-    rw (p.1, p.2, sym so_far) (first_stops c.in_err-name.field-0.0 _ _ (first_stops c.in_err-name.field-0.0 _ _ c.in_err-name.ensures))
+    fails_on _ _ _ _ c.from_residual.ensures.1 (rw (sym so_far) (first_stops _ _ _ (first_stops _ _ _ c.in_err-name.ensures)))
 
 pub returns-then-not-more : goal.returns-then-not-more
 unfolding listed_at

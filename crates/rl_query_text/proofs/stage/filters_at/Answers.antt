@@ -1,13 +1,12 @@
 -- Each turn reads one line filter more.
 use Rattle.std.proofs.Common.{◌≡◌, ◌++◌, ◌∷◌, [], ◌-◌, ◌+◌, suc, length, map, refl, sym, ◌∙◌, arith, append-nil}
-use Rattle.std.proofs.lemmas.Result.{err_from_is_err_and}
 use Rattle.std.proofs.lemmas.List.{map_push, length_push}
 use Rattle.rl_query.specs.Form.{filter_form}
 use Rattle.rl_query.specs.Limits.{most_stages}
 use Rattle.rl_query_text.specs.Parsing.{filters_at}
 use Rattle.rl_query_text.proofs.Elements.{none_before, one_more}
 use Rattle.rl_query_text.proofs.FilterProductions.{filters_turn}
-use Rattle.rl_query_text.proofs.Openings.{first_stops}
+use Rattle.rl_query_text.proofs.Openings.{first_stops, fails_on}
 use Rattle.rl_query_text.proofs.stage.filters_at.Goals as goal
 
 pub loop-turn-init : goal.loop-turn-init
@@ -15,8 +14,7 @@ loop-turn-init c = ((λ n many. rw c.new-filters.ensures.items (none_before (λ 
 
 pub returns-in_err-first-clause-read : goal.returns-in_err-first-clause-read
 returns-in_err-first-clause-read c =
-    let p = err_from_is_err_and c.from_residual.result c.from_residual.ensures.1 in
-    rw (p.1, p.2) (sym (c.loop-turn.invariant.0 (suc (most_stages - (c.loop-turn._turn + 1))) (omega arith)) ∙ rw (filters_turn, c.in_err-first.ensures) refl)
+    fails_on _ _ _ _ c.from_residual.ensures.1 (sym (c.loop-turn.invariant.0 (suc (most_stages - (c.loop-turn._turn + 1))) (omega arith)) ∙ rw (filters_turn, c.in_err-first.ensures) refl)
 
 pub returns-in_default-clause-read : goal.returns-in_default-clause-read
 returns-in_default-clause-read c =
@@ -24,9 +22,8 @@ returns-in_default-clause-read c =
 
 pub returns-in_err-filter-clause-read : goal.returns-in_err-filter-clause-read
 returns-in_err-filter-clause-read c =
-    let p = err_from_is_err_and c.from_residual-in_err-filter.result c.from_residual-in_err-filter.ensures.1 in
     let so_far = c.loop-turn.invariant.0 (suc (most_stages - (c.loop-turn._turn + 1))) (omega arith) in
-    rw (p.1, p.2, sym so_far, filters_turn, c.in_ok-first.ensures, sym c.in-Some.ensures) (first_stops c.in_err-filter.field-0.0 _ _ (first_stops c.in_err-filter.field-0.0 _ _ c.in_err-filter.ensures))
+    fails_on _ _ _ _ c.from_residual-in_err-filter.ensures.1 (rw (sym so_far, filters_turn, c.in_ok-first.ensures, sym c.in-Some.ensures) (first_stops _ _ _ (first_stops _ _ _ c.in_err-filter.ensures)))
 
 pub loop-turn-preserved : goal.loop-turn-preserved
 loop-turn-preserved c =

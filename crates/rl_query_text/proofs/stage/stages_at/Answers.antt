@@ -1,11 +1,10 @@
 -- Each turn reads one stage more.
 use Rattle.std.proofs.Common.{◌≡◌, ◌++◌, ◌∷◌, [], ◌-◌, ◌+◌, suc, ◌∙◌, Bool, Ok, refl, ap, sym, false, map, arith, append-nil}
-use Rattle.std.proofs.lemmas.Result.{err_from_is_err_and}
 use Rattle.std.proofs.lemmas.List.{map_push}
 use Rattle.rl_query.specs.Form.{stage_form}
 use Rattle.rl_query_text.specs.Parsing.{stages_at}
 use Rattle.rl_query_text.proofs.Elements.{none_before, one_more}
-use Rattle.rl_query_text.proofs.Openings.{first_stops}
+use Rattle.rl_query_text.proofs.Openings.{first_stops, fails_on}
 use Rattle.rl_query_text.proofs.stage.stages_at.Goals as goal
 
 pub loop-turn-init : goal.loop-turn-init
@@ -14,8 +13,7 @@ loop-turn-init c = λ n many. rw c.new-stages.ensures.items (none_before (λ n. 
 pub returns-in_err-stage_comes : goal.returns-in_err-stage_comes
 unfolding stages_at
 returns-in_err-stage_comes c =
-    let p = err_from_is_err_and c.from_residual.result c.from_residual.ensures.1 in
-    rw (p.1, p.2) (sym (c.loop-turn.invariant (suc (c.args.room.stages - (c.loop-turn._turn + 1))) (omega arith)) ∙ rw (sym c.in_err-stage_comes.ensures) refl)
+    fails_on _ _ _ _ c.from_residual.ensures.1 (sym (c.loop-turn.invariant (suc (c.args.room.stages - (c.loop-turn._turn + 1))) (omega arith)) ∙ rw (sym c.in_err-stage_comes.ensures) refl)
 
 pub returns-then-not-branch : goal.returns-then-not-branch
 unfolding stages_at
@@ -26,10 +24,9 @@ returns-then-not-branch c =
 pub returns-in_err-stage : goal.returns-in_err-stage
 unfolding stages_at
 returns-in_err-stage c =
-    let p = err_from_is_err_and c.from_residual-in_err-stage.result c.from_residual-in_err-stage.ensures.1 in
     let comes = sym c.in_ok-stage_comes.ensures ∙ ap (λ (b : Bool). Ok b) c.if-not-branch.false in
     let so_far = c.loop-turn.invariant (suc (c.args.room.stages - (c.loop-turn._turn + 1))) (omega arith) in
-    rw (p.1, p.2, sym so_far, comes) (first_stops c.in_err-stage.field-0.0 _ _ (first_stops c.in_err-stage.field-0.0 _ _ c.in_err-stage.ensures))
+    fails_on _ _ _ _ c.from_residual-in_err-stage.ensures.1 (rw (sym so_far, comes) (first_stops _ _ _ (first_stops _ _ _ c.in_err-stage.ensures)))
 
 pub loop-turn-preserved : goal.loop-turn-preserved
 unfolding stages_at
@@ -41,8 +38,7 @@ loop-turn-preserved c =
 
 pub returns-in_err-no_stage : goal.returns-in_err-no_stage
 returns-in_err-no_stage c =
-    let p = err_from_is_err_and c.from_residual-in_err-no_stage.result c.from_residual-in_err-no_stage.ensures.1 in
-    rw (p.1, p.2) (sym (c.loop-turn.invariant 0 (omega arith)) ∙ rw (c.in_err-no_stage.ensures c.loop-turn.parsed c.args.room.depth c.loop-turn.left) refl)
+    fails_on _ _ _ _ c.from_residual-in_err-no_stage.ensures.1 (sym (c.loop-turn.invariant 0 (omega arith)) ∙ rw (c.in_err-no_stage.ensures c.loop-turn.parsed c.args.room.depth c.loop-turn.left) refl)
 
 pub returns : goal.returns
 returns c = sym (c.loop-turn.invariant 0 (omega arith)) ∙ rw (c.in_ok-no_stage.ensures c.loop-turn.parsed c.args.room.depth c.loop-turn.left) (simp append-nil)

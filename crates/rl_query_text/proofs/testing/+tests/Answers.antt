@@ -1,16 +1,14 @@
 -- Each turn joins one part more.
 use Rattle.std.proofs.Common.{◌≡◌, ◌-◌, ◌+◌, suc, refl, sym, ◌∙◌, arith}
-use Rattle.std.proofs.lemmas.Result.{err_from_is_err_and}
 use Rattle.rl_query_text.specs.Testing.{others_at, joined_at, enclosed_at}
-use Rattle.rl_query_text.proofs.Openings.{first_stops}
+use Rattle.rl_query_text.proofs.Openings.{first_stops, fails_on}
 use Rattle.rl_query_text.proofs.TestProductions.{fewer_found}
 use Rattle.rl_query_text.proofs.testing.+tests.Goals as goal
 
 pub joined_at-returns-in_err-tests : goal.joined_at-returns-in_err-tests
 unfolding joined_at
 joined_at-returns-in_err-tests t c =
-    let p = err_from_is_err_and c.from_residual.result c.from_residual.ensures.1 in
-    rw (p.1, p.2) (first_stops c.in_err-tests.field-0.0 _ _ c.in_err-tests.ensures)
+    fails_on _ _ _ _ c.from_residual.ensures.1 (first_stops _ _ _ c.in_err-tests.ensures)
 
 pub joined_at-loop-turn-init : goal.joined_at-loop-turn-init
 unfolding joined_at
@@ -23,9 +21,8 @@ joined_at-returns-in_default t c = sym (c.loop-turn.invariant (suc (c.args.left 
 pub joined_at-returns-in_err-other : goal.joined_at-returns-in_err-other
 unfolding others_at
 joined_at-returns-in_err-other t c =
-    let p = err_from_is_err_and c.from_residual-in_err-other.result c.from_residual-in_err-other.ensures.1 in
     let so_far = c.loop-turn.invariant (suc (c.args.left - (c.loop-turn._turn + 1))) (omega arith) in
-    rw (p.1, p.2, sym so_far, sym c.in-Some.ensures) (first_stops c.in_err-other.field-0.0 _ _ c.in_err-other.ensures)
+    fails_on _ _ _ _ c.from_residual-in_err-other.ensures.1 (rw (sym so_far, sym c.in-Some.ensures) (first_stops _ _ _ c.in_err-other.ensures))
 
 pub joined_at-loop-turn-preserved : goal.joined_at-loop-turn-preserved
 unfolding others_at
@@ -38,9 +35,8 @@ joined_at-returns t c = sym (c.loop-turn.invariant 0 (omega arith))
 pub enclosed_at-returns-in_err-rest : goal.enclosed_at-returns-in_err-rest
 unfolding enclosed_at
 enclosed_at-returns-in_err-rest t c =
-    let p = err_from_is_err_and c.from_residual-in_err-rest.result c.from_residual-in_err-rest.ensures.1 in
     let depth : c.args.depth ≡ suc c.in_ok-fewer.fewer = omega (arith, (fewer_found c.place_of.result c.args.depth).is c.in_ok-fewer.fewer (sym c.in_ok-fewer.ensures)) in
-    rw (p.1, p.2, depth, c.in_ok-tests.ensures, c.in_err-rest.ensures) refl
+    fails_on _ _ _ _ c.from_residual-in_err-rest.ensures.1 (rw (depth, c.in_ok-tests.ensures, c.in_err-rest.ensures) refl)
 
 pub enclosed_at-returns : goal.enclosed_at-returns
 unfolding enclosed_at
