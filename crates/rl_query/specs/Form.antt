@@ -129,8 +129,8 @@ test_has_pattern (by_quantity test) = false
 
 abbrev pub stage_has_pattern : StageForm → Bool
 stage_has_pattern (by_filter filter) = is_line_pattern filter.op
-stage_has_pattern (by_parser parser) = false
 stage_has_pattern (by_tests tests) = any_test test_has_pattern tests
+stage_has_pattern _ = false
 
 -- some stage has a pattern
 abbrev pub stages_have_pattern : List StageForm → Bool
@@ -138,9 +138,8 @@ stages_have_pattern stages = list_any stage_has_pattern stages
 
 -- a stage is a parser
 abbrev pub parses : StageForm → Bool
-parses (by_filter filter) = false
 parses (by_parser parser) = true
-parses (by_tests tests) = false
+parses _ = false
 
 -- how many parsers there are
 abbrev pub parsers_of : List StageForm → ℕ
@@ -148,9 +147,8 @@ parsers_of stages = count_by parses stages
 
 -- how many label tests a stage has
 abbrev pub tests_of : StageForm → ℕ
-tests_of (by_filter filter) = 0
-tests_of (by_parser parser) = 0
 tests_of (by_tests tests) = count_tests tests
+tests_of _ = 0
 
 abbrev pub label_tests : List StageForm → ℕ
 label_tests stages = sum_by tests_of stages

@@ -10,27 +10,24 @@ use Rattle.rl_query.specs.declared.stages.Stage.{Stage}
 use Rattle.rl_query.specs.declared.stages.Stage.TheVariants as kinds
 
 abbrev pub is_parser : Stage → Bool
-is_parser (kinds.Filter filter) = false
 is_parser (kinds.Parser parser) = true
-is_parser (kinds.Tests tests) = false
+is_parser _ = false
 
 abbrev pub count_parsers : List Stage → ℕ
 count_parsers stages = count_by is_parser stages
 
 -- how many label tests a stage has
 abbrev pub tests_in : Stage → ℕ
-tests_in (kinds.Filter filter) = 0
-tests_in (kinds.Parser parser) = 0
 tests_in (kinds.Tests tests) = count_tests tests
+tests_in _ = 0
 
 abbrev pub count_label_tests : List Stage → ℕ
 count_label_tests stages = sum_by tests_in stages
 
 -- at most so many of its parentheses are open at once
 abbrev pub is_shallow : (depth : ℕ) → Stage → Bool
-is_shallow depth (kinds.Filter filter) = true
-is_shallow depth (kinds.Parser parser) = true
 is_shallow depth (kinds.Tests tests) = nat_le (text_depth tests) depth
+is_shallow depth _ = true
 
 abbrev pub are_shallow : (depth : ℕ) → List Stage → Bool
 are_shallow depth stages = list_all (is_shallow depth) stages
