@@ -1,3 +1,4 @@
 pub mod Crossing
 pub mod Durations
 pub mod SameTests
+pub mod SameForms

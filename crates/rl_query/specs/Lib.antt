@@ -9,3 +9,6 @@ pub mod Tested
 pub mod TestTree
 pub mod TestDepth
 pub mod TestEquality
+pub mod MatcherPrinting
+pub mod Printing
+pub mod TestPrinting

@@ -13,18 +13,18 @@ use Rattle.rl_query.specs.declared.token.Sign.TheVariants as signs
 use Rattle.rl_query.specs.declared.token.Token.TheVariants as tokens
 use Rattle.rl_query.specs.declared.token.Token.{Token}
 use Rattle.rl_query_text.proofs.Parentheses.{IsOpened, inside_room, opened_is, opened_read}
-use Rattle.rl_query_text.proofs.Finding.{Finds, found, fault, then, by_test, of_option, next_found, told_by}
-use Rattle.rl_query_text.proofs.Productions.{First, first_at, text_found, named_found, follows, follows_found, IsSoundElement, IsCompleteElement, listed_found, listed_is, first_listed, stood, stand_split, stand_then, next_is, expected_found, expected_is, only_sign}
-use Rattle.rl_query_text.proofs.TestProductions.{only_word}
+use Rattle.rl_selector_text.proofs.Finding.{Finds, found, fault, then, by_test, of_option, next_found, told_by}
+use Rattle.rl_selector_text.proofs.Productions.{First, first_at, text_found, named_found, follows, follows_found, IsSoundElement, IsCompleteElement, listed_found, listed_is, first_listed, stood, stand_split, stand_then, next_is, expected_found, expected_is, only_sign}
+use Rattle.rl_selector_text.proofs.TestProductions.{only_word}
 use Rattle.rl_query_text.specs.AggregationReading.{back_at, ended_at, front_at, grouped_at, groups_loudly, grouping_at, is_operator_word, label_name, named_at, names_in, nested, operator_at, top_at, topk_at}
-use Rattle.rl_query_text.specs.Fronts.{expected, is_sign, next}
-use Rattle.rl_query_text.specs.Standing.{Stand}
-use Rattle.rl_query_text.specs.Stops.{place_of}
+use Rattle.rl_selector_text.specs.Fronts.{expected, is_sign, next}
+use Rattle.rl_selector_text.specs.Standing.{Stand}
+use Rattle.rl_selector_text.specs.Stops.{place_of}
 use Rattle.rl_query_text.specs.TermGrammar.{IsGrouping, IsParameter, OneSide, names_tokens}
-use Rattle.rl_query_text.specs.Testing.{is_word}
+use Rattle.rl_selector_text.specs.Testing.{is_word}
 use Rattle.rl_query_text.specs.declared.aggregation_reading.Front.{Front}
-use Rattle.rl_query_text.specs.declared.parser.Position.TheVariants as positions
-use Rattle.rl_query_text.specs.declared.room.Room.{Room}
+use Rattle.rl_selector_text.specs.declared.front.Position.TheVariants as positions
+use Rattle.rl_selector_text.specs.declared.room.Room.{Room}
 use Rattle.std.proofs.Common.{List, Ok, Option, Some, [], ap, codes, false, inl, inr, is_some, length, refl, subst, suc, sym, true, zero, ℕ, ◌||◌, ◌∙◌, ◌∷◌, ◌≡◌}
 use Rattle.std.proofs.lemmas.Option.{none-some}
 use Rattle.std.specs.List.{list_all}

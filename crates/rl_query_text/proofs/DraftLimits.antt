@@ -11,14 +11,16 @@ use Rattle.rl_query.specs.declared.stages.Stage.TheVariants as kinds
 use Rattle.rl_query.specs.declared.token.Lexeme.{Lexeme}
 use Rattle.rl_query_text.specs.Drafts.{range_draft, term_draft, query_draft, KeepsTerm, stages_read, tests_read, KeepsQuery}
 use Rattle.rl_query.specs.Form.{AggregationForm, RangeForm, TermForm, QueryForm, aggregation_form, stage_form, is_nested}
-use Rattle.rl_query_text.specs.Grammar.{IsRange, AreStages}
+use Rattle.rl_query_text.specs.RangeGrammar.{IsRange}
+use Rattle.rl_selector_text.specs.Grammar.{AreStages}
 use Rattle.rl_query.specs.Limits.{longest_range, most_depth, most_parentheses, most_stages, most_tests}
 use Rattle.rl_query_text.specs.QueryReading.{whole_room}
 use Rattle.rl_query.specs.Stages.{are_shallow}
 use Rattle.rl_query_text.specs.TermGrammar.{IsTerm, IsQuotient, IsQuery}
 use Rattle.rl_query.specs.TestDepth.{text_depth}
 use Rattle.rl_query_text.proofs.QueryProductions.{FitsQuery, IsRoomyQuery, quotient_term}
-use Rattle.rl_query_text.proofs.SameQuery.{shallow_forms, parser_forms, label_forms}
+use Rattle.rl_selector_text.proofs.Proper.{shallow_forms}
+use Rattle.rl_query.proofs.SameForms.{parser_forms, label_forms}
 
 -- the range of a term, in as many parentheses as its vector aggregations leave
 record HasRange (most : ℕ) (term : TermForm) : Type 0 where

@@ -15,7 +15,7 @@ use Rattle.rl_labels.specs.Decimals.{DecimalForm, is_row, number_of, cut_at_poin
 use Rattle.rl_labels.specs.QuantityTexts.{decimal_text, digits_text, is_decimal}
 use Rattle.rl_labels.specs.laws.QuantityLaws.{row-below, decimal_proper, decimal_again}
 use Rattle.rl_query.specs.Aggregations.{is_top, is_threshold, threshold_of, top_of}
-use Rattle.rl_query_text.proofs.QuantityTokens.{IsNumber, whole, whole_proper, whole_then}
+use Rattle.rl_selector_text.proofs.QuantityTokens.{IsNumber, whole, whole_proper, whole_then}
 
 -- what stands in front of the point
 abbrev front : List ℕ → Option (List ℕ × List ℕ) → List ℕ

@@ -1,18 +1,18 @@
 -- Something in parentheses: what is read is derived, and what is derived is read.
 use Rattle.std.proofs.Common.{◌≡◌, ℕ, zero, suc, List, [], ◌∷◌, Ok, refl}
-use Rattle.rl_query_text.specs.Stops.{place_of}
-use Rattle.rl_query_text.specs.declared.parser.Position.{Position}
-use Rattle.rl_query_text.specs.declared.parser.Position.TheVariants as positions
-use Rattle.rl_query_text.specs.declared.room.Room.{Room}
+use Rattle.rl_selector_text.specs.Stops.{place_of}
+use Rattle.rl_selector_text.specs.declared.front.Position.{Position}
+use Rattle.rl_selector_text.specs.declared.front.Position.TheVariants as positions
+use Rattle.rl_selector_text.specs.declared.room.Room.{Room}
 use Rattle.rl_query.specs.declared.token.Lexeme.{Lexeme}
 use Rattle.rl_query.specs.declared.token.Sign.TheVariants as signs
 use Rattle.rl_query.specs.declared.token.Token.TheVariants as tokens
-use Rattle.rl_query_text.specs.Parsing.{deeper, opened_at}
+use Rattle.rl_query_text.specs.RangeReading.{deeper, opened_at}
 use Rattle.rl_query_text.specs.QueryReading.{Reader, in_parentheses}
-use Rattle.rl_query_text.specs.Standing.{Stand}
-use Rattle.rl_query_text.specs.TermGrammar.{Rule, InParentheses}
-use Rattle.rl_query_text.proofs.Finding.{Finds, found, fault, then}
-use Rattle.rl_query_text.proofs.Productions.{expected_found, expected_is}
+use Rattle.rl_selector_text.specs.Standing.{Stand, Rule}
+use Rattle.rl_query_text.specs.TermGrammar.{InParentheses}
+use Rattle.rl_selector_text.proofs.Finding.{Finds, found, fault, then}
+use Rattle.rl_selector_text.proofs.Productions.{expected_found, expected_is}
 
 -- the room inside a parenthesis, and around one
 abbrev pub inside_room : Room → ℕ → Room

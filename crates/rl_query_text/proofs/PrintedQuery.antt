@@ -9,14 +9,14 @@ use Rattle.rl_query.specs.declared.token.Token.TheVariants as tokens
 use Rattle.rl_query.specs.Aggregations.{is_threshold}
 use Rattle.rl_query.specs.Form.{TermForm, ThresholdForm, QueryForm, all_label_tests, all_stages, is_nested}
 use Rattle.rl_query.specs.Limits.{most_parentheses, most_stages, most_tests}
-use Rattle.rl_query_text.specs.Printing.{over_text, query_text, term_text, threshold_text}
+use Rattle.rl_query.specs.Printing.{over_text, query_text, term_text, threshold_text}
 use Rattle.rl_query.specs.Tables.{comparison_sign, sign_text}
 use Rattle.rl_query_text.specs.TermGrammar.{IsQuotient, IsThreshold, Derives}
-use Rattle.rl_query_text.specs.TestGrammar.{ended}
-use Rattle.rl_query_text.proofs.Printed.{Prints, prints_none, prints_as, then_prints, prints_all, spaced, regrouped, token_then, done}
+use Rattle.rl_selector_text.specs.TestGrammar.{ended}
+use Rattle.rl_selector_text.proofs.Printed.{Prints, prints_none, prints_as, then_prints, prints_all, spaced, regrouped, token_then, done}
 use Rattle.rl_query_text.proofs.PrintedTerm.{KeepsTerm, term_prints}
-use Rattle.rl_query_text.proofs.TestPrinted.{comparison_ends}
-use Rattle.rl_query_text.proofs.QuantityTokens.{quantity_number}
+use Rattle.rl_selector_text.proofs.TestPrinted.{comparison_ends}
+use Rattle.rl_selector_text.proofs.QuantityTokens.{quantity_number}
 use Rattle.rl_query_text.proofs.Numbers.{threshold_again}
 
 -- what a form keeps of a query's limits

@@ -14,14 +14,15 @@ use Rattle.rl_query.specs.declared.token.Sign.TheVariants as signs
 use Rattle.rl_query.specs.declared.token.Token.TheVariants as tokens
 use Rattle.rl_query.specs.Aggregations.{is_operator, is_grouping}
 use Rattle.rl_query.specs.Form.{AggregationForm, RangeForm, TermForm, has_real_form, is_nested, parsers_of}
-use Rattle.rl_query_text.specs.Grammar.{IsRange}
+use Rattle.rl_query_text.specs.RangeGrammar.{IsRange}
 use Rattle.rl_query.specs.Limits.{longest_range, most_aggregations, most_depth, most_parentheses}
-use Rattle.rl_query_text.specs.Printing.{range_text, names_text, grouping_text, parameter_text, aggregation_text, term_text}
-use Rattle.rl_query_text.specs.Standing.{Stand, is_matcher}
+use Rattle.rl_query.specs.Printing.{range_text, names_text, grouping_text, parameter_text, aggregation_text, term_text}
+use Rattle.rl_selector_text.specs.Standing.{Stand, is_matcher, Rule}
 use Rattle.rl_query.specs.Tables.{function_text, operator_word}
-use Rattle.rl_query_text.specs.TermGrammar.{Rule, names_tokens, IsGrouping, IsParameter, IsAggregation, IsTerm}
-use Rattle.rl_query_text.proofs.Printed.{Prints, Stops, prints_none, prints_as, then_prints, before_space, regrouped, opens, closes, selector_prints, duration_prints, token_then, done, spaced, lone}
-use Rattle.rl_query_text.proofs.PrintedStages.{is_stage, stages_print}
+use Rattle.rl_query_text.specs.TermGrammar.{names_tokens, IsGrouping, IsParameter, IsAggregation, IsTerm}
+use Rattle.rl_selector_text.proofs.Printed.{Prints, Stops, prints_none, prints_as, then_prints, before_space, regrouped, opens, closes, selector_prints, token_then, done, spaced, lone}
+use Rattle.rl_query_text.proofs.PrintedRange.{duration_prints}
+use Rattle.rl_selector_text.proofs.PrintedStages.{is_stage, stages_print}
 use Rattle.rl_query_text.proofs.Numbers.{top_number, top_again}
 
 -- an aggregation's operator and its grouping are such

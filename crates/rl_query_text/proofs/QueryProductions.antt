@@ -1,9 +1,9 @@
 -- The productions of queries: what is read is derived.
 use Rattle.std.proofs.Common.{◌≡◌, inl, inr, ℕ, zero, suc, ◌≤◌, true, List, [], ◌∷◌, length, Option, Some, None, Result, Ok, refl, sym, subst, arith}
 use Rattle.std.proofs.lemmas.Bool.{and_parts, and_from, le-leb}
-use Rattle.rl_query_text.specs.declared.parser.Position.TheVariants as positions
+use Rattle.rl_selector_text.specs.declared.front.Position.TheVariants as positions
 use Rattle.rl_query.specs.declared.quantity_test.Comparison.{Comparison}
-use Rattle.rl_query_text.specs.declared.room.Room.{Room}
+use Rattle.rl_selector_text.specs.declared.room.Room.{Room}
 use Rattle.rl_query.specs.declared.token.Lexeme.{Lexeme}
 use Rattle.rl_query.specs.declared.token.Sign.TheVariants as signs
 use Rattle.rl_query.specs.declared.token.Token.{Token}
@@ -11,17 +11,17 @@ use Rattle.rl_query.specs.declared.token.Token.TheVariants as tokens
 use Rattle.rl_query_text.specs.AggregationReading.{number_at, compared_by, threshold_at}
 use Rattle.rl_query.specs.Aggregations.{threshold_of}
 use Rattle.rl_query.specs.Form.{TermForm, ThresholdForm, QueryForm, all_stages, all_label_tests, is_nested, are_nested}
-use Rattle.rl_query_text.specs.Fronts.{is_sign, next}
-use Rattle.rl_query_text.specs.Lexing.{lexemes_of}
+use Rattle.rl_selector_text.specs.Fronts.{is_sign, next}
+use Rattle.rl_selector_text.specs.Lexing.{lexemes_of}
 use Rattle.rl_query.specs.Limits.{most_aggregations, most_parentheses}
 use Rattle.rl_query_text.specs.QueryReading.{Reader, room_behind, over_at, divided_at, compared_at, with_test, lone_at, operand_at, behind_at, query_by, query_within, ends, whole_room, whole_at, query_in, query_reading}
-use Rattle.rl_query_text.specs.Standing.{Stand}
+use Rattle.rl_selector_text.specs.Standing.{Stand}
 use Rattle.rl_query.specs.Tables.{comparison_sign}
 use Rattle.rl_query_text.specs.TermGrammar.{IsTerm, IsQuotient, IsThreshold, IsQuery, Derives}
 use Rattle.rl_query_text.proofs.Parentheses.{inside_told, parentheses_read}
-use Rattle.rl_query_text.proofs.Finding.{Finds, found, fault, itself, then, by_test, of_option, next_found, told_by}
-use Rattle.rl_query_text.specs.declared.stop.Stop.{Stop}
-use Rattle.rl_query_text.proofs.Productions.{stand_then, only_sign}
+use Rattle.rl_selector_text.proofs.Finding.{Finds, found, fault, itself, then, by_test, of_option, next_found, told_by}
+use Rattle.rl_selector_text.specs.declared.stop.Stop.{Stop}
+use Rattle.rl_selector_text.proofs.Productions.{stand_then, only_sign}
 use Rattle.rl_query_text.proofs.TermProductions.{term_derived}
 
 -- What is a term, a quotient and a query.

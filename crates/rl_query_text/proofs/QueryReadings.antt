@@ -2,10 +2,10 @@
 use Rattle.std.proofs.Common.{◌≡◌, inl, inr, ℕ, zero, suc, true, false, List, [], ◌∷◌, length, Option, Some, None, Ok, refl, sym, subst, arith}
 use Rattle.std.proofs.Math.Bool.{and-false}
 use Rattle.std.proofs.lemmas.Bool.{and_parts, and_from, leb-true}
-use Rattle.rl_query_text.specs.declared.parser.Position.TheVariants as positions
+use Rattle.rl_selector_text.specs.declared.front.Position.TheVariants as positions
 use Rattle.rl_query.specs.declared.quantity_test.Comparison.{Comparison}
 use Rattle.rl_query.specs.declared.quantity_test.Comparison.TheVariants as comparisons
-use Rattle.rl_query_text.specs.declared.room.Room.{Room}
+use Rattle.rl_selector_text.specs.declared.room.Room.{Room}
 use Rattle.rl_query.specs.declared.token.Lexeme.{Lexeme}
 use Rattle.rl_query.specs.declared.token.Sign.TheVariants as signs
 use Rattle.rl_query.specs.declared.token.Token.{Token}
@@ -13,16 +13,16 @@ use Rattle.rl_query.specs.declared.token.Token.TheVariants as tokens
 use Rattle.rl_query_text.specs.AggregationReading.{compared_by, threshold_at}
 use Rattle.rl_query.specs.Form.{AggregationForm, RangeForm, TermForm, ThresholdForm, QueryForm, is_nested}
 use Rattle.rl_query.specs.declared.query.RangeFunction.{RangeFunction}
-use Rattle.rl_query_text.specs.Fronts.{is_sign}
-use Rattle.rl_query_text.specs.Lexing.{lexemes_of}
+use Rattle.rl_selector_text.specs.Fronts.{is_sign}
+use Rattle.rl_selector_text.specs.Lexing.{lexemes_of}
 use Rattle.rl_query.specs.Limits.{most_aggregations, most_parentheses}
 use Rattle.rl_query_text.specs.QueryReading.{Reader, alone, room_behind, over_at, divided_at, compared_at, lone_at, operand_at, behind_at, query_by, query_within, whole_room, whole_at, query_in, query_reading}
-use Rattle.rl_query_text.specs.Standing.{Stand}
+use Rattle.rl_selector_text.specs.Standing.{Stand}
 use Rattle.rl_query.specs.Tables.{comparison_sign, function_text, operator_word}
 use Rattle.rl_query_text.specs.TermGrammar.{InParentheses, IsBare, IsTerm, IsQuotient, IsThreshold, IsQuery, Derives}
 use Rattle.rl_query_text.proofs.AggregationProductions.{ends_term, EndsTerm}
 use Rattle.rl_query_text.proofs.Parentheses.{inside_room, inside_told, parentheses_are}
-use Rattle.rl_query_text.proofs.Productions.{next_is, stood, First, first_at, first_half}
+use Rattle.rl_selector_text.proofs.Productions.{next_is, stood, First, first_at, first_half}
 use Rattle.rl_query_text.proofs.QueryProductions.{parts_of_query, FitsQuery, quotient_query, quotient_term, term_quotient}
 use Rattle.rl_query_text.proofs.TermProductions.{Fits, IsRoomyTerm, term_is}
 

@@ -1,24 +1,25 @@
 -- The productions of ranges: what is read is derived, and what is derived is read.
-use Rattle.rl_query_text.proofs.StageStarts.{Ends, ends_at}
-use Rattle.rl_query_text.specs.Grammar.{IsDuration, IsRange, IsTimed}
+use Rattle.rl_selector_text.proofs.StageStarts.{Ends, ends_at}
+use Rattle.rl_query_text.specs.RangeGrammar.{IsDuration, IsRange, IsTimed}
 use Rattle.rl_query.specs.Limits.{longest_range}
 use Rattle.rl_query.specs.Form.{RangeForm, StageForm, label_tests}
 use Rattle.std.proofs.Common.{◌≡◌, inl, inr, ℕ, suc, ◌≤◌, nat_le, true, ◌&&◌, List, [], ◌∷◌, length, Option, Some, None, Ok, refl, sym, ap, subst, arith}
 use Rattle.std.proofs.lemmas.Bool.{and_parts, and_from, leb-true, le-leb}
-use Rattle.rl_query_text.specs.declared.parser.Position.{Position}
-use Rattle.rl_query_text.specs.declared.parser.Position.TheVariants as positions
-use Rattle.rl_query_text.specs.declared.room.Room.{Room}
+use Rattle.rl_selector_text.specs.declared.front.Position.{Position}
+use Rattle.rl_selector_text.specs.declared.front.Position.TheVariants as positions
+use Rattle.rl_selector_text.specs.declared.room.Room.{Room}
 use Rattle.rl_query.specs.declared.token.Lexeme.{Lexeme}
 use Rattle.rl_query.specs.declared.token.Sign.TheVariants as signs
 use Rattle.rl_query.specs.declared.token.Token.{Token}
 use Rattle.rl_query.specs.declared.token.Token.TheVariants as tokens
 use Rattle.rl_query.specs.Durations.{duration_of}
-use Rattle.rl_query_text.specs.Standing.{Stand}
-use Rattle.rl_query_text.specs.Fronts.{expected}
-use Rattle.rl_query_text.specs.Parsing.{looks_like_duration, seconds_of, range_of, seconds_at, closing_at, range_at, behind_stages, closed_at, timed_at}
-use Rattle.rl_query_text.proofs.Finding.{Finds, found, fault, then, by_test, next_found, told_by}
-use Rattle.rl_query_text.proofs.Productions.{stand_then, stood, expected_found, expected_is, selector_found, selector_is}
-use Rattle.rl_query_text.proofs.StageProductions.{AreRoomy, stages_derived, stages_are_read}
+use Rattle.rl_selector_text.specs.Standing.{Stand}
+use Rattle.rl_selector_text.specs.Fronts.{expected}
+use Rattle.rl_query_text.specs.RangeReading.{looks_like_duration, seconds_of, range_of, seconds_at, closing_at, range_at, closed_at, timed_at}
+use Rattle.rl_selector_text.specs.Parsing.{behind_stages}
+use Rattle.rl_selector_text.proofs.Finding.{Finds, found, fault, then, by_test, next_found, told_by}
+use Rattle.rl_selector_text.proofs.Productions.{stand_then, stood, expected_found, expected_is, selector_found, selector_is}
+use Rattle.rl_selector_text.proofs.StageProductions.{AreRoomy, stages_derived, stages_are_read}
 use Rattle.rl_query_text.proofs.Parentheses.{inside_room, opened_read, opened_is}
 
 -- the seconds of a range

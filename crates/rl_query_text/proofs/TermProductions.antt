@@ -1,26 +1,26 @@
 -- The productions of terms: what is read is derived, and what is derived is read.
 use Rattle.std.proofs.Common.{◌≡◌, inl, inr, ℕ, zero, suc, ◌≤◌, true, false, List, [], ◌∷◌, length, Some, Ok, refl, sym, ap, subst, ◌∙◌, arith}
-use Rattle.rl_query_text.specs.declared.parser.Position.{Position}
-use Rattle.rl_query_text.specs.declared.parser.Position.TheVariants as positions
+use Rattle.rl_selector_text.specs.declared.front.Position.{Position}
+use Rattle.rl_selector_text.specs.declared.front.Position.TheVariants as positions
 use Rattle.rl_query.specs.declared.query.RangeFunction.{RangeFunction}
 use Rattle.rl_query.specs.declared.query.RangeFunction.TheVariants as functions
-use Rattle.rl_query_text.specs.declared.room.Room.{Room}
+use Rattle.rl_selector_text.specs.declared.room.Room.{Room}
 use Rattle.rl_query.specs.declared.token.Lexeme.{Lexeme}
 use Rattle.rl_query.specs.declared.token.Sign.TheVariants as signs
 use Rattle.rl_query.specs.declared.token.Token.{Token}
 use Rattle.rl_query.specs.declared.token.Token.TheVariants as tokens
 use Rattle.rl_query_text.specs.AggregationReading.{is_operator_word}
 use Rattle.rl_query.specs.Form.{AggregationForm, RangeForm, TermForm, label_tests}
-use Rattle.rl_query_text.specs.Fronts.{is_sign}
+use Rattle.rl_selector_text.specs.Fronts.{is_sign}
 use Rattle.rl_query.specs.Limits.{most_aggregations}
 use Rattle.rl_query_text.specs.QueryReading.{TermReader, around, aggregated_at, ranged_at, begun_at, term_by, term_in, term_at}
-use Rattle.rl_query_text.specs.Standing.{Stand}
+use Rattle.rl_selector_text.specs.Standing.{Stand}
 use Rattle.rl_query.specs.Tables.{function_text, all_functions, function_with_text, operator_word}
 use Rattle.rl_query_text.specs.TermGrammar.{IsParameter, IsAggregation, IsBare, IsTerm}
 use Rattle.rl_query_text.proofs.AggregationProductions.{front_found, ended_found, EndsTerm, word_of_operator, front_of, front_is, ended_is}
 use Rattle.rl_query_text.proofs.Parentheses.{inside_room, outside, inside_told, parentheses_read, parentheses_are}
-use Rattle.rl_query_text.proofs.Finding.{Finds, found, fault, then, by_test, of_option, next_found, told_by}
-use Rattle.rl_query_text.proofs.Productions.{text_found, next_is, stood, first_at}
+use Rattle.rl_selector_text.proofs.Finding.{Finds, found, fault, then, by_test, of_option, next_found, told_by}
+use Rattle.rl_selector_text.proofs.Productions.{text_found, next_is, stood, first_at}
 use Rattle.rl_query_text.proofs.RangeProductions.{range_derived, range_is}
 
 -- Range aggregations, by their words.

@@ -10,24 +10,25 @@ use Rattle.rl_query.specs.declared.aggregation.Grouping.{Grouping}
 use Rattle.rl_query.specs.declared.aggregation.Grouping.TheVariants as groupings
 use Rattle.rl_query.specs.declared.aggregation.VectorOperator.{VectorOperator}
 use Rattle.rl_query.specs.declared.aggregation.VectorOperator.TheVariants as operators
-use Rattle.rl_query_text.specs.Bytes.{point}
-use Rattle.rl_query_text.specs.declared.stop.Stop.{Stop}
-use Rattle.rl_query_text.specs.Stops.{stop, syntax, unsupported, place_of}
+use Rattle.rl_selector_text.specs.Bytes.{point}
+use Rattle.rl_selector_text.specs.declared.stop.Stop.{Stop}
+use Rattle.rl_selector_text.specs.Stops.{stop, syntax, unsupported, place_of}
 use Rattle.rl_query.specs.declared.fault.QueryFault.TheVariants as faults
 use Rattle.rl_query_text.specs.declared.aggregation_reading.Front.{Front}
-use Rattle.rl_query_text.specs.declared.parser.Position.TheVariants as positions
+use Rattle.rl_selector_text.specs.declared.front.Position.TheVariants as positions
 use Rattle.rl_query.specs.declared.quantity_test.Comparison.{Comparison}
-use Rattle.rl_query_text.specs.declared.room.Room.{Room}
+use Rattle.rl_selector_text.specs.declared.room.Room.{Room}
 use Rattle.rl_query.specs.declared.token.Lexeme.{Lexeme}
 use Rattle.rl_query.specs.declared.token.Sign.TheVariants as signs
 use Rattle.rl_query.specs.declared.token.Token.{Token}
 use Rattle.rl_query.specs.declared.token.Token.TheVariants as tokens
 use Rattle.rl_query.specs.Aggregations.{threshold_of, top_of}
 use Rattle.rl_query.specs.Form.{AggregationForm, ThresholdForm}
-use Rattle.rl_query_text.specs.Fronts.{is_in_any_case, refusal, is_sign, next, expected, name_of}
-use Rattle.rl_query_text.specs.Parsing.{listed_at, opened_at}
+use Rattle.rl_selector_text.specs.Fronts.{is_in_any_case, refusal, is_sign, next, expected, name_of}
+use Rattle.rl_selector_text.specs.Parsing.{listed_at}
+use Rattle.rl_query_text.specs.RangeReading.{opened_at}
 use Rattle.rl_query.specs.Tables.{comparison_of, plain_operator}
-use Rattle.rl_query_text.specs.Testing.{is_word}
+use Rattle.rl_selector_text.specs.Testing.{is_word}
 
 -- a name that a label may have
 abbrev pub label_name : ℕ → Token → Result (List ℕ) Stop

@@ -2,26 +2,26 @@
 use Rattle.std.specs.Prelude.{ℕ, zero, suc, ◌-◌, Bool, not, ◌&&◌, List, [], ◌∷◌, length, Option, Some, None, is_some, Result, Ok, Err, if◌then◌else◌}
 use Rattle.std.specs.Option.{option_map_or}
 use Rattle.rl_plain.specs.Answers.{◌>>=◌}
-use Rattle.rl_query_text.specs.declared.stop.Stop.{Stop}
-use Rattle.rl_query_text.specs.Stops.{stop, place_of, fault_of}
+use Rattle.rl_selector_text.specs.declared.stop.Stop.{Stop}
+use Rattle.rl_selector_text.specs.Stops.{stop, place_of, fault_of}
 use Rattle.rl_query.specs.declared.fault.QueryFault.{QueryFault}
 use Rattle.rl_query.specs.declared.fault.QueryFault.TheVariants as faults
-use Rattle.rl_query_text.specs.declared.parser.Position.{Position}
-use Rattle.rl_query_text.specs.declared.parser.Position.TheVariants as positions
+use Rattle.rl_selector_text.specs.declared.front.Position.{Position}
+use Rattle.rl_selector_text.specs.declared.front.Position.TheVariants as positions
 use Rattle.rl_query.specs.declared.quantity_test.Comparison.{Comparison}
 use Rattle.rl_query.specs.declared.query.RangeFunction.{RangeFunction}
-use Rattle.rl_query_text.specs.declared.room.Room.{Room}
+use Rattle.rl_selector_text.specs.declared.room.Room.{Room}
 use Rattle.rl_query.specs.declared.token.Sign.TheVariants as signs
 use Rattle.rl_query.specs.declared.token.Lexeme.{Lexeme}
 use Rattle.rl_query.specs.declared.token.Token.{Token}
 use Rattle.rl_query.specs.declared.token.Token.TheVariants as tokens
 use Rattle.rl_query_text.specs.AggregationReading.{is_operator_word, front_at, ended_at, compared_by, threshold_at}
 use Rattle.rl_query.specs.Form.{AggregationForm, TermForm, ThresholdForm, QueryForm, label_tests}
-use Rattle.rl_query_text.specs.Fronts.{refusal, is_sign, next, expected}
-use Rattle.rl_query_text.specs.Lexing.{lexemes_of}
-use Rattle.rl_query_text.specs.Meeting.{meets_pattern}
+use Rattle.rl_selector_text.specs.Fronts.{refusal, is_sign, next, expected}
+use Rattle.rl_selector_text.specs.Lexing.{lexemes_of}
+use Rattle.rl_selector_text.specs.Meeting.{meets_pattern}
 use Rattle.rl_query.specs.Limits.{most_aggregations, most_parentheses, most_stages, most_tests}
-use Rattle.rl_query_text.specs.Parsing.{opened_at, range_at}
+use Rattle.rl_query_text.specs.RangeReading.{opened_at, range_at}
 use Rattle.rl_query.specs.Tables.{function_with_text}
 
 -- what reads something from tokens, and leaves those that follow

@@ -11,15 +11,11 @@ use Rattle.rl_query.specs.declared.token.Token.{Token}
 use Rattle.rl_query.specs.declared.token.Token.TheVariants as tokens
 use Rattle.rl_query.specs.Aggregations.{is_grouping, threshold_of, top_of}
 use Rattle.rl_query.specs.Form.{AggregationForm, RangeForm, TermForm, ThresholdForm, QueryForm, all_stages, all_label_tests, are_nested}
-use Rattle.rl_query_text.specs.Grammar.{IsRange}
-use Rattle.rl_query_text.specs.Lexing.{lexemes_of}
+use Rattle.rl_query_text.specs.RangeGrammar.{IsRange}
+use Rattle.rl_selector_text.specs.Lexing.{lexemes_of}
 use Rattle.rl_query.specs.Limits.{most_parentheses, most_stages, most_tests}
-use Rattle.rl_query_text.specs.Standing.{Stand}
+use Rattle.rl_selector_text.specs.Standing.{Stand, Rule}
 use Rattle.rl_query.specs.Tables.{comparison_sign, function_text, operator_word}
-
--- tokens, and those that follow
-abbrev pub Rule : Type 1
-Rule = List Lexeme → List Lexeme → Type 0
 
 -- "(" what is inside ")"
 pub record InParentheses (Inside : Rule) (lexemes rest : List Lexeme) : Type 0 where

@@ -8,13 +8,10 @@ ghost use Rattle.rl_plain.specs.Answers.{Gives, Answers};
 ghost use Rattle.rl_query.specs.Aggregations.{is_top, is_operator, is_grouping, is_threshold, top_of, threshold_of};
 ghost use Rattle.rl_query_text.specs.AggregationReading.{label_name, name_follows, named_at, names_in, grouped_at, groups_loudly, grouping_at, top_at, topk_at, operator_at, is_operator_word, nested, front_at, back_at, ended_at, are_digits, is_digits, number_at, compared_by, threshold_at};
 ghost use Rattle.rl_query.specs.Form.{aggregation_form, threshold_form};
-ghost use Rattle.rl_query_text.specs.Parsing.{listed_at};
+ghost use Rattle.rl_selector_text.specs.Parsing.{listed_at};
 ghost use Rattle.rl_query.specs.Tables.{plain_operator};
 
-use crate::parser::{Position, expected, is_sign, name_of, next, opened_at, refusal};
-use crate::room::Room;
-use crate::stop::{Stop, Stopped, place_of};
-use crate::testing::{comparison_of, is_word};
+use crate::range_reading::opened_at;
 use rl_labels::labels::is_label_name;
 use rl_labels::{Decimal, number_of};
 use rl_plain::{PlainList, PlainText, TryCopy};
@@ -22,6 +19,10 @@ use rl_query::aggregation::{Aggregation, Grouping, Threshold, VectorOperator};
 use rl_query::fault::QueryFault;
 use rl_query::quantity_test::Comparison;
 use rl_query::token::{Lexeme, Sign, Token};
+use rl_selector_text::front::{Position, expected, is_sign, name_of, next, refusal};
+use rl_selector_text::room::Room;
+use rl_selector_text::stop::{Stop, Stopped, place_of};
+use rl_selector_text::testing::{comparison_of, is_word};
 use std::alloc::Global;
 
 /// What stands before the term in a vector aggregation.

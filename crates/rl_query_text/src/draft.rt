@@ -1,8 +1,7 @@
 //! Ranges, terms and queries as they are read, before it is known that they keep their limits.
-ghost use Rattle.std.specs.Prelude.{◌≡◌};
+ghost use Rattle.std.specs.Prelude.{◌≡◌, option_map};
 ghost use Rattle.rl_query_text.specs.Drafts.{range_draft, term_draft, query_draft, KeepsRange, KeepsTerm, KeepsOver, KeepsQuery};
 ghost use Rattle.rl_query.specs.Form.{range_form, term_form, query_form};
-ghost use Rattle.std.specs.Prelude.{option_map};
 
 use rl_plain::PlainList;
 use rl_query::aggregation::{Aggregation, Threshold};

@@ -5,14 +5,11 @@ ghost use Rattle.rl_query_text.specs.Drafts.{term_draft, query_draft, KeepsQuery
 ghost use Rattle.rl_query.specs.Form.{stage_form, tests_of, label_tests, query_form, threshold_form};
 ghost use Rattle.rl_query.specs.TestTree.{count_tests};
 ghost use Rattle.rl_query_text.specs.QueryReading.{in_parentheses, room_behind, is_term, over_at, divided_at, comes_to_test, compared_at, with_test, lone_at, operand_at, behind_at, query_within, ends, whole_room, whole_at, query_in};
-ghost use Rattle.rl_query_text.specs.declared.parser.Position.TheVariants as positions;
+ghost use Rattle.rl_selector_text.specs.declared.front.Position.TheVariants as positions;
 
 use crate::aggregation_reading::{compared_by, threshold_at};
 use crate::draft::{DraftQuery, DraftTerm, made_query};
-use crate::parser::{Position, expected, is_sign, next, opened_at, refusal};
-use crate::room::Room;
-use crate::stage::MOST_STAGES;
-use crate::stop::{Stop, Stopped};
+use crate::range_reading::opened_at;
 use crate::term_reading::term_at;
 use rl_query::aggregation::Threshold;
 use rl_query::label_test::{LabelTests, TestParts};
@@ -20,6 +17,10 @@ use rl_query::quantity_test::Comparison;
 use rl_query::query::Query;
 use rl_query::stages::Stage;
 use rl_query::token::{Lexeme, Sign, Token};
+use rl_selector_text::front::{Position, expected, is_sign, next, refusal};
+use rl_selector_text::room::Room;
+use rl_selector_text::stage::MOST_STAGES;
+use rl_selector_text::stop::{Stop, Stopped};
 use std::alloc::Global;
 
 // The most parentheses that are open at once.

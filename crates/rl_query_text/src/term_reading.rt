@@ -4,18 +4,17 @@ ghost use Rattle.rl_plain.specs.Answers.{Gives};
 ghost use Rattle.rl_query_text.specs.Drafts.{term_draft};
 ghost use Rattle.rl_query.specs.Form.{aggregation_form};
 ghost use Rattle.rl_query_text.specs.QueryReading.{in_parentheses, around, aggregated_at, ranged_at, worded_at, term_in, term_at};
-ghost use Rattle.rl_query_text.specs.declared.parser.Position.TheVariants as positions;
+ghost use Rattle.rl_selector_text.specs.declared.front.Position.TheVariants as positions;
 
 use crate::aggregation_reading::{ended_at, front_at, is_operator_word};
 use crate::draft::DraftTerm;
-use crate::parser::{
-    Position, expected, is_sign, next, opened_at, range_at, refusal, refused_word,
-};
-use crate::room::Room;
-use crate::stop::{Stop, Stopped};
+use crate::range_reading::{opened_at, range_at};
 use rl_query::aggregation::Aggregation;
 use rl_query::query::RangeFunction;
 use rl_query::token::{Lexeme, Sign, Token};
+use rl_selector_text::front::{Position, expected, is_sign, next, refusal, refused_word};
+use rl_selector_text::room::Room;
+use rl_selector_text::stop::Stopped;
 use std::alloc::{AllocError, Global};
 
 // The most vector aggregations of a term.

@@ -6,9 +6,9 @@ use Rattle.rl_labels.specs.declared.entry.Entry.{Entry}
 use Rattle.rl_rules.specs.declared.rule.Group.{Group}
 use Rattle.rl_query.specs.declared.filter.Sieve.{Sieve}
 use Rattle.rl_query.specs.declared.fault.QueryFault.{QueryFault}
-use Rattle.rl_query_text.specs.Answering.{Reads}
+use Rattle.rl_selector_text.specs.Answering.{Reads}
 use Rattle.rl_query.specs.Form.{sieve_form}
-use Rattle.rl_query_text.specs.Sieving.{sieve_of, sieve_meets_pattern}
+use Rattle.rl_selector_text.specs.Sieving.{sieve_of, sieve_meets_pattern}
 use Rattle.rl_shard.specs.declared.step.ShardReply.{ShardReply}
 use Rattle.rl_shard.specs.declared.step.ShardStep.{ShardStep}
 use Rattle.rl_shard.specs.declared.step.ShardStep.TheVariants as shard_steps

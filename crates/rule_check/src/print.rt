@@ -1,7 +1,7 @@
 //! Groups and rules as a ruler reads them, a line each.
 use crate::told::Untold;
 use rl_plain::{PlainText, push_escaped};
-use rl_query_text::print;
+use rl_query::print;
 use rl_rules::{Group, Rule, RuleKind};
 
 // What is escaped in a label text.

@@ -3,8 +3,9 @@ use crate::compared::{halves, matched};
 use crate::given::Read;
 use crate::told::{tell, tell_debug};
 use crate::trouble::Trouble;
-use rl_query::{Query, QueryError, QueryFault, Sieve, Stage};
-use rl_query_text::{parse, parse_delete, print, print_sieve, print_tests};
+use rl_query::{Query, QueryError, QueryFault, Sieve, Stage, print};
+use rl_query_text::parse;
+use rl_selector_text::{parse_delete, print_sieve, print_tests};
 use std::alloc::{AllocError, AllocFailed, Global};
 use std::mem;
 

@@ -1,9 +1,9 @@
 -- Each turn reads one name more.
 use Rattle.std.proofs.Common.{◌-◌, ◌+◌, suc, length, Bool, Ok, refl, sym, ap, ◌∙◌, arith}
 use Rattle.rl_query_text.specs.AggregationReading.{named_at}
-use Rattle.rl_query_text.specs.Parsing.{listed_at}
-use Rattle.rl_query_text.proofs.Elements.{none_before, one_more}
-use Rattle.rl_query_text.proofs.Openings.{first_stops, fails_on}
+use Rattle.rl_selector_text.specs.Parsing.{listed_at}
+use Rattle.rl_selector_text.proofs.Elements.{none_before, one_more}
+use Rattle.rl_selector_text.proofs.Finding.{first_stops, fails_on}
 use Rattle.rl_query_text.proofs.aggregation_reading.names_at.Goals as goal
 
 pub loop-turn-init : goal.loop-turn-init

@@ -1,5 +1,6 @@
 -- What is read is derived, and a printed query is read as itself.
-use Rattle.rl_query_text.proofs.Answered.{derived, all_read, read_again, queries}
+use Rattle.rl_selector_text.proofs.Answered.{derived, all_read, read_again}
+use Rattle.rl_query_text.proofs.AnsweredQueries.{queries}
 use Rattle.rl_query_text.proofs.parser.parse.Goals as goal
 
 pub returns-clause-again : goal.returns-clause-again

@@ -4,11 +4,12 @@ use Rattle.rl_query_text.specs.Drafts.{query_draft}
 use Rattle.rl_query.specs.Form.{QueryForm}
 use Rattle.rl_query_text.specs.QueryReading.{query_within}
 use Rattle.rl_query_text.specs.declared.draft.DraftQuery.{DraftQuery}
-use Rattle.rl_query_text.specs.declared.room.Room.{Room}
+use Rattle.rl_selector_text.specs.declared.room.Room.{Room}
 use Rattle.rl_query.specs.declared.token.Lexeme.{Lexeme}
-use Rattle.rl_query_text.specs.declared.parser.Position.TheVariants as positions
+use Rattle.rl_selector_text.specs.declared.front.Position.TheVariants as positions
 use Rattle.rl_query_text.proofs.Parentheses.{opened_read}
-use Rattle.rl_query_text.proofs.Openings.{first_stops, fails_on, opened_reads}
+use Rattle.rl_selector_text.proofs.Finding.{first_stops, fails_on}
+use Rattle.rl_query_text.proofs.Openings.{opened_reads}
 use Rattle.rl_query_text.proofs.query_reading.+queries.Goals as goal
 
 -- a draft and the tokens behind it

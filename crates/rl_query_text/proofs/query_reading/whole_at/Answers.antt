@@ -4,9 +4,9 @@ use Rattle.rl_plain.specs.declared.refusal.OrMemory.{OrMemory}
 use Rattle.rl_plain.specs.Answers.{Gives}
 use Rattle.rl_query_text.specs.Drafts.{query_draft, KeepsQuery}
 use Rattle.rl_query.specs.Form.{QueryForm}
-use Rattle.rl_query_text.specs.declared.room.Room.{Room}
+use Rattle.rl_selector_text.specs.declared.room.Room.{Room}
 use Rattle.rl_query_text.specs.declared.draft.DraftQuery.{DraftQuery}
-use Rattle.rl_query_text.specs.declared.stop.Stop.{Stop}
+use Rattle.rl_selector_text.specs.declared.stop.Stop.{Stop}
 use Rattle.rl_query.specs.declared.token.Lexeme.{Lexeme}
 use Rattle.rl_query_text.specs.QueryReading.{query_within, whole_at}
 use Rattle.rl_query_text.proofs.DraftLimits.{query_keeps}

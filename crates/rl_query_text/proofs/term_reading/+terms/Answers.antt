@@ -4,12 +4,13 @@ use Rattle.rl_query_text.specs.Drafts.{term_draft}
 use Rattle.rl_query.specs.Form.{TermForm}
 use Rattle.rl_query_text.specs.QueryReading.{term_by, term_in}
 use Rattle.rl_query_text.specs.declared.draft.DraftTerm.{DraftTerm}
-use Rattle.rl_query_text.specs.declared.room.Room.{Room}
+use Rattle.rl_selector_text.specs.declared.room.Room.{Room}
 use Rattle.rl_query.specs.declared.token.Lexeme.{Lexeme}
 use Rattle.rl_query.specs.declared.token.Token.TheVariants as tokens
-use Rattle.rl_query_text.specs.declared.parser.Position.TheVariants as positions
+use Rattle.rl_selector_text.specs.declared.front.Position.TheVariants as positions
 use Rattle.rl_query_text.proofs.Parentheses.{opened_read}
-use Rattle.rl_query_text.proofs.Openings.{first_stops, fails_on, opened_reads, front_depth, front_reads}
+use Rattle.rl_selector_text.proofs.Finding.{first_stops, fails_on}
+use Rattle.rl_query_text.proofs.Openings.{opened_reads, front_depth, front_reads}
 use Rattle.rl_query_text.proofs.term_reading.+terms.Goals as goal
 
 -- a draft and the tokens behind it

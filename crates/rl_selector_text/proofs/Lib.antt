@@ -1,0 +1,25 @@
+pub mod Answered
+pub mod Cuts
+pub mod Elements
+mod Examples
+pub mod FilterProductions
+pub mod Finding
+pub mod FreeNames
+pub mod Lexemes
+pub mod Meetings
+pub mod MetPatterns
+pub mod Printed
+pub mod PrintedSieve
+pub mod PrintedStages
+pub mod Productions
+pub mod Proper
+pub mod QuantityProductions
+pub mod QuantityTokens
+pub mod Sieves
+pub mod StageProductions
+pub mod StageStarts
+pub mod TestDepths
+pub mod TestPrinted
+pub mod TestProductions
+pub mod TestReadings
+pub mod Texts

@@ -1,0 +1,7 @@
+-- What is left before the place is that of what is left.
+use Rattle.std.proofs.Common.{◌≡◌, ◌+◌, nat_lt, drop}
+use Rattle.std.specs.List.{prefix_len}
+use Rattle.rl_selector_text.proofs.meeting.count_before.Given as goal
+
+abbrev pub invariant-loop-index : goal.invariant-loop-index
+invariant-loop-index l = l.index + prefix_len (λ lexeme. nat_lt lexeme.place l.place) (drop l.index l.lexemes) ≡ prefix_len (λ lexeme. nat_lt lexeme.place l.place) l.lexemes

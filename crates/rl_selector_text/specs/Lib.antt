@@ -1,0 +1,13 @@
+pub mod Answering
+pub mod Bytes
+pub mod Fronts
+pub mod Grammar
+pub mod Lexing
+pub mod Meeting
+pub mod Parsing
+pub mod Sieving
+pub mod Standing
+pub mod Stops
+pub mod TestGrammar
+pub mod Testing
+pub mod laws

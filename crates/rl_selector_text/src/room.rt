@@ -1,0 +1,8 @@
+//! What a query text may still have at a place.
+/// How many more there may be: parentheses that are open at once, stages and label tests.
+#[derive(Clone, Copy)]
+pub struct Room {
+    pub depth: usize,
+    pub stages: usize,
+    pub tests: usize,
+}
