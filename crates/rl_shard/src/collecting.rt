@@ -16,7 +16,7 @@ use rl_chunks::Store;
 use rl_deletes::Requests;
 use rl_labels::Ns;
 use rl_plain::{PlainList, Same, Shared, TryCopy};
-use rl_query::{LogRange, Stage, Term};
+use rl_query::{LogRange, Term};
 use rl_streams::Streams;
 use std::alloc::{AllocError, Global};
 
@@ -167,7 +167,7 @@ fn start_of(seconds: u64, t: Ns) -> Ns
     }
 }
 
-// A term, and some behind it that read the same lines, if it has stages behind its line filters; each range once.
+// A term, and some behind it that read the same lines; each range once.
 fn alike<'a>(alloc: Global, term: &'a Term, behind: &'a [Term]) -> Result<Vec<&'a Term>, AllocError>
     ensures alike { IfOk result (λ terms. AllByRecursion (λ other. IsAlike term.now other.now) terms.items) }
     ensures first { IfOk result (λ terms. option_map (λ one. one.now.range) (slice_get terms.items 0) ≡ Some term.now.range) }
@@ -189,25 +189,11 @@ fn may_join(terms: &[&Term], first: &Term, term: &Term) -> bool
     terms.len() < MOST_TOGETHER && is_alike(first, term) && is_new(terms, &term.range)
 }
 
-// Whether both have stages behind their line filters, and read the same lines.
+// Whether both read the same lines.
 fn is_alike(term: &Term, other: &Term) -> bool
     ensures { result ≡ true → IsAlike term.now other.now }
 {
-    has_stages(term)
-        && has_stages(other)
-        && other.range.seconds == term.range.seconds
-        && other.range.selector.is_same(&term.range.selector)
-}
-
-// Whether the term has a stage that is no line filter.
-fn has_stages(term: &Term) -> bool {
-    for stage in term.range.stages.as_slice() {
-        match stage {
-            Stage::Filter(_) => {}
-            Stage::Parser(_) | Stage::Tests(_) => return true,
-        }
-    }
-    false
+    other.range.seconds == term.range.seconds && other.range.selector.is_same(&term.range.selector)
 }
 
 // Whether none of the terms has the range.
