@@ -90,8 +90,8 @@ fn rules_error_name(error: RulesError) -> &'static str
     }
 }
 
-// The name of a refusal; that of the book's fault where it has one.
-pub(crate) fn refusal_name(refusal: Refusal) -> &'static str
+/// The name of a refusal; that of the book's fault where it has one.
+pub fn refusal_name(refusal: Refusal) -> &'static str
     ensures { result.now ≡ refusal_name refusal }
 {
     match refusal {
@@ -118,8 +118,8 @@ fn book_fault_name(fault: BookFault) -> &'static str
     }
 }
 
-// The name under which the push of an entry was refused, if it was.
-pub(crate) fn push_refusal(answer: &Result<ShardReply, Refusal>) -> Option<&'static str>
+/// The name under which the push of an entry was refused, if it was.
+pub fn push_refusal(answer: &Result<ShardReply, Refusal>) -> Option<&'static str>
     ensures { option_map (λ name. name.now) result ≡ push_refusal answer.now }
 {
     match answer {

@@ -13,10 +13,9 @@ use rl_chunks::MemStore;
 use rl_labels::{DEFAULT_LIMITS, Entry, Limits, Ns};
 use rl_plain::{Shared, TryCopy};
 use rl_rules::{Evaluation, Group};
+use rl_session::names::{push_refusal, refusal_name};
 use rl_session::{Engine, WorldEngine};
-use rl_shard::ShardReply;
 use rl_sinks::{Recorder, Sink};
-use rl_world::{BookFault, Refusal};
 use std::alloc::{AllocError, Global};
 
 // The start of each test, 2000-01-01T00:00:00Z.
@@ -168,10 +167,8 @@ fn push_entry<E: Engine>(
     entry: Entry,
 ) -> Result<Option<&'static str>, AllocError> {
     let entry = Shared::new(alloc, entry)?;
-    match engine.push(entry) {
-        Ok(reply) => Ok(reply_name(&reply)),
-        Err(refusal) => Ok(Some(refusal_name(refusal))),
-    }
+    let answer = engine.push(entry);
+    Ok(push_refusal(&answer))
 }
 
 fn play_edit<E: Engine>(
@@ -287,28 +284,4 @@ fn has_rule(check: &Check, groups: &[Group]) -> bool {
         }
     }
     false
-}
-
-// The name under which a line is refused, if it is.
-fn reply_name(reply: &ShardReply) -> Option<&'static str> {
-    match reply {
-        ShardReply::TooFarBehind { .. } => Some("TooFarBehind"),
-        ShardReply::Expired { .. } => Some("Expired"),
-        ShardReply::Full => Some("Full"),
-        _ => None,
-    }
-}
-
-// The name of a refusal.
-fn refusal_name(refusal: Refusal) -> &'static str {
-    match refusal {
-        Refusal::NoSuch => "NoSuch",
-        Refusal::Book(BookFault::SessionFull) => "SessionFull",
-        Refusal::Book(_) => "MomentNotLater",
-        Refusal::JournalFull => "JournalFull",
-        Refusal::Fault => "Fault",
-        Refusal::Damaged => "Damaged",
-        Refusal::NumbersSpent => "NumbersSpent",
-        Refusal::Memory => "Memory",
-    }
 }
