@@ -8,7 +8,7 @@ ghost use Rattle.rl_session.specs.Command.{Asked, asked, cut_at, delete_of, tick
 use rl_labels::{Decimal, Ns, number_of};
 
 /// What a command line asks for.
-#[derive(Clone, Copy, Debug)]
+#[derive(Clone, Copy)]
 pub enum Command<'a> {
     /// To take the entries of a JSON body.
     Push(&'a str),

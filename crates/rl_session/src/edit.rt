@@ -7,7 +7,7 @@ use rl_world::Refusal;
 use std::alloc::Global;
 
 /// Why a group was not edited.
-#[derive(Clone, Copy, Debug, Drop)]
+#[derive(Clone, Copy, Drop)]
 pub(crate) enum EditRefusal {
     // The document gave no groups.
     Rules(RulesError),

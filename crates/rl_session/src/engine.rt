@@ -11,7 +11,7 @@ use std::io;
 use std::io::Write;
 
 /// Why a step was not decided by every shard.
-#[derive(Clone, Copy, Debug)]
+#[derive(Clone, Copy)]
 pub struct Partly {
     /// How many shards decided it.
     pub done: u64,

@@ -32,7 +32,7 @@ use std::io::{BufWriter, Write};
 use std::process::ExitCode;
 
 // What ends the program before the commands.
-#[derive(Clone, Copy, Debug, Drop)]
+#[derive(Clone, Copy, Drop)]
 enum Stop {
     BadOptions,
     BadInput(FrontFault),
