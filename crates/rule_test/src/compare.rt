@@ -1,27 +1,28 @@
 //! What a rule gave against what is wanted of it.
 use crate::document::Check;
 use crate::events::is_named;
-use crate::rows::{Outcome, Row, cause_name};
+use crate::number::Number;
+use crate::rows::{Outcome, Row, is_met, push_row};
+use rl_aggregate::Fraction;
 use rl_plain::Shared;
 use rl_rules::{Evaluation, RuleOutcome, RuleResult};
-use std::alloc::{AllocError, Global};
+use std::alloc::AllocError;
 use std::cmp::Ordering;
 
 /// Adds what the rules of a check gave, of these evaluations. Whether such a rule was evaluated; more than one may have its name.
-pub(crate) fn push_given(
-    alloc: Global,
-    given: &mut Outcome,
-    check: &Check,
-    evaluations: &[Shared<Evaluation>],
+pub(crate) fn push_given<'a>(
+    given: &mut Outcome<'a>,
+    check: &Check<'_>,
+    evaluations: &'a [Shared<Evaluation>],
 ) -> Result<bool, AllocError> {
     let mut is_there = false;
     for evaluation in evaluations {
         let evaluation = evaluation.get();
-        if is_named(&check.group, evaluation.group.as_str()) {
+        if is_named(check.group, evaluation.group.as_str()) {
             for result in evaluation.outcomes.as_slice() {
-                if result.kind == check.kind && result.name == check.name {
+                if result.kind == check.kind && result.name.as_str() == check.name {
                     is_there = true;
-                    push_result(alloc, given, result)?;
+                    push_result(given, result)?;
                 }
             }
         }
@@ -30,17 +31,26 @@ pub(crate) fn push_given(
     Ok(is_there)
 }
 
-fn push_result(alloc: Global, given: &mut Outcome, own: &RuleResult) -> Result<(), AllocError> {
+fn push_result<'a>(given: &mut Outcome<'a>, own: &'a RuleResult) -> Result<(), AllocError> {
     match &own.outcome {
         RuleOutcome::Samples(samples) => {
             for sample in samples.as_slice() {
-                given.rows.push(Row::of_sample(alloc, sample)?)?;
+                given.rows.push(Row {
+                    labels: &sample.labels,
+                    state: None,
+                    value: computed(sample.value),
+                    annotations: None,
+                })?;
             }
         }
         RuleOutcome::Alerts(alerts) => {
             for alert in alerts.as_slice() {
-                let row = Row::of_alert(alloc, alert, &own.annotations)?;
-                given.rows.push(row)?;
+                given.rows.push(Row {
+                    labels: &alert.labels,
+                    state: Some(alert.phase),
+                    value: computed(alert.value),
+                    annotations: Some(&own.annotations),
+                })?;
             }
         }
         RuleOutcome::Failed(cause) => given.failed = Some(*cause),
@@ -48,11 +58,15 @@ fn push_result(alloc: Global, given: &mut Outcome, own: &RuleResult) -> Result<(
     Ok(())
 }
 
+fn computed(fraction: Fraction) -> Option<Number<'static>> {
+    Some(Number { text: "", fraction })
+}
+
 /// Adds both sides where they differ: label set by label set where both are rows.
 pub(crate) fn push_differences(
     text: &mut String,
-    wanted: &Outcome,
-    got: &Outcome,
+    wanted: &Outcome<'_>,
+    got: &Outcome<'_>,
 ) -> Result<(), AllocError> {
     if wanted.failed.is_none() && got.failed.is_none() {
         return push_pairs(text, &wanted.rows, &got.rows);
@@ -68,31 +82,30 @@ pub(crate) fn push_differences(
 pub(crate) fn push_side(
     text: &mut String,
     side: &str,
-    outcome: &Outcome,
+    outcome: &Outcome<'_>,
 ) -> Result<(), AllocError> {
     if let Some(cause) = outcome.failed {
-        let cause = cause_name(cause);
-        return writeln!(text, "  {side:<7} failed {cause}");
+        return writeln!(text, "  {side:<7} failed {cause:?}");
     }
     if outcome.rows.is_empty() {
-        return push_row(text, side, None, false);
+        return push_line(text, side, None, false);
     }
     for row in &outcome.rows {
-        push_row(text, side, Some(row), true)?;
+        push_line(text, side, Some(*row), true)?;
     }
     Ok(())
 }
 
 // Adds a row, or that there is none.
-fn push_row(
+fn push_line(
     text: &mut String,
     side: &str,
-    row: Option<&Row>,
+    row: Option<Row<'_>>,
     annotated: bool,
 ) -> Result<(), AllocError> {
     write!(text, "  {side:<7} ")?;
     match row {
-        Some(row) => row.push_to(text, annotated)?,
+        Some(row) => push_row(text, row, annotated)?,
         None => text.push_str("nothing")?,
     }
     text.push('\n')?;
@@ -100,52 +113,46 @@ fn push_row(
 }
 
 // Adds the rows of both sides that differ. Both are in the order of the label sets.
-fn push_pairs(text: &mut String, wanted: &[Row], got: &[Row]) -> Result<(), AllocError> {
-    let (mut wanted, mut got) = (wanted, got);
+fn push_pairs(text: &mut String, wanted: &[Row<'_>], got: &[Row<'_>]) -> Result<(), AllocError> {
+    let (mut here, mut there) = (0usize, 0usize);
     for _ in 0..wanted.len().saturating_add(got.len()) {
-        let order = order_of(wanted.first(), got.first());
-        let (one, wanted_behind) = front(wanted, order != Ordering::Greater);
-        let (other, got_behind) = front(got, order != Ordering::Less);
-        if !is_met(one, other) {
-            push_pair(text, one, other)?;
+        let (one, other) = (wanted.get(here).copied(), got.get(there).copied());
+        let order = order_of(one, other);
+        match order {
+            Ordering::Less => push_pair(text, one, None)?,
+            Ordering::Equal => push_pair(text, one, other)?,
+            Ordering::Greater => push_pair(text, None, other)?,
         }
-        wanted = wanted_behind;
-        got = got_behind;
+        here = here.saturating_add(usize::from(order != Ordering::Greater));
+        there = there.saturating_add(usize::from(order != Ordering::Less));
     }
     Ok(())
 }
 
 // Which side has the next label set. One that is at its end comes behind the other.
-fn order_of(wanted: Option<&Row>, got: Option<&Row>) -> Ordering {
+fn order_of(wanted: Option<Row<'_>>, got: Option<Row<'_>>) -> Ordering {
     match (wanted, got) {
-        (Some(one), Some(other)) => one.labels.cmp(&other.labels),
+        (Some(one), Some(other)) => one.labels.cmp(other.labels),
         (None, Some(_)) => Ordering::Greater,
         (Some(_), None) => Ordering::Less,
         (None, None) => Ordering::Equal,
     }
 }
 
-// The first row and those behind it, if it is to be taken.
-fn front(rows: &[Row], taken: bool) -> (Option<&Row>, &[Row]) {
-    match rows {
-        [first, behind @ ..] if taken => (Some(first), behind),
-        _ => (None, rows),
-    }
-}
-
-fn is_met(wanted: Option<&Row>, got: Option<&Row>) -> bool {
-    match (wanted, got) {
-        (Some(wanted), Some(got)) => wanted.is_met_by(got),
-        (wanted, got) => wanted.is_none() && got.is_none(),
-    }
-}
-
-// Adds both sides, with annotations where they are looked at.
-fn push_pair(text: &mut String, wanted: Option<&Row>, got: Option<&Row>) -> Result<(), AllocError> {
-    let annotated = match wanted {
-        Some(row) => row.annotations.is_some(),
-        None => false,
+// Adds both sides where they differ, with annotations where they are looked at.
+fn push_pair(
+    text: &mut String,
+    wanted: Option<Row<'_>>,
+    got: Option<Row<'_>>,
+) -> Result<(), AllocError> {
+    let (is_same, annotated) = match (wanted, got) {
+        (Some(wanted), Some(got)) => (is_met(wanted, got), wanted.annotations.is_some()),
+        (Some(wanted), None) => (false, wanted.annotations.is_some()),
+        (None, got) => (got.is_none(), false),
     };
-    push_row(text, "wanted", wanted, annotated)?;
-    push_row(text, "got", got, annotated)
+    if is_same {
+        return Ok(());
+    }
+    push_line(text, "wanted", wanted, annotated)?;
+    push_line(text, "got", got, annotated)
 }

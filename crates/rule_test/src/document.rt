@@ -1,10 +1,9 @@
 //! What a test file has: tests with streams, evaluations, edits, and what is wanted of rules.
 use crate::part::{Item, Part, Steps};
-use crate::rows::{Outcome, push_wanted};
+use crate::rows::{Wanted, read_wanted};
 use crate::stop::{Stop, fault};
 use crate::streams::{Stream, expand};
-use rl_plain::PlainText;
-use rl_rules::{Group, RuleKind};
+use rl_rules::{Cause, Group, RuleKind};
 use std::alloc::Global;
 use toml::Table;
 use toml::de::Error;
@@ -14,53 +13,54 @@ pub(crate) const MOST_MOMENTS: u64 = 1_048_576;
 
 /// A test file.
 #[derive(Drop)]
-pub(crate) struct Document {
+pub(crate) struct Document<'a> {
     /// The path of the rule file.
-    pub(crate) rules: PlainText,
-    pub(crate) tests: Vec<Test>,
+    pub(crate) rules: &'a str,
+    pub(crate) tests: Vec<Test<'a>>,
 }
 
 /// A test. All times are nanoseconds since its start.
 #[derive(Drop)]
-pub(crate) struct Test {
-    pub(crate) name: PlainText,
-    pub(crate) streams: Vec<Stream>,
+pub(crate) struct Test<'a> {
+    pub(crate) name: &'a str,
+    pub(crate) streams: Vec<Stream<'a>>,
     /// When groups are evaluated; where there are none, by their intervals.
-    pub(crate) spans: Vec<Span>,
-    pub(crate) edits: Vec<Edit>,
-    pub(crate) checks: Vec<Check>,
+    pub(crate) spans: Vec<Span<'a>>,
+    pub(crate) edits: Vec<Edit<'a>>,
+    pub(crate) checks: Vec<Check<'a>>,
 }
 
 /// The moments at which a group is evaluated, or all groups are.
-#[derive(Drop)]
-pub(crate) struct Span {
-    pub(crate) group: Option<PlainText>,
+#[derive(Clone, Copy, Drop)]
+pub(crate) struct Span<'a> {
+    pub(crate) group: Option<&'a str>,
     pub(crate) steps: Steps,
 }
 
 /// A rule file whose groups stand in for those of their names.
 #[derive(Drop)]
-pub(crate) struct Edit {
+pub(crate) struct Edit<'a> {
     pub(crate) at: u64,
-    pub(crate) rules: PlainText,
+    pub(crate) rules: &'a str,
     /// None before the file is read.
     pub(crate) groups: Vec<Group>,
 }
 
-/// What is wanted of a rule at a moment.
+/// What is wanted of a rule at a moment: rows, unless it is to fail.
 #[derive(Drop)]
-pub(crate) struct Check {
+pub(crate) struct Check<'a> {
     pub(crate) kind: RuleKind,
-    pub(crate) name: PlainText,
-    pub(crate) group: Option<PlainText>,
+    pub(crate) name: &'a str,
+    pub(crate) group: Option<&'a str>,
     pub(crate) at: u64,
-    pub(crate) wanted: Outcome,
+    pub(crate) failed: Option<Cause>,
+    pub(crate) wanted: Vec<Wanted<'a>>,
 }
 
-/// Reads a test file. No edit has its groups yet.
-pub(crate) fn read_document(alloc: Global, text: &str) -> Result<Document, Stop> {
+/// Reads the TOML of a test file.
+pub(crate) fn read_table(alloc: Global, text: &str) -> Result<Table, Stop> {
     match toml::table_from_str(alloc, text) {
-        Ok(table) => read_top(alloc, &table),
+        Ok(table) => Ok(table),
         Err(error) if error.is_memory() => Err(Stop::Memory),
         Err(error) => Err(toml_fault(alloc, text, &error)),
     }
@@ -87,7 +87,8 @@ fn toml_fault(alloc: Global, text: &str, error: &Error) -> Stop {
     fault(format!(in alloc; "line {line}, column {column}: {}", error.message()))
 }
 
-fn read_top(alloc: Global, table: &Table) -> Result<Document, Stop> {
+/// Reads a test file. No edit has its groups yet.
+pub(crate) fn read_document<'a>(alloc: Global, table: &'a Table) -> Result<Document<'a>, Stop> {
     let top = Part {
         alloc,
         table,
@@ -98,19 +99,17 @@ fn read_top(alloc: Global, table: &Table) -> Result<Document, Stop> {
     if !top.has("tests") {
         return Err(top.key_fault("tests", "is missing"));
     }
-    let mut document = Document {
-        rules: top.own_text("rules")?,
-        tests: Vec::new(alloc),
-    };
-    top.push_all("tests", &mut document.tests)?;
-    Ok(document)
+    let rules = top.wanted_text("rules")?;
+    let mut tests = Vec::new(alloc);
+    top.push_all("tests", &mut tests)?;
+    Ok(Document { rules, tests })
 }
 
-impl Item for Test {
-    fn read(part: Part<'_>) -> Result<Self, Stop> {
+impl<'a> Item<'a> for Test<'a> {
+    fn read(part: Part<'a>) -> Result<Self, Stop> {
         part.only(&["name", "streams", "evaluate", "edits", "alerts", "samples"])?;
         let mut test = Test {
-            name: part.own_text("name")?,
+            name: part.wanted_text("name")?,
             streams: Vec::new(part.alloc),
             spans: Vec::new(part.alloc),
             edits: Vec::new(part.alloc),
@@ -122,7 +121,7 @@ impl Item for Test {
 }
 
 // Adds all that a test has besides its name.
-fn fill(part: Part<'_>, test: &mut Test) -> Result<(), Stop> {
+fn fill<'a>(part: Part<'a>, test: &mut Test<'a>) -> Result<(), Stop> {
     part.push_all("streams", &mut test.streams)?;
     expand(part, &mut test.streams)?;
     part.push_all("evaluate", &mut test.spans)?;
@@ -133,7 +132,7 @@ fn fill(part: Part<'_>, test: &mut Test) -> Result<(), Stop> {
     Part { kind, ..part }.push_all("samples", &mut test.checks)
 }
 
-fn limit_moments(part: Part<'_>, spans: &[Span]) -> Result<(), Stop> {
+fn limit_moments(part: Part<'_>, spans: &[Span<'_>]) -> Result<(), Stop> {
     let mut moments = 0u64;
     for span in spans {
         moments = moments.saturating_add(span.steps.count);
@@ -144,45 +143,43 @@ fn limit_moments(part: Part<'_>, spans: &[Span]) -> Result<(), Stop> {
     Ok(())
 }
 
-impl Item for Span {
-    fn read(part: Part<'_>) -> Result<Self, Stop> {
+impl<'a> Item<'a> for Span<'a> {
+    fn read(part: Part<'a>) -> Result<Self, Stop> {
         part.only(&["group", "from", "to", "step"])?;
         let steps = part.steps()?;
-        let group = part.group()?;
+        let group = part.text("group")?;
         Ok(Span { group, steps })
     }
 }
 
-impl Item for Edit {
-    fn read(part: Part<'_>) -> Result<Self, Stop> {
+impl<'a> Item<'a> for Edit<'a> {
+    fn read(part: Part<'a>) -> Result<Self, Stop> {
         part.only(&["at", "rules"])?;
         let at = part.time("at")?;
-        let rules = part.own_text("rules")?;
-        Ok(Edit {
-            at,
-            rules,
-            groups: Vec::new(part.alloc),
-        })
+        let rules = part.wanted_text("rules")?;
+        let groups = Vec::new(part.alloc);
+        Ok(Edit { at, rules, groups })
     }
 }
 
-impl Item for Check {
-    fn read(part: Part<'_>) -> Result<Self, Stop> {
+impl<'a> Item<'a> for Check<'a> {
+    fn read(part: Part<'a>) -> Result<Self, Stop> {
         let key = match part.kind {
             RuleKind::Alerting => "alert",
             RuleKind::Recording => "record",
         };
         part.only(&["at", key, "group", "wanted", "failed"])?;
         let at = part.time("at")?;
-        let mut check = Check {
+        let (name, group) = (part.wanted_text(key)?, part.text("group")?);
+        let mut wanted = Vec::new(part.alloc);
+        let failed = read_wanted(Part { rule: name, ..part }, &mut wanted)?;
+        Ok(Check {
             kind: part.kind,
-            name: part.own_text(key)?,
-            group: part.group()?,
+            name,
+            group,
             at,
-            wanted: Outcome::new(part.alloc),
-        };
-        let rule = part.wanted_text(key)?;
-        push_wanted(Part { rule, ..part }, &mut check.wanted)?;
-        Ok(check)
+            failed,
+            wanted,
+        })
     }
 }

@@ -1,7 +1,6 @@
 //! All that happens in a test, in its order.
 use crate::document::{MOST_MOMENTS, Test};
 use crate::part::Steps;
-use rl_plain::PlainText;
 use rl_rules::Group;
 use std::alloc::{AllocError, Global};
 
@@ -32,7 +31,7 @@ pub(crate) struct Event {
 pub(crate) fn events_of(
     alloc: Global,
     groups: &[Group],
-    test: &Test,
+    test: &Test<'_>,
 ) -> Result<Vec<Event>, AllocError> {
     let mut events = Vec::new(alloc);
     for (number, stream) in test.streams.iter().enumerate() {
@@ -71,14 +70,14 @@ fn push(
 fn push_evaluations(
     events: &mut Vec<Event>,
     groups: &[Group],
-    test: &Test,
+    test: &Test<'_>,
 ) -> Result<(), AllocError> {
     for (number, group) in groups.iter().enumerate() {
         if test.spans.is_empty() {
             push_steps(events, number, by_interval(group, test))?;
         }
         for span in &test.spans {
-            if is_named(&span.group, group.name.as_str()) {
+            if is_named(span.group, group.name.as_str()) {
                 push_steps(events, number, span.steps)?;
             }
         }
@@ -87,15 +86,15 @@ fn push_evaluations(
 }
 
 /// Whether a group that is named, if one is, has the name.
-pub(crate) fn is_named(group: &Option<PlainText>, name: &str) -> bool {
+pub(crate) fn is_named(group: Option<&str>, name: &str) -> bool {
     match group {
-        Some(group) => group.as_str() == name,
+        Some(group) => group == name,
         None => true,
     }
 }
 
 // The start, and the moments by the interval of a group up to the last one at which something is wanted, if something is.
-fn by_interval(group: &Group, test: &Test) -> Steps {
+fn by_interval(group: &Group, test: &Test<'_>) -> Steps {
     let mut last = None;
     for check in &test.checks {
         last = last.max(Some(check.at));

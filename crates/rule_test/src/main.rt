@@ -17,7 +17,7 @@ mod stop;
 mod streams;
 mod told;
 
-use document::{Document, Test, read_document};
+use document::{Test, read_document, read_table};
 use options::read_options;
 use play::play;
 use rl_plain::PlainText;
@@ -58,8 +58,11 @@ fn tell_stop(rt: &HostRuntime, stop: Stop) -> ExitCode {
 fn run(rt: &HostRuntime) -> Result<bool, Stop> {
     let alloc = rt.alloc();
     let file = read_options(rt)?;
-    let document = read_file(rt, &file)?;
-    let groups = read_groups(rt, &file, &document.rules)?;
+    let text = read_file(rt, &file)?;
+    let table = read_table(alloc, text.as_str())?;
+    let mut document = read_document(alloc, &table)?;
+    read_edits(rt, &file, &mut document.tests)?;
+    let groups = read_groups(rt, &file, document.rules)?;
     let mut told = Told::new(alloc);
     for test in &document.tests {
         play(alloc, &groups, test, &mut told)?;
@@ -71,27 +74,29 @@ fn run(rt: &HostRuntime) -> Result<bool, Stop> {
     }
 }
 
-// Reads a test file, or standard input where there is none, with the rules of its edits.
-fn read_file(rt: &HostRuntime, file: &Option<PlainText>) -> Result<Document, Stop> {
+// The text of the test file, or of standard input where none is named.
+fn read_file(rt: &HostRuntime, file: &Option<PlainText>) -> Result<String, Stop> {
     let alloc = rt.alloc();
-    let text = match file {
-        Some(file) => text_of(alloc, file.as_str(), fs::read_to_string(rt, file.as_str()))?,
+    match file {
+        Some(file) => text_of(alloc, file.as_str(), fs::read_to_string(rt, file.as_str())),
         None => text_of(
             alloc,
             "standard input",
             io::read_to_string(alloc, rt.reader()),
-        )?,
-    };
-    let mut document = read_document(alloc, text.as_str())?;
-    for test in document.tests.iter_mut() {
-        read_edits(rt, file, test)?;
+        ),
     }
-    Ok(document)
 }
 
-fn read_edits(rt: &HostRuntime, file: &Option<PlainText>, test: &mut Test) -> Result<(), Stop> {
-    for edit in test.edits.iter_mut() {
-        edit.groups = read_groups(rt, file, &edit.rules)?;
+// Reads the rule files of all edits.
+fn read_edits(
+    rt: &HostRuntime,
+    file: &Option<PlainText>,
+    tests: &mut Vec<Test<'_>>,
+) -> Result<(), Stop> {
+    for test in tests.iter_mut() {
+        for edit in test.edits.iter_mut() {
+            edit.groups = read_groups(rt, file, edit.rules)?;
+        }
     }
     Ok(())
 }
@@ -109,13 +114,8 @@ fn text_of(alloc: Global, file: &str, read: io::Result<String>) -> Result<String
 }
 
 // The groups of a rule file that a test file names.
-fn read_groups(
-    rt: &HostRuntime,
-    file: &Option<PlainText>,
-    rules: &PlainText,
-) -> Result<Vec<Group>, Stop> {
+fn read_groups(rt: &HostRuntime, file: &Option<PlainText>, name: &str) -> Result<Vec<Group>, Stop> {
     let alloc = rt.alloc();
-    let name = rules.as_str();
     let path = path_of(alloc, file, name)?;
     let text = text_of(alloc, name, fs::read_to_string(rt, path.as_str()))?;
     match read_rules(alloc, text.as_str()) {

@@ -23,8 +23,8 @@ pub(crate) struct Part<'a> {
 }
 
 /// What an item of an array says.
-pub(crate) trait Item: Drop {
-    fn read(part: Part<'_>) -> Result<Self, Stop>;
+pub(crate) trait Item<'a>: Drop {
+    fn read(part: Part<'a>) -> Result<Self, Stop>;
 }
 
 /// Moments of a test, each so much behind the one before it.
@@ -79,20 +79,6 @@ impl<'a> Part<'a> {
         }
     }
 
-    /// A copy of the text at a key that is wanted.
-    pub(crate) fn own_text(self, key: &str) -> Result<PlainText, Stop> {
-        let text = self.wanted_text(key)?;
-        Ok(PlainText::from_str(self.alloc, text)?)
-    }
-
-    /// The name of a group, if one is given.
-    pub(crate) fn group(self) -> Result<Option<PlainText>, Stop> {
-        if self.has("group") {
-            return Ok(Some(self.own_text("group")?));
-        }
-        Ok(None)
-    }
-
     /// The time at a key that is wanted, in nanoseconds.
     pub(crate) fn time(self, key: &str) -> Result<u64, Stop> {
         let text = self.wanted_text(key)?;
@@ -120,11 +106,7 @@ impl<'a> Part<'a> {
     }
 
     /// Reads the items of the array at a key, none where there is none.
-    pub(crate) fn push_all<T: Item>(
-        self,
-        array: &'static str,
-        all: &mut Vec<T>,
-    ) -> Result<(), Stop> {
+    pub(crate) fn push_all<T: Item<'a>>(self, array: &str, all: &mut Vec<T>) -> Result<(), Stop> {
         for (index, value) in self.items(array)?.iter().enumerate() {
             match self.item(value) {
                 Ok(item) => all.push(item)?,
@@ -144,7 +126,7 @@ impl<'a> Part<'a> {
         }
     }
 
-    fn item<T: Item>(self, value: &Value) -> Result<T, Stop> {
+    fn item<T: Item<'a>>(self, value: &'a Value) -> Result<T, Stop> {
         match value.as_table() {
             Some(table) => T::read(Part {
                 alloc: self.alloc,

@@ -11,7 +11,7 @@ use crate::streams::{Line, Stream};
 use crate::told::Told;
 use rl_chunks::MemStore;
 use rl_labels::{DEFAULT_LIMITS, Entry, Limits, Ns};
-use rl_plain::{Shared, TryCopy};
+use rl_plain::{PlainText, Shared, TryCopy};
 use rl_rules::{Evaluation, Group};
 use rl_session::names::{push_refusal, refusal_name};
 use rl_session::{Engine, WorldEngine};
@@ -28,7 +28,7 @@ type Ruler = WorldEngine<MemStore, Recorder<Vec<u8>>>;
 pub(crate) fn play(
     alloc: Global,
     groups: &[Group],
-    test: &Test,
+    test: &Test<'_>,
     told: &mut Told,
 ) -> Result<(), AllocError> {
     let events = events_of(alloc, groups, test)?;
@@ -38,13 +38,12 @@ pub(crate) fn play(
 }
 
 // Tells of evaluations that are asked for of groups that are not there.
-fn tell_spans<E: Engine>(engine: &E, test: &Test, told: &mut Told) -> Result<(), AllocError> {
+fn tell_spans<E: Engine>(engine: &E, test: &Test<'_>, told: &mut Told) -> Result<(), AllocError> {
     for span in &test.spans {
-        if let Some(group) = &span.group {
-            let name = group.as_str();
+        if let Some(name) = span.group {
             if engine.group(name).is_none() {
                 let at = span.steps.from;
-                told.refuse(test.name.as_str(), at, "evaluation of", name, "NoSuchGroup")?;
+                told.refuse(test.name, at, "evaluation of", name, "NoSuchGroup")?;
             }
         }
     }
@@ -94,7 +93,7 @@ fn play_events<E: Engine>(
     alloc: Global,
     engine: &mut E,
     groups: &[Group],
-    test: &Test,
+    test: &Test<'_>,
     events: &[Event],
     told: &mut Told,
 ) -> Result<(), AllocError> {
@@ -124,7 +123,7 @@ fn moment_of(at: u64, before: u64) -> Option<Ns> {
 fn play_line<E: Engine>(
     alloc: Global,
     engine: &mut E,
-    test: &Test,
+    test: &Test<'_>,
     event: Event,
     told: &mut Told,
 ) -> Result<(), AllocError> {
@@ -134,10 +133,10 @@ fn play_line<E: Engine>(
     let Some(line) = stream.lines.get(event.line) else {
         return Ok(());
     };
-    match push_line(alloc, engine, stream, line)? {
+    match push_line(alloc, engine, stream, *line)? {
         Some(why) => {
             let labels = stream.labels.as_text();
-            told.refuse(test.name.as_str(), event.at, "line of", labels, why)
+            told.refuse(test.name, event.at, "line of", labels, why)
         }
         None => Ok(()),
     }
@@ -147,18 +146,27 @@ fn play_line<E: Engine>(
 fn push_line<E: Engine>(
     alloc: Global,
     engine: &mut E,
-    stream: &Stream,
-    line: &Line,
+    stream: &Stream<'_>,
+    line: Line<'_>,
 ) -> Result<Option<&'static str>, AllocError> {
     let Some(moment) = moment_of(line.moment, line.before) else {
         return Ok(Some("Time"));
     };
     let labels = stream.labels.try_copy()?;
-    let text = line.text.try_copy()?;
-    match Entry::new(labels, moment, text) {
+    match Entry::new(labels, moment, text_of(alloc, line)?) {
         Ok(entry) => push_entry(alloc, engine, entry),
         Err(_) => Ok(Some("TooLong")),
     }
+}
+
+// The text of a line, with its number where it has one.
+fn text_of(alloc: Global, line: Line<'_>) -> Result<PlainText, AllocError> {
+    let Some(number) = line.number else {
+        return PlainText::from_str(alloc, line.text);
+    };
+    let number = format!(in alloc; "{number}")?;
+    let text = line.text.replace(alloc, "{n}", number.as_str())?;
+    Ok(PlainText::from_string(text))
 }
 
 fn push_entry<E: Engine>(
@@ -173,7 +181,7 @@ fn push_entry<E: Engine>(
 
 fn play_edit<E: Engine>(
     engine: &mut E,
-    test: &Test,
+    test: &Test<'_>,
     event: Event,
     told: &mut Told,
 ) -> Result<(), AllocError> {
@@ -183,7 +191,7 @@ fn play_edit<E: Engine>(
     for group in &edit.groups {
         if let Some(why) = put_group(engine, group)? {
             let name = group.name.as_str();
-            told.refuse(test.name.as_str(), event.at, "edit of", name, why)?;
+            told.refuse(test.name, event.at, "edit of", name, why)?;
         }
     }
     Ok(())
@@ -204,7 +212,7 @@ fn put_group<E: Engine>(engine: &mut E, group: &Group) -> Result<Option<&'static
 fn play_evaluation<E: Engine>(
     engine: &mut E,
     groups: &[Group],
-    test: &Test,
+    test: &Test<'_>,
     event: Event,
     now: &mut Vec<Shared<Evaluation>>,
     told: &mut Told,
@@ -223,7 +231,7 @@ fn play_evaluation<E: Engine>(
         }
         Err(refusal) => {
             let why = refusal_name(refusal);
-            told.refuse(test.name.as_str(), event.at, "evaluation of", name, why)
+            told.refuse(test.name, event.at, "evaluation of", name, why)
         }
     }
 }
@@ -240,7 +248,7 @@ fn has_evaluation(evaluations: &[Shared<Evaluation>], name: &str) -> bool {
 fn play_check(
     alloc: Global,
     groups: &[Group],
-    test: &Test,
+    test: &Test<'_>,
     event: Event,
     now: &[Shared<Evaluation>],
     told: &mut Told,
@@ -249,19 +257,20 @@ fn play_check(
         return Ok(());
     };
     let mut differences = String::new(alloc);
-    let mut given = Outcome::new(alloc);
-    if push_given(alloc, &mut given, check, now)? {
-        push_differences(&mut differences, &check.wanted, &given)?;
+    let wanted = Outcome::of(alloc, &check.wanted, check.failed)?;
+    let mut given = Outcome::of(alloc, &[], None)?;
+    if push_given(&mut given, check, now)? {
+        push_differences(&mut differences, &wanted, &given)?;
     } else {
         let why = why_absent(check, groups, &test.edits);
-        push_side(&mut differences, "wanted", &check.wanted)?;
+        push_side(&mut differences, "wanted", &wanted)?;
         writeln!(&mut differences, "  got     {why}")?;
     }
-    told.check(test.name.as_str(), check, differences.as_str())
+    told.check(test.name, check, differences.as_str())
 }
 
 // Why a rule gave nothing: it was not evaluated, or no group has it, neither from the start on nor by an edit.
-fn why_absent(check: &Check, groups: &[Group], edits: &[Edit]) -> &'static str {
+fn why_absent(check: &Check<'_>, groups: &[Group], edits: &[Edit<'_>]) -> &'static str {
     let mut is_known = has_rule(check, groups);
     for edit in edits {
         is_known = is_known || has_rule(check, &edit.groups);
@@ -273,11 +282,11 @@ fn why_absent(check: &Check, groups: &[Group], edits: &[Edit]) -> &'static str {
     }
 }
 
-fn has_rule(check: &Check, groups: &[Group]) -> bool {
+fn has_rule(check: &Check<'_>, groups: &[Group]) -> bool {
     for group in groups {
-        if is_named(&check.group, group.name.as_str()) {
+        if is_named(check.group, group.name.as_str()) {
             for rule in group.rules.as_slice() {
-                if rule.kind == check.kind && rule.name == check.name {
+                if rule.kind == check.kind && rule.name.as_str() == check.name {
                     return true;
                 }
             }

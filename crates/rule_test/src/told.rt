@@ -40,7 +40,7 @@ impl Told {
     pub(crate) fn check(
         &mut self,
         test: &str,
-        check: &Check,
+        check: &Check<'_>,
         differences: &str,
     ) -> Result<(), AllocError> {
         if differences.is_empty() {
@@ -49,7 +49,7 @@ impl Told {
         }
         self.failed = self.failed.saturating_add(1);
         let text = &mut self.text;
-        let name = &check.name;
+        let name = check.name;
         let kind = match check.kind {
             RuleKind::Alerting => "alert",
             RuleKind::Recording => "record",
@@ -57,7 +57,7 @@ impl Told {
         write!(text, "{test}, at ")?;
         push_time(text, check.at)?;
         write!(text, ", {kind} {name}")?;
-        if let Some(group) = &check.group {
+        if let Some(group) = check.group {
             write!(text, " of {group}")?;
         }
         write!(text, "\n{differences}")
