@@ -11,7 +11,7 @@ ghost use Rattle.rl_shard.specs.ShardFault.{HasCause};
 
 use crate::lines::Lines;
 use crate::step::ShardFault;
-use rl_aggregate::{Counter, Partial, pipelines_of, selector_of};
+use rl_aggregate::{Counter, Partial, pipelines_of};
 use rl_chunks::Store;
 use rl_deletes::Requests;
 use rl_labels::Ns;
@@ -133,13 +133,12 @@ fn add_up<S: Store>(
     ensures cause { IfErr result (λ fault. HasCause streams.old fault streams.new) }
     ensures partials { IfOk result (λ partials. ArePartialsOf streams.old requests.now (map (λ term. term.now) terms.now) t partials.items) }
 {
-    let selector = selector_of(alloc, first)?;
     let pipelines = pipelines_of(alloc, terms)?;
     show_few(streams, requests);
     let counter = Counter::new(alloc, &pipelines, streams.limits().entries)?;
     let mut lines = Lines { counter, requests };
     let start = start_of(first.range.seconds, t);
-    streams.each(&selector, start, t, &mut lines)?;
+    streams.each(&first.range.selector.matchers, start, t, &mut lines)?;
     if lines.counter.is_over() {
         // More lines, or longer ones, than entries are held: the store lies.
         return Err(ShardFault::Damaged);

@@ -1,5 +1,5 @@
 -- Streams that hold one entry more: in the stream of its labels, or in a new one.
-use Rattle.std.proofs.Common.{◌≡◌, ℕ, zero, suc, ◌<◌, max, Bool, true, false, cond, Some, None, Option, List, [], ◌∷◌, ◌++◌, length, slice_get, get_or, position, refl, sym, ap, subst, ◌∙◌, is_some, true≢false, le_of_suc-le-suc, not-suc-le-zero, arith}
+use Rattle.std.proofs.Common.{◌≡◌, ℕ, zero, suc, ◌<◌, max, Bool, true, false, cond, Some, None, Option, List, [], ◌∷◌, ◌++◌, length, slice_get, get_or, position, refl, sym, ap, subst, ◌∙◌, is_some, true≢false, append-nil, le_of_suc-le-suc, not-suc-le-zero, arith}
 use Rattle.std.specs.Prelude.{◌+◌, ◌*◌, nat_lt, if◌then◌else◌}
 use Rattle.std.specs.List.{AllByRecursion, IsDistinct}
 use Rattle.std.specs.List.Sorted.{IsPermutation}
@@ -25,7 +25,7 @@ use Rattle.rl_streams.specs.RowSteps.{Gains, AreAdded, AreOthers, IsPlaceOf}
 use Rattle.rl_streams.specs.StreamsState.{age_refusal, is_far_behind, half_second}
 use Rattle.rl_streams.specs.declared.refusal.AddRefusal.TheVariants.{Expired, TooFarBehind}
 use Rattle.rl_streams.proofs.Held.{held_at}
-use Rattle.rl_streams.proofs.RowChanges.{same_some, value_at, set_more, push_more, set_each_same, lookup_set, lookup_push}
+use Rattle.rl_streams.proofs.RowChanges.{same_some, value_at, keys_push, keys_set, set_more, push_more, set_each_same, lookup_set, lookup_push}
 use Rattle.rl_streams.proofs.Steps.{inserted, streams_gained, streams_pushed}
 
 abbrev newest_by : StreamView → ℕ
@@ -61,6 +61,7 @@ added_at rows i entry stream new apart at gains = record {
   newest =
       one_set label_set_cmp_total label_set_cmp-IsAntisymmetric (newest_in rows) (newest_in (set_value_at rows i new)) entry.labels new.newest (λ q. lookup_set label_set_cmp_total label_set_cmp-IsAntisymmetric label_set_eq label_set_eq_itself newest_by rows i entry.labels stream new q apart at)
       ∙ ap (insert (newest_map (newest_in rows)) entry.labels) (gains.newest ∙ ap (λ newest. max newest entry.timestamp) (sym (newest_found rows i entry.labels stream apart at)));
+  labels = ([], keys_set rows i new ∙ sym (append-nil (keys_of rows)));
   streams = λ seen next are is_new. streams_gained rows seen next are i entry.labels stream new at entry refl gains (λ honest. sym (held_at entry rows i stream are.own are.apart at) ∙ is_new honest);
 }
 
@@ -71,6 +72,7 @@ added_behind rows entry stream others labels newest entries notes = record {
   newest =
       one_set label_set_cmp_total label_set_cmp-IsAntisymmetric (newest_in rows) (newest_in (rows ++ (entry.labels, stream) ∷ [])) entry.labels stream.newest (λ q. lookup_push label_set_cmp_total label_set_cmp-IsAntisymmetric label_set_eq label_set_eq_itself newest_by rows entry.labels stream q others)
       ∙ ap (insert (newest_map (newest_in rows)) entry.labels) (newest ∙ raised_from_0 ∙ ap (λ before. max before entry.timestamp) (sym (newest_missing rows entry.labels others)));
+  labels = (entry.labels ∷ [], keys_push rows (entry.labels, stream));
   streams = λ seen next are is_new. streams_pushed rows seen next are entry stream others entries labels notes;
 }
   where

@@ -9,6 +9,7 @@ pub mod Plans
 pub mod Removed
 pub mod RowChanges
 pub mod Sealed
+pub mod Selecting
 pub mod Steps
 pub mod Told
 pub mod Whole

@@ -1,5 +1,5 @@
 -- What streams hand out one after the other, and what is read for it.
-use Rattle.std.proofs.Common.{◌≡◌, ℕ, zero, suc, ◌+◌, Bool, true, false, cond, ◌&&◌, ◌↔◌, IsTrue, Contains, Some, None, Option, is_some, List, [], ◌∷◌, ◌++◌, map, filter, take, slice_get, Result, Ok, Err, refl, sym, ap, subst, ◌∙◌, true≢false, append_assoc, append-nil, add-one}
+use Rattle.std.proofs.Common.{◌≡◌, ℕ, zero, suc, ◌+◌, Bool, true, false, cond, ◌&&◌, ◌↔◌, IsTrue, Contains, Some, None, Option, is_some, List, [], ◌∷◌, ◌++◌, map, filter, slice_get, Result, Ok, Err, refl, sym, ap, subst, ◌∙◌, true≢false}
 use Rattle.std.specs.Prelude.{MatchBool, OnOk, if◌then◌else◌}
 use Rattle.std.specs.List.{All, AllByRecursion, IsDistinct, flat_map, fold}
 use Rattle.std.specs.BTreeMap.{is_at}
@@ -24,12 +24,11 @@ use Rattle.rl_chunks.specs.StoreState.{Seen}
 use Rattle.rl_chunks.specs.declared.line.Line.{Line}
 use Rattle.rl_parts.specs.StreamParts.{StreamView, entries_of}
 use Rattle.rl_parts.specs.StoreUse.{AreKept, Looked, Right}
-use Rattle.rl_parts.specs.laws.TakerLaws.{fold-pushed, AllZip-append}
-use Rattle.std.proofs.lemmas.List.Concat.{flat_map-append}
+use Rattle.rl_parts.specs.laws.TakerLaws.{fold-pushed}
 use Rattle.rl_parts.specs.Reading.{is_in_range, told, told_in_range, IsHandedOut}
 use Rattle.rl_parts.specs.declared.fault.ReadFault.{ReadFault}
 use Rattle.rl_parts.specs.declared.fault.ReadFault.TheVariants as reads
-use Rattle.rl_streams.specs.Asking.{is_asked, asked, told_of, told_by, told_at, left, AreOfParts, AreOfRow, AreTold, AreToldOnce, NoneSelected}
+use Rattle.rl_streams.specs.Asking.{is_asked, asked, told_of, told_by, told_at, left, AreOfParts, AreOfRow, AreToldOnce, NoneSelected}
 use Rattle.rl_streams.specs.RowSteps.{AreOthers, IsPlaceOf}
 use Rattle.rl_streams.specs.HeldSet.{set_of}
 use Rattle.rl_streams.specs.laws.HeldLaws.{keys-of_distinct}
@@ -92,36 +91,11 @@ module _ (selector : List Matcher) (from to : ℕ) where
       ∙ sym (map-append told (asked selector from to (entries_of row.1)) (asked selector from to (joined rows)))
       ∙ ap (map told) (sym (filter-append (is_asked selector from to) (entries_of row.1) (joined rows)))
 
-  -- one stream more
-  told_suc : (rows : List Row) (i : ℕ) (labels : LabelSet) (stream : StreamView) → slice_get rows i ≡ Some (labels, stream) → told_by selector from to (take (suc i) rows) ≡ told_by selector from to (take i rows) ++ told_of selector from to labels stream
-  told_suc [] i labels stream at = absurd (not_none (labels, stream) at)
-  told_suc (row ∷ rows) zero labels stream at = append-nil (told_of selector from to row.0 row.1) ∙ ap (λ (r : Row). told_of selector from to r.0 r.1) (same_some row (labels, stream) at)
-  told_suc (row ∷ rows) (suc i) labels stream at =
-      ap (λ l. told_of selector from to row.0 row.1 ++ l) (told_suc rows i labels stream at)
-      ∙ sym (append_assoc (told_of selector from to row.0 row.1) (told_by selector from to (take i rows)) (told_of selector from to labels stream))
-
-  pub told_more : {T : Type 0} (taking : T → LabelSet × Line → T) (rows : List Row) (i : ℕ) (stream : StreamView) (before taken now : T) → AllByRecursion IsOwn rows → slice_get (values_of rows) i ≡ Some stream
-      → taken ≡ fold taking before (told_by selector from to (take i rows)) → now ≡ fold taking taken (told_of selector from to stream.labels stream) → now ≡ fold taking before (told_by selector from to (take (i + 1) rows))
-  told_more taking rows i stream before taken now own at was is =
-      let row = with_key rows i stream at in
-      let labels = (at_row IsOwn rows i (row.0, stream) own row.1).labels in
-      is ∙ ap (λ t. fold taking t (told_of selector from to stream.labels stream)) was
-      ∙ sym (fold-append taking before (told_by selector from to (take i rows)) (told_of selector from to stream.labels stream))
-      ∙ ap (λ l. fold taking before (told_by selector from to (take i rows) ++ told_of selector from to l stream)) labels
-      ∙ ap (fold taking before) (sym (told_suc rows i row.0 stream row.1))
-      ∙ ap (λ n. fold taking before (told_by selector from to (take n rows))) (sym (add-one i))
-
   -- a stream at a place is kept, once the store was looked at
   pub kept_there : (rows : List Row) (i : ℕ) (stream : StreamView) (old seen : Seen) (next : ℕ) → AreStreams rows old next → Looked old seen → slice_get (values_of rows) i ≡ Some stream → AreKept seen next stream
   kept_there rows i stream old seen next are looked at =
       let row = with_key rows i stream at in
       at_row (λ row. AreKept seen next row.1) rows i (row.0, stream) ((streams_looked rows old next are seen looked).kept) row.1
-
-  -- it is not selected where none is
-  pub not_selected : (rows : List Row) (i : ℕ) (stream : StreamView) → AllByRecursion IsOwn rows → AllByRecursion (λ row. selects selector row.0 ≡ false) rows → slice_get (values_of rows) i ≡ Some stream → selects selector stream.labels ≡ false
-  not_selected rows i stream own none at =
-      let row = with_key rows i stream at in
-      ap (selects selector) ((at_row IsOwn rows i (row.0, stream) own row.1).labels) ∙ at_row (λ row. selects selector row.0 ≡ false) rows i (row.0, stream) none row.1
 
 -- each once: what all streams hand out, where no entry is held twice
 pub told_once : {T : Type 0} (taking : T → LabelSet × Line → T) (selector : List Matcher) (from to : ℕ) (rows : List Row) (before after : T) → AllByRecursion IsOwn rows → IsDistinct (eq_by_cmp entry_cmp) (joined rows)
@@ -132,13 +106,7 @@ told_once taking selector from to rows before after own once is = record {
   told = is ∙ ap (fold taking before) (told_all selector from to rows own);
 }
 
--- over any store: what a stream hands out that is not selected, and one that is
-pub none_of_row : (selector : List Matcher) (from to : ℕ) (stream : StreamView) {T : Type 0} (taking : T → LabelSet × Line → T) (taker : T) → selects selector stream.labels ≡ false
-    → (lines : List (LabelSet × Line)) × AreOfRow selector from to (stream.labels, stream) lines × (taker ≡ fold taking taker lines)
-none_of_row selector from to stream taking taker not_selected =
-    let none : List (LabelSet × Line) = [] in
-    (none, subst (λ b. MatchBool b (AreOfParts from to stream none) (none ≡ none)) (sym not_selected) refl, refl)
-
+-- over any store: what a stream hands out that is selected
 pub of_row : (selector : List Matcher) (from to : ℕ) (stream : StreamView) {T : Type 0} (taking : T → LabelSet × Line → T) (before after : T) → selects selector stream.labels ≡ true
     → (result : Result (Unit {0}) ReadFault) → OnOk result ((mid : T) × IsHandedOut taking stream.labels from to stream.parts before mid × (after ≡ fold taking mid (told_in_range from to stream.head)))
     → OnOk result ((lines : List (LabelSet × Line)) × AreOfRow selector from to (stream.labels, stream) lines × (after ≡ fold taking before lines))
@@ -150,31 +118,6 @@ of_row selector from to stream taking before after selected (Ok _) (mid, handed,
       head ∙ ap (λ t. fold taking t (told_in_range from to stream.head)) handed.behind ∙ sym (fold-append taking before sealed (told_in_range from to stream.head)),
     )
 of_row selector from to stream taking before after selected (Err fault) handed = tt
-
--- of no streams, and of one more
-pub told_none : (selector : List Matcher) (from to : ℕ) {T : Type 0} (taking : T → LabelSet × Line → T) (taker : T) → AreTold taking selector from to [] taker taker
-told_none selector from to taking taker = record { lines = []; each = tt; told = refl }
-
-pub told_then : {T : Type 0} (taking : T → LabelSet × Line → T) (selector : List Matcher) (from to : ℕ) (rows : List Row) (i : ℕ) (stream : StreamView) (before taken now : T) → AllByRecursion IsOwn rows → slice_get (values_of rows) i ≡ Some stream
-    → AreTold taking selector from to (take i rows) before taken → (lines : List (LabelSet × Line)) × AreOfRow selector from to (stream.labels, stream) lines × (now ≡ fold taking taken lines) → AreTold taking selector from to (take (i + 1) rows) before now
-told_then taking selector from to rows i stream before taken now own at was (lines, of_row, is) =
-    let row = with_key rows i stream at in
-    let labels = (at_row IsOwn rows i (row.0, stream) own row.1).labels in
-    let one = subst (λ set. AreOfRow selector from to (set, stream) lines) labels of_row in
-    subst (λ taken_rows. AreTold taking selector from to taken_rows before now) (sym (one_row_more rows i (row.0, stream) row.1)) (record {
-      lines = was.lines ++ lines ∷ [];
-      each = AllZip-append (AreOfRow selector from to) (take i rows) was.lines ((row.0, stream) ∷ []) (lines ∷ []) was.each (one, tt);
-      told = is ∙ ap (λ t. fold taking t lines) was.told ∙ sym (fold-append taking before (flat_map (λ l. l) was.lines) lines)
-          ∙ ap (fold taking before) (ap (λ l. flat_map (λ l. l) was.lines ++ l) (sym (append-nil lines)) ∙ sym (flat_map-append (λ l. l) was.lines (lines ∷ [])));
-    })
-  where
-    one_row_more : (rows : List Row) (i : ℕ) (row : Row) → slice_get rows i ≡ Some row → take (i + 1) rows ≡ take i rows ++ row ∷ []
-    one_row_more rows i row at = ap (λ n. take n rows) (add-one i) ∙ by rows i at
-      where
-        by : (rows : List Row) (i : ℕ) → slice_get rows i ≡ Some row → take (suc i) rows ≡ take i rows ++ row ∷ []
-        by [] i at = absurd (not_none row at)
-        by (other ∷ rows) zero at = ap (λ (r : Row). r ∷ []) (same_some other row at)
-        by (other ∷ rows) (suc i) at = ap (λ l. other ∷ l) (by rows i at)
 
 -- a stream that is there has a newest timestamp
 behind_another : (row : Row) (rows : List Row) (labels : LabelSet) → is_some (lookup (is_at (label_set_cmp labels)) (newest_in rows)) ≡ true → is_some (lookup (is_at (label_set_cmp labels)) (newest_in (row ∷ rows))) ≡ true

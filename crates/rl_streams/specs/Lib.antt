@@ -3,6 +3,7 @@ pub mod CursorState
 pub mod HeldSet
 pub mod Rewritten
 pub mod RowSteps
+pub mod Selected
 pub mod StreamRows
 pub mod StreamsState
 pub mod laws

@@ -1,7 +1,8 @@
 -- What the calls make of the rows of streams.
-use Rattle.std.specs.Prelude.{◌≡◌, ℕ, ◌≤◌, max, not, Bool, true, false, List, ◌∷◌, Option, Some, Result, Ok, Err, MatchOption, slice_get}
+use Rattle.std.specs.Prelude.{◌≡◌, ℕ, ◌≤◌, max, not, Bool, true, false, List, ◌∷◌, ◌++◌, Option, Some, Result, Ok, Err, MatchOption, slice_get}
 use Rattle.std.specs.List.{AllByRecursion}
 use Rattle.std.specs.List.Sorted.{IsPermutation}
+use Rattle.std.specs.Map.{keys_of}
 use Rattle.rl_labels.specs.LabelSet.{LabelSet}
 use Rattle.rl_labels.specs.LabelText.{label_set_eq}
 use Rattle.rl_labels.specs.declared.entry.Entry.{Entry}
@@ -55,6 +56,7 @@ IsOffered false old entry new = new ≡ old
 pub record AreAdded (old : List Row) (entry : Entry) (new : List Row) : Type 0 where
   pub entries : IsPermutation (entry ∷ joined old) (joined new)
   pub newest : newest_map (newest_in new) ≡ raised (newest_map (newest_in old)) entry.labels entry.timestamp
+  pub labels : (more : List LabelSet) × (keys_of new ≡ keys_of old ++ more)
   pub streams : (seen : Seen) (next : ℕ) → AreStreams old seen next → (seen.honest ≡ true → is_among entry (joined old) ≡ false) → AreStreams new seen next
 
 -- where there is one more entry, the streams hold it too, and else they are as they were

@@ -13,6 +13,7 @@ mod lines;
 mod reading;
 pub mod refusal;
 mod rewriting;
+mod selections;
 pub mod sending;
 pub mod streams;
 

@@ -1,15 +1,18 @@
 //! What streams hold, read where it is.
 ghost use Rattle.std.specs.Prelude.{◌≡◌, ℕ, List, true, false, Ok, IfErr, OnOk};
 ghost use Rattle.std.specs.List.{AllByRecursion, fold};
+ghost use Rattle.std.specs.Map.{keys_of};
 ghost use Rattle.rl_labels.specs.LabelSet.{LabelSet};
 ghost use Rattle.rl_labels.specs.Selects.{selects};
 ghost use Rattle.rl_chunks.specs.declared.line.Line.{Line};
 ghost use Rattle.rl_parts.specs.StoreUse.{Looked, AreKept, ReadCause, Right};
 ghost use Rattle.rl_streams.specs.Asking.{told_of, told_by, AreOfRow, AreTold};
 ghost use Rattle.rl_streams.specs.RowSteps.{AreOthers};
+ghost use Rattle.rl_streams.specs.Selected.{selected};
 ghost use Rattle.rl_streams.specs.StreamRows.{joined, is_among, IsOwn, AreStreams};
 
 use crate::adding::place_of;
+use crate::selections::Selection;
 use indexmap::IndexMap;
 use rl_chunks::Store;
 use rl_labels::{Entry, Labels, Ns, SelectorCode};
@@ -47,8 +50,6 @@ pub(crate) fn each_selected<S: Store, T: Taker>(
 ) -> Result<(), ReadFault>
     ensures looked { Looked (S.seen store.old) (S.seen store.new) }
     ensures cause { IfErr result (ReadCause (S.seen store.old) (S.seen store.new)) }
-    ensures unread { selects selector.now stream.now.labels ≡ false → S.seen store.new ≡ S.seen store.old }
-    ensures told { OnOk result ((lines : List (LabelSet × Line)) × AreOfRow selector.now from to (stream.now.labels, stream.now) lines × (taker.new ≡ fold T.taking taker.old lines)) }
     ensures right { (next : ℕ) → AreKept (S.seen store.old) next stream.now → (S.seen store.old).honest ≡ true → Right result (λ _. taker.new ≡ fold T.taking taker.old (told_of selector.now from to stream.now.labels stream.now)) }
 {
     if !selector.accepts(stream.labels())? {
@@ -57,25 +58,26 @@ pub(crate) fn each_selected<S: Store, T: Taker>(
     stream.each(alloc, store, from, to, taker)
 }
 
-// Hands out the lines in the range of all streams that the selector selects. The others are not read.
+// Hands out the lines in the range of the streams of a selection, of which all were asked. The others are not read.
 pub(crate) fn each<S: Store, T: Taker>(
     alloc: Global,
     store: &mut S,
     streams: &IndexMap<Labels, Stream>,
-    selector: &SelectorCode,
+    selection: &Selection,
     from: Ns,
     to: Ns,
     taker: &mut T,
 ) -> Result<(), ReadFault>
-    requires { AllByRecursion IsOwn streams.now.entries }
+    requires own { AllByRecursion IsOwn streams.now.entries }
+    requires places { selection.now.places ≡ selected selection.now.selector (keys_of streams.now.entries) }
     ensures looked { Looked (S.seen store.old) (S.seen store.new) }
     ensures cause { IfErr result (ReadCause (S.seen store.old) (S.seen store.new)) }
-    ensures unread { AllByRecursion (λ row. selects selector.now row.0 ≡ false) streams.now.entries → S.seen store.new ≡ S.seen store.old }
-    ensures told { OnOk result (AreTold T.taking selector.now from to streams.now.entries taker.old taker.new) }
-    ensures right { (next : ℕ) → AreStreams streams.now.entries (S.seen store.old) next → (S.seen store.old).honest ≡ true → Right result (λ _. taker.new ≡ fold T.taking taker.old (told_by selector.now from to streams.now.entries)) }
+    ensures unread { AllByRecursion (λ row. selects selection.now.selector row.0 ≡ false) streams.now.entries → S.seen store.new ≡ S.seen store.old }
+    ensures told { OnOk result (AreTold T.taking selection.now.selector from to streams.now.entries taker.old taker.new) }
+    ensures right { (next : ℕ) → AreStreams streams.now.entries (S.seen store.old) next → (S.seen store.old).honest ≡ true → Right result (λ _. taker.new ≡ fold T.taking taker.old (told_by selection.now.selector from to streams.now.entries)) }
 {
-    for place in 0..streams.len() {
-        each_selected(alloc, store, &streams[place], selector, from, to, taker)?;
+    for place in selection.places() {
+        streams[*place].each(alloc, store, from, to, taker)?;
     }
     Ok(())
 }

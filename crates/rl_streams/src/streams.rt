@@ -6,12 +6,13 @@ use crate::adding::{age_refusal, place_of, put};
 use crate::cursor::Cursor;
 use crate::lines::Lines;
 use crate::refusal::AddRefusal;
+use crate::selections::Selections;
 use crate::{cutting, flushing, reading, rewriting};
 use indexmap::IndexMap;
 use rl_chunks::Store;
-use rl_labels::{Covers, Entry, Labels, Limits, Ns, SelectorCode};
+use rl_labels::{Covers, Entry, Labels, Limits, Matcher, Ns, SelectorCode};
 use rl_parts::{FlushFault, ReadFault, RewriteFault, Stream, Taker};
-use rl_plain::Shared;
+use rl_plain::{PlainList, Shared};
 use std::alloc::{AllocError, Global};
 use std::marker::Model;
 
@@ -26,9 +27,13 @@ pub struct Streams<S: Store> {
     // How many entries there are in all streams.
     count: u64,
     next: u64,
+    // Which streams the selectors select that were asked last.
+    selections: Selections,
 }
 
 impl<S: Store> Model for Streams<S> {
+    ghost use Rattle.std.specs.Map.{keys_of};
+    ghost use Rattle.rl_streams.specs.Selected.{AreSelections};
     ghost use Rattle.rl_streams.specs.StreamsState.{StreamsView, view_of, streams_code, IsWhole};
 
     ghost Value = { StreamsView };
@@ -37,7 +42,7 @@ impl<S: Store> Model for Streams<S> {
 
     ghost view = { λ a. view_of a.limits a.streams.entries (S.seen a.store) a.next };
 
-    ghost invariant = { λ a. IsWhole a.limits a.streams.entries (S.seen a.store) a.next a.count };
+    ghost invariant = { λ a. IsWhole a.limits a.streams.entries (S.seen a.store) a.next a.count × AreSelections (keys_of a.streams.entries) a.selections };
 }
 
 impl<S: Store> Streams<S> {
@@ -60,6 +65,7 @@ impl<S: Store> Streams<S> {
             streams: IndexMap::new(alloc),
             count: 0,
             next: limits.first_blob,
+            selections: Selections::new(alloc),
         }
     }
 
@@ -171,11 +177,11 @@ impl<S: Store> Streams<S> {
     }
 
     /// Hands out the lines from one moment to another, both included, of the streams that the selector selects: each once,
-    /// one stream after the other. A stream that is not selected is asked for its labels alone. After a refusal some lines
-    /// may have been handed out.
+    /// one stream after the other. A stream that is not selected is asked for its labels alone, and once for a selector while
+    /// no more than 1,024 are asked for. After a refusal some lines may have been handed out.
     pub fn each<T: Taker>(
         &mut self,
-        selector: &SelectorCode,
+        selector: &PlainList<Matcher>,
         from: Ns,
         to: Ns,
         taker: &mut T,
@@ -188,7 +194,9 @@ impl<S: Store> Streams<S> {
         ensures right { self.old.seen.honest ≡ true → Right result (λ _. AreToldOnce selector.now from to self.old.held T.taking taker.old taker.new) }
     {
         let (store, streams) = (&mut self.store, &self.streams);
-        reading::each(self.alloc, store, streams, selector, from, to, taker)
+        let place = self.selections.select(self.alloc, streams, selector)?;
+        let selection = self.selections.at(place);
+        reading::each(self.alloc, store, streams, selection, from, to, taker)
     }
 
     /// A cursor over the lines from one moment to another, both included, of the streams that the selector selects. Over an

@@ -123,13 +123,13 @@ fn push_ended<F: Display>(told: &mut String, ended: &Result<(), F>) -> Result<()
 }
 
 // A selector of the labels.
-pub(crate) fn selector_in(alloc: Global, text: &str) -> Result<SelectorCode, Trouble> {
+pub(crate) fn selector_in(alloc: Global, text: &str) -> Result<PlainList<Matcher>, Trouble> {
     let mut matchers = Vec::new(alloc);
     for (name, value) in list_in::<(PlainText, PlainText)>(alloc, text, ",")? {
         let matcher = Matcher::new(name, MatchOp::Equal, value);
         matchers.push(matcher.or(Err(Trouble::BadInput))?)?;
     }
-    SelectorCode::build(alloc, &matchers).or(Err(Trouble::BadInput))
+    Ok(PlainList::from_vec(matchers))
 }
 
 // Lines that were handed out, with their labels, as text. Contracts see nothing of it.
@@ -193,7 +193,9 @@ fn hand_out(
 
 // What a cursor hands out one by one. After a fault it is asked again, up to as often as there are lines to tell.
 fn walk(told: &mut String, streams: &mut Asked, rest: &str) -> Result<(), Trouble> {
-    let selector = selector_in(*told.allocator(), rest)?;
+    let alloc = *told.allocator();
+    let selector = selector_in(alloc, rest)?;
+    let selector = SelectorCode::build(alloc, selector.as_slice()).or(Err(Trouble::BadInput))?;
     let (from, to) = (moment_in("0")?, moment_in("9000000000s")?);
     push_walk(told, &mut streams.cursor(&selector, from, to))
 }

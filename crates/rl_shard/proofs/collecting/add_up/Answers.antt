@@ -9,7 +9,7 @@ use Rattle.rl_aggregate.specs.Limited.{IsWithin}
 use Rattle.rl_aggregate.specs.Tallies.{IsAlike, nothing_counted}
 use Rattle.rl_streams.specs.Asking.{AreTold, AreToldOnce}
 use Rattle.rl_shard.specs.Collecting.{IsRead}
-use Rattle.rl_shard.proofs.Counted.{all_mapped, counts, exact_all, most_is, none_counted, none_taken, not_over, not_true, read_each}
+use Rattle.rl_shard.proofs.Counted.{all_mapped, counts, exact_all, most_is, none_counted, not_over, not_true, read_each}
 use Rattle.rl_shard.proofs.collecting.add_up.Goals as goal
 
 pub returns-then-is_over-clause-cause : goal.returns-then-is_over-clause-cause
@@ -23,8 +23,7 @@ returns-then-is_over-clause-cause g c =
     c.in_ok-counter.ensures ∙ (λ i. record { most = (c.limits.ensures i).entries; left = (c.limits.ensures i).entries; is_over = false; tallies = map nothing_counted (stages i) }) in
     let alike = all_mapped (IsAlike first) (λ (term : Bor Term). term.now) c.args.terms.now c.requires in
     not_true streams.seen.honest (λ honest.
-    let once = subst (λ matchers. AreToldOnce matchers c.start_of-start.result c.args.t streams.held counts (none_taken requests streams.limits.entries (map (λ (term : Term). term.range.stages) terms)) c.each.new.taker) c.in_ok-selector.ensures
-    (subst (λ (counter : CounterView). AreToldOnce c.in_ok-selector.selector c.start_of-start.result c.args.t streams.held counts (record { counter = counter; requests = requests }) c.each.new.taker) counter (c.in_ok-each.ensures.right honest)) in
+    let once = subst (λ (counter : CounterView). AreToldOnce first.range.selector.matchers c.start_of-start.result c.args.t streams.held counts (record { counter = counter; requests = requests }) c.each.new.taker) counter (c.in_ok-each.ensures.right honest) in
     true≢false (sym c.if-is_over.true ∙ c.is_over.ensures ∙ not_over first terms streams requests c.args.t c.start_of-start.result c.each.new.taker c.start_of-start.ensures alike c.show_few.ensures.held once))
 
 pub returns-clause-partials : goal.returns-clause-partials
@@ -39,8 +38,7 @@ returns-clause-partials g c =
     let counter : c.in_ok-counter.counter ≡ none_counted streams.limits.entries (map (λ (term : Term). term.range.stages) terms) =
     c.in_ok-counter.ensures ∙ (λ i. record { most = (c.limits.ensures i).entries; left = (c.limits.ensures i).entries; is_over = false; tallies = map nothing_counted (stages i) }) in
     let alike = all_mapped (IsAlike first) (λ (term : Bor Term). term.now) c.args.terms.now c.requires in
-    let told = subst (λ matchers. AreTold counts matchers start c.args.t streams.rows (none_taken requests streams.limits.entries (map (λ (term : Term). term.range.stages) terms)) after) c.in_ok-selector.ensures
-    (subst (λ (counter : CounterView). AreTold counts c.in_ok-selector.selector start c.args.t streams.rows (record { counter = counter; requests = requests }) after) counter c.in_ok-each.ensures.told) in
+    let told = subst (λ (counter : CounterView). AreTold counts first.range.selector.matchers start c.args.t streams.rows (record { counter = counter; requests = requests }) after) counter c.in_ok-each.ensures.told in
     let none = sym c.is_over.ensures ∙ c.if-is_over.false in
     let found = c.in_ok-partials.ensures.found in
     let read = subst (AllZip (λ (term : Term) found. IsRead streams.rows requests.now term.range c.args.t found) terms) (sym found) (read_each first terms streams requests c.args.t start after c.start_of-start.ensures alike told none) in
@@ -49,7 +47,6 @@ returns-clause-partials g c =
       within = subst (λ most. AllByRecursion (IsWithin most) c.in_ok-partials.field-0.items) (most_is first terms streams requests c.args.t start after c.start_of-start.ensures alike told) c.in_ok-partials.ensures.within;
       read = read;
       exact = λ honest.
-          let once = subst (λ matchers. AreToldOnce matchers start c.args.t streams.held counts (none_taken requests streams.limits.entries (map (λ (term : Term). term.range.stages) terms)) after) c.in_ok-selector.ensures
-          (subst (λ (counter : CounterView). AreToldOnce c.in_ok-selector.selector start c.args.t streams.held counts (record { counter = counter; requests = requests }) after) counter (c.in_ok-each.ensures.right honest)) in
+          let once = subst (λ (counter : CounterView). AreToldOnce first.range.selector.matchers start c.args.t streams.held counts (record { counter = counter; requests = requests }) after) counter (c.in_ok-each.ensures.right honest) in
           found ∙ exact_all first terms streams requests c.args.t start after c.start_of-start.ensures alike c.show_few.ensures.held once;
     }

@@ -1,38 +1,72 @@
--- Each turn asks one stream.
-use Rattle.std.proofs.Common.{ap, subst, ◌∙◌, take_all, arith}
+-- Each turn reads one stream of the selection.
+use Rattle.std.proofs.Common.{◌≡◌, ◌<◌, ◌≤◌, [], Some, Ok, length, get_or, slice_get, refl, sym, ap, subst, ◌∙◌, take_all, arith}
+use Rattle.std.specs.Prelude.{if◌then◌else◌}
 use Rattle.std.specs.List.{fold}
+use Rattle.std.specs.Map.{values_of}
 use Rattle.std.proofs.lemmas.Result.{err_from_is_err_and}
+use Rattle.rl_parts.specs.Reading.{told_in_range}
+use Rattle.rl_parts.specs.StreamParts.{entries_of}
 use Rattle.rl_parts.specs.laws.UseLaws.{Looked-then}
-use Rattle.rl_streams.specs.Asking.{told_by, AreTold}
-use Rattle.rl_streams.proofs.Told.{right_on, told_more, told_then, kept_there, not_selected}
+use Rattle.rl_streams.specs.Asking.{told_of, AreOfRow}
+use Rattle.rl_streams.proofs.RowChanges.{within}
+use Rattle.rl_streams.proofs.Selecting.{AreFrom, chosen_there, from_more, no_place, right_at_all, selected_there, told_at_all}
+use Rattle.rl_streams.proofs.Told.{right_on, kept_there, of_row}
 use Rattle.rl_streams.proofs.reading.each.Goals as goal
 
-pub returns-in_err-each_selected-clause-unread : goal.returns-in_err-each_selected-clause-unread
-returns-in_err-each_selected-clause-unread g c = λ none.
-    c.each_selected.ensures.unread (not_selected c.args.selector.now c.args.from c.args.to c.args.streams.now.entries c.loop-place.place c.index.result.now c.requires none c.index.ensures) ∙ c.loop-place.invariant.unread none
-
-pub returns-in_err-each_selected-clause-right : goal.returns-in_err-each_selected-clause-right
-returns-in_err-each_selected-clause-right g c = λ next are honest.
-    let p = err_from_is_err_and c.from_residual.result c.from_residual.ensures.1 in
-    let kept = kept_there c.args.selector.now c.args.from c.args.to c.args.streams.now.entries c.loop-place.place c.index.result.now (g.S.Store.seen c.args.store.now) (g.S.Store.seen c.loop-place.store) next are c.loop-place.invariant.looked c.index.ensures in
-    rw (p.1, p.2) (right_on c.in_err-each_selected.field-0.0 _ _ (c.in_err-each_selected.ensures.right next kept (c.loop-place.invariant.looked.honest ∙ honest)))
+pub index-requires : goal.index-requires
+index-requires g c =
+    let chosen = selected_there c.args.selection.now.selector c.args.streams.now.entries c.places-place-items.result.now c.loop-place.place-index 0 (c.places-place-items.ensures ∙ c.requires.places) c.loop-place-test.true in
+    within c.args.streams.now.entries (get_or c.places-place-items.result.now c.loop-place.place-index 0) chosen.0 chosen.1
 
 pub loop-place-preserved : goal.loop-place-preserved
-loop-place-preserved g c = record {
-  looked = Looked-then (g.S.Store.seen c.args.store.now) (g.S.Store.seen c.loop-place.store) (g.S.Store.seen c.each_selected.new.store) c.loop-place.invariant.looked c.each_selected.ensures.looked;
-  told = told_then g.T.Taker.taking c.args.selector.now c.args.from c.args.to c.args.streams.now.entries c.loop-place.place c.index.result.now c.args.taker.now c.loop-place.taker c.each_selected.new.taker c.requires c.index.ensures c.loop-place.invariant.told c.in_ok-each_selected.ensures.told;
-  unread = λ none. c.each_selected.ensures.unread (not_selected c.args.selector.now c.args.from c.args.to c.args.streams.now.entries c.loop-place.place c.index.result.now c.requires none c.index.ensures) ∙ c.loop-place.invariant.unread none;
-  right = λ next are honest.
-      let kept = kept_there c.args.selector.now c.args.from c.args.to c.args.streams.now.entries c.loop-place.place c.index.result.now (g.S.Store.seen c.args.store.now) (g.S.Store.seen c.loop-place.store) next are c.loop-place.invariant.looked c.index.ensures in
-      told_more c.args.selector.now c.args.from c.args.to g.T.Taker.taking c.args.streams.now.entries c.loop-place.place c.index.result.now c.args.taker.now c.loop-place.taker c.each_selected.new.taker c.requires c.index.ensures
-      (c.loop-place.invariant.right next are honest) (c.in_ok-each_selected.ensures.right next kept (c.loop-place.invariant.looked.honest ∙ honest));
-}
+loop-place-preserved g c =
+    let selector = c.args.selection.now.selector in
+    let rows = c.args.streams.now.entries in
+    let places = c.args.selection.now.places in
+    let index = c.loop-place.place-index in
+    let stream = c.index.result.now in
+    let start = g.S.Store.seen c.args.store.now in
+    let seen = g.S.Store.seen c.loop-place.store in
+    let before = c.loop-place.invariant in
+    let items = c.places-place-items.ensures in
+    let within = subst (λ ps. index < length ps) items c.loop-place-test.true in
+    let at = subst (λ ps. slice_get (values_of rows) (get_or ps index 0) ≡ Some stream) items c.index.ensures in
+    let chosen = chosen_there selector rows places index stream c.requires.own c.requires.places within at in
+    let lines = of_row selector c.args.from c.args.to stream g.T.Taker.taking c.loop-place.taker c.each.new.taker chosen.1 (Ok tt) c.in_ok-each.ensures.pieces in
+    record {
+      looked = Looked-then start seen (g.S.Store.seen c.each.new.store) before.looked c.each.ensures.looked;
+      told = from_more (AreOfRow selector c.args.from c.args.to) g.T.Taker.taking rows places index 0 c.args.taker.now c.loop-place.taker c.each.new.taker within before.told (lines.0, ((stream.labels, stream), chosen.0, lines.1), lines.2);
+      unread = λ none. absurd (no_place selector rows places index c.requires.places none within);
+      right = λ next are honest.
+          let kept = kept_there selector c.args.from c.args.to rows (get_or places index 0) stream start seen next are before.looked at in
+          let told = c.in_ok-each.ensures.right next kept (before.looked.honest ∙ honest) in
+          from_more (λ row lines. lines ≡ told_of selector c.args.from c.args.to row.0 row.1) g.T.Taker.taking rows places index 0 c.args.taker.now c.loop-place.taker c.each.new.taker within (before.right next are honest)
+          (told_of selector c.args.from c.args.to stream.labels stream, ((stream.labels, stream), chosen.0, refl), told ∙ ap (λ b. fold g.T.Taker.taking c.loop-place.taker (if b then told_in_range c.args.from c.args.to (entries_of stream) else [])) (sym chosen.1));
+    }
+
+pub returns-in_err-each-clause-unread : goal.returns-in_err-each-clause-unread
+returns-in_err-each-clause-unread g c = λ none.
+    absurd (no_place c.args.selection.now.selector c.args.streams.now.entries c.args.selection.now.places c.loop-place.place-index c.requires.places none (subst (λ ps. c.loop-place.place-index < length ps) c.places-place-items.ensures c.loop-place-test.true))
+
+pub returns-in_err-each-clause-right : goal.returns-in_err-each-clause-right
+returns-in_err-each-clause-right g c = λ next are honest.
+    let rows = c.args.streams.now.entries in
+    let p = err_from_is_err_and c.from_residual.result c.from_residual.ensures.1 in
+    let kept = kept_there c.args.selection.now.selector c.args.from c.args.to rows (get_or c.places-place-items.result.now c.loop-place.place-index 0) c.index.result.now (g.S.Store.seen c.args.store.now) (g.S.Store.seen c.loop-place.store) next are c.loop-place.invariant.looked c.index.ensures in
+    rw (p.1, p.2) (right_on c.in_err-each.field-0.0 _ _ (c.in_err-each.ensures.right next kept (c.loop-place.invariant.looked.honest ∙ honest)))
 
 pub returns-clause-told : goal.returns-clause-told
 returns-clause-told g c =
-    subst (λ rows. AreTold g.T.Taker.taking c.args.selector.now c.args.from c.args.to rows c.args.taker.now c.loop-place.taker) (take_all c.loop-place.place c.args.streams.now.entries (omega (arith, c.len-place-end.ensures.len, c.loop-place-test.false))) c.loop-place.invariant.told
+    let selector = c.args.selection.now.selector in
+    let places = c.args.selection.now.places in
+    let all = take_all c.loop-place.place-index places (subst (λ ps. length ps ≤ c.loop-place.place-index) c.places-place-items.ensures (omega (arith, c.loop-place-test.false))) in
+    told_at_all selector c.args.from c.args.to g.T.Taker.taking c.args.streams.now.entries places c.args.taker.now c.loop-place.taker c.requires.places
+    (subst (λ ps. AreFrom (AreOfRow selector c.args.from c.args.to) g.T.Taker.taking c.args.streams.now.entries ps c.args.taker.now c.loop-place.taker) all c.loop-place.invariant.told)
 
 pub returns-clause-right : goal.returns-clause-right
 returns-clause-right g c = λ next are honest.
-    c.loop-place.invariant.right next are honest
-    ∙ ap (λ rows. fold g.T.Taker.taking c.args.taker.now (told_by c.args.selector.now c.args.from c.args.to rows)) (take_all c.loop-place.place c.args.streams.now.entries (omega (arith, c.len-place-end.ensures.len, c.loop-place-test.false)))
+    let selector = c.args.selection.now.selector in
+    let places = c.args.selection.now.places in
+    let all = take_all c.loop-place.place-index places (subst (λ ps. length ps ≤ c.loop-place.place-index) c.places-place-items.ensures (omega (arith, c.loop-place-test.false))) in
+    right_at_all selector c.args.from c.args.to g.T.Taker.taking c.args.streams.now.entries places c.args.taker.now c.loop-place.taker c.requires.places
+    (subst (λ ps. AreFrom (λ row lines. lines ≡ told_of selector c.args.from c.args.to row.0 row.1) g.T.Taker.taking c.args.streams.now.entries ps c.args.taker.now c.loop-place.taker) all (c.loop-place.invariant.right next are honest))

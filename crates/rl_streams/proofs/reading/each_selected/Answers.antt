@@ -6,20 +6,8 @@ use Rattle.rl_labels.specs.Selects.{selects}
 use Rattle.rl_parts.specs.StreamParts.{entries_of}
 use Rattle.rl_parts.specs.Reading.{told_in_range}
 use Rattle.rl_streams.specs.Asking.{told_of}
-use Rattle.rl_streams.proofs.Told.{right_then, none_of_row, of_row}
+use Rattle.rl_streams.proofs.Told.{right_then}
 use Rattle.rl_streams.proofs.reading.each_selected.Goals as goal
-
-pub returns-then-not-branch-clause-told : goal.returns-then-not-branch-clause-told
-returns-then-not-branch-clause-told g c =
-    let stream = c.args.stream.now in
-    let selected = ap (selects c.args.selector.now) (sym c.labels.ensures) ∙ sym c.in_ok-accepts.ensures.accepts ∙ c.if-not-branch.true in
-    none_of_row c.args.selector.now c.args.from c.args.to stream g.T.Taker.taking c.args.taker.now selected
-
-pub returns-clause-told : goal.returns-clause-told
-returns-clause-told g c =
-    let stream = c.args.stream.now in
-    let selected = ap (selects c.args.selector.now) (sym c.labels.ensures) ∙ sym c.in_ok-accepts.ensures.accepts ∙ c.if-not-branch.false in
-    of_row c.args.selector.now c.args.from c.args.to stream g.T.Taker.taking c.args.taker.now c.each.new.taker selected c.each.result c.each.ensures.pieces
 
 pub returns-clause-right : goal.returns-clause-right
 returns-clause-right g c = λ next kept honest.

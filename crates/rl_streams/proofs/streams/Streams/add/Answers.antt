@@ -4,55 +4,62 @@ use Rattle.std.proofs.lemmas.Result.{err_from_is_err_and}
 use Rattle.rl_streams.specs.StreamRows.{joined, is_among}
 use Rattle.rl_streams.specs.RowSteps.{AreOffered, IsOfferedRight}
 use Rattle.rl_streams.specs.StreamsState.{StreamsView, view_of, age_refusal, IsDecided, Takes}
+use Rattle.rl_streams.proofs.Selecting.{selections_behind, selections_same}
 use Rattle.rl_streams.proofs.Whole.{looked_whole, taken_whole, taken_view, decided_refused, decided_held, decided_taken, taken_new, has_room}
 use Rattle.rl_streams.proofs.streams.Streams.add.Goals as goal
 
 pub invariant_of-self : goal.invariant_of-self
 invariant_of-self g c =
-    let s = c.self.inside in
-    looked_whole s.limits s.streams.entries c.put.new.streams.entries (g.S.Store.seen s.store) (g.S.Store.seen c.put.new.store) s.next s.count c.self.invariant c.put.ensures.looked c.in_err-put.ensures.refused
+    let s = c.self.inside in (
+      looked_whole s.limits s.streams.entries c.put.new.streams.entries (g.S.Store.seen s.store) (g.S.Store.seen c.put.new.store) s.next s.count c.self.invariant.0 c.put.ensures.looked c.in_err-put.ensures.refused,
+      selections_same s.streams.entries c.put.new.streams.entries s.selections c.in_err-put.ensures.refused c.self.invariant.1,
+    )
 
 pub returns-in_err-put-clause-decided : goal.returns-in_err-put-clause-decided
 returns-in_err-put-clause-decided g c =
     let s = c.self.inside in
     let p = err_from_is_err_and c.from_residual.result c.from_residual.ensures.1 in
     subst (λ (old : StreamsView). age_refusal old.limits old.newest c.args.horizon c.args.entry ≡ None → old.seen.honest ≡ true → IsDecided c.from_residual.result old c.args.entry (view_of s.limits c.put.new.streams.entries (g.S.Store.seen c.put.new.store) s.next)) c.self.view_is
-    (λ aged honest. rw (p.1, p.2) (decided_refused s.limits s.streams.entries c.put.new.streams.entries (g.S.Store.seen s.store) (g.S.Store.seen c.put.new.store) s.next s.count c.self.invariant c.put.ensures.looked c.args.entry
-    c.in_err-put.field-0.0 _ (view_of s.limits c.put.new.streams.entries (g.S.Store.seen c.put.new.store) s.next) honest (c.in_err-put.ensures.right s.next c.self.invariant.streams honest) c.in_err-put.ensures.full refl))
+    (λ aged honest. rw (p.1, p.2) (decided_refused s.limits s.streams.entries c.put.new.streams.entries (g.S.Store.seen s.store) (g.S.Store.seen c.put.new.store) s.next s.count c.self.invariant.0 c.put.ensures.looked c.args.entry
+    c.in_err-put.field-0.0 _ (view_of s.limits c.put.new.streams.entries (g.S.Store.seen c.put.new.store) s.next) honest (c.in_err-put.ensures.right s.next c.self.invariant.0.streams honest) c.in_err-put.ensures.full refl))
 
 pub invariant_of-self-then-not-branch : goal.invariant_of-self-then-not-branch
 invariant_of-self-then-not-branch g c =
     let s = c.self.inside in
-    let same = subst (λ more. AreOffered more s.streams.entries c.args.entry c.put.new.streams.entries) c.if-not-branch.true c.in_ok-put.ensures.taken in
-    looked_whole s.limits s.streams.entries c.put.new.streams.entries (g.S.Store.seen s.store) (g.S.Store.seen c.put.new.store) s.next s.count c.self.invariant c.put.ensures.looked same
+    let same = subst (λ more. AreOffered more s.streams.entries c.args.entry c.put.new.streams.entries) c.if-not-branch.true c.in_ok-put.ensures.taken in (
+      looked_whole s.limits s.streams.entries c.put.new.streams.entries (g.S.Store.seen s.store) (g.S.Store.seen c.put.new.store) s.next s.count c.self.invariant.0 c.put.ensures.looked same,
+      selections_same s.streams.entries c.put.new.streams.entries s.selections same c.self.invariant.1,
+    )
 
 pub returns-then-not-branch-clause-decided : goal.returns-then-not-branch-clause-decided
 returns-then-not-branch-clause-decided g c =
     let s = c.self.inside in
     let same = subst (λ more. AreOffered more s.streams.entries c.args.entry c.put.new.streams.entries) c.if-not-branch.true c.in_ok-put.ensures.taken in
     subst (λ (old : StreamsView). age_refusal old.limits old.newest c.args.horizon c.args.entry ≡ None → old.seen.honest ≡ true → IsDecided {A = Unit {0}} (Ok tt) old c.args.entry (view_of s.limits c.put.new.streams.entries (g.S.Store.seen c.put.new.store) s.next)) c.self.view_is
-    (λ aged honest. decided_held s.limits s.streams.entries c.put.new.streams.entries (g.S.Store.seen s.store) (g.S.Store.seen c.put.new.store) s.next s.count c.self.invariant c.put.ensures.looked c.args.entry honest
-    (subst (λ more. IsOfferedRight (Ok more) (is_among c.args.entry (joined s.streams.entries))) c.if-not-branch.true (c.in_ok-put.ensures.right s.next c.self.invariant.streams honest)) same)
+    (λ aged honest. decided_held s.limits s.streams.entries c.put.new.streams.entries (g.S.Store.seen s.store) (g.S.Store.seen c.put.new.store) s.next s.count c.self.invariant.0 c.put.ensures.looked c.args.entry honest
+    (subst (λ more. IsOfferedRight (Ok more) (is_among c.args.entry (joined s.streams.entries))) c.if-not-branch.true (c.in_ok-put.ensures.right s.next c.self.invariant.0.streams honest)) same)
 
 pub invariant_of-self-2 : goal.invariant_of-self-2
 invariant_of-self-2 g c =
     let s = c.self.inside in
-    let added = subst (λ more. AreOffered more s.streams.entries c.args.entry c.put.new.streams.entries) c.if-not-branch.false c.in_ok-put.ensures.taken in
-    taken_whole s.limits s.streams.entries c.put.new.streams.entries (g.S.Store.seen s.store) (g.S.Store.seen c.put.new.store) s.next s.count c.self.invariant c.put.ensures.looked c.args.entry added
-    (λ honest. taken_new (is_among c.args.entry (joined s.streams.entries)) (subst (λ more. IsOfferedRight (Ok more) (is_among c.args.entry (joined s.streams.entries))) c.if-not-branch.false (c.in_ok-put.ensures.right s.next c.self.invariant.streams honest)))
-    (has_room s.limits s.count (c.in_ok-put.ensures.room c.if-not-branch.false))
+    let added = subst (λ more. AreOffered more s.streams.entries c.args.entry c.put.new.streams.entries) c.if-not-branch.false c.in_ok-put.ensures.taken in (
+      taken_whole s.limits s.streams.entries c.put.new.streams.entries (g.S.Store.seen s.store) (g.S.Store.seen c.put.new.store) s.next s.count c.self.invariant.0 c.put.ensures.looked c.args.entry added
+          (λ honest. taken_new (is_among c.args.entry (joined s.streams.entries)) (subst (λ more. IsOfferedRight (Ok more) (is_among c.args.entry (joined s.streams.entries))) c.if-not-branch.false (c.in_ok-put.ensures.right s.next c.self.invariant.0.streams honest)))
+          (has_room s.limits s.count (c.in_ok-put.ensures.room c.if-not-branch.false)),
+      selections_behind s.streams.entries c.put.new.streams.entries s.selections added.labels c.self.invariant.1,
+    )
 
 pub returns-clause-taken : goal.returns-clause-taken
 returns-clause-taken g c =
     let s = c.self.inside in
     let added = subst (λ more. AreOffered more s.streams.entries c.args.entry c.put.new.streams.entries) c.if-not-branch.false c.in_ok-put.ensures.taken in
     let new = view_of s.limits c.put.new.streams.entries (g.S.Store.seen c.put.new.store) s.next in
-    inr (subst (λ (old : StreamsView). Takes old c.args.entry new) c.self.view_is (taken_view s.limits s.streams.entries c.put.new.streams.entries (g.S.Store.seen s.store) (g.S.Store.seen c.put.new.store) s.next s.count c.self.invariant c.put.ensures.looked c.args.entry added))
+    inr (subst (λ (old : StreamsView). Takes old c.args.entry new) c.self.view_is (taken_view s.limits s.streams.entries c.put.new.streams.entries (g.S.Store.seen s.store) (g.S.Store.seen c.put.new.store) s.next s.count c.self.invariant.0 c.put.ensures.looked c.args.entry added))
 
 pub returns-clause-decided : goal.returns-clause-decided
 returns-clause-decided g c =
     let s = c.self.inside in
     let added = subst (λ more. AreOffered more s.streams.entries c.args.entry c.put.new.streams.entries) c.if-not-branch.false c.in_ok-put.ensures.taken in
     subst (λ (old : StreamsView). age_refusal old.limits old.newest c.args.horizon c.args.entry ≡ None → old.seen.honest ≡ true → IsDecided {A = Unit {0}} (Ok tt) old c.args.entry (view_of s.limits c.put.new.streams.entries (g.S.Store.seen c.put.new.store) s.next)) c.self.view_is
-    (λ aged honest. decided_taken s.limits s.streams.entries c.put.new.streams.entries (g.S.Store.seen s.store) (g.S.Store.seen c.put.new.store) s.next s.count c.self.invariant c.put.ensures.looked c.args.entry honest
-    (subst (λ more. IsOfferedRight (Ok more) (is_among c.args.entry (joined s.streams.entries))) c.if-not-branch.false (c.in_ok-put.ensures.right s.next c.self.invariant.streams honest)) added (has_room s.limits s.count (c.in_ok-put.ensures.room c.if-not-branch.false)))
+    (λ aged honest. decided_taken s.limits s.streams.entries c.put.new.streams.entries (g.S.Store.seen s.store) (g.S.Store.seen c.put.new.store) s.next s.count c.self.invariant.0 c.put.ensures.looked c.args.entry honest
+    (subst (λ more. IsOfferedRight (Ok more) (is_among c.args.entry (joined s.streams.entries))) c.if-not-branch.false (c.in_ok-put.ensures.right s.next c.self.invariant.0.streams honest)) added (has_room s.limits s.count (c.in_ok-put.ensures.room c.if-not-branch.false)))

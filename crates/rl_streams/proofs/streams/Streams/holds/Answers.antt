@@ -13,7 +13,7 @@ use Rattle.rl_streams.proofs.streams.Streams.holds.Goals as goal
 pub invariant_of-self : goal.invariant_of-self
 invariant_of-self g c =
     let s = c.self.inside in
-    looked_whole s.limits s.streams.entries s.streams.entries (g.S.Store.seen s.store) (g.S.Store.seen c.holds.new.store) s.next s.count c.self.invariant c.holds.ensures.looked refl
+    (looked_whole s.limits s.streams.entries s.streams.entries (g.S.Store.seen s.store) (g.S.Store.seen c.holds.new.store) s.next s.count c.self.invariant.0 c.holds.ensures.looked refl, c.self.invariant.1)
 
 pub returns-clause-unread : goal.returns-clause-unread
 returns-clause-unread g c = λ none.
@@ -27,4 +27,4 @@ returns-clause-right g c =
     let entry = c.args.entry.now in
     subst (λ (view : StreamsView). view.seen.honest ≡ true → Right c.holds.result (λ found. found ≡ contains_key view.held entry)) c.self.view_is
     (λ honest. right_then (λ found. found ≡ is_among entry (joined s.streams.entries)) (λ found. found ≡ contains_key (view_of s.limits s.streams.entries (g.S.Store.seen s.store) s.next).held entry)
-    (λ found is. is ∙ sym (contains_key-of_list entry_cmp_total (joined s.streams.entries) entry)) c.holds.result (c.holds.ensures.right s.next c.self.invariant.streams honest))
+    (λ found is. is ∙ sym (contains_key-of_list entry_cmp_total (joined s.streams.entries) entry)) c.holds.result (c.holds.ensures.right s.next c.self.invariant.0.streams honest))

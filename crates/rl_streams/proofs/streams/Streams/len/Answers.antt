@@ -9,10 +9,10 @@ use Rattle.rl_streams.proofs.streams.Streams.len.Goals as goal
 
 pub returns-clause-right : goal.returns-clause-right
 returns-clause-right g c = subst (λ (view : StreamsView). view.seen.honest ≡ true → c.self.inside.count ≡ len view.held) c.self.view_is
-    (λ honest. c.self.invariant.counted ∙ sym (len-of_distinct entry_cmp_total (joined c.self.inside.streams.entries) (c.self.invariant.streams.once honest)))
+    (λ honest. c.self.invariant.0.counted ∙ sym (len-of_distinct entry_cmp_total (joined c.self.inside.streams.entries) (c.self.invariant.0.streams.once honest)))
 
 pub returns-clause-room : goal.returns-clause-room
 returns-clause-room g c =
     let s = c.self.inside in
-    let within : len (view_of s.limits s.streams.entries (g.S.Store.seen s.store) s.next).held ≤ s.limits.entries = omega (arith, len-of_list entry_cmp_total (joined s.streams.entries), c.self.invariant.counted, c.self.invariant.room) in
+    let within : len (view_of s.limits s.streams.entries (g.S.Store.seen s.store) s.next).held ≤ s.limits.entries = omega (arith, len-of_list entry_cmp_total (joined s.streams.entries), c.self.invariant.0.counted, c.self.invariant.0.room) in
     subst (λ (view : StreamsView). len view.held ≤ view.limits.entries) c.self.view_is within
