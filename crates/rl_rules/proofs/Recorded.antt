@@ -24,8 +24,9 @@ use Rattle.rl_rules.specs.declared.rule.Rule.{Rule}
 use Rattle.rl_rules.specs.declared.evaluation.RuleOutcome.{RuleOutcome}
 use Rattle.rl_rules.specs.declared.evaluation.RuleOutcome.TheVariants as made
 use Rattle.rl_rules.specs.declared.evaluation.Cause.TheVariants as causes
+use Rattle.rl_rules.specs.Naming.{Naming, final_by}
 use Rattle.rl_rules.specs.Outcomes.{final_labels, final_elements, has_same_labels, is_exceeded, in_order, outcome_of}
-use Rattle.rl_rules.specs.Recording.{named, sample_cmp, has_same_neighbours}
+use Rattle.rl_rules.specs.Recording.{named, named_by, sample_cmp, has_same_neighbours}
 
 -- the first of some elements are changed, and then the next one
 set_next : {A : Type 0} (f : A → A) (xs : List A) (i : ℕ) (d : A) → i < length xs → set (map f (take i xs) ++ drop i xs) i (f (get_or xs i d)) ≡ map f (take (suc i) xs) ++ drop (suc i) xs
@@ -39,13 +40,13 @@ next_kept f (x ∷ xs) zero d h = refl
 next_kept f (x ∷ xs) (suc i) d h = next_kept f xs i d (omega arith)
 
 -- one sample more is named
-pub named_more : (rule : Rule) (old now : List Sample) (i : ℕ) (x : Sample) (labels : LabelSet) → i < length old → now ≡ map (named rule) (take i old) ++ drop i old → labels ≡ final_labels rule (get_or now i x).labels
-    → set now i (record { labels = labels; value = (get_or now i x).value }) ≡ map (named rule) (take (i + 1) old) ++ drop (i + 1) old
-named_more rule old now i x labels within so_far set_to =
-    let there : get_or now i x ≡ get_or old i x = ap (λ xs. get_or xs i x) so_far ∙ next_kept (named rule) old i x within in
-    let made : ◌≡◌ {A = Sample} (record { labels = labels; value = (get_or now i x).value }) (named rule (get_or old i x)) =
-    λ j. record { labels = (set_to ∙ ap (λ (s : Sample). final_labels rule s.labels) there) j; value = (there j).value } in
-    (λ j. set (so_far j) i (made j)) ∙ set_next (named rule) old i x within ∙ ap (λ n. map (named rule) (take n old) ++ drop n old) (sym (add-one i))
+pub named_more : (naming : Naming) (old now : List Sample) (i : ℕ) (x : Sample) (labels : LabelSet) → i < length old → now ≡ map (named_by naming) (take i old) ++ drop i old → labels ≡ final_by naming (get_or now i x).labels
+    → set now i (record { labels = labels; value = (get_or now i x).value }) ≡ map (named_by naming) (take (i + 1) old) ++ drop (i + 1) old
+named_more naming old now i x labels within so_far set_to =
+    let there : get_or now i x ≡ get_or old i x = ap (λ xs. get_or xs i x) so_far ∙ next_kept (named_by naming) old i x within in
+    let made : ◌≡◌ {A = Sample} (record { labels = labels; value = (get_or now i x).value }) (named_by naming (get_or old i x)) =
+    λ j. record { labels = (set_to ∙ ap (λ (s : Sample). final_by naming s.labels) there) j; value = (there j).value } in
+    (λ j. set (so_far j) i (made j)) ∙ set_next (named_by naming) old i x within ∙ ap (λ n. map (named_by naming) (take n old) ++ drop n old) (sym (add-one i))
 
 -- all of a list, written over as many
 pub take_whole : (n : ℕ) (xs ys : List Sample) → n ≡ length xs → take n (xs ++ ys) ≡ xs

@@ -3,6 +3,7 @@ pub mod Answering
 pub mod Document
 pub mod Editing
 pub mod Forms
+pub mod Naming
 pub mod Outcomes
 pub mod Recording
 pub mod RuleNames

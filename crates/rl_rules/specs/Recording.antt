@@ -3,12 +3,17 @@ use Rattle.std.specs.Prelude.{Bool, false, ◌||◌, List, [], ◌∷◌}
 use Rattle.std.specs.declared.cmp.Ordering.{Ordering}
 use Rattle.rl_labels.specs.LabelText.{label_set_cmp, label_set_eq}
 use Rattle.rl_aggregate.specs.declared.outcome.Sample.{Sample}
+use Rattle.rl_rules.specs.Naming.{Naming, final_by}
 use Rattle.rl_rules.specs.Outcomes.{final_labels}
 use Rattle.rl_rules.specs.declared.rule.Rule.{Rule}
 
 -- a sample under its final label set
 abbrev pub named : Rule → Sample → Sample
 named rule sample = record { labels = final_labels rule sample.labels; value = sample.value }
+
+-- the same by what is taken of a rule
+abbrev pub named_by : Naming → Sample → Sample
+named_by naming sample = record { labels = final_by naming sample.labels; value = sample.value }
 
 -- by label set
 abbrev pub sample_cmp : Sample → Sample → Ordering

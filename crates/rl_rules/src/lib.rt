@@ -5,7 +5,8 @@
 //! alerts of those before that are the same.
 //!
 //! - `rule`: `Group`, `Rule`. `alert`: `Alert`, `Phase`. `evaluation`: `Evaluation`, `RuleResult`, `RuleOutcome`, `Cause`.
-//! - `fault`: why a rule file is refused. `reading`: `read_rules`. `stepping`: `step_rule`. `editing`: `hand_on`.
+//! - `fault`: why a rule file is refused. `reading`: `read_rules`. `stepping`: `step_rule`. `naming`: `Namer`, which
+//!   gives final label sets. `editing`: `hand_on`.
 //! - `sending`: what may be sent to another thread, and looked at from two.
 #![tactic(auto)]
 
@@ -15,6 +16,7 @@ pub mod editing;
 pub mod evaluation;
 pub mod fault;
 mod names;
+pub mod naming;
 pub mod reading;
 pub mod rule;
 pub mod sending;
@@ -26,6 +28,7 @@ pub use alert::{Alert, Phase};
 pub use editing::hand_on;
 pub use evaluation::{Cause, Evaluation, RuleOutcome, RuleResult};
 pub use fault::{RulesError, RulesFault};
+pub use naming::Namer;
 pub use reading::read_rules;
 pub use rule::{Group, Rule, RuleKind};
 pub use stepping::step_rule;

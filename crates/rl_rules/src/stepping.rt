@@ -1,32 +1,28 @@
 //! What a rule makes of the outcome of its query.
 ghost use Rattle.std.specs.Prelude.{◌≡◌, map, IfOk, OnOk, Ok};
 ghost use Rattle.std.specs.List.Sorted.{IsPermutation, IsSorted};
-ghost use Rattle.rl_rules.specs.Outcomes.{rule_step, rule_outcome, outcome_of, made_by, alerts_left, kept_at, final_elements, final_labels, name_label, with_pair, with_pairs, is_exceeded};
-ghost use Rattle.rl_rules.specs.Recording.{named, sample_cmp, has_same_neighbours};
+ghost use Rattle.rl_rules.specs.Outcomes.{rule_step, rule_outcome, outcome_of, made_by, alerts_left, kept_at, final_elements, is_exceeded};
+ghost use Rattle.rl_rules.specs.Recording.{named, named_by, sample_cmp, has_same_neighbours};
 
 use crate::alert::Alert;
 use crate::alerting::alerts_after;
 use crate::evaluation::{Cause, RuleOutcome};
+use crate::naming::Namer;
 use crate::rule::{Rule, RuleKind};
 use rl_aggregate::{Outcome, Sample};
-use rl_labels::labels::is_label_name;
-use rl_labels::{Labels, Ns};
-use rl_plain::{PlainList, PlainText, TryCopy};
+use rl_labels::Ns;
+use rl_plain::{PlainList, TryCopy};
 use std::alloc::AllocError;
 
-/// The label that has the name of a metric.
-pub const NAME_LABEL: &str = "__name__";
-
-/// The label that has the name of a rule's alerts.
-pub const ALERT_LABEL: &str = "alertname";
-
 /// The alerts that a rule has after a moment, and what it makes of the outcome of its query, in a group with this limit and
-/// with the alerts that it had before. Where the query failed it takes no memory, and is never refused.
+/// with the alerts that it had before. Where the query failed it takes no memory, and is never refused. What the namer has of
+/// the last evaluation is shared.
 pub fn step_rule(
     rule: &Rule,
     limit: u64,
     alerts: PlainList<Alert>,
     outcome: Outcome,
+    namer: &mut Namer,
     t: Ns,
 ) -> Result<(PlainList<Alert>, RuleOutcome), AllocError>
     ensures stepped { IfOk result (λ step. step ≡ rule_step rule.now limit alerts outcome t) }
@@ -34,7 +30,7 @@ pub fn step_rule(
 {
     match outcome {
         Outcome::Vector(samples) => {
-            let made = make(rule, limit, &alerts, samples.into_vec(), t)?;
+            let made = make(rule, limit, &alerts, samples.into_vec(), namer, t)?;
             Ok((alerts_left(alerts, &made)?, made))
         }
         Outcome::Failed => {
@@ -71,12 +67,13 @@ fn make(
     limit: u64,
     alerts: &PlainList<Alert>,
     samples: Vec<Sample>,
+    namer: &mut Namer,
     t: Ns,
 ) -> Result<RuleOutcome, AllocError>
     ensures { IfOk result (λ made. made ≡ outcome_of limit (made_by rule.now.kind rule.now.hold alerts.now t) (final_elements rule.now samples.items)) }
 {
     let exceeded = is_exceeded(limit, samples.len());
-    let samples = final_samples(rule, samples)?;
+    let samples = final_samples(rule, samples, namer)?;
     if has_same_neighbours(&samples) {
         return Ok(RuleOutcome::Failed(Cause::SameLabels));
     }
@@ -110,62 +107,29 @@ fn made_by(
 }
 
 // The samples under their final label sets, sorted by these.
-fn final_samples(rule: &Rule, mut samples: Vec<Sample>) -> Result<Vec<Sample>, AllocError>
+fn final_samples(
+    rule: &Rule,
+    mut samples: Vec<Sample>,
+    namer: &mut Namer,
+) -> Result<Vec<Sample>, AllocError>
     ensures moved { IfOk result (λ sorted. IsPermutation (map (named rule.now) samples.items) sorted.items) }
     ensures in_order { IfOk result (λ sorted. IsSorted sample_cmp sorted.items) }
 {
-    name_samples(&mut samples, rule)?;
+    namer.begin(rule)?;
+    name_samples(&mut samples, namer)?;
+    namer.end();
     sort_samples(&mut samples);
     Ok(samples)
 }
 
-// Puts each sample under its final label set.
-fn name_samples(samples: &mut [Sample], rule: &Rule) -> Result<(), AllocError>
-    ensures { OnOk result (samples.new ≡ map (named rule.now) samples.old) }
+// Puts each sample under the final label set that the namer gives it.
+fn name_samples(samples: &mut [Sample], namer: &mut Namer) -> Result<(), AllocError>
+    ensures { OnOk result (samples.new ≡ map (named_by namer.old) samples.old) }
 {
     for sample in samples.iter_mut() {
-        sample.labels = final_labels(rule, &sample.labels)?;
+        sample.labels = namer.named(&sample.labels)?;
     }
     Ok(())
-}
-
-// The labels, the rule's over them, and the name over all.
-fn final_labels(rule: &Rule, labels: &Labels) -> Result<Labels, AllocError>
-    ensures { IfOk result (λ made. made ≡ final_labels rule.now labels.now) }
-{
-    let under = with_pairs(labels, rule.labels.as_slice())?;
-    under.with_label(name_label(rule.kind), rule.name.as_str())
-}
-
-fn name_label(kind: RuleKind) -> &'static str
-    ensures { result.now ≡ name_label kind }
-{
-    match kind {
-        RuleKind::Recording => NAME_LABEL,
-        RuleKind::Alerting => ALERT_LABEL,
-    }
-}
-
-// The labels with one pair after another.
-fn with_pairs(labels: &Labels, pairs: &[(PlainText, PlainText)]) -> Result<Labels, AllocError>
-    ensures { IfOk result (λ made. made ≡ with_pairs labels.now pairs.now) }
-{
-    let mut made = labels.try_copy()?;
-    for pair in pairs {
-        made = with_pair(&made, pair)?;
-    }
-    Ok(made)
-}
-
-fn with_pair(labels: &Labels, pair: &(PlainText, PlainText)) -> Result<Labels, AllocError>
-    ensures { IfOk result (λ made. made ≡ with_pair labels.now pair.now) }
-{
-    let name = pair.0.as_str();
-    if is_label_name(name) {
-        labels.with_label(name, pair.1.as_str())
-    } else {
-        labels.try_copy()
-    }
 }
 
 // Whether so many elements are more than the limit; 0 is none.

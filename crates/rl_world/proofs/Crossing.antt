@@ -15,6 +15,7 @@ use Rattle.rl_query.specs.contracts.query.Term as Term
 use Rattle.rl_aggregate.specs.contracts.partial.Partial as Partial
 use Rattle.rl_rules.specs.contracts.alert.Alert as Alert
 use Rattle.rl_rules.specs.contracts.evaluation.Evaluation as Evaluation
+use Rattle.rl_rules.specs.contracts.naming.Namer as Namer
 use Rattle.rl_rules.specs.contracts.rule.Group as Group
 use Rattle.rl_sinks.specs.declared.sink.Sink as Sink
 use Rattle.rl_aggregate.proofs.partial.Partial.TheSendSync as partial
@@ -35,6 +36,7 @@ fields-send T g s =
     let group : IsSend (Shared.the_field Group.the_row).row = search (groups.crosses, sendable, heap.crosses) depth 20 in
     let terms : IsSend (Shared.the_field (PlainList.the_row Term.the_row)).row = search (queries.crosses, groups.crosses, sendable, heap.crosses) depth 20 in
     let alerts : IsSend (Vec.the_field (PlainList.the_row Alert.the_row) Global.the_row allocator.ghosts).row = search (alert.the_send, groups.crosses, sendable, heap.crosses) depth 20 in
+    let namers : IsSend (Vec.the_field Namer.the_row Global.the_row allocator.ghosts).row = search (groups.crosses, sendable, heap.crosses) depth 20 in
     let item = Item-send in
     let items : IsSend (Vec.the_field Item.the_row Global.the_row allocator.ghosts).row = search (item, sendable, heap.crosses) depth 20 in
     let evaluations : IsSend (Vec.the_field (Shared.the_row Evaluation.the_row) Global.the_row allocator.ghosts).row = search (groups.crosses, sendable, heap.crosses) depth 20 in
@@ -43,7 +45,7 @@ fields-send T g s =
     let number : IsSend (Field.u64-field).row = search sendable depth 20 in
     let size : IsSend (Field.usize-field).row = search sendable depth 20 in
     recorded_send (inside.the_field T g).row _ _ (inside.the_type T g).to_one (struct_send (shape (inside.the_type T g))
-    (global.the_field_send, (group, (group, (terms, (number, (size, (number, (alerts, (items, (evaluations, (opened, (sinks, tt)))))))))))))
+    (global.the_field_send, (group, (group, (terms, (number, (size, (number, (alerts, (namers, (items, (evaluations, (opened, (sinks, tt))))))))))))))
 
 pub Book-send : (T : RattleType) (g : Sink.Ghosts T.Denot) → IsSend T → IsSend (Book.the_row T g)
 Book-send T g s = view_send _ _ _ _ _ (fields-send T g s)

@@ -18,10 +18,11 @@ use rl_aggregate::Partial;
 use rl_labels::Ns;
 use rl_plain::{PlainList, Shared, TryCopy};
 use rl_query::Term;
-use rl_rules::{Alert, Evaluation, Group};
+use rl_rules::{Alert, Evaluation, Group, Namer};
 use rl_sinks::Sink;
 use std::alloc::{AllocError, Global};
 use std::marker::Model;
+use std::mem;
 
 /// A rule group with its history and its sinks. Contracts see a `BookState`.
 #[derive(Drop)]
@@ -37,6 +38,8 @@ pub struct Book<S: Sink> {
     records: u64,
     // What the history left to each rule.
     alerts: Vec<PlainList<Alert>>,
+    // What gives the elements of each rule their final label sets.
+    namers: Vec<Namer>,
     // Edits and evaluations in order, and the evaluations alone.
     items: Vec<Item>,
     evaluations: Vec<Shared<Evaluation>>,
@@ -100,6 +103,7 @@ impl<S: Sink> Book<S> {
             shards,
             records,
             alerts: Vec::new(alloc),
+            namers: Vec::new(alloc),
             items: Vec::new(alloc),
             evaluations: Vec::new(alloc),
             opened: None,
@@ -199,7 +203,10 @@ impl<S: Sink> Book<S> {
         ensures err { OnErr result (self.new ≡ self.old) }
     {
         let number = self.evaluations.len() as u64;
-        let (evaluation, told, alerts) = self.evaluated()?;
+        let mut namers = mem::replace(&mut self.namers, Vec::new(self.alloc));
+        let evaluated = self.evaluated(&mut namers);
+        self.namers = namers;
+        let (evaluation, told, alerts) = evaluated?;
         let item = Item::Evaluated(evaluation.try_copy()?);
         let mut behind = Vec::with_capacity(self.alloc, self.sinks.len())?;
         self.items.reserve(1)?;
@@ -218,6 +225,7 @@ impl<S: Sink> Book<S> {
     // The evaluation that a commit adds, its copy for the caller, and the alerts that it leaves to the rules.
     fn evaluated(
         &self,
+        namers: &mut Vec<Namer>,
     ) -> Result<
         (
             Shared<Evaluation>,
@@ -245,6 +253,7 @@ impl<S: Sink> Book<S> {
             terms,
             &self.alerts,
             opened,
+            namers,
         )?;
         let told = evaluation.try_copy()?;
         Ok((evaluation, told, alerts))

@@ -1,5 +1,5 @@
 //! The evaluation of a group, on the partials that its shards gave.
-ghost use Rattle.std.specs.Prelude.{◌≡◌, ◌≤◌, ◌<◌, [], map, length, drop, option_to_list, flat_map, IfOk, IfSome};
+ghost use Rattle.std.specs.Prelude.{◌≡◌, ◌≤◌, ◌<◌, [], map, length, drop, option_to_list, flat_map, IfOk, IfSome, OnOk};
 ghost use Rattle.std.specs.List.{AllByRecursion};
 ghost use Rattle.std.specs.Option.{unwrap_or};
 ghost use Rattle.rl_aggregate.specs.Evaluated.{terms_of, finished};
@@ -16,7 +16,7 @@ use rl_aggregate::{Partial, finish, merge};
 use rl_labels::Ns;
 use rl_plain::{PlainList, Shared, TryCopy};
 use rl_query::{Query, Term};
-use rl_rules::{Alert, Evaluation, Group, Rule, RuleResult, step_rule};
+use rl_rules::{Alert, Evaluation, Group, Namer, Rule, RuleResult, step_rule};
 use std::alloc::{AllocError, Global};
 
 /// What a book has of each shard: the partials of the group's terms, once the shard was asked.
@@ -40,13 +40,15 @@ pub(crate) fn terms_of_group(
     Ok(terms)
 }
 
-/// The evaluation of the group, which has so many terms and whose rules have these alerts, and the alerts that it leaves.
+/// The evaluation of the group, which has so many terms and whose rules have these alerts, and the alerts that it leaves. The
+/// namers, one for each rule, share final label sets with the evaluation before.
 pub(crate) fn evaluate(
     alloc: Global,
     group: &Group,
     terms: usize,
     alerts: &[PlainList<Alert>],
     opened: &OpenEvaluation<PlainList<Shared<Partial>>>,
+    namers: &mut Vec<Namer>,
 ) -> Result<(Shared<Evaluation>, Vec<PlainList<Alert>>), AllocError>
     requires terms { terms ≡ length (group_terms group.now) }
     requires shards { length opened.now.gathered ≤ most_shards }
@@ -55,7 +57,7 @@ pub(crate) fn evaluate(
     ensures alerts { IfOk result (λ made. made.1.items ≡ alerts_then alerts.now made.0.outcomes) }
 {
     let slots = opened.gathered.as_slice();
-    let (outcomes, left) = group_results(alloc, group, terms, opened.t, alerts, slots)?;
+    let (outcomes, left) = group_results(alloc, group, terms, opened.t, alerts, slots, namers)?;
     let places = places(alloc, slots)?;
     let name = group.name.try_copy()?;
     let evaluation = Evaluation {
@@ -76,6 +78,7 @@ fn group_results(
     t: Ns,
     alerts: &[PlainList<Alert>],
     slots: &[Slot],
+    namers: &mut Vec<Namer>,
 ) -> Result<(Vec<RuleResult>, Vec<PlainList<Alert>>), AllocError>
     requires terms { terms ≡ length (group_terms group.now) }
     requires shards { length slots.now ≤ most_shards }
@@ -87,11 +90,11 @@ fn group_results(
     if let [slot] = slots {
         if let Some(answer) = slot {
             let partials = answer.shown.as_slice();
-            return results(alloc, group.limit, t, rules, alerts, partials);
+            return results(alloc, group.limit, t, rules, alerts, partials, namers);
         }
     }
     let partials = merged_terms(alloc, slots, terms)?;
-    results(alloc, group.limit, t, rules, alerts, &partials)
+    results(alloc, group.limit, t, rules, alerts, &partials, namers)
 }
 
 // Where the journals of the shards that were asked have the question.
@@ -165,6 +168,7 @@ fn results(
     rules: &[Rule],
     alerts: &[PlainList<Alert>],
     partials: &[Shared<Partial>],
+    namers: &mut Vec<Namer>,
 ) -> Result<(Vec<RuleResult>, Vec<PlainList<Alert>>), AllocError>
     requires terms { length partials.now ≡ length (flat_map (λ rule. terms_of rule.query) rules.now) }
     requires limited { AllByRecursion IsLimited partials.now }
@@ -176,16 +180,27 @@ fn results(
     let none = PlainList::new(alloc);
     let mut rest = partials;
     let mut known = alerts;
-    for rule in rules {
+    fill(alloc, namers, rules.len())?;
+    for (index, rule) in rules.iter().enumerate() {
         let (own, others) = rest.split_at(count_terms(&rule.query));
         let (had, behind) = first_alerts(known, &none);
-        let (result, kept) = result_of(alloc, limit, t, rule, had, own)?;
+        let (result, kept) = result_of(alloc, limit, t, rule, had, own, &mut namers[index])?;
         results.push(result)?;
         left.push(kept)?;
         rest = others;
         known = behind;
     }
     Ok((results, left))
+}
+
+// Adds namers until there are so many.
+fn fill(alloc: Global, namers: &mut Vec<Namer>, count: usize) -> Result<(), AllocError>
+    ensures { OnOk result (count ≤ length namers.new.items) }
+{
+    for _ in namers.len()..count {
+        namers.push(Namer::new(alloc))?;
+    }
+    Ok(())
 }
 
 // The alerts of the first rule, none where none are known, and those of the others.
@@ -218,6 +233,7 @@ fn result_of(
     rule: &Rule,
     alerts: &PlainList<Alert>,
     partials: &[Shared<Partial>],
+    namer: &mut Namer,
 ) -> Result<(RuleResult, PlainList<Alert>), AllocError>
     requires terms { length partials.now ≡ length (terms_of rule.now.query) }
     requires limited { AllByRecursion IsLimited partials.now }
@@ -226,7 +242,7 @@ fn result_of(
 {
     let outcome = finish(alloc, &rule.query, partials)?;
     let had = alerts.try_copy()?;
-    let (left, outcome) = step_rule(rule, limit, had, outcome, t)?;
+    let (left, outcome) = step_rule(rule, limit, had, outcome, namer, t)?;
     let name = rule.name.try_copy()?;
     let annotations = rule.annotations.try_copy()?;
     let result = RuleResult {

@@ -5,7 +5,7 @@ use crate::place::{Place, Spot, push_names, push_place};
 use crate::told::Untold;
 use rl_plain::{PlainText, Same};
 use rl_query::{Query, RangeFunction, Term};
-use rl_rules::stepping::{ALERT_LABEL, NAME_LABEL};
+use rl_rules::naming::{ALERT_LABEL, NAME_LABEL};
 use rl_rules::{Group, Rule, RuleKind};
 use std::fmt::Write;
 

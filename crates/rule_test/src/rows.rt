@@ -3,7 +3,7 @@ use crate::number::{Number, are_equal, number_in, push_number};
 use crate::part::{Item, Part};
 use crate::stop::Stop;
 use rl_labels::Labels;
-use rl_rules::stepping::{ALERT_LABEL, NAME_LABEL};
+use rl_rules::naming::{ALERT_LABEL, NAME_LABEL};
 use rl_rules::{Cause, Phase, RuleKind};
 use std::alloc::{AllocError, Global};
 

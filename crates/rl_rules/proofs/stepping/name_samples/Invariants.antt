@@ -1,7 +1,10 @@
 -- The samples so far are named, the others as they were.
 use Rattle.std.proofs.Common.{◌≡◌, ◌++◌, map, take, drop}
-use Rattle.rl_rules.specs.Recording.{named}
+use Rattle.rl_rules.specs.Recording.{named_by}
 use Rattle.rl_rules.proofs.stepping.name_samples.Given as goal
 
 abbrev pub invariant-loop-sample : goal.invariant-loop-sample
-invariant-loop-sample l = l.samples ≡ map (named l.rule) (take l.sample-index l.initial.samples) ++ drop l.sample-index l.initial.samples
+invariant-loop-sample l = record {
+  named : l.samples ≡ map (named_by l.fn.namer) (take l.sample-index l.initial.samples) ++ drop l.sample-index l.initial.samples;
+  same : l.namer ≡ l.fn.namer;
+}

@@ -1,10 +1,11 @@
 -- The book has one evaluation more, and its sinks were offered it.
-use Rattle.std.proofs.Common.{◌≡◌, ◌<◌, ◌++◌, [], ◌∷◌, length, map, take, drop, arith, sym, ap, subst, ◌∙◌}
+use Rattle.std.proofs.Common.{◌≡◌, ◌<◌, ◌++◌, [], ◌∷◌, Some, length, map, take, drop, arith, sym, ap, subst, ◌∙◌}
 use Rattle.std.specs.List.{AllByRecursion}
 use Rattle.std.proofs.lemmas.Grind.{common_steps}
-use Rattle.rl_world.specs.History.{alerts_behind, alerts_of, alerts_then, group_behind, evaluations_in}
+use Rattle.rl_world.specs.Evaluating.{evaluation_of, group_terms}
+use Rattle.rl_world.specs.History.{alerts_behind, alerts_of, group_behind, evaluations_in}
 use Rattle.rl_world.specs.Offering.{TookPrefix}
-use Rattle.rl_world.specs.WorldState.{BookState}
+use Rattle.rl_world.specs.WorldState.{BookState, kept_open}
 use Rattle.rl_world.specs.declared.item.Item.TheVariants as kinds
 use Rattle.rl_world.proofs.Committing.{each_took_now, each_took_offered, holds_of_none, one_more}
 use Rattle.rl_world.proofs.Items.{alerts-evaluated, group-evaluated, evaluations-evaluated}
@@ -27,13 +28,12 @@ invariant_of-self-2 g c =
     let same : news ≡ c.offer_all.new.sinks = grind (arith, common_steps) in
     let known : c.deref.result.now ≡ c.push.new.self.items = c.deref.ensures.value in
     let offered = subst (λ evaluations. AllByRecursion (TookPrefix evaluations) (map state c.offer_all.new.sinks)) known (each_took_offered c.deref.result.now (map state c.deref_mut.result.now) (map state c.offer_all.new.sinks) c.offer_all.ensures.offered) in
-    let room : length items < inside.records = subst (λ (b : BookState). length b.history.items < b.history.records) (sym c.self.view_is) c.in_ok-evaluation.ensures.room in
+    let room : length items < inside.records = c.in_ok-evaluation.ensures.room in
     let more : c.push_reserved.new.self.items ≡ items ++ kinds.Evaluated evaluation ∷ [] = c.push_reserved.ensures.items ∙ (λ k. c.in_ok-reserve.ensures.items k ++ kinds.Evaluated (c.in_ok-try_copy.ensures k) ∷ []) in
     record {
       terms_are = c.self.invariant.terms_are;
       alerts_are =
           c.in_ok-evaluation.ensures.alerts
-          ∙ ap (λ (b : BookState). alerts_then (alerts_of b.history) evaluation.outcomes) (sym c.self.view_is)
           ∙ sym (alerts-evaluated evaluation inside.first [] items)
           ∙ ap (alerts_behind inside.first []) (sym more);
       few_shards = c.self.invariant.few_shards;
@@ -46,4 +46,6 @@ invariant_of-self-2 g c =
     }
 
 pub returns-clause-from_scratch : goal.returns-clause-from_scratch
-returns-clause-from_scratch g c = λ shown kept. c.in_ok-evaluation.ensures.copy ∙ c.in_ok-evaluation.ensures.from_scratch shown kept
+returns-clause-from_scratch g c = λ shown kept.
+    let opened = subst (λ (b : BookState). b.history.opened ≡ Some (kept_open (group_terms b.history.group) shown)) (sym c.self.view_is) kept in
+    c.in_ok-evaluation.ensures.copy ∙ c.in_ok-evaluation.ensures.from_scratch shown opened ∙ ap (λ (b : BookState). evaluation_of b.history.group (alerts_of b.history) shown) c.self.view_is
