@@ -18,8 +18,8 @@ use rl_rules::{Group, RulesError, read_rules};
 use std::alloc::Global;
 use std::io::{ErrorKind, Read};
 
-// The longest input in bytes, and the most turns that its reader gets.
-const LONGEST: usize = 67_108_864;
+/// The longest input in bytes, and the most turns that its reader gets.
+pub const MAX_INPUT_LEN: usize = 67_108_864;
 
 // How many bytes a turn may give.
 const ROOM: usize = 65_536;
@@ -39,7 +39,7 @@ pub fn read_front<R: Read>(alloc: Global, reader: &mut R) -> Result<Front, Front
     ensures answers { GivesOne front_form (ReadsFront 67_108_864 (R.remaining reader.old) (R.remaining reader.new)) result }
     ensures known { IfSome (R.remaining reader.old) (λ all. GivesOne front_form (Tells 67_108_864 all) result) }
 {
-    let bytes = read_all(alloc, reader, LONGEST)?;
+    let bytes = read_all(alloc, reader, MAX_INPUT_LEN)?;
     front_in(alloc, bytes)
 }
 
@@ -121,8 +121,8 @@ fn groups_in(alloc: Global, document: &str) -> Result<Vec<Group>, FrontError>
     }
 }
 
-// The document before the first line that is the mark, and the commands behind that line.
-pub(crate) fn split_front(text: &str) -> Option<(&str, &str)>
+/// The document before the first line that is `%%`, and the commands behind that line.
+pub fn split_front(text: &str) -> Option<(&str, &str)>
     ensures front { option_map (λ parts. (parts.0.now, parts.1.now)) result ≡ front_of text.now }
     ensures cut { IfSome result (λ parts. IsCut text.now (parts.0.now, parts.1.now)) }
 {

@@ -5,12 +5,10 @@ use crate::place::Place;
 use crate::report::{ending, push_counts, push_rules};
 use crate::told::{Report, Told, Untold};
 use rl_rules::Group;
+use rl_session::front::{MAX_INPUT_LEN, split_front};
 use rl_session::{FrontFault, PushReader, is_blank};
 use std::alloc::Global;
 use std::fmt::Write;
-
-// The longest input in bytes.
-const LONGEST: usize = 67_108_864;
 
 /// What is told of an input: all that is told of its rules, then the faults of each command up to `end`, and how much it has.
 pub(crate) fn session_report(
@@ -32,7 +30,7 @@ pub(crate) fn session_report(
 
 // The text that the bytes are.
 fn text_of(bytes: Vec<u8>) -> Result<String, FrontFault> {
-    if bytes.len() > LONGEST {
+    if bytes.len() > MAX_INPUT_LEN {
         return Err(FrontFault::TooLong);
     }
     match String::from_utf8(bytes) {
@@ -48,7 +46,7 @@ fn push_front_fault(told: &mut Told, fault: FrontFault) -> Result<(), Untold> {
 }
 
 fn push_text(alloc: Global, told: &mut Told, text: &str, prints: bool) -> Result<(), Untold> {
-    let Some((document, commands)) = split_at_mark(text) else {
+    let Some((document, commands)) = split_front(text) else {
         return push_front_fault(told, FrontFault::NoMark);
     };
     let groups = push_rules(alloc, told, document, prints)?;
@@ -88,24 +86,4 @@ fn push_commands(
         number = number.saturating_add(1);
     }
     Ok(count)
-}
-
-// The document before the first line that is the mark, and the commands behind that line.
-fn split_at_mark(text: &str) -> Option<(&str, &str)> {
-    if text == "%%" {
-        return Some(("", ""));
-    }
-    if let Some(commands) = text.strip_prefix("%%\n") {
-        return Some(("", commands));
-    }
-    if let Some((front, commands)) = text.split_once("\n%%\n") {
-        return Some((with_feed(text, front), commands));
-    }
-    let front = text.strip_suffix("\n%%")?;
-    Some((with_feed(text, front), ""))
-}
-
-// The front of a text with the line feed behind it.
-fn with_feed<'a>(text: &'a str, front: &str) -> &'a str {
-    text.get(..front.len().saturating_add(1)).unwrap_or(text)
 }
