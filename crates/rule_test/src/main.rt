@@ -1,33 +1,55 @@
 //! The rule tester: plays test files of rules, and tells where rules give something else than is wanted.
 //!
-//! `options` reads the command line. `document` reads a test file, with `part` for a table and its keys, `streams` for lines,
-//! `rows` for what is wanted, and `number` for values. `events` puts what happens in order, `play` plays it to a ruler, and
-//! `compare` finds where a rule differs. `told` is what is printed, and `stop` why nothing is.
+//! `options` reads the command line, and `files` the files. What a test file says, and whether rules give it, is told by
+//! `rl_rule_tests`.
 #![tactic(auto)]
 
-mod compare;
-mod document;
-mod events;
-mod number;
+mod files;
 mod options;
-mod part;
-mod play;
-mod rows;
-mod stop;
-mod streams;
-mod told;
 
-use document::{Test, read_document, read_table};
+use files::{read_edits, read_file, read_groups};
 use options::read_options;
-use play::play;
-use rl_plain::PlainText;
-use rl_rules::{Group, RulesError, read_rules};
-use std::alloc::Global;
-use std::io::ErrorKind;
+use rl_rule_tests::{TestsError, Told, play, read_document, read_table};
+use std::alloc::{AllocError, AllocFailed};
 use std::process::ExitCode;
-use std::{fs, io};
-use stop::{Stop, fault};
-use told::Told;
+
+/// Why the program stops before it has played all tests.
+#[derive(Drop)]
+pub(crate) enum Stop {
+    BadOptions,
+    /// What the program does was asked for.
+    Help(String),
+    /// What a file has against it, and where; the place of a whole file is empty.
+    Fault { place: String, what: String },
+    /// The file that cannot be read.
+    Unread(String),
+    Unwritten,
+    Memory,
+}
+
+impl From<AllocError> for Stop {
+    fn from(_error: AllocError) -> Self {
+        Stop::Memory
+    }
+}
+
+impl<T: Drop> From<AllocFailed<T>> for Stop {
+    fn from(_error: AllocFailed<T>) -> Self {
+        Stop::Memory
+    }
+}
+
+impl From<TestsError> for Stop {
+    fn from(error: TestsError) -> Self {
+        match error {
+            TestsError::Fault(fault) => Stop::Fault {
+                place: fault.place,
+                what: fault.what,
+            },
+            TestsError::Memory => Stop::Memory,
+        }
+    }
+}
 
 fn main(rt: HostRuntime) -> ExitCode {
     match run(&rt) {
@@ -71,68 +93,5 @@ fn run(rt: &HostRuntime) -> Result<bool, Stop> {
     match print!(rt; "{}", told.text) {
         Ok(()) => Ok(told.failed == 0),
         Err(_) => Err(Stop::Unwritten),
-    }
-}
-
-// The text of the test file, or of standard input where none is named.
-fn read_file(rt: &HostRuntime, file: &Option<PlainText>) -> Result<String, Stop> {
-    let alloc = rt.alloc();
-    match file {
-        Some(file) => text_of(alloc, file.as_str(), fs::read_to_string(rt, file.as_str())),
-        None => text_of(
-            alloc,
-            "standard input",
-            io::read_to_string(alloc, rt.reader()),
-        ),
-    }
-}
-
-// Reads the rule files of all edits.
-fn read_edits(
-    rt: &HostRuntime,
-    file: &Option<PlainText>,
-    tests: &mut Vec<Test<'_>>,
-) -> Result<(), Stop> {
-    for test in tests.iter_mut() {
-        for edit in test.edits.iter_mut() {
-            edit.groups = read_groups(rt, file, edit.rules)?;
-        }
-    }
-    Ok(())
-}
-
-// The text that was read of a file.
-fn text_of(alloc: Global, file: &str, read: io::Result<String>) -> Result<String, Stop> {
-    match read {
-        Ok(text) => Ok(text),
-        Err(error) => match error.kind() {
-            ErrorKind::OutOfMemory => Err(Stop::Memory),
-            ErrorKind::InvalidData => Err(fault(format!(in alloc; "{file}: no UTF-8 text"))),
-            _ => Err(Stop::Unread(format!(in alloc; "{file}")?)),
-        },
-    }
-}
-
-// The groups of a rule file that a test file names.
-fn read_groups(rt: &HostRuntime, file: &Option<PlainText>, name: &str) -> Result<Vec<Group>, Stop> {
-    let alloc = rt.alloc();
-    let path = path_of(alloc, file, name)?;
-    let text = text_of(alloc, name, fs::read_to_string(rt, path.as_str()))?;
-    match read_rules(alloc, text.as_str()) {
-        Ok(groups) => Ok(groups),
-        Err(RulesError::Fault(what)) => Err(fault(format!(in alloc; "{name}: {what}"))),
-        Err(RulesError::Memory) => Err(Stop::Memory),
-    }
-}
-
-// The path of a file that a test file names, from the folder of the test file.
-fn path_of(alloc: Global, file: &Option<PlainText>, name: &str) -> Result<String, Stop> {
-    let folder = match file {
-        Some(file) => file.as_str().rsplit_once('/'),
-        None => None,
-    };
-    match folder {
-        Some((folder, _)) if !name.starts_with('/') => Ok(format!(in alloc; "{folder}/{name}")?),
-        _ => Ok(format!(in alloc; "{name}")?),
     }
 }

@@ -1,5 +1,5 @@
 //! The command line: a test file, or none.
-use crate::stop::Stop;
+use crate::Stop;
 use clap::error::ErrorKind as OptionsFault;
 use clap::{Arg, Command, Error};
 use rl_plain::PlainText;

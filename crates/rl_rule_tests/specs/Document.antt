@@ -1,0 +1,199 @@
+-- What a test file has: at the keys of its tables.
+use Rattle.std.specs.Prelude.{◌≡◌, ℕ, ◌+◌, ◌-◌, ◌/◌, ◌≤◌, ◌==◌, nat_le, ℤ, pos, negsuc, position, take, drop, List, [], ◌∷◌, ◌++◌, Option, None, Some, Ok, codes, if◌then◌else◌}
+use Rattle.std.specs.Option.{option_and_then, option_map, option_or, unwrap_or}
+use Rattle.std.specs.List.{list_any, AllZip}
+use denote.Ref.{Bor}
+use Rattle.toml.specs.Data.{Data, string, integer, as_str, get_member, Members}
+use Rattle.rl_labels.specs.Decimals.{DecimalForm, billionths, decimal_of, number_of}
+use Rattle.rl_aggregate.specs.declared.outcome.Fraction.{Fraction}
+use Rattle.rl_labels.specs.LabelSet.{LabelSet, Pair}
+use Rattle.rl_labels.specs.Name.{is_text}
+use Rattle.rl_labels.specs.Pairs.{labels_from}
+use Rattle.rl_labels.specs.Quantities.{duration_of, duration_value}
+use Rattle.rl_rules.specs.Document.{tables_at}
+use Rattle.rl_rules.specs.Outcomes.{name_label}
+use Rattle.rl_rules.specs.Values.{name_key, texts_at}
+use Rattle.rl_rules.specs.declared.alert.Phase.{Phase}
+use Rattle.rl_rules.specs.declared.alert.Phase.TheVariants as phases
+use Rattle.rl_rules.specs.declared.evaluation.Cause.{Cause}
+use Rattle.rl_rules.specs.declared.evaluation.Cause.TheVariants as causes
+use Rattle.rl_rules.specs.declared.rule.RuleKind.{RuleKind}
+use Rattle.rl_rules.specs.declared.rule.RuleKind.TheVariants as kinds
+use Rattle.rl_rule_tests.specs.declared.document.Check.{Check}
+use Rattle.rl_rule_tests.specs.declared.document.Document.{Document}
+use Rattle.rl_rule_tests.specs.declared.document.Edit.{Edit}
+use Rattle.rl_rule_tests.specs.declared.document.Span.{Span}
+use Rattle.rl_rule_tests.specs.declared.document.Test.{Test}
+use Rattle.rl_rule_tests.specs.declared.part.Steps.{Steps}
+use Rattle.rl_rule_tests.specs.declared.lines.Repeat.{Repeat}
+use Rattle.rl_rule_tests.specs.declared.lines.Stream.{Stream}
+use Rattle.rl_rule_tests.specs.declared.wanted.Wanted.{Wanted}
+
+-- the text at a key
+abbrev pub text_at : List ℕ → Members → Option (List ℕ)
+text_at key table = option_and_then as_str (get_member key table)
+
+-- a text that may be there, lent
+abbrev pub lent : Option (Bor (List ℕ)) → Option (List ℕ)
+lent text = option_map (λ text. text.now) text
+
+-- the longest time, 30 days, in nanoseconds
+abbrev pub longest_time : ℕ
+longest_time = 2592000000000000
+
+abbrev pub time_within : ℕ → Option ℕ
+time_within time = if nat_le time longest_time then Some time else None
+
+-- the nanoseconds of a duration, without a part of one
+abbrev pub time_of : List ℕ → Option ℕ
+time_of text = option_and_then (λ parts. time_within (duration_value parts / 1000000000)) (duration_of text)
+
+abbrev pub time_at : List ℕ → Members → Option ℕ
+time_at key table = option_and_then time_of (text_at key table)
+
+-- the moments from one on, each so much behind the one before it, up to another
+pub record IsSteps (table : Members) (steps : Steps) : Type 0 where
+  pub last : ℕ
+  pub from : time_at (codes "from") table ≡ Some steps.from
+  pub to : time_at (codes "to") table ≡ Some last
+  pub by : time_at (codes "step") table ≡ Some steps.step
+  pub some : 1 ≤ steps.step
+  pub not_before : steps.from ≤ last
+  pub counted : steps.count ≡ (last - steps.from) / steps.step + 1
+
+-- the pairs, with one more where its name is not among them
+abbrev pub with_own : Option Pair → List Pair → List Pair
+with_own None pairs = pairs
+with_own (Some own) pairs = if list_any (λ pair. is_text pair.0 own.0) pairs then pairs else pairs ++ own ∷ []
+
+-- the label set of the texts at a key, with a label of its own where they leave that out
+abbrev pub AreLabels : List ℕ → Option Pair → Members → LabelSet → Type 0
+AreLabels key own table labels = labels_from (with_own own (texts_at key table)) ≡ Ok labels
+
+-- those at a key that may be missing
+abbrev pub AreLabelsIf : List ℕ → Members → Option LabelSet → Type 0
+AreLabelsIf key table None = get_member key table ≡ None
+AreLabelsIf key table (Some labels) = AreLabels key None table labels
+
+abbrev pub phase_text : Phase → List ℕ
+phase_text phases.Pending = codes "pending"
+phase_text phases.Firing = codes "firing"
+phase_text phases.Resolved = codes "resolved"
+
+-- an alert has a state, a sample has none
+abbrev pub IsState : RuleKind → Members → Option Phase → Type 0
+IsState kinds.Alerting table state = text_at (codes "state") table ≡ option_map phase_text state
+IsState kinds.Recording table state = state ≡ None
+
+-- VALUES
+
+abbrev pub whole : ℕ → Fraction
+whole number = record { numerator = number; denominator = 1 }
+
+-- a fraction of two numbers, of which the second is not 0
+abbrev pub fraction_over : ℕ → ℕ → Option Fraction
+fraction_over above below = if below == 0 then None else Some (record { numerator = above; denominator = below })
+
+-- two rows of digits, as `1/5` has them
+abbrev pub fraction_of : List ℕ × List ℕ → Option Fraction
+fraction_of parts = option_and_then (λ above. option_and_then (fraction_over above) (number_of 19 parts.1)) (number_of 19 parts.0)
+
+-- a decimal as a fraction of a billion
+abbrev pub billionths_of : DecimalForm → Fraction
+billionths_of decimal = record { numerator = billionths decimal; denominator = 1000000000 }
+
+-- the parts before and behind the first slash
+abbrev pub cut_at_slash : List ℕ → Option (List ℕ × List ℕ)
+cut_at_slash text = option_map (λ place. (take place text, drop (place + 1) text)) (position (λ byte. byte == 47) text)
+
+-- the fraction that a text is: `12`, `0.2` or `1/5`
+abbrev pub fraction_in_parts : List ℕ → Option (List ℕ × List ℕ) → Option Fraction
+fraction_in_parts text None = option_or (option_map whole (number_of 19 text)) (option_map billionths_of (decimal_of 15 text))
+fraction_in_parts text (Some parts) = fraction_of parts
+
+abbrev pub fraction_in : List ℕ → Option Fraction
+fraction_in text = fraction_in_parts text (cut_at_slash text)
+
+abbrev pub whole_in : ℤ → Option Fraction
+whole_in (pos number) = Some (whole number)
+whole_in (negsuc number) = None
+
+-- the number that a value is, if it is one
+abbrev pub value_of : Data → Option Fraction
+value_of (integer number) = whole_in number
+value_of (string text) = fraction_in text
+value_of _ = None
+
+-- WHAT IS WANTED
+
+-- a row that is wanted of rules of a kind with a name
+pub record IsWanted (kind : RuleKind) (rule : List ℕ) (table : Members) (row : Wanted) : Type 0 where
+  pub labels : AreLabels (codes "labels") (Some (name_label kind, rule)) table row.labels
+  pub state : IsState kind table row.state
+  pub value : option_map (λ number. number.fraction) row.value ≡ option_and_then value_of (get_member (codes "value") table)
+  pub annotations : AreLabelsIf (codes "annotations") table row.annotations
+
+abbrev pub cause_text : Cause → List ℕ
+cause_text causes.PipelineError = codes "PipelineError"
+cause_text causes.SameLabels = codes "SameLabels"
+cause_text causes.LimitExceeded = codes "LimitExceeded"
+
+-- what is wanted of the rules of a name
+pub record IsCheck (kind : RuleKind) (rule : List ℕ) (table : Members) (check : Check) : Type 0 where
+  pub of_kind : check.kind ≡ kind
+  pub name : text_at (name_key kind) table ≡ Some check.name.now
+  pub group : text_at (codes "group") table ≡ lent check.group
+  pub at : time_at (codes "at") table ≡ Some check.at
+  pub failed : text_at (codes "failed") table ≡ option_map cause_text check.failed
+  pub rows : AllZip (IsWanted kind check.name.now) (tables_at (codes "wanted") table) check.wanted.items
+
+-- TESTS
+
+-- when groups are evaluated
+pub record IsSpan (kind : RuleKind) (rule : List ℕ) (table : Members) (span : Span) : Type 0 where
+  pub group : text_at (codes "group") table ≡ lent span.group
+  pub steps : IsSteps table span.steps
+
+-- a rule file, whose groups are not read yet
+pub record IsEdit (kind : RuleKind) (rule : List ℕ) (table : Members) (edit : Edit) : Type 0 where
+  pub at : time_at (codes "at") table ≡ Some edit.at
+  pub rules : text_at (codes "rules") table ≡ Some edit.rules.now
+  pub unread : edit.groups.items ≡ []
+
+-- moments of a stream at which lines repeat
+pub record IsRepeat (kind : RuleKind) (rule : List ℕ) (table : Members) (repeat : Repeat) : Type 0 where
+  pub steps : IsSteps table repeat.steps
+  pub line : text_at (codes "line") table ≡ Some repeat.line.now
+
+-- a stream; its lines are not told
+pub record IsStream (kind : RuleKind) (rule : List ℕ) (table : Members) (stream : Stream) : Type 0 where
+  pub labels : AreLabels (codes "labels") None table stream.labels
+  pub late : stream.late ≡ unwrap_or (time_at (codes "late") table) 0
+
+-- what is told of a stream
+abbrev pub stream_parts : Stream → LabelSet × ℕ
+stream_parts stream = (stream.labels, stream.late)
+
+-- the checks of a test: first those of alerts, then those of samples
+pub record AreChecks (rule : List ℕ) (table : Members) (checks : List Check) : Type 0 where
+  pub alerts : List Check
+  pub samples : List Check
+  pub both : checks ≡ alerts ++ samples
+  pub of_alerts : AllZip (IsCheck kinds.Alerting rule) (tables_at (codes "alerts") table) alerts
+  pub of_samples : AllZip (IsCheck kinds.Recording rule) (tables_at (codes "samples") table) samples
+
+pub record IsTest (kind : RuleKind) (rule : List ℕ) (table : Members) (test : Test) : Type 0 where
+  pub name : text_at (codes "name") table ≡ Some test.name.now
+  pub streams : AllZip (IsStream kind rule) (tables_at (codes "streams") table) test.streams.items
+  pub spans : AllZip (IsSpan kind rule) (tables_at (codes "evaluate") table) test.spans.items
+  pub edits : AllZip (IsEdit kind rule) (tables_at (codes "edits") table) test.edits.items
+  pub checks : AreChecks rule table test.checks.items
+
+-- a test file
+pub record IsDocument (table : Members) (document : Document) : Type 0 where
+  pub rules : text_at (codes "rules") table ≡ Some document.rules.now
+  pub tests : AllZip (IsTest kinds.Alerting []) (tables_at (codes "tests") table) document.tests.items
+
+-- items that are what tables say, behind others
+abbrev pub AreBehind : {T : Type 0} → (Members → T → Type 0) → List Members → List T → List T → Type 0
+AreBehind {T} Is tables old new = (more : List T) × (new ≡ old ++ more) × AllZip Is tables more

@@ -1,0 +1,5 @@
+pub mod Document
+pub mod Judging
+pub mod Counting
+pub mod Happening
+pub mod Playing

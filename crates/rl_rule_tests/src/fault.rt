@@ -1,0 +1,55 @@
+//! Why a text is no test file, and where.
+use rl_plain::OrMemory;
+use std::alloc::{AllocError, Global};
+
+/// What a test file has against it, and where, as `tests 2, streams 1`; the place of a whole file is empty.
+#[derive(Drop)]
+pub struct TestsFault {
+    pub place: String,
+    pub what: String,
+}
+
+/// Why no test file was read.
+pub type TestsError = OrMemory<TestsFault>;
+
+// The fault of an item as one of what has the array.
+pub(crate) fn within(alloc: Global, error: TestsError, array: &str, index: usize) -> TestsError {
+    match error {
+        TestsError::Fault(fault) => {
+            match place_within(alloc, array, index, fault.place.as_str()) {
+                Ok(place) => TestsError::Fault(TestsFault {
+                    place,
+                    what: fault.what,
+                }),
+                Err(_) => TestsError::Memory,
+            }
+        }
+        TestsError::Memory => TestsError::Memory,
+    }
+}
+
+// Places count from 1.
+fn place_within(
+    alloc: Global,
+    array: &str,
+    index: usize,
+    inner: &str,
+) -> Result<String, AllocError> {
+    let number = index.saturating_add(1);
+    if inner.is_empty() {
+        format!(in alloc; "{array} {number}")
+    } else {
+        format!(in alloc; "{array} {number}, {inner}")
+    }
+}
+
+// The fault that is told so.
+pub(crate) fn fault(told: Result<String, AllocError>) -> TestsError {
+    match told {
+        Ok(what) => TestsError::Fault(TestsFault {
+            place: String::new(*what.allocator()),
+            what,
+        }),
+        Err(_) => TestsError::Memory,
+    }
+}
