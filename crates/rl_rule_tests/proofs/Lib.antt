@@ -1,6 +1,6 @@
 pub mod Behind
-pub mod ByParts
 pub mod Chains
+pub mod Expansions
 pub mod Handed
 pub mod Judged
 pub mod Moments

@@ -1,7 +1,8 @@
 -- The moments that are left, turn by turn.
 use Rattle.std.proofs.Common.{◌≡◌, ℕ, zero, suc, ◌+◌, ◌-◌, ◌<◌, ◌∷◌, ap, sym, arith}
 use Rattle.rl_rule_tests.specs.declared.events.What.TheVariants as whats
-use Rattle.rl_rule_tests.specs.Happening.{moments_from, sum_up_to}
+use Rattle.rl_rule_tests.specs.Happening.{moments_from}
+use Rattle.rl_rule_tests.specs.Document.{sum_up_to}
 
 moments_some : (number at step left : ℕ) → 0 < left → moments_from number at step left ≡ record { at = at; what = whats.Evaluation; number = number; line = 0 } ∷ moments_from number (sum_up_to at step) step (left - 1)
 moments_some number at step zero some = absurd (omega (arith, some))

@@ -1,7 +1,7 @@
 -- What a test file has: at the keys of its tables.
-use Rattle.std.specs.Prelude.{◌≡◌, ℕ, ◌+◌, ◌-◌, ◌/◌, ◌≤◌, ◌==◌, nat_le, ℤ, pos, negsuc, position, take, drop, List, [], ◌∷◌, ◌++◌, Option, None, Some, Ok, codes, if◌then◌else◌}
+use Rattle.std.specs.Prelude.{◌≡◌, ℕ, zero, suc, ◌+◌, ◌-◌, ◌*◌, ◌^◌, min, ◌/◌, ◌≤◌, ◌==◌, nat_le, ℤ, pos, negsuc, position, take, drop, List, [], ◌∷◌, ◌++◌, Option, None, Some, Ok, codes, if◌then◌else◌}
 use Rattle.std.specs.Option.{option_and_then, option_map, option_or, unwrap_or}
-use Rattle.std.specs.List.{list_any, AllZip}
+use Rattle.std.specs.List.{flat_map, list_any, AllZip}
 use denote.Ref.{Bor}
 use Rattle.toml.specs.Data.{Data, string, integer, as_str, get_member, Members}
 use Rattle.rl_labels.specs.Decimals.{DecimalForm, billionths, decimal_of, number_of}
@@ -25,9 +25,14 @@ use Rattle.rl_rule_tests.specs.declared.document.Edit.{Edit}
 use Rattle.rl_rule_tests.specs.declared.document.Span.{Span}
 use Rattle.rl_rule_tests.specs.declared.document.Test.{Test}
 use Rattle.rl_rule_tests.specs.declared.part.Steps.{Steps}
+use Rattle.rl_rule_tests.specs.declared.lines.Line.{Line}
 use Rattle.rl_rule_tests.specs.declared.lines.Repeat.{Repeat}
 use Rattle.rl_rule_tests.specs.declared.lines.Stream.{Stream}
 use Rattle.rl_rule_tests.specs.declared.wanted.Wanted.{Wanted}
+
+-- a sum, up to the greatest number of 64 bits
+abbrev pub sum_up_to : ℕ → ℕ → ℕ
+sum_up_to a b = min (a + b) (2 ^ 64 - 1)
 
 -- the text at a key
 abbrev pub text_at : List ℕ → Members → Option (List ℕ)
@@ -160,19 +165,52 @@ pub record IsEdit (kind : RuleKind) (rule : List ℕ) (table : Members) (edit : 
   pub rules : text_at (codes "rules") table ≡ Some edit.rules.now
   pub unread : edit.groups.items ≡ []
 
+-- how often a line stands at each moment, once where that is not told
+abbrev pub times_in : Option Data → ℕ
+times_in (Some (integer (pos number))) = number
+times_in _ = 1
+
 -- moments of a stream at which lines repeat
 pub record IsRepeat (kind : RuleKind) (rule : List ℕ) (table : Members) (repeat : Repeat) : Type 0 where
   pub steps : IsSteps table repeat.steps
+  pub times : repeat.times ≡ times_in (get_member (codes "times") table)
   pub line : text_at (codes "line") table ≡ Some repeat.line.now
 
--- a stream; its lines are not told
-pub record IsStream (kind : RuleKind) (rule : List ℕ) (table : Members) (stream : Stream) : Type 0 where
+-- the line with a number, from 0, of those at the moment with an index: the last has the moment itself, and each one before it a
+-- nanosecond less
+abbrev pub line_at : Repeat → (index number : ℕ) → Line
+line_at repeat index number = record { moment = sum_up_to repeat.steps.from (min (index * repeat.steps.step) (2 ^ 64 - 1)); before = repeat.times - number - 1; number = Some (sum_up_to index 1); text = repeat.line }
+
+abbrev pub lines_from : Repeat → (index number left : ℕ) → List Line
+lines_from repeat index number zero = []
+lines_from repeat index number (suc left) = line_at repeat index number ∷ lines_from repeat index (number + 1) left
+
+abbrev pub lines_at : Repeat → ℕ → List Line
+lines_at repeat index = lines_from repeat index 0 repeat.times
+
+abbrev pub repeated_from : Repeat → (index left : ℕ) → List Line
+repeated_from repeat index zero = []
+repeated_from repeat index (suc left) = lines_at repeat index ++ repeated_from repeat (index + 1) left
+
+-- the lines that stand for a repeated one, moment after moment
+abbrev pub repeated_lines : Repeat → List Line
+repeated_lines repeat = repeated_from repeat 0 repeat.steps.count
+
+-- a stream before its repeated lines are written out; which ones `lines` stands for is not told
+pub record IsUnexpanded (kind : RuleKind) (rule : List ℕ) (table : Members) (stream : Stream) : Type 0 where
   pub labels : AreLabels (codes "labels") None table stream.labels
   pub late : stream.late ≡ unwrap_or (time_at (codes "late") table) 0
+  pub repeats : AllZip (IsRepeat kind rule) (tables_at (codes "repeat") table) stream.repeats.items
 
--- what is told of a stream
-abbrev pub stream_parts : Stream → LabelSet × ℕ
-stream_parts stream = (stream.labels, stream.late)
+-- the lines that are repeated stand behind the others
+pub record IsExpansion (old new : Stream) : Type 0 where
+  pub labels : new.labels ≡ old.labels
+  pub late : new.late ≡ old.late
+  pub lines : new.lines.items ≡ old.lines.items ++ flat_map repeated_lines old.repeats.items
+
+-- a stream with all of its lines
+abbrev pub IsStream : RuleKind → List ℕ → Members → Stream → Type 0
+IsStream kind rule table stream = (unexpanded : Stream) × IsUnexpanded kind rule table unexpanded × IsExpansion unexpanded stream
 
 -- the checks of a test: first those of alerts, then those of samples
 pub record AreChecks (rule : List ℕ) (table : Members) (checks : List Check) : Type 0 where

@@ -15,11 +15,8 @@ use Rattle.rl_rule_tests.specs.declared.events.What.TheVariants as whats
 use Rattle.rl_rule_tests.specs.declared.part.Steps.{Steps}
 use Rattle.rl_rule_tests.specs.declared.lines.Line.{Line}
 use Rattle.rl_rule_tests.specs.declared.lines.Stream.{Stream}
+use Rattle.rl_rule_tests.specs.Document.{sum_up_to}
 use Rattle.rl_rule_tests.specs.Judging.{is_named}
-
--- a sum, up to the greatest number of 64 bits
-abbrev pub sum_up_to : ℕ → ℕ → ℕ
-sum_up_to a b = min (a + b) (2 ^ 64 - 1)
 
 -- a line arrives so much behind its moment as its stream is late
 abbrev pub line_event : ℕ → ℕ → ℕ × Line → Event

@@ -33,7 +33,8 @@ use Rattle.rl_rule_tests.specs.declared.playing.Moment.{Moment}
 use Rattle.rl_rule_tests.specs.declared.lines.Line.{Line}
 use Rattle.rl_rule_tests.specs.declared.lines.Stream.{Stream}
 use Rattle.rl_rule_tests.specs.Counting.{Counts, one_failed, one_failed_if, IsCounted}
-use Rattle.rl_rule_tests.specs.Happening.{event_cmp, happenings, sum_up_to}
+use Rattle.rl_rule_tests.specs.Happening.{event_cmp, happenings}
+use Rattle.rl_rule_tests.specs.Document.{sum_up_to}
 
 -- states one behind another, by what each item makes of them
 abbrev pub Chain : {S A : Type 0} → (S → A → S → Type 0) → S → List A → S → Type 0

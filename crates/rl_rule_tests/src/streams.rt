@@ -1,19 +1,21 @@
 //! Reads the streams of a test, and their lines.
-ghost use Rattle.std.specs.Prelude.{◌≡◌, codes, map, IfOk, OnOk};
-ghost use Rattle.std.specs.List.{AllZip};
+ghost use Rattle.std.specs.Prelude.{◌≡◌, ◌++◌, codes, IfOk, OnOk};
+ghost use Rattle.std.specs.List.{flat_map, AllZip};
+ghost use Rattle.toml.specs.Data.{get_member};
 ghost use Rattle.toml.specs.View.{table_view};
 ghost use Rattle.rl_rules.specs.Document.{tables_at};
-ghost use Rattle.rl_rule_tests.specs.Document.{stream_parts, IsRepeat, IsStream};
+ghost use Rattle.rl_rule_tests.specs.Document.{lines_at, repeated_lines, times_in, IsExpansion, IsRepeat, IsStream, IsUnexpanded};
 
 use crate::fault::{TestsError, within};
 use crate::lines::{Line, Repeat, Stream};
 use crate::part::{Item, Part, nanoseconds_in};
+use std::alloc::Global;
 
 // The most lines of a test: about as many as a ruler's journal has room for.
 const MOST_LINES: u64 = 1_000_000;
 
 impl<'a> Item<'a> for Stream<'a> {
-    ghost is = { IsStream };
+    ghost is = { IsUnexpanded };
 
     fn read(part: Part<'a>) -> Result<Self, TestsError> {
         part.only(&["labels", "late", "lines", "repeat"])?;
@@ -29,15 +31,15 @@ impl<'a> Item<'a> for Stream<'a> {
         if labels.pairs().is_empty() {
             return Err(part.key_fault("labels", "has no label with a value"));
         }
-        let mut stream = Stream {
+        let mut lines = Vec::new(part.alloc);
+        push_written(part, &mut lines)?;
+        let repeats = part.all("repeat")?;
+        Ok(Stream {
             labels,
             late,
-            lines: Vec::new(part.alloc),
-            repeats: Vec::new(part.alloc),
-        };
-        push_written(part, &mut stream.lines)?;
-        part.push_all("repeat", &mut stream.repeats)?;
-        Ok(stream)
+            lines,
+            repeats,
+        })
     }
 }
 
@@ -80,39 +82,36 @@ impl<'a> Item<'a> for Repeat<'a> {
     fn read(part: Part<'a>) -> Result<Self, TestsError> {
         part.only(&["from", "to", "step", "line", "times"])?;
         let steps = part.steps()?;
-        let times = match part.table.get("times") {
-            None => 1,
-            Some(value) => match value.as_integer() {
-                Some(number) if number >= 1 && number <= 1_000 => number.cast_unsigned(),
-                _ => return Err(part.key_fault("times", "is no whole number from 1 to 1000")),
-            },
-        };
+        let times = read_times(part)?;
         let line = part.wanted_text("line")?;
         Ok(Repeat { steps, times, line })
     }
 }
 
-/// The streams of a test, with all of their lines.
-#[tactic(auto, using(crate::proofs::ByParts::all_by_parts))]
+// How often a line stands at each moment.
+fn read_times(part: Part<'_>) -> Result<u64, TestsError>
+    ensures { IfOk result (λ times. times ≡ times_in (get_member (codes "times") (table_view part.entry.table.now))) }
+{
+    let Some(value) = part.value_at("times") else {
+        return Ok(1);
+    };
+    match value.as_integer() {
+        Some(number) if number >= 1 && number <= 1_000 => Ok(number as u64),
+        _ => Err(part.key_fault("times", "is no whole number from 1 to 1000")),
+    }
+}
+
+/// The streams of a test, with all of their lines, where these are not too many.
+#[tactic(auto, using(crate::proofs::Expansions::all_expanded))]
 pub(crate) fn read_streams<'a>(test: Part<'a>) -> Result<Vec<Stream<'a>>, TestsError>
     ensures { IfOk result (λ streams. AllZip (IsStream test.entry.kind test.entry.rule.now) (tables_at (codes "streams") (table_view test.entry.table.now)) streams.items) }
 {
-    let mut streams = test.all("streams")?;
-    expand(test, &mut streams)?;
-    Ok(streams)
-}
-
-// Writes out the lines of a test that are repeated, where these and the others are not too many.
-fn expand(test: Part<'_>, streams: &mut Vec<Stream<'_>>) -> Result<(), TestsError>
-    ensures { OnOk result (map stream_parts streams.new.items ≡ map stream_parts streams.old.items) }
-{
-    if count_lines(streams) > MOST_LINES {
+    let streams = test.all("streams")?;
+    if count_lines(&streams) > MOST_LINES {
         return Err(test.key_fault("streams", "has more than 1000000 lines"));
     }
-    for place in 0..streams.len() {
-        expand_one(&mut streams[place])?;
-    }
-    Ok(())
+    let streams = expand_all(test.alloc, streams)?;
+    Ok(streams)
 }
 
 // How many lines there are, with those that are repeated.
@@ -127,27 +126,70 @@ fn count_lines(streams: &[Stream<'_>]) -> u64 {
     lines
 }
 
-fn expand_one(stream: &mut Stream<'_>) -> Result<(), TestsError>
-    ensures { OnOk result (stream_parts stream.new ≡ stream_parts stream.old) }
+// Writes out the lines that are repeated.
+fn expand_all<'a>(alloc: Global, streams: Vec<Stream<'a>>) -> Result<Vec<Stream<'a>>, TestsError>
+    ensures { IfOk result (λ all. AllZip IsExpansion streams.entry.items all.items) }
 {
-    for repeat in &stream.repeats {
-        push_repeated(*repeat, &mut stream.lines)?;
+    let mut all = Vec::with_capacity(alloc, streams.len())?;
+    for stream in streams {
+        all.push(expand(stream)?)?;
+    }
+    Ok(all)
+}
+
+fn expand(stream: Stream<'_>) -> Result<Stream<'_>, TestsError>
+    ensures { IfOk result (IsExpansion stream.entry) }
+{
+    let Stream {
+        labels,
+        late,
+        lines,
+        repeats,
+    } = stream;
+    let mut lines = lines;
+    push_repeats(&mut lines, &repeats)?;
+    Ok(Stream {
+        labels,
+        late,
+        lines,
+        repeats,
+    })
+}
+
+fn push_repeats<'a>(lines: &mut Vec<Line<'a>>, repeats: &[Repeat<'a>]) -> Result<(), TestsError>
+    ensures { OnOk result (lines.new.items ≡ lines.old.items ++ flat_map repeated_lines repeats.now) }
+{
+    for repeat in repeats {
+        push_repeated(lines, *repeat)?;
     }
     Ok(())
 }
 
-// Adds so many lines at each moment. The last has the moment itself, and each one before it a nanosecond less.
-fn push_repeated<'a>(repeat: Repeat<'a>, lines: &mut Vec<Line<'a>>) -> Result<(), TestsError> {
+fn push_repeated<'a>(lines: &mut Vec<Line<'a>>, repeat: Repeat<'a>) -> Result<(), TestsError>
+    ensures { OnOk result (lines.new.items ≡ lines.old.items ++ repeated_lines repeat.entry) }
+{
+    for index in 0..repeat.steps.count {
+        push_moment(lines, repeat, index)?;
+    }
+    Ok(())
+}
+
+// Adds so many lines at a moment. The last has the moment itself, and each one before it a nanosecond less.
+fn push_moment<'a>(
+    lines: &mut Vec<Line<'a>>,
+    repeat: Repeat<'a>,
+    index: u64,
+) -> Result<(), TestsError>
+    ensures { OnOk result (lines.new.items ≡ lines.old.items ++ lines_at repeat.entry index) }
+{
     let Repeat { steps, times, line } = repeat;
-    for index in 0..steps.count {
-        for number in 1..=times {
-            lines.push(Line {
-                moment: steps.from.saturating_add(index.saturating_mul(steps.step)),
-                before: times.saturating_sub(number),
-                number: Some(index.saturating_add(1)),
-                text: line,
-            })?;
-        }
+    for number in 0..times {
+        lines.push(Line {
+            moment: steps.from.saturating_add(index.saturating_mul(steps.step)),
+            before: times - number - 1,
+            number: Some(index.saturating_add(1)),
+            text: line,
+        })?;
     }
     Ok(())
 }
