@@ -15,4 +15,4 @@ IsSoughtBy filter (sought.Pattern pattern) = (is_by_pattern filter ≡ true) × 
 -- what looks for that
 abbrev pub LooksBy : LineFilter → search.Looking → Type 0
 LooksBy filter (looking.Text finder) = (is_by_pattern filter ≡ false) × (finder.now ≡ filter.text)
-LooksBy filter (looking.Pattern searching) = (is_by_pattern filter ≡ true) × (searching ≡ filter.text)
+LooksBy filter (looking.Pattern searching) = (is_by_pattern filter ≡ true) × (searching.value ≡ filter.text)

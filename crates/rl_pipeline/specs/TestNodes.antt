@@ -11,5 +11,5 @@ node_tree (nodes.One test) = one test.value
 node_tree (nodes.Joined join left right) = joined join left.value right.value
 
 abbrev pub asking_tree : Asking → TestTree LabelTest
-asking_tree (asked.One test) = one test.value
+asking_tree (asked.One test) = one test
 asking_tree (asked.Joined pair) = joined pair.join pair.left.value pair.right.value

@@ -1,10 +1,12 @@
 //! Built line filters.
 ghost use Rattle.std.specs.Prelude.{◌≡◌, true, IfOk, IfErr};
+ghost use Rattle.rl_patterns.specs.Matching.{has_match};
 ghost use Rattle.rl_pipeline.specs.Building.{is_by_pattern, IsUnbuilt};
+ghost use Rattle.rl_pipeline.specs.Filtering.{passes};
 
 use crate::search::{Looking, Search};
 use memchr::memmem::Finder;
-use rl_patterns::{PatternCode, PatternError, PatternFault};
+use rl_patterns::{PatternCode, PatternError, PatternFault, Searching};
 use rl_plain::{OrMemory, TryCopy};
 use rl_query::{LineFilter, LineOp};
 use std::alloc::{AllocError, Global};
@@ -13,6 +15,7 @@ use std::marker::Model;
 /// A built line filter. Contracts see it as the filter that it was built of.
 #[derive(Drop)]
 pub struct FilterCode {
+    alloc: Global,
     filter: LineFilter,
     sought: Sought,
 }
@@ -48,6 +51,23 @@ fn pattern_code(alloc: Global, pattern: &str) -> Result<PatternCode, PatternErro
     }
 }
 
+// What searches many lines for a pattern. Its caches are large, so they lie in a frame of its own.
+#[inline(never)]
+fn boxed_searching(alloc: Global, code: &PatternCode) -> Result<Box<Searching<'_>>, AllocError>
+    ensures { IfOk result (λ searching. searching.value ≡ code.now) }
+{
+    let searching = Box::new(alloc, code.searching()?)?;
+    Ok(searching)
+}
+
+// Whether a pattern matches somewhere in a line, with caches for this line alone, which lie in a frame of their own.
+#[inline(never)]
+fn has_match(code: &PatternCode, line: &str) -> Result<bool, AllocError>
+    ensures { IfOk result (λ found. found ≡ has_match code.now line.now) }
+{
+    code.has_match(line)
+}
+
 impl FilterCode {
     /// The code of the filter. BadRegex where its pattern takes too much room.
     pub fn build(alloc: Global, filter: &LineFilter) -> Result<FilterCode, PatternError>
@@ -63,7 +83,11 @@ impl FilterCode {
                 Sought::Pattern(pattern_code(alloc, filter.text.as_str())?)
             }
         };
-        Ok(FilterCode { filter, sought })
+        Ok(FilterCode {
+            alloc,
+            filter,
+            sought,
+        })
     }
 
     /// What asks many lines for the filter.
@@ -72,11 +96,26 @@ impl FilterCode {
     {
         let looking = match &self.sought {
             Sought::Text(finder) => Looking::Text(finder),
-            Sought::Pattern(code) => Looking::Pattern(code.searching()?),
+            Sought::Pattern(code) => Looking::Pattern(boxed_searching(self.alloc, code)?),
         };
         Ok(Search {
             filter: &self.filter,
             looking,
         })
+    }
+
+    // Whether the filter lets one line pass. A `Search` is faster where there are many.
+    #[tactic(auto, using(crate::proofs::Standing::found))]
+    pub(crate) fn passes(&self, line: &str) -> Result<bool, AllocError>
+        ensures { IfOk result (λ answer. answer ≡ passes self.now line.now) }
+    {
+        let is_found = match &self.sought {
+            Sought::Text(finder) => finder.find(line.as_bytes()).is_some(),
+            Sought::Pattern(code) => has_match(code, line)?,
+        };
+        match self.filter.op {
+            LineOp::Contains | LineOp::Matches => Ok(is_found),
+            LineOp::Lacks | LineOp::NotMatches => Ok(!is_found),
+        }
     }
 }

@@ -14,11 +14,11 @@ pub struct Search<'a> {
     pub(crate) looking: Looking<'a>,
 }
 
-// What looks for a text, or for a pattern.
+// What looks for a text, or for a pattern. The caches of a pattern are large, so they lie in a box.
 #[derive(Drop)]
 pub(crate) enum Looking<'a> {
     Text(&'a Finder<'static>),
-    Pattern(Searching<'a>),
+    Pattern(Box<Searching<'a>>),
 }
 
 impl<'a> Model for Search<'a> {

@@ -109,8 +109,7 @@ fn all_pass(filters: &[FilterCode], line: &str) -> Result<bool, AllocError>
     ensures { IfOk result (λ answer. answer ≡ list_all (λ filter. passes filter line.now) filters.now) }
 {
     for filter in filters {
-        let mut search = filter.search()?;
-        if !search.passes(line) {
+        if !filter.passes(line)? {
             return Ok(false);
         }
     }

@@ -3,7 +3,6 @@ ghost use Rattle.std.specs.Prelude.{◌≡◌, IfOk};
 ghost use Rattle.std.specs.Option.{option_map};
 ghost use Rattle.rl_labels.specs.Selects.{accepts};
 ghost use Rattle.rl_patterns.specs.Matching.{wrapped};
-ghost use Rattle.rl_query.specs.TestTree.{one};
 ghost use Rattle.rl_pipeline.specs.TestNodes.{asking_tree};
 ghost use Rattle.rl_pipeline.specs.LabelTests.{is_decided, matcher_pattern, test_answer, tests_answer};
 
@@ -11,16 +10,17 @@ use crate::comparing::ask_quantity;
 use crate::draft::Draft;
 use crate::label_tests::{Node, TestCode, TestsCode};
 use rl_labels::{MatchOp, Matcher};
-use rl_patterns::Searching;
+use rl_patterns::{Searching, WholePatternCode};
 use rl_query::{Join, LabelTest};
 use std::alloc::{AllocError, Global};
 use std::marker::Model;
 
-/// A test that many lines are asked for, with caches that grow. Contracts see the test.
+/// A test that many lines are asked for, with caches that grow. They are large, so they lie in a box, and only where a
+/// pattern is. Contracts see the test.
 #[derive(Drop)]
 pub(crate) struct Testing<'a> {
     test: &'a LabelTest,
-    searching: Option<Searching<'a>>,
+    searching: Option<Box<Searching<'a>>>,
 }
 
 impl<'a> Model for Testing<'a> {
@@ -34,7 +34,7 @@ impl<'a> Model for Testing<'a> {
 
     ghost view = { λ a. a.test.now };
 
-    ghost invariant = { λ a. a.searching ≡ option_map wrapped (test_pattern a.test.now) };
+    ghost invariant = { λ a. option_map (λ boxed. boxed.value) a.searching ≡ option_map wrapped (test_pattern a.test.now) };
 }
 
 /// Label tests that many lines are asked for. Contracts see the tests. A node is a few words, since a query may have a
@@ -46,7 +46,7 @@ pub(crate) struct TestsRunning<'a> {
 
 #[cycle(asking)]
 enum Asking<'a> {
-    One(Box<Testing<'a>>),
+    One(Testing<'a>),
     Joined(Pair<'a>),
 }
 
@@ -79,7 +79,7 @@ impl<'a> Model for TestsRunning<'a> {
 }
 
 impl Drop for TestsRunning<'_> {
-    // A long row of tests leans to the left, and their caches are large: what is on the left is dropped by the loop.
+    // A long row of tests leans to the left: what is on the left is dropped by the loop.
     #[cycle(ending)]
     fn drop(mut self) {
         loop {
@@ -101,11 +101,11 @@ impl Drop for TestsRunning<'_> {
 }
 
 impl<'a> Testing<'a> {
-    fn new(code: &'a TestCode) -> Result<Self, AllocError>
+    fn new(alloc: Global, code: &'a TestCode) -> Result<Self, AllocError>
         ensures { IfOk result (λ testing. testing ≡ code.now) }
     {
         let searching = match &code.pattern {
-            Some(pattern) => Some(pattern.searching()?),
+            Some(pattern) => Some(boxed_searching(alloc, pattern)?),
             None => None,
         };
         Ok(Testing {
@@ -128,10 +128,10 @@ impl<'a> Testing<'a> {
 
 // Whether a matcher accepts the labels, by what searches for its pattern, if it has one.
 #[tactic(auto, unfolding(rl_patterns::specs::Matching::matches_whole))]
-fn accepts(matcher: &Matcher, searching: &mut Option<Searching<'_>>, draft: &Draft<'_>) -> bool
-    requires { searching.old ≡ option_map wrapped (matcher_pattern matcher.now) }
+fn accepts(matcher: &Matcher, searching: &mut Option<Box<Searching<'_>>>, draft: &Draft<'_>) -> bool
+    requires { option_map (λ boxed. boxed.value) searching.old ≡ option_map wrapped (matcher_pattern matcher.now) }
     ensures answer { result ≡ accepts matcher.now draft.now }
-    ensures same { searching.new ≡ searching.old }
+    ensures same { option_map (λ boxed. boxed.value) searching.new ≡ option_map (λ boxed. boxed.value) searching.old }
 {
     let value = draft.get(matcher.name.as_str()).unwrap_or("");
     let is_alike = match searching {
@@ -144,13 +144,13 @@ fn accepts(matcher: &Matcher, searching: &mut Option<Searching<'_>>, draft: &Dra
     }
 }
 
-// What asks many lines for one test alone. Its caches are large, so they lie in a frame of its own.
+// What compares many values with a pattern. Its caches are large, so they lie in a frame of its own.
 #[inline(never)]
-fn asking_one(alloc: Global, code: &TestCode) -> Result<Asking<'_>, AllocError>
-    ensures { IfOk result (λ node. asking_tree node ≡ one code.now) }
+fn boxed_searching(alloc: Global, code: &WholePatternCode) -> Result<Box<Searching<'_>>, AllocError>
+    ensures { IfOk result (λ searching. searching.value ≡ wrapped code.now) }
 {
-    let testing = Box::new(alloc, Testing::new(code)?)?;
-    Ok(Asking::One(testing))
+    let searching = Box::new(alloc, code.searching()?)?;
+    Ok(searching)
 }
 
 impl<'a> TestsRunning<'a> {
@@ -159,7 +159,7 @@ impl<'a> TestsRunning<'a> {
         ensures { IfOk result (λ running. running ≡ tests.now) }
     {
         let node = match &tests.node {
-            Node::One(test) => asking_one(alloc, test)?,
+            Node::One(test) => Asking::One(Testing::new(alloc, test)?),
             Node::Joined(join, left, right) => {
                 let left = Box::new(alloc, TestsRunning::new(alloc, left)?)?;
                 let right = Box::new(alloc, TestsRunning::new(alloc, right)?)?;
