@@ -1,12 +1,12 @@
 -- Totals as a tree of entries: the total at a label set, and what a change of the tree leaves.
-use Rattle.std.proofs.Common.{◌≡◌, ◌+◌, nat_eq, ◌&&◌, true, cond, List, Option, None, Some, is_some, IsTrue, refl, sym, ap, subst, ◌∙◌, arith}
+use Rattle.std.proofs.Common.{◌≡◌, nat_eq, ◌&&◌, true, cond, List, Option, Some, is_some, IsSome, IsTrue, refl, sym, ap, subst, ◌∙◌, arith}
 use Rattle.std.specs.Option.{unwrap_or}
 use Rattle.std.specs.Bool.{Decides}
 use Rattle.std.specs.FinMap.{from_entries, insert, contains_key, entries}
 use Rattle.std.specs.BTreeMap.{is_at}
 use Rattle.std.specs.List.Sorted.{IsStrictlySortedBy}
 use Rattle.std.specs.Map.{lookup, keys_of}
-use Rattle.std.proofs.lemmas.Bool.{true≢false, and_parts, and_from, eq-eqb}
+use Rattle.std.proofs.lemmas.Bool.{and_parts, and_from, eq-eqb}
 use Rattle.std.proofs.lemmas.Bool.Decides.{nat_tests}
 use Rattle.rl_labels.specs.LabelSet.{LabelSet}
 use Rattle.rl_labels.specs.LabelText.{label_set_cmp, label_set_eq}
@@ -26,13 +26,9 @@ totals_in es = from_entries {R = label_set_cmp} es
 pub total_at-totals_in : (es : Entries) (q : LabelSet) → total_at (totals_in es) q ≡ unwrap_or (lookup (is_at (label_set_cmp q)) es) no_total
 total_at-totals_in es q = ap (λ t. unwrap_or t no_total) (get-of_tree label_set_cmp_total es q)
 
--- where the tree has one
-pub total_at-found : (totals : TotalsMap) (es : Entries) (k : LabelSet) (found : Total) → totals_in es ≡ totals → Some found ≡ lookup (is_at (label_set_cmp k)) es → total_at totals k ≡ found
-total_at-found totals es k found view is = ap (λ m. total_at m k) (sym view) ∙ total_at-totals_in es k ∙ ap (λ t. unwrap_or t no_total) (sym is)
-
--- where the tree has none, the totals have none
-pub not_found : (totals : TotalsMap) (es : Entries) (k : LabelSet) → totals_in es ≡ totals → None ≡ lookup (is_at (label_set_cmp k)) es → IsTrue (contains_key totals k) → ⊥
-not_found totals es k view is known = true≢false (sym known ∙ ap (λ m. contains_key m k) (sym view) ∙ ap is_some (get-of_tree label_set_cmp_total es k ∙ sym is))
+-- what the totals have, the tree has
+pub found_in : (totals : TotalsMap) (es : Entries) (k : LabelSet) → totals_in es ≡ totals → IsTrue (contains_key totals k) → IsSome (lookup (is_at (label_set_cmp k)) es)
+found_in totals es k view known = sym (ap is_some (get-of_tree label_set_cmp_total es k)) ∙ ap (λ m. contains_key m k) view ∙ known
 
 -- a total set to the sum of the one before and another is one added
 pub one_added : (totals : TotalsMap) (es fs : Entries) (k : LabelSet) (before : Option Total) (total : Total) → totals_in es ≡ totals → before ≡ lookup (is_at (label_set_cmp k)) es → ((q : LabelSet) → lookup (is_at (label_set_cmp q)) fs ≡ cond (is_at (label_set_cmp k) q) (Some (plus (unwrap_or before no_total) total)) (lookup (is_at (label_set_cmp q)) es)) → totals_in fs ≡ added totals k total
@@ -40,13 +36,6 @@ one_added totals es fs k before total view was answers =
     one_set label_set_cmp_total label_set_cmp-IsAntisymmetric es fs k _ answers
     ∙ (λ i. insert (view i) k (plus (unwrap_or (was i) no_total) total))
     ∙ ap (λ t. insert totals k (plus t total)) (sym (total_at-totals_in es k) ∙ ap (λ m. total_at m k) view)
-
--- the first total at a label set is its sum with none
-pub plus-no_total : (total : Total) → plus no_total total ≡ total
-plus-no_total total =
-    let count : 0 + total.count ≡ total.count = omega arith in
-    let bytes : 0 + total.bytes ≡ total.bytes = omega arith in
-    λ i. record { count = count i; bytes = bytes i }
 
 -- trees in order that make the same totals have the same entries
 pub same_entries_in : (es fs : Entries) → IsStrictlySortedBy label_set_cmp (keys_of es) → IsStrictlySortedBy label_set_cmp (keys_of fs) → totals_in es ≡ totals_in fs → es ≡ fs

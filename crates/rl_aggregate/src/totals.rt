@@ -1,5 +1,5 @@
 //! Totals by label set.
-ghost use Rattle.std.specs.Prelude.{◌≡◌, ◌==◌, ◌-◌, ◌^◌, min, IfOk, IsOk, OnOk, OnErr, IsTrue, Some, if◌then◌else◌};
+ghost use Rattle.std.specs.Prelude.{◌≡◌, ◌==◌, ◌-◌, ◌^◌, min, IfOk, IsOk, IsSome, OnOk, OnErr, IsTrue, Some, if◌then◌else◌};
 ghost use Rattle.std.specs.BTreeMap as tree;
 ghost use Rattle.std.specs.BTreeMap.{is_at};
 ghost use Rattle.std.specs.FinMap as map;
@@ -79,16 +79,10 @@ impl Totals {
         ensures err { OnErr result (self.new ≡ self.old) }
         ensures known { IsTrue (map.contains_key self.old labels.now) → IsOk result }
     {
-        if let Some(sum) = self.by_labels.get_mut(labels) {
-            sum.count += total.count;
-            sum.bytes += total.bytes;
-            return Ok(());
-        }
-        self.by_labels.insert(labels.try_copy()?, total)?;
-        Ok(())
+        add_shared(&mut self.by_labels, labels, total)
     }
 
-    // The same with a label set that is owned, which is sought once.
+    // The same with a label set that is owned.
     pub(crate) fn add_owned(&mut self, labels: Labels, total: Total) -> Result<(), AllocError>
         requires { TotalFits (plus (total_at self.old labels) total) }
         ensures ok { OnOk result (self.new ≡ added self.old labels total) }
@@ -137,6 +131,23 @@ impl Totals {
     }
 }
 
+// Adds a total at a label set, by a copy that shares it. Where none can be made, it is added if the label set is there.
+fn add_shared(
+    by_labels: &mut BTreeMap<Labels, Total>,
+    labels: &Labels,
+    total: Total,
+) -> Result<(), AllocError>
+    requires { TotalFits (plus (unwrap_or (tree.get label_set_cmp by_labels.old labels.now) no_total) total) }
+    ensures ok { OnOk result ((q : LabelSet) → tree.get label_set_cmp by_labels.new q ≡ (if is_at (label_set_cmp labels.now) q then Some (plus (unwrap_or (tree.get label_set_cmp by_labels.old labels.now) no_total) total) else tree.get label_set_cmp by_labels.old q)) }
+    ensures err { OnErr result (by_labels.new.entries ≡ by_labels.old.entries) }
+    ensures known { IsSome (tree.get label_set_cmp by_labels.old labels.now) → IsOk result }
+{
+    match labels.try_copy() {
+        Ok(copy) => add_at(by_labels, copy, total),
+        Err(_) => add_known(by_labels, labels, total),
+    }
+}
+
 // Adds a total at a label set, which is sought once.
 fn add_at(
     by_labels: &mut BTreeMap<Labels, Total>,
@@ -146,10 +157,30 @@ fn add_at(
     requires { TotalFits (plus (unwrap_or (tree.get label_set_cmp by_labels.old labels) no_total) total) }
     ensures ok { OnOk result ((q : LabelSet) → tree.get label_set_cmp by_labels.new q ≡ (if is_at (label_set_cmp labels) q then Some (plus (unwrap_or (tree.get label_set_cmp by_labels.old labels) no_total) total) else tree.get label_set_cmp by_labels.old q)) }
     ensures err { OnErr result (by_labels.new.entries ≡ by_labels.old.entries) }
+    ensures known { IsSome (tree.get label_set_cmp by_labels.old labels) → IsOk result }
 {
     let there = by_labels.entry(labels)?.or_insert(NOTHING);
     there.count += total.count;
     there.bytes += total.bytes;
+    Ok(())
+}
+
+// Adds a total at a label set that is there already. Takes no memory.
+fn add_known(
+    by_labels: &mut BTreeMap<Labels, Total>,
+    labels: &Labels,
+    total: Total,
+) -> Result<(), AllocError>
+    requires { TotalFits (plus (unwrap_or (tree.get label_set_cmp by_labels.old labels.now) no_total) total) }
+    ensures ok { OnOk result ((q : LabelSet) → tree.get label_set_cmp by_labels.new q ≡ (if is_at (label_set_cmp labels.now) q then Some (plus (unwrap_or (tree.get label_set_cmp by_labels.old labels.now) no_total) total) else tree.get label_set_cmp by_labels.old q)) }
+    ensures err { OnErr result (by_labels.new.entries ≡ by_labels.old.entries) }
+    ensures known { IsSome (tree.get label_set_cmp by_labels.old labels.now) → IsOk result }
+{
+    let Some(sum) = by_labels.get_mut(labels) else {
+        return Err(AllocError);
+    };
+    sum.count += total.count;
+    sum.bytes += total.bytes;
     Ok(())
 }
 
