@@ -1,11 +1,11 @@
 -- What lines add up to that streams handed out once.
-use Rattle.std.proofs.Common.{◌≡◌, ◌≤◌, leb, ℕ, ◌-◌, Bool, Bor, true, false, cond, not, ◌&&◌, ◌||◌, List, [], ◌∷◌, length, map, Err, refl, sym, ap, subst, ◌∙◌, arith}
-use Rattle.std.specs.Prelude.{◌==◌, nat_lt}
+use Rattle.std.proofs.Common.{◌≡◌, ◌≤◌, ◌<◌, leb, ltb, ℕ, ◌+◌, ◌-◌, ◌*◌, Bool, Bor, true, false, cond, not, ◌&&◌, ◌||◌, List, [], ◌∷◌, length, map, Err, refl, sym, ap, subst, ◌∙◌, arith}
+use Rattle.std.specs.Prelude.{◌==◌, min, nat_le, nat_lt}
 use Rattle.std.specs.List.{AllByRecursion, AllZip, filter, flat_map, fold}
 use Rattle.std.proofs.lemmas.Simd.{map-map}
 use Rattle.std.specs.List.Sorted.{IsPermutation}
 use Rattle.std.specs.FinMap.{keys}
-use Rattle.std.proofs.lemmas.Bool.{true≢false}
+use Rattle.std.proofs.lemmas.Bool.{true≢false, le-leb, lt-leb, lt-ltb, le-ltb, leb-true, leb-false, ltb-true, ltb-false, and_right}
 use Rattle.std.proofs.lemmas.List.Sums.{length-filter, count_by-le-length}
 use Rattle.std.proofs.lemmas.List.Sorted.{length_permutation}
 use Rattle.rl_labels.specs.EntryParts.{longest_line}
@@ -18,14 +18,13 @@ use Rattle.rl_query.specs.declared.query.Selector.{Selector}
 use Rattle.rl_query.specs.declared.stages.Stage.{Stage}
 use Rattle.rl_chunks.specs.declared.line.Line.{Line}
 use Rattle.rl_aggregate.specs.Counter.{CounterView, counted_entry, counted_line}
-use Rattle.rl_aggregate.specs.InRange.{element, in_window, is_in_range, is_selected, stays}
+use Rattle.rl_aggregate.specs.InRange.{element, in_window, is_in_range, second, stays}
 use Rattle.rl_aggregate.specs.Partials.{partial, partial_of}
 use Rattle.rl_aggregate.specs.Tallies.{IsAlike, TallyView, nothing_counted, with_line}
 use Rattle.rl_aggregate.specs.declared.partial.Partial.{Partial}
 use Rattle.rl_aggregate.specs.laws.Counting.{filter-both, new_counter_counts, stayed}
 use Rattle.rl_aggregate.specs.laws.Totals.{kept-permuted}
 use Rattle.rl_deletes.specs.Deletes.{RequestsView, covered, covered_line}
-use Rattle.rl_parts.specs.Rewriting.{uncovered}
 use Rattle.rl_parts.specs.Reading.{told}
 use Rattle.rl_parts.specs.StoreUse.{ReadCause, Right}
 use Rattle.rl_parts.specs.declared.fault.ReadFault.{ReadFault}
@@ -36,52 +35,11 @@ use Rattle.rl_streams.specs.StreamsState.{StreamsView}
 use Rattle.rl_shard.specs.Collecting.{counting, counting_shown, shown, IsOfReading, IsRead, IsStartOf}
 use Rattle.rl_shard.specs.ShardFault.{HasCause, told_of_read}
 use Rattle.rl_shard.specs.declared.lines.Lines.{Lines}
+use Rattle.rl_shard.proofs.Windows.{and_true, both_true, filter_flat, filter_map, filter_same, is_between, narrow_rows, start_at, starts_at, starts_before}
 
 pub not_true : (b : Bool) → (b ≡ true → ⊥) → b ≡ false
 not_true true h = absurd (h refl)
 not_true false h = refl
-
-and_turned : (a b : Bool) → (a && b) ≡ (b && a)
-and_turned true true = refl
-and_turned true false = refl
-and_turned false true = refl
-and_turned false false = refl
-
-and_first : (a b c : Bool) → (a && (b && c)) ≡ (b && (a && c))
-and_first true true c = refl
-and_first true false c = refl
-and_first false true c = refl
-and_first false false c = refl
-
--- entries in the order in which they were handed out, that are selected: what stays of those that pass a test adds up to the
--- partial of all that pass it
-found_of : (p : Entry → Bool) (term : Term) (t : ℕ) (held order : List Entry) → IsPermutation (filter (is_selected term t) held) order → partial_of (stayed term.range.stages (filter p order)) ≡ partial (filter p held) term t
-found_of p term t held order moved =
-    let stages = term.range.stages in
-    let both = λ (e : Entry). p e && stays stages e in
-    let found = λ (es : List Entry). partial_of (map (element stages) es) in
-    ap found (filter-both p (stays stages) order)
-    ∙ sym (kept-permuted both stages (filter (is_selected term t) held) order moved)
-    ∙ ap found (filter-both (is_selected term t) both held)
-    ∙ (λ i. found (filter (λ (e : Entry). and_first (is_selected term t e) (p e) (stays stages e) i) held))
-    ∙ sym (ap found (filter-both p (is_in_range term t) held))
-
--- what is asked for by the first of some terms is what any of them selects
-asked_is : (first term : Term) (t start : ℕ) (held : List Entry) → IsAlike first term → IsStartOf first.range.seconds t start → asked first.range.selector.matchers start t held ≡ filter (is_selected term t) held
-asked_is first term t start held alike starts = λ i. filter (λ (e : Entry). same e i) held
-  where
-    same : (e : Entry) → (selects first.range.selector.matchers e.labels && (leb start e.timestamp && leb e.timestamp t)) ≡ (in_window term.range.seconds t e.timestamp && selects term.range.selector.matchers e.labels)
-    same e =
-        ap (λ b. selects first.range.selector.matchers e.labels && b) (sym (starts e.timestamp))
-        ∙ and_turned (selects first.range.selector.matchers e.labels) (in_window first.range.seconds t e.timestamp)
-        ∙ (λ i. in_window (sym alike.0 i) t e.timestamp && selects (ap (λ (s : Selector). s.matchers) (sym alike.1) i) e.labels)
-
--- so each term has its partial
-pub found_all : (p : Entry → Bool) (first : Term) (terms : List Term) (t start : ℕ) (held order : List Entry) → AllByRecursion (IsAlike first) terms → IsStartOf first.range.seconds t start → IsPermutation (asked first.range.selector.matchers start t held) order
-    → map (λ term. partial_of (stayed term.range.stages (filter p order))) terms ≡ map (λ term. partial (filter p held) term t) terms
-found_all p first [] t start held order alike starts moved = refl
-found_all p first (term ∷ terms) t start held order alike starts moved = λ i.
-    found_of p term t held order (subst (λ es. IsPermutation es order) (asked_is first term t start held alike.0 starts) moved) i ∷ found_all p first terms t start held order alike.1 starts moved i
 
 -- no more pass a test than there are
 pub few_pass : {X : Type 0} (p : X → Bool) (xs : List X) → length (filter p xs) ≤ length xs
@@ -102,22 +60,121 @@ few_asked p selector start t most held order moved few =
 abbrev pub is_shown : RequestsView → LabelSet × Line → Bool
 is_shown requests line = not (covered_line requests line.0 line.1.timestamp line.1.text)
 
--- what counts the lines that are shown, and what counts any
+-- a line is handed to what counts, and to what counts any
 abbrev pub counts : Lines → LabelSet × Line → Lines
-counts lines line = cond (covered_line lines.requests.now line.0 line.1.timestamp line.1.text) lines (record { counter = counted_line line.0 line.1.text lines.counter; requests = lines.requests })
+counts lines line =
+    cond (nat_lt lines.t line.1.timestamp) (record { counter = lines.counter; requests = lines.requests; range = lines.range; t = lines.t; lasts = min lines.lasts (line.1.timestamp - lines.t - 1) })
+    (cond (nat_le lines.range (lines.t - line.1.timestamp)) lines
+    (cond (covered_line lines.requests.now line.0 line.1.timestamp line.1.text) lines
+    (record { counter = counted_line line.0 line.1.text lines.counter; requests = lines.requests; range = lines.range; t = lines.t; lasts = min lines.lasts (lines.range - (lines.t - line.1.timestamp) - 1) })))
 
 abbrev counts_any : CounterView → LabelSet × Line → CounterView
 counts_any counter line = counted_line line.0 line.1.text counter
 
--- the first counts as the second does of those that are shown
-pub counts_shown : (requests : Bor RequestsView) (counter : CounterView) (lines : List (LabelSet × Line)) → fold counts (record { counter = counter; requests = requests }) lines ≡ record { counter = fold counts_any counter (filter (is_shown requests.now) lines); requests = requests }
-counts_shown requests counter [] = refl
-counts_shown requests counter (line ∷ lines) =
-    let taken = counted_line line.0 line.1.text counter in
-    elim (covered_line requests.now line.0 line.1.timestamp line.1.text) as (λ b. fold counts (cond b (record { counter = counter; requests = requests }) (record { counter = taken; requests = requests })) lines ≡ record { counter = fold counts_any counter (cond (not b) (line ∷ filter (is_shown requests.now) lines) (filter (is_shown requests.now) lines)); requests = requests }) [
-      | true ↦ counts_shown requests counter lines
-      | false ↦ counts_shown requests taken lines
-    ]
+module _ (requests : Bor RequestsView) (range t : ℕ) where
+  abbrev pub taker : CounterView → ℕ → Lines
+  taker counter lasts = record { counter = counter; requests = requests; range = range; t = t; lasts = lasts }
+
+  -- the line is of the window, and it is shown
+  abbrev pub is_counted : LabelSet × Line → Bool
+  is_counted line = not (nat_lt t line.1.timestamp) && (not (nat_le range (t - line.1.timestamp)) && is_shown requests.now line)
+
+  -- the line is not reached within so long behind the moment, and if it was counted, it does not leave the window
+  pub record Noticed (lasts : ℕ) (line : LabelSet × Line) : Type 0 where
+    pub ahead : nat_lt t line.1.timestamp ≡ true → t + lasts < line.1.timestamp
+    pub within : is_counted line ≡ true → lasts + (t - line.1.timestamp) < range
+
+  pub record Ends (counter : CounterView) (lasts : ℕ) (lines : List (LabelSet × Line)) (after : Lines) : Type 0 where
+    pub counted : after.counter ≡ fold counts_any counter (filter is_counted lines)
+    pub fewer : after.lasts ≤ lasts
+    pub noticed : AllByRecursion (Noticed after.lasts) lines
+
+  pub ends : (counter : CounterView) (lasts : ℕ) (lines : List (LabelSet × Line)) → Ends counter lasts lines (fold counts (taker counter lasts) lines)
+  ends counter lasts [] = record { counted = refl; fewer = omega arith; noticed = tt }
+  ends counter lasts (line ∷ lines) =
+      let ts = line.1.timestamp in
+      let late = nat_lt t ts in
+      let old = nat_le range (t - ts) in
+      let hidden = covered_line requests.now line.0 line.1.timestamp line.1.text in
+      let sooner = min lasts (ts - t - 1) in
+      let shorter = min lasts (range - (t - ts) - 1) in
+      let more = counted_line line.0 line.1.text counter in
+      let rest = filter is_counted lines in
+      let after = λ (l o h : Bool). fold counts (cond l (taker counter sooner) (cond o (taker counter lasts) (cond h (taker counter lasts) (taker more shorter)))) lines in
+      elim late as (λ l. late ≡ l → Ends counter lasts (line ∷ lines) (after l old hidden)) [
+        | true ↦ λ is.
+            let end = ends counter sooner lines in
+            let none : is_counted line ≡ false = ap (λ l. not l && (not old && not hidden)) is in
+            record {
+              counted = end.counted ∙ sym (ap (λ b. fold counts_any counter (cond b (line ∷ rest) rest)) none);
+              fewer = let few = end.fewer in omega (arith, few);
+              noticed = (record { ahead = λ _. let few = end.fewer in omega (arith, few, ltb-true t ts is); within = λ counted. absurd (true≢false (sym counted ∙ none)) }, end.noticed);
+            }
+        | false ↦ λ is. elim old as (λ o. old ≡ o → Ends counter lasts (line ∷ lines) (after false o hidden)) [
+          | true ↦ λ is_old.
+              let end = ends counter lasts lines in
+              let none : is_counted line ≡ false = (λ i. not (is i) && (not (is_old i) && not hidden)) in
+              record {
+                counted = end.counted ∙ sym (ap (λ b. fold counts_any counter (cond b (line ∷ rest) rest)) none);
+                fewer = end.fewer;
+                noticed = (record { ahead = λ late. absurd (true≢false (sym late ∙ is)); within = λ counted. absurd (true≢false (sym counted ∙ none)) }, end.noticed);
+              }
+          | false ↦ λ is_old. elim hidden as (λ h. hidden ≡ h → Ends counter lasts (line ∷ lines) (after false false h)) [
+            | true ↦ λ is_hidden.
+                let end = ends counter lasts lines in
+                let none : is_counted line ≡ false = (λ i. not (is i) && (not (is_old i) && not (is_hidden i))) in
+                record {
+                  counted = end.counted ∙ sym (ap (λ b. fold counts_any counter (cond b (line ∷ rest) rest)) none);
+                  fewer = end.fewer;
+                  noticed = (record { ahead = λ late. absurd (true≢false (sym late ∙ is)); within = λ counted. absurd (true≢false (sym counted ∙ none)) }, end.noticed);
+                }
+            | false ↦ λ is_hidden.
+                let end = ends more shorter lines in
+                let one : is_counted line ≡ true = (λ i. not (is i) && (not (is_old i) && not (is_hidden i))) in
+                record {
+                  counted = end.counted ∙ sym (ap (λ b. fold counts_any counter (cond b (line ∷ rest) rest)) one);
+                  fewer = let few = end.fewer in omega (arith, few);
+                  noticed = (record { ahead = λ late. absurd (true≢false (sym late ∙ is)); within = λ _. let few = end.fewer in omega (arith, few, leb-false range (t - ts) is_old) }, end.noticed);
+                }
+          ] refl
+        ] refl
+      ] refl
+
+  -- so a window that ends so long behind the moment has the same lines
+  module _ (lasts u : ℕ) (later : t ≤ u) (within : u ≤ t + lasts) where
+    abbrev is_in : ℕ → Bool
+    is_in ts = ltb u (ts + range) && leb ts u
+
+    pub same_at : (line : LabelSet × Line) → Noticed lasts line → (is_in line.1.timestamp && is_shown requests.now line) ≡ is_counted line
+    same_at line noticed =
+        let ts = line.1.timestamp in
+        let late = nat_lt t ts in
+        let old = nat_le range (t - ts) in
+        let shown = is_shown requests.now line in
+        elim late as (λ l. late ≡ l → (is_in ts && shown) ≡ (not l && (not old && shown))) [
+          | true ↦ λ is.
+              let out : is_in ts ≡ false = ap (λ b. ltb u (ts + range) && b) (lt-leb ts u (omega (arith, within, noticed.ahead is))) ∙ and_right (ltb u (ts + range)) false refl in
+              ap (λ b. b && shown) out
+          | false ↦ λ is. elim old as (λ o. old ≡ o → (is_in ts && shown) ≡ (not o && shown)) [
+            | true ↦ λ is_old. ap (λ b. (b && leb ts u) && shown) (le-ltb u (ts + range) (omega (arith, later, leb-true range (t - ts) is_old, ltb-false t ts is)))
+            | false ↦ λ is_old. elim shown as (λ s. shown ≡ s → (is_in ts && s) ≡ s) [
+              | true ↦ λ is_shown.
+                  let counted : is_counted line ≡ true = (λ i. not (is i) && (not (is_old i) && is_shown i)) in
+                  let left = noticed.within counted in
+                  let here = ltb-false t ts is in
+                  (λ i. (lt-ltb u (ts + range) (omega (arith, within, left, here)) i && le-leb ts u (omega (arith, later, here)) i) && true)
+              | false ↦ λ _. and_right (is_in ts) false refl
+            ] refl
+          ] refl
+        ] refl
+
+    pub same_all : (lines : List (LabelSet × Line)) → AllByRecursion (Noticed lasts) lines → AllByRecursion (λ (line : LabelSet × Line). (is_in line.1.timestamp && is_shown requests.now line) ≡ is_counted line) lines
+    same_all [] all = tt
+    same_all (line ∷ lines) all = (same_at line all.0, same_all lines all.1)
+
+    pub same_of_entries : (order : List Entry) → AllByRecursion (Noticed lasts) (map told order) → AllByRecursion (λ (e : Entry). is_counted (told e) ≡ (is_in e.timestamp && not (covered requests.now e))) order
+    same_of_entries [] all = tt
+    same_of_entries (e ∷ es) all = (sym (same_at (told e) all.0), same_of_entries es all.1)
 
 -- and a partial of the lines that are shown is made by these
 found_shown : (requests : RequestsView) (stages : List Stage) (found : Partial) (lines : List (LabelSet × Line)) → fold (counting_shown requests stages) found lines ≡ fold (counting stages) found (filter (is_shown requests) lines)
@@ -126,15 +183,6 @@ found_shown requests stages found (line ∷ lines) =
     elim (covered_line requests line.0 line.1.timestamp line.1.text) as (λ b. fold (counting_shown requests stages) (cond b found (counting stages found line)) lines ≡ fold (counting stages) found (cond (not b) (line ∷ filter (is_shown requests) lines) (filter (is_shown requests) lines))) [
       | true ↦ found_shown requests stages found lines
       | false ↦ found_shown requests stages (counting stages found line) lines
-    ]
-
--- the lines of entries that are shown are those of the entries that no request covers
-told_shown : (requests : RequestsView) (order : List Entry) → filter (is_shown requests) (map told order) ≡ map told (uncovered (covered requests) order)
-told_shown requests [] = refl
-told_shown requests (e ∷ es) =
-    elim (covered requests e) as (λ b. cond (not b) (told e ∷ filter (is_shown requests) (map told es)) (filter (is_shown requests) (map told es)) ≡ map told (cond (not b) (e ∷ uncovered (covered requests) es) (uncovered (covered requests) es))) [
-      | true ↦ told_shown requests es
-      | false ↦ ap (λ rest. told e ∷ rest) (told_shown requests es)
     ]
 
 -- a counter, by the lines of entries
@@ -202,22 +250,22 @@ tallied stages found [] = refl
 tallied stages found (line ∷ lines) = tallied stages (counting stages found line) lines
 
 -- so of terms that read the same lines as the first of them
-pub read_all : (first : Term) (terms : List Term) (rows : List Row) (requests : RequestsView) (t start : ℕ) (lines : List (List (LabelSet × Line))) → IsStartOf first.range.seconds t start → AllByRecursion (IsAlike first) terms → AllZip (AreOfRow first.range.selector.matchers start t) rows lines
+pub read_all : (first : Term) (terms : List Term) (rows : List Row) (requests : RequestsView) (t : ℕ) (lines : List (List (LabelSet × Line))) → AllByRecursion (IsAlike first) terms → AllZip (AreOfRow first.range.selector.matchers (start_at first.range.seconds t) t) rows lines
     → AllZip (λ (term : Term) found. IsRead rows requests term.range t found) terms (map (λ (tally : TallyView). tally.found) (map (λ tally. fold tallies_line tally (filter (is_shown requests) (flat_map (λ of_row. of_row) lines))) (map nothing_counted (map (λ (term : Term). term.range.stages) terms))))
-read_all first [] rows requests t start lines starts alike each = tt
-read_all first (term ∷ terms) rows requests t start lines starts alike each = (
+read_all first [] rows requests t lines alike each = tt
+read_all first (term ∷ terms) rows requests t lines alike each = (
   record {
-    start = start;
-    starts = subst (λ seconds. IsStartOf seconds t start) (sym alike.0.0) starts;
+    start = start_at first.range.seconds t;
+    starts = subst (λ seconds. IsStartOf seconds t (start_at first.range.seconds t)) (sym alike.0.0) (starts_at first.range.seconds t);
     told = record {
       lines = lines;
-      each = subst (λ (selector : Selector). AllZip (AreOfRow selector.matchers start t) rows lines) (sym alike.0.1) each;
+      each = subst (λ (selector : Selector). AllZip (AreOfRow selector.matchers (start_at first.range.seconds t) t) rows lines) (sym alike.0.1) each;
       told =
           tallied term.range.stages (partial_of []) (filter (is_shown requests) (flat_map (λ of_row. of_row) lines))
           ∙ sym (found_shown requests term.range.stages (partial_of []) (flat_map (λ of_row. of_row) lines));
     };
   },
-  read_all first terms rows requests t start lines starts alike.1 each,
+  read_all first terms rows requests t lines alike.1 each,
 )
 
 -- what holds of what a function gives
@@ -225,33 +273,50 @@ pub all_mapped : {A B : Type 0} (P : B → Type 0) (f : A → B) (xs : List A) �
 all_mapped P f [] all = tt
 all_mapped P f (x ∷ xs) all = (all.0, all_mapped P f xs all.1)
 
--- a counter in which nothing is counted, and what counts the lines in it that are shown
+-- a counter in which nothing is counted, and what counts lines in it
 abbrev pub none_counted : ℕ → List (List Stage) → CounterView
 none_counted most pipelines = record { most = most; left = most; is_over = false; tallies = map nothing_counted pipelines }
 
-abbrev pub none_taken : Bor RequestsView → ℕ → List (List Stage) → Lines
-none_taken requests most pipelines = record { counter = none_counted most pipelines; requests = requests }
+-- the first two tests are of a line and of a moment, and the window is of what is asked for
+reorder : (selected asked in_window shown stays : Bool) → (in_window ≡ true → asked ≡ true) → ((selected && asked) && ((in_window && shown) && stays)) ≡ (shown && ((in_window && selected) && stays))
+reorder selected asked false shown stays reaches = and_right (selected && asked) false refl ∙ sym (and_right shown false refl)
+reorder selected asked true shown stays reaches = ap (λ b. (selected && b) && (shown && stays)) (reaches refl) ∙ by selected shown stays
+  where
+    by : (selected shown stays : Bool) → ((selected && true) && (shown && stays)) ≡ (shown && (selected && stays))
+    by true true stays = refl
+    by true false stays = refl
+    by false true stays = refl
+    by false false stays = refl
 
-module _ (first : Term) (terms : List Term) (streams : StreamsView) (requests : Bor RequestsView) (t start : ℕ) (after : Lines) (starts : IsStartOf first.range.seconds t start) (alike : AllByRecursion (IsAlike first) terms) where
+module _ (first : Term) (terms : List Term) (streams : StreamsView) (requests : Bor RequestsView) (t start to : ℕ) (after : Lines) (alike : AllByRecursion (IsAlike first) terms) where
   abbrev pub pipelines : List (List Stage)
   pipelines = map (λ (term : Term). term.range.stages) terms
 
-  abbrev none : Lines
-  none = none_taken requests streams.limits.entries pipelines
+  abbrev range : ℕ
+  range = first.range.seconds * second
 
-  module _ (few : length (keys streams.held) ≤ streams.limits.entries) (once : AreToldOnce first.range.selector.matchers start t streams.held counts none after) where
-    -- the entries that were handed out and are shown
-    abbrev order : List Entry
-    order = uncovered (covered requests.now) once.order
+  abbrev none : Lines
+  none = taker requests range t (none_counted streams.limits.entries pipelines) (to - t)
+
+  module _ (few : length (keys streams.held) ≤ streams.limits.entries) (once : AreToldOnce first.range.selector.matchers start to streams.held counts none after) where
+    abbrev passes : Entry → Bool
+    passes e = is_counted requests range t (told e)
+
+    -- the entries that were counted
+    abbrev pub order : List Entry
+    order = filter passes once.order
+
+    ended : Ends requests range t none.counter (to - t) (map told once.order) after
+    ended = subst (Ends requests range t none.counter (to - t) (map told once.order)) (sym once.told) (ends requests range t none.counter (to - t) (map told once.order))
 
     counted_once : after.counter ≡ record { most = streams.limits.entries; left = streams.limits.entries - length order; is_over = false; tallies = map (λ stages. record { running = stages; found = partial_of (stayed stages order) }) pipelines }
     counted_once =
-        ap (λ (lines : Lines). lines.counter) (once.told ∙ counts_shown requests none.counter (map told once.order))
-        ∙ ap (fold counts_any none.counter) (told_shown requests.now once.order)
+        ended.counted
+        ∙ ap (fold counts_any none.counter) (filter_map (is_counted requests range t) told once.order)
         ∙ counted_all none.counter order
-        ∙ new_counter_counts streams.limits.entries pipelines order (few_asked (λ entry. not (covered requests.now entry)) first.range.selector.matchers start t streams.limits.entries (keys streams.held) once.order once.once few)
+        ∙ new_counter_counts streams.limits.entries pipelines order (few_asked passes first.range.selector.matchers start to streams.limits.entries (keys streams.held) once.order once.once few)
 
-    -- over an honest store no line comes that may not be counted, and each term has its partial
+    -- over an honest store no line comes that may not be counted
     pub not_over : after.counter.is_over ≡ false
     not_over = ap (λ (counter : CounterView). counter.is_over) counted_once
 
@@ -259,27 +324,66 @@ module _ (first : Term) (terms : List Term) (streams : StreamsView) (requests : 
     found_by [] = refl
     found_by (stages ∷ others) = ap (λ rest. partial_of (stayed stages order) ∷ rest) (found_by others)
 
-    pub exact_all : map (λ (tally : TallyView). tally.found) after.counter.tallies ≡ map (λ term. partial (shown streams requests.now) term t) terms
-    exact_all =
-        ap (λ (counter : CounterView). map (λ (tally : TallyView). tally.found) counter.tallies) counted_once
-        ∙ found_by pipelines
-        ∙ map-map (λ stages. partial_of (stayed stages order)) (λ (term : Term). term.range.stages) terms
-        ∙ found_all (λ entry. not (covered requests.now entry)) first terms t start (keys streams.held) once.order alike starts once.once
+    module _ (u : ℕ) (starts : IsStartOf first.range.seconds t start) (some : 0 < range) (later : t ≤ u) (within : u ≤ t + after.lasts) (short : t ≤ to) where
+      reaches : (ts : ℕ) → in_window first.range.seconds u ts ≡ true → (leb start ts && leb ts to) ≡ true
+      reaches ts is =
+          let from = starts_before first.range.seconds t start u starts some later in
+          let parts = and_true (ltb u (ts + range)) (leb ts u) is in
+          let fewer = ended.fewer in
+          both_true (leb start ts) (leb ts to) (le-leb start ts (omega (arith, from, ltb-true u (ts + range) parts.0))) (le-leb ts to (omega (arith, leb-true ts u parts.1, within, fewer, short)))
 
-  module _ (handed : AreTold counts first.range.selector.matchers start t streams.rows none after) where
-    abbrev lines : List (LabelSet × Line)
-    lines = filter (is_shown requests.now) (flat_map (λ of_row. of_row) handed.lines)
+      -- of the window that ends then, what is shown and stays adds up to the same
+      found_of : (term : Term) → IsAlike first term → partial_of (stayed term.range.stages order) ≡ partial (shown streams requests.now) term u
+      found_of term alike =
+          let stages = term.range.stages in
+          let held = keys streams.held in
+          let both = λ (e : Entry). (in_window first.range.seconds u e.timestamp && not (covered requests.now e)) && stays stages e in
+          let found = λ (es : List Entry). partial_of (map (element stages) es) in
+          let tests = same_of_entries requests range t after.lasts u later within once.order ended.noticed in
+          ap (λ es. found (filter (stays stages) es)) (filter_same passes (λ e. in_window first.range.seconds u e.timestamp && not (covered requests.now e)) once.order tests)
+          ∙ ap found (filter-both (λ e. in_window first.range.seconds u e.timestamp && not (covered requests.now e)) (stays stages) once.order)
+          ∙ sym (kept-permuted both stages (asked first.range.selector.matchers start to held) once.order once.once)
+          ∙ ap found (filter-both (is_asked first.range.selector.matchers start to) both held)
+          ∙ (λ i. found (filter (λ (e : Entry). reorder (selects first.range.selector.matchers e.labels) (leb start e.timestamp && leb e.timestamp to) (in_window first.range.seconds u e.timestamp) (not (covered requests.now e)) (stays stages e) (reaches e.timestamp) i) held))
+          ∙ (λ i. found (filter (λ (e : Entry). not (covered requests.now e) && ((in_window (sym alike.0 i) u e.timestamp && selects (ap (λ (s : Selector). s.matchers) (sym alike.1) i) e.labels) && stays stages e)) held))
+          ∙ sym (ap found (filter-both (λ (e : Entry). not (covered requests.now e)) (is_in_range term u) held))
 
-    counted_lines : after.counter ≡ fold counts_any none.counter lines
-    counted_lines = ap (λ (lines : Lines). lines.counter) (handed.told ∙ counts_shown requests none.counter (flat_map (λ of_row. of_row) handed.lines))
+      found_all : (terms : List Term) → AllByRecursion (IsAlike first) terms → map (λ (term : Term). partial_of (stayed term.range.stages order)) terms ≡ map (λ term. partial (shown streams requests.now) term u) terms
+      found_all [] alike = refl
+      found_all (term ∷ terms) alike = λ i. found_of term alike.0 i ∷ found_all terms alike.1 i
+
+      -- so each term has its partial at that moment
+      pub exact_all : map (λ (tally : TallyView). tally.found) after.counter.tallies ≡ map (λ term. partial (shown streams requests.now) term u) terms
+      exact_all =
+          ap (λ (counter : CounterView). map (λ (tally : TallyView). tally.found) counter.tallies) counted_once
+          ∙ found_by pipelines
+          ∙ map-map (λ stages. partial_of (stayed stages order)) (λ (term : Term). term.range.stages) terms
+          ∙ found_all terms alike
+
+  module _ (handed : AreTold counts first.range.selector.matchers start to streams.rows none after) where
+    abbrev all : List (LabelSet × Line)
+    all = flat_map (λ of_row. of_row) handed.lines
+
+    ended_told : Ends requests range t none.counter (to - t) all after
+    ended_told = subst (Ends requests range t none.counter (to - t) all) (sym handed.told) (ends requests range t none.counter (to - t) all)
 
     -- over any store as many lines may be counted as before
     pub most_is : after.counter.most ≡ streams.limits.entries
-    most_is = ap (λ (counter : CounterView). counter.most) counted_lines ∙ most_stays none.counter lines
+    most_is = ap (λ (counter : CounterView). counter.most) ended_told.counted ∙ most_stays none.counter (filter (is_counted requests range t) all)
 
     -- over any store each was read, where no line came that may not be counted
-    pub read_each : after.counter.is_over ≡ false → AllZip (λ (term : Term) found. IsRead streams.rows requests.now term.range t found) terms (map (λ (tally : TallyView). tally.found) after.counter.tallies)
-    read_each not_over =
-        let tallies = ap (λ (counter : CounterView). counter.tallies) counted_lines ∙ all_counted none.counter lines (ap (λ (counter : CounterView). counter.is_over) (sym counted_lines) ∙ not_over) in
-        subst (λ tallies. AllZip (λ (term : Term) found. IsRead streams.rows requests.now term.range t found) terms (map (λ (tally : TallyView). tally.found) tallies)) (sym tallies)
-        (read_all first terms streams.rows requests.now t start handed.lines starts alike handed.each)
+    pub read_each : (u : ℕ) → IsStartOf first.range.seconds t start → 0 < range → t ≤ u → u ≤ t + after.lasts → t ≤ to → after.counter.is_over ≡ false → AllZip (λ (term : Term) found. IsRead streams.rows requests.now term.range u found) terms (map (λ (tally : TallyView). tally.found) after.counter.tallies)
+    read_each u starts some later within short not_over =
+        let low = start_at first.range.seconds u in
+        let fewer = ended_told.fewer in
+        let lines = map (filter (is_between low u)) handed.lines in
+        let each = narrow_rows start to low u (starts_before first.range.seconds t start u starts some later) (omega (arith, within, fewer, short)) first.range.selector.matchers streams.rows handed.lines handed.each in
+        let same : filter (is_shown requests.now) (flat_map (λ of_row. of_row) lines) ≡ filter (is_counted requests range t) all =
+        ap (filter (is_shown requests.now)) (sym (filter_flat (is_between low u) handed.lines))
+        ∙ filter-both (is_between low u) (is_shown requests.now) all
+        ∙ (λ i. filter (λ (line : LabelSet × Line). sym (starts_at first.range.seconds u line.1.timestamp) i && is_shown requests.now line) all)
+        ∙ filter_same (λ (line : LabelSet × Line). in_window first.range.seconds u line.1.timestamp && is_shown requests.now line) (is_counted requests range t) all (same_all requests range t after.lasts u later within all ended_told.noticed) in
+        let tallies = ap (λ (counter : CounterView). counter.tallies) ended_told.counted ∙ all_counted none.counter (filter (is_counted requests range t) all) (ap (λ (counter : CounterView). counter.is_over) (sym ended_told.counted) ∙ not_over) in
+        subst (λ tallies. AllZip (λ (term : Term) found. IsRead streams.rows requests.now term.range u found) terms (map (λ (tally : TallyView). tally.found) tallies))
+        (ap (λ lines. map (λ tally. fold tallies_line tally lines) (map nothing_counted pipelines)) same ∙ sym tallies)
+        (read_all first terms streams.rows requests.now u lines alike each)

@@ -5,10 +5,14 @@ use denote.Struct.Field
 use denote.Param.Send.{IsSend, sendable, view_send, recorded_send, struct_send}
 use Rattle.std.proofs.Crossing as heap
 use Rattle.std.proofs.alloc.Global.TheSendSync as global
+use Rattle.rl_plain.proofs.shared.Shared.TheSendSync as shared
+use Rattle.rl_query.proofs.Crossing as queries
+use Rattle.rl_aggregate.proofs.partial.Partial.TheSendSync as partial
 use Rattle.rl_deletes.proofs.Crossing.{Requests-send}
 use Rattle.rl_deletes.specs.contracts.horizon.Horizon as Horizon
 use Rattle.rl_chunks.specs.declared.store.Store as Store
 use Rattle.rl_streams.proofs.Crossing.{Streams-send}
+use Rattle.rl_shard.specs.contracts.kept.KeptRanges as KeptRanges
 use Rattle.rl_shard.specs.contracts.shard.Shard as Shard
 use Rattle.rl_shard.specs.contracts.shard.Shard.TheInside as inside
 
@@ -16,8 +20,9 @@ fields-send : (T : RattleType) (g : Store.Ghosts T.Denot) → IsSend T → IsSen
 fields-send T g s =
     let moment : IsSend (Horizon.the_field).row = search (sendable, heap.crosses) depth 20 in
     let number : IsSend (Field.u64-field).row = search sendable depth 20 in
+    let ranges : IsSend (KeptRanges.the_field).row = search (queries.crosses, partial.the_send, partial.the_sync, shared.the_send, sendable, heap.crosses) depth 20 in
     recorded_send (inside.the_field T g).row _ _ (inside.the_type T g).to_one (struct_send (shape (inside.the_type T g))
-    (global.the_field_send, (Streams-send T g s, (Requests-send, (moment, (number, tt))))))
+    (global.the_field_send, (Streams-send T g s, (Requests-send, (moment, (number, (ranges, tt)))))))
 
 pub Shard-send : (T : RattleType) (g : Store.Ghosts T.Denot) → IsSend T → IsSend (Shard.the_row T g)
 Shard-send T g s = view_send _ _ _ _ _ (fields-send T g s)

@@ -1,4 +1,6 @@
 mod Examples
 pub mod Terms
 pub mod Counted
+pub mod Keeping
+pub mod Windows
 pub mod Crossing

@@ -39,11 +39,6 @@ first_stays f [] ys b is = absurd (none_is b is)
     none_is b h = cc
 first_stays f (x ∷ xs) ys b is = is
 
--- the first of those behind stands behind the others
-pub first_behind : {A B : Type 0} (f : A → B) (xs ys : List A) (b : B) → option_map f (slice_get ys 0) ≡ Some b → option_map f (slice_get (xs ++ ys) (length xs)) ≡ Some b
-first_behind f [] ys b is = is
-first_behind f (x ∷ xs) ys b is = first_behind f xs ys b is
-
 -- what is known of the place of a range
 pub known_range : {X : Type 0} (of : X → LogRange) (known : List X) (i : ℕ) (range : LogRange) → option_map (λ (place : ℕ). option_map of (slice_get known place)) (Some i) ≡ option_map (λ (_ : ℕ). Some range) (Some i) → option_map of (slice_get known i) ≡ Some range
 known_range of known i range at = some_is (option_map of (slice_get known i)) (Some range) at
@@ -100,6 +95,30 @@ module _ (requests : RequestsView) where
     within = subst (λ limits. AllByRecursion (IsWithin limits.entries) partials) look.limits p.within;
     read = subst (λ rows. AllZip (λ (term : Term) found. IsRead rows requests term.range t found) terms partials) look.rows p.read;
     exact = λ honest. p.exact (look.seen.honest ∙ honest) ∙ ap (λ held. map (λ term. partial (uncovered (covered requests) (keys held)) term t) terms) look.held;
+  }
+
+  -- the first, and those behind it
+  pub split_of : (streams : StreamsView) (term : Term) (terms : List Term) (t : ℕ) (found : Partial) (partials : List Partial) → ArePartialsOf streams requests (term ∷ terms) t (found ∷ partials) → IsPartialOf streams requests term t found × ArePartialsOf streams requests terms t partials
+  split_of streams term terms t found partials p = (
+    record { within = p.within.0; read = p.read.0; exact = λ honest. head_is (p.exact honest) },
+    record { each = suc-injective p.each; within = p.within.1; read = p.read.1; exact = λ honest. tail_is (p.exact honest) },
+  )
+    where
+      suc-injective : {m n : ℕ} → suc m ≡ suc n → m ≡ n
+      suc-injective h = omega (arith, h)
+
+      head_is : found ∷ partials ≡ map (λ one. partial (shown streams requests) one t) (term ∷ terms) → found ≡ partial (shown streams requests) term t
+      head_is h = cc
+
+      tail_is : found ∷ partials ≡ map (λ one. partial (shown streams requests) one t) (term ∷ terms) → partials ≡ map (λ one. partial (shown streams requests) one t) terms
+      tail_is h = cc
+
+  -- it is by the range alone
+  pub by_range : (streams : StreamsView) (term other : Term) (t : ℕ) (found : Partial) → term.range ≡ other.range → IsPartialOf streams requests term t found → IsPartialOf streams requests other t found
+  by_range streams term other t found same p = record {
+    within = p.within;
+    read = subst (λ range. IsRead streams.rows requests range t found) same p.read;
+    exact = λ honest. p.exact honest ∙ ap (partial_by (shown streams requests) t) same;
   }
 
   -- the one at a place, by the range of the term there
@@ -186,4 +205,11 @@ module _ (requests : RequestsView) where
     within = subst (λ limits. IsWithin limits.entries found) look.limits p.within;
     read = subst (λ rows. IsRead rows requests term.range t found) look.rows p.read;
     exact = λ honest. p.exact (look.seen.honest ∙ honest) ∙ ap (λ held. partial (uncovered (covered requests) (keys held)) term t) look.held;
+  }
+
+  pub same_one : (old new : StreamsView) (term : Term) (t : ℕ) (found : Partial) → Looks old new → IsPartialOf old requests term t found → IsPartialOf new requests term t found
+  same_one old new term t found look p = record {
+    within = subst (λ limits. IsWithin limits.entries found) (sym look.limits) p.within;
+    read = subst (λ rows. IsRead rows requests term.range t found) (sym look.rows) p.read;
+    exact = λ honest. p.exact (sym look.seen.honest ∙ honest) ∙ ap (λ held. partial (uncovered (covered requests) (keys held)) term t) (sym look.held);
   }

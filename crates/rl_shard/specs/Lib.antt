@@ -2,3 +2,4 @@ pub mod Collecting
 pub mod ShardFault
 pub mod ShardState
 pub mod ShardStep
+pub mod Standing

@@ -1,14 +1,17 @@
 //! What a shard shows of the ranges of terms.
-ghost use Rattle.std.specs.Prelude.{◌≡◌, ◌≤◌, ◌<◌, ◌++◌, true, length, map, slice_get, Some, IfErr, IfOk, OnOk};
+ghost use Rattle.std.specs.Prelude.{◌≡◌, ◌≤◌, ◌+◌, ℕ, true, length, map, slice_get, Some, IfErr, IfOk};
 ghost use Rattle.std.specs.FinMap.{keys};
-ghost use Rattle.std.specs.List.{AllByRecursion};
+ghost use Rattle.std.specs.List.{AllByRecursion, AllZip};
 ghost use Rattle.std.specs.Option.{option_map};
+ghost use Rattle.rl_deletes.specs.Deletes.{RequestsView};
 ghost use Rattle.rl_query.specs.Limits.{longest_range};
 ghost use Rattle.rl_aggregate.specs.Tallies.{IsAlike};
-ghost use Rattle.rl_streams.specs.StreamsState.{Looks};
+ghost use Rattle.rl_streams.specs.StreamsState.{Looks, StreamsView};
 ghost use Rattle.rl_shard.specs.Collecting.{shown, ArePartialsOf, IsOfReading, IsPartialOf, IsStartOf};
 ghost use Rattle.rl_shard.specs.ShardFault.{HasCause};
+ghost use Rattle.rl_shard.specs.Standing.{AreKept, StandsFor};
 
+use crate::kept::KeptRanges;
 use crate::lines::Lines;
 use crate::step::ShardFault;
 use rl_aggregate::{Counter, Partial, pipelines_of};
@@ -26,99 +29,86 @@ const SECOND: u64 = 1_000_000_000;
 // So many terms go through the lines together, so that what all of them add up stays near.
 const MOST_TOGETHER: usize = 8;
 
-// What the entries in each term's range add up to that no received request covers. A range that stands twice is added up once.
+// What ranges add up to at a moment, and for so many nanoseconds behind it.
+#[derive(Drop)]
+struct Counted {
+    partials: Vec<Partial>,
+    lasts: u64,
+}
+
+// What the entries in each term's range add up to that no received request covers. What is kept of a range is not added up
+// again.
 pub(crate) fn collect<S: Store>(
     alloc: Global,
     streams: &mut Streams<S>,
     requests: &Requests,
+    kept: &mut KeptRanges,
     terms: &[Term],
     t: Ns,
 ) -> Result<PlainList<Shared<Partial>>, ShardFault>
+    requires kept { AreKept streams.old requests.now kept.old }
     ensures same { Looks streams.old streams.new }
     ensures meets { IfErr result IsOfReading }
     ensures cause { IfErr result (λ fault. HasCause streams.old fault streams.new) }
     ensures partials { IfOk result (ArePartialsOf streams.old requests.now terms.now t) }
+    ensures kept { AreKept streams.new requests.now kept.new }
 {
-    let mut known = Vec::new(alloc);
-    let mut added_up = Vec::new(alloc);
     let mut partials = Vec::with_capacity(alloc, terms.len())?;
     for (index, term) in terms.iter().enumerate() {
         let behind = &terms[index + 1..];
-        let partial = next_partial(
-            alloc,
-            streams,
-            requests,
-            term,
-            behind,
-            t,
-            &mut known,
-            &mut added_up,
-        )?;
+        let partial = next_partial(alloc, streams, requests, kept, term, behind, t)?;
         partials.push(partial)?;
     }
     Ok(PlainList::from_vec(partials))
 }
 
-// What the entries in the term's range add up to, shared with a known term that has the range. Where none has it, it is
-// added up together with those of the terms behind that read the same lines.
-fn next_partial<'a, S: Store>(
+// What the entries in the term's range add up to. Where none is kept, it is added up together with those of the terms behind
+// that read the same lines, and all of them are kept.
+fn next_partial<S: Store>(
     alloc: Global,
     streams: &mut Streams<S>,
     requests: &Requests,
-    term: &'a Term,
-    behind: &'a [Term],
+    kept: &mut KeptRanges,
+    term: &Term,
+    behind: &[Term],
     t: Ns,
-    known: &mut Vec<&'a Term>,
-    added_up: &mut Vec<Shared<Partial>>,
 ) -> Result<Shared<Partial>, ShardFault>
-    requires known { ArePartialsOf streams.old requests.now (map (λ one. one.now) known.old.items) t added_up.old.items }
+    requires kept { AreKept streams.old requests.now kept.old }
     ensures same { Looks streams.old streams.new }
     ensures meets { IfErr result IsOfReading }
     ensures cause { IfErr result (λ fault. HasCause streams.old fault streams.new) }
     ensures found { IfOk result (IsPartialOf streams.old requests.now term.now t) }
-    ensures known { OnOk result (ArePartialsOf streams.new requests.now (map (λ one. one.now) known.new.items) t added_up.new.items) }
+    ensures kept { AreKept streams.new requests.now kept.new }
 {
-    if let Some(place) = place_of(known, term) {
-        return Ok(added_up[place].try_copy()?);
+    if let Some(partial) = kept.partial_of(&term.range, t)? {
+        return Ok(partial);
     }
-    let place = known.len();
-    add_term(alloc, streams, requests, term, behind, t, known, added_up)?;
-    Ok(added_up[place].try_copy()?)
+    let terms = alike(alloc, term, behind)?;
+    let counted = add_up(alloc, streams, requests, term, &terms, t, kept.reach(t))?;
+    let partials = shared(alloc, counted.partials)?;
+    keep_all(kept, &terms, t, counted.lasts, &partials)?;
+    Ok(partials[0].try_copy()?)
 }
 
-// Puts a term behind the known ones, with what its range adds up to, and those of the terms behind that read the same lines.
-fn add_term<'a, S: Store>(
-    alloc: Global,
-    streams: &mut Streams<S>,
-    requests: &Requests,
-    term: &'a Term,
-    behind: &'a [Term],
-    t: Ns,
-    known: &mut Vec<&'a Term>,
-    added_up: &mut Vec<Shared<Partial>>,
-) -> Result<(), ShardFault>
-    requires known { ArePartialsOf streams.old requests.now (map (λ one. one.now) known.old.items) t added_up.old.items }
-    ensures same { Looks streams.old streams.new }
-    ensures meets { IfErr result IsOfReading }
-    ensures cause { IfErr result (λ fault. HasCause streams.old fault streams.new) }
-    ensures known { OnOk result (ArePartialsOf streams.new requests.now (map (λ one. one.now) known.new.items) t added_up.new.items) }
-    ensures place { OnOk result (option_map (λ one. one.now.range) (slice_get known.new.items (length known.old.items)) ≡ Some term.now.range) }
+// Keeps what the ranges of terms add up to at a moment and so long behind it.
+fn keep_all(
+    kept: &mut KeptRanges,
+    terms: &[&Term],
+    first: Ns,
+    lasts: u64,
+    partials: &[Shared<Partial>],
+) -> Result<(), AllocError>
+    requires each { length partials.now ≡ length terms.now }
+    ensures { (streams : StreamsView) (requests : RequestsView) → AreKept streams requests kept.old → AllZip (λ term. StandsFor streams requests term.now.range first lasts) terms.now partials.now → AreKept streams requests kept.new }
 {
-    let group = alike(alloc, term, behind)?;
-    let partials = add_up(alloc, streams, requests, term, &group, t)?;
-    push_terms(known, &group)?;
-    push_shared(added_up, alloc, partials)?;
+    for (index, term) in terms.iter().enumerate() {
+        kept.keep(&term.range, first, lasts, partials[index].try_copy()?)?;
+    }
     Ok(())
 }
 
-// Where a known term has the range of a term, if one has.
-fn place_of(known: &[&Term], term: &Term) -> Option<usize>
-    ensures { option_map (λ place. option_map (λ one. one.now.range) (slice_get known.now place)) result ≡ option_map (λ _. Some term.now.range) result }
-{
-    known.iter().position(|one| one.range.is_same(&term.range))
-}
-
-// What the entries in the ranges of terms add up to, which read the same lines as the first of them.
+// What the entries in the ranges of terms add up to at a moment, which read the same lines as the first of them, and for how
+// long behind it.
 fn add_up<S: Store>(
     alloc: Global,
     streams: &mut Streams<S>,
@@ -126,24 +116,34 @@ fn add_up<S: Store>(
     first: &Term,
     terms: &[&Term],
     t: Ns,
-) -> Result<Vec<Partial>, ShardFault>
-    requires { AllByRecursion (λ term. IsAlike first.now term.now) terms.now }
+    to: Ns,
+) -> Result<Counted, ShardFault>
+    requires alike { AllByRecursion (λ term. IsAlike first.now term.now) terms.now }
+    requires to { t ≤ to }
     ensures same { Looks streams.old streams.new }
     ensures meets { IfErr result IsOfReading }
     ensures cause { IfErr result (λ fault. HasCause streams.old fault streams.new) }
-    ensures partials { IfOk result (λ partials. ArePartialsOf streams.old requests.now (map (λ term. term.now) terms.now) t partials.items) }
+    ensures partials { IfOk result (λ counted. (u : ℕ) → t ≤ u → u ≤ t + counted.lasts → ArePartialsOf streams.old requests.now (map (λ term. term.now) terms.now) u counted.partials.items) }
 {
     let pipelines = pipelines_of(alloc, terms)?;
     show_few(streams, requests);
     let counter = Counter::new(alloc, &pipelines, streams.limits().entries)?;
-    let mut lines = Lines { counter, requests };
+    let mut lines = Lines {
+        counter,
+        requests,
+        range: first.range.seconds * SECOND,
+        t,
+        lasts: to.get() - t.get(),
+    };
     let start = start_of(first.range.seconds, t);
-    streams.each(&first.range.selector.matchers, start, t, &mut lines)?;
+    streams.each(&first.range.selector.matchers, start, to, &mut lines)?;
     if lines.counter.is_over() {
         // More lines, or longer ones, than entries are held: the store lies.
         return Err(ShardFault::Damaged);
     }
-    Ok(lines.counter.partials(alloc)?)
+    let lasts = lines.lasts;
+    let partials = lines.counter.partials(alloc)?;
+    Ok(Counted { partials, lasts })
 }
 
 // Shows contracts that no more is held than may be, nor is shown.
@@ -195,29 +195,19 @@ fn is_alike(term: &Term, other: &Term) -> bool
     other.range.seconds == term.range.seconds && other.range.selector.is_same(&term.range.selector)
 }
 
-// Whether none of the terms has the range.
+// Whether none of the terms has the range, which reads the same lines as theirs: so it can differ in its stages alone.
 fn is_new(terms: &[&Term], range: &LogRange) -> bool {
-    !terms.iter().any(|term| term.range.is_same(range))
+    !terms
+        .iter()
+        .any(|term| term.range.stages.is_same(&range.stages))
 }
 
-fn push_terms<'a>(known: &mut Vec<&'a Term>, others: &[&'a Term]) -> Result<(), AllocError>
-    ensures { OnOk result (known.new.items ≡ known.old.items ++ others.now) }
+fn shared(alloc: Global, partials: Vec<Partial>) -> Result<Vec<Shared<Partial>>, AllocError>
+    ensures { IfOk result (λ shared. shared.items ≡ partials.items) }
 {
-    for other in others {
-        known.push(other)?;
-    }
-    Ok(())
-}
-
-fn push_shared(
-    added_up: &mut Vec<Shared<Partial>>,
-    alloc: Global,
-    partials: Vec<Partial>,
-) -> Result<(), AllocError>
-    ensures { OnOk result (added_up.new.items ≡ added_up.old.items ++ partials.items) }
-{
+    let mut shared = Vec::with_capacity(alloc, partials.len())?;
     for partial in partials {
-        added_up.push(Shared::new(alloc, partial)?)?;
+        shared.push(Shared::new(alloc, partial)?)?;
     }
-    Ok(())
+    Ok(shared)
 }

@@ -6,11 +6,13 @@ ghost use Rattle.rl_shard.specs.Collecting.{AreRead};
 ghost use Rattle.rl_shard.specs.ShardFault.{HasCause, IsDone, Stored, may_meet, refused};
 ghost use Rattle.rl_shard.specs.ShardState.{state_of};
 ghost use Rattle.rl_shard.specs.ShardStep.{stepped, IsAnswered, IsReply};
+ghost use Rattle.rl_shard.specs.Standing.{AreKept};
 ghost use Rattle.rl_shard.specs.declared.step.ShardFault.TheVariants as faults;
 ghost use Rattle.rl_shard.specs.declared.step.ShardStep.TheVariants as steps;
 
 use crate::collecting::collect;
 use crate::deleting::{cancel, delete, process, retain};
+use crate::kept::KeptRanges;
 use crate::step::{ShardFault, ShardReply, ShardStep};
 use rl_chunks::Store;
 use rl_deletes::{Horizon, Requests};
@@ -19,15 +21,19 @@ use rl_plain::Shared;
 use rl_streams::{AddRefusal, Streams};
 use std::alloc::Global;
 
-// Decides a step over streams, under requests and behind a horizon.
+// Decides a step over streams, under requests and behind a horizon. A step that may change what is shown makes that what is kept
+// of ranges no longer stands.
 pub(crate) fn decide<S: Store>(
     alloc: Global,
     streams: &mut Streams<S>,
     requests: &mut Requests,
     horizon: &mut Horizon,
+    kept: &mut KeptRanges,
     step: ShardStep,
 ) -> Result<ShardReply, ShardFault>
-    requires { streams.old.next ≤ greatest }
+    requires numbers { streams.old.next ≤ greatest }
+    requires ranges { AreKept streams.old requests.old kept.old }
+    ensures ranges { AreKept streams.new requests.new kept.new }
     ensures numbers { streams.new.next ≤ greatest }
     ensures meets { IfErr result (λ fault. IsTrue (may_meet step fault) × (fault ≡ faults.JournalFull → ⊥)) }
     ensures cause { IfErr result (λ fault. HasCause streams.old fault streams.new) }
@@ -42,12 +48,17 @@ pub(crate) fn decide<S: Store>(
     ensures changed { streams.old.seen.honest ≡ true → OnOk result (state_of streams.new requests.new horizon.new ≡ stepped streams.old.limits (state_of streams.old requests.old horizon.old) step) }
 {
     match step {
-        ShardStep::Push(entry) => push(streams, requests, horizon.moment(), entry),
+        ShardStep::Push(entry) => {
+            kept.push(entry.get().timestamp);
+            push(streams, requests, horizon.moment(), entry)
+        }
         ShardStep::Cut => {
+            kept.forget();
             streams.cut()?;
             Ok(ShardReply::Done)
         }
         ShardStep::Flush => {
+            kept.forget();
             streams.flush()?;
             Ok(ShardReply::Done)
         }
@@ -57,12 +68,24 @@ pub(crate) fn decide<S: Store>(
             start,
             end,
             created,
-        } => delete(requests, id, sieve, start, end, created),
-        ShardStep::Cancel { id } => Ok(cancel(requests, id)),
-        ShardStep::Process { id, now } => process(streams, requests, id, now),
-        ShardStep::Retain { now } => retain(streams, horizon, now),
+        } => {
+            kept.forget();
+            delete(requests, id, sieve, start, end, created)
+        }
+        ShardStep::Cancel { id } => {
+            kept.forget();
+            Ok(cancel(requests, id))
+        }
+        ShardStep::Process { id, now } => {
+            kept.forget();
+            process(streams, requests, id, now)
+        }
+        ShardStep::Retain { now } => {
+            kept.forget();
+            retain(streams, horizon, now)
+        }
         ShardStep::Collect { slot: _, terms, t } => {
-            let partials = collect(alloc, streams, requests, terms.get().as_slice(), t)?;
+            let partials = collect(alloc, streams, requests, kept, terms.get().as_slice(), t)?;
             Ok(ShardReply::Collected(partials))
         }
     }

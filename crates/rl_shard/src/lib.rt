@@ -4,12 +4,13 @@
 //! says, where its store is honest. A step that is refused for a fault changes nothing of what is held, over any store.
 //!
 //! - `step`: `ShardStep`, `ShardReply`, `ShardFault`. `shard`: `Shard`. `deciding`, with `deleting`: what becomes of each step. `collecting`, with
-//!   `lines`: what it shows of the ranges of terms. `sending`: a probe for what may cross to another thread.
+//!   `lines` and `kept`: what it shows of the ranges of terms. `sending`: a probe for what may cross to another thread.
 #![tactic(auto)]
 
 mod collecting;
 mod deciding;
 mod deleting;
+mod kept;
 mod lines;
 pub mod sending;
 pub mod shard;

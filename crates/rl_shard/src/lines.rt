@@ -1,5 +1,5 @@
 //! What counts the lines that streams hand out.
-ghost use Rattle.std.specs.Prelude.{if◌then◌else◌};
+ghost use Rattle.std.specs.Prelude.{◌-◌, if◌then◌else◌, min, nat_le, nat_lt};
 ghost use Rattle.rl_aggregate.specs.Counter.{counted_line};
 ghost use Rattle.rl_deletes.specs.Deletes.{covered_line};
 
@@ -9,20 +9,31 @@ use rl_labels::{Labels, Ns};
 use rl_parts::Taker;
 use std::alloc::AllocError;
 
-// Counts each line that it is handed, but for those that a received request covers.
+// Counts each line that it is handed of the window of so many nanoseconds that ends at a moment, but for those that a received
+// request covers. The windows that end at most so long behind the moment have the same lines of all that were handed out.
 #[derive(Drop)]
 pub(crate) struct Lines<'a, 'b> {
     pub(crate) counter: Counter<'a>,
     pub(crate) requests: &'b Requests,
+    pub(crate) range: u64,
+    pub(crate) t: Ns,
+    pub(crate) lasts: u64,
 }
 
 impl<'a, 'b> Taker for Lines<'a, 'b> {
-    ghost taking = { λ lines line. if covered_line lines.requests.now line.0 line.1.timestamp line.1.text then lines else record { counter = counted_line line.0 line.1.text lines.counter; requests = lines.requests } };
+    ghost taking = { λ lines line. if nat_lt lines.t line.1.timestamp then record { counter = lines.counter; requests = lines.requests; range = lines.range; t = lines.t; lasts = min lines.lasts (line.1.timestamp - lines.t - 1) } else (if nat_le lines.range (lines.t - line.1.timestamp) then lines else (if covered_line lines.requests.now line.0 line.1.timestamp line.1.text then lines else record { counter = counted_line line.0 line.1.text lines.counter; requests = lines.requests; range = lines.range; t = lines.t; lasts = min lines.lasts (lines.range - (lines.t - line.1.timestamp) - 1) })) };
 
     fn take(&mut self, labels: &Labels, timestamp: Ns, text: &str) -> Result<(), AllocError> {
-        if self.requests.covers_line(labels, timestamp, text)? {
+        if timestamp > self.t {
+            let ahead = timestamp.get() - self.t.get();
+            self.lasts = self.lasts.min(ahead - 1);
             return Ok(());
         }
+        let age = self.t.get() - timestamp.get();
+        if age >= self.range || self.requests.covers_line(labels, timestamp, text)? {
+            return Ok(());
+        }
+        self.lasts = self.lasts.min(self.range - age - 1);
         self.counter.count(labels, text)
     }
 }

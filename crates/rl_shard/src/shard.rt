@@ -3,6 +3,7 @@ ghost use Rattle.std.specs.Prelude.{◌≡◌, ◌+◌, ◌≤◌, IsTrue, Err, 
 
 use crate::collecting::show_few;
 use crate::deciding::decide;
+use crate::kept::KeptRanges;
 use crate::step::{ShardFault, ShardReply, ShardStep};
 use rl_chunks::Store;
 use rl_deletes::{Horizon, Requests};
@@ -19,6 +20,8 @@ pub struct Shard<S: Store> {
     requests: Requests,
     horizon: Horizon,
     records: u64,
+    // What the ranges add up to that were asked for last.
+    kept: KeptRanges,
 }
 
 impl<S: Store> Model for Shard<S> {
@@ -32,8 +35,9 @@ impl<S: Store> Model for Shard<S> {
     ghost view = { λ a. record { streams = a.streams; requests = a.requests; horizon = a.horizon; records = a.records } };
 
     ghost use Rattle.rl_chunks.specs.StoreState.{greatest};
+    ghost use Rattle.rl_shard.specs.Standing.{AreKept};
 
-    ghost invariant = { λ a. (a.records ≤ a.streams.limits.records) × (a.streams.next ≤ greatest) };
+    ghost invariant = { λ a. (a.records ≤ a.streams.limits.records) × ((a.streams.next ≤ greatest) × AreKept a.streams a.requests a.kept) };
 }
 
 impl<S: Store> Shard<S> {
@@ -55,6 +59,7 @@ impl<S: Store> Shard<S> {
             streams: Streams::new(alloc, store, limits),
             horizon: Horizon::first(),
             records: 0,
+            kept: KeptRanges::new(alloc, Horizon::first().moment()),
         }
     }
 
@@ -110,6 +115,7 @@ impl<S: Store> Shard<S> {
             &mut self.streams,
             &mut self.requests,
             &mut self.horizon,
+            &mut self.kept,
             step,
         )?;
         let place = self.records;

@@ -15,7 +15,7 @@ loop-index-preserved g c =
     record {
       looks = looks_then c.args.streams.now now new c.loop-index.invariant.looks look;
       partials = subst (ArePartialsOf new requests (take (c.loop-index.index + 1) terms) c.args.t) (sym c.in_ok-push.ensures.items) (same_of requests now new (take (c.loop-index.index + 1) terms) c.args.t (c.loop-index.partials.items ++ c.in_ok-partial.partial ∷ []) look so_far);
-      known = c.in_ok-partial.ensures.known;
+      kept = c.next_partial.ensures.kept;
     }
 
 pub returns-clause-partials : goal.returns-clause-partials
