@@ -1,5 +1,6 @@
 pub mod Absences
 pub mod Counters
+pub mod Crossing
 pub mod Dividing
 pub mod Grouped
 pub mod Kept

@@ -8,7 +8,7 @@ ghost use Rattle.std.specs.List.{AllByRecursion, list_all};
 ghost use Rattle.std.specs.Option.{option_copied};
 
 use crate::editing::alerts_edited;
-use crate::evaluating::{Slot, evaluate, terms_of_group};
+use crate::evaluating::{RuleMemory, Slot, evaluate, terms_of_group};
 use crate::fault::{BookError, BookFault};
 use crate::item::Item;
 use crate::offering::{catch_up_all, offer_all};
@@ -18,7 +18,7 @@ use rl_aggregate::Partial;
 use rl_labels::Ns;
 use rl_plain::{PlainList, Shared, TryCopy};
 use rl_query::Term;
-use rl_rules::{Alert, Evaluation, Group, Namer};
+use rl_rules::{Alert, Evaluation, Group};
 use rl_sinks::Sink;
 use std::alloc::{AllocError, Global};
 use std::marker::Model;
@@ -38,8 +38,8 @@ pub struct Book<S: Sink> {
     records: u64,
     // What the history left to each rule.
     alerts: Vec<PlainList<Alert>>,
-    // What gives the elements of each rule their final label sets.
-    namers: Vec<Namer>,
+    // What is kept for each rule from one evaluation to the next.
+    memories: Vec<RuleMemory>,
     // Edits and evaluations in order, and the evaluations alone.
     items: Vec<Item>,
     evaluations: Vec<Shared<Evaluation>>,
@@ -103,7 +103,7 @@ impl<S: Sink> Book<S> {
             shards,
             records,
             alerts: Vec::new(alloc),
-            namers: Vec::new(alloc),
+            memories: Vec::new(alloc),
             items: Vec::new(alloc),
             evaluations: Vec::new(alloc),
             opened: None,
@@ -203,9 +203,9 @@ impl<S: Sink> Book<S> {
         ensures err { OnErr result (self.new ≡ self.old) }
     {
         let number = self.evaluations.len() as u64;
-        let mut namers = mem::replace(&mut self.namers, Vec::new(self.alloc));
-        let evaluated = self.evaluated(&mut namers);
-        self.namers = namers;
+        let mut memories = mem::replace(&mut self.memories, Vec::new(self.alloc));
+        let evaluated = self.evaluated(&mut memories);
+        self.memories = memories;
         let (evaluation, told, alerts) = evaluated?;
         let item = Item::Evaluated(evaluation.try_copy()?);
         let mut behind = Vec::with_capacity(self.alloc, self.sinks.len())?;
@@ -225,7 +225,7 @@ impl<S: Sink> Book<S> {
     // The evaluation that a commit adds, its copy for the caller, and the alerts that it leaves to the rules.
     fn evaluated(
         &self,
-        namers: &mut Vec<Namer>,
+        memories: &mut Vec<RuleMemory>,
     ) -> Result<
         (
             Shared<Evaluation>,
@@ -253,7 +253,7 @@ impl<S: Sink> Book<S> {
             terms,
             &self.alerts,
             opened,
-            namers,
+            memories,
         )?;
         let told = evaluation.try_copy()?;
         Ok((evaluation, told, alerts))

@@ -12,7 +12,7 @@ ghost use Rattle.rl_world.specs.Kept.{evaluation_from, merged_from, merged_terms
 ghost use Rattle.rl_world.specs.Slots.{IsKept, HasTerm, most_shards};
 
 use crate::opened::{Gathered, OpenEvaluation};
-use rl_aggregate::{Partial, finish, merge};
+use rl_aggregate::{Finisher, Partial, merge};
 use rl_labels::Ns;
 use rl_plain::{PlainList, Shared, TryCopy};
 use rl_query::{Query, Term};
@@ -21,6 +21,13 @@ use std::alloc::{AllocError, Global};
 
 /// What a book has of each shard: the partials of the group's terms, once the shard was asked.
 pub(crate) type Slot = Option<Gathered<PlainList<Shared<Partial>>>>;
+
+/// What is kept for a rule from one evaluation to the next: the outcome of its query and the final label sets.
+#[derive(Drop)]
+pub(crate) struct RuleMemory {
+    finisher: Finisher,
+    namer: Namer,
+}
 
 /// The terms of the group's rules, in their order.
 pub(crate) fn terms_of_group(
@@ -40,15 +47,15 @@ pub(crate) fn terms_of_group(
     Ok(terms)
 }
 
-/// The evaluation of the group, which has so many terms and whose rules have these alerts, and the alerts that it leaves. The
-/// namers, one for each rule, share final label sets with the evaluation before.
+/// The evaluation of the group, which has so many terms and whose rules have these alerts, and the alerts that it leaves. There
+/// is a memory for each rule.
 pub(crate) fn evaluate(
     alloc: Global,
     group: &Group,
     terms: usize,
     alerts: &[PlainList<Alert>],
     opened: &OpenEvaluation<PlainList<Shared<Partial>>>,
-    namers: &mut Vec<Namer>,
+    memories: &mut Vec<RuleMemory>,
 ) -> Result<(Shared<Evaluation>, Vec<PlainList<Alert>>), AllocError>
     requires terms { terms ≡ length (group_terms group.now) }
     requires shards { length opened.now.gathered ≤ most_shards }
@@ -57,7 +64,7 @@ pub(crate) fn evaluate(
     ensures alerts { IfOk result (λ made. made.1.items ≡ alerts_then alerts.now made.0.outcomes) }
 {
     let slots = opened.gathered.as_slice();
-    let (outcomes, left) = group_results(alloc, group, terms, opened.t, alerts, slots, namers)?;
+    let (outcomes, left) = group_results(alloc, group, terms, opened.t, alerts, slots, memories)?;
     let places = places(alloc, slots)?;
     let name = group.name.try_copy()?;
     let evaluation = Evaluation {
@@ -78,7 +85,7 @@ fn group_results(
     t: Ns,
     alerts: &[PlainList<Alert>],
     slots: &[Slot],
-    namers: &mut Vec<Namer>,
+    memories: &mut Vec<RuleMemory>,
 ) -> Result<(Vec<RuleResult>, Vec<PlainList<Alert>>), AllocError>
     requires terms { terms ≡ length (group_terms group.now) }
     requires shards { length slots.now ≤ most_shards }
@@ -90,11 +97,11 @@ fn group_results(
     if let [slot] = slots {
         if let Some(answer) = slot {
             let partials = answer.shown.as_slice();
-            return results(alloc, group.limit, t, rules, alerts, partials, namers);
+            return results(alloc, group.limit, t, rules, alerts, partials, memories);
         }
     }
     let partials = merged_terms(alloc, slots, terms)?;
-    results(alloc, group.limit, t, rules, alerts, &partials, namers)
+    results(alloc, group.limit, t, rules, alerts, &partials, memories)
 }
 
 // Where the journals of the shards that were asked have the question.
@@ -168,7 +175,7 @@ fn results(
     rules: &[Rule],
     alerts: &[PlainList<Alert>],
     partials: &[Shared<Partial>],
-    namers: &mut Vec<Namer>,
+    memories: &mut Vec<RuleMemory>,
 ) -> Result<(Vec<RuleResult>, Vec<PlainList<Alert>>), AllocError>
     requires terms { length partials.now ≡ length (flat_map (λ rule. terms_of rule.query) rules.now) }
     requires limited { AllByRecursion IsLimited partials.now }
@@ -180,11 +187,11 @@ fn results(
     let none = PlainList::new(alloc);
     let mut rest = partials;
     let mut known = alerts;
-    fill(alloc, namers, rules.len())?;
+    fill(alloc, memories, rules.len())?;
     for (index, rule) in rules.iter().enumerate() {
         let (own, others) = rest.split_at(count_terms(&rule.query));
         let (had, behind) = first_alerts(known, &none);
-        let (result, kept) = result_of(alloc, limit, t, rule, had, own, &mut namers[index])?;
+        let (result, kept) = result_of(alloc, limit, t, rule, had, own, &mut memories[index])?;
         results.push(result)?;
         left.push(kept)?;
         rest = others;
@@ -193,12 +200,15 @@ fn results(
     Ok((results, left))
 }
 
-// Adds namers until there are so many.
-fn fill(alloc: Global, namers: &mut Vec<Namer>, count: usize) -> Result<(), AllocError>
-    ensures { OnOk result (count ≤ length namers.new.items) }
+// Adds memories until there are so many.
+fn fill(alloc: Global, memories: &mut Vec<RuleMemory>, count: usize) -> Result<(), AllocError>
+    ensures { OnOk result (count ≤ length memories.new.items) }
 {
-    for _ in namers.len()..count {
-        namers.push(Namer::new(alloc))?;
+    for _ in memories.len()..count {
+        memories.push(RuleMemory {
+            finisher: Finisher::new(),
+            namer: Namer::new(alloc),
+        })?;
     }
     Ok(())
 }
@@ -233,16 +243,16 @@ fn result_of(
     rule: &Rule,
     alerts: &PlainList<Alert>,
     partials: &[Shared<Partial>],
-    namer: &mut Namer,
+    memory: &mut RuleMemory,
 ) -> Result<(RuleResult, PlainList<Alert>), AllocError>
     requires terms { length partials.now ≡ length (terms_of rule.now.query) }
     requires limited { AllByRecursion IsLimited partials.now }
     ensures result { IfOk result (λ made. made.0 ≡ result_of limit t rule.now alerts.now (finished rule.now.query partials.now)) }
     ensures left { IfOk result (λ made. made.1 ≡ alerts_left alerts.now made.0.outcome) }
 {
-    let outcome = finish(alloc, &rule.query, partials)?;
+    let outcome = memory.finisher.finish(alloc, &rule.query, partials)?;
     let had = alerts.try_copy()?;
-    let (left, outcome) = step_rule(rule, limit, had, outcome, namer, t)?;
+    let (left, outcome) = step_rule(rule, limit, had, outcome, &mut memory.namer, t)?;
     let name = rule.name.try_copy()?;
     let annotations = rule.annotations.try_copy()?;
     let result = RuleResult {

@@ -1,6 +1,6 @@
--- There is a namer for each turn.
+-- There is a memory for each turn.
 use Rattle.std.proofs.Common.{◌≤◌, length}
 use Rattle.rl_world.proofs.evaluating.fill.Given as goal
 
 abbrev pub invariant-loop : goal.invariant-loop
-invariant-loop l = l.counter ≤ length l.namers.items
+invariant-loop l = l.counter ≤ length l.memories.items
