@@ -1,5 +1,5 @@
 -- Label sets with their final ones.
-use Rattle.std.proofs.Common.{◌≡◌, ℕ, zero, suc, ◌<◌, List, [], ◌∷◌, ◌++◌, length, get_or, arith}
+use Rattle.std.proofs.Common.{◌≡◌, ℕ, zero, suc, ◌<◌, List, [], ◌∷◌, ◌++◌, length, get_or, take, arith}
 use Rattle.rl_labels.specs.LabelSet.{LabelSet}
 use Rattle.rl_rules.specs.Naming.{Naming, AreFinal, final_by}
 
@@ -11,3 +11,9 @@ pub final_at : (naming : Naming) (pairs : List (LabelSet × LabelSet)) (i : ℕ)
 final_at naming [] i d are lt = absurd (omega (arith, lt))
 final_at naming (p ∷ pairs) zero d are lt = are.0
 final_at naming (p ∷ pairs) (suc i) d are lt = final_at naming pairs i d are.1 (omega (arith, lt))
+
+pub final_take : (naming : Naming) (pairs : List (LabelSet × LabelSet)) (n : ℕ) → AreFinal naming pairs → AreFinal naming (take n pairs)
+final_take naming [] zero are = tt
+final_take naming [] (suc n) are = tt
+final_take naming (p ∷ pairs) zero are = tt
+final_take naming (p ∷ pairs) (suc n) are = (are.0, final_take naming pairs n are.1)

@@ -86,19 +86,59 @@ impl Namer {
         ensures same { self.new ≡ self.old }
         ensures named { IfOk result (λ named. named ≡ final_by self.old labels.now) }
     {
+        if let Some(named) = self.as_before(labels)? {
+            return Ok(named);
+        }
         self.place = first_from(&self.known, self.place, labels);
         let known = known_at(&self.known, self.place, labels)?;
+        self.place = self.place.saturating_add(known.is_some() as usize);
         let named = known_or_made(known, self.kind, &self.name, &self.labels, labels)?;
         self.fresh.push((labels.try_copy()?, named.try_copy()?))?;
         Ok(named)
+    }
+
+    // The same where all elements so far are those of the last evaluation, which stay where they are then.
+    fn as_before(&mut self, labels: &Labels) -> Result<Option<Labels>, AllocError>
+        ensures same { self.new ≡ self.old }
+        ensures named { IfOk result (λ found. IfSome found (λ named. named ≡ final_by self.old labels.now)) }
+    {
+        if !self.fresh.is_empty() {
+            return Ok(None);
+        }
+        let known = known_at(&self.known, self.place, labels)?;
+        if known.is_some() {
+            self.place = self.place.saturating_add(1);
+            return Ok(known);
+        }
+        push_first(&mut self.fresh, &self.known, self.place)?;
+        Ok(None)
     }
 
     // What was not asked for since it began goes.
     pub(crate) fn end(&mut self)
         ensures { self.new ≡ self.old }
     {
-        mem::swap(&mut self.known, &mut self.fresh);
+        if self.fresh.is_empty() {
+            self.known.truncate(self.place);
+        } else {
+            mem::swap(&mut self.known, &mut self.fresh);
+        }
     }
+}
+
+// Adds copies of the first known pairs, up to a place.
+fn push_first(
+    fresh: &mut Vec<(Labels, Labels)>,
+    known: &[(Labels, Labels)],
+    place: usize,
+) -> Result<(), AllocError>
+    ensures { (naming : Naming) → AreFinal naming known.now → AreFinal naming fresh.old.items → AreFinal naming fresh.new.items }
+{
+    let first = &known[..place.min(known.len())];
+    for pair in first {
+        fresh.push((pair.0.try_copy()?, pair.1.try_copy()?))?;
+    }
+    Ok(())
 }
 
 // The first place, of those from one on, whose label set is no lesser one.
