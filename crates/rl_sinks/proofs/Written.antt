@@ -1,5 +1,5 @@
 -- What a writer got, step by step.
-use Rattle.std.proofs.Common.{◌≡◌, ◌≢◌, Bool, true, false, ℕ, ◌+◌, ◌-◌, ◌<◌, ◌≤◌, List, [], ◌++◌, length, take, drop, get_or, Option, None, Some, Result, Ok, Err, OnOk, OnErr, sym, ap, subst, ◌∙◌, refl, arith, append_assoc, length-append}
+use Rattle.std.proofs.Common.{◌≡◌, ◌≢◌, Bool, true, false, ℕ, zero, suc, ◌∷◌, slice_index_or, ◌+◌, ◌-◌, ◌<◌, ◌≤◌, List, [], ◌++◌, length, take, drop, get_or, Option, None, Some, Result, Ok, Err, OnOk, OnErr, sym, ap, subst, ◌∙◌, refl, arith, append_assoc, length-append}
 use Rattle.std.proofs.lemmas.List.{get_or_append_left, take-append-drop, append-nil, take_all, drop-append-le, drop_more, length-drop}
 use Rattle.std.specs.List.{flat_map}
 use Rattle.std.specs.Io.KnownBytes.{Appends, Keeps}
@@ -107,3 +107,12 @@ wanted_left ended texts count next next_after part_after piece within read same 
 pub piece_within : (ended : Bool) (texts : List (List ℕ)) (count i : ℕ) → i < length (pieces ended texts count) → i < length (pieces true texts count)
 piece_within false texts count i within = omega (arith, within, length-append texts (end_pieces count))
 piece_within true texts count i within = within
+
+fits_behind : (xs ys : List (List ℕ)) (n p : ℕ) → p ≤ length (slice_index_or xs n []) → p ≤ length (slice_index_or (xs ++ ys) n [])
+fits_behind [] ys n p f = omega (arith, f)
+fits_behind (x ∷ xs) ys zero p f = f
+fits_behind (x ∷ xs) ys (suc n) p f = fits_behind xs ys n p f
+
+-- a place among pieces is one with more behind them
+pub place_behind : (xs ys : List (List ℕ)) (n p : ℕ) → IsPlace xs n p → IsPlace (xs ++ ys) n p
+place_behind xs ys n p is = record { within = let within = is.within in omega (arith, within, length-append xs ys); fits = fits_behind xs ys n p is.fits }

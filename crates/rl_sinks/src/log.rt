@@ -1,16 +1,16 @@
 //! Texts that are all kept, and written to a writer.
-ghost use Rattle.std.specs.Prelude.{◌≡◌, ◌+◌, ◌<◌, ◌^◌, length, true, IsTrue, OnOk, OnErr, IfErr, slice_get};
+ghost use Rattle.std.specs.Prelude.{◌≡◌, ◌+◌, ◌<◌, ◌^◌, length, true, IsTrue, IfOk, OnOk, OnErr, IfErr, slice_get, string_bytes};
 ghost use Rattle.std.specs.Option.{option_copied};
 ghost use Rattle.rl_sinks.specs.Pieces.{Writes};
 ghost use Rattle.rl_sinks.specs.Texts.{evaluation_text};
 ghost use Rattle.rl_sinks.specs.declared.sink.SinkFault.TheVariants as faults;
 
 use crate::sink::{SinkFault, SinkKind};
-use crate::text::evaluation_text;
+use crate::text::text_with_room;
 use crate::writing::write_rest;
 use rl_plain::PlainText;
 use rl_rules::Evaluation;
-use std::alloc::Global;
+use std::alloc::{AllocError, Global};
 use std::io::Write;
 use std::marker::Model;
 
@@ -96,7 +96,7 @@ impl<W: Write + Drop> TextLog<W> {
         if self.texts.len() - self.next >= self.cap {
             return Err(SinkFault::Full);
         }
-        let text = evaluation_text(*self.texts.allocator(), kind, evaluation)?;
+        let text = next_text(&self.texts, kind, evaluation)?;
         self.texts.push(PlainText::from_string(text))?;
         Ok(())
     }
@@ -153,4 +153,16 @@ impl<W: Write + Drop> Drop for TextLog<W> {
             refusals,
         } = self;
     }
+}
+
+// The evaluation's text, which is mostly as long as the last one.
+fn next_text(
+    texts: &Vec<PlainText>,
+    kind: SinkKind,
+    evaluation: &Evaluation,
+) -> Result<String, AllocError>
+    ensures { IfOk result (λ text. string_bytes text ≡ evaluation_text kind evaluation.now) }
+{
+    let room = texts.last().map_or(0, |text| text.len());
+    text_with_room(*texts.allocator(), kind, evaluation, room)
 }

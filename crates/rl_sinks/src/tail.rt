@@ -3,7 +3,7 @@ ghost use Rattle.std.specs.Prelude.{◌≡◌, ◌+◌, ◌<◌, ◌^◌, IfOk, 
 ghost use Rattle.rl_sinks.specs.Pieces.{Writes};
 
 use crate::sink::{Sink, SinkFault, SinkKind};
-use crate::text::evaluation_text;
+use crate::text::text_with_room;
 use crate::writing::write_rest;
 use circular_buffer::HeapCircularBuffer;
 use rl_plain::PlainText;
@@ -68,7 +68,8 @@ impl<W: Write + Drop> Tail<W> {
         if self.closed {
             return Err(SinkFault::Refused(1));
         }
-        let text = evaluation_text(*self.kept.allocator(), SinkKind::Tail, evaluation)?;
+        let room = self.kept.back().map_or(0, |text| text.len());
+        let text = text_with_room(*self.kept.allocator(), SinkKind::Tail, evaluation, room)?;
         self.kept.push_back(PlainText::from_string(text));
         self.count += 1;
         Ok(())

@@ -13,6 +13,10 @@ pub(crate) trait TextTarget {
     // The bytes that it holds, where they are known.
     ghost contents: { Self → Option (List ℕ) };
 
+    /// Takes a piece that is there as text, at less cost than `write!`.
+    fn put(&mut self, piece: &str) -> Result<(), Self::Error>
+        ensures { OnOk result (Appends (contents self.old) (contents self.new) piece.now) };
+
     /// What `write!` calls.
     fn write_fmt<D: Display + Drop>(&mut self, piece: D) -> Result<(), Self::Error>
         ensures { OnOk result (IfSome (D.output piece) (Appends (contents self.old) (contents self.new))) };
@@ -23,6 +27,10 @@ impl<W: Write> TextTarget for W {
     type Error = io::Error;
 
     ghost contents = { W.contents };
+
+    fn put(&mut self, piece: &str) -> io::Result<()> {
+        self.write_all(piece.as_bytes())
+    }
 
     fn write_fmt<D: Display + Drop>(&mut self, piece: D) -> io::Result<()> {
         Write::write_fmt(self, piece)
@@ -39,6 +47,10 @@ impl TextTarget for InMemory {
     type Error = AllocError;
 
     ghost contents = { λ target. Some (string_bytes target.text) };
+
+    fn put(&mut self, piece: &str) -> Result<(), AllocError> {
+        self.text.push_str(piece)
+    }
 
     fn write_fmt<D: Display + Drop>(&mut self, piece: D) -> Result<(), AllocError> {
         self.text.write_fmt(piece)

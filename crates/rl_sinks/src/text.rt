@@ -1,5 +1,6 @@
 //! The text of an evaluation for each kind of sink.
 ghost use Rattle.std.specs.Prelude.{◌≡◌, IfOk, OnOk, string_bytes};
+ghost use Rattle.std.specs.Fmt.{decimal};
 ghost use Rattle.std.specs.List.{flat_map};
 ghost use Rattle.std.specs.Io.KnownBytes.{Appends};
 ghost use Rattle.rl_sinks.specs.Texts.{evaluation_text, recorder_text, notifier_text, tail_text, recorded_lines, notified_lines, tail_lines, recorded_line, notified_line, tail_line, alert_line, failed_line, sample_text, alert_text, is_notified, phase_text, value_text, cause_text};
@@ -22,8 +23,20 @@ pub fn evaluation_text(
 ) -> Result<String, AllocError>
     ensures { IfOk result (λ text. string_bytes text ≡ evaluation_text kind evaluation.now) }
 {
+    text_with_room(alloc, kind, evaluation, 0)
+}
+
+/// The same, in a text that has room for so many bytes before it grows.
+pub(crate) fn text_with_room(
+    alloc: Global,
+    kind: SinkKind,
+    evaluation: &Evaluation,
+    room: usize,
+) -> Result<String, AllocError>
+    ensures { IfOk result (λ text. string_bytes text ≡ evaluation_text kind evaluation.now) }
+{
     let mut target = InMemory {
-        text: String::new(alloc),
+        text: String::with_capacity(alloc, room)?,
     };
     match kind {
         SinkKind::Recorder => put_recorded(&mut target, evaluation)?,
@@ -70,18 +83,28 @@ fn put_recorded_samples<T: TextTarget>(
 ) -> Result<(), T::Error>
     ensures { OnOk result (Appends (T.contents target.old) (T.contents target.new) (flat_map (λ sample. recorded_line t sample) samples.now)) }
 {
+    let mut buffer = itoa::Buffer::new();
+    let moment = buffer.format(t.get());
     for sample in samples {
-        put_recorded_line(target, t, sample)?;
+        put_recorded_line(target, t, moment, sample)?;
     }
     Ok(())
 }
 
-fn put_recorded_line<T: TextTarget>(target: &mut T, t: Ns, sample: &Sample) -> Result<(), T::Error>
-    ensures { OnOk result (Appends (T.contents target.old) (T.contents target.new) (recorded_line t sample.now)) }
+// The moment's digits are those of all lines.
+fn put_recorded_line<T: TextTarget>(
+    target: &mut T,
+    _t: Ns,
+    moment: &str,
+    sample: &Sample,
+) -> Result<(), T::Error>
+    requires { moment.now ≡ decimal _t }
+    ensures { OnOk result (Appends (T.contents target.old) (T.contents target.new) (recorded_line _t sample.now)) }
 {
     put_sample(target, sample)?;
-    let t = t.get();
-    write!(target, " {t}\n")
+    target.put(" ")?;
+    target.put(moment)?;
+    target.put("\n")
 }
 
 fn put_failed<T: TextTarget>(
@@ -219,7 +242,7 @@ fn put_tail_line<T: TextTarget>(target: &mut T, sample: &Sample) -> Result<(), T
     ensures { OnOk result (Appends (T.contents target.old) (T.contents target.new) (tail_line sample.now)) }
 {
     put_sample(target, sample)?;
-    write!(target, "\n")
+    target.put("\n")
 }
 
 fn put_tail_alerts<T: TextTarget>(target: &mut T, alerts: &[Alert]) -> Result<(), T::Error>
@@ -264,21 +287,19 @@ fn phase_text(phase: Phase) -> &'static str
 fn put_sample<T: TextTarget>(target: &mut T, sample: &Sample) -> Result<(), T::Error>
     ensures { OnOk result (Appends (T.contents target.old) (T.contents target.new) (sample_text sample.now)) }
 {
-    let labels = sample.labels.as_text();
-    write!(target, "{labels} ")?;
+    target.put(sample.labels.as_text())?;
+    target.put(" ")?;
     put_value(target, sample.value)
 }
 
 fn put_value<T: TextTarget>(target: &mut T, value: Fraction) -> Result<(), T::Error>
     ensures { OnOk result (Appends (T.contents target.old) (T.contents target.new) (value_text value)) }
 {
-    let Fraction {
-        numerator,
-        denominator,
-    } = value;
-    if denominator == 1 {
-        write!(target, "{numerator}")
-    } else {
-        write!(target, "{numerator}/{denominator}")
+    let mut buffer = itoa::Buffer::new();
+    target.put(buffer.format(value.numerator))?;
+    if value.denominator == 1 {
+        return Ok(());
     }
+    target.put("/")?;
+    target.put(buffer.format(value.denominator))
 }
