@@ -31,6 +31,9 @@ use std::fs;
 use std::io::{BufWriter, Write};
 use std::process::ExitCode;
 
+// The room for what waits to be written, in bytes: the answer to most commands is written at once.
+const OUTPUT_ROOM: usize = 65_536;
+
 // What ends the program before the commands.
 #[derive(Clone, Copy, Drop)]
 enum Stop {
@@ -193,7 +196,8 @@ fn run_over<D: Store>(
         let tail: Box<dyn Sink + Send> = Box::new(alloc, tail)?;
         sinks.push(vec![in alloc; recorder, notifier, tail]?)?;
     }
-    let mut out = BufWriter::new(alloc, Output::new(*rt)).map_err(|_| Stop::Failed)?;
+    let out = BufWriter::with_capacity(alloc, OUTPUT_ROOM, Output::new(*rt));
+    let mut out = out.map_err(|_| Stop::Failed)?;
     match run_session(
         alloc,
         limits,
