@@ -1,9 +1,9 @@
 -- What a test file has: at the keys of its tables.
-use Rattle.std.specs.Prelude.{◌≡◌, ℕ, zero, suc, ◌+◌, ◌-◌, ◌*◌, ◌^◌, min, ◌/◌, ◌≤◌, ◌==◌, nat_le, ℤ, pos, negsuc, position, take, drop, List, [], ◌∷◌, ◌++◌, Option, None, Some, Ok, codes, if◌then◌else◌}
+use Rattle.std.specs.Prelude.{◌≡◌, ℕ, Bool, true, ◌&&◌, IsTrue, zero, suc, ◌+◌, ◌-◌, ◌*◌, ◌^◌, min, ◌/◌, ◌≤◌, ◌==◌, nat_le, ℤ, pos, negsuc, position, take, drop, List, [], ◌∷◌, ◌++◌, Option, None, Some, Ok, codes, if◌then◌else◌}
 use Rattle.std.specs.Option.{option_and_then, option_map, option_or, unwrap_or}
 use Rattle.std.specs.List.{flat_map, list_any, AllZip}
 use denote.Ref.{Bor}
-use Rattle.toml.specs.Data.{Data, string, integer, as_str, get_member, Members}
+use Rattle.toml.specs.Data.{Data, string, integer, as_str, get_member, Members, no_members, member}
 use Rattle.rl_labels.specs.Decimals.{DecimalForm, billionths, decimal_of, number_of}
 use Rattle.rl_aggregate.specs.declared.outcome.Fraction.{Fraction}
 use Rattle.rl_labels.specs.LabelSet.{LabelSet, Pair}
@@ -37,6 +37,11 @@ sum_up_to a b = min (a + b) (2 ^ 64 - 1)
 -- the text at a key
 abbrev pub text_at : List ℕ → Members → Option (List ℕ)
 text_at key table = option_and_then as_str (get_member key table)
+
+-- a table has no other keys than these
+abbrev pub has_only : List (List ℕ) → Members → Bool
+has_only keys no_members = true
+has_only keys (member name value members) = list_any (λ key. is_text key name) keys && has_only keys members
 
 -- a text that may be there, lent
 abbrev pub lent : Option (Bor (List ℕ)) → Option (List ℕ)
@@ -131,8 +136,14 @@ value_of _ = None
 
 -- WHAT IS WANTED
 
+-- the keys of a row that is wanted, of rules of a kind
+abbrev pub wanted_keys : RuleKind → List (List ℕ)
+wanted_keys kinds.Alerting = codes "state" ∷ codes "labels" ∷ codes "value" ∷ codes "annotations" ∷ []
+wanted_keys kinds.Recording = codes "labels" ∷ codes "value" ∷ []
+
 -- a row that is wanted of rules of a kind with a name
 pub record IsWanted (kind : RuleKind) (rule : List ℕ) (table : Members) (row : Wanted) : Type 0 where
+  pub known : IsTrue (has_only (wanted_keys kind) table)
   pub labels : AreLabels (codes "labels") (Some (name_label kind, rule)) table row.labels
   pub state : IsState kind table row.state
   pub value : option_map (λ number. number.fraction) row.value ≡ option_and_then value_of (get_member (codes "value") table)
@@ -143,8 +154,13 @@ cause_text causes.PipelineError = codes "PipelineError"
 cause_text causes.SameLabels = codes "SameLabels"
 cause_text causes.LimitExceeded = codes "LimitExceeded"
 
+-- the keys of a check, of rules of a kind
+abbrev pub check_keys : RuleKind → List (List ℕ)
+check_keys kind = codes "at" ∷ name_key kind ∷ codes "group" ∷ codes "wanted" ∷ codes "failed" ∷ []
+
 -- what is wanted of the rules of a name
 pub record IsCheck (kind : RuleKind) (rule : List ℕ) (table : Members) (check : Check) : Type 0 where
+  pub known : IsTrue (has_only (check_keys kind) table)
   pub of_kind : check.kind ≡ kind
   pub name : text_at (name_key kind) table ≡ Some check.name.now
   pub group : text_at (codes "group") table ≡ lent check.group
@@ -154,13 +170,23 @@ pub record IsCheck (kind : RuleKind) (rule : List ℕ) (table : Members) (check 
 
 -- TESTS
 
+-- the keys of moments at which groups are evaluated
+abbrev pub span_keys : List (List ℕ)
+span_keys = codes "group" ∷ codes "from" ∷ codes "to" ∷ codes "step" ∷ []
+
 -- when groups are evaluated
 pub record IsSpan (kind : RuleKind) (rule : List ℕ) (table : Members) (span : Span) : Type 0 where
+  pub known : IsTrue (has_only span_keys table)
   pub group : text_at (codes "group") table ≡ lent span.group
   pub steps : IsSteps table span.steps
 
+-- the keys of an edit
+abbrev pub edit_keys : List (List ℕ)
+edit_keys = codes "at" ∷ codes "rules" ∷ []
+
 -- a rule file, whose groups are not read yet
 pub record IsEdit (kind : RuleKind) (rule : List ℕ) (table : Members) (edit : Edit) : Type 0 where
+  pub known : IsTrue (has_only edit_keys table)
   pub at : time_at (codes "at") table ≡ Some edit.at
   pub rules : text_at (codes "rules") table ≡ Some edit.rules.now
   pub unread : edit.groups.items ≡ []
@@ -170,8 +196,13 @@ abbrev pub times_in : Option Data → ℕ
 times_in (Some (integer (pos number))) = number
 times_in _ = 1
 
+-- the keys of lines that repeat
+abbrev pub repeat_keys : List (List ℕ)
+repeat_keys = codes "from" ∷ codes "to" ∷ codes "step" ∷ codes "line" ∷ codes "times" ∷ []
+
 -- moments of a stream at which lines repeat
 pub record IsRepeat (kind : RuleKind) (rule : List ℕ) (table : Members) (repeat : Repeat) : Type 0 where
+  pub known : IsTrue (has_only repeat_keys table)
   pub steps : IsSteps table repeat.steps
   pub times : repeat.times ≡ times_in (get_member (codes "times") table)
   pub line : text_at (codes "line") table ≡ Some repeat.line.now
@@ -196,8 +227,13 @@ repeated_from repeat index (suc left) = lines_at repeat index ++ repeated_from r
 abbrev pub repeated_lines : Repeat → List Line
 repeated_lines repeat = repeated_from repeat 0 repeat.steps.count
 
+-- the keys of a stream
+abbrev pub stream_keys : List (List ℕ)
+stream_keys = codes "labels" ∷ codes "late" ∷ codes "lines" ∷ codes "repeat" ∷ []
+
 -- a stream before its repeated lines are written out; which ones `lines` stands for is not told
 pub record IsUnexpanded (kind : RuleKind) (rule : List ℕ) (table : Members) (stream : Stream) : Type 0 where
+  pub known : IsTrue (has_only stream_keys table)
   pub labels : AreLabels (codes "labels") None table stream.labels
   pub late : stream.late ≡ unwrap_or (time_at (codes "late") table) 0
   pub repeats : AllZip (IsRepeat kind rule) (tables_at (codes "repeat") table) stream.repeats.items
@@ -220,15 +256,25 @@ pub record AreChecks (rule : List ℕ) (table : Members) (checks : List Check) :
   pub of_alerts : AllZip (IsCheck kinds.Alerting rule) (tables_at (codes "alerts") table) alerts
   pub of_samples : AllZip (IsCheck kinds.Recording rule) (tables_at (codes "samples") table) samples
 
+-- the keys of a test
+abbrev pub test_keys : List (List ℕ)
+test_keys = codes "name" ∷ codes "streams" ∷ codes "evaluate" ∷ codes "edits" ∷ codes "alerts" ∷ codes "samples" ∷ []
+
 pub record IsTest (kind : RuleKind) (rule : List ℕ) (table : Members) (test : Test) : Type 0 where
+  pub known : IsTrue (has_only test_keys table)
   pub name : text_at (codes "name") table ≡ Some test.name.now
   pub streams : AllZip (IsStream kind rule) (tables_at (codes "streams") table) test.streams.items
   pub spans : AllZip (IsSpan kind rule) (tables_at (codes "evaluate") table) test.spans.items
   pub edits : AllZip (IsEdit kind rule) (tables_at (codes "edits") table) test.edits.items
   pub checks : AreChecks rule table test.checks.items
 
+-- the keys of a test file
+abbrev pub document_keys : List (List ℕ)
+document_keys = codes "rules" ∷ codes "tests" ∷ []
+
 -- a test file
 pub record IsDocument (table : Members) (document : Document) : Type 0 where
+  pub known : IsTrue (has_only document_keys table)
   pub rules : text_at (codes "rules") table ≡ Some document.rules.now
   pub tests : AllZip (IsTest kinds.Alerting []) (tables_at (codes "tests") table) document.tests.items
 

@@ -1,5 +1,5 @@
 -- What happens in a test, played to a ruler: what it is handed, and how many checks pass and fail.
-use Rattle.std.specs.Prelude.{◌≡◌, ℕ, ◌+◌, ◌-◌, nat_lt, nat_le, Bool, true, false, List, [], ◌∷◌, ◌++◌, map, Option, None, Some, is_none, is_some, is_err, Result, Ok, Err, ⊤, slice_get, if◌then◌else◌}
+use Rattle.std.specs.Prelude.{◌≡◌, ℕ, ◌-◌, nat_lt, nat_le, Bool, true, false, List, [], ◌∷◌, ◌++◌, map, Option, None, Some, is_none, is_some, is_err, Result, Ok, Err, ⊤, slice_get, if◌then◌else◌}
 use Rattle.std.specs.Option.{MatchOption, option_map, option_map_or, option_and_then}
 use Rattle.std.specs.List.{list_any}
 use Rattle.std.specs.List.Sorted.{IsPermutation, IsSorted}

@@ -1,8 +1,9 @@
 //! What a test file has: tests with streams, evaluations, edits, and what is wanted of rules.
-ghost use Rattle.std.specs.Prelude.{◌≡◌, Some, codes, IfOk};
+ghost use Rattle.std.specs.Prelude.{◌≡◌, ◌⊎◌, None, Some, codes, IfErr, IfOk};
 ghost use Rattle.std.specs.List.{AllZip};
 ghost use Rattle.toml.specs.Parse.{parse_document};
 ghost use Rattle.toml.specs.View.{table_view};
+ghost use Rattle.rl_plain.specs.declared.refusal.OrMemory.TheVariants.{Memory};
 ghost use Rattle.rl_rules.specs.Document.{tables_at};
 ghost use Rattle.rl_rule_tests.specs.Document.{AreChecks, IsCheck, IsDocument, IsEdit, IsSpan, IsTest};
 
@@ -68,7 +69,8 @@ pub(crate) struct Check<'a> {
 
 /// Reads the TOML of a test file.
 pub fn read_table(alloc: Global, text: &str) -> Result<Table, TestsError>
-    ensures { IfOk result (λ table. parse_document text.now ≡ Some (table_view table)) }
+    ensures ok { IfOk result (λ table. parse_document text.now ≡ Some (table_view table)) }
+    ensures fault { IfErr result (λ error. (error ≡ Memory) ⊎ (parse_document text.now ≡ None)) }
 {
     match toml::table_from_str(alloc, text) {
         Ok(table) => Ok(table),

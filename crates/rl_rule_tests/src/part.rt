@@ -1,5 +1,5 @@
 //! A table of a test file, and what stands at its keys. What is missing or of another kind is a fault.
-ghost use Rattle.std.specs.Prelude.{◌≡◌, ◌++◌, ℕ, true, List, [], ◌∷◌, Some, is_some, option_map, IfOk, IfSome, IsOk, IsTrue, OnOk};
+ghost use Rattle.std.specs.Prelude.{◌≡◌, ◌++◌, ℕ, true, map, List, [], ◌∷◌, Some, is_ok, is_some, option_map, IfOk, IfSome, IsOk, IsTrue, OnOk};
 ghost use Rattle.std.specs.List.{list_any, AllZip};
 ghost use Rattle.toml.specs.Data.{as_table, get_member, Members};
 ghost use Rattle.toml.specs.View.{items_view, table_view, view};
@@ -8,7 +8,7 @@ ghost use Rattle.rl_labels.specs.Name.{is_text};
 ghost use Rattle.rl_rules.specs.Document.{items_in, tables_at};
 ghost use Rattle.rl_rules.specs.Values.{texts_at, texts_of};
 ghost use Rattle.rl_rules.specs.declared.rule.RuleKind.{RuleKind};
-ghost use Rattle.rl_rule_tests.specs.Document.{lent, text_at, time_at, time_of, with_own, AreBehind, AreLabels, IsSteps};
+ghost use Rattle.rl_rule_tests.specs.Document.{has_only, lent, text_at, time_at, time_of, with_own, AreBehind, AreLabels, IsSteps};
 
 use crate::fault::{TestsError, fault, within};
 use rl_labels::{Duration, Labels, LabelsError};
@@ -58,9 +58,11 @@ impl<'a> Part<'a> {
     }
 
     /// Refuses a key that is none of these.
-    pub(crate) fn only(self, keys: &[&str]) -> Result<(), TestsError> {
+    pub(crate) fn only(self, keys: &[&str]) -> Result<(), TestsError>
+        ensures { is_ok result ≡ has_only (map (λ key. key.now) keys.now) (table_view self.entry.table.now) }
+    {
         for (key, _) in self.table.iter() {
-            if !(&*keys).contains(&key.as_str()) {
+            if !is_one_of(keys, key.as_str()) {
                 return Err(self.key_fault(key.as_str(), "is not known"));
             }
         }
@@ -236,6 +238,12 @@ impl<'a> Part<'a> {
         }
         Ok(())
     }
+}
+
+fn is_one_of(keys: &[&str], key: &str) -> bool
+    ensures { result ≡ list_any (λ one. is_text one key.now) (map (λ one. one.now) keys.now) }
+{
+    keys.contains(&key)
 }
 
 // Adds a pair of its own where its name is not among the others.

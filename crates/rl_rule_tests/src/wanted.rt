@@ -3,7 +3,7 @@ ghost use Rattle.std.specs.Prelude.{◌≡◌, map, Some, codes, option_and_then
 ghost use Rattle.toml.specs.Data.{get_member};
 ghost use Rattle.toml.specs.View.{table_view};
 ghost use Rattle.rl_rules.specs.Document.{tables_at};
-ghost use Rattle.rl_rule_tests.specs.Document.{cause_text, phase_text, text_at, value_of, AreBehind, IsWanted};
+ghost use Rattle.rl_rule_tests.specs.Document.{cause_text, phase_text, text_at, value_of, wanted_keys, AreBehind, IsWanted};
 ghost use Rattle.rl_rule_tests.specs.Judging.{wanted_row, IsOutcome};
 
 use crate::document::Check;
@@ -70,15 +70,10 @@ impl<'a> Item<'a> for Wanted<'a> {
     ghost is = { IsWanted };
 
     fn read(part: Part<'a>) -> Result<Self, TestsError> {
+        part.only(wanted_keys(part.kind))?;
         let (label, state) = match part.kind {
-            RuleKind::Alerting => {
-                part.only(&["state", "labels", "value", "annotations"])?;
-                (ALERT_LABEL, Some(read_state(part)?))
-            }
-            RuleKind::Recording => {
-                part.only(&["labels", "value"])?;
-                (NAME_LABEL, None)
-            }
+            RuleKind::Alerting => (ALERT_LABEL, Some(read_state(part)?)),
+            RuleKind::Recording => (NAME_LABEL, None),
         };
         let labels = part.labels("labels", Some((label, part.rule)))?;
         let annotations = if part.has("annotations") {
@@ -93,6 +88,16 @@ impl<'a> Item<'a> for Wanted<'a> {
             value,
             annotations,
         })
+    }
+}
+
+// The keys of a row that is wanted.
+fn wanted_keys(kind: RuleKind) -> &'static [&'static str]
+    ensures { map (λ key. key.now) result.now ≡ wanted_keys kind }
+{
+    match kind {
+        RuleKind::Alerting => &["state", "labels", "value", "annotations"],
+        RuleKind::Recording => &["labels", "value"],
     }
 }
 
