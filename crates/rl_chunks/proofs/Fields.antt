@@ -119,7 +119,7 @@ text_of-none len bytes front long front_is none =
     let is : is_utf8 (take len bytes) ≡ false = ap is_utf8 (sym front_is) ∙ false_from_ne_true (is_utf8 front) (λ e. none (IsUtf8-from_is_utf8 front e)) in
     rw (enough, is) refl
 
--- a text that is read behind its length
+-- a text that is read after its length
 pub record IsTextBelow (limit : ℕ) (text : List ℕ) : Type 0 where
   pub short : length text < limit
   pub utf8 : is_utf8 text ≡ true

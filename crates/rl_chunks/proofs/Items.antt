@@ -18,7 +18,7 @@ use Rattle.rl_chunks.proofs.Fields.{IsBytes, bind_ok, ok_is, passed, not_met, Ta
 
 -- ---- in turn
 
--- each is right behind the one before it
+-- each may follow the one before it
 abbrev pub Chain : {A : Type 0} → (Option A → A → Type 0) → Option A → List A → Type 0
 Chain P before [] = Unit {0}
 Chain P before (x ∷ xs) = P before x × Chain P (Some x) xs
@@ -50,7 +50,7 @@ module _ {A : Type 0} (item : Option A → List ℕ → Read A) (text : A → Li
 
 -- ---- labels
 
--- a label that can be told, whatever stands before it
+-- a label that a chunk can have, whatever stands before it
 pub record IsGood (pair : Pair) : Type 0 where
   pub name : IsTextBelow (2 ^ 16) pair.0
   pub value : IsTextBelow (2 ^ 16) pair.1

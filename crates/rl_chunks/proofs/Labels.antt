@@ -1,4 +1,4 @@
--- Labels that were read one behind the other are those of a stream, and those of a stream can be read.
+-- Labels that were read one after the other are those of a stream, and those of a stream can be read.
 use Rattle.std.proofs.Common.{◌≡◌, ℕ, ◌+◌, ◌^◌, ◌<◌, ◌≤◌, ◌==◌, nat_lt, Bool, true, false, not, ◌||◌, cond, List, [], ◌∷◌, ◌++◌, length, map, Option, Some, None, Ok, Err, refl, sym, ap, subst, ◌∙◌, arith}
 use Rattle.std.specs.Prelude.{IsTrue, nat_le}
 use Rattle.std.specs.List.{All, AllByRecursion, list_all, list_any, join_with_byte}
@@ -68,7 +68,7 @@ none_twice all (e ∷ es) once = ap (λ b. b || list_any (λ pair. nat_lt 1 (tim
 
 -- ---- what a chain of labels is
 
--- labels as a set has them, each of which can be told
+-- labels as a set has them, each of which is UTF-8
 pub record AreGood (pairs : List Pair) : Type 0 where
   pub sorted : is_sorted name_cmp pairs ≡ true
   pub labels : list_all is_label pairs ≡ true

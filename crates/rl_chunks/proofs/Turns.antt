@@ -78,7 +78,7 @@ module _ {A : Type 0} (item : Option A → List ℕ → Read A) where
 
 -- ---- writing
 
--- one more was written behind a head and those before it
+-- one more was written after a head and those before it
 pub one_more : {A : Type 0} (written : A → List ℕ) (xs : List A) (i : ℕ) (x : A) (old head out new : List ℕ) → i < length xs → x ≡ get_or xs i x
     → out ≡ old ++ (head ++ flat_map written (take i xs)) → new ≡ out ++ written x → new ≡ old ++ (head ++ flat_map written (take (i + 1) xs))
 one_more written xs i x old head out new within is so_far now =
@@ -93,12 +93,12 @@ all_more P xs i x within is so_far now =
     let next : take (i + 1) xs ≡ take i xs ++ x ∷ [] = take_more xs i x within ∙ ap (λ y. take i xs ++ y ∷ []) (sym is) in
     subst (All P) (sym next) (All-push P (take i xs) x so_far now)
 
--- what holds of each image holds at a place
+-- what holds of each image holds at an index
 pub at_map : {A B : Type 0} (P : B → Type 0) (f : A → B) (xs : List A) (i : ℕ) (x : A) → i < length xs → x ≡ get_or xs i x → All P (map f xs) → P (f x)
 at_map P f xs i x within is h =
     subst P (get_or-map f xs i x (f x) within ∙ ap f (sym is)) (h i (f x) (subst (λ n. i < n) (sym (length-map xs f)) within))
 
--- all images were written behind their number
+-- all images were written after their number
 pub all_written : {A B : Type 0} (written : B → List ℕ) (f : A → B) (head : ℕ → List ℕ) (xs : List A) (i : ℕ) → length xs ≤ i
     → head (length xs) ++ flat_map (λ x. written (f x)) (take i xs) ≡ head (length (map f xs)) ++ flat_map written (map f xs)
 all_written written f head xs i le =

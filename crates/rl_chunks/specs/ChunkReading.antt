@@ -1,4 +1,4 @@
--- Reading a chunk from left to right, with the first fault that is met. What is read is a value and the bytes behind it.
+-- Reading a chunk from left to right, with the first fault that is met. What is read is a value and the bytes after it.
 use Rattle.std.specs.Prelude.{ℕ, zero, suc, ◌==◌, nat_lt, nat_le, Bool, true, ◌&&◌, List, [], ◌∷◌, length, take, drop, Option, None, Some, Result, Ok, Err, if◌then◌else◌}
 use Rattle.std.specs.Int.{Width, w16, w32, w64, byte_len, from_be_bytes}
 use Rattle.std.specs.Ordering.{is_lt}
@@ -17,7 +17,7 @@ use Rattle.rl_chunks.specs.declared.format.Format.{Format}
 use Rattle.rl_chunks.specs.declared.format.Format.TheVariants.{Short}
 use Rattle.rl_chunks.specs.declared.line.Line.{Line}
 
--- a value and the bytes behind it, or the first fault
+-- a value and the bytes after it, or the first fault
 abbrev pub Read : Type 0 → Type 0
 Read A = Result (A × List ℕ) ChunkFault
 
@@ -26,19 +26,19 @@ number_at width bytes =
     if nat_lt (length bytes) (byte_len width) then Err CutShort
     else Ok (from_be_bytes width (take (byte_len width) bytes), drop (byte_len width) bytes)
 
--- so many bytes, which are UTF-8
+-- the first `len` bytes, which are UTF-8
 unfoldable pub text_of : ℕ → List ℕ → Read (List ℕ)
 text_of len bytes =
     if nat_lt (length bytes) len then Err CutShort
     else (if is_utf8 (take len bytes) then Ok (take len bytes, drop len bytes) else Err NotAChunk)
 
--- a text behind its length
+-- a text after its length
 unfoldable pub text_at : Width → List ℕ → Read (List ℕ)
 text_at width bytes = do
   len ← number_at width bytes
   text_of len.0 len.1
 
--- the first bytes tell the format
+-- the format, read from the first bytes
 unfoldable pub format_at : List ℕ → Read Format
 format_at bytes =
     if nat_lt (length bytes) 4 then Err CutShort
@@ -89,7 +89,7 @@ next_line_at format before bytes = do
   line ← line_at format bytes
   if is_next_line before line.0 then Ok line else Err Disorder
 
--- so many in turn, each of which is read behind the one before it
+-- the given number of items, each read after the one before it
 unfoldable pub in_turn : {A : Type 0} → (Option A → List ℕ → Read A) → ℕ → Option A → List ℕ → Read (List A)
 in_turn item zero before bytes = Ok ([], bytes)
 in_turn item (suc n) before bytes = do

@@ -23,7 +23,7 @@ magic Short = codes "RLC1"
 abbrev pub line_width : Format → Width
 line_width Short = w16
 
--- a text behind its length
+-- a text after its length
 abbrev pub sized : Width → List ℕ → List ℕ
 sized width text = to_be_bytes width (length text) ++ text
 
@@ -51,7 +51,7 @@ chunk_text format chunk = magic format ++ labels_bytes (labels_of chunk.labels) 
 abbrev pub line_cmp : Line → Line → Ordering
 line_cmp a b = ordering_then (nat_cmp a.timestamp b.timestamp) (slice_cmp nat_cmp a.text b.text)
 
--- a label that bytes can tell
+-- a label whose name and value are UTF-8
 abbrev pub IsText : Pair → Type 0
 IsText pair = IsTrue (is_utf8 pair.0) × IsTrue (is_utf8 pair.1)
 
@@ -61,7 +61,7 @@ pub record IsLine (line : Line) : Type 0 where
   pub short : length line.text ≤ longest_line
   pub text : IsTrue (is_utf8 line.text)
 
--- what a chunk may have: the labels of a stream, and lines that rise, as many as four bytes can count
+-- what a chunk may have: the labels of a stream, and lines that rise, no more than four bytes can count
 pub record IsChunk (chunk : Chunk) : Type 0 where
   pub stream : IsTrue (is_stream chunk.labels)
   pub texts : All IsText (labels_of chunk.labels)

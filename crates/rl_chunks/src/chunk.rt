@@ -1,4 +1,4 @@
-//! What the bytes of a chunk tell.
+//! What is read from the bytes of a chunk.
 use crate::line::Line;
 use rl_labels::Labels;
 use rl_plain::{PlainList, Same, TryCopy};

@@ -10,8 +10,8 @@ use std::io::{self, ErrorKind, Read};
 use std::mem;
 use std::snapshot::Snapshot;
 
-/// Keeps each number's bytes in one file of a folder, whose name is the number. A file is written beside and renamed into
-/// place, so a crash in the middle leaves the old file or none. It is not honest: nothing is claimed of what files hold.
+/// Keeps each number's bytes in one file of a folder, whose name is the number. A new file is written beside and renamed,
+/// so a crash in the middle leaves the old file or none. It is not honest: nothing is claimed of what files hold.
 #[derive(Drop)]
 pub struct DirStore<R> {
     rt: R,
@@ -21,7 +21,7 @@ pub struct DirStore<R> {
     history: Snapshot<History>,
 }
 
-// Why the device refused. What is no want of memory is counted.
+// Why the device refused. It is counted unless memory ran out.
 fn refusal(faults: &mut u64, error: &io::Error) -> StoreFault
     ensures rise { MayRise faults.old faults.new }
     ensures counted { IsCounted faults.old faults.new result }
@@ -38,13 +38,13 @@ fn file_name(folder: &PlainText, number: u64) -> io::Result<String> {
     Ok(format!(in folder.allocator(); "{folder}/{number}")?)
 }
 
-// Writes the bytes beside, and puts them into place.
+// Writes the bytes to a file beside, and renames it.
 fn replace_file(files: &impl Files, beside: &str, name: &str, bytes: &[u8]) -> io::Result<()> {
     fs::write(files, beside, bytes)?;
     fs::rename(files, beside, name)
 }
 
-// The same for a number. Of what could not be put into place nothing stays.
+// Writes a number's file. If it cannot be written and renamed, nothing of it stays.
 fn write_file(files: &impl Files, folder: &PlainText, number: u64, bytes: &[u8]) -> io::Result<()> {
     let name = file_name(folder, number)?;
     let beside = format!(in folder.allocator(); "{name}.new")?;

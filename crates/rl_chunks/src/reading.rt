@@ -54,7 +54,7 @@ fn u64_at(bytes: &[u8]) -> Result<(u64, &[u8]), ChunkFault>
     Ok((number, rest))
 }
 
-// So many bytes, which are UTF-8.
+// The first `len` bytes, which are UTF-8.
 #[tactic(auto, unfolding(crate::specs::ChunkReading::text_of))]
 fn text_of(len: usize, bytes: &[u8]) -> Result<(&str, &[u8]), ChunkFault>
     ensures { Answers (λ x. (x.0.now, x.1.now)) result (text_of len bytes.now) }
@@ -69,7 +69,7 @@ fn text_of(len: usize, bytes: &[u8]) -> Result<(&str, &[u8]), ChunkFault>
     }
 }
 
-// A text behind two bytes of length.
+// A text after two bytes of length.
 #[tactic(auto, unfolding(crate::specs::ChunkReading::text_at))]
 fn short_text_at(bytes: &[u8]) -> Result<(&str, &[u8]), ChunkFault>
     ensures { Answers (λ x. (x.0.now, x.1.now)) result (text_at w16 bytes.now) }
@@ -78,7 +78,7 @@ fn short_text_at(bytes: &[u8]) -> Result<(&str, &[u8]), ChunkFault>
     text_of(usize::from(len), rest)
 }
 
-// A line's text behind its length.
+// A line's text after its length.
 fn line_text_at(format: Format, bytes: &[u8]) -> Result<(&str, &[u8]), ChunkFault>
     ensures { Answers (λ x. (x.0.now, x.1.now)) result (text_at (line_width format) bytes.now) }
 {
@@ -87,7 +87,7 @@ fn line_text_at(format: Format, bytes: &[u8]) -> Result<(&str, &[u8]), ChunkFaul
     }
 }
 
-// The format that the first bytes tell.
+// The format, read from the first bytes.
 #[tactic(auto, unfolding(crate::specs::ChunkReading::format_at))]
 fn format_at(bytes: &[u8]) -> Result<(Format, &[u8]), ChunkFault>
     ensures { Answers (λ x. (x.0, x.1.now)) result (format_at bytes.now) }
@@ -112,7 +112,7 @@ fn is_next_name(before: &[(PlainText, PlainText)], name: &str) -> bool
     }
 }
 
-// A name that a stream's label may have behind these.
+// A name that a stream's label may have after these labels.
 #[tactic(auto, unfolding(crate::specs::ChunkReading::name_at))]
 fn name_at<'a>(
     before: &[(PlainText, PlainText)],
@@ -139,7 +139,7 @@ fn value_at(bytes: &[u8]) -> Result<(&str, &[u8]), ChunkFault>
     Ok((value, rest))
 }
 
-// The next label behind these.
+// The next label after these.
 #[tactic(auto, unfolding(crate::specs::ChunkReading::label_at))]
 fn next_label<'a>(
     alloc: Global,
@@ -155,7 +155,7 @@ fn next_label<'a>(
     Ok(((name, value), rest))
 }
 
-// So many labels, by rising name.
+// `count` labels, by rising name.
 fn pairs_at(
     alloc: Global,
     count: u16,
@@ -232,7 +232,7 @@ fn is_next_line(before: &[Line], timestamp: Ns, text: &str) -> bool
     }
 }
 
-// The next line behind these.
+// The next line after these.
 #[tactic(auto, unfolding(crate::specs::ChunkReading::next_line_at, crate::specs::ChunkReading::line_at))]
 fn next_line<'a>(
     alloc: Global,
@@ -257,7 +257,7 @@ fn next_line<'a>(
 // The fewest bytes of a line.
 const LEAST_LINE: usize = 10;
 
-// So many lines, each above the one before it. The bytes bound the room that is made at first, whatever the count is.
+// `count` lines, each above the one before it. The bytes bound the room that is made at first, whatever the count is.
 fn rising_lines(
     alloc: Global,
     format: Format,

@@ -8,7 +8,7 @@ use rl_plain::PlainList;
 /// How an answer is spoilt.
 #[derive(Clone, Copy, Debug, Drop, PartialEq, Eq)]
 pub enum Spoil {
-    /// The first so many bytes.
+    /// At most this many of its first bytes.
     Cut(usize),
     /// One byte plus 1, from the greatest to 0; past the end no change.
     Flip(usize),
@@ -39,7 +39,7 @@ fn spoil_at(plan: &[(u64, Spoil)], read: u64) -> Option<Spoil>
     None
 }
 
-// One byte plus 1, if there is one at that place.
+// One byte plus 1, if there is one at that index.
 fn flip(bytes: &mut Vec<u8>, place: usize)
     ensures { bytes.new.items ≡ flipped place bytes.old.items }
 {

@@ -38,7 +38,7 @@ impl<T: Drop> From<AllocFailed<T>> for StoreFault {
 pub trait Store: Drop {
     ghost seen: { Self → Seen };
 
-    /// Keeps the bytes under the number, in the place of those before. A refusal may lose what the number had.
+    /// Keeps the bytes under the number, instead of those before. A refusal may lose what the number had.
     fn put(&mut self, number: u64, bytes: Vec<u8>) -> Result<(), StoreFault>
         ensures ok { OnOk result ((seen self.new).blobs ≡ map.insert (seen self.old).blobs number bytes.items) }
         ensures err { OnErr result (LeavesOthers number (seen self.old).blobs (seen self.new).blobs) }

@@ -16,7 +16,7 @@ use rl_labels::Labels;
 use rl_plain::PlainText;
 use std::alloc::{AllocError, Global};
 
-// A text behind two bytes of length. What is a `&str` is UTF-8.
+// A text after two bytes of length. What is a `&str` is UTF-8.
 fn push_short_text(out: &mut Vec<u8>, text: &str) -> Result<(), AllocError>
     requires { length text.now < 2 ^ 16 }
     ensures bytes { OnOk result (out.new.items ≡ out.old.items ++ sized w16 text.now) }
@@ -59,7 +59,7 @@ fn push_labels(out: &mut Vec<u8>, labels: &[(PlainText, PlainText)]) -> Result<(
     Ok(())
 }
 
-// A line's text behind its length.
+// A line's text after its length.
 fn push_line_text(out: &mut Vec<u8>, format: Format, text: &str) -> Result<(), AllocError>
     requires { length text.now ≤ longest_line }
     ensures bytes { OnOk result (out.new.items ≡ out.old.items ++ sized (line_width format) text.now) }

@@ -98,7 +98,7 @@ in_front-append : {A : Type 0} (entries : List (Bor (List ℕ) × Bor (Value A))
 in_front-append [] entry others = refl
 in_front-append (first ∷ entries) entry others = ap (member first.0.now (data_of (value_view first.1.now))) (in_front-append entries entry others)
 
--- What is known of a key that is above the members in front of a place.
+-- What is known of a key that is above the members in front of an index.
 pub record Above {A : Type 0} (key : List ℕ) (found : List (Bor (List ℕ) × Bor (Value A))) (i : ℕ) : Type 0 where
   pub passed : (d : Data) → put key d (referred found) ≡ in_front (take i found) (put key d (referred (drop i found)))
 
@@ -106,7 +106,7 @@ module _ {A : Type 0} (key : List ℕ) (found : List (Bor (List ℕ) × Bor (Val
   pub above_none : Above key found 0
   above_none = record { passed = λ d. refl }
 
-  -- the member at a place, in front of the others
+  -- the member at an index, in front of the others
   put_at : (i : ℕ) (m : Bor (List ℕ) × Bor (Value A)) (d : Data) (o : Ordering) → i < length found → m ≡ get_or found i m → slice_cmp nat_cmp key m.0.now ≡ o
       → put key d (referred (drop i found)) ≡ match_ordering o (member key d (member m.0.now (data_of (value_view m.1.now)) (referred (drop (i + 1) found)))) (member m.0.now d (referred (drop (i + 1) found))) (member m.0.now (data_of (value_view m.1.now)) (put key d (referred (drop (i + 1) found))))
   put_at i m d o in' is e =
@@ -134,7 +134,7 @@ module _ {A : Type 0} (key : List ℕ) (found : List (Bor (List ℕ) × Bor (Val
   pub placed_last : (i : ℕ) (d : Data) → drop i found ≡ [] → Above key found i → put key d (referred found) ≡ in_front (take i found) (member key d (referred (drop i found)))
   placed_last i d ends so_far = so_far.passed d ∙ ap (λ t. in_front (take i found) (put key d (referred t))) ends ∙ ap (λ t. in_front (take i found) (member key d (referred t))) (sym ends)
 
--- a member at a place, between those in front and those behind
+-- a member at an index, between those in front of it and those after it
 pub member_between : {A : Type 0} (found : List (Bor (List ℕ) × Bor (Value A))) (place behind : ℕ) (entry : Bor (List ℕ) × Bor (Value A)) → referred (take place found ++ entry ∷ drop behind found) ≡ in_front (take place found) (member entry.0.now (data_of (value_view entry.1.now)) (referred (drop behind found)))
 member_between found place behind entry = referred-append (take place found) (entry ∷ drop behind found)
 

@@ -10,7 +10,7 @@ use std::alloc::{AllocError, Global};
 use std::cmp::Ordering;
 use std::collections::BTreeMap;
 
-// So many members are put in order one by one, and more through a map.
+// Up to this many members are put in order one by one, and more through a map.
 const FEW: usize = 16;
 
 /// The value at a key. Of two with one key it is the last.
@@ -43,7 +43,7 @@ pub fn sorted<'m, 'v>(
     Ok(found)
 }
 
-// Puts a member into its place, where it replaces one with its key.
+// Puts a member among the others by its key. It replaces one with this key.
 fn put_member<'m, 'v>(
     found: &mut Vec<(&'v str, &'m Value<'v>)>,
     key: &'v str,
@@ -67,7 +67,7 @@ fn replace_at<T: Drop>(items: &mut Vec<T>, place: usize, item: T)
     items[place] = item;
 }
 
-// Where a member with the key stands or would stand, and where those behind it begin.
+// Where a member with the key stands or would stand, and where those after it begin.
 fn place_of(found: &[(&str, &Value<'_>)], key: &str) -> (usize, usize)
     ensures within { (result.0 ≤ result.1) × (result.1 ≤ result.0 + 1) × (result.1 ≤ length found.now) }
     ensures placed { (d : Data) → put key.now d (referred found.now) ≡ in_front (take result.0 found.now) (member key.now d (referred (drop result.1 found.now))) }

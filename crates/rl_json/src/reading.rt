@@ -29,7 +29,7 @@ pub fn read<'v>(
     Ok(in_range_or_none(document))
 }
 
-/// The same of bytes, which are no document where they are no UTF-8.
+/// The value that bytes are, or none where they are no UTF-8 or no JSON document.
 #[tactic(auto, using(crate::proofs::JsonData::read_text, crate::proofs::JsonData::read_no_text))]
 pub fn read_bytes<'v>(
     alloc: Global,

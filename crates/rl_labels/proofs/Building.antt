@@ -84,7 +84,7 @@ module _ (name : List ℕ) where
   pub below_more : (es : List Pair) (i : ℕ) (pair : Pair) → i < length es → pair ≡ get_or es i pair → name_cmp name pair.0 ≡ Less → below_all name_cmp name (drop (suc i) es) ≡ true → below_all name_cmp name (drop i es) ≡ true
   below_more es i pair in' is below h = ap (below_all name_cmp name) (drop-cons es i pair in' ∙ ap (λ p. p ∷ drop (suc i) es) (sym is)) ∙ and_from (is_lt (name_cmp name pair.0)) _ (ap is_lt below) h
 
-  -- behind a label that is below the name, and in front of those above it, no label has the name
+  -- after a label that is below the name, and before those above it, no label has the name
   pub absent_at : (es : List Pair) (i : ℕ) (pair : Pair) → is_sorted name_cmp es ≡ true → i < length es → pair ≡ get_or es i pair → name_cmp name pair.0 ≡ Greater → below_all name_cmp name (drop (suc i) es) ≡ true → find name_cmp name es ≡ None
   absent_at es i pair sorted in' is above below = find_behind es i pair sorted in' is above ∙ find_below (drop (suc i) es) below
 

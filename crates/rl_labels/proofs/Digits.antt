@@ -4,7 +4,7 @@ use Rattle.std.proofs.lemmas.Fmt.{decimal_digit}
 use Rattle.std.specs.Fmt.{decimal}
 use Rattle.rl_labels.specs.QuantityTexts.{digits_text}
 
--- the last digit stands behind the others
+-- the last digit stands after the others
 pub last_digit : (k n : ℕ) → (k ≡ 0 → ⊥) → digits_text k n ≡ digits_text (k - 1) (n / 10) ++ decimal (n % 10)
 last_digit zero n some = absurd (some refl)
 last_digit (suc k) n some =

@@ -5,7 +5,7 @@ use Rattle.std.proofs.lemmas.Bool.{eqb-true, eqb-false}
 use Rattle.rl_labels.specs.declared.quantity.DurationPart.{DurationPart}
 use Rattle.rl_labels.specs.Quantities.{part_at, part_then, parts_of, duration_of}
 
--- at most so many parts are left to read, behind those so far
+-- at most `left` parts are left to read, after those so far
 pub record Left (text : List ℕ) (parts : List DurationPart) (left : ℕ) (rest : List ℕ) : Type 0 where
   pub read : option_map (λ others. parts ++ others) (parts_of left rest) ≡ duration_of text
   pub fit : length parts + left ≡ 8
@@ -25,7 +25,7 @@ last_there text parts zero rest behind part is last some so_far = absurd (omega 
 last_there text parts (suc left) rest [] part is last some so_far = sym so_far.read ∙ ap (λ first. option_map (λ others. parts ++ others) (option_and_then (part_then (parts_of left)) first)) (sym is)
 last_there text parts (suc left) rest (byte ∷ bytes) part is last some so_far = let none : length (byte ∷ bytes) ≡ 0 = eqb-true _ 0 last in absurd (omega (arith, none))
 
--- a part, and more behind it
+-- a part, and more after it
 pub part_there : (text : List ℕ) (parts : List DurationPart) (left : ℕ) (rest behind : List ℕ) (part : DurationPart) → Some (part, behind) ≡ part_at rest → (length behind == 0) ≡ false → Left text parts (suc left) rest → Left text (parts ++ part ∷ []) left behind
 part_there text parts left rest [] part is more so_far = absurd (eqb-false 0 0 more refl)
 part_there text parts left rest (byte ∷ bytes) part is more so_far = record {

@@ -1,4 +1,4 @@
--- What no running code shows: which lists are labels, which sets are streams, and where memory may be told to be short.
+-- What no running code shows: which lists are labels, and which sets are streams.
 use Rattle.std.specs.Prelude.{◌≡◌, nat_le, true, false, not, ◌&&◌, ◌==◌, [], ◌∷◌, codes, length, refl}
 use Rattle.std.proofs.Common.{ap}
 use Rattle.rl_labels.specs.EntryParts.{is_stream}

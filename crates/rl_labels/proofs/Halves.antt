@@ -1,4 +1,4 @@
--- Labels by rising name, cut at a place.
+-- Labels by rising name, cut at an index.
 use Rattle.std.proofs.Common.{◌≡◌, ℕ, ◌<◌, ◌==◌, true, false, cond, List, [], ◌∷◌, length, get_or, take, drop, drop-cons, zero, suc, Some, refl, sym, ap, subst, ◌∙◌, arith}
 use Rattle.std.specs.Ordering.{is_eq, is_lt}
 use Rattle.std.specs.declared.cmp.Ordering.TheVariants.{Less, Equal}
@@ -30,7 +30,7 @@ sorted_front (suc n) (e ∷ es) h =
     let parts = and_parts (below_all name_cmp e.0 es) (is_sorted name_cmp es) h in
     and_from (below_all name_cmp e.0 (take n es)) _ (below_front e.0 n es parts.0) (sorted_front n es parts.1)
 
--- and those behind
+-- and so are the rest
 pub sorted_behind : (n : ℕ) (es : List Pair) → is_sorted name_cmp es ≡ true → is_sorted name_cmp (drop n es) ≡ true
 sorted_behind zero es h = h
 sorted_behind (suc n) [] h = refl
@@ -56,7 +56,7 @@ find_at name (e ∷ es) (suc i) pair sorted in' is tied =
     let below : name_cmp e.0 name ≡ Less = ap (name_cmp e.0) (name_cmp-IsAntisymmetric name pair.0 tied) ∙ below_each e.0 es i pair parts.0 (omega arith) is in
     ap (λ o. cond (is_eq o) (Some e.1) (find name_cmp name es)) (less_turned e.0 name below) ∙ find_at name es i pair parts.1 (omega arith) is tied
 
--- a label that is put in front of those behind it
+-- a label that is put in front of those after it
 pub put_in_front : (es : List Pair) (i : ℕ) (pair : Pair) → is_sorted name_cmp es ≡ true → i < length es → pair ≡ get_or es i pair → put name_cmp pair.0 pair.1 (drop (suc i) es) ≡ drop i es
 put_in_front es i pair sorted in' is =
     let split : drop i es ≡ pair ∷ drop (suc i) es = drop-cons es i pair in' ∙ ap (λ p. p ∷ drop (suc i) es) (sym is) in

@@ -33,7 +33,7 @@ front-below digits i most are few =
     let front = digits_value-take-le 10 digits i (omega arith) in
     omega (arith, all, front)
 
--- a number below the power of its digits, with zeros behind it up to nine digits
+-- a number below the power of its digits, with zeros after it up to nine digits
 pub zeros_behind-below : (n k : ℕ) → k ≤ 9 → n < 10 ^ k → n * 10 ^ (9 - k) < 1000000000
 zeros_behind-below n k few below =
     let sum : k + (9 - k) ≡ 9 = omega (arith, few) in

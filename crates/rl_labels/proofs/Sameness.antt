@@ -1,4 +1,4 @@
--- A test that passes where two values tie in an order tells them apart.
+-- A test that passes where two values tie in an order decides whether they are one.
 use Rattle.std.proofs.Common.{◌≡◌, Bool, true, ap, sym, ◌∙◌}
 use Rattle.std.specs.Ordering.{eq_by_cmp, is_eq}
 use Rattle.std.specs.declared.cmp.Ordering.{Ordering}

@@ -11,7 +11,7 @@ use Rattle.rl_labels.specs.LabelSet.{Pair}
 use Rattle.rl_labels.specs.LabelText.{label_text}
 use Rattle.rl_labels.specs.Rising.{rises}
 
--- the element at a place, and what follows it
+-- the item at an index, and what follows it
 pub split_at_place : {X : Type 0} (xs : List X) (i : ℕ) (x : X) → i < length xs → x ≡ get_or xs i x → drop i xs ≡ x ∷ drop (i + 1) xs
 split_at_place xs i x in' is = drop-cons xs i x in' ∙ ap (λ y. y ∷ drop (suc i) xs) (sym is) ∙ (let next : suc i ≡ i + 1 = omega arith in ap (λ n. x ∷ drop n xs) next)
 
@@ -38,7 +38,7 @@ where_key_front name pairs i pair in' is =
     turned true x y = refl
     turned false x y = refl
 
--- the texts of labels, the others behind commas
+-- the texts of labels, each but the first after a comma
 pub labels_joined : (label : Pair) (labels : List Pair) → join_with_byte 44 (map label_text (label ∷ labels)) ≡ label_text label ++ flat_map (λ l. 44 ∷ label_text l) labels
 labels_joined label [] = sym (append-nil (label_text label))
 labels_joined label (next ∷ labels) = ap (λ t. label_text label ++ 44 ∷ t) (labels_joined next labels)

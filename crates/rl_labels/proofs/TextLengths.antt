@@ -8,11 +8,11 @@ use Rattle.rl_labels.specs.LabelText.{value_text, label_text, labels_text}
 use Rattle.rl_labels.specs.Pairs.{longest_text}
 use Rattle.rl_labels.proofs.Steps.{labels_joined}
 
--- the texts of labels, each behind a mark
+-- the texts of labels, each after a separator
 abbrev pub marked : List Pair → List ℕ
 marked = flat_map (λ label. 44 ∷ label_text label)
 
--- a label and the mark before it are four bytes longer than the name and the escaped value
+-- a label and the separator before it are four bytes longer than the name and the escaped value
 pub marked_length : (label : Pair) → length (44 ∷ label_text label) ≡ length label.0 + length (value_text label.1) + 4
 marked_length label =
     let front = label.0 ++ 61 ∷ 34 ∷ [] in
@@ -25,7 +25,7 @@ marked_length label =
 same_answer : (a b c d : ℕ) → (a < b → c < d) → (b ≤ a → d ≤ c) → nat_lt a b ≡ nat_lt c d
 same_answer a b c d below above = ⊎_elim (λ h. lt-ltb a b h ∙ sym (lt-ltb c d (below h))) (λ h. le-ltb a b h ∙ sym (le-ltb c d (above h))) (cases_lt a b)
 
--- the text is too long exactly where the labels, each behind its mark, leave no byte for the last brace
+-- the text is too long exactly where the labels, each after its separator, leave no byte for the last brace
 pub long_from_marked : (labels : List Pair) → nat_lt 4095 (length (marked labels)) ≡ nat_lt longest_text (length (labels_text labels))
 long_from_marked [] = refl
 long_from_marked (label ∷ labels) =

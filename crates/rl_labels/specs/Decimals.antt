@@ -5,7 +5,7 @@ use Rattle.std.specs.Char.{is_ascii_digit}
 use Rattle.std.specs.Coded.{Coded, code_by, coded×, coded_ℕ}
 use Rattle.std.specs.Str.Parse.{digits_value}
 
--- at least one digit, and at most so many
+-- at least one digit, and at most `most`
 abbrev pub is_row : ℕ → List ℕ → Bool
 is_row most text = nat_lt 0 (length text) && (nat_le (length text) most && list_all is_ascii_digit text)
 
@@ -17,9 +17,9 @@ number_of most text = if is_row most text then Some (digits_value 10 text) else 
 pub record DecimalForm : Type 0 where
   -- the number in front of the point
   pub whole : ℕ
-  -- the number behind it, 0 where there is no point
+  -- the number after it, 0 where there is no point
   pub fraction : ℕ
-  -- how many digits stand behind it
+  -- how many digits stand after it
   pub digits : ℕ
 
 -- 0, without a point
@@ -30,7 +30,7 @@ no_decimal = record { whole = 0; fraction = 0; digits = 0 }
 abbrev pub billionths : DecimalForm → ℕ
 billionths d = d.whole * 1000000000 + d.fraction * 10 ^ (9 - d.digits)
 
--- the parts before and behind the first point
+-- the parts before and after the first point
 abbrev pub cut_at_point : List ℕ → Option (List ℕ × List ℕ)
 cut_at_point text = option_map (λ place. (take place text, drop (place + 1) text)) (position (λ b. b == 46) text)
 
@@ -38,7 +38,7 @@ abbrev pub decimal_of_parts : ℕ → List ℕ → Option (List ℕ × List ℕ)
 decimal_of_parts most text None = option_map (λ whole. record { whole = whole; fraction = 0; digits = 0 }) (number_of most text)
 decimal_of_parts most _ (Some parts) = option_and_then (λ whole. option_map (λ fraction. record { whole = whole; fraction = fraction; digits = length parts.1 }) (number_of 9 parts.1)) (number_of most parts.0)
 
--- 1 to so many digits, and perhaps a point and 1 to 9 digits
+-- 1 to `most` digits, and perhaps a point and 1 to 9 digits
 abbrev pub decimal_of : ℕ → List ℕ → Option DecimalForm
 decimal_of most text = decimal_of_parts most text (cut_at_point text)
 

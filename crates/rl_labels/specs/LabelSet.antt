@@ -42,7 +42,7 @@ label set name = find name_cmp name (labels_of set)
 abbrev pub value_of : LabelSet → List ℕ → List ℕ
 value_of set name = unwrap_or (label set name) []
 
--- two sets with the same labels are one
+-- two sets with equal labels are one
 pub same_labels : (s t : LabelSet) → labels_of s ≡ labels_of t → s ≡ t
 unfolding labels_of
 same_labels s t e =
@@ -62,7 +62,7 @@ checked : (pairs : List Pair) (b : Bool) → are_labels pairs ≡ b → LabelSet
 checked pairs true e old = record { list = pairs; proper = subst T (sym e) tt }
 checked pairs false e old = old
 
--- the pairs with a value in the place of its name, and without the name where the value is empty
+-- the pairs with the value under the name, and without the name where the value is empty
 abbrev pub override : List ℕ → List ℕ → List Pair → List Pair
 override name value pairs = cond (is_empty value) (where_key name_cmp (λ other. not (is_text name other)) pairs) (put name_cmp name value pairs)
 

@@ -18,7 +18,7 @@ name_cmp = slice_cmp nat_cmp
 abbrev pub is_name_start : ℕ → Bool
 is_name_start byte = is_ascii_lowercase byte || (is_ascii_uppercase byte || byte == 95)
 
--- the same, or an ASCII digit
+-- such a byte, or an ASCII digit
 abbrev pub is_name_byte : ℕ → Bool
 is_name_byte byte = is_name_start byte || is_ascii_digit byte
 

@@ -64,7 +64,7 @@ abbrev pub is_byte_of : Bool → ℕ → Bool
 is_byte_of true byte = is_ascii_digit byte || byte == 46
 is_byte_of false byte = not (is_ascii_digit byte || byte == 46)
 
--- the longest front of such bytes, and what stands behind it
+-- the longest front of such bytes, and what follows it
 abbrev pub front_of : Bool → List ℕ → List ℕ × List ℕ
 front_of of_number text = (take (prefix_len (is_byte_of of_number) text) text, drop (prefix_len (is_byte_of of_number) text) text)
 
@@ -72,19 +72,19 @@ abbrev pub part_of : Option DecimalForm → Option DurationUnit → Option Durat
 part_of (Some number) (Some unit) = Some (record { number = number; unit = unit })
 part_of number unit = None
 
--- a part of a duration at the front, and what stands behind it
+-- a part of a duration at the front, and what follows it
 abbrev pub part_at : List ℕ → Option (DurationPart × List ℕ)
 part_at text =
     let number = front_of true text in
     let unit = front_of false number.1 in
     option_map (λ part. (part, unit.1)) (part_of (decimal_of 15 number.0) (duration_unit unit.0))
 
--- a part, and those that are read behind it, if something stands there
+-- a part, and those that are read after it, if anything follows it
 abbrev pub part_then : (List ℕ → Option (List DurationPart)) → DurationPart × List ℕ → Option (List DurationPart)
 part_then read_others (part, []) = Some (part ∷ [])
 part_then read_others (part, byte ∷ bytes) = option_map (λ others. part ∷ others) (read_others (byte ∷ bytes))
 
--- 1 to so many parts, and nothing else
+-- at least one part, at most the given number of them, and nothing else
 abbrev pub parts_of : ℕ → List ℕ → Option (List DurationPart)
 parts_of zero text = None
 parts_of (suc most) text = option_and_then (part_then (parts_of most)) (part_at text)
@@ -118,7 +118,7 @@ size_of text = let number = front_of true text in size_of_parts (decimal_of 15 n
 abbrev pub size_value : Size → ℕ
 size_value size = billionths size.number * bytes_in size.unit
 
--- whether a minus stands at the front, and what stands behind it
+-- whether a minus stands at the front, and what follows it
 abbrev pub sign_at : List ℕ → Bool × List ℕ
 sign_at [] = (false, [])
 sign_at (byte ∷ bytes) = if byte == 45 then (true, bytes) else (false, byte ∷ bytes)
@@ -126,7 +126,7 @@ sign_at (byte ∷ bytes) = if byte == 45 then (true, bytes) else (false, byte �
 abbrev pub signed_value : Bool → ℕ → ℤ
 signed_value negative value = if negative then neg_ℤ (pos value) else pos value
 
--- what is read behind a sign, if one stands there
+-- what is read after a sign, if there is one
 abbrev pub signed : {Q : Type 0} → (List ℕ → Option Q) → List ℕ → Option (Signed Q)
 signed read text = option_map (λ quantity. record { is_negative = (sign_at text).0; quantity = quantity }) (read (sign_at text).1)
 
@@ -134,6 +134,6 @@ signed read text = option_map (λ quantity. record { is_negative = (sign_at text
 abbrev pub no_time : List DurationPart
 no_time = record { number = no_decimal; unit = time.Second } ∷ []
 
--- a duration in a label's value: `0`, or parts behind a sign
+-- a duration in a label's value: `0`, or parts, perhaps after a sign
 abbrev pub duration_in_label : List ℕ → Option (Signed (List DurationPart))
 duration_in_label text = if is_text text (codes "0") then Some (record { is_negative = false; quantity = no_time }) else signed duration_of text

@@ -10,7 +10,7 @@ use Rattle.rl_labels.specs.declared.quantity.SizeUnit.{SizeUnit}
 use Rattle.rl_labels.specs.declared.quantity.SizeUnit.TheVariants as sizes
 use Rattle.rl_labels.specs.declared.quantity.Size.{Size}
 
--- the last so many digits of a number
+-- the last k digits of the number n
 abbrev pub digits_text : ℕ → ℕ → List ℕ
 digits_text zero n = []
 digits_text (suc k) n = digits_text k (n / 10) ++ (48 + n % 10) ∷ []
@@ -50,7 +50,7 @@ duration_text parts = flat_map part_text parts
 abbrev pub size_text : Size → List ℕ
 size_text size = decimal_text size.number ++ size_unit_text size.unit
 
--- up to 15 digits in front of the point and up to 9 behind it, within which the fraction fits
+-- up to 15 digits in front of the point and up to 9 after it, within which the fraction fits
 abbrev pub is_decimal : DecimalForm → Bool
 is_decimal d = nat_lt d.whole (10 ^ 15) && (nat_lt d.fraction (10 ^ d.digits) && nat_le d.digits 9)
 

@@ -22,6 +22,6 @@ abbrev pub compares_so : (by_pattern : Bool) → Matcher → Bool
 compares_so true matcher = is_by_pattern matcher.op
 compares_so false matcher = not (is_by_pattern matcher.op)
 
--- the same of those matchers alone that have a pattern, or have none
+-- every matcher that has a pattern, or every one that has none, accepts the label set
 abbrev pub selects_by : (by_pattern : Bool) → List Matcher → LabelSet → Bool
 selects_by by_pattern matchers labels = list_all (λ matcher. not (compares_so by_pattern matcher) || accepts matcher labels) matchers

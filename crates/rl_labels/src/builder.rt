@@ -19,7 +19,7 @@ use std::marker::Model;
 // The labels for which there is room at first, beside those of the set that it begins with.
 const ROOM: usize = 8;
 
-// So many labels are kept in a list, and more in a tree.
+// Up to this many labels are kept in a list, and more in a tree.
 const FEW: usize = 32;
 
 /// A label set that grows label by label, and whose text is made once, at the end. Contracts see the set.
@@ -223,7 +223,7 @@ fn value_in<'a>(labels: &'a [(ShortText, ShortText)], name: &str) -> Option<&'a 
     None
 }
 
-// Where a label with the name stands among labels by rising name, unless one has it. It is sought from behind, since most
+// Where a label with the name stands among labels by rising name, unless one has it. It is sought from the end, as most
 // labels come in the order of their names.
 fn place_of(labels: &[(ShortText, ShortText)], name: &str) -> Option<usize>
     requires { IsTrue (are_labels labels.now) }

@@ -18,7 +18,7 @@ use thiserror::Error;
 #[error("not a quantity of this kind")]
 pub struct NotOne;
 
-/// The number that a row of digits writes, of at least one digit and at most so many. Any other text is `None`.
+/// The number that a row of digits writes, of at least one digit and at most `most`. Any other text is `None`.
 pub fn number_of(text: &[u8], most: usize) -> Option<u64>
     requires { most ≤ 19 }
     ensures value { result ≡ number_of most text.now }
@@ -56,7 +56,7 @@ fn value_of(digits: &[u8]) -> u64
     value
 }
 
-/// A decimal as it is written, without a sign: up to 15 digits, and up to 9 behind a point.
+/// A decimal as it is written, without a sign: up to 15 digits, and up to 9 after a point.
 #[derive(Clone, Copy, Debug, PartialEq, Eq)]
 pub struct Decimal {
     whole: u64,
@@ -106,7 +106,7 @@ impl Decimal {
         Decimal::of_digits(text.as_bytes(), 15).ok_or(NotOne)
     }
 
-    /// The same of a text with at most so many digits in front of its point.
+    /// The decimal that a text is, with at most `most` digits in front of its point.
     pub fn of_digits(text: &[u8], most: usize) -> Option<Decimal>
         requires { most ≤ 15 }
         ensures { result ≡ decimal_of most text.now }
@@ -143,7 +143,7 @@ impl Decimal {
         u128::from(self.whole) * 1_000_000_000 + u128::from(fraction)
     }
 
-    /// Puts its canonical text, as `0.50`, behind what the text has.
+    /// Appends its canonical text, as `0.50`.
     pub fn push_to(self, text: &mut String) -> Result<(), AllocError>
         ensures { OnOk result (string_bytes text.new ≡ string_bytes text.old ++ decimal_text self) }
     {
@@ -156,7 +156,7 @@ impl Decimal {
     }
 }
 
-// Puts the last so many digits of a number behind what the text has.
+// Appends the last `count` digits of a number.
 fn push_digits(text: &mut String, count: u32, number: u64) -> Result<(), AllocError>
     ensures { OnOk result (string_bytes text.new ≡ string_bytes text.old ++ digits_text count number) }
 {
@@ -183,7 +183,7 @@ impl Same for Decimal {
     }
 }
 
-// The parts before and behind the first point.
+// The parts before and after the first point.
 fn cut_at_point(text: &[u8]) -> Option<(&[u8], &[u8])>
     ensures { option_map (λ parts. (parts.0.now, parts.1.now)) result ≡ cut_at_point text.now }
 {
@@ -191,7 +191,7 @@ fn cut_at_point(text: &[u8]) -> Option<(&[u8], &[u8])>
     Some((text.split_at(place).0, text.split_at(place + 1).1))
 }
 
-// The place of the first point.
+// The index of the first point.
 fn point_in(text: &[u8]) -> Option<usize>
     ensures place { result ≡ position (λ b. b == 46) text.now }
     ensures inside { IfSome result (λ place. place < length text.now) }

@@ -48,7 +48,7 @@ impl LabelTree {
         }
     }
 
-    /// Puts a label into its place. One that has its name gives way.
+    /// Puts a label into the tree. It replaces one that has its name.
     pub(crate) fn put(&mut self, name: &str, value: &str) -> Result<(), AllocError>
         ensures put { OnOk result (self.new ≡ put name_cmp name.now value.now self.old) }
         ensures refused { OnErr result (self.new ≡ self.old) }

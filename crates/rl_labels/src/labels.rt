@@ -28,7 +28,7 @@ pub const ERROR_LABEL: &str = "__error__";
 /// The longest canonical text of a stream's labels, in bytes.
 pub const MAX_TEXT_LEN: usize = 4096;
 
-// So many labels are gone through one by one, and more are sought by halves.
+// Up to this many labels are gone through one by one, and more are sought by halves.
 const FEW: usize = 8;
 
 // What is escaped in a value: a backslash, a quote and a newline.
@@ -142,7 +142,7 @@ fn keep_values(pairs: &mut Vec<(PlainText, PlainText)>)
 }
 
 // Whether the text of these labels is longer than a stream's may be, counted without memory. Before each label stands a
-// brace or a comma, and one brace behind the last.
+// brace or a comma, and one brace after the last.
 #[tactic(auto, using(crate::proofs::TextLengths::long_from_marked))]
 fn is_long(labels: &[(PlainText, PlainText)]) -> bool
     ensures { result ≡ nat_lt longest_text (length (labels_text labels.now)) }
@@ -157,7 +157,7 @@ fn is_long(labels: &[(PlainText, PlainText)]) -> bool
     false
 }
 
-// The room that is left behind a label and the mark before it, if they fit. Four bytes are the mark, `=` and two quotes.
+// The room that is left after a label and its separator, if they fit. Four bytes are the separator, `=` and two quotes.
 #[tactic(auto, using(crate::proofs::TextLengths::marked_length))]
 fn room_after(room: usize, label: &(PlainText, PlainText)) -> Option<usize>
     ensures { SomeIff result (length (44 ∷ label_text label.now) ≤ room) (room - length (44 ∷ label_text label.now)) }
@@ -182,7 +182,7 @@ fn value_in<'a>(labels: &'a [(PlainText, PlainText)], name: &str) -> Option<&'a 
     None
 }
 
-// The same of labels by rising name, sought by halves.
+// The value of the label with this name, sought by halves among labels by rising name.
 fn value_by_halves<'a>(labels: &'a [(PlainText, PlainText)], name: &str) -> Option<&'a str>
     requires { IsTrue (are_labels labels.now) }
     ensures { option_copied result ≡ find name_cmp name.now labels.now }
@@ -244,7 +244,7 @@ fn push_other(
     Ok(())
 }
 
-// The labels with this one in its place.
+// The labels with this one, which replaces one with its name.
 fn with(
     alloc: Global,
     labels: &[(PlainText, PlainText)],
@@ -261,7 +261,7 @@ fn with(
     Ok(all)
 }
 
-// The labels that stand before one with this name, and those that stand behind it.
+// The labels that stand before one with this name, and those that stand after it.
 fn around<'a>(
     labels: &'a [(PlainText, PlainText)],
     name: &str,

@@ -5,7 +5,7 @@
 //!
 //! - `labels`: `Labels`, made from pairs with named refusals. `builder`: `LabelsBuilder`, label sets that grow. `label_tree`: many labels, in a tree.
 //! - `entry`: `Entry`, labels with a moment and a line.
-//! - `matcher`: `Matcher`, and its built code that accepts label sets. `selector`: the same of many that must all accept.
+//! - `matcher`: `Matcher`, and its built code that accepts label sets. `selector`: the code of many that must all accept.
 //! - `covers`: what covers entries, as delete requests do. `routing`: which of several shards a stream goes to.
 //! - `short`: texts that lie in the value itself where they are short.
 //! - `decimal`: rows of digits, and `Decimal`. `quantity`: `Duration`, `Size`, and `Signed`, which labels' values are.

@@ -112,7 +112,7 @@ impl Limits {
     ghost use Rattle.std.specs.Prelude.{None, Some};
     ghost use Rattle.rl_labels.specs.LimitRanges.{raw_limits, first_out_of_range};
 
-    /// The limits, if each is in its range. Of several that are not, the first in the order of the fields is told.
+    /// The limits, if each is in its range. Of several that are not, the first in the order of the fields is reported.
     pub fn check(raw: RawLimits) -> Result<Limits, BadLimit>
         ensures in_range { MatchResult result (λ _. first_out_of_range raw ≡ None) (λ bad. first_out_of_range raw ≡ Some bad.field) }
         ensures same { MatchResult result (λ limits. raw_limits limits ≡ raw) (λ _. Unit {0}) }

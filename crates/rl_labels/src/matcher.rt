@@ -82,7 +82,7 @@ impl Matcher {
         Ok(matcher)
     }
 
-    /// The same of a pattern that is read and not built: `BadRegex` exactly where it is none.
+    /// The matcher of its parts. A pattern is read and not built: `BadRegex` exactly where it is none.
     pub fn read(name: PlainText, op: MatchOp, value: PlainText) -> Result<Matcher, MatcherError>
         ensures parts { IfOk result (λ matcher. (matcher.name ≡ name) × (matcher.op ≡ op) × (matcher.value ≡ value)) }
         ensures refused { IfErr result (IsUnread name op value) }

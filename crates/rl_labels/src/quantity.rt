@@ -195,7 +195,7 @@ fn is_byte_of(of_number: bool, byte: u8) -> bool
     (byte.is_ascii_digit() || byte == b'.') == of_number
 }
 
-// A part of a duration at the front, and what stands behind it.
+// A part of a duration at the front, and what follows it.
 fn part_at(text: &[u8]) -> Option<(DurationPart, &[u8])>
     ensures { option_map (λ part. (part.0, part.1.now)) result ≡ part_at text.now }
 {
@@ -215,7 +215,7 @@ impl DurationPart {
         self.number.billionths() * u128::from(self.unit.nanoseconds())
     }
 
-    // Puts its canonical text behind what the text has.
+    // Appends its canonical text.
     fn push_to(self, text: &mut String) -> Result<(), AllocError>
         ensures { OnOk result (string_bytes text.new ≡ string_bytes text.old ++ part_text self) }
     {
@@ -243,7 +243,7 @@ impl Size {
         self.number.billionths() * u128::from(self.unit.bytes())
     }
 
-    /// Puts its canonical text, as `1.5kib`, behind what the text has.
+    /// Appends its canonical text, as `1.5kib`.
     pub fn push_to(self, text: &mut String) -> Result<(), AllocError>
         ensures { OnOk result (string_bytes text.new ≡ string_bytes text.old ++ size_text self) }
     {
@@ -341,7 +341,7 @@ impl Duration {
         value
     }
 
-    /// Puts its canonical text, as `1h30m`, behind what the text has.
+    /// Appends its canonical text, as `1h30m`.
     pub fn push_to(&self, text: &mut String) -> Result<(), AllocError>
         ensures { OnOk result (string_bytes text.new ≡ string_bytes text.old ++ duration_text self.now) }
     {
@@ -464,7 +464,7 @@ fn no_time() -> Duration
     Duration { parts }
 }
 
-// Whether a minus stands at the front, and what stands behind it.
+// Whether a minus stands at the front, and what follows it.
 fn sign_at(text: &[u8]) -> (bool, &[u8])
     ensures { (result.0, result.1.now) ≡ sign_at text.now }
 {

@@ -5,7 +5,7 @@ ghost use Rattle.rl_labels.specs.Routing.{shard_of};
 
 use crate::labels::Labels;
 
-/// Which of so many shards a stream goes to, counted from 0.
+/// Which of the shards a stream goes to, counted from 0.
 pub fn shard_of(labels: &Labels, shards: usize) -> usize
     requires { 1 ≤ shards }
     ensures { result ≡ shard_of labels.now shards }

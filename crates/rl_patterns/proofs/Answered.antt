@@ -1,4 +1,4 @@
--- An answer of a whole comparison tells what the pattern means.
+-- An answer of a whole comparison is what the pattern means.
 use Rattle.std.specs.Prelude.{◌≡◌, ◌↔◌, ℕ, Bool, true, List, length, Result, Ok, Err, IfOk, IsUtf8}
 use Rattle.std.proofs.Common.{sym, subst}
 use Rattle.regex.specs.Patterns.{Re, Matches}

@@ -90,7 +90,7 @@ is_pattern-refused text kind (inr h) other = none_read (read default_config (cha
 pub is_pattern_of : (r : Regex) → IsBuilt r → is_pattern (regex_source r) ≡ true
 is_pattern_of r (is_default, is_read) = is_pattern-read (regex_source r) _ _ (rw is_default at is_read)
 
--- an error of `Regex::new` tells whether the text is a pattern
+-- an error of `Regex::new` says whether the text is a pattern
 pub is_refusal : (text : List ℕ) (error : Error) → IsRefusal default_config text error → IsRightKind default_config text error →
     (error ≡ Internal → ⊥) → IsRefusalOf (is_pattern text) (refusal_of error)
 is_refusal text (Syntax e) refused kind known = is_pattern-refused text e.kind (refused e refl) kind

@@ -1,4 +1,4 @@
-//! Whether a pattern matches the empty text, told from the pattern as it is read.
+//! Whether a pattern matches the empty text, decided from the pattern as it is read.
 ghost use Rattle.std.specs.Prelude.{◌≡◌, IfOk, [], map};
 ghost use Rattle.regex_hir.specs.Looks.{holds};
 ghost use Rattle.regex_hir.specs.Meaning.{meaning, cat_all, alt_all};

@@ -15,7 +15,7 @@ escape_ascii (entry ∷ table) byte letter ascii is =
       | false ↦ λ _ is. escape_ascii table byte letter parts.1 is
     ] refl is
 
--- what is written before the first byte that is escaped, and behind it
+-- what is written before the first byte that is escaped, and after it
 pub escaped_at : (table : Escapes) (bytes : List ℕ) (i letter : ℕ) → i < length bytes → escaped table (take i bytes) ≡ take i bytes → escape table (get_or bytes i 0) ≡ 92 ∷ letter ∷ [] → escaped table bytes ≡ take i bytes ++ 92 ∷ letter ∷ escaped table (drop (i + 1) bytes)
 escaped_at table bytes i letter below plain is =
     let next : suc i ≡ i + 1 = omega arith in

@@ -3,7 +3,7 @@ use Rattle.std.specs.Prelude.{ℕ, Bool, true, false, Ok, Err}
 use Rattle.rl_plain.specs.Answers.{Gives, Answers}
 use Rattle.rl_plain.specs.declared.refusal.OrMemory.TheVariants.{Fault, Memory}
 
--- an answer is what was read, its fault, or want of memory
+-- an answer is what was read, its fault, or lack of memory
 no_other_answer : Gives {X = Bool} {F = ℕ} (λ b. b) (Ok true) (Ok false) → ⊥
 no_other_answer e = cc
 

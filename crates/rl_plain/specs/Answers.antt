@@ -1,4 +1,4 @@
--- What a reader answers: a value or the first fault, and of a reader that needs memory want of it too.
+-- What a reader answers: a value or the first fault, or, where it needs memory, that memory ran out.
 use Rattle.std.specs.Prelude.{◌≡◌, List, ◌++◌, Result, Ok, Err}
 use Rattle.rl_plain.specs.declared.refusal.OrMemory.{OrMemory}
 use Rattle.rl_plain.specs.declared.refusal.OrMemory.TheVariants.{Fault, Memory}
@@ -19,7 +19,7 @@ abbrev pub Gives : {X Y F : Type 0} → (X → Y) → Result X (OrMemory F) → 
 Gives view (Ok x) read = read ≡ Ok (view x)
 Gives view (Err e) read = Fails e read
 
--- the same of a function that takes no memory
+-- as `Gives`, of a function that needs no memory
 abbrev pub Answers : {X Y F : Type 0} → (X → Y) → Result X F → Result Y F → Type 0
 Answers view (Ok x) read = read ≡ Ok (view x)
 Answers view (Err fault) read = read ≡ Err fault

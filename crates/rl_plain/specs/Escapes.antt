@@ -2,7 +2,7 @@
 use Rattle.std.specs.Prelude.{◌≡◌, ℕ, ◌==◌, ◌<◌, length, ◌++◌, nat_lt, Bool, ◌&&◌, List, [], ◌∷◌, Option, None, Some, if◌then◌else◌}
 use Rattle.std.specs.List.{list_all, flat_map}
 
--- bytes, each with the letter that stands behind the backslash
+-- bytes, each with the letter that follows the backslash
 abbrev pub Escapes : Type 0
 Escapes = List (ℕ × ℕ)
 
@@ -24,6 +24,6 @@ escaped table = flat_map (escape table)
 abbrev pub are_ascii : Escapes → Bool
 are_ascii = list_all (λ entry. nat_lt entry.0 128 && nat_lt entry.1 128)
 
--- a text is what stands before its first escape, the backslash with its letter, and what is written behind them
+-- a text is what stands before its first escape, the backslash with its letter, and what is written after them
 abbrev pub IsCutAt : Escapes → List ℕ → List ℕ → ℕ → List ℕ → Type 0
 IsCutAt table value plain letter behind = (escaped table value ≡ plain ++ 92 ∷ letter ∷ escaped table behind) × (length behind < length value) × (letter < 128)

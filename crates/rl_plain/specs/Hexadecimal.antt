@@ -11,7 +11,7 @@ hex_digit byte =
     else (if nat_le 65 byte && nat_le byte 70 then Some (byte - 55)
     else None))
 
--- the number of hexadecimal digits, behind those read so far
+-- the number that hexadecimal digits write, after those read so far
 abbrev pub hex_number : ℕ → List ℕ → Option ℕ
 hex_number so_far [] = Some so_far
 hex_number so_far (byte ∷ bytes) = option_and_then (λ digit. hex_number (16 * so_far + digit) bytes) (hex_digit byte)

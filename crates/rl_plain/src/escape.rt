@@ -45,7 +45,7 @@ pub fn unescape(table: &[(u8, u8)], letter: u8) -> Option<u8>
     None
 }
 
-// What stands before the first byte that the table has, its letter, and what stands behind it.
+// What stands before the first byte that the table has, its letter, and the rest.
 fn cut<'a>(table: &[(u8, u8)], value: &'a str) -> Option<(&'a str, char, &'a str)>
     requires { IsTrue (are_ascii table.now) }
     ensures { MatchOption result (escaped table.now value.now ≡ value.now) (λ parts. IsCutAt table.now value.now parts.0.now parts.1 parts.2.now) }

@@ -2,11 +2,11 @@
 //! bytes, also inside structs and enums, however they nest.
 //!
 //! - `list`: `PlainList<T>`, made from a `Vec` and given back without memory; lawful comparisons and hash.
-//! - `text`: `PlainText`, the same over a `String`.
+//! - `text`: `PlainText`, likewise from a `String`.
 //! - `copying`: `TryCopy`, whose copy is the value.
 //! - `escape`: texts as they are written between quotes, by a table of escapes.
 //! - `hexadecimal`: numbers of four hexadecimal digits.
-//! - `refusal`: `OrMemory`, a fault or want of memory.
+//! - `refusal`: `OrMemory`, a fault or lack of memory.
 //! - `run`: runs of bytes of a `ByteClass` at the front of a text.
 //! - `sameness`: `Same`, whose answer is true exactly when the two values are one.
 //! - `sending`: probes for what may cross to another thread.

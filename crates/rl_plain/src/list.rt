@@ -75,7 +75,7 @@ impl<T> PlainList<T> {
 }
 
 impl<T: Drop> PlainList<T> {
-    /// Puts an item in the place of the one at the index.
+    /// Replaces the item at the index.
     pub fn set(&mut self, index: usize, item: T)
         requires { index < length self.old }
         ensures { self.new ≡ slice_set self.old index item }

@@ -1,11 +1,11 @@
-//! A fault, or want of memory: what a call that needs memory answers when it is refused.
+//! A fault, or lack of memory: what a call that needs memory answers when it is refused.
 ghost use Rattle.std.specs.Prelude.{◌≡◌};
 ghost use Rattle.rl_plain.specs.declared.refusal.OrMemory.TheVariants.{Memory};
 
 use std::alloc::{AllocError, AllocFailed};
 use std::fmt;
 
-/// A fault of what was given, or want of memory, which says nothing of it.
+/// A fault of what was given, or lack of memory, which says nothing of it.
 #[derive(Clone, Copy, Debug, Drop, PartialEq, Eq)]
 pub enum OrMemory<F> {
     Fault(F),

@@ -1,9 +1,9 @@
-//! Runs of bytes at the front of a text, which is cut behind them.
+//! Runs of bytes at the front of a text, which is cut after them.
 ghost use Rattle.std.specs.Prelude.{◌≡◌, ◌<◌, ℕ, Bool, length, take, drop, slice_index};
 ghost use Rattle.std.specs.List.{prefix_len};
 ghost use Rattle.rl_plain.specs.Runs.{IsCutBehind};
 
-/// Bytes that go on with each other in a text, which may be cut behind them.
+/// A class of bytes. A text may be cut after the longest run of them at its front.
 pub trait ByteClass {
     ghost has: { Self → ℕ → Bool };
 

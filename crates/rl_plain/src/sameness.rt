@@ -4,7 +4,7 @@ ghost use Rattle.std.specs.Prelude.{◌≡◌, ◌↔◌, IsTrue};
 use crate::list::PlainList;
 use crate::text::PlainText;
 
-/// Plain data of which two values can be told apart, without memory.
+/// Plain data of which two values can be compared without memory.
 pub trait Same {
     /// Whether the two values are one.
     fn is_same(&self, other: &Self) -> bool

@@ -7,7 +7,7 @@ use std::alloc::{AllocError, Global};
 use std::marker::Model;
 use std::sync::Arc;
 
-/// A value in a block of its own, with an atomic count of its owners. It is never changed in place.
+/// A value in a block of its own, with an atomic count of its owners. It is never mutated.
 #[derive(Drop)]
 pub struct Shared<T> {
     value: Arc<T>,
@@ -53,7 +53,7 @@ impl<T: Drop> Shared<T> {
 
 impl<T: Drop> TryCopy for Shared<T> {
     /// One owner more, without memory. It is refused only where more owners live than can be counted; no clause says
-    /// so, since the contract of `Arc` does not say when it refuses one more.
+    /// so, because the contract of `Arc` does not say when it refuses one more.
     fn try_copy(&self) -> Result<Self, AllocError> {
         let value = Arc::try_clone(&self.value)?;
         Ok(Shared { value })

@@ -60,7 +60,7 @@ digit_turn bytes rest seconds rank b digits digit left = record {
     step None = ap (option_map (λ others. capped (seconds + others))) (cond-true (is_ascii_digit b) _ _ digit)
     step (Some n) = ap (option_map (λ others. capped (seconds + others))) (cond-true (is_ascii_digit b) _ _ digit)
 
--- a unit behind its number
+-- a unit after its number
 pub unit_turn : (bytes rest : List ℕ) (seconds rank b n : ℕ) (unit : ℕ × ℕ) → is_ascii_digit b ≡ false → unit_of b ≡ Some unit → rank < unit.1 → Left bytes (b ∷ rest) seconds rank (Some n) → Left bytes rest (capped (seconds + n * unit.0)) unit.1 None
 unit_turn bytes rest seconds rank b n unit other is rises left = record {
   read = by_left (n * unit.0) (duration_from unit.1 None rest) ∙ sym step ∙ left.read;

@@ -91,7 +91,7 @@ pub all_forms : {A B : Type 0} (p : B → Bool) (form : A → B) → ((x : A) �
 all_forms p form passes [] = refl
 all_forms p form passes (x ∷ xs) = and_from (p (form x)) _ (passes x) (all_forms p form passes xs)
 
--- stages and their forms have as many of what is counted
+-- items and their forms have equal counts
 sum_forms : {A B : Type 0} (f : B → ℕ) (g : A → ℕ) (form : A → B) → ((x : A) → f (form x) ≡ g x) → (xs : List A) → sum_by f (map form xs) ≡ sum_by g xs
 sum_forms f g form same [] = refl
 sum_forms f g form same (x ∷ xs) = sum_by-cons f (form x) (map form xs) ∙ (λ i. same x i + sum_forms f g form same xs i) ∙ sym (sum_by-cons g x xs)

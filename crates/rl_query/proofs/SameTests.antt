@@ -1,4 +1,4 @@
--- Label tests with one form are one, and their forms have as many tests and parentheses.
+-- Label tests with one form are one. They have the counts of tests and parentheses of their form.
 use Rattle.std.proofs.Common.{◌≡◌, ◌+◌, max, not, refl, ap, IsTrue}
 use Rattle.std.proofs.Props.{props}
 use mathlib.Core.HLevel.{Σ_prop_path}

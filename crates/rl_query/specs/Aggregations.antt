@@ -9,7 +9,7 @@ use Rattle.rl_query.specs.declared.aggregation.Grouping.TheVariants as groupings
 use Rattle.rl_query.specs.declared.aggregation.VectorOperator.{VectorOperator}
 use Rattle.rl_query.specs.declared.aggregation.VectorOperator.TheVariants as operators
 
--- how many elements topk may keep
+-- how many samples topk may keep
 abbrev pub is_top : ℕ → Bool
 is_top k = nat_le 1 k && nat_le k 65535
 
@@ -23,7 +23,7 @@ is_grouping groupings.All = true
 is_grouping (groupings.By names) = list_all is_name names
 is_grouping (groupings.Without names) = list_all is_name names
 
--- at most nine digits in front of the point, and six behind it
+-- at most nine digits in front of the point, and six after it
 abbrev pub is_threshold : DecimalForm → Bool
 is_threshold value = is_decimal value && (nat_lt value.whole (10 ^ 9) && nat_le value.digits 6)
 
@@ -31,6 +31,6 @@ is_threshold value = is_decimal value && (nat_lt value.whole (10 ^ 9) && nat_le 
 abbrev pub threshold_of : List ℕ → Option DecimalForm
 threshold_of number = option_and_then (λ value. if nat_le value.digits 6 then Some value else None) (decimal_of 9 number)
 
--- the number of elements that a number writes, without a point
+-- how many samples topk keeps, read from a number without a point
 abbrev pub top_of : List ℕ → Option ℕ
 top_of number = option_and_then (λ value. if value.digits == 0 && is_top value.whole then Some value.whole else None) (decimal_of 15 number)

@@ -14,7 +14,7 @@ abbrev pub part_of : ℕ → Option ℕ → Option (ℕ × ℕ) → Option (ℕ 
 part_of rank (Some n) (Some unit) = if nat_lt rank unit.1 then Some (n * unit.0, unit.1) else None
 part_of rank _ _ = None
 
--- the seconds of parts behind a unit of a rank and a number without its unit
+-- the seconds of parts, after a unit of a rank and a number without its unit
 abbrev pub duration_from : ℕ → Option ℕ → List ℕ → Option ℕ
 duration_from rank None [] = Some 0
 duration_from rank (Some n) [] = None

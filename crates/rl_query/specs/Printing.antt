@@ -32,7 +32,7 @@ filter_op_text lines.NotMatches = codes "!~"
 abbrev pub filter_print : FilterForm → List ℕ
 filter_print filter = filter_op_text filter.op ++ codes " \"" ++ escaped escapes filter.text ++ codes "\""
 
--- each line filter behind a space
+-- each line filter after a space
 abbrev pub filters_text : List FilterForm → List ℕ
 filters_text filters = flat_map (λ filter. codes " " ++ filter_print filter) filters
 
@@ -40,13 +40,13 @@ abbrev pub parser_text : Parser → List ℕ
 parser_text parsers.Json = codes "json"
 parser_text parsers.Logfmt = codes "logfmt"
 
--- a line filter, a parser as in | json, or label tests behind a pipe
+-- a line filter, a parser as in | json, or label tests after a pipe
 abbrev pub stage_print : StageForm → List ℕ
 stage_print (by_filter filter) = filter_print filter
 stage_print (by_parser parser) = codes "| " ++ parser_text parser
 stage_print (by_tests tests) = codes "| " ++ tests_text tests
 
--- each stage behind a space
+-- each stage after a space
 abbrev pub stages_text : List StageForm → List ℕ
 stages_text stages = flat_map (λ stage. codes " " ++ stage_print stage) stages
 
@@ -64,7 +64,7 @@ grouping_text groupings.All = []
 grouping_text (groupings.By names) = codes " by (" ++ names_text names ++ codes ") "
 grouping_text (groupings.Without names) = codes " without (" ++ names_text names ++ codes ") "
 
--- the number of elements that topk keeps
+-- the number of samples that topk keeps
 abbrev pub parameter_text : VectorOperator → List ℕ
 parameter_text (operators.Topk k) = decimal k ++ codes ", "
 parameter_text _ = []
@@ -85,7 +85,7 @@ bare_text term = function_text term.function ++ codes "(" ++ range_text term.ran
 abbrev pub term_text : TermForm → List ℕ
 term_text term = nest_text term.aggregations (bare_text term)
 
--- behind a term: the divisor
+-- after a term: the divisor
 abbrev pub over_text : Option TermForm → List ℕ
 over_text None = []
 over_text (Some term) = codes " / " ++ term_text term

@@ -24,7 +24,7 @@ tests_in _ = 0
 abbrev pub count_label_tests : List Stage → ℕ
 count_label_tests stages = sum_by tests_in stages
 
--- at most so many of its parentheses are open at once
+-- at most `depth` of its parentheses are open at once
 abbrev pub is_shallow : (depth : ℕ) → Stage → Bool
 is_shallow depth (kinds.Tests tests) = nat_le (text_depth tests) depth
 is_shallow depth _ = true

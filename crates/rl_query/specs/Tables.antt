@@ -107,7 +107,7 @@ operator_word vectors.Min = codes "min"
 operator_word vectors.Max = codes "max"
 operator_word (vectors.Topk k) = codes "topk"
 
--- those without a number of elements
+-- those without a number of samples
 abbrev pub plain_operators : List VectorOperator
 plain_operators = vectors.Sum ∷ vectors.Count ∷ vectors.Min ∷ vectors.Max ∷ []
 

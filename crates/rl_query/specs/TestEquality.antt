@@ -1,4 +1,4 @@
--- When two trees of tests are equal, by what tells their tests apart.
+-- When two trees of tests are equal, by an equality of their tests.
 use Rattle.std.proofs.Common.{◌≡◌, Bool, true, false, ◌&&◌, refl}
 use Rattle.std.specs.Cmp.{IsEquivalence}
 use Rattle.std.proofs.lemmas.Bool.{and_parts, and_from}

@@ -31,7 +31,7 @@ abbrev pub map_tree : {A B : Type 0} → (A → B) → TestTree A → TestTree B
 map_tree view (one test) = one (view test)
 map_tree view (joined join left right) = joined join (map_tree view left) (map_tree view right)
 
--- a tree as numbers, which tell two trees apart
+-- a tree as numbers, which differ for different trees
 abbrev join_number : Join → ℕ
 join_number And = 1
 join_number Or = 2

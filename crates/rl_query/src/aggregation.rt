@@ -7,25 +7,25 @@ use rl_labels::Decimal;
 use rl_plain::{PlainList, PlainText, Same, TryCopy};
 use std::alloc::AllocError;
 
-/// What a vector aggregation makes of each group of elements (LogQL).
+/// What a vector aggregation makes of each group of samples (LogQL).
 #[derive(Clone, Copy, PartialEq, Eq)]
 pub enum VectorOperator {
     /// The sum of the values.
     Sum,
-    /// How many elements there are.
+    /// How many samples there are.
     Count,
     /// The least value.
     Min,
     /// The greatest value.
     Max,
-    /// So many elements with the greatest values, 1 to 65,535.
+    /// This many samples with the greatest values, 1 to 65,535.
     Topk(u16),
 }
 
-/// Which elements are in one group (LogQL).
+/// Which samples are in one group (LogQL).
 #[derive(Drop, PartialEq, Eq)]
 pub enum Grouping {
-    /// All elements.
+    /// All samples.
     All,
     /// `by`: those with equal values of these labels.
     By(PlainList<PlainText>),
@@ -42,11 +42,11 @@ pub struct Aggregation {
     ghost named: { IsTrue (is_grouping grouping) },
 }
 
-/// A comparison with a number: elements for which it is false are left out (LogQL).
+/// A comparison with a number: samples for which it is false are left out (LogQL).
 #[derive(Drop, PartialEq, Eq)]
 pub struct Threshold {
     pub comparison: Comparison,
-    /// Below 1,000,000,000, with at most 6 digits behind its point.
+    /// Below 1,000,000,000, with at most 6 digits after its point.
     pub value: Decimal,
     ghost proper: { IsTrue (is_threshold value) },
 }

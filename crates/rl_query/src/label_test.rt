@@ -25,7 +25,7 @@ pub enum LabelTest {
     Quantity(QuantityTest),
 }
 
-/// Tests of labels, as in `a="x" and (b!="y" or c=~"z.*")`. A node is a few words, since a query may have a deep tree.
+/// Tests of labels, as in `a="x" and (b!="y" or c=~"z.*")`. A node is a few words, because a query may have a deep tree.
 #[cycle(tests)]
 #[derive(Drop)]
 pub struct LabelTests {
@@ -183,7 +183,7 @@ impl Eq for LabelTests {
     ghost laws = { tree_equiv tests_laws.laws-law };
 }
 
-/// What may stand at a place without parentheses.
+/// What may stand in a position without parentheses.
 #[derive(Clone, Copy)]
 pub enum Level {
     /// Any tests.

@@ -1,7 +1,7 @@
 //! Queries as values: LogQL metric queries, the sieves of delete requests, and what both are made of.
 //!
 //! The limits of a query are facts of its types, so each `Query`, `Term` and `Sieve` that exists keeps them. Whether two
-//! queries are one can be told without memory. Each has a canonical text. Texts are read in rl_selector_text
+//! queries are one is decided without memory. Each has a canonical text. Texts are read in rl_selector_text
 //! and rl_query_text.
 //!
 //! - `query`: `Query`, `Term`, `LogRange`, `RangeFunction` and `Selector`.

@@ -146,7 +146,7 @@ fn push_other_names(text: &mut String, names: &[PlainText]) -> Result<(), AllocE
     Ok(())
 }
 
-// The number of elements that topk keeps.
+// The number of samples that topk keeps.
 fn push_parameter(text: &mut String, operator: VectorOperator) -> Result<(), AllocError>
     ensures { OnOk result (string_bytes text.new ≡ string_bytes text.old ++ parameter_text operator) }
 {
@@ -248,7 +248,7 @@ fn operator_sign(op: MatchOp) -> &'static str
     }
 }
 
-// Each line filter behind a space.
+// Each line filter after a space.
 pub(crate) fn push_filters(text: &mut String, filters: &[LineFilter]) -> Result<(), AllocError>
     ensures { OnOk result (string_bytes text.new ≡ string_bytes text.old ++ filters_text (map filter_form filters.now)) }
 {
@@ -259,7 +259,7 @@ pub(crate) fn push_filters(text: &mut String, filters: &[LineFilter]) -> Result<
     Ok(())
 }
 
-// Each stage behind a space.
+// Each stage after a space.
 fn push_stages(text: &mut String, stages: &[Stage]) -> Result<(), AllocError>
     ensures { OnOk result (string_bytes text.new ≡ string_bytes text.old ++ stages_text (map stage_form stages.now)) }
 {

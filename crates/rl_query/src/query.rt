@@ -10,7 +10,7 @@ use rl_labels::Matcher;
 use rl_plain::{PlainList, Same, TryCopy};
 use std::alloc::AllocError;
 
-/// A metric query: a term, or the ratio of two, whose elements are perhaps compared with a number. Both terms together have at most 256 stages and 256 label tests.
+/// A metric query: a term, or the ratio of two, whose samples are perhaps compared with a number. Both terms together have at most 256 stages and 256 label tests.
 #[derive(Drop, PartialEq, Eq)]
 pub struct Query {
     pub left: Term,

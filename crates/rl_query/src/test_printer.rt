@@ -89,7 +89,7 @@ fn right_level(join: Join) -> Level
     }
 }
 
-// Whether tests need parentheses at a place.
+// Whether tests need parentheses in a position.
 fn needs(level: Level, tests: &LabelTests) -> bool
     ensures { result ≡ needs level (tests_form tests.now) }
 {
@@ -100,7 +100,7 @@ fn needs(level: Level, tests: &LabelTests) -> bool
     }
 }
 
-// Tests, in parentheses where they need them at a place.
+// Tests, in parentheses where they need them in a position.
 #[cycle(printing)]
 fn push_enclosed(text: &mut String, level: Level, tests: &LabelTests) -> Result<(), AllocError>
     ensures { OnOk result (string_bytes text.new ≡ string_bytes text.old ++ enclosed (needs level (tests_form tests.now)) (tests_text (tests_form tests.now))) }

@@ -1,4 +1,4 @@
--- What label sets answer after a change, and that two sets with the same answers are one.
+-- What label sets answer after a change, and that two sets with equal answers are one.
 use Rattle.std.specs.Prelude.{◌≡◌, ℕ, Bool, true, false, cond, not, List, [], ◌∷◌, Option, None, Some, T, refl}
 use Rattle.std.specs.Option.{option_and_then}
 use Rattle.std.specs.List.{list_all}

@@ -30,7 +30,7 @@ tied_both Less p h = cc
 tied_both Equal p h = (refl, h)
 tied_both Greater p h = cc
 
--- matchers with the same parts are one
+-- matchers with equal parts are one
 pub same_matcher : (a b : Matcher) → a.name ≡ b.name → a.op ≡ b.op → a.value ≡ b.value → a ≡ b
 same_matcher a b p q r =
     let name : ◌≡◌ {A = (n : List ℕ) × IsTrue (is_name n)} (a.name, a.named) (b.name, b.named) = Σ_prop_path (λ n. hlevel props) p in
@@ -38,7 +38,7 @@ same_matcher a b p q r =
     let wanted : ◌≡◌ {A = (c : MatchOp × List ℕ) × IsTrue (is_comparable c.0 c.1)} ((a.op, a.value), a.comparable) ((b.op, b.value), b.comparable) = Σ_prop_path (λ c. hlevel props) compared in
     λ i. record { name = (name i).0; op = (wanted i).0.0; value = (wanted i).0.1; named = (name i).1; comparable = (wanted i).1 }
 
--- the operator at a place of their order
+-- the operator at an index of their order
 abbrev operator_at : ℕ → MatchOp
 operator_at zero = operators.Equal
 operator_at (suc zero) = operators.NotEqual
@@ -54,7 +54,7 @@ operator_at-index operators.NotMatches = refl
 same_operator : (a b : MatchOp) → operator_index a ≡ operator_index b → a ≡ b
 same_operator a b e = sym (operator_at-index a) ∙ ap operator_at e ∙ operator_at-index b
 
--- operators are equal exactly where their places tie
+-- operators are equal exactly where their indices tie
 pub operators_tie : (a b : MatchOp) → sameb the_type a b ≡ eq_by_cmp nat_cmp (operator_index a) (operator_index b)
 operators_tie operators.Equal operators.Equal = refl
 operators_tie operators.NotEqual operators.NotEqual = refl
@@ -74,7 +74,7 @@ matcher_cmp-IsAntisymmetric a b tied =
     let first = tied_both _ _ both.0 in
     same_matcher a b (name_cmp-IsAntisymmetric _ _ first.0) (same_operator _ _ (nat_cmp-IsAntisymmetric _ _ first.1)) (name_cmp-IsAntisymmetric _ _ both.1)
 
--- entries with the same parts are one
+-- entries with equal parts are one
 pub same_entry : (a b : Entry) → a.labels ≡ b.labels → a.timestamp ≡ b.timestamp → a.line ≡ b.line → a ≡ b
 same_entry a b p q r =
     let labels : ◌≡◌ {A = (s : LabelSet) × IsTrue (is_stream s)} (a.labels, a.of_stream) (b.labels, b.of_stream) = Σ_prop_path (λ s. hlevel props) p in

@@ -31,7 +31,7 @@ all_digits : (text : List ℕ) → all_ascii_digits text ≡ list_all is_ascii_d
 all_digits [] = refl
 all_digits (byte ∷ bytes) = ap (λ b. is_ascii_digit byte && b) (all_digits bytes)
 
--- a row of at most so many digits is below the power of their number
+-- a row of at most `most` digits is below 10 ^ `most`
 pub row-below : (digits : List ℕ) (most : ℕ) → list_all is_ascii_digit digits ≡ true → length digits ≤ most → digits_value 10 digits < 10 ^ most
 row-below digits most are few = digits_value_short (numerals_by_value _ tells_all_ascii_digits) digits most (all_digits digits ∙ are) few
 
@@ -284,7 +284,7 @@ duration_unit_again time.Second = refl
 duration_unit_again time.Minute = refl
 duration_unit_again time.Hour = refl
 
--- a part is read from its text, and what stands behind it is left
+-- a part is read from its text, and what follows it is left
 part_again : (part : DurationPart) (rest : List ℕ) → is_decimal part.number ≡ true → prefix_len (is_byte_of false) rest ≡ 0 → part_at (part_text part ++ rest) ≡ Some (part, rest)
 part_again part rest h stop =
     let number = decimal_text part.number in
@@ -353,7 +353,7 @@ part_proper text part rest h =
         let is : number ≡ part.number = ap (λ p. p.0.number) pairs in
         subst (λ d. is_decimal d ≡ true) is (decimal_proper (front_of true text).0 number read)
 
--- what was read is so many parts of decimals
+-- what was read is 1 to `most` parts of decimals
 record Read (most : ℕ) (parts : List DurationPart) : Type 0 where
   pub some : 0 < length parts
   pub few : length parts ≤ most

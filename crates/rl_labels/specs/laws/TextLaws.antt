@@ -84,7 +84,7 @@ name_bytes (x ∷ xs) h =
     let parts = and_parts (is_name_start x) (list_all is_name_byte xs) h in
     ap (λ b. (b || is_in_range 48 57 x) && list_all is_name_byte xs) parts.0 ∙ parts.1
 
--- what follows the first label: the others behind commas, and the closing brace
+-- what follows the first label: each of the others after a comma, and the closing brace
 abbrev after_label : List Pair → List ℕ
 after_label [] = 125 ∷ []
 after_label (pair ∷ pairs) = 44 ∷ (label_text pair ++ after_label pairs)
@@ -146,7 +146,7 @@ label_set_cmp_total = on_total canonical_text nat_list_cmp_total
 pub label_set_cmp-IsAntisymmetric : IsAntisymmetric label_set_cmp
 label_set_cmp-IsAntisymmetric s t tied = same_set_from_text s t (name_cmp-IsAntisymmetric (canonical_text s) (canonical_text t) tied)
 
--- the test of equality tells whether two sets are one
+-- the test of equality decides whether two sets are one
 pub label_set_eq-true : (s t : LabelSet) → label_set_eq s t ≡ true → s ≡ t
 label_set_eq-true s t e = same_set_from_text s t (same_text (canonical_text s) (canonical_text t) e)
 

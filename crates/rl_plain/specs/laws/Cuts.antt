@@ -1,4 +1,4 @@
--- Where a text may be cut: behind an ASCII byte, and before one. What stands at the front of what is left.
+-- Where a text may be cut: after an ASCII byte, and before one. What stands at the front of what is left.
 use Rattle.std.proofs.Common.{◌≡◌, ℕ, zero, suc, ◌+◌, ◌-◌, ◌<◌, ◌≤◌, ◌==◌, Bool, true, false, cond, List, [], ◌∷◌, length, get_or, drop, refl, sym, subst, arith}
 use Rattle.std.specs.List.{prefix_len}
 use Rattle.std.specs.Str.{IsUtf8, IsCharBoundary}
@@ -7,7 +7,7 @@ use Rattle.std.proofs.lemmas.List.Sums.{prefix_len-le-length, prefix_len_passes}
 use Rattle.std.proofs.lemmas.Str.{IsCharBoundary-from_take, IsCharBoundary-after_ascii}
 use Rattle.rl_plain.specs.Runs.{IsCutBehind}
 
--- a cut behind an ASCII byte, or at the front
+-- a cut after an ASCII byte, or at the front
 pub behind_ascii : (bytes : List ℕ) (n : ℕ) → IsUtf8 bytes → n ≤ length bytes → (0 < n → get_or bytes (n - 1) 0 < 128) → IsCharBoundary bytes n
 behind_ascii bytes zero utf8 fits ascii = IsCharBoundary-from_take bytes 0 utf8 (omega arith) ([], (refl, refl))
 behind_ascii bytes (suc m) utf8 fits ascii =
@@ -15,7 +15,7 @@ behind_ascii bytes (suc m) utf8 fits ascii =
     let next : m + 1 ≡ suc m = omega arith in
     subst (IsCharBoundary bytes) next (IsCharBoundary-after_ascii bytes m utf8 (omega arith) (subst (λ k. get_or bytes k 0 < 128) same (ascii (omega arith))))
 
--- behind a run of ASCII bytes
+-- after a run of ASCII bytes
 pub run_boundary : (p : ℕ → Bool) → ((b : ℕ) → p b ≡ true → b < 128) → IsCutBehind p
 run_boundary p small bytes utf8 = behind_ascii bytes (prefix_len p bytes) utf8 (prefix_len-le-length p bytes) (λ some. small _ (prefix_len_passes p bytes (prefix_len p bytes - 1) 0 (omega arith)))
 
@@ -34,7 +34,7 @@ stop_boundary p small bytes utf8 = at_stop bytes
           | false ↦ λ stops. (omega arith, λ _ high. absurd (let low = small b stops in omega arith))
         ] refl
 
--- what stands at the place where a run ends
+-- what stands where a run ends
 abbrev at_stop : (ℕ → Bool) → List ℕ → Type 0
 at_stop p [] = Unit {0}
 at_stop p (b ∷ rest) = p b ≡ false

@@ -6,11 +6,11 @@ use Rattle.rl_plain.specs.declared.refusal.OrMemory.{OrMemory}
 use Rattle.rl_plain.specs.declared.refusal.OrMemory.TheVariants.{Fault, Memory}
 
 module _ {A F : Type 0} where
-  -- an item and those behind it
+  -- an item and those after it
   abbrev pub first_then : Result A F → Result (List A) F → Result (List A) F
   first_then first others = first >>= λ x. others >>= λ xs. Ok (x ∷ xs)
 
-  -- a list and another behind it
+  -- a list and another after it
   abbrev pub both : Result (List A) F → Result (List A) F → Result (List A) F
   both first others = first >>= λ xs. others >>= λ ys. Ok (xs ++ ys)
 

@@ -1,4 +1,4 @@
--- The labels of a stream have lengths that two bytes can tell.
+-- The labels of a stream have lengths that fit in two bytes.
 use Rattle.std.proofs.Common.{◌^◌, ◌<◌, ◌≡◌, ◌++◌, length, map, sym, subst}
 use Rattle.std.specs.List.{All}
 use Rattle.std.proofs.lemmas.List.{length-map}

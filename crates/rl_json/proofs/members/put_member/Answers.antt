@@ -1,4 +1,4 @@
--- The member stands between those in front of it and those behind.
+-- The member stands between those in front of it and those after it.
 use Rattle.std.proofs.Common.{◌≡◌, ◌<◌, ◌+◌, length, take, drop, sym, ap, subst, ◌∙◌, arith}
 use Rattle.json.specs.Value.{value_view}
 use Rattle.serde_json.specs.Data.{member, put}

@@ -1,4 +1,4 @@
--- A label is found, or the place lies between one below the name and those above it.
+-- A label is found, or the index lies between one below the name and those above it.
 use Rattle.std.proofs.Common.{◌≡◌, ◌-◌, suc, drop, sym, ap, ◌∙◌, arith}
 use Rattle.std.specs.List.{insert, list_all}
 use Rattle.std.specs.declared.cmp.Ordering.TheVariants.{Equal, Greater}

@@ -1,4 +1,4 @@
--- The labels behind the place are above the name.
+-- The labels from the index on are above the name.
 use Rattle.std.proofs.Common.{◌≡◌, ◌≤◌, true, length, drop}
 use Rattle.std.specs.FinMap.Entries.{below_all}
 use Rattle.rl_labels.specs.Name.{name_cmp}

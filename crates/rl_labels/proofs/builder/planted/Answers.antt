@@ -1,4 +1,4 @@
--- Each label stands in front of those behind it.
+-- Each label stands in front of those after it.
 use Rattle.std.proofs.Common.{◌≡◌, ◌-◌, suc, drop, ap, ◌∙◌, arith}
 use Rattle.std.specs.List.{list_all}
 use Rattle.std.specs.FinMap.Entries.{put, is_sorted}

@@ -1,4 +1,4 @@
--- The labels behind the place stand in the tree.
+-- The labels from the index on stand in the tree.
 use Rattle.std.proofs.Common.{◌≡◌, ◌≤◌, length, drop}
 use Rattle.rl_labels.proofs.builder.planted.Given as goal
 

@@ -1,4 +1,4 @@
--- The last digit is written behind the others.
+-- The last digit is written after the others.
 use Rattle.std.proofs.Common.{◌≡◌, ◌++◌, ◌%◌, ◌∙◌, ap, sym, subst, append_assoc, string_bytes, OnOk}
 use Rattle.std.specs.Fmt.{decimal}
 use Rattle.rl_labels.proofs.Digits.{last_digit}

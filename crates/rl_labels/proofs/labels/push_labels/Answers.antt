@@ -1,4 +1,4 @@
--- The first label, and the others behind commas.
+-- The first label, and each of the others after a comma.
 use Rattle.std.proofs.Common.{◌≡◌, ◌<◌, ◌++◌, ◌∷◌, length, drop, sym, ap, ◌∙◌, append_assoc, string_bytes, arith}
 use Rattle.std.specs.List.{flat_map}
 use Rattle.std.proofs.lemmas.Grind.{common_steps}

@@ -1,4 +1,4 @@
--- The labels so far stand at the end, behind commas.
+-- The labels so far stand at the end, each after a comma.
 use Rattle.std.proofs.Common.{◌≡◌, ◌++◌, ◌∷◌, take, string_bytes}
 use Rattle.std.specs.List.{flat_map}
 use Rattle.rl_labels.specs.LabelText.{label_text}

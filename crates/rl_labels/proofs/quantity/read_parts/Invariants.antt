@@ -1,4 +1,4 @@
--- What is left to read stands behind the parts so far.
+-- What is left to read follows the parts so far.
 use Rattle.std.proofs.Common.{◌-◌}
 use Rattle.rl_labels.proofs.Durations.{Left}
 use Rattle.rl_labels.proofs.quantity.read_parts.Given as goal

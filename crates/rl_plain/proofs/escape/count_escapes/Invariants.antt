@@ -1,4 +1,4 @@
--- The bytes so far are written as so many more.
+-- The bytes so far, as they are written, are longer by the count.
 use Rattle.std.proofs.Common.{◌≡◌, ◌+◌, ◌≤◌, length, take}
 use Rattle.rl_plain.specs.Escapes.{escaped}
 use Rattle.rl_plain.proofs.escape.count_escapes.Given as goal

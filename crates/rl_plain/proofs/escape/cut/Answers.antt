@@ -1,4 +1,4 @@
--- The text is cut before and behind a byte that is ASCII.
+-- The text is cut before and after a byte that is ASCII.
 use Rattle.std.proofs.Common.{◌≡◌, ◌∷◌, [], get_or, ◌∙◌, rules, arith}
 use Rattle.std.proofs.lemmas.Str.{IsCharBoundary-before_ascii, IsCharBoundary-after_ascii}
 use Rattle.rl_plain.specs.Escapes.{escape}

@@ -1,4 +1,4 @@
--- A text may be cut behind a run of the class.
+-- A text may be cut after a run of the class.
 use Rattle.std.proofs.Common.{sym, ap, subst, ◌∙◌}
 use Rattle.std.specs.List.{prefix_len}
 use Rattle.std.specs.Str.{IsCharBoundary}

@@ -1,4 +1,4 @@
--- The names so far stand at the end, behind commas.
+-- The names so far stand at the end, each after a comma.
 use Rattle.std.proofs.Common.{◌≡◌, ◌++◌, ◌∷◌, take, string_bytes}
 use Rattle.std.specs.List.{flat_map}
 use Rattle.rl_query.proofs.printer.push_other_names.Given as goal

@@ -1,4 +1,4 @@
--- The matchers so far stand at the end, behind commas.
+-- The matchers so far stand at the end, each after a comma.
 use Rattle.std.proofs.Common.{◌≡◌, ◌++◌, ◌∷◌, take, map, string_bytes}
 use Rattle.std.specs.List.{flat_map}
 use Rattle.rl_query.specs.Form.{matcher_form}

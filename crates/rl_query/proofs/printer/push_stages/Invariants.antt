@@ -1,4 +1,4 @@
--- The stages so far stand at the end, each behind a space.
+-- The stages so far stand at the end, each after a space.
 use Rattle.std.proofs.Common.{◌≡◌, ◌++◌, ◌∷◌, take, map, string_bytes}
 use Rattle.std.specs.List.{flat_map}
 use Rattle.rl_query.specs.Form.{stage_form}

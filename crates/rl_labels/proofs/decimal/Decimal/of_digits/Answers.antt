@@ -1,4 +1,4 @@
--- Up to 15 digits in front of the point, and up to nine behind it.
+-- Up to 15 digits in front of the point, and up to nine after it.
 use Rattle.std.proofs.Common.{arith}
 use Rattle.rl_labels.proofs.decimal.Decimal.of_digits.Goals as goal
 

@@ -1,4 +1,4 @@
--- The answer tells what the pattern means.
+-- The answer is what the pattern means.
 use Rattle.std.proofs.Common.{rules}
 use Rattle.rl_patterns.proofs.Answered.{as_meant}
 use Rattle.rl_patterns.proofs.pattern.WholePatternCode.matches.Goals as goal

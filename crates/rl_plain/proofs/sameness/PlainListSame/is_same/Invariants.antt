@@ -1,4 +1,4 @@
--- The items so far are the same in both lists.
+-- The items so far are equal in both lists.
 use Rattle.std.proofs.Common.{◌≡◌, take}
 use Rattle.rl_plain.proofs.sameness.PlainListSame.is_same.Given as goal
 
