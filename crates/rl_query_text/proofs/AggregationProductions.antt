@@ -84,7 +84,7 @@ grouped_read room word lexemes behind stand =
           (stand_then (tokens.Word word ∷ []) (tokens.Sign signs.OpenParenthesis ∷ names_tokens x.0) lexemes behind x.1 stand (stand_then (tokens.Sign signs.OpenParenthesis ∷ []) (names_tokens x.0) behind opened.1 x.1 is.stand inside.0), inside.1);
     })
 
--- behind the word
+-- after the word
 grouped_is : (room : Room) (depth : ℕ) (word : List ℕ) (names : List (List ℕ)) (lexemes rest : List Lexeme) → room.depth ≡ suc depth → AreGrouped word names lexemes rest → (place : ℕ) × (behind : List Lexeme) × (next lexemes ≡ Ok (record { token = tokens.Word word; place = place }, behind)) × (grouped_at room behind ≡ Ok (names, rest))
 unfolding grouped_at
 grouped_is room depth word names lexemes rest deep are =
@@ -123,7 +123,7 @@ top_at_found : (place : ℕ) (token : Token) → Finds (λ k. (number : List ℕ
 top_at_found place (tokens.Number number) = of_option Ok (top_of number) (λ k is. found (number, refl, is)) (λ _. fault)
 top_at_found place _ = fault
 
--- an operator without a number of elements
+-- an operator without a number of samples
 no_parameter : (word : List ℕ) (operator : VectorOperator) (lexemes : List Lexeme) → plain_operator word ≡ Some operator → word ≡ operator_word operator → IsParameter operator lexemes lexemes
 no_parameter word (operators.Topk k) lexemes h is = absurd (none-some _ (subst (λ w. plain_operator w ≡ Some (operators.Topk k)) is h))
 no_parameter word _ lexemes h is = refl
@@ -148,7 +148,7 @@ pub word_of_operator : (operator : VectorOperator) → is_operator_word (operato
 word_of_operator operators.Sum = refl
 word_of_operator _ = refl
 
--- What stands in front of a term and behind it.
+-- What stands in front of a term and after it.
 
 pub record IsFront (word : List ℕ) (nest : ℕ) (room : Room) (front : Front) (lexemes rest : List Lexeme) : Type 0 where
   pub behind_grouping : List Lexeme
@@ -172,7 +172,7 @@ front_found word nest room lexemes is =
     then _ (operator_found word behind.1 is) (λ operator known.
     found (record { behind_grouping = grouping.1; behind_parenthesis = behind.1; fewer = fewer; grouped = grouped; opened = opened; word_is = known.0; parameter = known.1 })))))
 
--- the grouping behind a term
+-- the grouping after a term
 back_found : (front : Grouping) (room : Room) (lexemes : List Lexeme) → Finds (λ x. (back : Grouping) × IsGrouping back lexemes x.1 × OneSide front back x.0) (back_at front room lexemes)
 back_found groupings.All room lexemes = record { is = λ x h. (x.0, (grouping_read room lexemes).is x h, inr (refl, refl)) }
 back_found _ room lexemes = found (groupings.All, (refl, refl), inl (refl, refl))

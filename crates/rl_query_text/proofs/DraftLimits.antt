@@ -22,7 +22,7 @@ use Rattle.rl_query_text.proofs.QueryProductions.{FitsQuery, IsRoomyQuery, quoti
 use Rattle.rl_selector_text.proofs.Proper.{shallow_forms}
 use Rattle.rl_query.proofs.SameForms.{parser_forms, label_forms}
 
--- the range of a term, in as many parentheses as its vector aggregations leave
+-- the range of a term, in the parentheses that its vector aggregations leave
 record HasRange (most : ℕ) (term : TermForm) : Type 0 where
   pub deep : ℕ
   pub lexemes : List Lexeme

@@ -65,7 +65,7 @@ top_proper k h = let most = leb-true k 65535 (and_parts (nat_le 1 k) (nat_le k 6
 pub top_number : (k : ℕ) → is_top k ≡ true → IsNumber (decimal k)
 top_number k h = subst IsNumber (append-nil (decimal k)) (whole_then k [] (top_proper k h) refl)
 
--- and so is the number of elements that topk keeps
+-- and so is the number of samples that topk keeps
 pub top_again : (k : ℕ) → is_top k ≡ true → top_of (decimal k) ≡ Some k
 top_again k h = subst (λ text. top_of text ≡ Some k) (append-nil (decimal k))
     (ap (option_and_then (λ value. cond (value.digits == 0 && is_top value.whole) (Some value.whole) None)) (decimal_again (whole k) (whole_proper k (top_proper k h))) ∙ cond-true (is_top k) _ _ h)
@@ -98,7 +98,7 @@ threshold_proper text d read few =
     let row = row_few 9 d.whole (front text (cut_at_point text)) (whole_read 9 text (cut_at_point text) d read) in
     and_from (is_decimal d) _ (decimal_proper text d (sym (parts_alike text (cut_at_point text) row.0) ∙ read)) (and_from (nat_lt d.whole (10 ^ 9)) _ (lt-ltb d.whole (10 ^ 9) row.1) few)
 
--- a row of digits is the number of elements that topk keeps
+-- a row of digits is the number of samples that topk keeps
 pub top_read : (text : List ℕ) (n : ℕ) → number_of 15 text ≡ Some n → 1 ≤ n → n ≤ 65535 → top_of text ≡ Some n
 top_read text n read some few =
     let row = and_parts (nat_lt 0 (length text)) _ (cond_some (is_row 15 text) (digits_value 10 text) n read).0 in

@@ -26,14 +26,14 @@ front_depth word nest room lexemes front opened h =
     then _ (itself (operator_at word opened.1)) (λ _ _. found (ap (λ (r : Room). r.depth) is.around))))) in
     depths.is (front, opened) h
 
--- what stands in parentheses, behind the first
+-- what stands in parentheses, after the first
 pub opened_reads : {A : Type 0} (reader : ℕ → Reader A) (position : Position) (room inside : Room) (lexemes opened : List Lexeme) → opened_at position room lexemes ≡ Ok (inside, opened)
     → in_parentheses position (reader room.depth) room lexemes ≡ (reader (suc inside.depth) inside opened >>= λ read. expected signs.CloseParenthesis positions.BehindTerm read.1 >>= λ closed. Ok (read.0, closed))
 unfolding in_parentheses
 opened_reads reader position room inside lexemes opened parenthesis =
     rw (parenthesis, ap (λ (r : Room). r.depth) ((opened_read position room lexemes).is (inside, opened) parenthesis).around) refl
 
--- a vector aggregation, behind what stands before its term
+-- a vector aggregation, after what stands before its term
 pub front_reads : (word : List ℕ) (nest : ℕ) (room : Room) (lexemes opened : List Lexeme) (front : Front) → front_at word nest room lexemes ≡ Ok (front, opened)
     → aggregated_at (term_in room.depth) word nest room lexemes ≡ (term_in (suc front.room.depth) positions.InTerm front.nest front.room opened >>= λ term. ended_at front room term.1 >>= λ closed. Ok (around closed.0 term.0, closed.1))
 unfolding aggregated_at

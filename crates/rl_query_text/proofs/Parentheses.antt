@@ -39,7 +39,7 @@ pub opened_is : (position : Position) (room : Room) (depth : ℕ) (lexemes behin
 unfolding opened_at
 opened_is position room depth lexemes behind is stand = rw (expected_is signs.OpenParenthesis position lexemes behind stand, is) refl
 
--- what stands in parentheses, told otherwise
+-- what stands in parentheses, by another rule
 pub inside_told : {Inside Told : Rule} {lexemes rest : List Lexeme} → ((behind end : List Lexeme) → Inside behind end → Told behind end) → InParentheses Inside lexemes rest
     → InParentheses Told lexemes rest
 inside_told told p = record { behind = p.behind; end = p.end; opened = p.opened; inside = told p.behind p.end p.inside; closed = p.closed }

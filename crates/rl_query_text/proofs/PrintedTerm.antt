@@ -51,7 +51,7 @@ names_print (name ∷ other ∷ others) rest named =
     let parts = and_parts (is_name name) (list_all is_name (other ∷ others)) named in
     regrouped name _ (41 ∷ rest) (token_then (tokens.Word name) _ (parts.0, refl) (token_then (tokens.Sign signs.Comma) _ refl (spaced (names_print (other ∷ others) rest parts.1))))
 
--- a word and names in parentheses, behind a space and before one
+-- a word and names in parentheses, after a space and before one
 grouped_prints : (word : List ℕ) (names : List (List ℕ)) (rest : List ℕ) → is_name word ≡ true → list_all is_name names ≡ true
     → Prints (Stand (tokens.Word word ∷ tokens.Sign signs.OpenParenthesis ∷ names_tokens names)) (32 ∷ (word ++ 32 ∷ 40 ∷ ((names_text names ++ 41 ∷ 32 ∷ []) ++ rest))) rest
 grouped_prints word names rest is_word named =

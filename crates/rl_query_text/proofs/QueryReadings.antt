@@ -26,7 +26,7 @@ use Rattle.rl_selector_text.proofs.Productions.{next_is, stood, First, first_at,
 use Rattle.rl_query_text.proofs.QueryProductions.{parts_of_query, FitsQuery, quotient_query, quotient_term, term_quotient}
 use Rattle.rl_query_text.proofs.TermProductions.{Fits, IsRoomyTerm, term_is}
 
--- What may stand behind a quotient and behind a query.
+-- What may follow a quotient, and what may follow a query.
 
 -- no grouping comes, and no divisor
 abbrev ends_quotient : Token → Type 0
@@ -44,7 +44,7 @@ threshold_ends : (test : Option ThresholdForm) (middle rest : List Lexeme) → I
 threshold_ends None middle rest is ends = subst (First ends_quotient) (sym is) (first_half ends)
 threshold_ends (Some test) middle rest is ends = first_at (tokens.Sign (comparison_sign test.comparison)) (tokens.Number is.0 ∷ []) middle rest is.1 (sign_ends test.comparison).0
 
--- What is read behind an operand.
+-- What is read after an operand.
 
 undivided : (query : QueryForm) (room : Room) (middle : List Lexeme) → First ends_quotient middle → divided_at query room middle ≡ Ok (query, middle)
 unfolding divided_at

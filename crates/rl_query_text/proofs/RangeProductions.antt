@@ -63,7 +63,7 @@ unfolding closed_at
 closed_before room [] lexemes rest closed = closed_behind room [] lexemes lexemes rest (no_stages room lexemes) closed
 closed_before room (s ∷ stages) lexemes rest closed = rw (expected_is signs.CloseParenthesis positions.BehindFilteredRange lexemes rest closed) refl
 
--- stages and a duration, and the parenthesis behind them
+-- stages and a duration, and the parenthesis after them
 record IsClosing (room : Room) (stages : List StageForm) (seconds : ℕ) (lexemes rest : List Lexeme) : Type 0 where
   pub behind : List Lexeme
   pub timed : IsTimed room.depth stages seconds lexemes behind

@@ -34,7 +34,7 @@ use Rattle.rl_selector_text.specs.Testing.{is_word}
 abbrev pub label_name : ℕ → Token → Result (List ℕ) Stop
 label_name place token = name_of place token >>= λ name. if is_name name then Ok name else Err (syntax place)
 
--- behind a name: whether another follows
+-- after a name: whether another follows
 abbrev pub name_follows : ℕ → Token → Result Bool Stop
 name_follows place token = if is_sign signs.Comma token then Ok true else (if is_sign signs.CloseParenthesis token then Ok false else Err (refusal positions.Elsewhere place token))
 
@@ -70,7 +70,7 @@ grouping_at room lexemes = do
   first ← next lexemes
   if is_word (codes "by") first.0.token then (grouped_at room first.1 >>= λ names. Ok (groupings.By names.0, names.1)) else (if is_word (codes "without") first.0.token then (grouped_at room first.1 >>= λ names. Ok (groupings.Without names.0, names.1)) else (if groups_loudly first.0.token then Err (unsupported first.0.place) else Ok (groupings.All, lexemes)))
 
--- the number of elements that topk keeps
+-- the number of samples that topk keeps
 abbrev pub top_at : ℕ → Token → Result ℕ Stop
 top_at place (tokens.Number number) = option_map_or Ok (top_of number) (Err (unsupported place))
 top_at place token = Err (refusal positions.InParameter place token)
@@ -83,7 +83,7 @@ topk_at lexemes = do
   behind ← expected signs.Comma positions.Elsewhere number.1
   Ok (operators.Topk top, behind)
 
--- an operator of the word, and the number that topk has behind the parenthesis
+-- an operator of the word, and the number that topk has after the parenthesis
 abbrev pub operator_at : List ℕ → List Lexeme → Result (VectorOperator × List Lexeme) Stop
 operator_at word lexemes = option_map_or (λ operator. Ok (operator, lexemes)) (plain_operator word) (topk_at lexemes)
 
@@ -96,7 +96,7 @@ abbrev pub nested : (place nest : ℕ) → Result ℕ Stop
 nested place zero = Err (stop faults.TooDeep place)
 nested place (suc nest) = Ok nest
 
--- what stands behind the word of a vector aggregation, up to the term in it
+-- what follows the word of a vector aggregation, up to the term in it
 unfoldable pub front_at : (word : List ℕ) → (nest : ℕ) → Room → List Lexeme → Result (Front × List Lexeme) Stop
 front_at word nest room lexemes = do
   fewer ← nested (place_of lexemes) nest
@@ -105,12 +105,12 @@ front_at word nest room lexemes = do
   operator ← operator_at word opened.1
   Ok (record { operator = operator.0; grouping = grouping.0; nest = fewer; room = opened.0 }, operator.1)
 
--- the grouping behind the parentheses, where none stands before them
+-- the grouping after the parentheses, where none stands before them
 abbrev pub back_at : Grouping → Room → List Lexeme → Result (Grouping × List Lexeme) Stop
 back_at groupings.All room lexemes = grouping_at room lexemes
 back_at grouping room lexemes = Ok (grouping, lexemes)
 
--- the parenthesis behind the term, and the grouping
+-- the parenthesis after the term, and the grouping
 unfoldable pub ended_at : Front → Room → List Lexeme → Result (AggregationForm × List Lexeme) Stop
 ended_at front room lexemes = do
   closed ← expected signs.CloseParenthesis positions.BehindTerm lexemes
@@ -121,7 +121,7 @@ ended_at front room lexemes = do
 abbrev pub are_digits : List ℕ → Bool
 are_digits bytes = nat_lt 0 (length bytes) && list_all is_ascii_digit bytes
 
--- digits, and perhaps a point and digits behind it, however many
+-- digits, and perhaps a point and digits after it, however many
 abbrev pub is_digits : List ℕ → Bool
 is_digits number = option_map_or (λ place. are_digits (take place number) && are_digits (drop (place + 1) number)) (position (λ b. b == point) number) (are_digits number)
 
@@ -136,7 +136,7 @@ compared_by (tokens.Sign signs.Equal) = None
 compared_by (tokens.Sign sign) = comparison_of sign
 compared_by _ = None
 
--- the number behind a comparison
+-- the number after a comparison
 unfoldable pub threshold_at : Comparison → List Lexeme → Result (ThresholdForm × List Lexeme) Stop
 threshold_at comparison lexemes = do
   first ← next lexemes

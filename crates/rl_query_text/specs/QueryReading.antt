@@ -36,14 +36,14 @@ in_parentheses position inside room lexemes = do
   closed ← expected signs.CloseParenthesis positions.BehindTerm read.1
   Ok (read.0, closed)
 
--- what reads a term, at a position and with so many vector aggregations that may come
+-- what reads a term, at a position and where `nest` vector aggregations may come
 abbrev pub TermReader : Type 0
 TermReader = Position → (nest : ℕ) → Reader TermForm
 
 abbrev pub around : AggregationForm → TermForm → TermForm
 around aggregation term = record { aggregations = aggregation ∷ term.aggregations; function = term.function; range = term.range }
 
--- what stands behind the word of a vector aggregation
+-- what follows the word of a vector aggregation
 unfoldable pub aggregated_at : TermReader → (word : List ℕ) → (nest : ℕ) → Reader TermForm
 aggregated_at inside word nest room lexemes = do
   front ← front_at word nest room lexemes
@@ -51,19 +51,19 @@ aggregated_at inside word nest room lexemes = do
   aggregation ← ended_at front.0 room term.1
   Ok (around aggregation.0 term.0, aggregation.1)
 
--- a range aggregation behind its name
+-- a range aggregation after its name
 unfoldable pub ranged_at : RangeFunction → Reader TermForm
 ranged_at function room lexemes = do
   range ← range_at room lexemes
   Ok (record { aggregations = []; function = function; range = range.0 }, range.1)
 
--- a term behind the word with which it begins
+-- a term after the word with which it begins
 abbrev pub worded_at : TermReader → Position → (place : ℕ) → (word : List ℕ) → (nest : ℕ) → Reader TermForm
 worded_at inside position place word nest room lexemes =
     if is_operator_word word then aggregated_at inside word nest room lexemes
     else option_map_or (λ function. ranged_at function room lexemes) (function_with_text word) (Err (refusal position place (tokens.Word word)))
 
--- a term that begins with the token; behind it stand the others
+-- a term that begins with the token; the others follow it
 abbrev pub begun_at : TermReader → Position → (place : ℕ) → Token → (nest : ℕ) → Room → (all behind : List Lexeme) → Result (TermForm × List Lexeme) Stop
 begun_at inside position place (tokens.Word word) nest room all behind = worded_at inside position place word nest room behind
 begun_at inside position place token nest room all behind = if is_sign signs.OpenParenthesis token then in_parentheses positions.InTerm (inside positions.InTerm nest) room all else Err (refusal position place token)
@@ -74,7 +74,7 @@ term_by inside position nest room lexemes = do
   first ← next lexemes
   begun_at inside position first.0.place first.0.token nest room lexemes first.1
 
--- a term in which terms stand within one another at most so often
+-- a term in which terms stand within one another at most `turns` deep
 abbrev pub term_in : (turns : ℕ) → TermReader
 term_in zero position nest room lexemes = Err (stop faults.TooDeep (place_of lexemes))
 term_in (suc turns) position nest room lexemes = term_by (term_in turns) position nest room lexemes
@@ -86,7 +86,7 @@ term_at position room lexemes = term_in (suc room.depth) position most_aggregati
 abbrev pub alone : TermForm → QueryForm
 alone term = record { left = term; over = None; test = None }
 
--- what a text may still have behind a term
+-- what a text may still have after a term
 abbrev pub room_behind : TermForm → Room → Room
 room_behind term room = record { depth = room.depth; stages = room.stages - length term.range.stages; tests = room.tests - label_tests term.range.stages }
 
@@ -94,13 +94,13 @@ room_behind term room = record { depth = room.depth; stages = room.stages - leng
 abbrev pub is_term : QueryForm → Bool
 is_term query = not (is_some query.over) && not (is_some query.test)
 
--- the divisor behind a term
+-- the divisor after a term
 unfoldable pub over_at : TermForm → Reader QueryForm
 over_at left room lexemes = do
   over ← term_at positions.Divisor (room_behind left room) lexemes
   Ok (record { left = left; over = Some over.0; test = None }, over.1)
 
--- the same where a slash comes
+-- the divisor, where a slash comes
 unfoldable pub divided_at : QueryForm → Reader QueryForm
 divided_at query room lexemes = do
   first ← next lexemes
@@ -110,13 +110,13 @@ divided_at query room lexemes = do
 abbrev pub comes_to_test : QueryForm → Token → Option Comparison
 comes_to_test query token = if is_some query.test then None else compared_by token
 
--- the threshold behind a quotient, where a comparison comes
+-- the threshold after a quotient, where a comparison comes
 unfoldable pub compared_at : QueryForm → List Lexeme → Result (Option ThresholdForm × List Lexeme) Stop
 compared_at query lexemes = do
   first ← next lexemes
   option_map_or (λ comparison. threshold_at comparison first.1 >>= λ test. Ok (Some test.0, test.1)) (comes_to_test query first.0.token) (Ok (None, lexemes))
 
--- the query with the threshold that was read behind it
+-- the query with the threshold that was read after it
 abbrev pub with_test : QueryForm → Option ThresholdForm → QueryForm
 with_test query None = query
 with_test query (Some test) = record { left = query.left; over = query.over; test = Some test }
@@ -140,13 +140,13 @@ behind_at operand room lexemes = do
   compared ← compared_at divided.0 divided.1
   Ok (with_test divided.0 compared.0, compared.1)
 
--- an operand, and what stands behind it
+-- an operand, and what follows it
 unfoldable pub query_by : (inside : Reader QueryForm) → Reader QueryForm
 query_by inside room lexemes = do
   operand ← operand_at inside room lexemes
   behind_at operand.0 room operand.1
 
--- a query in which queries stand within one another at most so often
+-- a query in which queries stand within one another at most `turns` deep
 abbrev pub query_within : (turns : ℕ) → Reader QueryForm
 query_within zero room lexemes = Err (stop faults.TooDeep (place_of lexemes))
 query_within (suc turns) room lexemes = query_by (query_within turns) room lexemes

@@ -20,7 +20,7 @@ pub record IsDuration (seconds : ℕ) (lexemes rest : List Lexeme) : Type 0 wher
 abbrev pub IsTimed : (depth : ℕ) → List StageForm → ℕ → List Lexeme → List Lexeme → Type 0
 IsTimed depth stages seconds lexemes rest = ((behind : List Lexeme) × AreStages depth stages lexemes behind × IsDuration seconds behind rest) ⊎ ((behind : List Lexeme) × IsDuration seconds lexemes behind × AreStages depth stages behind rest)
 
--- ({matchers} stages [duration]), or the stages behind the duration; inside, so many parentheses may be open at once
+-- ({matchers} stages [duration]), or the stages after the duration; inside, `depth` parentheses may be open at once
 pub record IsRange (depth : ℕ) (range : RangeForm) (lexemes rest : List Lexeme) : Type 0 where
   pub behind_parenthesis : List Lexeme
   pub behind_selector : List Lexeme

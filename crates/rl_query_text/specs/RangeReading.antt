@@ -54,7 +54,7 @@ seconds_at position lexemes = do
   closed ← expected signs.CloseBracket positions.InRange number.1
   Ok (seconds, closed)
 
--- the parenthesis behind a range, and the stages before it, if none stand before the range
+-- the parenthesis after a range, and the stages before it, if none stand before the range
 unfoldable pub closed_at : Room → List StageForm → List Lexeme → Result (List StageForm × List Lexeme) Stop
 closed_at room [] lexemes = do
   stages ← stages_in room lexemes
@@ -64,14 +64,14 @@ closed_at room (stage ∷ stages) lexemes = do
   closed ← expected signs.CloseParenthesis positions.BehindFilteredRange lexemes
   Ok (stage ∷ stages, closed)
 
--- a range in brackets behind stages or none, and what closes it
+-- a range in brackets after stages or none, and what closes it
 unfoldable pub timed_at : Room → List StageForm → List Lexeme → Result (List StageForm × ℕ × List Lexeme) Stop
 timed_at room front lexemes = do
   seconds ← seconds_at (behind_stages positions.BehindSelector front) lexemes
   closed ← closed_at room front seconds.1
   Ok (closed.0, seconds.0, closed.1)
 
--- behind a selector: stages and a range in brackets, whichever stand first, and the parenthesis
+-- after a selector: stages and a range in brackets, whichever stand first, and the parenthesis
 unfoldable pub closing_at : Room → List Lexeme → Result (List StageForm × ℕ × List Lexeme) Stop
 closing_at room lexemes = do
   front ← stages_in room lexemes

@@ -40,12 +40,12 @@ grouping_tokens (groupings.Without names) = tokens.Word (codes "without") ∷ to
 abbrev pub IsGrouping : Grouping → Rule
 IsGrouping grouping lexemes rest = Stand (grouping_tokens grouping) lexemes rest × (is_grouping grouping ≡ true)
 
--- the number of elements that topk keeps, and a comma; the others have none
+-- the number of samples that topk keeps, and a comma; the others have none
 abbrev pub IsParameter : VectorOperator → Rule
 IsParameter (operators.Topk k) lexemes rest = (number : List ℕ) × Stand (tokens.Number number ∷ tokens.Sign signs.Comma ∷ []) lexemes rest × (top_of number ≡ Some k)
 IsParameter _ lexemes rest = lexemes ≡ rest
 
--- the grouping stands before the parentheses or behind them
+-- the grouping stands before the parentheses or after them
 abbrev pub OneSide : (before behind grouping : Grouping) → Type 0
 OneSide before behind grouping = ((before ≡ grouping) × (behind ≡ groupings.All)) ⊎ ((before ≡ groupings.All) × (behind ≡ grouping))
 
@@ -121,7 +121,7 @@ abbrev pub IsQuery : (depth : ℕ) → QueryForm → Rule
 IsQuery zero query lexemes rest = ⊥
 IsQuery (suc depth) query lexemes rest = IsTested (suc depth) query lexemes rest ⊎ InParentheses (IsQuery depth query) lexemes rest
 
--- a query and nothing behind it, with no more stages, label tests and vector aggregations than there may be
+-- a query and nothing after it, with no more stages, label tests and vector aggregations than there may be
 pub record Derives (text : List ℕ) (query : QueryForm) : Type 0 where
   pub behind : List Lexeme
   pub rest : List Lexeme

@@ -154,7 +154,7 @@ fn grouping_in(
     Ok((Grouping::All, lexemes))
 }
 
-// The same, of names that labels may have.
+// A grouping, by names that labels may have.
 #[tactic(auto, using(crate::proofs::AggregationProductions::grouping_named))]
 fn grouping_at(
     alloc: Global,
@@ -167,7 +167,7 @@ fn grouping_at(
     grouping_in(alloc, room, lexemes)
 }
 
-// The number of elements that topk keeps.
+// The number of samples that topk keeps.
 fn top_of(number: &str) -> Option<u16>
     ensures top { result ≡ top_of number.now }
     ensures proper { IfSome result (λ top. IsTrue (is_top top)) }
@@ -201,7 +201,7 @@ fn topk_at(lexemes: &[Lexeme]) -> Result<(VectorOperator, &[Lexeme]), Stop>
     Ok((VectorOperator::Topk(top), rest))
 }
 
-// The operator without a number of elements whose word it is.
+// The operator without a number of samples whose word it is.
 fn plain_operator(word: &str) -> Option<VectorOperator>
     ensures operator { result ≡ plain_operator word.now }
     ensures proper { IfSome result (λ operator. IsTrue (is_operator operator)) }
@@ -246,7 +246,7 @@ fn nested(place: usize, nest: usize) -> Result<usize, Stop>
     Ok(nest - 1)
 }
 
-// What stands behind the word of a vector aggregation, up to the term in it.
+// What follows the word of a vector aggregation, up to the term in it.
 #[tactic(auto, unfolding(crate::specs::AggregationReading::front_at))]
 pub(crate) fn front_at<'a>(
     alloc: Global,
@@ -272,7 +272,7 @@ pub(crate) fn front_at<'a>(
     Ok((front, rest))
 }
 
-// The grouping behind the parentheses, where none stands before them.
+// The grouping after the parentheses, where none stands before them.
 fn back_at(
     alloc: Global,
     front: Grouping,
@@ -289,7 +289,7 @@ fn back_at(
     }
 }
 
-// The parenthesis behind the term of a vector aggregation, and the grouping.
+// The parenthesis after the term of a vector aggregation, and the grouping.
 #[tactic(auto, unfolding(crate::specs::AggregationReading::ended_at))]
 pub(crate) fn ended_at(
     alloc: Global,
@@ -321,7 +321,7 @@ fn are_digits(bytes: &[u8]) -> bool
     !bytes.is_empty() && all_digits(bytes)
 }
 
-// The place of the first point.
+// The index of the first point.
 fn point_in(text: &[u8]) -> Option<usize>
     ensures place { result ≡ position (λ b. b == 46) text.now }
     ensures inside { IfSome result (λ place. place < length text.now) }
@@ -329,7 +329,7 @@ fn point_in(text: &[u8]) -> Option<usize>
     text.iter().position(|byte| *byte == b'.')
 }
 
-// Digits, and perhaps a point and digits behind it.
+// Digits, and perhaps a point and digits after it.
 fn is_digits(number: &[u8]) -> bool
     ensures { result ≡ is_digits number.now }
 {
@@ -341,7 +341,7 @@ fn is_digits(number: &[u8]) -> bool
     }
 }
 
-// Whether at most six digits stand behind the point.
+// Whether at most six digits follow the point.
 fn has_few_digits(number: &[u8], value: Decimal) -> bool
     requires { decimal_of 9 number.now ≡ Some value }
     ensures { result ≡ nat_le value.digits 6 }
@@ -392,7 +392,7 @@ pub(crate) fn compared_by(token: &Token) -> Option<Comparison>
     }
 }
 
-// The number behind a comparison.
+// The number after a comparison.
 #[tactic(auto, unfolding(crate::specs::AggregationReading::threshold_at))]
 pub(crate) fn threshold_at(
     comparison: Comparison,

@@ -29,7 +29,7 @@ const MOST_PARENTHESES: usize = 64;
 // The most label tests of a text.
 const MOST_TESTS: usize = 256;
 
-// How many label tests may still come behind some.
+// How many label tests may still come after some.
 fn left_behind_tests(tests: &LabelTests, left: usize) -> usize
     ensures { result ≡ left - count_tests tests.now }
 {
@@ -57,7 +57,7 @@ fn left_behind_stages(stages: &[Stage], left: usize) -> usize
     }
 }
 
-// What a text may still have behind a term.
+// What a text may still have after a term.
 fn room_behind(term: &DraftTerm, room: Room) -> Room
     ensures { result ≡ room_behind (term_draft term.now) room }
 {
@@ -75,7 +75,7 @@ fn is_term(query: &DraftQuery) -> bool
     query.over.is_none() && query.test.is_none()
 }
 
-// The divisor behind a term.
+// The divisor after a term.
 #[tactic(auto, unfolding(crate::specs::QueryReading::over_at))]
 fn over_at(
     alloc: Global,
@@ -95,7 +95,7 @@ fn over_at(
     Ok((query, rest))
 }
 
-// The same where a slash comes.
+// The divisor, where a slash comes.
 #[tactic(auto, unfolding(crate::specs::QueryReading::divided_at))]
 fn divided_at(
     alloc: Global,
@@ -122,7 +122,7 @@ fn comes_to_test(query: &DraftQuery, token: &Token) -> Option<Comparison>
     compared_by(token)
 }
 
-// The threshold behind a quotient, where a comparison comes.
+// The threshold after a quotient, where a comparison comes.
 #[tactic(auto, unfolding(crate::specs::QueryReading::compared_at))]
 fn compared_at<'a>(
     query: &DraftQuery,
@@ -140,7 +140,7 @@ fn compared_at<'a>(
     }
 }
 
-// The query with the threshold that was read behind it.
+// The query with the threshold that was read after it.
 fn with_test(query: DraftQuery, test: Option<Threshold>) -> DraftQuery
     ensures { query_draft result ≡ with_test (query_draft query) (option_map threshold_form test) }
 {
@@ -222,7 +222,7 @@ fn operand_at(
     lone_at(alloc, room, lexemes)
 }
 
-// An operand, and what stands behind it.
+// An operand, and what follows it.
 #[cycle(queries)]
 #[tactic(auto, unfolding(crate::specs::QueryReading::query_by))]
 fn query_at(

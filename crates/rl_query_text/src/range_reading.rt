@@ -112,7 +112,7 @@ fn seconds_at(position: Position, lexemes: &[Lexeme]) -> Result<(u64, &[Lexeme])
     Ok((seconds, rest))
 }
 
-// The parenthesis behind a range, and the stages before it, if none stand before the range.
+// The parenthesis after a range, and the stages before it, if none stand before the range.
 #[tactic(auto, unfolding(crate::specs::RangeReading::closed_at))]
 fn closed_at(
     alloc: Global,
@@ -133,7 +133,7 @@ fn closed_at(
     Ok((front, rest))
 }
 
-// Stages behind a range, and the parenthesis.
+// Stages after a range, and the parenthesis.
 #[tactic(auto, unfolding(crate::specs::RangeReading::closed_at))]
 fn staged_at(
     alloc: Global,
@@ -148,7 +148,7 @@ fn staged_at(
     Ok((stages, rest))
 }
 
-// A range in brackets behind stages or none, and what closes it.
+// A range in brackets after stages or none, and what closes it.
 #[tactic(auto, unfolding(crate::specs::RangeReading::timed_at))]
 fn timed_at(
     alloc: Global,
@@ -164,7 +164,7 @@ fn timed_at(
     Ok((stages, seconds, rest))
 }
 
-// Behind a selector: stages and a range in brackets, whichever stand first, and the parenthesis.
+// After a selector: stages and a range in brackets, whichever stand first, and the parenthesis.
 #[tactic(auto, unfolding(crate::specs::RangeReading::closing_at))]
 fn closing_at(
     alloc: Global,
@@ -205,7 +205,7 @@ pub(crate) fn opened_at(
     Ok((inside, behind))
 }
 
-// The selector, the stages and the range in parentheses, behind the name of the aggregation.
+// The selector, the stages and the range in parentheses, after the name of the aggregation.
 #[tactic(auto, unfolding(crate::specs::RangeReading::range_at))]
 pub(crate) fn range_at(
     alloc: Global,

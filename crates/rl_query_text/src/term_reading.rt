@@ -33,7 +33,7 @@ fn around(aggregation: Aggregation, term: DraftTerm) -> Result<DraftTerm, AllocE
     })
 }
 
-// A range aggregation behind its name.
+// A range aggregation after its name.
 #[tactic(auto, unfolding(crate::specs::QueryReading::ranged_at))]
 fn ranged_at(
     alloc: Global,
@@ -53,7 +53,7 @@ fn ranged_at(
     Ok((term, rest))
 }
 
-// A vector aggregation behind its word.
+// A vector aggregation after its word.
 #[cycle(terms)]
 #[tactic(auto, unfolding(crate::specs::QueryReading::aggregated_at))]
 fn aggregated_at<'a>(
@@ -89,7 +89,7 @@ fn enclosed_at(
     Ok((term, rest))
 }
 
-// A term behind its first word.
+// A term after its first word.
 #[cycle(terms)]
 fn worded_at<'a>(
     alloc: Global,
@@ -111,7 +111,7 @@ fn worded_at<'a>(
     }
 }
 
-// A term in which so many vector aggregations may come.
+// A term in which `nest` vector aggregations may come.
 #[cycle(terms)]
 #[tactic(auto, unfolding(crate::specs::QueryReading::term_by))]
 fn term_in(

@@ -1,4 +1,4 @@
--- A text may be cut behind spaces and comments.
+-- A text may be cut after spaces and comments.
 use Rattle.std.proofs.Common.{◌≡◌, inl, inr, ℕ, zero, suc, ◌+◌, ◌-◌, ◌<◌, ◌≤◌, ◌==◌, Bool, true, false, cond, not, List, [], ◌∷◌, length, get_or, refl, subst, arith, one-add, sub-one}
 use Rattle.std.specs.Str.{IsUtf8, IsCharBoundary}
 use Rattle.std.proofs.lemmas.Bool.Decides.{nat_tests}
@@ -7,7 +7,7 @@ use Rattle.std.proofs.lemmas.Str.{IsCharBoundary-end}
 use Rattle.rl_plain.specs.laws.Cuts.{behind_ascii}
 use Rattle.rl_selector_text.specs.Lexing.{is_space, gap_len}
 
--- a gap does not end behind the text, and inside it behind an ASCII byte
+-- a gap does not end past the text, and where it ends inside it, it ends after an ASCII byte
 abbrev GapEnds : List ℕ → ℕ → Type 0
 GapEnds bytes n = (n ≤ length bytes) × (0 < n → n < length bytes → get_or bytes (n - 1) 0 < 128)
 
@@ -30,7 +30,7 @@ gap_ends false (b ∷ bytes) =
     (λ _. cond_both (b == 35) (1 + gap_len true bytes) 0 (GapEnds (b ∷ bytes))
     (λ hash. gap_step b bytes (gap_len true bytes) (λ _ _. omega (arith, eqb-true b 35 hash)) (gap_ends true bytes)) (λ _. (omega arith, λ some _. absurd (omega (arith, some)))))
 
--- behind spaces and comments
+-- after spaces and comments
 pub gap_boundary : (bytes : List ℕ) → IsUtf8 bytes → IsCharBoundary bytes (gap_len false bytes)
 gap_boundary bytes utf8 =
     let ends = gap_ends false bytes in

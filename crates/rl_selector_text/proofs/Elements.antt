@@ -34,7 +34,7 @@ pub real_forms : (matchers : List Matcher) → has_real_form (map matcher_form m
 real_forms [] = refl
 real_forms (m ∷ matchers) = ap (λ b. not (passes m.op m.value []) || b) (real_forms matchers)
 
--- why a matcher is not read, as a query tells it
+-- why a matcher is not read, as a fault of the query
 abbrev told : ℕ → MatcherFault → Stop
 told place matchers.BadName = syntax place
 told place matchers.BadRegex = stop faults.BadRegex place

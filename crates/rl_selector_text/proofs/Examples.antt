@@ -4,6 +4,6 @@ use Rattle.rl_query.specs.declared.token.Sign.{Sign}
 use Rattle.rl_query.specs.declared.token.Sign.TheVariants as signs
 use Rattle.rl_selector_text.specs.Lexing.{sign_at}
 
--- the longer sign is taken, also where a query is refused in the same way at the shorter one
+-- the longer sign is read, even where a query is refused alike at the shorter one
 signs_of_two_bytes : ◌≡◌ {A = List (Option (Sign × List ℕ))} (map sign_at (codes ">=" ∷ codes "<=" ∷ codes "|=" ∷ codes "|~" ∷ codes "|>" ∷ [])) (map (λ sign. Some (sign, [])) (signs.GreaterOrEqual ∷ signs.LessOrEqual ∷ signs.Contains ∷ signs.ContainsMatch ∷ signs.ContainsPattern ∷ []))
 signs_of_two_bytes = refl

@@ -33,7 +33,7 @@ text_read : (place : ℕ) (t : Token) → Finds (λ value. t ≡ tokens.Text val
 text_read place (tokens.Text text) = found refl
 text_read place _ = fault
 
--- a line filter that was read stood there behind its sign
+-- a line filter that was read stood there after its sign
 pub filter_read : (lexemes behind : List Lexeme) (op : LineOp) → Stand (tokens.Sign (filter_sign op) ∷ []) lexemes behind → Finds (λ x. Stand (filter_tokens x.0) lexemes x.1 × (is_filter x.0.op x.0.text ≡ true)) (filter_at op behind)
 unfolding filter_at
 filter_read lexemes behind op sign =
@@ -60,7 +60,7 @@ filters_read (suc most) lexemes =
     found (record { stand = stand_then (filter_tokens filter.0) (filters_tokens others.0) lexemes filter.1 others.1 one.0 more.stand; proper = and_from (is_filter filter.0.op filter.0.text) _ one.1 more.proper; few = omega (arith, more.few) }))))
     (λ _. found (no_filters (suc most) lexemes)))
 
--- what stands behind the line filters, and begins none
+-- what follows the line filters, and begins none
 abbrev pub Stops : List Lexeme → Type 0
 Stops = First (λ token. filter_op token ≡ None)
 

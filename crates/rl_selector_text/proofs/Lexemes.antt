@@ -6,11 +6,11 @@ use Rattle.rl_query.specs.declared.token.Token.{Token}
 use Rattle.rl_query.specs.declared.token.Token.TheVariants as tokens
 use Rattle.rl_selector_text.specs.Lexing.{gap_len, token_at, lexemes_in, lexemes_of}
 
--- what is left behind some turns
+-- what is left after some turns
 pub record Left (text rest : List ℕ) (turns : ℕ) (so_far : List Lexeme) : Type 0 where
   pub read : so_far ++ lexemes_in (length text - turns) (length text) rest ≡ lexemes_of text
 
--- the tokens that are left, from what stands behind the gap
+-- the tokens that are left, from what follows the gap
 abbrev behind_gap : ℕ → ℕ → List ℕ → List Lexeme
 behind_gap most total start = cond (length start == 0) (record { token = tokens.End; place = total } ∷ []) (record { token = (token_at start).0; place = total - length start } ∷ lexemes_in most total (token_at start).1)
 

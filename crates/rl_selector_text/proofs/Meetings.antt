@@ -1,4 +1,4 @@
--- Patterns that a reading meets, and what is told of it.
+-- Patterns that a reading meets, and what is answered then.
 use Rattle.std.proofs.Common.{◌≡◌, ℕ, zero, suc, ◌<◌, Bool, true, false, ◌&&◌, ◌||◌, List, [], ◌∷◌, length, take, get_or, slice_index_or, Result, Ok, Err, refl, sym, ap, subst, arith, ◌∙◌, inl, inr}
 use Rattle.std.proofs.Math.Bool.{or-true}
 use Rattle.rl_plain.specs.Answers.{Fails}
@@ -30,7 +30,7 @@ stop_told view lexemes reading errors.Memory error fails told = rw told tt
 stop_told view lexemes reading (errors.Fault stop) error fails (inl is) = rw (is, fails) (inl refl)
 stop_told view lexemes reading (errors.Fault stop) error fails (inr room) = rw fails (for_room view (Err stop.fault) (has_pattern_token false (tokens_before stop.place lexemes)) error room)
 
--- a text behind a sign of patterns, at a place among tokens
+-- a text after a sign of patterns, at an index among tokens
 pub pattern_found : (behind_sign : Bool) (lexemes : List Lexeme) (i : ℕ) (text : Lexeme) → i < length lexemes → text ≡ get_or lexemes i text → is_content text.token ≡ true → ends_before_pattern behind_sign (take i lexemes) ≡ true → has_pattern_token behind_sign lexemes ≡ true
 pattern_found behind_sign [] i text within is content sign = absurd (omega (arith, within))
 pattern_found behind_sign (l ∷ ls) zero text within is content sign = rw (sign, sym is, content) refl
@@ -50,7 +50,7 @@ ends_with behind_sign (l ∷ []) (suc last) sign many is = absurd (omega (arith,
 ends_with behind_sign (l ∷ m ∷ ms) zero sign many is = absurd (omega (arith, many))
 ends_with behind_sign (l ∷ m ∷ ms) (suc last) sign many is = ends_with (precedes_pattern l.token) (m ∷ ms) last sign (omega (arith, many)) is
 
--- a value that is told was read
+-- a value that is answered was read
 pub read_of : {A : Type 0} (reading : Result A Stop) (x : A) → fault_of reading ≡ Ok x → reading ≡ Ok x
 read_of (Ok y) x h = cc
 read_of (Err stop) x h = cc

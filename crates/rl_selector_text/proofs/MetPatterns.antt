@@ -62,7 +62,7 @@ pub record Meets (patterned : Bool) (lexemes rest : List Lexeme) : Type 0 where
 pub then : {p q : Bool} {lexemes behind rest : List Lexeme} → Meets p lexemes behind → Meets q behind rest → Meets (p || q) lexemes rest
 then {p} {q} {lexemes} {behind} {rest} first second = record { patterns = rw (first.patterns, second.patterns) (sym (or_assoc p q _)); ended = λ e. second.ended (first.ended e) }
 
--- something without a pattern behind it
+-- something without a pattern follows it
 pub then_none : {p : Bool} {lexemes behind rest : List Lexeme} → Meets p lexemes behind → Meets false behind rest → Meets p lexemes rest
 then_none {p} {lexemes} {behind} {rest} first second = subst (λ b. Meets b lexemes rest) (or-false p) (then first second)
 
@@ -140,7 +140,7 @@ pub stages_meet : (depth : ℕ) (stages : List StageForm) {lexemes rest : List L
 stages_meet depth [] same = stands [] (refl, refl) same
 stages_meet depth (stage ∷ stages) are = then (stage_meets depth stage are.1) (stages_meet depth stages are.2)
 
--- nothing stands behind the end
+-- nothing follows the end
 at_end : (behind rest : List Lexeme) → IsEnded behind → Stand (tokens.End ∷ []) behind rest → has_pattern_token false behind ≡ false
 at_end [] rest ended stand = refl
 at_end (l ∷ ls) rest ended stand = rw (ended.0 stand.0) refl

@@ -58,11 +58,11 @@ space_passed (suc most) total text = simp one-add
 pub spaced : {R : Rule} {text rest : List ℕ} → Prints R text rest → Prints R (32 ∷ text) rest
 spaced prints = record { reads = λ total most few. let is = prints.reads total most (omega arith) in (is.0, is.1, rw (← space_passed most total _) is.2) }
 
--- and one behind it
+-- and one after it
 pub before_space : {R : Rule} {text : List ℕ} (rest : List ℕ) → Prints R text (32 ∷ rest) → Prints R text rest
 before_space rest prints = record { reads = λ total most few. let is = prints.reads total most few in (is.0, omega (arith, is.1), rw (space_passed is.0 total rest) is.2) }
 
--- a token, and what R says of those behind it
+-- a token, and what R says of those after it
 abbrev pub Behind : Token → Rule → Rule
 Behind token R [] last = ⊥
 Behind token R (lexeme ∷ lexemes) last = (lexeme.token ≡ token) × R lexemes last
@@ -135,7 +135,7 @@ Fits (tokens.Number number) rest = IsNumber number × Stops rest
 Fits (tokens.Text value) rest = Unit {0}
 Fits _ rest = ⊥
 
--- a token, and what is printed behind it
+-- a token, and what is printed after it
 pub token_then : {R : Rule} {last : List ℕ} (token : Token) (rest : List ℕ) → Fits token rest → Prints R rest last → Prints (Behind token R) (written token rest) last
 unfolding token_at
 token_then (tokens.Word []) rest fits then = absurd (true≢false (sym fits.0))
@@ -163,7 +163,7 @@ opens rest = token_then (tokens.Sign signs.OpenParenthesis) rest (lone 40 _ refl
 pub closes : (rest : List ℕ) → Prints (Stand (tokens.Sign signs.CloseParenthesis ∷ [])) (41 ∷ rest) rest
 closes rest = token_then (tokens.Sign signs.CloseParenthesis) rest (lone 41 _ refl (λ _. refl) rest) done
 
--- the same text, as its parts are joined
+-- the parts of a text may be grouped either way
 pub regrouped : {R : Rule} {rest : List ℕ} (front middle behind : List ℕ) → Prints R (front ++ (middle ++ behind)) rest → Prints R ((front ++ middle) ++ behind) rest
 regrouped front middle behind prints = rw (append_assoc front middle behind) prints
 

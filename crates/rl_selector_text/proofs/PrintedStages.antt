@@ -15,7 +15,7 @@ use Rattle.rl_selector_text.specs.Grammar.{IsStage, AreChained}
 use Rattle.rl_query.specs.Printing.{parser_text, stage_print, stages_text}
 use Rattle.rl_selector_text.proofs.Printed.{Prints, Stops, prints_none, prints_as, then_prints, spaced, regrouped, token_then, done, filter_then}
 
--- where a stage has a pattern it is one, and at most so many parentheses of its tests are open at once
+-- where a stage has a pattern it is one, and at most `depth` parentheses of its tests are open at once
 abbrev pub is_stage : (depth : ℕ) → StageForm → Bool
 is_stage depth (by_filter filter) = is_filter filter.op filter.text
 is_stage depth (by_parser parser) = true

@@ -37,13 +37,13 @@ text_found text word [] x is = cc
 text_found text word (y ∷ ys) x is =
     ⊎_elim (λ yes. same_text word (text y) yes.0 ∙ ap text (same_Some y x yes.1)) (λ other. text_found text word ys x other.1) (chosen (is_text word (text y)) _ _ _ is)
 
--- tokens that stand at the front, and others behind them
+-- tokens that stand at the front, and others after them
 pub stand_then : (front others : List Token) (lexemes behind rest : List Lexeme) → Stand front lexemes behind → Stand others behind rest → Stand (front ++ others) lexemes rest
 stand_then [] others lexemes behind rest first second = subst (λ ls. Stand others ls rest) (sym first) second
 stand_then (t ∷ front) others [] behind rest first second = absurd first
 stand_then (t ∷ front) others (l ∷ lexemes) behind rest first second = (first.0, stand_then front others lexemes behind rest first.1 second)
 
--- tokens that stand one behind the other
+-- tokens that stand one after the other
 pub stand_split : (front others : List Token) (lexemes rest : List Lexeme) → Stand (front ++ others) lexemes rest → (middle : List Lexeme) × Stand front lexemes middle × Stand others middle rest
 stand_split [] others lexemes rest stand = (lexemes, refl, stand)
 stand_split (t ∷ front) others [] rest stand = absurd stand
@@ -54,7 +54,7 @@ stand_length [] lexemes rest stand = omega arith
 stand_length (t ∷ ts) [] rest stand = absurd stand
 stand_length (t ∷ ts) (l ∷ lexemes) rest stand = omega (arith, stand_length ts lexemes rest stand.1)
 
--- the token at the front, and those behind it
+-- the token at the front, and those after it
 pub record Next (token : Token) (others : List Token) (lexemes rest : List Lexeme) : Type 0 where
   pub place : ℕ
   pub behind : List Lexeme
@@ -96,7 +96,7 @@ pub expected_found : (sign : Sign) (position : Position) (lexemes : List Lexeme)
 unfolding expected
 expected_found sign position lexemes = then _ (next_found lexemes) (λ first stand. by_test (is_sign sign first.0.token) (λ is. found (told_by lexemes first.1 (only_sign sign first.0.token is) stand)) (λ _. fault))
 
--- tokens, placed as others are, and what stands behind them
+-- tokens, placed at the offsets of others, and what follows them
 abbrev pub placed : List Token → List Lexeme → List Lexeme → List Lexeme
 placed [] lexemes rest = rest
 placed (t ∷ ts) lexemes rest = record { token = t; place = place_of lexemes } ∷ placed ts (drop 1 lexemes) rest
@@ -168,14 +168,14 @@ matcher_is m lexemes rest stand is =
 
 -- What is listed with commas.
 
--- the sign behind an element: a comma where another follows, or what closes the list
+-- the sign after an item: a comma where another follows, or what closes the list
 abbrev pub follows : Sign → Bool → Token
 follows close more = tokens.Sign (cond more signs.Comma close)
 
 pub follows_found : (close : Sign) (t : Token) (e : Stop) → Finds (λ more. t ≡ follows close more) (cond (is_sign signs.Comma t) (Ok true) (cond (is_sign close t) (Ok false) (Err e)))
 follows_found close t e = by_test (is_sign signs.Comma t) (λ is. found (only_sign signs.Comma t is)) (λ _. by_test (is_sign close t) (λ is. found (only_sign close t is)) (λ _. fault))
 
--- an element that is read stands there with the sign behind it, and is proper
+-- an item that is read stands there with the sign after it, and is proper
 abbrev pub IsSoundElement : {A : Type 0} → (A → List Token) → (A → Bool) → Sign → (List Lexeme → Result (A × Bool × List Lexeme) Stop) → Type 0
 IsSoundElement {A} of_one proper close element = (lexemes : List Lexeme) → Finds (λ x. Stand (of_one x.0 ++ follows close x.1 ∷ []) lexemes x.2 × (proper x.0 ≡ true)) (element lexemes)
 
@@ -183,11 +183,11 @@ IsSoundElement {A} of_one proper close element = (lexemes : List Lexeme) → Fin
 abbrev pub IsCompleteElement : {A : Type 0} → (A → List Token) → (A → Bool) → Sign → (List Lexeme → Result (A × Bool × List Lexeme) Stop) → Type 0
 IsCompleteElement {A} of_one proper close element = (lexemes : List Lexeme) (x : A) (more : Bool) (rest : List Lexeme) → Stand (of_one x ++ follows close more ∷ []) lexemes rest → proper x ≡ true → element lexemes ≡ Ok (x, more, rest)
 
--- elements, one at least, by the tokens of all
+-- items, one at least, by the tokens of all
 abbrev pub AreListed : {A : Type 0} → (List A → List Token) → (A → Bool) → List A → List Lexeme → List Lexeme → Type 0
 AreListed all proper xs lexemes rest = Stand (all xs) lexemes rest × (list_all proper xs ≡ true) × (1 ≤ length xs)
 
--- those of the last have the sign behind them that closes the list
+-- the sign that closes the list stands after those of the last
 module _ {A : Type 0} (of_one : A → List Token) (proper : A → Bool) (close : Sign) (element : List Lexeme → Result (A × Bool × List Lexeme) Stop) (all : List A → List Token)
     (last : (x : A) → all (x ∷ []) ≡ of_one x ++ follows close false ∷ []) (more : (x y : A) (ys : List A) → all (x ∷ y ∷ ys) ≡ of_one x ++ follows close true ∷ all (y ∷ ys)) where
   join : (x : A) (others : List A) (lexemes behind rest : List Lexeme) → Stand (of_one x ++ follows close true ∷ []) lexemes behind → proper x ≡ true → AreListed all proper others behind rest → AreListed all proper (x ∷ others) lexemes rest
@@ -203,7 +203,7 @@ module _ {A : Type 0} (of_one : A → List Token) (proper : A → Bool) (close :
       (λ goes_on. then _ (listed_found sound most first.2) (λ others are. found (join first.0 others.0 lexemes first.2 others.1 (subst (λ b. Stand (of_one first.0 ++ follows close b ∷ []) lexemes first.2) goes_on one.0) one.1 are)))
       (λ ends. found (subst (λ ts. Stand ts lexemes first.2) (ap (λ b. of_one first.0 ++ follows close b ∷ []) ends ∙ sym (last first.0)) one.0, and_from (proper first.0) true one.1 refl, omega arith)))
 
-  -- no more elements than tokens
+  -- no more items than tokens
   few_listed : (x : A) (xs : List A) → length (x ∷ xs) ≤ length (all (x ∷ xs))
   few_listed x [] = omega (arith, ap length (last x), length-append (of_one x) (follows close false ∷ []))
   few_listed x (y ∷ ys) = omega (arith, ap length (more x y ys), length-append (of_one x) (follows close true ∷ all (y ∷ ys)), few_listed y ys)

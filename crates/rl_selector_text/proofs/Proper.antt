@@ -1,4 +1,4 @@
--- What selectors, filters and stages keep, told of their forms.
+-- What selectors, filters and stages keep, in terms of their forms.
 use Rattle.rl_selector_text.proofs.TestPrinted.{tests_kept}
 use Rattle.rl_selector_text.proofs.TestDepths.{tests_shallow}
 use Rattle.rl_query.proofs.SameTests.{depth_forms}

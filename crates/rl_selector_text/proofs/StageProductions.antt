@@ -76,7 +76,7 @@ record IsTaken (parsed : Bool) (depth left : ℕ) (stage : StageForm) (fewer : �
   pub comes : stage_comes lexemes ≡ Ok true
   pub read : stage_at parsed depth left lexemes ≡ Ok (stage, fewer, rest)
 
--- a word behind the pipe
+-- a word after the pipe
 word_is : (parsed : Bool) (depth left : ℕ) (stage : StageForm) (word : List ℕ) (fewer : ℕ) (lexemes rest : List Lexeme) → Stand (tokens.Sign signs.Pipe ∷ tokens.Word word ∷ []) lexemes rest → 0 + fewer ≡ left
     → ((place : ℕ) → piped_at parsed depth left (record { token = tokens.Word word; place = place } ∷ rest) ≡ Ok (stage, left, rest)) → IsTaken parsed depth left stage fewer lexemes rest
 unfolding stage_at
@@ -99,7 +99,7 @@ stage_is parsed depth left (by_tests tests) fewer lexemes rest is end only count
     let starts = tests_start depth tests is.behind rest is.are in
     record { comes = rw a.is refl; read = rw (a.is, a.more, starts.is, no_parser starts.first.token starts.free, starts.begin, tests_are_read depth left is.behind tests fewer rest is.are end counts) refl }
 
--- stages, at most so many, and a parser only where none was read before
+-- at most `most` stages, and a parser only where none was read before
 record AreUpTo (parsed : Bool) (depth left most : ℕ) (stages : List StageForm) (lexemes rest : List Lexeme) : Type 0 where
   pub chained : AreChained depth stages lexemes rest
   pub few : length stages ≤ most

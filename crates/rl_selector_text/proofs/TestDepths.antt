@@ -9,7 +9,7 @@ use Rattle.rl_query.specs.TestDepth.{left_level, right_level, needs, deepened, t
 use Rattle.rl_selector_text.specs.TestGrammar.{Rule, IsOne, alone, in_parentheses, AreJoined, part, more, AreInside, AreTests}
 use Rattle.rl_query.specs.TestTree.{TestTree, joined}
 
--- what stands in parentheses takes one of so many
+-- what stands in parentheses takes one of `depth`
 abbrev IsShallow : Rule → ℕ → Type 0
 IsShallow Inside depth = (tests : TestTree TestForm) (lexemes rest : List Lexeme) → Inside tests lexemes rest → suc (text_depth tests) ≤ depth
 

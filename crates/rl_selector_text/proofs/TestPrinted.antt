@@ -47,7 +47,7 @@ join_prints : (join : Join) {R : List Lexeme → List Lexeme → Type 0} (bytes 
 join_prints And bytes prints = then_prints (before_space bytes (prints_as (spaced (token_then (tokens.Word (codes "and")) (32 ∷ bytes) (refl, refl) done)) (λ a b word. inl word))) prints
 join_prints Or bytes prints = then_prints (before_space bytes (spaced (token_then (tokens.Word (codes "or")) (32 ∷ bytes) (refl, refl) done))) prints
 
--- a comparison, and no equals sign behind it
+-- a comparison, and no equals sign after it
 pub comparison_ends : (c : Comparison) (b : ℕ) (rest : List ℕ) → (b == 61) ≡ false → Ends (comparison_sign c) (b ∷ rest)
 comparison_ends comparisons.Greater b rest other = rw other refl
 comparison_ends comparisons.Less b rest other = rw other refl

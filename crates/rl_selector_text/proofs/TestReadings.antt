@@ -40,7 +40,7 @@ unfolding others_at
 stops join reader zero tests left lexemes none = refl
 stops join reader (suc most) tests left lexemes none = rw none refl
 
--- what is read of parts is what is read behind them, where no fewer may be joined than tests may still come
+-- what is read of parts is what is read after them, where no fewer may be joined than tests may still come
 chain : (join : Join) (reader : Reader) (Part : Rule) (Ends : List Lexeme → Type 0) → IsComplete reader Part Ends → JoinsAre join Part Ends → (tests : TestTree TestForm) (lexemes rest : List Lexeme) (left fewer : ℕ) (whole : Reading) → AreJoined join Part tests lexemes rest → Ends rest
     → count_tests tests + fewer ≡ left → ((most : ℕ) → fewer ≤ most → others_at join reader most tests fewer rest ≡ whole) → joined_at join reader left lexemes ≡ whole
 unfolding joined_at others_at
@@ -73,6 +73,6 @@ inside_complete (suc depth) tests lexemes rest left fewer is ends count =
     let all = joined_complete And (one_at (inside_at depth)) (IsOne (AreInside depth)) (λ _. Unit {0}) (one_complete (inside_at depth) (AreInside depth) (inside_complete depth)) (and_joins (AreInside depth)) in
     joined_complete Or _ _ (λ rest. Unit {0} × (behind_join And rest ≡ None)) all (or_joins (AreInside depth)) tests lexemes rest left fewer is ((tt, ends.0), ends.1) count
 
--- what is derived is read, if so many tests may come
+-- what is derived is read, if its tests may come
 pub tests_are_read : (depth left : ℕ) (lexemes : List Lexeme) (tests : TestTree TestForm) (fewer : ℕ) (rest : List Lexeme) → AreTests depth tests lexemes rest → IsEnd rest → count_tests tests + fewer ≡ left → tests_at depth left lexemes ≡ Ok (tests, fewer, rest)
 tests_are_read depth left lexemes tests fewer rest is ends count = inside_complete (suc depth) tests lexemes rest left fewer is ends count

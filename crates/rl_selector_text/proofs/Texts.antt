@@ -74,11 +74,11 @@ escape_boundary bytes c n utf8 is =
     let ends : EndsAscii bytes (Some (c, n)) = subst (EndsAscii bytes) (sym is) (escape_ascii bytes) in
     behind_ascii bytes n utf8 ends.1 (λ _. ends.2)
 
--- the byte behind a run
+-- the byte after a run
 pub stop_first : (p : ℕ → Bool) (rest behind : List ℕ) → behind ≡ drop (prefix_len p rest) rest → (length behind == 0) ≡ false → p (get_or behind 0 0) ≡ false
 stop_first p rest behind is more = stops p rest _ _ (sym is ∙ first_of behind more)
 
--- a text between backquotes is the run, if a backquote is behind it
+-- a text between backquotes is the run, if a backquote follows it
 pub raw_read : (bytes : List ℕ) → backquoted bytes ≡ cond (length (drop (prefix_len is_raw bytes) bytes) == 0) None (Some (take (prefix_len is_raw bytes) bytes, drop 1 (drop (prefix_len is_raw bytes) bytes)))
 raw_read bytes = raw_run bytes ∙ by_behind (drop (prefix_len is_raw bytes) bytes) refl
   where
@@ -98,7 +98,7 @@ escape_utf8 bytes c rest utf8 is = let left = escape_left bytes (escape_at bytes
 pub escape_shorter : (bytes : List ℕ) (c : ℕ) (rest : List ℕ) → ◌≡◌ {A = Option (ℕ × List ℕ)} (Some (c, rest)) (escape_front bytes) → length rest ≤ length bytes
 escape_shorter bytes c rest is = let left = escape_left bytes (escape_at bytes) c rest is in omega (arith, ap length left.2, length-drop left.0 bytes)
 
--- what is left to read behind the run at the front
+-- what is left to read after the run at the front
 pub record Left (whole : Option (List ℕ × List ℕ)) (so_far behind : List ℕ) : Type 0 where
   pub read : onto so_far (quoted 0 behind) ≡ whole
   pub stop : (length behind == 0) ≡ false → is_plain (get_or behind 0 0) ≡ false
@@ -117,7 +117,7 @@ left_none {so_far = so_far} {behind = behind} left ends = ap (λ t. onto so_far 
 pub left_end : {whole : Option (List ℕ × List ℕ)} {so_far behind : List ℕ} → Left whole so_far behind → (length behind == 0) ≡ false → get_or behind 0 0 ≡ 34 → ◌≡◌ {A = Option (List ℕ × List ℕ)} (Some (so_far, drop 1 behind)) whole
 left_end {so_far = so_far} {behind = behind} left more quote = ap (λ t. Some (t, drop 1 behind)) (sym (append-nil so_far)) ∙ ap (λ t. onto so_far (quoted 0 t)) (sym (first_of behind more ∙ ap (λ b. b ∷ drop 1 behind) quote)) ∙ left.read
 
--- an escape, and the text behind it
+-- an escape, and the text after it
 abbrev pub onto_escape : List ℕ → Option (ℕ × List ℕ) → Option (List ℕ × List ℕ)
 onto_escape so_far = λ e. onto so_far (option_and_then (λ (c : ℕ × List ℕ). onto (encode c.0) (quoted 0 c.1)) e)
 

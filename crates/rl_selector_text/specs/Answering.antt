@@ -5,7 +5,7 @@ use Rattle.rl_plain.specs.declared.refusal.OrMemory.TheVariants.{Fault, Memory}
 use Rattle.rl_query.specs.declared.fault.QueryFault.{QueryFault}
 use Rattle.rl_query.specs.declared.fault.QueryFault.TheVariants as faults
 
--- What is answered is what is read as if each pattern had room; or for want of memory nothing; or, where that reading meets a pattern, BadRegex.
+-- What is answered is what is read as if each pattern had room; or nothing for lack of memory; or, where that reading meets a pattern, BadRegex.
 abbrev pub Reads : {X Y : Type 0} → (X → Y) → Result X (OrMemory QueryFault) → Result Y QueryFault → (meets_pattern : Bool) → Type 0
 Reads view (Ok x) read meets_pattern = read ≡ Ok (view x)
 Reads view (Err Memory) read meets_pattern = Unit {0}

@@ -84,7 +84,7 @@ later_words =
 abbrev pub is_later_word : List ℕ → Bool
 is_later_word word = list_any (λ later. is_in_any_case later word) later_words || list_any (λ function. is_in_any_case (function_text function) word) all_functions
 
--- the words that LogQL has behind an operator
+-- the words that LogQL has after an operator
 abbrev pub is_matching_word : List ℕ → Bool
 is_matching_word word = list_any (λ matching. is_in_any_case matching word) (codes "bool" ∷ codes "on" ∷ codes "ignoring" ∷ codes "group_left" ∷ codes "group_right" ∷ [])
 
@@ -114,7 +114,7 @@ is_unsupported_word positions.BehindSieveFilter word = is_in_any_case word (code
 is_unsupported_word positions.BehindParser word = true
 is_unsupported_word _ word = false
 
--- and the same of a sign
+-- LogQL has the sign at the position, and the ruler has it not
 abbrev pub is_unsupported_sign : Position → Sign → Bool
 is_unsupported_sign positions.Start sign = is_later_start sign
 is_unsupported_sign positions.InTerm sign = false
@@ -150,7 +150,7 @@ abbrev pub is_sign : Sign → Token → Bool
 is_sign sign (tokens.Sign found) = is_text (sign_text found) (sign_text sign)
 is_sign sign _ = false
 
--- the first token, and those behind it. The end is a token, so one is there until it was read
+-- the first token, and those after it. The end is a token, so one is there until it was read
 abbrev pub next : List Lexeme → Result (Lexeme × List Lexeme) Stop
 next [] = Err (syntax 0)
 next (lexeme ∷ lexemes) = Ok (lexeme, lexemes)
@@ -195,7 +195,7 @@ checked_matcher place matcher =
     if not (is_name matcher.name) then Err (syntax place)
     else (if is_comparable matcher.op matcher.value then Ok matcher else Err (stop faults.BadRegex place))
 
--- a row of three tokens: a name, a sign and a value, and what they make at the place of the name. Its fault is that of the first that does not fit
+-- a row of three tokens: a name, a sign and a value, and what they make at the name's offset. Its fault is that of the first that does not fit
 abbrev pub row_at : {Op Value Made : Type 0} → (op_of : ℕ → Token → Result Op Stop) → (value_of : ℕ → Token → Result Value Stop) → (made : (place : ℕ) → List ℕ → Op → Value → Result Made Stop) → List Lexeme → Result (Made × List Lexeme) Stop
 row_at op_of value_of made lexemes = do
   first ← next lexemes

@@ -39,12 +39,12 @@ filter_sign lines.NotMatches = signs.NotMatches
 abbrev pub filter_tokens : FilterForm → List Token
 filter_tokens filter = tokens.Sign (filter_sign filter.op) ∷ tokens.Text filter.text ∷ []
 
--- line filters one behind the other
+-- line filters one after the other
 abbrev pub filters_tokens : List FilterForm → List Token
 filters_tokens [] = []
 filters_tokens (filter ∷ filters) = filter_tokens filter ++ filters_tokens filters
 
--- line filters, at most so many, whose patterns are patterns
+-- at most `most` line filters, whose patterns are patterns
 pub record AreFilters (most : ℕ) (filters : List FilterForm) (lexemes rest : List Lexeme) : Type 0 where
   pub stand : Stand (filters_tokens filters) lexemes rest
   pub proper : list_all (λ filter. is_filter filter.op filter.text) filters ≡ true
@@ -54,7 +54,7 @@ pub record AreFilters (most : ℕ) (filters : List FilterForm) (lexemes rest : L
 abbrev pub parser_tokens : Parser → List Token
 parser_tokens parser = tokens.Sign signs.Pipe ∷ tokens.Word (parser_text parser) ∷ []
 
--- | tests, with at most so many parentheses open at once
+-- | tests, with at most `depth` parentheses open at once
 pub record AreTestsPiped (depth : ℕ) (tests : TestTree TestForm) (lexemes rest : List Lexeme) : Type 0 where
   pub behind : List Lexeme
   pub pipe : Stand (tokens.Sign signs.Pipe ∷ []) lexemes behind
@@ -66,7 +66,7 @@ IsStage depth (by_filter filter) lexemes rest = Stand (filter_tokens filter) lex
 IsStage depth (by_parser parser) lexemes rest = Stand (parser_tokens parser) lexemes rest
 IsStage depth (by_tests tests) lexemes rest = AreTestsPiped depth tests lexemes rest
 
--- stages one behind the other
+-- stages one after the other
 abbrev pub AreChained : (depth : ℕ) → List StageForm → List Lexeme → List Lexeme → Type 0
 AreChained depth [] lexemes rest = lexemes ≡ rest
 AreChained depth (stage ∷ stages) lexemes rest = (behind : List Lexeme) × IsStage depth stage lexemes behind × AreChained depth stages behind rest
@@ -76,7 +76,7 @@ pub record AreStages (depth : ℕ) (stages : List StageForm) (lexemes rest : Lis
   pub chained : AreChained depth stages lexemes rest
   pub one_parser : parsers_of stages ≤ 1
 
--- {matchers} line filters, and nothing behind them
+-- {matchers} line filters, and nothing after them
 pub record DerivesSieve (text : List ℕ) (sieve : SieveForm) : Type 0 where
   pub behind_selector : List Lexeme
   pub behind_filters : List Lexeme

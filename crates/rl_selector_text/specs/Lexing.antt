@@ -37,18 +37,18 @@ character n = if nat_le 55296 n && nat_le n 57343 then None else Some n
 abbrev pub unicode_at : List ℕ → Option ℕ
 unicode_at bytes = if nat_lt (length bytes) 4 then None else option_and_then character (hex_number 0 (slice_index bytes 0 ∷ slice_index bytes 1 ∷ slice_index bytes 2 ∷ slice_index bytes 3 ∷ []))
 
--- behind a backslash: the character that the escape stands for, and how many bytes it takes
+-- after a backslash: the character that the escape stands for, and how many bytes it takes
 abbrev pub escape_at : List ℕ → Option (ℕ × ℕ)
 escape_at [] = None
 escape_at (byte ∷ bytes) =
     if byte == letter_u then option_map (λ c. (c, 5)) (unicode_at bytes)
     else option_map (λ c. (c, 1)) (unescape escapes byte)
 
--- the same with what follows it
+-- that character, and what follows the escape
 abbrev pub escape_front : List ℕ → Option (ℕ × List ℕ)
 escape_front bytes = option_map (λ (e : ℕ × ℕ). (e.0, drop e.1 bytes)) (escape_at bytes)
 
--- behind a quote: the text up to the next quote that is not escaped, and what follows it; some bytes at the front are passed over
+-- after a quote: the text up to the next quote that is not escaped, and what follows it; `skip` bytes at the front are passed over
 abbrev pub quoted : ℕ → List ℕ → Option (List ℕ × List ℕ)
 quoted skip [] = None
 quoted (suc skip) (byte ∷ bytes) = quoted skip bytes
@@ -57,7 +57,7 @@ quoted zero (byte ∷ bytes) =
     else (if byte == backslash then option_and_then (λ c. onto (encode_utf8 c.0) (quoted c.1 bytes)) (escape_at bytes)
     else onto (byte ∷ []) (quoted 0 bytes))
 
--- behind a backquote: the text up to the next one, and what follows it
+-- after a backquote: the text up to the next one, and what follows it
 abbrev pub backquoted : List ℕ → Option (List ℕ × List ℕ)
 backquoted [] = None
 backquoted (byte ∷ bytes) = if byte == backquote then Some ([], bytes) else onto (byte ∷ []) (backquoted bytes)
@@ -88,14 +88,14 @@ token_at (byte ∷ bytes) =
     else (if byte == backquote then or_bad tokens.Text (backquoted bytes)
     else or_bad tokens.Sign (sign_at (byte ∷ bytes)))))
 
--- at most so many tokens and the end, each behind spaces and comments, with their places in a text that had so many bytes
+-- at most `most` tokens and the end, each after spaces and comments, with their offsets in a text of `total` bytes
 unfoldable pub lexemes_in : ℕ → ℕ → List ℕ → List Lexeme
 lexemes_in zero total bytes = record { token = tokens.End; place = total } ∷ []
 lexemes_in (suc most) total bytes =
     let start = drop (gap_len false bytes) bytes in
     if length start == 0 then record { token = tokens.End; place = total } ∷ [] else record { token = (token_at start).0; place = total - length start } ∷ lexemes_in most total (token_at start).1
 
--- the tokens of a text, which are at most as many as its bytes, and the end
+-- the tokens of a text, which are no more than its bytes, and the end
 abbrev pub lexemes_of : List ℕ → List Lexeme
 lexemes_of text = lexemes_in (length text) (length text) text
 

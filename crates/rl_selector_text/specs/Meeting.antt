@@ -1,4 +1,4 @@
--- The patterns that a reading meets: those whose tokens stand before the place at which it stops, or all where it does not.
+-- The patterns that a reading meets: those whose tokens stand before the offset at which it stops, or all where it does not.
 use Rattle.std.specs.Prelude.{◌≡◌, ◌⊎◌, ℕ, nat_lt, Bool, true, false, ◌&&◌, ◌||◌, List, [], ◌∷◌, take, Result, Ok, Err}
 use Rattle.std.specs.List.{prefix_len}
 use Rattle.rl_plain.specs.declared.refusal.OrMemory.{OrMemory}
@@ -12,19 +12,19 @@ use Rattle.rl_selector_text.specs.declared.stop.Stop.{Stop}
 use Rattle.rl_selector_text.specs.Answering.{IsForRoom}
 use Rattle.rl_selector_text.specs.Testing.{is_content}
 
--- a sign behind which a pattern stands
+-- a sign that a pattern follows
 abbrev pub precedes_pattern : Token → Bool
 precedes_pattern (tokens.Sign signs.Matches) = true
 precedes_pattern (tokens.Sign signs.NotMatches) = true
 precedes_pattern (tokens.Sign signs.ContainsMatch) = true
 precedes_pattern _ = false
 
--- a pattern is among tokens, before which such a sign stands or does not: a text behind such a sign
+-- a pattern is among tokens, before which such a sign stands or does not: a text after such a sign
 abbrev pub has_pattern_token : (behind_sign : Bool) → List Lexeme → Bool
 has_pattern_token behind_sign [] = false
 has_pattern_token behind_sign (lexeme ∷ lexemes) = (behind_sign && is_content lexeme.token) || has_pattern_token (precedes_pattern lexeme.token) lexemes
 
--- the tokens before a place
+-- the tokens before an offset
 abbrev pub tokens_before : ℕ → List Lexeme → List Lexeme
 tokens_before place lexemes = take (prefix_len (λ lexeme. nat_lt lexeme.place place) lexemes) lexemes
 

@@ -24,7 +24,7 @@ use Rattle.rl_query.specs.declared.token.Token.{Token}
 use Rattle.rl_query.specs.declared.token.Token.TheVariants as tokens
 use Rattle.rl_plain.specs.Answers.{◌>>=◌}
 
--- behind a matcher: whether another follows
+-- after a matcher: whether another follows
 abbrev pub goes_on : ℕ → Token → Result Bool Stop
 goes_on place token = if is_sign signs.Comma token then Ok true else (if is_sign signs.CloseBrace token then Ok false else Err (refusal positions.Elsewhere place token))
 
@@ -36,7 +36,7 @@ element_at lexemes = do
   more ← goes_on lexeme.0.place lexeme.0.token
   Ok (matcher.0, more, lexeme.1)
 
--- elements joined by commas up to what closes them, at most so many; each tells whether another follows
+-- at most `most` items joined by commas, up to what closes them; each says whether another follows
 unfoldable pub listed_at : {A : Type 0} → (element : List Lexeme → Result (A × Bool × List Lexeme) Stop) → ℕ → List Lexeme → Result (List A × List Lexeme) Stop
 listed_at element zero lexemes = Err (syntax 0)
 listed_at element (suc most) lexemes = do
@@ -55,7 +55,7 @@ some_matcher place token = if is_sign signs.CloseBrace token then Err (stop faul
 abbrev pub real_matchers : (place : ℕ) → List MatcherForm → Result (List MatcherForm) Stop
 real_matchers place matchers = if has_real_form matchers then Ok matchers else Err (stop faults.NoRealMatcher place)
 
--- behind the opening brace: the matchers of a selector
+-- after the opening brace: the matchers of a selector
 unfoldable pub selector_at : List Lexeme → Result (List MatcherForm × List Lexeme) Stop
 selector_at lexemes = do
   lexeme ← next lexemes
@@ -85,7 +85,7 @@ filter_text place token = Err (refusal positions.InFilter place token)
 abbrev pub checked_filter : ℕ → FilterForm → Result FilterForm Stop
 checked_filter place filter = if is_filter filter.op filter.text then Ok filter else Err (stop faults.BadRegex place)
 
--- the text of a line filter, behind its sign
+-- the text of a line filter, after its sign
 unfoldable pub filter_at : LineOp → List Lexeme → Result (FilterForm × List Lexeme) Stop
 filter_at op lexemes = do
   text ← next lexemes
@@ -93,7 +93,7 @@ filter_at op lexemes = do
   filter ← checked_filter text.0.place (record { op = op; text = value })
   Ok (filter, text.1)
 
--- line filters, at most so many
+-- at most `most` line filters
 unfoldable pub filters_at : ℕ → List Lexeme → Result (List FilterForm × List Lexeme) Stop
 filters_at zero lexemes = do
   first ← next lexemes
@@ -102,7 +102,7 @@ filters_at (suc most) lexemes = do
   first ← next lexemes
   option_map_or (λ op. filter_at op first.1 >>= λ filter. filters_at most filter.1 >>= λ others. Ok (filter.0 ∷ others.0, others.1)) (filter_op first.0.token) (Ok ([], lexemes))
 
--- a token begins a stage: a line filter, or what stands behind a pipe
+-- a token begins a stage: a line filter, or what follows a pipe
 abbrev pub begins_stage : Token → Bool
 begins_stage token = is_some (filter_op token) || is_sign signs.Pipe token
 
@@ -142,7 +142,7 @@ abbrev pub tests_begin : ℕ → Token → List Lexeme → Result (Unit {0}) Sto
 tests_begin place (tokens.Word word) lexemes = word_begins place word lexemes
 tests_begin place token lexemes = parenthesis_begins place token
 
--- label tests behind their pipe, how many may still come, and the tokens that follow
+-- label tests after their pipe, how many may still come, and the tokens that follow
 unfoldable pub tested_at : (depth left : ℕ) → List Lexeme → Result (StageForm × ℕ × List Lexeme) Stop
 tested_at depth left lexemes = do
   first ← next lexemes
@@ -150,19 +150,19 @@ tested_at depth left lexemes = do
   tests ← tests_at depth left lexemes
   Ok (by_tests tests.0, tests.1, tests.2)
 
--- a parser or label tests, behind the pipe
+-- a parser or label tests, after the pipe
 unfoldable pub piped_at : (parsed : Bool) (depth left : ℕ) → List Lexeme → Result (StageForm × ℕ × List Lexeme) Stop
 piped_at parsed depth left lexemes = do
   first ← next lexemes
   option_map_or (λ parser. only_parser first.0.place parsed parser >>= λ only. Ok (by_parser only, left, first.1)) (parser_of first.0.token) (tested_at depth left lexemes)
 
--- a stage, where one comes, and how many label tests may still come behind it
+-- a stage, where one comes, and how many label tests may still come after it
 unfoldable pub stage_at : (parsed : Bool) (depth left : ℕ) → List Lexeme → Result (StageForm × ℕ × List Lexeme) Stop
 stage_at parsed depth left lexemes = do
   sign ← next lexemes
   option_map_or (λ op. filter_at op sign.1 >>= λ filter. Ok (by_filter filter.0, left, filter.1)) (filter_op sign.0.token) (piped_at parsed depth left sign.1)
 
--- stages, at most so many, where a parser was read before or not, and so many label tests may come
+-- at most `most` stages, where a parser was read before or not, and `left` label tests may come
 unfoldable pub stages_at : (parsed : Bool) (depth left most : ℕ) → List Lexeme → Result (List StageForm × List Lexeme) Stop
 stages_at parsed depth left zero lexemes = do
   more ← stage_comes lexemes
@@ -171,7 +171,7 @@ stages_at parsed depth left (suc most) lexemes = do
   more ← stage_comes lexemes
   if more then (stage_at parsed depth left lexemes >>= λ stage. stages_at (parsed || parses stage.0) depth stage.1 most stage.2 >>= λ others. Ok (stage.0 ∷ others.0, others.1)) else Ok ([], lexemes)
 
--- stages, as many as there is room for
+-- stages, no more than there is room for
 abbrev pub stages_in : Room → List Lexeme → Result (List StageForm × List Lexeme) Stop
 stages_in room lexemes = stages_at false room.depth room.tests room.stages lexemes
 
@@ -180,7 +180,7 @@ behind_stage (by_filter filter) = positions.BehindFilter
 behind_stage (by_parser parser) = positions.BehindParser
 behind_stage (by_tests tests) = positions.BehindTests
 
--- the position behind the last stage, or where there is none that before the stages
+-- the position after the last stage, or where there is none that before the stages
 abbrev pub behind_stages : Position → List StageForm → Position
 behind_stages position [] = position
 behind_stages position (stage ∷ stages) = behind_stages (behind_stage stage) stages

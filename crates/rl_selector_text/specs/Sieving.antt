@@ -17,7 +17,7 @@ use Rattle.rl_query.specs.Limits.{most_stages}
 use Rattle.rl_selector_text.specs.Fronts.{next, expected, refusal}
 use Rattle.rl_selector_text.specs.Parsing.{selector_at, filters_at}
 
--- the position behind a selector and line filters
+-- the position after a selector and line filters
 abbrev pub behind_filters : List FilterForm → Position
 behind_filters [] = positions.BehindSieveSelector
 behind_filters (filter ∷ filters) = positions.BehindSieveFilter

@@ -11,7 +11,7 @@ use Rattle.rl_query.specs.declared.token.Token.{Token}
 use Rattle.rl_query.specs.declared.token.Token.TheVariants as tokens
 use Rattle.rl_query.specs.Form.{MatcherForm}
 
--- these tokens stand at the front, one behind the other
+-- these tokens stand at the front, one after the other
 abbrev pub Stand : List Token → List Lexeme → List Lexeme → Type 0
 Stand [] lexemes rest = lexemes ≡ rest
 Stand (token ∷ tokens) [] rest = ⊥

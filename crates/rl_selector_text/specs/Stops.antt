@@ -14,7 +14,7 @@ syntax place = stop (faults.Syntax place) place
 abbrev pub unsupported : ℕ → Stop
 unsupported place = stop (faults.Unsupported place) place
 
--- the place at which tokens begin
+-- the offset at which tokens begin
 abbrev pub place_of : List Lexeme → ℕ
 place_of [] = 0
 place_of (lexeme ∷ lexemes) = lexeme.place

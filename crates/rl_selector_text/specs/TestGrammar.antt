@@ -24,7 +24,7 @@ abbrev pub test_name : TestForm → List ℕ
 test_name (by_text matcher) = matcher.name
 test_name (by_quantity test) = test.name
 
--- what stands behind the name: ="value", or another operator; >quantity, or another comparison
+-- what follows the name: ="value", or another operator; >quantity, or another comparison
 abbrev pub Compares : TestForm → Sign → Token → Type 0
 Compares (by_text matcher) sign value = (sign ≡ operator_sign matcher.op) × (value ≡ tokens.Text matcher.value) × (is_comparable matcher.op matcher.value ≡ true)
 Compares (by_quantity test) sign value = (comparison_of sign ≡ Some test.comparison) × ((number : List ℕ) × (value ≡ tokens.Number number) × (quantity_of number ≡ Some test.quantity))
@@ -57,15 +57,15 @@ pub data AreJoined (join : Join) (Part : Rule) : TestTree TestForm → List Lexe
 abbrev pub AreTestsIn : (Inside : Rule) → Rule
 AreTestsIn Inside = AreJoined Or (AreJoined And (IsOne Inside))
 
--- tests in parentheses, so many of which are open within one another at most
+-- tests in parentheses, at most `depth` of which are open within one another
 abbrev pub AreInside : (depth : ℕ) → Rule
 AreInside zero tests lexemes rest = ⊥
 AreInside (suc depth) tests lexemes rest = AreTestsIn (AreInside depth) tests lexemes rest
 
--- tests in which so many parentheses are open within one another at most
+-- tests in which at most `depth` parentheses are open within one another
 abbrev pub AreTests : (depth : ℕ) → Rule
 AreTests depth = AreTestsIn (AreInside depth)
 
--- the end of a text, which stands behind its tokens
+-- the end of a text, which follows its tokens
 abbrev pub ended : List ℕ → List Lexeme
 ended bytes = record { token = tokens.End; place = length bytes } ∷ []

@@ -22,15 +22,15 @@ use Rattle.rl_query.specs.Quantities.{quantity_of}
 use Rattle.rl_query.specs.Tables.{comparison_of}
 use Rattle.rl_query.specs.TestTree.{TestTree, one, joined}
 
--- what is read: tests, how many may still come behind them, and the tokens that follow
+-- what is read: tests, how many may still come after them, and the tokens that follow
 abbrev pub Read : Type 0
 Read = TestTree TestForm × ℕ × List Lexeme
 
--- the same, or the first fault
+-- that, or the first fault
 abbrev pub Reading : Type 0
 Reading = Result Read Stop
 
--- how tests are read, where so many may still come
+-- how tests are read, where `left` may still come
 abbrev pub Reader : Type 0
 Reader = (left : ℕ) → List Lexeme → Reading
 
@@ -52,7 +52,7 @@ abbrev pub label_comes : List Lexeme → Bool
 label_comes [] = false
 label_comes (lexeme ∷ lexemes) = is_label lexeme.token
 
--- one of so many is taken
+-- one fewer may still come, where one may
 abbrev pub one_fewer : (place left : ℕ) → Result ℕ Stop
 one_fewer place zero = Err (stop faults.TooDeep place)
 one_fewer place (suc fewer) = Ok fewer
@@ -85,7 +85,7 @@ abbrev pub is_content : Token → Bool
 is_content (tokens.Text content) = true
 is_content _ = false
 
--- behind a name a comparison comes: `=` and `!=` stand before a text in the tests of texts
+-- after a name a comparison comes: `=` and `!=` stand before a text in the tests of texts
 abbrev pub quantity_comes : List Lexeme → Bool
 quantity_comes (name ∷ sign ∷ value ∷ lexemes) = compares sign.token && not (is_content value.token && is_match sign.token)
 quantity_comes _ = false
@@ -132,7 +132,7 @@ abbrev pub begins : Token → (behind : List Lexeme) → Bool
 begins (tokens.Word word) behind = not (is_text word (codes "or")) && (not (is_joining_word word) || operator_comes behind)
 begins token behind = is_sign signs.OpenParenthesis token
 
--- the tokens of what `and` joins, if it joins more: behind the word or a comma, or at once
+-- the tokens of what `and` joins, if it joins more: after the word or a comma, or at once
 abbrev pub behind_and : List Lexeme → Option (List Lexeme)
 behind_and [] = None
 behind_and (lexeme ∷ lexemes) = if is_and lexeme.token then Some lexemes else (if begins lexeme.token lexemes then Some (lexeme ∷ lexemes) else None)
@@ -142,7 +142,7 @@ abbrev pub behind_or : List Lexeme → Option (List Lexeme)
 behind_or [] = None
 behind_or (lexeme ∷ lexemes) = if is_word (codes "or") lexeme.token then Some lexemes else None
 
--- what stands behind tests, and to which nothing is joined
+-- what follows tests, and joins nothing to them
 abbrev pub IsEnd : List Lexeme → Type 0
 IsEnd lexemes = (behind_and lexemes ≡ None) × (behind_or lexemes ≡ None)
 
@@ -150,7 +150,7 @@ abbrev pub behind_join : Join → List Lexeme → Option (List Lexeme)
 behind_join And = behind_and
 behind_join Or = behind_or
 
--- what is joined to the tests that were read, at most so many times
+-- what is joined to the tests that were read, at most `most` times
 unfoldable pub others_at : Join → (part : Reader) → (most : ℕ) → TestTree TestForm → Reader
 others_at join part zero tests left lexemes = Ok (tests, left, lexemes)
 others_at join part (suc most) tests left lexemes =
@@ -171,11 +171,11 @@ part_at Or inside = joined_at And (one_at inside)
 abbrev pub tests_in : (inside : Reader) → Reader
 tests_in inside = joined_at Or (part_at Or inside)
 
--- tests in parentheses, so many of which may be opened within one another
+-- tests in parentheses, `depth` of which may be opened within one another
 abbrev pub inside_at : ℕ → Reader
 inside_at zero left lexemes = Err (stop faults.TooDeep (place_of lexemes))
 inside_at (suc depth) left lexemes = tests_in (inside_at depth) left lexemes
 
--- tests in which so many parentheses may be opened within one another
+-- tests in which `depth` parentheses may be opened within one another
 abbrev pub tests_at : (depth : ℕ) → Reader
 tests_at depth = tests_in (inside_at depth)

@@ -42,7 +42,7 @@ pub const LATER_WORDS: [&str; 24] = [
     "rate_counter",
 ];
 
-// The words that LogQL has behind an operator.
+// The words that LogQL has after an operator.
 const MATCHING_WORDS: [&str; 5] = ["bool", "on", "ignoring", "group_left", "group_right"];
 
 /// Where in a query a token was looked for.
@@ -52,37 +52,37 @@ pub enum Position {
     Start,
     /// Inside a vector aggregation or a term's parentheses.
     InTerm,
-    /// Behind the slash of a ratio.
+    /// After the slash of a ratio.
     Divisor,
-    /// Behind the comparison of a threshold.
+    /// After the comparison of a threshold.
     InThreshold,
-    /// Behind the parenthesis of `topk`.
+    /// After the parenthesis of `topk`.
     InParameter,
-    /// Behind the selector of a range.
+    /// After the selector of a range.
     BehindSelector,
-    /// Behind the sign of a line filter.
+    /// After the sign of a line filter.
     InFilter,
-    /// Behind a line filter of a range.
+    /// After a line filter of a range.
     BehindFilter,
-    /// Behind a parser.
+    /// After a parser.
     BehindParser,
-    /// Behind the comparison of a label test.
+    /// After the comparison of a label test.
     InTest,
-    /// Behind label tests.
+    /// After label tests.
     BehindTests,
-    /// Behind label tests in parentheses.
+    /// After label tests in parentheses.
     BehindInnerTests,
-    /// Behind the selector of a sieve.
+    /// After the selector of a sieve.
     BehindSieveSelector,
-    /// Behind a line filter of a sieve.
+    /// After a line filter of a sieve.
     BehindSieveFilter,
-    /// Behind the duration.
+    /// After the duration.
     InRange,
-    /// Behind the bracket that closes a range.
+    /// After the bracket that closes a range.
     BehindRange,
-    /// The same where stages stand before the duration.
+    /// After that bracket, where stages stand before the duration.
     BehindFilteredRange,
-    /// Behind a term or a threshold.
+    /// After a term or a threshold.
     BehindTerm,
     Elsewhere,
 }
@@ -98,7 +98,7 @@ pub fn refusal(position: Position, place: usize, token: &Token) -> Stop
     }
 }
 
-/// The same of a word.
+/// The fault of a word that does not fit its position.
 pub fn refused_word(position: Position, place: usize, word: &str) -> Stop
     ensures { result ≡ refusal position place (tokens.Word word.now) }
 {
@@ -138,7 +138,7 @@ fn is_unsupported_word(position: Position, word: &str) -> bool
     }
 }
 
-// A word that LogQL has behind an operator.
+// A word that LogQL has after an operator.
 fn is_matching_word(word: &str) -> bool
     ensures { result ≡ is_matching_word word.now }
 {
@@ -231,7 +231,7 @@ fn is_operator(sign: Sign) -> bool
     )
 }
 
-/// The first token, and those behind it.
+/// The first token, and those after it.
 pub fn next(lexemes: &[Lexeme]) -> Result<(&Lexeme, &[Lexeme]), Stop>
     ensures { Answers (λ x. (x.0.now, x.1.now)) result (next lexemes.now) }
 {

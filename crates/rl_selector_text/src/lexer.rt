@@ -42,7 +42,7 @@ fn with_end(lexemes: Vec<Lexeme>, place: usize) -> Result<Vec<Lexeme>, AllocErro
     Ok(lexemes)
 }
 
-// What stands behind spaces and comments.
+// What follows spaces and comments.
 #[tactic(auto, using(crate::proofs::Cuts::gap_boundary))]
 fn behind_gap(text: &str) -> &str
     ensures { result.now ≡ drop (gap_len false text.now) text.now }
@@ -158,7 +158,7 @@ fn text_or_bad(read: Option<(PlainText, &str)>) -> (Token, &str)
     }
 }
 
-// Behind a backslash: the character of the escape, and what follows it.
+// After a backslash: the character of the escape, and what follows it.
 #[tactic(auto, using(crate::proofs::Texts::escape_boundary))]
 fn escape_front(text: &str) -> Option<(char, &str)>
     ensures { option_map (λ x. (x.0, x.1.now)) result ≡ escape_front text.now }
@@ -168,7 +168,7 @@ fn escape_front(text: &str) -> Option<(char, &str)>
     Some((c, rest))
 }
 
-// Behind a backquote: the text up to the next one, and what follows it.
+// After a backquote: the text up to the next one, and what follows it.
 #[tactic(auto, using(crate::proofs::Texts::raw_read, crate::proofs::Texts::stop_first, crate::specs::laws::Runs::raw_stop))]
 fn backquoted(alloc: Global, text: &str) -> Result<Option<(PlainText, &str)>, AllocError>
     ensures { IfOk result (λ found. option_map (λ x. (x.0, x.1.now)) found ≡ backquoted text.now) }
@@ -181,7 +181,7 @@ fn backquoted(alloc: Global, text: &str) -> Result<Option<(PlainText, &str)>, Al
     Ok(Some((PlainText::from_str(alloc, raw)?, rest)))
 }
 
-// Behind a quote: the text up to the next quote that is not escaped, and what follows it.
+// After a quote: the text up to the next quote that is not escaped, and what follows it.
 #[tactic(auto, using(crate::proofs::Texts::stop_first, crate::specs::laws::Runs::plain_stop))]
 fn quoted(alloc: Global, text: &str) -> Result<Option<(PlainText, &str)>, AllocError>
     ensures { IfOk result (λ found. option_map (λ x. (x.0, x.1.now)) found ≡ quoted 0 text.now) }
@@ -255,7 +255,7 @@ fn character(number: u32) -> Option<char>
     char::from_u32(number)
 }
 
-// Behind a backslash: the character of the escape, and how many bytes it takes.
+// After a backslash: the character of the escape, and how many bytes it takes.
 fn escape_at(bytes: &[u8]) -> Option<(char, usize)>
     ensures { result ≡ escape_at bytes.now }
 {

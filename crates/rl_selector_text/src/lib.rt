@@ -11,7 +11,7 @@
 //! - `selector`: selectors from their tokens.
 //! - `stage`: line filters and stages from their tokens.
 //! - `testing`: label tests from their tokens.
-//! - `room`: what a text may still have at a place.
+//! - `room`: what the rest of a text may still have.
 #![tactic(auto)]
 
 pub mod front;

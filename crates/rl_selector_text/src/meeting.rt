@@ -33,7 +33,7 @@ pub fn refused(alloc: Global, lexemes: &[Lexeme], stopped: Stopped) -> QueryErro
     }
 }
 
-// The tokens before a place.
+// The tokens before an offset.
 fn before(place: usize, lexemes: &[Lexeme]) -> &[Lexeme]
     ensures { result.now ≡ tokens_before place lexemes.now }
 {
@@ -88,7 +88,7 @@ fn text_has_room(
     }
 }
 
-// What the text behind a sign is matched with, if it is a pattern. A label stands before `!~` in a selector and in a label test.
+// What the text after a sign is matched with, if it is a pattern. A label stands before `!~` in a selector and in a label test.
 fn matched_behind(name: &Lexeme, sign: &Lexeme, in_selector: bool) -> Option<Matched>
     ensures { IfSome result (λ _. IsTrue (precedes_pattern sign.now.token)) }
 {

@@ -1,4 +1,4 @@
-//! What a query text may still have at a place.
+//! What the rest of a query text may still have.
 /// How many more there may be: parentheses that are open at once, stages and label tests.
 #[derive(Clone, Copy)]
 pub struct Room {

@@ -56,7 +56,7 @@ fn matchers_at(alloc: Global, lexemes: &[Lexeme]) -> Result<(Vec<Matcher>, &[Lex
     Err(Stopped::Fault(Stop::syntax(0)))
 }
 
-/// The selector behind its opening brace.
+/// The selector after its opening brace.
 #[tactic(auto, unfolding(crate::specs::Parsing::selector_at))]
 pub fn selector_at(alloc: Global, lexemes: &[Lexeme]) -> Result<(Selector, &[Lexeme]), Stopped>
     ensures { Gives (λ x. (map matcher_form x.0.matchers, x.1.now)) result (selector_at lexemes.now) }

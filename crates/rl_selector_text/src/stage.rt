@@ -79,7 +79,7 @@ fn checked_filter(op: LineOp, place: usize, text: &PlainText) -> Result<LineFilt
     Ok(LineFilter { op, text })
 }
 
-// The text of a line filter, behind its sign.
+// The text of a line filter, after its sign.
 #[tactic(auto, unfolding(crate::specs::Parsing::filter_at))]
 fn filter_at(op: LineOp, lexemes: &[Lexeme]) -> Result<(LineFilter, &[Lexeme]), Stopped>
     ensures { Gives (λ x. (filter_form x.0, x.1.now)) result (filter_at op lexemes.now) }
@@ -90,7 +90,7 @@ fn filter_at(op: LineOp, lexemes: &[Lexeme]) -> Result<(LineFilter, &[Lexeme]), 
     Ok((filter, rest))
 }
 
-// Line filters, as many as there are.
+// Line filters, up to the first token that begins none.
 pub(crate) fn filters_at(
     alloc: Global,
     lexemes: &[Lexeme],
@@ -125,7 +125,7 @@ fn no_filter(lexemes: &[Lexeme]) -> Result<(), Stop>
     Ok(())
 }
 
-// A token that begins a stage: a line filter, or what stands behind a pipe.
+// A token that begins a stage: a line filter, or what follows a pipe.
 fn begins_stage(token: &Token) -> bool
     ensures { result ≡ begins_stage token.now }
 {
@@ -206,7 +206,7 @@ fn parenthesis_begins(place: usize, token: &Token) -> Result<(), Stop>
     Err(refusal(Position::Elsewhere, place, token))
 }
 
-// Label tests, behind their pipe.
+// Label tests, after their pipe.
 #[tactic(auto, unfolding(crate::specs::Parsing::tested_at))]
 fn tested_at(
     alloc: Global,
@@ -222,7 +222,7 @@ fn tested_at(
     Ok((Stage::Tests(tests), left, rest))
 }
 
-// A parser or label tests, behind the pipe.
+// A parser or label tests, after the pipe.
 #[tactic(auto, unfolding(crate::specs::Parsing::piped_at))]
 fn piped_at(
     alloc: Global,
@@ -267,7 +267,7 @@ fn is_parsed(before: bool, stage: &Stage) -> bool
     before || matches!(stage, Stage::Parser(_))
 }
 
-/// Stages, as many as there are.
+/// Stages, up to the first token that begins none.
 pub fn stages_at(
     alloc: Global,
     room: Room,
@@ -314,7 +314,7 @@ fn behind_stage(stage: &Stage) -> Position
     }
 }
 
-/// The position behind the last stage, or where there is none that before the stages.
+/// The position after the last stage, or where there is none that before the stages.
 pub fn behind_stages(position: Position, stages: &[Stage]) -> Position
     ensures { result ≡ behind_stages position (map stage_form stages.now) }
 {

@@ -26,21 +26,21 @@ impl From<Stop> for Stopped {
 }
 
 impl Stop {
-    /// A fault at a place.
+    /// A fault at an offset.
     pub fn new(fault: QueryFault, place: usize) -> Stop
         ensures { result ≡ stop fault place }
     {
         Stop { fault, place }
     }
 
-    /// What is no query, at a place.
+    /// What is no query, at an offset.
     pub fn syntax(place: usize) -> Stop
         ensures { result ≡ syntax place }
     {
         Stop::new(QueryFault::Syntax(place), place)
     }
 
-    /// What LogQL has and the ruler has not, at a place.
+    /// What LogQL has and the ruler has not, at an offset.
     pub fn unsupported(place: usize) -> Stop
         ensures { result ≡ unsupported place }
     {
@@ -48,7 +48,7 @@ impl Stop {
     }
 }
 
-/// The place at which tokens begin.
+/// The offset at which tokens begin.
 pub fn place_of(lexemes: &[Lexeme]) -> usize
     ensures { result ≡ place_of lexemes.now }
 {

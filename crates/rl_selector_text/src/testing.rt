@@ -59,7 +59,7 @@ fn label_at(lexeme: &Lexeme) -> Result<(), Stop>
     Err(refusal(Position::Elsewhere, lexeme.place, &lexeme.token))
 }
 
-// One of so many is taken.
+// One fewer may still come, where one may.
 fn one_fewer(place: usize, most: usize) -> Result<usize, Stop>
     ensures { result ≡ one_fewer place most }
 {
@@ -185,7 +185,7 @@ fn is_content(token: &Token) -> bool
     matches!(token, Token::Text(_))
 }
 
-// Behind a name a comparison comes. `=` and `!=` stand before a text in the tests of texts.
+// After a name a comparison comes. `=` and `!=` stand before a text in the tests of texts.
 fn quantity_comes(lexemes: &[Lexeme]) -> bool
     ensures { result ≡ quantity_comes lexemes.now }
 {
@@ -365,7 +365,7 @@ fn joined_at(
     Ok((tests, fewer, rest))
 }
 
-// Label tests, where so many parentheses may be opened within one another, and so many tests may come.
+// Label tests, where `depth` parentheses may be opened within one another, and `left` tests may come.
 #[tactic(auto, using(crate::proofs::TestProductions::tests_derived))]
 pub(crate) fn tests_at(
     alloc: Global,

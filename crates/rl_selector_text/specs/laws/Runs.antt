@@ -20,7 +20,7 @@ plain_stop b h = grind (arith, nat_tests)
 pub raw_stop : (b : ℕ) → is_raw b ≡ false → b < 128
 raw_stop b h = grind (arith, nat_tests)
 
--- a text may be cut behind a run
+-- a text may be cut after a run
 pub run_ends : (run : Run) → IsCutBehind (is_in_run run)
 run_ends runs.Word = run_boundary is_name_byte name_byte_small
 run_ends runs.Number = stop_boundary is_number_byte number_stop

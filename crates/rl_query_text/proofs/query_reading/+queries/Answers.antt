@@ -12,7 +12,7 @@ use Rattle.rl_selector_text.proofs.Finding.{first_stops, fails_on}
 use Rattle.rl_query_text.proofs.Openings.{opened_reads}
 use Rattle.rl_query_text.proofs.query_reading.+queries.Goals as goal
 
--- a draft and the tokens behind it
+-- a draft and the tokens after it
 abbrev view : DraftQuery × Bor (List Lexeme) → QueryForm × List Lexeme
 view read = (query_draft read.0, read.1.now)
 

@@ -1,4 +1,4 @@
--- Tests are as many as their forms.
+-- The number of tests is that of their forms.
 use Rattle.std.proofs.Common.{◌-◌, ◌∙◌, sym, ap}
 use Rattle.rl_query.specs.Form.{stage_form, tests_of}
 use Rattle.rl_query.proofs.SameTests.{count_forms}

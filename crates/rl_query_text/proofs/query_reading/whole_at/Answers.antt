@@ -13,7 +13,7 @@ use Rattle.rl_query_text.proofs.DraftLimits.{query_keeps}
 use Rattle.rl_query_text.proofs.QueryProductions.{whole_derived}
 use Rattle.rl_query_text.proofs.query_reading.whole_at.Goals as goal
 
--- a draft and the tokens behind it
+-- a draft and the tokens after it
 abbrev view : DraftQuery × Bor (List Lexeme) → QueryForm × List Lexeme
 view read = (query_draft read.0, read.1.now)
 

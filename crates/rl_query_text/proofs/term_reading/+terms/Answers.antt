@@ -13,7 +13,7 @@ use Rattle.rl_selector_text.proofs.Finding.{first_stops, fails_on}
 use Rattle.rl_query_text.proofs.Openings.{opened_reads, front_depth, front_reads}
 use Rattle.rl_query_text.proofs.term_reading.+terms.Goals as goal
 
--- a draft and the tokens behind it
+-- a draft and the tokens after it
 abbrev view : DraftTerm × Bor (List Lexeme) → TermForm × List Lexeme
 view read = (term_draft read.0, read.1.now)
 

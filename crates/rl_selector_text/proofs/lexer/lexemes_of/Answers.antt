@@ -1,4 +1,4 @@
--- Each turn reads a token behind a gap.
+-- Each turn reads a token after a gap.
 use Rattle.std.proofs.Common.{rules, ◌≡◌, ◌∙◌, ◌++◌, ◌∷◌, [], ap, sym, subst, IfOk}
 use Rattle.rl_selector_text.proofs.Lexemes.{turn, ended, all_turned}
 use Rattle.rl_selector_text.proofs.lexer.lexemes_of.Goals as goal

@@ -1,4 +1,4 @@
--- What is left behind the tokens so far.
+-- What is left after the tokens so far.
 use denote.Text.{Utf8}
 use denote.Shadow.{shadow}
 use Rattle.rl_selector_text.proofs.Lexemes.{Left}

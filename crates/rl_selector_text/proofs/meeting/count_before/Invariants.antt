@@ -1,4 +1,4 @@
--- What is left before the place is that of what is left.
+-- The tokens before the offset are those passed so far and, of the rest, those before it.
 use Rattle.std.proofs.Common.{◌≡◌, ◌+◌, nat_lt, drop}
 use Rattle.std.specs.List.{prefix_len}
 use Rattle.rl_selector_text.proofs.meeting.count_before.Given as goal

@@ -1,4 +1,4 @@
--- The sign behind which a pattern stands is the last token before it.
+-- The sign that a pattern follows is the last token before it.
 use Rattle.std.proofs.Common.{◌-◌, length, false, IfErr, sym, subst, ◌∙◌, arith}
 use Rattle.rl_selector_text.specs.Answering.{IsForRoom}
 use Rattle.rl_selector_text.proofs.Meetings.{ends_with}
