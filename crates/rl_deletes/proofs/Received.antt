@@ -81,7 +81,7 @@ ended_known cancel es fs id phase (Some request) there some answers =
       | false ↦ λ none. absurd (true≢false (sym none))
     ] some
 
--- a tree in which a received request is in another phase
+-- a tree in which a received request has another status
 pub ended_tree : (cancel : ℕ) (es fs : Tree) (id : ℕ) (phase : Phase) → IsSome (received_at (view_of cancel es) id)
     → ((q : ℕ) → lookup (is_at (nat_cmp q)) fs ≡ cond (is_at (nat_cmp id) q) (option_map (in_phase phase) (lookup (is_at (nat_cmp id)) es)) (lookup (is_at (nat_cmp q)) es))
     → view_of cancel fs ≡ ended phase (view_of cancel es) id

@@ -30,7 +30,7 @@ pub record RequestsView : Type 0 where
 abbrev pub no_requests : Limits → RequestsView
 no_requests limits = record { requests = map.empty; cancel = limits.cancel }
 
--- the most requests, in whatever phase
+-- the most requests, whatever their status
 abbrev pub most_requests : ℕ
 most_requests = 65536
 
@@ -47,7 +47,7 @@ is_received request = is_in_force request.phase
 abbrev pub covers_line : Request → LabelSet → (timestamp : ℕ) → List ℕ → Bool
 covers_line request labels timestamp line = nat_le request.start timestamp && nat_le timestamp request.end && selects_line request.sieve labels line
 
--- the same of an entry
+-- the request covers the entry
 abbrev pub covers_one : Request → Entry → Bool
 covers_one request entry = covers_line request entry.labels entry.timestamp entry.line
 
@@ -55,7 +55,7 @@ covers_one request entry = covers_line request entry.labels entry.timestamp entr
 abbrev pub covered_line : RequestsView → LabelSet → (timestamp : ℕ) → List ℕ → Bool
 covered_line all labels timestamp line = list_any (λ request. is_received request && covers_line request labels timestamp line) (map.values all.requests)
 
--- the same of an entry
+-- some received request covers the entry
 abbrev pub covered : RequestsView → Entry → Bool
 covered all entry = covered_line all entry.labels entry.timestamp entry.line
 
@@ -95,7 +95,7 @@ IsTakenFault request known None = IsRepeat request known
 IsTakenFault request known (Some IdTaken) = ¬ (IsRepeat request known)
 IsTakenFault request known (Some Full) = ⊥
 
--- none is, and there are so many
+-- none is known by the number, and there are this many requests
 abbrev pub room_fault : ℕ → Option ReceiveFault
 room_fault count = if nat_le most_requests count then Some Full else None
 
@@ -107,7 +107,7 @@ IsFaultBeside (Some known) count request fault = IsTakenFault request known faul
 abbrev pub IsReceiveFault : RequestsView → ℕ → Request → Option ReceiveFault → Type 0
 IsReceiveFault all id request fault = IsFaultBeside (map.get all.requests id) (map.len all.requests) request fault
 
--- an answer with a fault has that fault; want of memory says nothing
+-- an answer with a fault has that fault; lack of memory says nothing
 abbrev pub IsReceiveAnswer : RequestsView → ℕ → Request → Result Unit (OrMemory ReceiveFault) → Type 0
 IsReceiveAnswer all id request (Ok _) = Unit {0}
 IsReceiveAnswer all id request (Err Memory) = Unit {0}
@@ -130,7 +130,7 @@ abbrev pub ended_from : Option Request → Phase → RequestsView → ℕ → Re
 ended_from None phase all id = all
 ended_from (Some request) phase all id = if is_received request then with_request all id (in_phase phase request) else all
 
--- the request with the number is in the phase from now on, if it was received
+-- the request with the number has the status from now on, if it was received
 abbrev pub ended : Phase → RequestsView → ℕ → RequestsView
 ended phase all id = ended_from (map.get all.requests id) phase all id
 

@@ -2,7 +2,7 @@
 use Rattle.std.specs.Prelude.{ℕ, ◌-◌, ◌*◌, ◌^◌, max, nat_lt, Bool, ◌==◌, if◌then◌else◌}
 use Rattle.rl_labels.specs.declared.entry.Entry.{Entry}
 
--- what is kept is kept for so many seconds; with 0 seconds, for ever, and the horizon stays. It is never lowered
+-- entries are kept for `keep` seconds; with 0 seconds, for ever, and the horizon stays. It is never lowered
 abbrev pub advanced : (keep horizon now : ℕ) → ℕ
 advanced keep horizon now = if keep == 0 then horizon else max horizon (now - keep * 10 ^ 9)
 

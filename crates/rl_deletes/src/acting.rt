@@ -1,4 +1,4 @@
-//! A received request with its built sieve, which tells what it covers.
+//! A received request with its built sieve, which decides what it covers.
 ghost use Rattle.std.specs.Prelude.{◌≡◌, IfOk};
 ghost use Rattle.rl_deletes.specs.Deletes.{asked, covers_line};
 
@@ -27,7 +27,7 @@ impl Model for Acting {
 }
 
 impl Acting {
-    // The request built, as it is received. A pattern that no longer builds is answered as want of memory.
+    // The request built, as it is received. A pattern that no longer builds is answered as lack of memory.
     pub(crate) fn build(alloc: Global, request: &Request) -> Result<Acting, AllocError>
         ensures { IfOk result (λ acting. acting ≡ asked request.now.sieve request.now.start request.now.end request.now.created) }
     {

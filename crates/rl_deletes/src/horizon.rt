@@ -42,7 +42,7 @@ impl Horizon {
         self.moment
     }
 
-    /// The horizon from a moment on, where entries are kept for so many seconds; with 0, for ever. It never goes down.
+    /// The horizon from a moment on, where entries are kept for `keep` seconds; with 0, for ever. It never goes down.
     pub fn advance(self, now: Ns, keep: u64) -> Horizon
         ensures moment { result ≡ advanced keep self now }
         ensures rises { self ≤ result }

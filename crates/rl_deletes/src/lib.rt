@@ -1,6 +1,6 @@
 //! Delete requests and the horizon of retention: which entries are hidden, and which are too old.
 //!
-//! - `request`: `Request`, and `Phase`, what became of it.
+//! - `request`: `Request`, and `Phase`, its status.
 //! - `requests`: `Requests`, all requests of a shard by their numbers, with what those that are received cover.
 //! - `acting`: `Acting`, a received request with its built sieve. `fault`: why a call is refused.
 //! - `horizon`: `Horizon`, below which entries are expired.

@@ -6,7 +6,7 @@ use rl_labels::Ns;
 use rl_plain::{Same, Shared};
 use rl_query::Sieve;
 
-/// What became of a request.
+/// The status of a request.
 #[derive(Clone, Copy, Debug, PartialEq, Eq)]
 pub enum Phase {
     /// What it covers is hidden.

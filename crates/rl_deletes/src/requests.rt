@@ -17,7 +17,7 @@ use std::alloc::{AllocError, Global};
 use std::collections::BTreeMap;
 use std::marker::Model;
 
-/// The most requests, in whatever phase.
+/// The most requests, whatever their status.
 pub const MOST_REQUESTS: usize = 65_536;
 
 // Nanoseconds in a second.
@@ -137,7 +137,7 @@ impl Requests {
         Ok(self.received(id))
     }
 
-    /// The request with the number, in whatever phase.
+    /// The request with the number, whatever its status.
     pub fn request(&self, id: u64) -> Option<&Request>
         ensures { option_map (λ request. request.now) result ≡ map.get self.now.requests id }
     {
@@ -186,7 +186,7 @@ impl Requests {
         Ok(false)
     }
 
-    // How many requests there are, in whatever phase.
+    // How many requests there are, whatever their status.
     fn len(&self) -> usize
         ensures { result ≡ map.len self.now.requests }
     {
@@ -241,7 +241,7 @@ impl Covers for Requests {
     }
 }
 
-// The request with the number is in the phase.
+// Sets the status of the request with the number.
 fn set_phase(requests: &mut BTreeMap<u64, Request>, id: u64, phase: Phase)
     ensures { (q : ℕ) → lookup (is_at (nat_cmp q)) requests.new.entries ≡ cond (is_at (nat_cmp id) q) (option_map (in_phase phase) (lookup (is_at (nat_cmp id)) requests.old.entries)) (lookup (is_at (nat_cmp q)) requests.old.entries) }
 {

@@ -60,7 +60,7 @@ pub found_at : {A : Type 0} (xs : List A) (i : ℕ) (x q : A) → i < length xs 
 found_at xs i x q within is same = subst (λ y. Contains xs y) same (i, within, sym is)
 
 module _ (f : PartView → List Entry) where
-  -- the same of what parts have
+  -- one part more, which does not have it
   pub absent_part : (parts : List PartView) (i : ℕ) (p : PartView) (q : Entry) → i < length parts → p ≡ get_or parts i p → (Contains (flat_map f (take i parts)) q → ⊥) → (Contains (f p) q → ⊥) → Contains (flat_map f (take (i + 1) parts)) q → ⊥
   absent_part parts i p q within is before here there =
       let front : take (i + 1) parts ≡ take i parts ++ p ∷ [] = take_more parts i p within ∙ ap (λ y. take i parts ++ y ∷ []) (sym is) in

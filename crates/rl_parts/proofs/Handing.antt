@@ -1,4 +1,4 @@
--- The entries of a range, as they are handed out.
+-- The entries of a range, as they are visited.
 use Rattle.std.proofs.Common.{◌≡◌, ℕ, ◌+◌, ◌-◌, ◌<◌, ◌≤◌, ◌⊎◌, inl, inr, leb, ◌&&◌, true, false, Bool, cond, List, [], ◌∷◌, ◌++◌, length, get_or, take, map, refl, sym, ap, subst, ◌∙◌, append-nil, arith}
 use Rattle.std.specs.List.{All, AllByRecursion, filter, flat_map, fold}
 use Rattle.std.proofs.lemmas.Bool.Decides.{nat_tests}
@@ -43,7 +43,7 @@ part_more taking from to parts i p start taken now within is so_far one =
     ap (λ ps. told_in_range from to (flat_map entries ps)) front ∙ ap (told_in_range from to) (flat_map-append entries (take i parts) (p ∷ []) ∙ ap (λ es. flat_map entries (take i parts) ++ es) (append-nil p.entries)) ∙ told-append from to (flat_map entries (take i parts)) p.entries in
     one ∙ ap (λ t. fold taking t (told_in_range from to p.entries)) so_far ∙ sym (fold-append taking start (told_in_range from to (flat_map entries (take i parts))) (told_in_range from to p.entries)) ∙ ap (fold taking start) (sym all)
 
--- lines of entries are handed out as the entries are
+-- lines of entries are visited as the entries are
 same_told : (set : LabelSet) (from to : ℕ) (entries : List Entry) → AllByRecursion (λ entry. entry.labels ≡ set) entries → lines_in_range set from to (map line_of entries) ≡ told_in_range from to entries
 same_told set from to [] same = refl
 same_told set from to (entry ∷ entries) same = at (is_in_range from to entry) (same_told set from to entries same.1)
@@ -61,7 +61,7 @@ none_told : (from to : ℕ) (entries : List Entry) → AllByRecursion (λ entry.
 none_told from to [] out = refl
 none_told from to (entry ∷ entries) out = ap (λ b. map told (cond b (entry ∷ filter (is_in_range from to) entries) (filter (is_in_range from to) entries))) out.0 ∙ none_told from to entries out.1
 
--- nothing is handed out of entries whose range of time is outside
+-- of entries whose range of time is outside none is visited
 pub nothing_told : (set : LabelSet) (xs : List Entry) (first last from to : ℕ) → IsRun set xs → IsRange xs first last → (last < from) ⊎ (to < first) → told_in_range from to xs ≡ []
 nothing_told set xs first last from to run range out = none_told from to xs (recursion_from_All (λ entry. is_in_range from to entry ≡ false) xs (λ k d within. at (get_or xs k d) (up_to_last set xs run k d within) (from_first set xs run k d within) out))
   where

@@ -37,7 +37,7 @@ filter_le {A} p (x ∷ xs) = at (p x) (filter_le p xs)
     at true h = omega (arith, h)
     at false h = omega (arith, h)
 
--- a filter that leaves as many leaves all
+-- a filter that leaves the length as it was leaves all
 pub filter_all : {A : Type 0} (p : A → Bool) (xs : List A) → length (filter p xs) ≡ length xs → filter p xs ≡ xs
 filter_all p [] h = refl
 filter_all {A} p (x ∷ xs) h = at (filter_all p xs) (filter_le p xs) (p x) h
@@ -113,7 +113,7 @@ lines_more set lines entries line entry are own same = record {
   same = map-append line_of entries (entry ∷ []) ∙ (λ i. are.same i ++ same i ∷ []);
 }
 
--- entries of the stream with the same lines are the same
+-- entries of the stream are equal where their lines are
 same_by_line : (set : LabelSet) (xs ys : List Entry) → AllByRecursion (λ entry. entry.labels ≡ set) xs → AllByRecursion (λ entry. entry.labels ≡ set) ys → map line_of xs ≡ map line_of ys → xs ≡ ys
 same_by_line set [] [] own of same = refl
 same_by_line set [] (y ∷ ys) own of same = cc
@@ -140,7 +140,7 @@ rewritten_stays covers set part first start seen grown is left right = record {
   right = λ honest kept. append-nil part.entries ∙ sym (right honest kept.0) ∙ ap (uncovered covers) (sym (append-nil part.entries));
 }
 
--- a part in the place of which others are, or none
+-- a part that is replaced by others, or by none
 pub rewritten_to : (covers : Entry → Bool) (set : LabelSet) (part : PartView) (first : ℕ) (start : Seen) (now : List PartView) (next : ℕ) (seen : Seen) → first ≤ next → note_numbers now ≡ range_with_len first (next - first) → IsLeft covers set part now → AllByRecursion (IsPart set) now → length (entries_in now) ≤ length part.entries
     → ((top : Option ℕ) → All (λ entry. entry.timestamp ≤ unwrap_or top 0) part.entries → AreSealedUpTo top now) → AllByRecursion (IsKept seen next set) now → (start.honest ≡ true → IsKept start first set part → entries_in now ≡ uncovered covers part.entries)
     → AreRewritten covers set (part ∷ []) first start now (note_numbers (part ∷ [])) next seen
@@ -223,7 +223,7 @@ count_up_to (q ∷ parts) (suc i) p within is =
     let others = count_up_to parts i p (omega (arith, within)) is in
     omega (arith, others, length-append q.entries (entries_in parts), length-append q.entries (entries_in (take i parts)))
 
--- marks are as many as the entries
+-- there is one fingerprint for each entry
 pub marks_len : (entries : List Entry) (marks : List ℕ) → AreMarks entries marks → length marks ≡ length entries
 marks_len entries marks are = length_permutation (marks_of entries) marks are.all ∙ length-map entries (λ entry. mark (line_of entry))
 

@@ -1,4 +1,4 @@
--- Marks in rising order, and the mark of an entry among them.
+-- Fingerprints in rising order, and that of an entry among them.
 use Rattle.std.proofs.Common.{◌≡◌, ℕ, ◌<◌, ◌≤◌, List, length, get_or, map, Result, Ok, Err, sym, subst, ◌∙◌, inl, inr, arith}
 use Rattle.std.specs.Prelude.{IsTrue, ◌↔◌, MatchResult}
 use Rattle.std.specs.Result.{is_ok}
@@ -23,7 +23,7 @@ found_by_search xs x r sorted told = at r (searched xs x r told (λ i j le lt. I
         let same : get_or xs there.0 0 ≡ x = get_or_default xs there.0 0 x there.1 ∙ there.2 in
         elim (cases_lt there.0 i) [ inl lt ↦ (let low = h.1 there.0 lt in omega arith) | inr le ↦ (let high = h.2 there.0 le there.1 in omega arith) ])
 
--- the mark of an entry is one of the marks
+-- the fingerprint of one of the entries is among the fingerprints
 pub mark_there : (entries : List Entry) (marks : List ℕ) (entry : Entry) → AreMarks entries marks → Contains entries entry → Contains marks (mark (line_of entry))
 mark_there entries marks entry are there =
     let own : Entry → ℕ = λ e. mark (line_of e) in

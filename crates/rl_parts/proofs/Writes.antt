@@ -14,13 +14,13 @@ use Rattle.rl_parts.specs.StreamState.{IsInOrder}
 use Rattle.rl_parts.specs.laws.NoteLaws.{with_notes-keeps, AreNoted-more, AreNoted-rest}
 use Rattle.rl_parts.specs.laws.UseLaws.{Grown-then, each_part, IsKept-grown}
 
--- one part got the next number
+-- one part was given the next number
 pub one_noted : (part : PartView) (entries : List Entry) (first next : ℕ) (note : Note) → unwritten entries ≡ part → note.number ≡ first → next ≡ first + 1 → AreNoted (part ∷ []) first (record { entries = entries; note = Some note } ∷ []) next
 one_noted part entries first next note is number many =
     subst (λ (p : PartView). AreNoted (p ∷ []) first (record { entries = entries; note = Some note } ∷ []) next) is
     (record { notes = note ∷ []; few = omega arith; given = refl; numbers = ap (λ n. n ∷ []) number; many = many })
 
--- an element put in the place of another
+-- an item that replaces another
 each_set : {A : Type 0} (P : A → Type 0) (xs : List A) (i : ℕ) (x : A) → AllByRecursion P xs → P x → AllByRecursion P (set xs i x)
 each_set P [] i x h p = tt
 each_set P (y ∷ ys) zero x h p = (p, h.1)
@@ -35,7 +35,7 @@ pub record Goes (labels : LabelSet) (old : List PartView) (first : ℕ) (start :
   pub grown : Grown start first seen
 
 module _ (labels : LabelSet) (old : List PartView) (first : ℕ) (start : Seen) (i : ℕ) (now : List PartView) (next : ℕ) (seen : Seen) (goes : Goes labels old first start i now next seen) where
-  -- the part at a place is as it was
+  -- the part at the index is as it was
   pub untouched : (d : PartView) → get_or now i d ≡ get_or old i d
   untouched d =
       let here : i + 0 ≡ i = omega arith in

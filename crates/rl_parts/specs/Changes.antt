@@ -5,13 +5,13 @@ use Rattle.std.specs.List.{insert, filter, range_with_len}
 use Rattle.rl_labels.specs.declared.entry.Entry.{Entry}
 use Rattle.rl_parts.specs.StreamParts.{Note, PartView, StreamView, unwritten, notes_of}
 
--- the entry was put at some place
+-- the entry was put at some index
 pub record IsInserted (old : List Entry) (entry : Entry) (new : List Entry) : Type 0 where
   pub place : ℕ
   pub within : place ≤ length old
   pub is : new ≡ insert old place entry
 
--- parts that no store has may have come behind the old ones
+-- parts that no store has may have come after the old ones
 pub record AreSealed (old new : List PartView) : Type 0 where
   pub fresh : List PartView
   pub behind : new ≡ old ++ fresh
@@ -21,7 +21,7 @@ pub record AreSealed (old new : List PartView) : Type 0 where
 abbrev pub sealed_parts : StreamView → List PartView
 sealed_parts stream = if length stream.head == 0 then stream.parts else stream.parts ++ unwritten stream.head ∷ []
 
--- the entry was put into the head, which becomes a part where it has so many entries by now
+-- the entry was put into the head, which becomes a part where it has `most` entries by now
 pub record IsHeld (most : ℕ) (old : StreamView) (entry : Entry) (new : StreamView) : Type 0 where
   pub place : ℕ
   pub within : place ≤ length old.head
@@ -38,7 +38,7 @@ own_or_next (Some own) notes = Some own
 own_or_next None [] = None
 own_or_next None (note ∷ notes) = Some note
 
--- the notes that are left for the parts behind it
+-- the notes that are left for the parts after it
 abbrev pub behind_next : Option Note → List Note → List Note
 behind_next (Some own) notes = notes
 behind_next None [] = []
@@ -49,7 +49,7 @@ abbrev pub with_notes : List PartView → List Note → List PartView
 with_notes [] notes = []
 with_notes (part ∷ parts) notes = record { entries = part.entries; note = own_or_next part.note notes } ∷ with_notes parts (behind_next part.note notes)
 
--- parts without a note got one, in turn and without a gap, with the numbers from the first up to the next
+-- parts without a note were given one, in turn and without a gap, with the numbers from the first up to the next
 pub record AreNoted (old : List PartView) (first : ℕ) (new : List PartView) (next : ℕ) : Type 0 where
   pub notes : List Note
   pub few : length notes ≤ unwritten_count old

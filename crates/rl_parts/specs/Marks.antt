@@ -1,4 +1,4 @@
--- Marks of entries, by which a part that a store has tells that an entry is not in it.
+-- Fingerprints of entries, which show that an entry is not in a part that a store has.
 use Rattle.std.specs.Prelude.{ℕ, List, map}
 use Rattle.std.specs.Hash as fed
 use Rattle.std.specs.Hash.FoldHasher as folding
@@ -13,11 +13,11 @@ use Rattle.rl_chunks.specs.declared.line.Line.{Line}
 abbrev pub mark : Line → ℕ
 mark line = folding.finish (folding.write (fold folding.write folding.initial (fed.u64 line.timestamp)) line.text)
 
--- the mark of each entry
+-- the fingerprint of each entry
 abbrev pub marks_of : List Entry → List ℕ
 marks_of entries = map (λ entry. mark (line_of entry)) entries
 
--- the marks of all entries, in rising order
+-- the fingerprints of all entries, in rising order
 pub record AreMarks (entries : List Entry) (marks : List ℕ) : Type 0 where
   pub all : IsPermutation (marks_of entries) marks
   pub rising : IsSorted nat_cmp marks

@@ -31,7 +31,7 @@ pub record IsRange (entries : List Entry) (first last : ℕ) : Type 0 where
   pub start : first ≡ timestamp_at entries 0
   pub end : last ≡ timestamp_at entries (length entries - 1)
 
--- what is kept of a written part's range and marks are its own
+-- the range and the fingerprints that are kept of a written part are its own
 abbrev pub RangeAndMarksAreKept : Place → Type 0
 RangeAndMarksAreKept (Here entries) = Unit {0}
 RangeAndMarksAreKept (InStore written) = IsRange written.entries.value written.first written.last × AreMarks written.entries.value written.marks

@@ -15,19 +15,19 @@ use Rattle.rl_parts.specs.StreamParts.{Note, PartView, StreamView}
 abbrev pub is_in_range : ℕ → ℕ → Entry → Bool
 is_in_range from to entry = nat_le from entry.timestamp && nat_le entry.timestamp to
 
--- an entry as it is handed out
+-- an entry as it is visited
 abbrev pub told : Entry → LabelSet × Line
 told entry = (entry.labels, line_of entry)
 
--- the entries of the range, as they are handed out
+-- the entries of the range, as they are visited
 abbrev pub told_in_range : ℕ → ℕ → List Entry → List (LabelSet × Line)
 told_in_range from to entries = map told (filter (is_in_range from to) entries)
 
--- lines of the range, as they are handed out with labels
+-- lines of the range, as they are visited with labels
 abbrev pub lines_in_range : LabelSet → ℕ → ℕ → List Line → List (LabelSet × Line)
 lines_in_range labels from to lines = map (λ line. (labels, line)) (filter (λ line. nat_le from line.timestamp && nat_le line.timestamp to) lines)
 
--- the entries are all before the range, or all behind it
+-- the entries are all before the range, or all after it
 abbrev pub IsApart : ℕ → ℕ → List Entry → Type 0
 IsApart from to entries = All (λ entry. entry.timestamp < from) entries ⊎ All (λ entry. to < entry.timestamp) entries
 
@@ -62,12 +62,12 @@ IsWithout entry part = IfSome part.note (λ note. (Contains part.entries entry �
 abbrev pub IsWith : Entry → PartView → Type 0
 IsWith entry part = (note : Note) × (part.note ≡ Some note) × ((chunk : Chunk) × IsReadAs note.digest chunk × Contains chunk.lines (line_of entry))
 
--- what is handed out of a part: its own entries of the range, or those lines of a chunk that bytes with the digest are
+-- what is visited of a part: its own entries of the range, or those lines of a chunk that bytes with the digest are
 abbrev pub IsPiece : LabelSet → ℕ → ℕ → PartView → List (LabelSet × Line) → Type 0
 IsPiece labels from to part piece = MatchOption part.note (piece ≡ told_in_range from to part.entries)
     (λ note. (IsApart from to part.entries × (piece ≡ [])) ⊎ ((chunk : Chunk) × IsReadAs note.digest chunk × (piece ≡ lines_in_range labels from to chunk.lines)))
 
--- a piece of each part in turn was handed out, and this is what the taker became by them
+-- a piece of each part in turn was visited, and this is what the visitor became by them
 pub record IsHandedOut {T : Type 0} (taking : T → LabelSet × Line → T) (labels : LabelSet) (from to : ℕ) (parts : List PartView) (old new : T) : Type 0 where
   pub pieces : List (List (LabelSet × Line))
   pub each : AllZip (IsPiece labels from to) parts pieces

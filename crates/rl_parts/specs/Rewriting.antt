@@ -1,4 +1,4 @@
--- Taking covered entries out of a stream: what is left of its parts, and under which numbers.
+-- Removing covered entries from a stream: what is left of its parts, and under which numbers.
 use Rattle.std.specs.Prelude.{◌≡◌, ℕ, ◌-◌, ◌<◌, ◌≤◌, ◌⊎◌, length, not, true, false, Bool, List, [], ◌∷◌, ◌++◌, map, Option, refl}
 use Rattle.std.specs.Coded.{Coded, code_by, coded×, coded_ℕ, coded_list}
 use Rattle.std.specs.Option.{MatchOption}
@@ -40,7 +40,7 @@ pub record AreOfLines (labels : LabelSet) (lines : List Line) (entries : List En
 abbrev pub AreReadAs : List ℕ → LabelSet → List Entry → Type 0
 AreReadAs digest labels entries = (chunk : Chunk) × IsReadAs digest chunk × AreOfLines labels chunk.lines entries
 
--- no entry is covered, and the part is the same; or those are left that are not covered
+-- no entry is covered, and the part stays; or those are left that are not covered
 abbrev pub IsLeftOf : (Entry → Bool) → List Entry → PartView → List PartView → Type 0
 IsLeftOf covers entries part left = ((uncovered covers entries ≡ entries) × (left ≡ part ∷ [])) ⊎ (entries_in left ≡ uncovered covers entries)
 
@@ -106,7 +106,7 @@ carried (part ∷ parts) (change ∷ changes) = left_by part change ++ carried p
 abbrev pub planned : StreamView → List Change → List Entry → StreamView
 planned stream changes head = record { labels = stream.labels; parts = carried stream.parts changes; head = head; newest = stream.newest }
 
--- parts of which covered entries were taken, with the numbers that are gone. Over an honest store that keeps the old parts all
+-- parts without their covered entries, with the numbers that are gone. Over an honest store that keeps the old parts all
 -- entries are left that are not covered
 pub record AreRewritten (covers : Entry → Bool) (labels : LabelSet) (old : List PartView) (first : ℕ) (start : Seen) (new : List PartView) (gone : List ℕ) (next : ℕ) (seen : Seen) : Type 0 where
   pub numbers : AreRenumbered (note_numbers old) first next (note_numbers new) gone

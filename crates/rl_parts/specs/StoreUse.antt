@@ -15,7 +15,7 @@ use Rattle.rl_parts.specs.declared.fault.ReadFault.TheVariants as reads
 use Rattle.rl_parts.specs.declared.fault.FlushFault.{FlushFault}
 use Rattle.rl_parts.specs.declared.fault.FlushFault.TheVariants as flushes
 
--- faults never go down; past the greatest number none is told from another
+-- faults never go down; past the greatest number none differs from another
 abbrev pub FaultsRise : ℕ → ℕ → Type 0
 FaultsRise old new = min old greatest ≤ min new greatest
 
@@ -63,7 +63,7 @@ ReadCause old new reads.Fault = FaultCame old.faults new.faults
 ReadCause old new reads.Damaged = Unit {0}
 ReadCause old new reads.Memory = Unit {0}
 
--- the same, and the numbers are spent where only the greatest is left
+-- a fault of the device was counted in the call, and the numbers are spent where only the greatest is left
 abbrev pub FlushCause : Seen → Seen → ℕ → FlushFault → Type 0
 FlushCause old new next flushes.Fault = FaultCame old.faults new.faults
 FlushCause old new next flushes.NumbersSpent = next ≡ greatest

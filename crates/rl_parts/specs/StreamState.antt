@@ -15,7 +15,7 @@ pub record IsInOrder (stream : StreamView) (sealed_to : Option ℕ) : Type 0 whe
   pub parts : IsStream stream
   pub up_to : AreSealedUpTo sealed_to stream.parts
 
--- the entry belongs at the place: the entries before it are less, and those from it on greater
+-- the entry belongs at the index: the entries before it are less, and those from it on greater
 pub record BelongsAt (entries : List Entry) (entry : Entry) (place : ℕ) : Type 0 where
   pub within : place ≤ length entries
   pub before : AllWithin (λ other. entry_cmp other entry ≡ Less) entries 0 place

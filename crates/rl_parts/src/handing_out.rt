@@ -1,4 +1,4 @@
-//! Lines of a range of time, handed out.
+//! Lines of a range of time, visited.
 ghost use Rattle.std.specs.Prelude.{◌≡◌, ℕ, nat_le, ◌&&◌, ◌⊎◌, true, List, [], ◌∷◌, map, IfErr, OnOk};
 ghost use Rattle.std.specs.List.{AllByRecursion, flat_map, fold};
 ghost use Rattle.rl_parts.specs.StreamParts.{IsPart, unwritten, chunk_of};
@@ -25,7 +25,7 @@ fn is_within(from: Ns, to: Ns, timestamp: Ns) -> bool
     from <= timestamp && timestamp <= to
 }
 
-// Hands out a line, if it is in the range.
+// Visits a line, if it is in the range.
 fn hand<L: AsLine, T: Taker>(
     labels: &Labels,
     line: &L,
@@ -42,7 +42,7 @@ fn hand<L: AsLine, T: Taker>(
     Ok(())
 }
 
-// Hands out the lines of the range.
+// Visits the lines of the range.
 pub(crate) fn hand_all<L: AsLine, T: Taker>(
     labels: &Labels,
     lines: &[L],
@@ -58,7 +58,7 @@ pub(crate) fn hand_all<L: AsLine, T: Taker>(
     Ok(())
 }
 
-// Hands out what a store has of a part. The store is read only where the part's range of time reaches into the range.
+// Visits what a store has of a part. The store is read only where the part's range of time reaches into the range.
 pub(crate) fn hand_written<S: Store, T: Taker>(
     alloc: Global,
     store: &mut S,
@@ -85,7 +85,7 @@ pub(crate) fn hand_written<S: Store, T: Taker>(
     Ok(())
 }
 
-// Hands out the entries of parts.
+// Visits the entries of parts.
 pub(crate) fn hand_parts<S: Store, T: Taker>(
     alloc: Global,
     store: &mut S,

@@ -75,7 +75,7 @@ impl AsLine for Held {
     }
 }
 
-// The entry with these labels in place of its own, which are the same, unless others share it. So the entries of a stream
+// The entry with these labels instead of its own, which are equal, unless others share it. So the entries of a stream
 // share one label set.
 pub(crate) fn with_labels(
     alloc: Global,

@@ -1,10 +1,10 @@
-//! One stream as its parts: a head of log entries that grows, parts that are sealed, and parts that a store has.
+//! ONE stream's head and chunks over a store: a head of log entries that grows, sealed parts, and parts that the store has.
 //!
 //! - `stream`: `Stream`, made of its first entry. It holds entries, seals its head, writes its parts to a store and reads them
 //!   there. `part`: `Part`, sealed entries, in memory or in a store.
 //! - `plan`: `Plan`, what a stream becomes without entries that are covered. It is made first, and then carried out.
 //! - `fetching`: `fetch`, a chunk of a store whose bytes have a digest.
-//! - `taker`: `Taker`, what is handed the lines of a stream.
+//! - `taker`: `Taker`, a visitor of the lines of a stream.
 //! - `fault`: why reading, writing or rewriting was refused. `sending`: a probe for what may cross to another thread.
 #![tactic(auto)]
 

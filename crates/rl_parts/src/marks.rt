@@ -1,4 +1,4 @@
-//! Marks of entries, by which a part that a store has tells that an entry is not in it.
+//! Fingerprints of entries, which show that an entry is not in a part that a store has.
 ghost use Rattle.std.specs.Prelude.{◌≡◌, IsTrue, ◌↔◌, IfOk};
 ghost use Rattle.std.specs.Ordering.{nat_cmp};
 ghost use Rattle.std.specs.List.{Contains};
@@ -12,7 +12,7 @@ use rl_plain::PlainList;
 use std::alloc::{AllocError, Global};
 use std::hash::{FoldHasher, Hasher};
 
-// The mark of a line. Lines that are alike have the same one, and others seldom.
+// The fingerprint of a line. Equal lines have the same one, and others seldom.
 pub(crate) fn mark_of(timestamp: Ns, text: &str) -> u64
     ensures { result ≡ mark (record { timestamp = timestamp; text = text.now }) }
 {
@@ -22,7 +22,7 @@ pub(crate) fn mark_of(timestamp: Ns, text: &str) -> u64
     hasher.finish()
 }
 
-// The marks of entries, in rising order.
+// The fingerprints of entries, in rising order.
 pub(crate) fn marks_of(alloc: Global, entries: &[Held]) -> Result<PlainList<u64>, AllocError>
     ensures { IfOk result (λ marks. AreMarks entries.now marks) }
 {
@@ -34,7 +34,7 @@ pub(crate) fn marks_of(alloc: Global, entries: &[Held]) -> Result<PlainList<u64>
     Ok(PlainList::from_vec(marks))
 }
 
-// Whether the mark is one of marks in rising order.
+// Whether the fingerprint is one of these, which are in rising order.
 pub(crate) fn has_mark(marks: &[u64], mark: u64) -> bool
     requires { IsSorted nat_cmp marks.now }
     ensures { IsTrue result ↔ Contains marks.now mark }

@@ -21,7 +21,7 @@ pub(crate) struct Written {
     pub(crate) digest: [u8; 32],
     pub(crate) first: Ns,
     pub(crate) last: Ns,
-    // Of all entries, in rising order. The store is read for an entry only where its mark is one of them.
+    // Fingerprints of all entries, in rising order. The store is read for an entry only where its own is one of them.
     pub(crate) marks: PlainList<u64>,
     pub(crate) entries: Snapshot<PlainList<Held>>,
 }
@@ -159,7 +159,7 @@ impl Part {
         }
     }
 
-    // Hands out the entries of the range.
+    // Visits the entries of the range.
     pub(crate) fn hand_out<S: Store, T: Taker>(
         &self,
         alloc: Global,

@@ -52,7 +52,7 @@ impl Model for Plan {
     ghost invariant = { λ a. IsInOrder (planned a.of.value a.changes.items a.head.items) a.sealed_to × (a.room.items ≡ []) × (length a.of.value.parts ≤ vec_capacity a.room) };
 }
 
-// Puts the number of a part that does not stay behind others.
+// Appends the number of a part that does not stay.
 fn push_gone(gone: &mut Vec<u64>, part: &Part, change: &Change) -> Result<(), AllocError>
     ensures { OnOk result (gone.new.items ≡ gone.old.items ++ gone_by part.now change.now) }
 {
@@ -122,7 +122,7 @@ pub(crate) fn plan_parts<S: Store, C: Covers>(
     Ok((changes, gone))
 }
 
-// Puts what is left of a part behind others. There is room for it.
+// Appends what is left of a part. There is room for it.
 fn push_left(left: &mut Vec<Part>, part: Part, change: Change)
     requires { vec_len left.old < vec_capacity left.old }
     ensures items { left.new.items ≡ left.old.items ++ left_by part change }

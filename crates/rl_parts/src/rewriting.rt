@@ -1,4 +1,4 @@
-//! Covered entries, taken out of the entries of a part.
+//! Removing covered entries from the entries of a part.
 ghost use Rattle.std.specs.Prelude.{◌≡◌, ◌<◌, ◌≤◌, ◌++◌, ◌∷◌, [], IsTrue, IfErr, IfOk, IsErrOf, List, OnOk, length, map, true, ℕ};
 ghost use Rattle.std.specs.List.{All};
 ghost use Rattle.rl_labels.specs.EntryParts.{is_stream, longest_line};
@@ -75,7 +75,7 @@ fn entry_of(labels: &Labels, line: Line) -> Result<Entry, AllocError>
     })
 }
 
-// Puts an entry behind others, unless it is covered.
+// Appends an entry to others, unless it is covered.
 fn push_uncovered<C: Covers>(
     alloc: Global,
     covered: &C,
@@ -109,7 +109,7 @@ fn uncovered_lines<C: Covers>(
     Ok(left)
 }
 
-// Whether these are so many lines, none newer than this.
+// Whether there are `many` lines, none newer than `last`.
 fn are_of_part(lines: &[Line], many: usize, last: Ns) -> bool
     ensures many { result ≡ true → length lines.now ≡ many }
     ensures old { result ≡ true → All (λ line. line.timestamp ≤ last) lines.now }

@@ -14,7 +14,7 @@ use rl_plain::Shared;
 use std::alloc::AllocError;
 use std::mem;
 
-// Where the entry stands among those of its stream, or else where it belongs. One that is greater than all belongs behind
+// Where the entry stands among those of its stream, or else where it belongs. One that is greater than all belongs after
 // them, and is not searched for.
 pub(crate) fn search(entries: &[Held], entry: &Entry) -> Result<usize, usize>
     requires { IsRun entry.now.labels entries.now }
@@ -39,7 +39,7 @@ fn place_of(entries: &[Held], entry: &Entry) -> usize
     }
 }
 
-// Puts an entry that is not there into its place. There is room for it.
+// Puts an entry that is not there where it belongs. There is room for it.
 pub(crate) fn put(entries: &mut Vec<Held>, entry: Shared<Entry>) -> Result<(), AllocError>
     requires run { IsRun entry.labels entries.old.items }
     requires new { Contains entries.old.items entry → ⊥ }

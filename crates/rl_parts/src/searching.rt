@@ -68,7 +68,7 @@ pub(crate) fn is_outside(written: &Written, from: Ns, to: Ns) -> bool
     written.last < from || to < written.first
 }
 
-// Whether the entry may be one of a written part's: its timestamp is in the range of time, and its mark is one of the marks.
+// Whether the entry may be one of a written part's: the range of time has its timestamp, and one entry has its fingerprint.
 fn may_have(written: &Written, entry: &Entry) -> bool
     requires part { IsPart entry.now.labels (unwritten written.now.entries.value) }
     requires range { IsRange written.now.entries.value written.now.first written.now.last }
@@ -84,7 +84,7 @@ fn may_have(written: &Written, entry: &Entry) -> bool
 }
 
 // Whether the entry is among those that a store has of a part. The store is read only where the part's range of time has
-// the entry's timestamp, and one of its entries the same mark.
+// the entry's timestamp, and one of its entries the same fingerprint.
 pub(crate) fn has_written<S: Store>(
     alloc: Global,
     store: &mut S,

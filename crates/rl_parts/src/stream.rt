@@ -106,7 +106,7 @@ impl Stream {
     }
 
     /// Takes an entry of the stream that is not in the head, and keeps it with the stream's own label set where no one else
-    /// shares the entry. A head of so many entries becomes a part. A refusal changes nothing.
+    /// shares the entry. A head of `most` entries becomes a part. A refusal changes nothing.
     pub fn hold(&mut self, entry: Shared<Entry>, most: u64) -> Result<(), AllocError>
         requires labels { entry.labels ≡ self.old.labels }
         requires new { Contains self.old.head entry → ⊥ }
@@ -173,7 +173,7 @@ impl Stream {
 
     /// Whether the stream has an entry with its labels. Entries in memory are found first, whatever the store does. A part
     /// that a store has is read only where its range of time, both ends included, has the entry's timestamp, and one of its
-    /// entries the same mark, a hash of the line.
+    /// entries the same fingerprint, a hash of the line.
     pub fn holds<S: Store>(
         &self,
         alloc: Global,
@@ -185,7 +185,7 @@ impl Stream {
         ensures cause { IfErr result (ReadCause (S.seen store.old) (S.seen store.new)) }
         ensures here { Contains (entries_here self.now) entry.now → (result ≡ Ok true) × (S.seen store.new ≡ S.seen store.old) }
         ensures unread { NoneReaches entry.now.timestamp entry.now.timestamp self.now → S.seen store.new ≡ S.seen store.old }
-        // What is answered of a part that a store has is told by bytes with the digest, whatever the store does.
+        // What is answered of a part that a store has follows from bytes with the digest, whatever the store does.
         ensures yes { IfOk result (λ found. found ≡ true → Contains (entries_here self.now) entry.now ⊎ ((part : PartView) × Contains self.now.parts part × IsWith entry.now part)) }
         ensures no { IfOk result (λ found. found ≡ false → AllByRecursion (IsWithout entry.now) self.now.parts) }
         ensures right { (next : ℕ) → AreKept (S.seen store.old) next self.now → (S.seen store.old).honest ≡ true → Right result (λ found. IsTrue found ↔ Contains (entries_of self.now) entry.now) }
@@ -202,7 +202,7 @@ impl Stream {
         any_there(alloc, store, &self.parts, entry)
     }
 
-    /// Hands out the entries of a range of time, both ends included, each once: part by part, and then the head. A part
+    /// Visits the entries of a range of time, both ends included, each once: part by part, and then the head. A part
     /// that a store has is read only where its range of time reaches into the range.
     pub fn each<S: Store, T: Taker>(
         &self,
@@ -216,7 +216,7 @@ impl Stream {
         ensures cause { IfErr result (ReadCause (S.seen store.old) (S.seen store.new)) }
         ensures unread { NoneReaches from to self.now → S.seen store.new ≡ S.seen store.old }
         ensures told { NoneReaches from to self.now → OnOk result (taker.new ≡ fold T.taking taker.old (told_in_range from to (entries_of self.now))) }
-        // What is handed out of a part that a store has is told by bytes with the digest, whatever the store does.
+        // What is visited of a part that a store has follows from bytes with the digest, whatever the store does.
         ensures pieces { OnOk result ((mid : T) × IsHandedOut T.taking self.now.labels from to self.now.parts taker.old mid × (taker.new ≡ fold T.taking mid (told_in_range from to self.now.head))) }
         ensures right { (next : ℕ) → AreKept (S.seen store.old) next self.now → (S.seen store.old).honest ≡ true → Right result (λ _. taker.new ≡ fold T.taking taker.old (told_in_range from to (entries_of self.now))) }
     {
@@ -240,7 +240,7 @@ impl Stream {
         ensures newest { IfOk result (λ plan. plan.becomes.newest ≡ self.now.newest) }
         ensures head { IfOk result (λ plan. plan.becomes.head ≡ uncovered (C.covers covered.now) self.now.head) }
         ensures own { IfOk result (λ plan. All (λ entry. entry.labels ≡ self.now.labels) (entries_of plan.becomes)) }
-        // What is left of a part that a store has is told by bytes with the digest, whatever the store does.
+        // What is left of a part that a store has follows from bytes with the digest, whatever the store does.
         ensures parts { IfOk result (λ plan. AreLeft (C.covers covered.now) self.now.labels self.now.parts plan.becomes.parts) }
         ensures fewer { IfOk result (λ plan. length (entries_of plan.becomes) ≤ length (entries_of self.now)) }
         ensures numbers { IfOk result (λ plan. AreRenumbered (note_numbers self.now.parts) next.old next.new (note_numbers plan.becomes.parts) plan.gone) }

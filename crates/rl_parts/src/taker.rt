@@ -1,4 +1,4 @@
-//! What is handed the lines of a stream.
+//! Visitors of the lines of a stream.
 ghost use Rattle.std.specs.Prelude.{◌≡◌, OnOk};
 ghost use Rattle.rl_labels.specs.LabelSet.{LabelSet};
 ghost use Rattle.rl_chunks.specs.declared.line.Line.{Line};
@@ -6,12 +6,12 @@ ghost use Rattle.rl_chunks.specs.declared.line.Line.{Line};
 use rl_labels::{Labels, Ns};
 use std::alloc::AllocError;
 
-/// Takes lines one by one.
+/// Visits lines one by one.
 pub trait Taker {
     /// What it becomes by one more line.
     ghost taking: { Self → LabelSet × Line → Self };
 
-    /// Takes one more line. The text is lent for the call alone.
+    /// Visits one more line. The text is lent for the call alone.
     fn take(&mut self, labels: &Labels, timestamp: Ns, text: &str) -> Result<(), AllocError>
         ensures { OnOk result (self.new ≡ taking self.old (labels.now, record { timestamp = timestamp; text = text.now })) };
 }

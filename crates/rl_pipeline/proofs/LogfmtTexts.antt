@@ -45,7 +45,7 @@ unescaped_skip zero bytes = refl
 unescaped_skip (suc skip) [] = refl
 unescaped_skip (suc skip) (b ∷ bytes) = unescaped_skip skip bytes
 
--- what is read behind a backslash
+-- what is read after a backslash
 abbrev pub escape_read : List ℕ → Option (List ℕ)
 escape_read after = option_and_then (λ (c : ℕ × List ℕ). onto (encode c.0) (unescaped 0 c.1)) (escape_front after)
 
@@ -59,7 +59,7 @@ unescaped_escape after = by_escape (escape_at after)
 plain_is : (b : ℕ) → is_plain b ≡ false → b ≡ 92
 plain_is b h = grind (arith, nat_tests)
 
--- One turn of the loop: what was read so far, the run at the front of what is left, and what begins behind the run.
+-- One turn of the loop: what was read so far, the run at the front of what is left, and what begins after the run.
 pub record Turn (whole : Option (List ℕ)) (so_far rest pushed front behind : List ℕ) : Type 0 where
   pub read : onto so_far (unescaped 0 rest) ≡ whole
   pub front_is : front ≡ take (prefix_len is_plain rest) rest
@@ -69,7 +69,7 @@ pub record Turn (whole : Option (List ℕ)) (so_far rest pushed front behind : L
 pub turn_of : {whole : Option (List ℕ)} {so_far pushed front behind : List ℕ} (rest : List ℕ) → onto so_far (unescaped 0 rest) ≡ whole → front ≡ take (prefix_len is_plain rest) rest → behind ≡ drop (prefix_len is_plain rest) rest → pushed ≡ so_far ++ front → Turn whole so_far rest pushed front behind
 turn_of rest read front_is behind_is pushed_is = record { read = read; front_is = front_is; behind_is = behind_is; pushed_is = pushed_is }
 
--- what is pushed stands before what is read behind the run
+-- what is pushed stands before what is read after the run
 turn_behind : {whole : Option (List ℕ)} {so_far rest pushed front behind : List ℕ} → Turn whole so_far rest pushed front behind → onto pushed (unescaped 0 behind) ≡ whole
 turn_behind {so_far = so_far} {rest = rest} turn =
     (λ i. onto ((turn.pushed_is ∙ ap (λ t. so_far ++ t) turn.front_is) i) (unescaped 0 (turn.behind_is i)))

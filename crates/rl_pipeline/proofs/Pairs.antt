@@ -1,4 +1,4 @@
--- Pairs one behind the other.
+-- Pairs one after the other.
 use Rattle.std.proofs.Common.{◌≡◌, List, [], ◌∷◌, ◌++◌, refl}
 use Rattle.rl_labels.specs.LabelSet.{LabelSet, Pair}
 use Rattle.rl_pipeline.specs.Extracting.{with_pair, with_pairs}

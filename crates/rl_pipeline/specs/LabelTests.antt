@@ -1,4 +1,4 @@
--- What label tests answer of labels, and the labels that a line has behind them.
+-- What label tests answer of labels, and the labels that a line has after them.
 use Rattle.std.specs.Prelude.{ℕ, Bool, false, not, List, Option, Some, None, if◌then◌else◌}
 use Rattle.rl_labels.specs.LabelSet.{LabelSet}
 use Rattle.rl_labels.specs.Operators as operators

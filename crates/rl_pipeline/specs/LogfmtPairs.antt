@@ -35,7 +35,7 @@ is_in_run runs.Plain = is_plain
 abbrev pub behind_pair : List ℕ → List ℕ
 behind_pair bytes = (run_at is_of_pair bytes).1
 
--- what stands between quotes, up to the first quote behind no backslash, and what follows that quote
+-- what stands between quotes, up to the first quote with no backslash before it, and what follows that quote
 abbrev pub closed_at : (escaped : Bool) → List ℕ → Option (List ℕ × List ℕ)
 closed_at escaped [] = None
 closed_at escaped (byte ∷ bytes) =
@@ -57,27 +57,27 @@ is_high unit = nat_le 55296 unit && nat_lt unit 56320
 abbrev pub is_low : ℕ → Bool
 is_low unit = nat_le 56320 unit && nat_lt unit 57344
 
--- behind the first half of a character: the other half, behind `\u`
+-- after the first half of a character: the other half, after `\u`
 abbrev pub low_at : List ℕ → Option ℕ
 low_at (backslash ∷ letter ∷ bytes) = if backslash == 92 && letter == 117 then option_and_then (λ unit. if is_low unit then Some unit else None) (unit_at bytes) else None
 low_at bytes = None
 
--- behind `\u`: the character, and how many bytes it takes; two halves stand for one, and a half alone for none
+-- after `\u`: the character, and how many bytes it takes; two halves stand for one, and a half alone for none
 abbrev pub character_at : List ℕ → Option (ℕ × ℕ)
 character_at bytes = option_and_then (λ unit. if is_high unit then option_map (λ low. (65536 + (unit - 55296) * 1024 + (low - 56320), 10)) (low_at (drop 4 bytes)) else (if is_low unit then None else Some (unit, 4))) (unit_at bytes)
 
--- behind a backslash: the character that the escape stands for, and how many bytes it takes
+-- after a backslash: the character that the escape stands for, and how many bytes it takes
 abbrev pub escape_at : List ℕ → Option (ℕ × ℕ)
 escape_at [] = None
 escape_at (byte ∷ bytes) =
     if byte == 117 then option_map (λ (c : ℕ × ℕ). (c.0, suc c.1)) (character_at bytes)
     else option_map (λ c. (c, 1)) (unescape escapes byte)
 
--- the same with what follows it
+-- after a backslash: the character of the escape, and what follows it
 abbrev pub escape_front : List ℕ → Option (ℕ × List ℕ)
 escape_front bytes = option_map (λ (e : ℕ × ℕ). (e.0, drop e.1 bytes)) (escape_at bytes)
 
--- a text that was read, behind the bytes before it
+-- a text that was read, with the bytes before it in front
 abbrev pub onto : List ℕ → Option (List ℕ) → Option (List ℕ)
 onto front read = option_map (λ rest. front ++ rest) read
 
@@ -94,7 +94,7 @@ abbrev pub goes_on : List ℕ → Bool
 goes_on [] = false
 goes_on (byte ∷ bytes) = is_of_pair byte
 
--- a value in quotes, behind the first of them; where none closes it the rest of the line is no pair
+-- a value in quotes, after the first of them; where none closes it the rest of the line is no pair
 abbrev pub quoted_pair : (key : List ℕ) → Option (List ℕ × List ℕ) → Option Pair × List ℕ
 quoted_pair key None = (None, [])
 quoted_pair key (Some found) = (if goes_on found.1 then None else option_map (λ value. (key, value)) (unescaped 0 found.0), behind_pair found.1)
@@ -103,12 +103,12 @@ quoted_pair key (Some found) = (if goes_on found.1 then None else option_map (λ
 abbrev pub plain_pair : (key : List ℕ) → List ℕ × List ℕ → Option Pair × List ℕ
 plain_pair key run = (if list_any (λ byte. byte == 61 || byte == 34) run.0 then None else Some (key, run.0), run.1)
 
--- the value behind the sign
+-- the value after the sign
 unfoldable pub value_at : (key : List ℕ) → List ℕ → Option Pair × List ℕ
 value_at key [] = plain_pair key ([], [])
 value_at key (byte ∷ bytes) = if byte == 34 then quoted_pair key (closed_at false bytes) else plain_pair key (run_at is_of_pair (byte ∷ bytes))
 
--- behind a key: `=` and a value, or no pair
+-- after a key: `=` and a value, or no pair
 unfoldable pub behind_key : (key : List ℕ) → List ℕ → Option Pair × List ℕ
 behind_key key [] = (None, [])
 behind_key key (byte ∷ bytes) = if byte == 61 && not (is_empty key) then value_at key bytes else (None, behind_pair (byte ∷ bytes))
@@ -117,7 +117,7 @@ behind_key key (byte ∷ bytes) = if byte == 61 && not (is_empty key) then value
 abbrev pub pair_at : List ℕ → Option Pair × List ℕ
 pair_at bytes = let key = run_at is_of_key bytes in behind_key key.0 key.1
 
--- the pairs among at most so many things that stand between blanks
+-- the pairs among the first things that stand between blanks, up to a limit
 abbrev pub pairs_in : ℕ → List ℕ → List Pair
 pairs_in zero bytes = []
 pairs_in (suc most) bytes =

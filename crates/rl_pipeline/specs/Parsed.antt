@@ -1,4 +1,4 @@
--- The labels that a stream's line has behind a parser.
+-- The labels that a stream's line has after a parser.
 use Rattle.std.specs.Prelude.{ℕ, List, codes}
 use Rattle.std.specs.Option.{option_map_or}
 use Rattle.rl_labels.specs.LabelSet.{LabelSet}

@@ -1,4 +1,4 @@
--- What a test by quantity answers of labels, and the labels that a line has behind it.
+-- What a test by quantity answers of labels, and the labels that a line has after it.
 use Rattle.std.specs.Prelude.{ℕ, pos, Bool, true, false, List, Option, Some, None, option_map, codes, if◌then◌else◌}
 use Rattle.std.specs.Ordering.{is_eq, is_ne, is_lt, is_gt, is_le, is_ge, nat_cmp, int_cmp}
 use Rattle.std.specs.declared.cmp.Ordering.{Ordering}

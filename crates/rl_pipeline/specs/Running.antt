@@ -13,13 +13,13 @@ use Rattle.rl_pipeline.specs.Parsed.{parsed}
 abbrev pub where_true : Bool × LabelSet → Option LabelSet
 where_true answer = if answer.0 then Some answer.1 else None
 
--- the labels that a line has behind a stage, if it stays
+-- the labels that a line has after a stage, if it stays
 abbrev pub stage_run : Stage → (line : List ℕ) → LabelSet → Option LabelSet
 stage_run (Filter filter) line labels = where_true (passes filter line, labels)
 stage_run (Parser parser) line labels = Some (parsed parser labels line)
 stage_run (Tests tests) line labels = where_true (tests_answer tests labels)
 
--- and behind all stages, from left to right
+-- and after all stages, from left to right
 abbrev pub run : List Stage → (line : List ℕ) → LabelSet → Option LabelSet
 run [] line labels = Some labels
 run (stage ∷ stages) line labels = option_and_then (run stages line) (stage_run stage line labels)
@@ -33,7 +33,7 @@ lets_pass _ line = true
 abbrev pub keeps : List Stage → (line : List ℕ) → Bool
 keeps stages line = list_all (λ stage. lets_pass stage line) stages
 
--- the labels that a line which each line filter lets pass has behind a stage, and behind all of them
+-- the labels that a line which each line filter lets pass has after a stage, and after all of them
 abbrev pub kept_run : Stage → (line : List ℕ) → LabelSet → Option LabelSet
 kept_run (Filter filter) line labels = Some labels
 kept_run stage line labels = stage_run stage line labels

@@ -13,7 +13,7 @@ use Rattle.rl_pipeline.specs.Filtering.{passes}
 abbrev pub selects_line : Sieve → LabelSet → List ℕ → Bool
 selects_line sieve labels line = selects sieve.selector.matchers labels && list_all (λ filter. passes filter line) sieve.filters
 
--- the same of an entry
+-- the sieve selects the entry
 abbrev pub sieve_selects : Sieve → Entry → Bool
 sieve_selects sieve entry = selects_line sieve entry.labels entry.line
 

@@ -39,7 +39,7 @@ impl Model for FilterCode {
     ghost invariant = { λ a. IsSoughtBy a.filter a.sought };
 }
 
-// The code of a pattern. What takes too much room is told as BadRegex.
+// The code of a pattern. What takes too much room is reported as BadRegex.
 fn pattern_code(alloc: Global, pattern: &str) -> Result<PatternCode, PatternError>
     ensures code { IfOk result (λ code. code ≡ pattern.now) }
     ensures refused { IfErr result (IsUnbuilt true) }

@@ -18,7 +18,7 @@ use std::alloc::{AllocError, Global};
 // The error of a line that is no JSON object.
 const JSON_PARSER_ERROR: &str = "JSONParserErr";
 
-/// The labels of a stream's line behind `json`. What reading needs is lent from line to line.
+/// The labels of a stream's line after `json`. What reading needs is lent from line to line.
 pub(crate) fn json_labels<'v>(
     alloc: Global,
     scratch: &'v mut Scratch,

@@ -32,7 +32,7 @@ impl Model for TestCode {
     ghost invariant = { λ a. a.pattern ≡ test_pattern a.test };
 }
 
-/// Built label tests. Contracts see the tests. A node is a few words, since a query may have a deep tree.
+/// Built label tests. Contracts see the tests. A node is a few words, because a query may have a deep tree.
 #[cycle(tests)]
 pub struct TestsCode {
     pub(crate) node: Node,
@@ -90,14 +90,14 @@ fn end(test: Box<TestCode>) {
     drop(test);
 }
 
-// The same by a pointer, as `one_code_apart`.
+// Drops a test by a pointer, as `one_code_apart` builds one.
 fn end_apart(test: Box<TestCode>) {
     let ends: fn(Box<TestCode>) = end;
     ends(test);
 }
 
 // The code of a matcher's pattern, if it has one. The pattern is one, so it is refused for memory or for its size, and the
-// second is told as BadRegex.
+// second is reported as BadRegex.
 fn pattern_code(alloc: Global, matcher: &Matcher) -> Result<Option<WholePatternCode>, PatternError>
     ensures code { IfOk result (λ code. code ≡ matcher_pattern matcher.now) }
     ensures refused { IfErr result (IsUnbuilt (operators.is_by_pattern matcher.now.op)) }
@@ -134,7 +134,7 @@ fn one_code(alloc: Global, test: &LabelTest) -> Result<Node, PatternError>
     Ok(Node::One(code))
 }
 
-// The same, by a pointer, which is called and not inlined: a test is large, so it lies in a frame that is not the tree's.
+// As `one_code`, by a pointer, which is called and not inlined: a test is large, so it lies in a frame of its own.
 fn one_code_apart(alloc: Global, test: &LabelTest) -> Result<Node, PatternError>
     ensures code { IfOk result (λ node. node_tree node ≡ one test.now) }
     ensures refused { IfErr result (IsUnbuilt (is_by_pattern test.now)) }

@@ -26,7 +26,7 @@ const ESCAPES: [(u8, u8); 8] = [
     (b'\t', b't'),
 ];
 
-/// The labels of a stream's line behind `logfmt`.
+/// The labels of a stream's line after `logfmt`.
 pub(crate) fn logfmt_labels(
     alloc: Global,
     labels: &Labels,
@@ -87,7 +87,7 @@ fn pair_at<'a>(
     behind_key(alloc, key, rest)
 }
 
-// What stands behind the blanks at the front.
+// What stands after the blanks at the front.
 fn behind_blanks(text: &str) -> &str
     ensures { result.now ≡ (run_at is_blank text.now).1 }
 {
@@ -95,7 +95,7 @@ fn behind_blanks(text: &str) -> &str
     rest
 }
 
-// Behind a key: the sign and a value, or no pair.
+// After a key: the sign and a value, or no pair.
 #[tactic(auto, unfolding(crate::specs::LogfmtPairs::behind_key))]
 fn behind_key<'a>(
     alloc: Global,
@@ -115,7 +115,7 @@ fn behind_key<'a>(
     Ok((None, behind_pair(text)))
 }
 
-// The value behind the sign.
+// The value after the sign.
 #[tactic(auto, unfolding(crate::specs::LogfmtPairs::value_at))]
 fn value_at<'a>(
     alloc: Global,
@@ -135,7 +135,7 @@ fn value_at<'a>(
     Ok(plain_pair(key, text))
 }
 
-// A value in quotes, behind the first of them.
+// A value in quotes, after the first of them.
 fn quoted_pair<'a>(
     alloc: Global,
     key: &'a str,
@@ -244,7 +244,7 @@ fn closed_at(text: &str) -> Option<(&str, &str)>
     Some((content, behind))
 }
 
-// Where the quote that closes stands: the first behind no backslash.
+// Where the quote that closes stands: the first with no backslash before it.
 fn quote_at(bytes: &[u8]) -> Option<usize>
     ensures parts { option_map (λ index. (take index bytes.now, drop (index + 1) bytes.now)) result ≡ closed_at false bytes.now }
     ensures quote { IfSome result (λ index. (index < length bytes.now) × (slice_index bytes.now index ≡ 34)) }
@@ -280,7 +280,7 @@ fn unescaped(alloc: Global, content: &str) -> Result<Option<PlainText>, AllocErr
     }
 }
 
-// Behind a backslash: the character of the escape, and what follows it.
+// After a backslash: the character of the escape, and what follows it.
 fn escape_front(text: &str) -> Option<(char, &str)>
     ensures character { option_map (λ x. (x.0, x.1.now)) result ≡ escape_front text.now }
     ensures shorter { IfSome result (λ x. length x.1.now ≤ length text.now) }
@@ -290,7 +290,7 @@ fn escape_front(text: &str) -> Option<(char, &str)>
     Some((c, rest))
 }
 
-// Behind a backslash: the character of the escape, and how many bytes it takes.
+// After a backslash: the character of the escape, and how many bytes it takes.
 fn escape_at(bytes: &[u8]) -> Option<(char, usize)>
     ensures escape { result ≡ escape_at bytes.now }
     ensures ascii { IfSome result (λ x. (0 < x.1) × (x.1 ≤ length bytes.now) × (slice_index bytes.now (x.1 - 1) < 128)) }
@@ -308,7 +308,7 @@ fn escape_at(bytes: &[u8]) -> Option<(char, usize)>
     }
 }
 
-// Behind `\u`: the character, and how many bytes it takes. Two halves stand for one.
+// After `\u`: the character, and how many bytes it takes. Two halves stand for one.
 fn character_at(bytes: &[u8]) -> Option<(char, usize)>
     ensures character { result ≡ character_at bytes.now }
     ensures ascii { IfSome result (λ x. (0 < x.1) × (x.1 ≤ length bytes.now) × (slice_index bytes.now (x.1 - 1) < 128)) }
@@ -326,7 +326,7 @@ fn character_at(bytes: &[u8]) -> Option<(char, usize)>
     Some((c, 4))
 }
 
-// Behind the first half of a character: the other half, behind `\u`.
+// After the first half of a character: the other half, after `\u`.
 fn low_at(bytes: &[u8]) -> Option<u32>
     ensures low { result ≡ low_at bytes.now }
     ensures fits { IfSome result (λ low. (56320 ≤ low) × (low < 57344)) }

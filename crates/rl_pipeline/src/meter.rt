@@ -51,7 +51,7 @@ impl Meter {
         self.runs = self.runs.saturating_add(1);
     }
 
-    /// Counts so many visits more.
+    /// Adds to the count of visits.
     pub fn count_visits(&mut self, visits: u64)
         ensures { self.new ≡ with_visits visits self.old }
     {

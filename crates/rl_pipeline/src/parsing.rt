@@ -1,4 +1,4 @@
-//! The labels of a line behind a parser.
+//! The labels of a line after a parser.
 ghost use Rattle.std.specs.Prelude.{◌≡◌, IfOk};
 ghost use Rattle.rl_pipeline.specs.Parsed.{parsed};
 
@@ -10,7 +10,7 @@ use rl_query::Parser;
 use std::alloc::{AllocError, Global};
 use std::marker::Model;
 
-/// The labels that a stream's line has behind a parser (LogQL).
+/// The labels that a stream's line has after a parser (LogQL).
 pub fn parsed(
     alloc: Global,
     parser: Parser,

@@ -71,7 +71,7 @@ impl Pipeline {
         Running::new(*self.codes.allocator(), &self.codes)
     }
 
-    /// The labels that a line of a stream has behind the stages, if it stays. The run is counted. Many lines go through
+    /// The labels that a line of a stream has after the stages, if it stays. The run is counted. Many lines go through
     /// `running`, which makes the caches once.
     pub fn run(
         &self,

@@ -75,7 +75,7 @@ impl<'a> Running<'a> {
         all_pass(&mut self.steps, line)
     }
 
-    /// The labels that a line of a stream has behind the stages, if it stays. All line filters are asked first.
+    /// The labels that a line of a stream has after the stages, if it stays. All line filters are asked first.
     /// The run is counted.
     pub fn run(
         &mut self,
@@ -92,7 +92,7 @@ impl<'a> Running<'a> {
         self.run_shared(meter, &mut line)
     }
 
-    /// The same of a line that other pipelines have too: what its first parser finds is shared with them.
+    /// As `run`, for a line that other pipelines have too: what its first parser finds is shared with them.
     pub fn run_shared(
         &mut self,
         meter: &mut Meter,
@@ -108,7 +108,7 @@ impl<'a> Running<'a> {
         self.labels_of(line)
     }
 
-    // The same, and nothing is counted.
+    // As `run_shared`, and nothing is counted.
     #[tactic(auto, using(crate::proofs::Stages::filters_first))]
     pub(crate) fn labels_of(&mut self, line: &mut Line<'_>) -> Result<Option<Labels>, AllocError>
         ensures run { IfOk result (λ found. found ≡ run self.old line.old.text line.old.labels) }
@@ -177,7 +177,7 @@ fn lets_pass(step: &mut Step<'_>, line: &str) -> bool
     }
 }
 
-// The labels that a line which each line filter lets pass has behind the other stages, if it stays. What the first of them
+// The labels that a line which each line filter lets pass has after the other stages, if it stays. What the first of them
 // finds is shared, if it is a parser.
 fn send(
     alloc: Global,
@@ -192,7 +192,7 @@ fn send(
     send_behind(alloc, steps, place, line)
 }
 
-// The same behind the line filters in front.
+// The labels that such a line has after the stages that follow the line filters in front, if it stays.
 fn send_behind(
     alloc: Global,
     steps: &mut [Step<'_>],
@@ -240,7 +240,7 @@ fn found_by<'l>(step: &Step<'_>, line: &'l Line<'_>) -> Option<&'l LabelsBuilder
     }
 }
 
-// How many line filters stand in front. They have let the line pass, so the stages behind them are left.
+// How many line filters stand in front. They have let the line pass, so the stages after them are left.
 fn filters_in_front(steps: &[Step<'_>]) -> usize
     ensures within { result ≤ length steps.now }
     ensures left { (line : List ℕ) (labels : LabelSet) → labels_behind (map step_stage steps.now) line labels ≡ labels_behind (map step_stage (drop result steps.now)) line labels }
@@ -253,7 +253,7 @@ fn filters_in_front(steps: &[Step<'_>]) -> usize
     steps.len()
 }
 
-// The labels that such a line has behind the stages from a place on, if it stays.
+// The labels that such a line has after the stages from an index on, if it stays.
 fn send_from(
     alloc: Global,
     steps: &mut [Step<'_>],

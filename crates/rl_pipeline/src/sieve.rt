@@ -1,4 +1,4 @@
-//! Built sieves, which tell what delete requests cover.
+//! Built sieves, which decide what delete requests cover.
 ghost use Rattle.std.specs.Prelude.{◌≡◌, IfOk, IfErr};
 ghost use Rattle.std.specs.List.{list_all};
 ghost use Rattle.rl_labels.specs.Selects.{selects};

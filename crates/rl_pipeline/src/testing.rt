@@ -37,7 +37,7 @@ impl<'a> Model for Testing<'a> {
     ghost invariant = { λ a. option_map (λ boxed. boxed.value) a.searching ≡ option_map wrapped (test_pattern a.test.now) };
 }
 
-/// Label tests that many lines are asked for. Contracts see the tests. A node is a few words, since a query may have a
+/// Label tests that many lines are asked for. Contracts see the tests. A node is a few words, because a query may have a
 /// deep tree.
 #[cycle(asking)]
 pub(crate) struct TestsRunning<'a> {

@@ -79,7 +79,7 @@ added_behind rows entry stream others labels newest entries notes = record {
     raised_from_0 : entry.timestamp ≡ max 0 entry.timestamp
     raised_from_0 = omega arith
 
--- a new key goes behind all
+-- a new key comes last
 pub inserted_behind : (rows : List Row) (labels : LabelSet) (stream : StreamView) → AreOthers labels rows → insert_entry label_set_eq rows labels stream ≡ rows ++ (labels, stream) ∷ []
 inserted_behind [] labels stream others = refl
 inserted_behind (row ∷ rows) labels stream others =
@@ -133,6 +133,6 @@ age_at limits rows i horizon entry stream far apart place at late behind =
     let same : place.0 ≡ stream = same_some place.0 stream (sym (value_at rows i entry.labels place.0 place.1) ∙ at) in
     sym (age_by limits rows horizon entry stream.newest far (newest_found rows i entry.labels place.0 apart place.1 ∙ ap (λ (s : StreamView). s.newest) same) late behind)
 
--- the row at a place that was found
+-- the row at an index that was found
 pub row_of_place : (rows : List Row) (i : ℕ) (labels : LabelSet) (stream : StreamView) → IsPlaceOf rows labels (Some i) → slice_get (values_of rows) i ≡ Some stream → slice_get rows i ≡ Some (labels, stream)
 row_of_place rows i labels stream place at = place.1 ∙ ap (λ s. Some (labels, s)) (same_some place.0 stream (sym (value_at rows i labels place.0 place.1) ∙ at))

@@ -10,7 +10,7 @@ use Rattle.rl_parts.specs.Changes.{AreSealed}
 use Rattle.rl_parts.specs.laws.UseLaws.{AreKept-unwritten, AreKept-append}
 use Rattle.rl_streams.specs.StreamRows.{numbers_of}
 
--- a list and another behind it
+-- a list and another after it
 pub all_append : {A : Type 0} (P : A → Type 0) (xs ys : List A) → AllByRecursion P xs → AllByRecursion P ys → AllByRecursion P (xs ++ ys)
 all_append P [] ys h k = k
 all_append P (x ∷ xs) ys h k = (h.0, all_append P xs ys h.1 k)

@@ -35,7 +35,7 @@ module _ (rows : List Row) (i : ℕ) (entry : Entry) (stream new : StreamView) (
   row : slice_get rows i ≡ Some (entry.labels, stream)
   row = row_of_place rows i entry.labels stream place at
 
-  -- what the stream at the place became, the rows became
+  -- what the stream at the index became, the rows became
   pub offered_at : (result : Result Bool AddRefusal) → IsDistinct label_set_eq (keys_of rows) → IfOk result (λ more. IsOffered more stream entry new) → IfOk result (λ more. AreOffered more rows entry (set_value_at rows i new))
   offered_at (Ok true) apart gains = added_at rows i entry stream new apart row gains
   offered_at (Ok false) apart same = ap (set_value_at rows i) same ∙ set_itself rows i stream at

@@ -166,7 +166,7 @@ pub rewritten_none : (rows : List Row) → rewritten rows [] ≡ rows
 rewritten_none [] = refl
 rewritten_none (row ∷ rows) = refl
 
--- the stream behind those whose plans are carried out, and the rows once its own is
+-- the stream after those whose plans are carried out, and the rows once its own is
 pub next_row : (rows : List Row) (plans : List PlanView) (plan : PlanView) (rest : List PlanView) → AreOf rows (plans ++ plan ∷ rest) → slice_get (values_of (rewritten rows plans)) (length plans) ≡ Some plan.of
 next_row [] [] plan rest of = absurd (no_row plan rest of)
 next_row [] (p ∷ plans) plan rest of = absurd (no_row p (plans ++ plan ∷ rest) of)
@@ -184,7 +184,7 @@ long_rewritten [] plans = refl
 long_rewritten (row ∷ rows) [] = refl
 long_rewritten (row ∷ rows) (plan ∷ plans) = ap suc (long_rewritten rows plans)
 
--- as many plans as rows
+-- one plan for each row
 pub as_many : (rows : List Row) (plans : List PlanView) → AreOf rows plans → length plans ≡ length rows
 as_many [] [] of = refl
 as_many [] (plan ∷ plans) of = absurd (no_row plan plans of)
@@ -196,7 +196,7 @@ values_within [] i stream at = absurd (not_none stream at)
 values_within (row ∷ rows) zero stream at = omega arith
 values_within (row ∷ rows) (suc i) stream at = let others = values_within rows i stream at in omega (arith, others)
 
--- the plan of the next row behind the others
+-- the plan of the next row after the others
 pub of_more : (rows : List Row) (plans : List PlanView) (i : ℕ) (plan : PlanView) (stream : StreamView) → map (λ (p : PlanView). p.of) plans ≡ take i (values_of rows) → slice_get (values_of rows) i ≡ Some stream → plan.of ≡ stream → map (λ (p : PlanView). p.of) (plans ++ plan ∷ []) ≡ take (i + 1) (values_of rows)
 of_more rows plans i plan stream so_far at of =
     let values = values_of rows in

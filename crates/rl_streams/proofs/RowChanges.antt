@@ -20,7 +20,7 @@ same_some x y e = ap (λ o. unwrap_or o x) e
 pub not_none : {A : Type 0} (x : A) → None ≡ Some x → ⊥
 not_none x e = true≢false (sym (ap is_some e))
 
--- lists in front of one another change places
+-- two lists in front of a third are exchanged
 in_front : {A : Type 0} (xs ys zs : List A) → IsPermutation (xs ++ (ys ++ zs)) (ys ++ (xs ++ zs))
 in_front xs ys zs = subst (λ l. IsPermutation l (ys ++ (xs ++ zs))) (append_assoc xs ys zs) (subst (IsPermutation ((xs ++ ys) ++ zs)) (append_assoc ys xs zs) (IsPermutation-append_left zs (xs ++ ys) (ys ++ xs) (IsPermutation-append_comm xs ys)))
 
@@ -68,7 +68,7 @@ module _ {K V : Type 0} where
     abbrev all_of : List (K × V) → List A
     all_of rows = flat_map (λ row. f row.1) rows
 
-    -- a row that gives the same
+    -- a row that gives what the old one gave
     pub set_same : (rows : List (K × V)) (i : ℕ) (k : K) (v w : V) → slice_get rows i ≡ Some (k, v) → f w ≡ f v → all_of (set_value_at rows i w) ≡ all_of rows
     set_same [] i k v w at same = refl
     set_same (e ∷ es) zero k v w at same = ap (λ l. l ++ all_of es) (same ∙ sym (ap (λ (row : K × V). f row.1) (same_some e (k, v) at)))
@@ -109,7 +109,7 @@ module _ {K : Type 0} {R : K → K → Ordering} (o : IsTotalOrder R) (same : Is
   equals : (x y : K) → is_eq (R x y) ≡ true → x ≡ y
   equals x y e = same x y ((Equal-is (R x y)).0 e)
 
-  -- keys that tie with the same are no two
+  -- two keys that tie with one key do not differ
   one_key : (q x y : K) → eq x y ≡ false → is_eq (R q x) ≡ true → is_eq (R y q) ≡ true → ⊥
   one_key q x y differ a b = true≢false (sym (itself x) ∙ ap (eq x) (sym (equals q x a) ∙ sym (equals y q b)) ∙ differ)
 
@@ -125,7 +125,7 @@ module _ {K : Type 0} {R : K → K → Ordering} (o : IsTotalOrder R) (same : Is
         ap (cond (is_at (R q) e.0) (Some (g e.1))) (lookup_set es i k v w q (IsDistinct-tail eq e.0 (keys_of es) apart) at)
         ∙ swapped (is_at (R q) e.0) (is_at (R k) q) _ _ _ (λ a b. one_key q e.0 k (at_row (λ row. eq e.0 row.0 ≡ false) es i (k, v) (of_keys (λ y. eq e.0 y ≡ false) es (IsDistinct-head eq e.0 (keys_of es) apart)) at) a b)
 
-    -- the same, where a row with a new key came behind all
+    -- and where a row with a new key came after all
     pub lookup_push : (rows : List (K × V)) (k : K) (w : V) (q : K) → AllByRecursion (λ row. eq k row.0 ≡ false) rows
         → lookup (is_at (R q)) (each_of g (rows ++ (k, w) ∷ [])) ≡ cond (is_at (R k) q) (Some (g w)) (lookup (is_at (R q)) (each_of g rows))
     lookup_push [] k w q new = ap (λ b. cond b (Some (g w)) None) ((eq_by_cmp_equiv o).symm q k)
@@ -134,7 +134,7 @@ module _ {K : Type 0} {R : K → K → Ordering} (o : IsTotalOrder R) (same : Is
         ∙ swapped (is_at (R q) e.0) (is_at (R k) q) _ _ _ (λ a b. one_key q k e.0 new.0 ((eq_by_cmp_equiv o).symm q k ∙ b) ((eq_by_cmp_equiv o).symm e.0 q ∙ a))
 
 module _ {K V : Type 0} where
-  -- a value at a place has a key there
+  -- a value at an index has a key there
   pub with_key : (rows : List (K × V)) (i : ℕ) (v : V) → slice_get (values_of rows) i ≡ Some v → (k : K) × (slice_get rows i ≡ Some (k, v))
   with_key [] i v at = absurd (not_none v at)
   with_key (e ∷ es) zero v at = (e.0, ap (λ value. Some (e.0, value)) (same_some e.1 v at))

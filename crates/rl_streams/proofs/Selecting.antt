@@ -1,4 +1,4 @@
--- The places of the streams that a selector selects, and what the streams at these places hand out one after the other.
+-- The indices of the streams that a selector selects, and what is visited of the streams there, one after the other.
 use Rattle.std.proofs.Common.{◌≡◌, ℕ, zero, suc, ◌+◌, ◌<◌, Bool, true, false, Some, List, [], ◌∷◌, ◌++◌, length, map, take, get_or, slice_get, slice_set, refl, sym, ap, subst, ◌∙◌, append-nil, arith}
 use Rattle.std.specs.Prelude.{MatchBool, if◌then◌else◌}
 use Rattle.std.specs.List.{AllByRecursion, AllZip, flat_map, fold}
@@ -55,7 +55,7 @@ module _ (labels : List LabelSet) (s : SelectionView) (one : LabelSet) (is : IsS
         ∙ ap (selected s.selector) (sym (take_more labels s.asked one within));
   }
 
--- streams behind those that were asked change nothing
+-- streams after those that were asked change nothing
 pub selections_more : (labels more : List LabelSet) (kept : List SelectionView) → AreSelections labels kept → AreSelections (labels ++ more) kept
 selections_more labels more kept are = all_weaker (IsSelection labels) (IsSelection (labels ++ more)) (λ s is. record {
   asked = omega (arith, is.asked, length-append labels more);
@@ -76,7 +76,7 @@ selections_same old new kept same are = subst (λ rows. AreSelections (keys_of r
 pub selections_behind : (old new : List Row) (kept : List SelectionView) → (more : List LabelSet) × (keys_of new ≡ keys_of old ++ more) → AreSelections (keys_of old) kept → AreSelections (keys_of new) kept
 selections_behind old new kept (more, same) are = subst (λ labels. AreSelections labels kept) (sym same) (selections_more (keys_of old) more kept are)
 
--- a selected stream stands at each place
+-- a selected stream stands at the index
 abbrev pub IsSelectedAt : List Matcher → List Row → ℕ → Type 0
 IsSelectedAt selector rows place = (row : Row) × (slice_get rows place ≡ Some row) × (selects selector row.0 ≡ true)
 
@@ -101,7 +101,7 @@ one_of P (x ∷ xs) (suc i) d h lt = one_of P xs i d h.1 (omega (arith, lt))
 pub selected_there : (selector : List Matcher) (rows : List Row) (places : List ℕ) (i : ℕ) (d : ℕ) → places ≡ selected selector (keys_of rows) → i < length places → IsSelectedAt selector rows (get_or places i d)
 selected_there selector rows places i d are lt = one_of (IsSelectedAt selector rows) places i d (subst (AllByRecursion (IsSelectedAt selector rows)) (sym are) (all_selected selector rows)) lt
 
--- no place is left where no stream is selected
+-- without a selected stream there is no index
 none_selected : (selector : List Matcher) (rows : List Row) → AllByRecursion (λ row. selects selector row.0 ≡ false) rows → selected selector (keys_of rows) ≡ []
 none_selected selector [] none = refl
 none_selected selector (row ∷ rows) none =
@@ -111,11 +111,11 @@ none_selected selector (row ∷ rows) none =
 pub no_place : (selector : List Matcher) (rows : List Row) (places : List ℕ) (i : ℕ) → places ≡ selected selector (keys_of rows) → AllByRecursion (λ row. selects selector row.0 ≡ false) rows → i < length places → ⊥
 no_place selector rows places i are none lt = let empty = ap length (are ∙ none_selected selector rows none) in omega (arith, lt, empty)
 
--- lines that the row at a place may hand out
+-- lines that may be visited of the row at an index
 abbrev pub IsAt : (Row → List (LabelSet × Line) → Type 0) → List Row → ℕ → List (LabelSet × Line) → Type 0
 IsAt R rows place lines = (row : Row) × (slice_get rows place ≡ Some row) × R row lines
 
--- such lines of each place in turn were handed out
+-- such lines of each index in turn were visited
 pub record AreFrom {T : Type 0} (R : Row → List (LabelSet × Line) → Type 0) (taking : T → LabelSet × Line → T) (rows : List Row) (places : List ℕ) (before after : T) : Type 0 where
   pub lines : List (List (LabelSet × Line))
   pub each : AllZip (IsAt R rows) places lines
@@ -125,7 +125,7 @@ module _ {T : Type 0} (R : Row → List (LabelSet × Line) → Type 0) (taking :
   pub from_none : (before : T) → AreFrom R taking rows [] before before
   from_none before = record { lines = []; each = tt; told = refl }
 
-  -- one place more
+  -- one index more
   pub from_more : (places : List ℕ) (i d : ℕ) (before taken now : T) → i < length places → AreFrom R taking rows (take i places) before taken → (lines : List (LabelSet × Line)) × IsAt R rows (get_or places i d) lines × (now ≡ fold taking taken lines)
       → AreFrom R taking rows (take (i + 1) places) before now
   from_more places i d before taken now lt was (lines, at, is) =
@@ -136,7 +136,7 @@ module _ {T : Type 0} (R : Row → List (LabelSet × Line) → Type 0) (taking :
             ∙ ap (fold taking before) (ap (λ l. flat_map (λ l. l) was.lines ++ l) (sym (append-nil lines)) ∙ sym (flat_map-append (λ l. l) was.lines (lines ∷ [])));
       })
 
--- what the selected rows hand out, all rows do, where the others hand out nothing
+-- what is visited of the selected rows is visited of all, where nothing is visited of the others
 module _ (R : Row → List (LabelSet × Line) → Type 0) (selector : List Matcher) (none : (row : Row) → selects selector row.0 ≡ false → R row []) where
   abbrev pub Spread : List Row → List (List (LabelSet × Line)) → Type 0
   Spread rows lines = (all : List (List (LabelSet × Line))) × AllZip R rows all × (flat_map (λ l. l) all ≡ flat_map (λ l. l) lines)
@@ -168,13 +168,13 @@ module _ (R : Row → List (LabelSet × Line) → Type 0) (selector : List Match
           let others = more lines (behind row rows places lines each) in
           ([] ∷ others.0, (none row e, others.1), others.2)
 
--- the labels of the stream at a place
+-- the labels of the stream at an index
 pub label_there : (rows : List Row) (i : ℕ) (stream : StreamView) → AllByRecursion IsOwn rows → slice_get (values_of rows) i ≡ Some stream → (i < length (keys_of rows)) × (get_or (keys_of rows) i stream.labels ≡ stream.labels)
 label_there [] i stream own at = absurd (not_none stream at)
 label_there (row ∷ rows) zero stream own at = (omega arith, sym own.0.labels ∙ ap (λ (s : StreamView). s.labels) (same_some row.1 stream at))
 label_there (row ∷ rows) (suc i) stream own at = let others = label_there rows i stream own.1 at in (omega (arith, others.0), others.1)
 
--- a stream at a place of the selection is selected, and stands there under its labels
+-- a stream at an index of the selection is selected, and stands there under its labels
 pub chosen_there : (selector : List Matcher) (rows : List Row) (places : List ℕ) (i : ℕ) (stream : StreamView) → AllByRecursion IsOwn rows → places ≡ selected selector (keys_of rows) → i < length places → slice_get (values_of rows) (get_or places i 0) ≡ Some stream
     → (slice_get rows (get_or places i 0) ≡ Some (stream.labels, stream)) × (selects selector stream.labels ≡ true)
 chosen_there selector rows places i stream own are lt at =
@@ -209,7 +209,7 @@ module _ {T : Type 0} (selector : List Matcher) (from to : ℕ) (taking : T → 
       let all = spread IsToldOf selector (λ row e. ap (λ b. if b then told_in_range from to (entries_of row.1) else []) (sym e)) rows handed.lines (subst (λ ps. AllZip (IsAt IsToldOf rows) ps handed.lines) are handed.each) in
       handed.told ∙ ap (fold taking before) (sym all.2 ∙ joined_told rows all.0 all.1)
 
--- what is kept at a place, and what it is of
+-- what is kept at an index, and what it is of
 pub found_there : {A B : Type 0} (f : A → B) (xs : List A) (i : ℕ) (y : B) → option_map f (slice_get xs i) ≡ Some y → i < length xs
 found_there f [] i y e = absurd (not_none y e)
 found_there f (x ∷ xs) zero y e = omega arith
@@ -233,6 +233,6 @@ set_there [] i x lt = absurd (omega (arith, lt))
 set_there (one ∷ xs) zero x lt = refl
 set_there (one ∷ xs) (suc i) x lt = set_there xs i x (omega (arith, lt))
 
--- where all streams were asked, all places are there
+-- where all streams were asked, all indices are there
 pub all_places : (labels : List LabelSet) (s : SelectionView) → IsSelection labels s → s.asked ≡ length labels → s.places ≡ selected s.selector labels
 all_places labels s is all = is.places ∙ ap (selected s.selector) (take_all s.asked labels (omega (arith, all)))

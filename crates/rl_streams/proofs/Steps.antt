@@ -109,7 +109,7 @@ module _ (rows : List Row) (old : Seen) (next : ℕ) (are : AreStreams rows old 
           once = λ honest. subst (IsDistinct (eq_by_cmp entry_cmp)) (sym (set_same entries_of rows i labels stream new at same)) (are.once (sym grown.honest ∙ honest));
         }
 
-  -- where a stream of one entry came behind all
+  -- where a stream of one entry came after all
   module _ (entry : Entry) (stream : StreamView) (is_new : AllByRecursion (λ row. label_set_eq entry.labels row.0 ≡ false) rows) (entries : entries_of stream ≡ entry ∷ []) where
     joined_pushed : IsPermutation (entry ∷ joined rows) (joined (rows ++ (entry.labels, stream) ∷ []))
     joined_pushed = subst (λ l. IsPermutation (l ++ joined rows) (joined (rows ++ (entry.labels, stream) ∷ []))) entries (push_more entries_of rows (entry.labels, stream))

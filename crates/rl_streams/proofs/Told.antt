@@ -1,4 +1,4 @@
--- What streams hand out one after the other, and what is read for it.
+-- What is visited of streams one after the other, and what is read for it.
 use Rattle.std.proofs.Common.{◌≡◌, ℕ, zero, suc, ◌+◌, Bool, true, false, cond, ◌&&◌, ◌↔◌, IsTrue, Contains, Some, None, Option, is_some, List, [], ◌∷◌, ◌++◌, map, filter, slice_get, Result, Ok, Err, refl, sym, ap, subst, ◌∙◌, true≢false}
 use Rattle.std.specs.Prelude.{MatchBool, OnOk, if◌then◌else◌}
 use Rattle.std.specs.List.{All, AllByRecursion, IsDistinct, flat_map, fold}
@@ -82,7 +82,7 @@ module _ (selector : List Matcher) (from to : ℕ) where
       by true false others = others
       by false b others = others
 
-  -- what all streams hand out is what is asked of all entries
+  -- what is visited of all streams is what is asked of all entries
   pub told_all : (rows : List Row) → AllByRecursion IsOwn rows → told_by selector from to rows ≡ map told (asked selector from to (joined rows))
   told_all [] own = refl
   told_all (row ∷ rows) own =
@@ -91,13 +91,13 @@ module _ (selector : List Matcher) (from to : ℕ) where
       ∙ sym (map-append told (asked selector from to (entries_of row.1)) (asked selector from to (joined rows)))
       ∙ ap (map told) (sym (filter-append (is_asked selector from to) (entries_of row.1) (joined rows)))
 
-  -- a stream at a place is kept, once the store was looked at
+  -- a stream at an index is kept, once the store was looked at
   pub kept_there : (rows : List Row) (i : ℕ) (stream : StreamView) (old seen : Seen) (next : ℕ) → AreStreams rows old next → Looked old seen → slice_get (values_of rows) i ≡ Some stream → AreKept seen next stream
   kept_there rows i stream old seen next are looked at =
       let row = with_key rows i stream at in
       at_row (λ row. AreKept seen next row.1) rows i (row.0, stream) ((streams_looked rows old next are seen looked).kept) row.1
 
--- each once: what all streams hand out, where no entry is held twice
+-- each once: what is visited of all streams, where no entry is held twice
 pub told_once : {T : Type 0} (taking : T → LabelSet × Line → T) (selector : List Matcher) (from to : ℕ) (rows : List Row) (before after : T) → AllByRecursion IsOwn rows → IsDistinct (eq_by_cmp entry_cmp) (joined rows)
     → after ≡ fold taking before (told_by selector from to rows) → AreToldOnce selector from to (set_of (joined rows)) taking before after
 told_once taking selector from to rows before after own once is = record {
@@ -106,7 +106,7 @@ told_once taking selector from to rows before after own once is = record {
   told = is ∙ ap (fold taking before) (told_all selector from to rows own);
 }
 
--- over any store: what a stream hands out that is selected
+-- over any store: what is visited of a stream that is selected
 pub of_row : (selector : List Matcher) (from to : ℕ) (stream : StreamView) {T : Type 0} (taking : T → LabelSet × Line → T) (before after : T) → selects selector stream.labels ≡ true
     → (result : Result (Unit {0}) ReadFault) → OnOk result ((mid : T) × IsHandedOut taking stream.labels from to stream.parts before mid × (after ≡ fold taking mid (told_in_range from to stream.head)))
     → OnOk result ((lines : List (LabelSet × Line)) × AreOfRow selector from to (stream.labels, stream) lines × (after ≡ fold taking before lines))

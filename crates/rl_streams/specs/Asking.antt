@@ -21,11 +21,11 @@ is_asked selector from to entry = selects selector entry.labels && is_in_range f
 abbrev pub asked : List Matcher → ℕ → ℕ → List Entry → List Entry
 asked selector from to entries = filter (is_asked selector from to) entries
 
--- what a stream hands out: nothing where it is not selected
+-- what is visited of a stream: nothing where it is not selected
 abbrev pub told_of : List Matcher → ℕ → ℕ → LabelSet → StreamView → List (LabelSet × Line)
 told_of selector from to labels stream = if selects selector labels then told_in_range from to (entries_of stream) else []
 
--- what all streams hand out
+-- what is visited of all streams
 abbrev pub told_by : List Matcher → ℕ → ℕ → List Row → List (LabelSet × Line)
 told_by selector from to rows = flat_map (λ row. told_of selector from to row.0 row.1) rows
 
@@ -33,7 +33,7 @@ told_by selector from to rows = flat_map (λ row. told_of selector from to row.0
 abbrev pub NoneSelected : List Matcher → FinMap label_set_cmp ℕ → Type 0
 NoneSelected selector newest = (labels : LabelSet) → selects selector labels ≡ true → get newest labels ≡ None
 
--- the held entries that are asked for were handed out, each once, in some order
+-- the held entries that are asked for were visited, each once, in some order
 pub record AreToldOnce {T : Type 0} (selector : List Matcher) (from to : ℕ) (held : EntrySet) (taking : T → LabelSet × Line → T) (before after : T) : Type 0 where
   pub order : List Entry
   pub once : IsPermutation (asked selector from to (keys held)) order
@@ -49,16 +49,16 @@ pub record AreOfParts (from to : ℕ) (stream : StreamView) (lines : List (Label
 abbrev pub AreOfRow : List Matcher → ℕ → ℕ → Row → List (LabelSet × Line) → Type 0
 AreOfRow selector from to row lines = MatchBool (selects selector row.0) (AreOfParts from to row.1 lines) (lines ≡ [])
 
--- such lines of each stream in turn were handed out, and this is what the taker became by them
+-- such lines of each stream in turn were visited, and this is what the visitor became by them
 pub record AreTold {T : Type 0} (taking : T → LabelSet × Line → T) (selector : List Matcher) (from to : ℕ) (rows : List Row) (before after : T) : Type 0 where
   pub lines : List (List (LabelSet × Line))
   pub each : AllZip (AreOfRow selector from to) rows lines
   pub told : after ≡ fold taking before (flat_map (λ of_row. of_row) lines)
 
--- what one stream of all hands out
+-- what is visited of one stream of all
 abbrev pub told_at : List Matcher → ℕ → ℕ → List (List Entry) → ℕ → List (LabelSet × Line)
 told_at selector from to order place = map told (asked selector from to (get_or order place []))
 
--- what is left to be handed out: the lines that wait, and what the streams from a place on hand out
+-- what a cursor has still to give: the lines that wait, and what is asked of the streams from an index on
 abbrev pub left : List Matcher → ℕ → ℕ → List (List Entry) → ℕ → List (LabelSet × Line) → List (LabelSet × Line)
 left selector from to order place lines = lines ++ map told (asked selector from to (flat_map (λ entries. entries) (drop place order)))

@@ -28,7 +28,7 @@ pub record Stays (old new : StreamsView) : Type 0 where
   pub rows : new.rows ≡ old.rows
   pub seen : Grown old.seen old.next new.seen
 
--- a call that takes entries out: the newest timestamps stay
+-- a call that removes entries: the newest timestamps stay
 pub record Rewrites (old new : StreamsView) : Type 0 where
   pub limits : new.limits ≡ old.limits
   pub newest : new.newest ≡ old.newest
@@ -43,12 +43,12 @@ pub record IsSound (plan : PlanView) : Type 0 where
   pub own : All (λ entry. entry.labels ≡ plan.of.labels) (entries_of plan.becomes)
   pub fewer : length (entries_of plan.becomes) ≤ length (entries_of plan.of)
 
--- what is left of a stream, over any store: of each part as its bytes tell, and of the head
+-- what is left of a stream, over any store: of each part according to its bytes, and of the head
 pub record IsLeftIn (covers : Entry → Bool) (old new : StreamView) : Type 0 where
   pub parts : AreLeft covers old.labels old.parts new.parts
   pub head : new.head ≡ uncovered covers old.head
 
--- the same of each stream in turn, under its labels
+-- what is left of each stream in turn, under its labels
 abbrev pub AreLeftIn : (Entry → Bool) → List Row → List Row → Type 0
 AreLeftIn covers old new = AllZip (λ row now. (now.0 ≡ row.0) × IsLeftIn covers row.1 now.1) old new
 

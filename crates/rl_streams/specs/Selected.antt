@@ -1,4 +1,4 @@
--- Which streams a selector selects, by their places, as it is kept.
+-- Which streams a selector selects, by their indices, as it is kept.
 use Rattle.std.specs.Prelude.{◌≡◌, ℕ, suc, ◌+◌, ◌≤◌, List, [], ◌∷◌, ◌++◌, length, map, take, if◌then◌else◌, refl}
 use Rattle.std.specs.Coded.{Coded, code_by, coded×, coded_ℕ, coded_list}
 use Rattle.std.specs.List.{AllByRecursion}
@@ -7,7 +7,7 @@ use Rattle.rl_labels.specs.Selects.{selects}
 use Rattle.rl_labels.specs.declared.matcher.Matcher.{Matcher}
 use Rattle.rl_labels.specs.contracts.matcher.Matcher as matcher_type
 
--- a selector, how many streams were asked, and the places of those that it selects
+-- a selector, how many streams were asked, and the indices of those that it selects
 pub record SelectionView : Type 0 where
   pub selector : List Matcher
   pub asked : ℕ
@@ -21,7 +21,7 @@ selection_code =
     (λ p. record { selector = p.0; asked = p.1.0; places = p.1.1 })
     (λ _. refl)
 
--- the places of the label sets that the selector selects
+-- the indices of the label sets that the selector selects
 abbrev pub selected : List Matcher → List LabelSet → List ℕ
 selected selector [] = []
 selected selector (labels ∷ others) = if selects selector labels then 0 ∷ map suc (selected selector others) else map suc (selected selector others)
@@ -30,7 +30,7 @@ selected selector (labels ∷ others) = if selects selector labels then 0 ∷ ma
 abbrev pub asked_next : SelectionView → LabelSet → SelectionView
 asked_next s labels = record { selector = s.selector; asked = s.asked + 1; places = if selects s.selector labels then s.places ++ s.asked ∷ [] else s.places }
 
--- the places are those of the streams that the selector selects, of the first ones, which were asked
+-- the indices are those of the streams that the selector selects among the first ones, which were asked
 pub record IsSelection (labels : List LabelSet) (s : SelectionView) : Type 0 where
   pub asked : s.asked ≤ length labels
   pub places : s.places ≡ selected s.selector (take s.asked labels)

@@ -33,7 +33,7 @@ pub record StreamsView : Type 0 where
   pub loose : ℕ
   -- how many sealed parts the store does not have
   pub unwritten : ℕ
-  -- the streams, as they are handed out
+  -- the streams, in the order in which they are visited
   pub rows : List Row
 
 -- a store, and streams, as numbers
@@ -54,7 +54,7 @@ streams_code = code_by (Limits × (EntrySet × (FinMap label_set_cmp ℕ × (See
 abbrev pub view_of : Limits → List Row → Seen → ℕ → StreamsView
 view_of limits rows seen next = record { limits = limits; held = set_of (joined rows); newest = newest_map (newest_in rows); seen = seen; next = next; loose = length (loose_in rows); unwritten = length (unwritten_in rows); rows = rows }
 
--- their entries stream by stream, as they are handed out
+-- their entries stream by stream, in the order in which they are visited
 abbrev pub order_of : StreamsView → List (List Entry)
 order_of streams = by_stream streams.rows
 

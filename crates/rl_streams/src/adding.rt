@@ -37,7 +37,7 @@ pub(crate) fn place_of(streams: &IndexMap<Labels, Stream>, labels: &Labels) -> O
     streams.get_index_of(labels)
 }
 
-// Why the entry is refused for its age, if it is. Its stream stands at the place.
+// Why the entry is refused for its age, if it is. Its stream stands at the index.
 pub(crate) fn age_refusal(
     limits: &Limits,
     streams: &IndexMap<Labels, Stream>,
@@ -65,7 +65,7 @@ pub(crate) fn age_refusal(
     }
 }
 
-// Lets a stream take an entry of its labels, unless it holds it. The answer tells whether it took it.
+// Lets a stream take an entry of its labels, unless it holds it. The answer says whether it took it.
 fn offer<S: Store>(
     alloc: Global,
     store: &mut S,
@@ -96,7 +96,7 @@ fn offer<S: Store>(
     Ok(true)
 }
 
-// Puts a stream of the entry alone behind the others.
+// Puts a stream of the entry alone after the others.
 fn begin(
     alloc: Global,
     streams: &mut IndexMap<Labels, Stream>,
@@ -122,7 +122,7 @@ fn begin(
     Ok(())
 }
 
-// Lets the stream of its labels take the entry, unless it is held. A new stream comes behind the others. The answer tells
+// Lets the stream of its labels take the entry, unless it is held. A new stream comes after the others. The answer says
 // whether there is one entry more.
 pub(crate) fn put<S: Store>(
     alloc: Global,

@@ -1,4 +1,4 @@
-//! What is asked of streams, handed out line by line.
+//! What is asked of streams, given line by line.
 ghost use Rattle.std.specs.Prelude.{◌≡◌, ◌≤◌, [], ◌∷◌, true, length, IfErr, IfOk, MatchOption, OnErr, OnOk};
 ghost use Rattle.rl_parts.specs.StoreUse.{ReadCause, Right};
 ghost use Rattle.rl_streams.specs.Asking.{left};
@@ -11,7 +11,7 @@ use rl_labels::{Labels, Ns, SelectorCode};
 use rl_parts::ReadFault;
 use rl_plain::Shared;
 
-/// Hands out what is asked of streams line by line, and reads them one after the other.
+/// Gives what is asked of streams line by line, and reads them one after the other.
 #[derive(Drop)]
 pub struct Cursor<'a, S: Store> {
     streams: &'a mut Streams<S>,
@@ -20,11 +20,11 @@ pub struct Cursor<'a, S: Store> {
     to: Ns,
     // Where the next stream stands.
     place: usize,
-    // What the streams before it have handed out, and wait here.
+    // Lines of the streams before it, which wait here.
     lines: Lines,
 }
 
-// Asks streams from the place on, until lines wait or no stream is left. A stream that was not read to its end is asked again.
+// Asks streams from the index on, until lines wait or no stream is left. A stream that was not read to its end is asked again.
 fn fill<S: Store>(
     streams: &mut Streams<S>,
     selector: &SelectorCode,

@@ -8,7 +8,7 @@ use rl_labels::Labels;
 use rl_parts::Stream;
 use std::alloc::AllocError;
 
-// Makes a part of each head that has an entry. A refusal leaves the heads behind it as they are.
+// Makes a part of each head that has an entry. A refusal leaves the rest of the heads as they are.
 pub(crate) fn cut(streams: &mut IndexMap<Labels, Stream>) -> Result<(), AllocError>
     ensures cut { AreCut streams.old.entries streams.new.entries }
     ensures all { OnOk result (loose_in streams.new.entries ≡ []) }

@@ -1,7 +1,7 @@
-//! All streams of a shard as one set of log entries, over a store that may have parts of them.
+//! The SET of all streams of a shard: one set of log entries, over a store that may have parts of them.
 //!
 //! - `streams`: `Streams`. It takes entries, seals what it holds and writes it to the store, reads it again, and
-//!   takes out what is covered.
+//!   removes what is covered.
 //! - `refusal`: `AddRefusal`, why an entry is not taken. `sending`: a probe for what may cross to another thread.
 #![tactic(auto)]
 

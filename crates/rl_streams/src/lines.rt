@@ -1,4 +1,4 @@
-//! Lines that wait to be handed out.
+//! Lines that wait for a cursor to give them.
 ghost use Rattle.std.specs.Prelude.{◌≡◌, ◌↔◌, [], ◌∷◌, IfOk, IsTrue, MatchOption};
 
 use rl_chunks::Line;
@@ -31,7 +31,7 @@ impl Model for Lines {
     ghost view = { λ a. a.lines.items };
 }
 
-// The labels, shared with the last line where it has the same.
+// The labels, shared with the last line where its own are equal.
 fn shared(
     alloc: Global,
     last: Option<&(Shared<Labels>, Line)>,

@@ -38,7 +38,7 @@ pub(crate) fn holds<S: Store>(
     }
 }
 
-// Hands out the lines of a stream in the range, if the selector selects it.
+// Visits the lines of a stream in the range, if the selector selects it.
 pub(crate) fn each_selected<S: Store, T: Taker>(
     alloc: Global,
     store: &mut S,
@@ -58,7 +58,7 @@ pub(crate) fn each_selected<S: Store, T: Taker>(
     stream.each(alloc, store, from, to, taker)
 }
 
-// Hands out the lines in the range of the streams of a selection, of which all were asked. The others are not read.
+// Visits the lines in the range of the streams of a selection, of which all were asked. The others are not read.
 pub(crate) fn each<S: Store, T: Taker>(
     alloc: Global,
     store: &mut S,

@@ -1,4 +1,4 @@
-//! Taking covered entries out of all streams.
+//! Removing covered entries from all streams.
 ghost use Rattle.std.specs.Prelude.{◌≡◌, ◌≤◌, IfErr, IfOk, IsErrOf, length, true};
 ghost use Rattle.std.specs.List.{AllByRecursion};
 ghost use Rattle.rl_parts.specs.Rewriting.{RewriteCause};

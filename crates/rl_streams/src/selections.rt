@@ -14,10 +14,10 @@ use rl_plain::{PlainList, Same, TryCopy};
 use std::alloc::{AllocError, Global};
 use std::marker::Model;
 
-// So many are kept at most.
+// How many are kept at most.
 const MOST: usize = 1_024;
 
-// Which of the streams that were asked so far a built selector selects, by their places.
+// Which of the streams that were asked so far a built selector selects, by their indices.
 #[derive(Drop)]
 pub(crate) struct Selection {
     selector: PlainList<Matcher>,
@@ -62,7 +62,7 @@ impl Selection {
         self.selector.is_same(selector)
     }
 
-    // The places of the streams that are selected, the lowest first.
+    // The indices of the streams that are selected, the lowest first.
     pub(crate) fn places(&self) -> &[usize]
         ensures { result.now ≡ self.now.places }
     {
@@ -94,7 +94,7 @@ impl Selection {
 #[derive(Drop)]
 pub(crate) struct Selections {
     kept: Vec<Selection>,
-    // Where one is sought first, since rules ask in turn.
+    // Where one is sought first, because rules ask in turn.
     next: usize,
 }
 
@@ -121,7 +121,7 @@ impl Selections {
         }
     }
 
-    // The one at a place.
+    // The one at an index.
     pub(crate) fn at(&self, place: usize) -> &Selection
         requires { place < length self.now }
         ensures { slice_get self.now place ≡ Some result.now }
@@ -165,7 +165,7 @@ fn place_in(
     }
 }
 
-// Where the selector's selection is, if it is kept: at the place that is sought first, or elsewhere.
+// Where the selector's selection is, if it is kept: at the index that is tried first, or elsewhere.
 fn place_of(kept: &[Selection], first: usize, selector: &PlainList<Matcher>) -> Option<usize>
     ensures { option_map (λ place. option_map (λ one. one.selector) (slice_get kept.now place)) result ≡ option_map (λ _. Some selector.now) result }
 {
@@ -175,7 +175,7 @@ fn place_of(kept: &[Selection], first: usize, selector: &PlainList<Matcher>) -> 
     kept.iter().position(|one| one.is_of(selector))
 }
 
-// Keeps one of the selector, of which no stream was asked, and tells where. Where so many are kept already, these go.
+// Keeps one of the selector, of which no stream was asked, and says where. Where `MOST` are kept already, these go.
 fn begin(
     alloc: Global,
     kept: &mut Vec<Selection>,

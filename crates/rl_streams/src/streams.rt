@@ -143,13 +143,13 @@ impl<S: Store> Streams<S> {
         flushed
     }
 
-    /// Takes out the entries that are covered. A part that the store has is read only where an entry of its range of time may
+    /// Removes the entries that are covered. A part that the store has is read only where an entry of its range of time may
     /// be covered. A refusal changes nothing that is held; what was put into the store until then stays there unused. What
     /// the store refuses to remove stays there unused too.
     pub fn rewrite<C: Covers>(&mut self, covered: &C) -> Result<(), RewriteFault>
         ensures refused { OnErr result (Stays self.old self.new) }
         ensures rewritten { OnOk result (Rewrites self.old self.new) }
-        // What is left of a part that the store has is told by bytes with its digest, over any store.
+        // What is left of a part that the store has follows from bytes with its digest, over any store.
         ensures told { OnOk result (AreLeftIn (C.covers covered.now) self.old.rows self.new.rows) }
         ensures right { self.old.seen.honest ≡ true → OnOk result (self.new.held ≡ without (C.covers covered.now) self.old.held) }
         ensures undamaged { self.old.seen.honest ≡ true → IsErrOf result RewriteFault.Damaged → ⊥ }
@@ -166,7 +166,7 @@ impl<S: Store> Streams<S> {
     }
 
     /// Whether the entry is held. Where no stream has its labels, nothing is read. A store that is not honest may hide an
-    /// entry, and what it answers in its place is found to be damaged.
+    /// entry, and what it answers instead is found to be damaged.
     pub fn holds(&mut self, entry: &Entry) -> Result<bool, ReadFault>
         ensures same { Looks self.old self.new }
         ensures cause { IfErr result (ReadCause self.old.seen self.new.seen) }
@@ -176,9 +176,9 @@ impl<S: Store> Streams<S> {
         reading::holds(self.alloc, &mut self.store, &self.streams, entry)
     }
 
-    /// Hands out the lines from one moment to another, both included, of the streams that the selector selects: each once,
+    /// Visits the lines from one moment to another, both included, of the streams that the selector selects: each once,
     /// one stream after the other. A stream that is not selected is asked for its labels alone, and once for a selector while
-    /// no more than 1,024 are asked for. After a refusal some lines may have been handed out.
+    /// no more than 1,024 are asked for. After a refusal some lines may have been visited.
     pub fn each<T: Taker>(
         &mut self,
         selector: &PlainList<Matcher>,
@@ -189,7 +189,7 @@ impl<S: Store> Streams<S> {
         ensures same { Looks self.old self.new }
         ensures cause { IfErr result (ReadCause self.old.seen self.new.seen) }
         ensures unread { NoneSelected selector.now self.old.newest → self.new ≡ self.old }
-        // What is handed out of a part that the store has is told by bytes with its digest, over any store.
+        // What is visited of a part that the store has follows from bytes with its digest, over any store.
         ensures told { OnOk result (AreTold T.taking selector.now from to self.old.rows taker.old taker.new) }
         ensures right { self.old.seen.honest ≡ true → Right result (λ _. AreToldOnce selector.now from to self.old.held T.taking taker.old taker.new) }
     {
@@ -200,7 +200,7 @@ impl<S: Store> Streams<S> {
     }
 
     /// A cursor over the lines from one moment to another, both included, of the streams that the selector selects. Over an
-    /// honest store it hands out each once.
+    /// honest store it gives each once.
     pub fn cursor<'a>(&'a mut self, selector: &'a SelectorCode, from: Ns, to: Ns) -> Cursor<'a, S>
         ensures same_reference { result.streams.ghost_name ≡ self.entry.ghost_name }
         ensures streams { result.streams.now ≡ self.old }
@@ -218,7 +218,7 @@ impl<S: Store> Streams<S> {
         self.streams.len()
     }
 
-    // Puts what one stream has in the range behind the lines that wait, if the selector selects it.
+    // Puts what one stream has in the range after the lines that wait, if the selector selects it.
     pub(crate) fn hand_out(
         &mut self,
         place: usize,

@@ -1,4 +1,4 @@
--- Whether something in a map passes a test, told by what the map has at its numbers.
+-- Whether something in a map passes a test, by what the map has at its numbers.
 use Rattle.std.specs.Prelude.{◌≡◌, ℕ, Bool, true, false, cond, ◌||◌, T, List, [], ◌∷◌, Option, None, Some, refl, map as map_list}
 use Rattle.std.specs.FinMap as map
 use Rattle.std.specs.FinMap.{FinMap, get-entries, entries_sorted, nat_cmp-IsAntisymmetric}
@@ -63,7 +63,7 @@ module _ {X : Type 0} where
         | false ↦ λ is passes. or_second (f e.0 e.1) _ (passing_among f es q passes)
       ] refl passes
 
-  -- what passes at its number among entries in order does so behind one more in front
+  -- what passes at its number among entries in order does so with one more in front
   later : (f : ℕ → X → Bool) (e : ℕ × X) (es : List (ℕ × X)) → below_all nat_cmp e.0 es ≡ true → (q : ℕ) × (passes_at (f q) (find nat_cmp q es) ≡ true) → (q : ℕ) × (passes_at (f q) (find nat_cmp q (e ∷ es)) ≡ true)
   later f e es below (q, passes) =
       elim (eq_by_cmp nat_cmp q e.0) as (λ b. eq_by_cmp nat_cmp q e.0 ≡ b → (q : ℕ) × (passes_at (f q) (find nat_cmp q (e ∷ es)) ≡ true)) [

@@ -1,4 +1,4 @@
--- Parts that got notes: what stays of them, and the numbers that they have.
+-- Parts that were given notes: what stays of them, and the numbers that they have.
 use Rattle.std.specs.Prelude.{◌≡◌, ℕ, zero, suc, ◌+◌, ◌-◌, ◌≤◌, List, [], ◌∷◌, ◌++◌, map, length, Option, Some, None, refl}
 use Rattle.std.proofs.Common.{sym, ap, subst, ◌∙◌, arith}
 use Rattle.std.specs.Option.{is_none}
@@ -47,7 +47,7 @@ count_is part parts = at part.note
     at None = refl
     at (Some note) = refl
 
--- parts behind those that have a note by now get the notes that are left
+-- parts after those that have a note by now get the notes that are left
 pub with_notes-append : (parts others : List PartView) (notes more : List Note) → length notes ≡ unwritten_count parts → with_notes (parts ++ others) (notes ++ more) ≡ with_notes parts notes ++ with_notes others more
 with_notes-append [] others [] more all = refl
 with_notes-append [] others (note ∷ notes) more all = cc
@@ -98,11 +98,11 @@ range-append first (suc many) more =
     let start : first + 1 + many ≡ first + suc many = omega arith in
     ap (range_with_len first) sum ∙ ap (λ ns. first ∷ ns) (range-append (first + 1) many more ∙ ap (λ n. range_with_len (first + 1) many ++ range_with_len n more) start)
 
--- no part got a note
+-- no part was given a note
 pub AreNoted-none : (parts : List PartView) (first : ℕ) → AreNoted parts first parts first
 AreNoted-none parts first = record { notes = []; few = omega arith; given = sym (with_notes-none parts); numbers = refl; many = omega arith }
 
--- the notes of others come behind, once all of the first parts have one
+-- the notes of others follow, once all of the first parts have one
 pub AreNoted-more : (old new : List PartView) (first mid : ℕ) (others now : List PartView) (next : ℕ) → AreNoted old first new mid → unwritten_count new ≡ 0 → AreNoted others mid now next → AreNoted (old ++ others) first (new ++ now) next
 AreNoted-more old new first mid others now next p all q =
     let left : unwritten_count (with_notes old p.notes) ≡ 0 = ap unwritten_count (sym p.given) ∙ all in
@@ -119,7 +119,7 @@ AreNoted-more old new first mid others now next p all q =
       many = omega (arith, length-append p.notes q.notes, p.many, q.many);
     }
 
--- parts behind them stay
+-- parts after them stay
 pub AreNoted-rest : (old new : List PartView) (first next : ℕ) (others : List PartView) → AreNoted old first new next → AreNoted (old ++ others) first (new ++ others) next
 AreNoted-rest old new first next others p =
     let both : unwritten_count (old ++ others) ≡ unwritten_count old + unwritten_count others = ap length (filter-append (λ (part : PartView). is_none part.note) old others) ∙ length-append _ _ in

@@ -39,7 +39,7 @@ Grown-then a below b higher c le p q =
 pub Grown-looked : (a b : Seen) (below : ℕ) → Looked a b → Grown a below b
 Grown-looked a b below looked = record { honest = looked.honest; faults = looked.faults; others = λ number lt. ap (λ blobs. map.get blobs number) looked.blobs }
 
--- a fault that came stays one, before and behind other calls
+-- a fault that came stays one, before and after other calls
 pub FaultCame-after : (a b c : ℕ) → FaultsRise a b → FaultCame b c → FaultCame a c
 FaultCame-after a b c rise (inl came) = inl (omega arith)
 FaultCame-after a b c rise (inr spent) = inr spent
@@ -77,7 +77,7 @@ IsKept-grown old new next later labels grown le part kept =
       kept = λ honest. grown.others note.number is.given ∙ is.kept (sym grown.honest ∙ honest);
     }) part.note kept
 
--- the same of all parts of a stream
+-- and both leave all parts of a stream kept
 pub AreKept-looked : (old new : Seen) (next : ℕ) (stream : StreamView) → Looked old new → AreKept old next stream → AreKept new next stream
 AreKept-looked old new next stream looked = each_part (IsKept old next stream.labels) (IsKept new next stream.labels) (IsKept-looked old new next stream.labels looked) stream.parts
 
@@ -102,7 +102,7 @@ pub AreKept-append : (seen : Seen) (next : ℕ) (labels : LabelSet) (parts other
 AreKept-append seen next labels [] others h k = k
 AreKept-append seen next labels (part ∷ parts) others h k = (h.0, AreKept-append seen next labels parts others h.1 k)
 
--- a cause stays one behind other calls
+-- a cause stays one after other calls
 pub ReadCause-after : (a b c : Seen) (fault : ReadFault) → FaultsRise a.faults b.faults → ReadCause b c fault → ReadCause a c fault
 ReadCause-after a b c reads.Fault rise cause = FaultCame-after a.faults b.faults c.faults rise cause
 ReadCause-after a b c reads.Damaged rise cause = tt

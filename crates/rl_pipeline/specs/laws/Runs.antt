@@ -19,7 +19,7 @@ pair_stop b h = grind (arith, nat_tests)
 pub plain_stop : (b : ℕ) → is_plain b ≡ false → b < 128
 plain_stop b h = grind (arith, nat_tests)
 
--- a text may be cut behind a run
+-- a text may be cut after a run
 pub run_ends : (run : Run) → IsCutBehind (is_in_run run)
 run_ends runs.Blank = run_boundary is_blank blank_small
 run_ends runs.Key = stop_boundary is_of_key key_stop

@@ -1,4 +1,4 @@
--- Each turn hands out the next line.
+-- Each turn visits the next line.
 use Rattle.std.proofs.Common.{map, ap, ◌∙◌}
 use Rattle.std.specs.List.{fold}
 use Rattle.std.proofs.lemmas.List.{take_all}

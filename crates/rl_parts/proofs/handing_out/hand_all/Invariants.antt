@@ -1,4 +1,4 @@
--- The lines so far are handed out.
+-- The lines so far are visited.
 use Rattle.std.proofs.Common.{◌≡◌, map, take}
 use Rattle.std.specs.List.{fold}
 use Rattle.rl_parts.specs.Reading.{lines_in_range}

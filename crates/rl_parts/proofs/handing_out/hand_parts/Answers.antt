@@ -1,4 +1,4 @@
--- Each turn hands out the next part, over a store that only reads have changed.
+-- Each turn visits the next part, over a store that only reads have changed.
 use Rattle.std.proofs.Common.{List, sym, ap, subst, ◌∙◌}
 use Rattle.std.specs.List.{AllByRecursion, flat_map, fold}
 use Rattle.std.proofs.lemmas.List.{take_all}

@@ -1,4 +1,4 @@
--- The parts so far are handed out.
+-- The parts so far are visited.
 use Rattle.std.proofs.Common.{◌≡◌, ℕ, true, take}
 use Rattle.std.specs.List.{AllByRecursion, flat_map, fold}
 use Rattle.rl_parts.specs.StoreUse.{Looked, IsKept}

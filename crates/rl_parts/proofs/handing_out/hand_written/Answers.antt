@@ -1,4 +1,4 @@
--- The range of time tells that nothing is handed out, and else the lines of the chunk are.
+-- Nothing of the part is visited where its range of time is outside, and else the lines of the chunk are.
 use Rattle.std.proofs.Common.{◌≡◌, [], map, inl, inr, refl, sym, ap, ◌∙◌}
 use Rattle.std.specs.List.{fold}
 use Rattle.std.proofs.lemmas.List.{map-id}

@@ -1,4 +1,4 @@
--- The marks rise, so a search by halves tells.
+-- The fingerprints rise, so a search by halves decides.
 use Rattle.std.proofs.Common.{sym, subst}
 use Rattle.std.specs.Prelude.{IsTrue, ◌↔◌}
 use Rattle.std.specs.List.{Contains}

@@ -1,4 +1,4 @@
--- The marks of the entries so far.
+-- The fingerprints of the entries so far.
 use Rattle.std.proofs.Common.{◌≡◌, take}
 use Rattle.rl_parts.specs.Marks.{marks_of}
 use Rattle.rl_parts.proofs.marks.marks_of.Given as goal

@@ -1,4 +1,4 @@
--- What was put is as many lines, and none is newer than the last.
+-- What was put has one line for each entry, and none is newer than the last.
 use Rattle.std.proofs.Common.{◌≡◌, ◌≤◌, List, length, map, sym, ap, subst, ◌∙◌, arith}
 use Rattle.std.specs.List.{All}
 use Rattle.std.proofs.lemmas.List.{length-map}

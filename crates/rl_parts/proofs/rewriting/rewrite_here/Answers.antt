@@ -1,4 +1,4 @@
--- As many are left as there are, so none is covered.
+-- No fewer are left than there are, so none is covered.
 use Rattle.std.proofs.Common.{not, length, ap, arith}
 use Rattle.rl_parts.proofs.Leaving.{filter_all}
 use Rattle.rl_parts.proofs.rewriting.rewrite_here.Goals as goal

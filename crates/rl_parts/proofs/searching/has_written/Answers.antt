@@ -1,4 +1,4 @@
--- The range of time and the marks tell, and else the lines of the chunk.
+-- The range of time and the fingerprints decide, and else the lines of the chunk.
 use Rattle.std.proofs.Common.{◌≡◌, List, map, inl, inr, refl, sym, ap, subst, ◌∙◌}
 use Rattle.std.specs.Prelude.{IsTrue, ◌↔◌}
 use Rattle.std.specs.List.{Contains}

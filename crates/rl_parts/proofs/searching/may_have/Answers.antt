@@ -1,4 +1,4 @@
--- The range of time tells, and else the mark.
+-- The range of time decides, and else the fingerprint.
 use Rattle.std.proofs.Common.{◌≡◌, sym, ap, subst, ◌∙◌}
 use Rattle.std.specs.List.{Contains}
 use Rattle.rl_chunks.specs.EntryLines.{line_of}

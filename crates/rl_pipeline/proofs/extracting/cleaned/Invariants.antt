@@ -1,4 +1,4 @@
--- The bytes so far stand behind the underscore.
+-- The bytes so far stand after the underscore.
 use Rattle.std.proofs.Common.{◌≡◌, ◌++◌, map, take, string_bytes}
 use Rattle.rl_pipeline.specs.Extracting.{name_byte}
 use Rattle.rl_pipeline.proofs.extracting.cleaned.Given as goal

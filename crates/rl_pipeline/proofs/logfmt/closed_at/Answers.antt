@@ -1,4 +1,4 @@
--- The text may be cut behind the quote, which is ASCII.
+-- The text may be cut after the quote, which is ASCII.
 use Rattle.std.proofs.Common.{◌≡◌, ◌<◌, ℕ, List, length, get_or, subst, arith}
 use Rattle.std.proofs.lemmas.Str.{IsCharBoundary-after_ascii}
 use Rattle.rl_pipeline.proofs.logfmt.closed_at.Goals as goal

@@ -1,4 +1,4 @@
--- An escape ends behind an ASCII byte.
+-- An escape ends after an ASCII byte.
 use Rattle.std.proofs.Common.{ℕ, List, ◌<◌, ◌≤◌, ◌-◌, length, get_or, subst}
 use Rattle.rl_plain.specs.laws.Cuts.{behind_ascii}
 use Rattle.rl_pipeline.proofs.logfmt.escape_front.Goals as goal

@@ -1,4 +1,4 @@
--- What is left of the stages gives what those from the place on give, and all are as they were.
+-- What is left of the stages gives what those from the index on give, and all are as they were.
 use Rattle.std.proofs.Common.{◌≡◌, drop, map}
 use Rattle.rl_pipeline.specs.Running.{labels_behind}
 use Rattle.rl_pipeline.specs.Steps.{step_stage}

@@ -1,4 +1,4 @@
--- A new key goes behind all.
+-- A new key comes last.
 use Rattle.std.proofs.Common.{sym, ap, subst, ◌∙◌}
 use Rattle.indexmap.specs.IndexMap.{insert_entry}
 use Rattle.rl_labels.specs.LabelText.{label_set_eq}

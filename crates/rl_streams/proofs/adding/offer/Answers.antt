@@ -1,4 +1,4 @@
--- The search tells whether the entry is held.
+-- The search says whether the entry is held.
 use Rattle.std.proofs.Common.{◌≡◌, Bool, true, Result, Ok, ◌↔◌, IsTrue, Contains, not, sym, ap, subst, ◌∙◌}
 use Rattle.std.specs.List.{flat_map}
 use Rattle.std.proofs.lemmas.Result.{err_from_is_err_and}

@@ -1,4 +1,4 @@
--- The stream at the place is offered the entry, or a new one begins.
+-- The stream at the index is offered the entry, or a new one begins.
 use Rattle.std.proofs.Common.{not, sym, ap, subst, rules}
 use Rattle.std.proofs.lemmas.Result.{err_from_is_err_and}
 use Rattle.rl_streams.specs.RowSteps.{IsPlaceOf}

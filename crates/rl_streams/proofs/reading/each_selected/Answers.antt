@@ -1,4 +1,4 @@
--- A stream that is selected hands out what is in the range.
+-- Of a selected stream the lines in the range are visited.
 use Rattle.std.proofs.Common.{◌≡◌, sym, ap, ◌∙◌}
 use Rattle.std.specs.Prelude.{if◌then◌else◌, []}
 use Rattle.std.specs.List.{fold}

@@ -1,4 +1,4 @@
--- The tree has the request in the phase, and what was built of it is gone.
+-- The tree has the request with the status, and what was built of it is gone.
 use Rattle.std.proofs.Common.{IsSome, sym, ap, subst, ◌∙◌}
 use Rattle.rl_deletes.specs.Deletes.{ended, received_at}
 use Rattle.rl_deletes.proofs.Received.{ended_tree}

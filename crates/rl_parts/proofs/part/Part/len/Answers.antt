@@ -1,4 +1,4 @@
--- A part that a store has has as many marks as entries.
+-- A part that a store has has one fingerprint for each entry.
 use Rattle.std.proofs.Common.{◌≡◌, length, sym, ap, subst, ◌∙◌}
 use Rattle.rl_parts.specs.StreamParts.{PartView}
 use Rattle.rl_parts.specs.PartState.{RangeAndMarksAreKept, part_at}

@@ -1,4 +1,4 @@
--- What is handed out is the set in some order, where no entry is held twice.
+-- What is visited is the set in some order, where no entry is held twice.
 use Rattle.std.proofs.Common.{◌≡◌, true, length, refl, sym, ap, subst, ◌∙◌}
 use Rattle.std.specs.Prelude.{OnOk}
 use Rattle.std.specs.List.{fold}
