@@ -1,4 +1,4 @@
--- Labels that are told one matcher after another, from the last to the first; and an absence that is found of a partial.
+-- Labels that follow from one matcher after another, from the last to the first; and an absence that is found of a partial.
 use Rattle.std.proofs.Common.{◌≡◌, nat_lt, ◌||◌, cond, true, false, List, [], ◌∷◌, ◌++◌, map, refl, ap, ◌∙◌}
 use Rattle.std.specs.Prelude.{option_to_list}
 use Rattle.std.specs.List.{filter}
@@ -14,7 +14,7 @@ use Rattle.rl_aggregate.specs.laws.Absences.{absent-elements}
 use Rattle.rl_aggregate.specs.declared.partial.Partial.{Partial}
 use Rattle.rl_aggregate.specs.declared.outcome.Outcome.{Outcome}
 
--- the labels with that of the matcher, if it tells one
+-- the labels with that of the matcher, if one follows from it
 abbrev pub told_one : List Matcher → LabelSet → Matcher → LabelSet
 told_one all labels matcher = cond (tells_label all matcher) (with_label labels matcher.name matcher.value) labels
 
@@ -43,7 +43,7 @@ absence-value query first is =
     let alone : (nat_lt 0 first.errors || false) ≡ nat_lt 0 first.errors = elim (nat_lt 0 first.errors) as (λ b. (b || false) ≡ b) [ true ↦ refl | false ↦ refl ] in
     λ i. cond (alone i) outcomes.Failed (outcomes.Vector (tested_by (is.1.1.1 i) (over_vector (is.1.1.0 i) (aggregated_by (is.1.0 i) (samples_by query.left.function query.left first.totals)) [])))
 
--- so its outcome is the absence of the elements that its partial is of
+-- so its outcome is the absence of the lines that its partial is of
 pub absent-found : (query : Query) (partials : List Partial) (outcome : Outcome) → outcome ≡ finished query partials → IsAbsent query partials outcome
 absent-found query partials outcome value = λ entries t is same.
     let terms : terms_of query ≡ query.left ∷ [] = ap (λ over. query.left ∷ option_to_list over) is.1.1.0 in

@@ -1,4 +1,4 @@
--- Counters: what each tally has counted is within what so many lines may add up to.
+-- Counters: what each tally has counted is within what the lines that came may add up to.
 use Rattle.std.proofs.Common.{◌≡◌, ℕ, zero, suc, ◌+◌, ◌-◌, ◌≤◌, List, [], ◌∷◌, ◌++◌, length, map, take, drop, refl, subst, arith}
 use Rattle.std.specs.List.{AllByRecursion}
 use Rattle.rl_labels.specs.EntryParts.{longest_line}
@@ -18,14 +18,14 @@ all_behind : {X Y : Type 0} (P : X → Type 0) (Q : Y → Type 0) (f : X → Y) 
 all_behind P Q f keeps [] all = all
 all_behind P Q f keeps (x ∷ xs) all = (keeps x all.0, all_behind P Q f keeps xs all.1)
 
--- also where some of them are behind, and the others are not
+-- also where the first of them were changed, and the others were not
 all_partly : {X : Type 0} (P Q : X → Type 0) (f : X → X) → ((x : X) → P x → Q (f x)) → ((x : X) → P x → Q x) → (xs : List X) (i : ℕ) → AllByRecursion P xs → AllByRecursion Q (map f (take i xs) ++ drop i xs)
 all_partly P Q f keeps weaker [] zero all = all
 all_partly P Q f keeps weaker [] (suc i) all = all
 all_partly P Q f keeps weaker (x ∷ xs) zero all = all_weaker P Q weaker (x ∷ xs) all
 all_partly P Q f keeps weaker (x ∷ xs) (suc i) all = (keeps x all.0, all_partly P Q f keeps weaker xs i all.1)
 
--- a line was counted in the tallies up to a place
+-- a line was counted in the tallies up to an index
 pub partly_counted : (labels : LabelSet) (text : List ℕ) → length text ≤ longest_line → (tallies : List TallyView) (i : ℕ) (lines : ℕ) → AllByRecursion (λ tally. IsWithin lines tally.found) tallies
     → AllByRecursion (λ tally. IsWithin (lines + 1) tally.found) (map (with_line labels text) (take i tallies) ++ drop i tallies)
 partly_counted labels text fits tallies i lines all =

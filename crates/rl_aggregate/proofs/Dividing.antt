@@ -1,4 +1,4 @@
--- One pass over two vectors in order: what stands before an element divides neither it nor a later one.
+-- One pass over two vectors in order: what stands before a sample divides neither it nor a later one.
 use Rattle.std.proofs.Common.{◌≡◌, ◌<◌, ◌≤◌, ◌++◌, true, false, cond, List, [], ◌∷◌, length, get_or, option_to_list, option_map, option_and_then, Option, None, Some, refl, sym, ap, ◌∙◌, append_assoc, arith}
 use Rattle.std.specs.List.{AllByRecursion}
 use Rattle.std.specs.Ordering.{is_eq, is_lt, ordering_reverse}
@@ -13,7 +13,7 @@ use Rattle.rl_aggregate.specs.Vectors.{AreInOrder}
 use Rattle.rl_aggregate.specs.declared.outcome.Fraction.{Fraction}
 use Rattle.rl_aggregate.specs.declared.outcome.Sample.{Sample}
 
--- all elements stand behind a label set
+-- all samples stand after a label set
 abbrev pub AreBehind : LabelSet → List Sample → Type 0
 AreBehind labels samples = AllByRecursion (λ other. label_set_cmp labels other.labels ≡ Less) samples
 
@@ -23,7 +23,7 @@ apart_behind s t less = label_set_eq-cmp s t ∙ ap is_eq less
 apart_before : (s t : LabelSet) → label_set_cmp t s ≡ Less → label_set_eq s t ≡ false
 apart_before s t less = label_set_eq-cmp s t ∙ ap is_eq (label_set_cmp_total.antisymm s t ∙ ap ordering_reverse less)
 
--- what stands behind a label set stands behind one before it
+-- what stands after a label set stands after one before it
 behind_more : (s t : LabelSet) (samples : List Sample) → label_set_cmp s t ≡ Less → AreBehind t samples → AreBehind s samples
 behind_more s t [] less behind = tt
 behind_more s t (x ∷ xs) less behind = (label_set_cmp_total.trans s t x.labels less behind.0, behind_more s t xs less behind.1)
@@ -32,7 +32,7 @@ none_behind : (sample : Sample) (divisors : List Sample) → AreBehind sample.la
 none_behind sample [] behind = refl
 none_behind sample (d ∷ ds) behind = ap (λ b. cond b (Some d) (partner ds sample)) (apart_behind sample.labels d.labels behind.0) ∙ none_behind sample ds behind.1
 
--- a divisor that stands before all elements divides none
+-- a divisor that stands before all samples divides none
 first_dropped : (first : Sample) (divisors samples : List Sample) → AreBehind first.labels samples → ratios samples divisors ≡ ratios samples (first ∷ divisors)
 first_dropped first divisors [] behind = refl
 first_dropped first divisors (x ∷ xs) behind =
@@ -40,7 +40,7 @@ first_dropped first divisors (x ∷ xs) behind =
     let value : value_over divisors x ≡ value_over (first ∷ divisors) x = ap (option_and_then (λ d. quotient x.value d.value)) same in
     λ i. option_to_list (option_map (λ v. record { labels = x.labels; value = v }) (value i)) ++ first_dropped first divisors xs behind.1 i
 
--- nor do those that stand before the first element
+-- nor do those that stand before the first sample
 pub ratios-not_before : (sample : Sample) (samples divisors : List Sample) → AreBehind sample.labels samples → ratios (sample ∷ samples) (not_before sample.labels divisors) ≡ ratios (sample ∷ samples) divisors
 ratios-not_before sample samples [] behind = refl
 ratios-not_before sample samples (d ∷ ds) behind =
@@ -99,11 +99,11 @@ module _ (sample first : Sample) where
             absurd (omega (arith, ap (λ l. length l) again, not_before-shorter sample.labels ds))
       ] refl
 
--- the element with a value
+-- the sample with a value
 abbrev pub with_value : Sample → Option Fraction → List Sample
 with_value sample value = option_to_list (option_map (λ v. record { labels = sample.labels; value = v }) value)
 
--- one element more, with the ratios so far
+-- one sample more, with the ratios so far
 pub one_divided : (made : List Sample) (sample : Sample) (samples divisors : List Sample) (value : Option Fraction) → AreBehind sample.labels samples → value ≡ value_over (not_before sample.labels divisors) sample → (made ++ with_value sample value) ++ ratios samples (not_before sample.labels divisors) ≡ made ++ ratios (sample ∷ samples) divisors
 one_divided made sample samples divisors value behind is =
     let rest = not_before sample.labels divisors in

@@ -1,4 +1,4 @@
--- Groups of vectors: the next element of a vector goes into its group.
+-- Groups of vectors: the next sample of a vector goes into its group.
 use Rattle.std.proofs.Common.{◌≡◌, ℕ, ◌+◌, ◌-◌, ◌<◌, ◌^◌, List, [], ◌∷◌, ◌++◌, length, get_or, take, sym, ap, ◌∙◌, arith}
 use Rattle.std.specs.FinMap.{get, insert}
 use Rattle.std.proofs.lemmas.List.{take_more, length-take}
@@ -11,7 +11,7 @@ use Rattle.rl_aggregate.specs.Grouping.{group_of, groups, total}
 use Rattle.rl_aggregate.specs.laws.Groups.{groups-push, numerator-next, most_total, most_total-within}
 use Rattle.rl_aggregate.specs.declared.outcome.Sample.{Sample}
 
--- the elements up to the next are those before it, and it
+-- the samples up to the next are those before it, and it
 next : (samples : List Sample) (i : ℕ) (sample : Sample) → i < length samples → sample ≡ get_or samples i sample → take i samples ++ sample ∷ [] ≡ take (i + 1) samples
 next samples i sample within is = ap (λ s. take i samples ++ s ∷ []) is ∙ sym (take_more samples i sample within)
 

@@ -12,7 +12,7 @@ use Rattle.rl_labels.specs.Name.{name_cmp}
 use Rattle.rl_labels.specs.LabelSet.{Pair, LabelSet, is_label, are_labels, labels_of, label, label_set_of, with_label, non_empty, labels_are_proper}
 use Rattle.rl_labels.specs.laws.LabelLaws.{are_named-labels, label-label_set_of}
 
--- the labels from a place on are labels
+-- the labels from an index on are labels
 labels_from : (pre rest : List Pair) → are_labels (pre ++ rest) ≡ true → are_labels rest ≡ true
 labels_from [] rest h = h
 labels_from (x ∷ pre) rest h =
@@ -50,7 +50,7 @@ behind labels pre done pair is = labels_from pre (pair ∷ done) (ap are_labels 
 pub label_of : (labels : LabelSet) (pre done : List Pair) (pair : Pair) → pre ++ pair ∷ done ≡ labels_of labels → is_label pair ≡ true
 label_of labels pre done pair is = (and_parts (is_label pair) (list_all is_label done) (and_parts (is_sorted name_cmp (pair ∷ done)) (list_all is_label (pair ∷ done)) (behind labels pre done pair is)).1).0
 
--- the set of those that are kept behind a label has none of its name
+-- the set of those that are kept after a label has none of its name
 pub label-behind : (p : Pair → Bool) (labels : LabelSet) (pre done : List Pair) (pair : Pair) → pre ++ pair ∷ done ≡ labels_of labels → label (label_set_of (filter p done)) pair.0 ≡ None
 label-behind p labels pre done pair is =
     let parts = and_parts (is_sorted name_cmp (pair ∷ done)) (list_all is_label (pair ∷ done)) (behind labels pre done pair is) in

@@ -37,7 +37,7 @@ one_added totals es fs k before total view was answers =
     ∙ (λ i. insert (view i) k (plus (unwrap_or (was i) no_total) total))
     ∙ ap (λ t. insert totals k (plus t total)) (sym (total_at-totals_in es k) ∙ ap (λ m. total_at m k) view)
 
--- trees in order that make the same totals have the same entries
+-- trees in order that make equal totals have equal entries
 pub same_entries_in : (es fs : Entries) → IsStrictlySortedBy label_set_cmp (keys_of es) → IsStrictlySortedBy label_set_cmp (keys_of fs) → totals_in es ≡ totals_in fs → es ≡ fs
 same_entries_in es fs ordered others same =
     sym (entries-of_tree label_set_cmp_total label_set_cmp-IsAntisymmetric es ordered) ∙ ap (λ totals. entries totals) same ∙ entries-of_tree label_set_cmp_total label_set_cmp-IsAntisymmetric fs others

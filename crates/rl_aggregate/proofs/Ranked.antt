@@ -1,4 +1,4 @@
--- Elements by their ranks: how many of a group come before one, that the first of each group are kept, and that those which
+-- Samples by their ranks: how many of a group come before one, that the first of each group are kept, and that those which
 -- are kept are brought back into the order of their labels.
 use Rattle.std.proofs.Common.{◌≡◌, ℕ, ◌+◌, ◌<◌, ◌≤◌, Bool, true, false, cond, not, ◌&&◌, ltb, List, [], ◌∷◌, ◌++◌, map, length, get_or, Option, None, Some, T, refl, sym, ap, subst, ◌∙◌, arith, length-append}
 use Rattle.std.specs.List.{filter, list_any, count_by, sum_by, AllByRecursion, IsDistinct}
@@ -42,7 +42,7 @@ middle : (P : Sample → Type 0) (front : List Sample) (sample : Sample) (back :
 middle P [] sample back h = h.0
 middle P (other ∷ front) sample back h = middle P front sample back h.1
 
--- elements behind one do not come before it
+-- samples after one do not come before it
 none_behind : (g : Grouping) (q : LabelSet) (sample : Sample) (others : List Sample) → AllByRecursion (λ other. rank_cmp sample other ≡ Less) others → count_by (λ other. comes_before other sample) (part g q others) ≡ 0
 none_behind g q sample [] behind = refl
 none_behind g q sample (other ∷ others) behind =
@@ -56,7 +56,7 @@ none_behind g q sample (other ∷ others) behind =
 one_of : (b : Bool) → b ≡ true → ◌≡◌ {A = ℕ} (cond b 1 0) 1
 one_of b is = λ i. cond (is i) 1 0
 
--- so those of a group that come before an element are those in front of it
+-- so those of a group that come before a sample are those in front of it
 counted : (g : Grouping) (q : LabelSet) (front : List Sample) (sample : Sample) (back : List Sample) → IsStrictlySortedBy rank_cmp (front ++ sample ∷ back) → count_by (λ other. comes_before other sample) (part g q (front ++ sample ∷ back)) ≡ length (part g q front)
 counted g q [] sample back sorted =
     let rest = none_behind g q sample back (sorted_head rank_cmp sample back sorted) in
@@ -89,7 +89,7 @@ counts g samples q =
       | false ↦ λ none. sym (ap (λ l. length l) (no_part g q samples none))
     ] refl
 
--- the next element is kept where the count of its group is low
+-- the next sample is kept where the count of its group is low
 pub next_kept : (k : ℕ) (g : Grouping) (ranked front : List Sample) (sample : Sample) (back : List Sample) (before : ℕ) → front ++ sample ∷ back ≡ ranked → IsStrictlySortedBy rank_cmp ranked → before ≡ numerator_at (get (groups Count g front) (group_of g sample.labels)) → is_among_first k g ranked sample ≡ ltb before k
 next_kept k g ranked front sample back before split sorted so_far =
     let q = group_of g sample.labels in
@@ -101,7 +101,7 @@ pub kept_more : (k : ℕ) (g : Grouping) (ranked front : List Sample) (sample : 
 kept_more k g ranked front sample back before b split sorted so_far low =
     sym (filter-append (is_among_first k g ranked) front (sample ∷ []) ∙ ap (λ b. filter (is_among_first k g ranked) front ++ cond b (sample ∷ []) []) (next_kept k g ranked front sample back before split sorted so_far ∙ low))
 
--- and the counts are those of one element more, and fit
+-- and the counts are those of one sample more, and fit
 pub next_counted : (g : Grouping) (front : List Sample) (sample : Sample) (m : GroupsMap) (key : LabelSet) → m ≡ groups Count g front → key ≡ group_of g sample.labels → insert m key (with_value Count (get m key) sample.value) ≡ groups Count g (front ++ sample ∷ [])
 next_counted g front sample m key so_far keyed =
     (λ i. insert (so_far i) (keyed i) (with_value Count (get (so_far i) (keyed i)) sample.value)) ∙ sym (groups-push Count g front sample)
@@ -174,7 +174,7 @@ is_greater sample other = ltb other.value.numerator sample.value.numerator
 pub greater_order : IsStrictWeakOrder is_greater
 greater_order = IsStrictWeakOrder-flip (λ (x : Sample) (y : Sample). ltb x.value.numerator y.value.numerator) (IsStrictWeakOrder-by_number (λ (s : Sample). s.value.numerator))
 
--- two neighbours behind the sort
+-- two neighbours after the sort
 rank_next : (x y : Sample) → is_greater y x ≡ false → (ties is_greater x y ≡ true → is_lt (label_set_cmp y.labels x.labels) ≡ false) → ties_with x.labels y.labels ≡ false → rank_cmp x y ≡ Less
 rank_next x y down tied differ =
     elim (nat_cmp y.value.numerator x.value.numerator) as (λ o. nat_cmp y.value.numerator x.value.numerator ≡ o → ordering_then o (label_set_cmp x.labels y.labels) ≡ Less) [
@@ -188,7 +188,7 @@ rank_next x y down tied differ =
     ties_at : (x y : Sample) → y.value.numerator ≡ x.value.numerator → ties is_greater x y ≡ true
     ties_at x y same = (λ i. not (le-ltb y.value.numerator x.value.numerator (omega arith) i) && not (le-ltb x.value.numerator y.value.numerator (omega arith) i))
 
--- a stable sort by values of elements in the order of their labels
+-- a stable sort by values of samples in the order of their labels
 pub ranked-sorted : (samples others : List Sample) → rises samples ≡ true → IsPermutation samples others → IsSortedBy is_greater others → IsStableBy is_greater samples others → IsStrictlySortedBy rank_cmp others
 unfolding IsStrictlySortedBy
 ranked-sorted samples [] up moved sorted stable = tt
@@ -215,12 +215,12 @@ sum_by-filter f p (sample ∷ samples) =
     ]
     ∙ sym (sum_by-cons (λ s. cond (p s) (f s) 0) sample samples)
 
--- what is kept of elements in another order adds up to the same
+-- what is kept of samples in another order has an equal sum
 sum_by-kept : (f : Sample → ℕ) (p : Sample → Bool) (samples others : List Sample) → IsPermutation samples others → sum_by f (filter p others) ≡ sum_by f (filter p samples)
 sum_by-kept f p samples others moved =
     sum_by-filter f p others ∙ sum_by-IsPermutation (λ s. cond (p s) (f s) 0) samples others moved ∙ sym (sum_by-filter f p samples)
 
--- the same elements are among the first
+-- in another order, the same samples are among the first
 same_first : (k : ℕ) (g : Grouping) (samples others : List Sample) → IsPermutation samples others → (sample : Sample) → is_among_first k g others sample ≡ is_among_first k g samples sample
 same_first k g samples others moved sample = ap (λ n. ltb n k) (sum_by-kept (λ o. cond (comes_before o sample) 1 0) (is_in g (group_of g sample.labels)) samples others moved)
 
@@ -233,7 +233,7 @@ find_other : (q : LabelSet) (samples : List Sample) → AllByRecursion (λ other
 find_other q [] h = refl
 find_other q (sample ∷ samples) h = ap (λ b. cond b (Some sample.value) (find label_set_cmp q (pairs samples))) h.0 ∙ find_other q samples h.1
 
--- where label sets differ, a sum over the elements with one of them is of one element
+-- where label sets differ, a sum over the samples with one of them is of one sample
 sum_found : (f : Fraction → ℕ) (q : LabelSet) (samples : List Sample) → IsDistinct ties_with (label_sets samples) → sum_by (λ s. cond (ties_with q s.labels) (f s.value) 0) samples ≡ number_of f (find label_set_cmp q (pairs samples))
 sum_found f q [] differ = refl
 sum_found f q (sample ∷ samples) differ =
@@ -258,7 +258,7 @@ elements_again : (samples : List Sample) → map element_of (pairs samples) ≡ 
 elements_again [] = refl
 elements_again (sample ∷ samples) = ap (λ rest. sample ∷ rest) (elements_again samples)
 
--- vectors whose label sets rise and of which each sum is the same are one
+-- vectors whose label sets rise and whose sums are all equal are one
 same_vector : (samples others : List Sample) → T (is_sorted label_set_cmp (pairs samples)) → T (is_sorted label_set_cmp (pairs others)) → IsDistinct ties_with (label_sets samples) → IsDistinct ties_with (label_sets others) → ((f : Sample → ℕ) → sum_by f samples ≡ sum_by f others) → samples ≡ others
 same_vector samples others up up_too differ differ_too sums =
     let found : (f : Fraction → ℕ) (q : LabelSet) → number_of f (find label_set_cmp q (pairs samples)) ≡ number_of f (find label_set_cmp q (pairs others)) = λ f q.

@@ -63,7 +63,7 @@ both_totals-one totals k v = same_totals _ _ (λ q.
     ] refl
     ∙ sym (get-insert label_set_cmp_total totals k (plus (total_at totals k) v) q))
 
--- what no element adds up to, merged
+-- what no line adds up to, merged
 merge-nothing : (found : Partial) → merge found (partial_of []) ≡ found
 merge-nothing found =
     let errors : found.errors + 0 ≡ found.errors = omega arith in
@@ -104,7 +104,7 @@ module _ (k : LabelSet) where
   abbrev by_error : Bool → Total → Partial → Partial
   by_error wrong v found = cond wrong (record { errors = found.errors + v.count; totals = found.totals }) (record { errors = found.errors; totals = added found.totals k v })
 
-  -- lines with the same labels, counted one after the other or at once
+  -- lines with equal labels, counted one after the other or at once
   pub with_run-more : (found : Partial) (v w : Total) → with_run k (plus v w) found ≡ with_run k w (with_run k v found)
   with_run-more found v w =
       let errors : found.errors + (v.count + w.count) ≡ found.errors + v.count + w.count = omega arith in
@@ -132,7 +132,7 @@ module _ (k : LabelSet) where
         let weighed : sum_by (λ e. cond (counts_for k e) e.bytes 0) (one ∷ []) ≡ bytes = omega (arith, sum_by-cons (λ e. cond (counts_for k e) e.bytes 0) one [], ap {B = ℕ} (λ b. cond b bytes 0) (counts_itself good)) in
         λ i. record { count = counted i; bytes = weighed i }
 
-    -- one element without an error is all that its totals have
+    -- one line without an error is all that its totals have
     totals_of-one : has_error k ≡ false → totals_of (one ∷ []) ≡ insert empty k one_total
     totals_of-one good = same_totals _ _ (λ q.
         get-totals_of (one ∷ []) q
@@ -148,7 +148,7 @@ module _ (k : LabelSet) where
     no_totals_of-one : has_error k ≡ true → totals_of (one ∷ []) ≡ empty
     no_totals_of-one bad = ap (λ b. from_entries (map (λ e. (e.labels, total_of (one ∷ []) e.labels)) (cond (not b) (one ∷ []) []))) bad
 
-    -- so one line more is one element more
+    -- so a run of one line is one more line of the partial
     pub with_run-one : (found : Partial) → with_run k one_total found ≡ merge found (partial_of (one ∷ []))
     with_run-one found =
         elim (has_error k) as (λ b. has_error k ≡ b → by_error b one_total found ≡ merge found (partial_of (one ∷ []))) [

@@ -1,4 +1,4 @@
--- What absent_over_time gives: where nothing is, 1 with the labels that the selector tells of it.
+-- What absent_over_time gives: where no line is, 1 with the labels that follow from the selector.
 use Rattle.std.specs.Prelude.{◌==◌, Bool, true, false, not, ◌&&◌, List, [], ◌∷◌, ℕ, map, if◌then◌else◌}
 use Rattle.std.specs.List.{filter, count_by}
 use Rattle.std.specs.FinMap.{len}
@@ -19,11 +19,11 @@ is_equality _ = false
 abbrev pub stands_once : List Matcher → (name : List ℕ) → Bool
 stands_once matchers name = count_by (λ matcher. is_text matcher.name name) matchers == 1
 
--- the matcher tells a label: it asks for a text that is not empty, and no other asks for that label
+-- a label follows from the matcher: it asks for a text that is not empty, and no other asks for that label
 abbrev pub tells_label : List Matcher → Matcher → Bool
 tells_label matchers matcher = is_equality matcher.op && (not (is_empty matcher.value) && stands_once matchers matcher.name)
 
--- the labels that the matchers of a selector tell
+-- the labels that follow from the matchers of a selector
 abbrev pub told_labels : List Matcher → LabelSet
 told_labels matchers = label_set_of (map (λ matcher. (matcher.name, matcher.value)) (filter (tells_label matchers) matchers))
 

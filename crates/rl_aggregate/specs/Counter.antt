@@ -1,4 +1,4 @@
--- Lines counted one by one behind the stages of several pipelines, so many at most.
+-- Lines counted one by one after the stages of several pipelines, up to a limit.
 use Rattle.std.specs.Prelude.{◌≤◌, ◌-◌, ◌==◌, ◌||◌, nat_lt, ℕ, Bool, true, List, map, length, if◌then◌else◌, refl}
 use Rattle.std.specs.Coded.{Coded, code_by, coded×, coded_bool, coded_list, coded_ℕ}
 use Rattle.std.specs.List.{AllByRecursion}

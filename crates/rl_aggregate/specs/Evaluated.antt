@@ -34,11 +34,11 @@ fraction functions.AbsentOverTime seconds total = one
 abbrev pub sample : RangeFunction → (seconds : ℕ) → LabelSet × Total → Sample
 sample function seconds entry = record { labels = entry.0; value = fraction function seconds entry.1 }
 
--- an element for each label set, in their order
+-- a sample for each label set, in their order
 abbrev pub samples : Term → TotalsMap → List Sample
 samples term totals = map (sample term.function term.range.seconds) (entries totals)
 
--- the elements that a range aggregation gives of totals
+-- the samples that a range aggregation gives of totals
 abbrev pub samples_by : RangeFunction → Term → TotalsMap → List Sample
 samples_by functions.AbsentOverTime term totals = absence term.range.selector.matchers totals
 samples_by _ term totals = samples term totals
@@ -70,7 +70,7 @@ query_vector query (partial ∷ partials) = tested_by query.test (over_vector qu
 abbrev pub have_errors : List Partial → Bool
 have_errors partials = list_any (λ partial. nat_lt 0 partial.errors) partials
 
--- absent_over_time of the elements of a range: an error in any line fails it; else it has its sample where there is no element, and none where there is one
+-- absent_over_time of the lines of a range: an error in any line fails it; else it has its sample where there is no line, and none where there is one
 abbrev pub absent_of : List Element → List Matcher → Outcome
 absent_of elements matchers =
     if nat_lt 0 (count_by (λ element. has_error element.labels) elements) then outcomes.Failed
@@ -95,6 +95,6 @@ IsEvaluated query partials outcome = (entries : List Entry) (t : ℕ) → partia
 abbrev pub IsAbsence : Query → Type 0
 IsAbsence query = (query.left.function ≡ functions.AbsentOverTime) × ((query.left.aggregations ≡ []) × ((query.over ≡ None) × (query.test ≡ None)))
 
--- of whichever entries the partials are, absent_over_time is that of the elements that they have in its range
+-- of whichever entries the partials are, absent_over_time is that of the lines that they have in its range
 abbrev pub IsAbsent : Query → List Partial → Outcome → Type 0
 IsAbsent query partials outcome = (entries : List Entry) (t : ℕ) → IsAbsence query → partials ≡ map (λ term. partial entries term t) (terms_of query) → outcome ≡ absent_of (in_range entries query.left t) query.left.range.selector.matchers

@@ -1,4 +1,4 @@
--- Vector aggregations: the elements of a vector in groups, and what they give of each. The values of a vector have one divisor.
+-- Vector aggregations: the samples of a vector in groups, and what they give of each. The values of a vector have one divisor.
 use Rattle.std.specs.Prelude.{ℕ, ◌==◌, nat_lt, min, max, Bool, false, not, List, [], ◌∷◌, length, map}
 use Rattle.std.specs.List.{filter, list_any, list_all, count_by, sum_by}
 use Rattle.std.specs.Ordering.{is_lt, nat_cmp, ordering_then}
@@ -17,21 +17,21 @@ use Rattle.rl_aggregate.specs.GroupsMap.{GroupsMap}
 use Rattle.rl_aggregate.specs.declared.outcome.Fraction.{Fraction}
 use Rattle.rl_aggregate.specs.declared.outcome.Sample.{Sample}
 
--- a label tells the group of its element
+-- a label decides the group of its sample
 abbrev pub tells_group : Grouping → (name : List ℕ) → Bool
 tells_group All name = false
 tells_group (By names) name = list_any (is_text name) names
 tells_group (Without names) name = not (list_any (is_text name) names)
 
--- the labels that all elements of a group have
+-- the labels that all samples of a group have
 abbrev pub group_of : Grouping → LabelSet → LabelSet
 group_of grouping labels = label_set_of (filter (λ pair. tells_group grouping pair.0) (labels_of labels))
 
--- an element is in the group with these labels
+-- a sample is in the group with these labels
 abbrev pub is_in : Grouping → LabelSet → Sample → Bool
 is_in grouping labels sample = label_set_eq labels (group_of grouping sample.labels)
 
--- the elements of a group
+-- the samples of a group
 abbrev pub part : Grouping → LabelSet → List Sample → List Sample
 part grouping labels samples = filter (is_in grouping labels) samples
 
@@ -54,7 +54,7 @@ abbrev pub greatest : List Sample → ℕ
 greatest [] = 0
 greatest (sample ∷ samples) = max sample.value.numerator (greatest samples)
 
--- what an operator gives of the elements of a group
+-- what an operator gives of the samples of a group
 abbrev pub group_value : VectorOperator → List Sample → Fraction
 group_value Sum samples = record { numerator = total samples; denominator = divisor samples }
 group_value Count samples = record { numerator = length samples; denominator = 1 }
@@ -66,19 +66,19 @@ group_value (Topk k) samples = record { numerator = greatest samples; denominato
 abbrev pub groups : VectorOperator → Grouping → List Sample → GroupsMap
 groups operator grouping samples = from_entries (map (λ sample. (group_of grouping sample.labels, group_value operator (part grouping (group_of grouping sample.labels) samples))) samples)
 
--- an element with these labels and this value
+-- a sample with these labels and this value
 abbrev pub element_of : LabelSet × Fraction → Sample
 element_of entry = record { labels = entry.0; value = entry.1 }
 
--- an element for each group, in the order of their labels
+-- a sample for each group, in the order of their labels
 abbrev pub grouped : VectorOperator → Grouping → List Sample → List Sample
 grouped operator grouping samples = map element_of (entries (groups operator grouping samples))
 
--- the order in which elements are taken: a greater value first, and of equal values a lesser label set
+-- the order of ranks: a greater value first, and of equal values a lesser label set
 abbrev pub rank_cmp : Sample → Sample → Ordering
 rank_cmp sample other = ordering_then (nat_cmp other.value.numerator sample.value.numerator) (label_set_cmp sample.labels other.labels)
 
--- an element comes before another
+-- a sample comes before another
 abbrev pub comes_before : Sample → Sample → Bool
 comes_before sample other = is_lt (rank_cmp sample other)
 
@@ -86,7 +86,7 @@ comes_before sample other = is_lt (rank_cmp sample other)
 abbrev pub sample_cmp : Sample → Sample → Ordering
 sample_cmp sample other = label_set_cmp sample.labels other.labels
 
--- fewer than so many elements of its group come before an element
+-- fewer than k samples of its group come before a sample
 abbrev pub is_among_first : (k : ℕ) → Grouping → List Sample → Sample → Bool
 is_among_first k grouping samples sample = nat_lt (count_by (λ other. comes_before other sample) (part grouping (group_of grouping sample.labels) samples)) k
 
@@ -111,7 +111,7 @@ rises samples = is_sorted label_set_cmp (map (λ sample. (sample.labels, sample.
 abbrev pub have_divisor : ℕ → List Sample → Bool
 have_divisor n samples = list_all (λ sample. sample.value.denominator == n) samples
 
--- the divisor behind an aggregation, and behind several
+-- the divisor after an aggregation, and after several
 abbrev pub divisor_after : VectorOperator → ℕ → ℕ
 divisor_after Count n = 1
 divisor_after _ n = n

@@ -1,4 +1,4 @@
--- The elements that the range of a term has at a moment.
+-- The lines that the range of a term has at a moment.
 use Rattle.std.specs.Prelude.{ℕ, ◌+◌, ◌*◌, nat_lt, nat_le, Bool, ◌&&◌, List, map, length, is_some}
 use Rattle.std.specs.Option.{unwrap_or}
 use Rattle.std.specs.List.{filter}
@@ -22,11 +22,11 @@ pub record Element : Type 0 where
   pub labels : LabelSet
   pub bytes : ℕ
 
--- of an entry whose line stays: the labels that the line has behind the stages
+-- of an entry whose line stays: the labels that the line has after the stages
 abbrev pub element : List Stage → Entry → Element
 element stages entry = record { labels = unwrap_or (run stages entry.line entry.labels) no_labels; bytes = length entry.line }
 
--- the line stays behind the stages
+-- the line stays after the stages
 abbrev pub stays : List Stage → Entry → Bool
 stays stages entry = is_some (run stages entry.line entry.labels)
 

@@ -1,4 +1,4 @@
--- What the elements of a range add up to, and how two such sums are merged.
+-- What the lines of a range add up to, and how two such sums are merged.
 use Rattle.std.specs.Prelude.{◌≡◌, ℕ, ◌+◌, ◌<◌, ◌^◌, Bool, not, ◌&&◌, List, map, ◌++◌, codes, if◌then◌else◌}
 use Rattle.std.specs.List.{filter, count_by, sum_by}
 use Rattle.std.specs.FinMap.{from_entries, keys}
@@ -15,15 +15,15 @@ use Rattle.rl_aggregate.specs.declared.partial.Partial.{Partial}
 abbrev pub has_error : LabelSet → Bool
 has_error labels = not (is_empty (value_of labels (codes "__error__")))
 
--- the element has these labels, and no error
+-- the line has these labels, and no error
 abbrev pub counts_for : LabelSet → Element → Bool
 counts_for labels element = label_set_eq labels element.labels && not (has_error element.labels)
 
--- how many elements have the labels, and the bytes of their lines
+-- how many lines have the labels, and their bytes
 abbrev pub total_of : List Element → LabelSet → Total
 total_of elements labels = record { count = count_by (counts_for labels) elements; bytes = sum_by (λ element. if counts_for labels element then element.bytes else 0) elements }
 
--- the total of each label set that an element without an error has
+-- the total of each label set that a line without an error has
 abbrev pub totals_of : List Element → TotalsMap
 totals_of elements = from_entries (map (λ element. (element.labels, total_of elements element.labels)) (filter (λ element. not (has_error element.labels)) elements))
 
@@ -41,7 +41,7 @@ both_totals a b = from_entries (map (λ labels. (labels, plus (total_at a labels
 abbrev pub merge : Partial → Partial → Partial
 merge a b = record { errors = a.errors + b.errors; totals = both_totals a.totals b.totals }
 
--- of whichever entries the first two are, the third is of the ones with the others behind them
+-- of whichever entries the first two are, the third is of the ones followed by the others
 abbrev pub IsOfBoth : Partial → Partial → Partial → Type 0
 IsOfBoth a b both = (first second : List Entry) (term : Term) (t : ℕ) → a ≡ partial first term t → b ≡ partial second term t → both ≡ partial (first ++ second) term t
 

@@ -1,4 +1,4 @@
--- What the lines of streams add up to behind the stages of one pipeline.
+-- What the lines of streams add up to after the stages of one pipeline.
 use Rattle.std.specs.Prelude.{◌≡◌, ◌≤◌, ℕ, ◌+◌, List, [], map, length, if◌then◌else◌, option_to_list, refl}
 use Rattle.std.specs.Coded.{Coded, code_by, coded×, coded_list, coded_ℕ}
 use Rattle.rl_labels.specs.LabelSet.{LabelSet}
@@ -13,11 +13,11 @@ use Rattle.rl_aggregate.specs.TotalsMap.{TotalsMap, added, totals_code}
 use Rattle.rl_aggregate.specs.declared.total.Total.{Total}
 use Rattle.rl_aggregate.specs.declared.partial.Partial.{Partial}
 
--- the streams and the window of two terms are the same
+-- two terms have the same streams and the same window
 abbrev pub IsAlike : Term → Term → Type 0
 IsAlike lead term = (term.range.seconds ≡ lead.range.seconds) × (term.range.selector ≡ lead.range.selector)
 
--- the stages of a pipeline, and what the lines that were counted add up to behind them
+-- the stages of a pipeline, and what the lines that were counted add up to after them
 pub record TallyView : Type 0 where
   pub running : List Stage
   pub found : Partial
@@ -34,7 +34,7 @@ tally_code =
 abbrev pub nothing_counted : List Stage → TallyView
 nothing_counted stages = record { running = stages; found = partial_of [] }
 
--- what a line counts as behind stages: nothing, or an element with the labels that it has there
+-- what a line counts as after stages: nothing, or one item with the labels that it has there
 abbrev pub elements_of : List Stage → LabelSet → List ℕ → List Element
 elements_of stages labels text = map (λ found. record { labels = found; bytes = length text }) (option_to_list (run stages text labels))
 
@@ -48,6 +48,6 @@ with_run labels total found =
     if has_error labels then record { errors = found.errors + total.count; totals = found.totals }
     else record { errors = found.errors; totals = added found.totals labels total }
 
--- what is a partial of so many lines can grow by so many more
+-- what is a partial of some lines has room for a given number more
 abbrev pub HasRoom : ℕ → Partial → Type 0
 HasRoom more found = (lines : ℕ) × (lines + more ≤ most_entries) × IsWithin lines found

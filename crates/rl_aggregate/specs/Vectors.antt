@@ -1,4 +1,4 @@
--- What vectors have in common: their elements are in the order of their label sets, and their values are within limits.
+-- What vectors have in common: their samples are in the order of their label sets, and their values are within limits.
 use Rattle.std.specs.Prelude.{◌≡◌, ℕ, ◌<◌, ◌≤◌, ◌^◌, true, List, [], ◌∷◌, length, ⊤}
 use Rattle.std.specs.List.{AllByRecursion}
 use Rattle.std.specs.declared.cmp.Ordering.TheVariants.{Less}
@@ -7,7 +7,7 @@ use Rattle.rl_query.specs.Limits.{longest_range}
 use Rattle.rl_aggregate.specs.Grouping.{total, rises, have_divisor}
 use Rattle.rl_aggregate.specs.declared.outcome.Sample.{Sample}
 
--- each element stands before the later ones by its label set
+-- each sample stands before the later ones by its label set
 abbrev pub AreInOrder : List Sample → Type 0
 AreInOrder [] = ⊤
 AreInOrder (sample ∷ samples) = AllByRecursion (λ other. label_set_cmp sample.labels other.labels ≡ Less) samples × AreInOrder samples

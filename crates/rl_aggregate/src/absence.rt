@@ -1,4 +1,4 @@
-//! What `absent_over_time` gives: where nothing is, 1 with the labels that the selector tells of it.
+//! What `absent_over_time` gives: where no line is, 1 with the labels that follow from the selector.
 ghost use Rattle.std.specs.Prelude.{◌≡◌, IfOk};
 ghost use Rattle.std.specs.FinMap as map;
 ghost use Rattle.rl_aggregate.specs.Absence.{absence, told_labels, tells_label, stands_once};
@@ -27,7 +27,7 @@ pub(crate) fn absence(
     Ok(samples)
 }
 
-// The labels that the matchers of a selector tell.
+// The labels that follow from the matchers of a selector.
 fn told_labels(alloc: Global, matchers: &[Matcher]) -> Result<Labels, AllocError>
     ensures { IfOk result (λ labels. labels ≡ told_labels matchers.now) }
 {

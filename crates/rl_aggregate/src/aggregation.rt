@@ -46,7 +46,7 @@ fn aggregate(
     }
 }
 
-// An element for each group, in the order of their labels.
+// A sample for each group, in the order of their labels.
 fn grouped(
     alloc: Global,
     operator: VectorOperator,

@@ -1,4 +1,4 @@
-//! Lines counted one by one, behind the stages of several pipelines.
+//! Lines counted one by one, after the stages of several pipelines.
 ghost use Rattle.std.specs.Prelude.{◌≡◌, ◌≤◌, ◌+◌, ℕ, false, map, length, IfOk, OnOk};
 ghost use Rattle.std.specs.List.{AllByRecursion};
 ghost use Rattle.rl_labels.specs.EntryParts.{longest_line};
@@ -15,7 +15,7 @@ use rl_pipeline::{Line, Meter, Pipeline};
 use std::alloc::{AllocError, Global};
 use std::marker::Model;
 
-/// Counts lines of streams one by one, behind the stages of several pipelines, so many at most. Lines that keep their labels
+/// Counts lines of streams one by one, after the stages of several pipelines, up to a limit. Lines that keep their labels
 /// are added together as long as they are of one stream.
 #[derive(Drop)]
 pub struct Counter<'a> {
@@ -75,7 +75,7 @@ impl<'a> Counter<'a> {
         self.is_over
     }
 
-    /// What each pipeline has counted. Whatever lines came, it is within what so many of them add up to.
+    /// What each pipeline has counted. Whatever lines came, it is within what `most` lines add up to.
     pub fn partials(self, alloc: Global) -> Result<Vec<Partial>, AllocError>
         ensures found { IfOk result (λ partials. partials.items ≡ map (λ tally. tally.found) self.entry.tallies) }
         ensures within { IfOk result (λ partials. AllByRecursion (IsWithin self.entry.most) partials.items) }

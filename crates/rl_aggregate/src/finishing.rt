@@ -1,4 +1,4 @@
-//! The outcome of a query, kept with what its terms added up to.
+//! A cache of the outcome of a query, with what its terms added up to.
 ghost use Rattle.std.specs.Prelude.{◌≡◌, length, true, IfOk, IfSome};
 ghost use Rattle.std.specs.List.{AllByRecursion};
 ghost use Rattle.rl_aggregate.specs.Evaluated.{finished, terms_of};
@@ -12,8 +12,8 @@ use rl_query::Query;
 use std::alloc::{AllocError, Global};
 use std::marker::Model;
 
-/// Finishes a query at one evaluation after the other. Where its terms add up to what they did the last time, the outcome is
-/// copied.
+/// A cache of outcomes: finishes a query at one evaluation after the other. Where its terms add up to what they did the last
+/// time, the outcome is copied.
 #[derive(Drop)]
 pub struct Finisher {
     last: Option<Finished>,
@@ -52,7 +52,7 @@ impl Finished {
 }
 
 impl Finisher {
-    /// One that finished no query.
+    /// An empty cache.
     pub fn new() -> Finisher {
         Finisher { last: None }
     }
@@ -113,7 +113,7 @@ fn kept(
     })
 }
 
-// Whether as many partials are the same, one by one.
+// Whether both lists have equal partials, one by one.
 fn are_same(partials: &[Shared<Partial>], others: &[Shared<Partial>]) -> bool
     ensures { result ≡ true → partials.now ≡ others.now }
 {

@@ -1,4 +1,4 @@
-//! The labels that all elements of a group of a vector have.
+//! The labels that all samples of a group of a vector have.
 ghost use Rattle.std.specs.Prelude.{◌≡◌, true, IfOk};
 ghost use Rattle.std.specs.List.{filter, list_any};
 ghost use Rattle.rl_labels.specs.LabelSet.{no_labels};
@@ -10,7 +10,7 @@ use rl_plain::{PlainText, TryCopy};
 use rl_query::Grouping;
 use std::alloc::{AllocError, Global};
 
-// The labels of the group that an element with these labels is in. They are shared with the group of another element
+// The labels of the group that a sample with these labels is in. They are shared with the group of another sample
 // where they are its labels too, and else a label set is built, from none.
 pub(crate) fn group_of(
     alloc: Global,
@@ -29,7 +29,7 @@ pub(crate) fn group_of(
     }
 }
 
-// Whether these are the labels of the group that an element with those labels is in. Takes no memory.
+// Whether these are the labels of the group that a sample with those labels is in. Takes no memory.
 fn are_of_group(
     grouping: &Grouping,
     group: &[(PlainText, PlainText)],
@@ -59,7 +59,7 @@ fn is_label(label: &(PlainText, PlainText), other: &(PlainText, PlainText)) -> b
     label.1.as_str() == other.1.as_str() && label.0.as_str() == other.0.as_str()
 }
 
-// The labels that tell the group, from the last to the first: each then goes to the front.
+// The labels that decide the group, from the last to the first: each then goes to the front.
 fn kept_labels(
     alloc: Global,
     grouping: &Grouping,
@@ -81,7 +81,7 @@ fn kept_labels(
     builder.build()
 }
 
-// Whether a label of this name tells the group of its element.
+// Whether a label of this name decides the group of its sample.
 fn tells_group(grouping: &Grouping, name: &str) -> bool
     ensures { result ≡ tells_group grouping.now name.now }
 {

@@ -46,7 +46,7 @@ impl Groups {
         self.by_labels.get(labels).copied()
     }
 
-    // How many elements are in the group with these labels, where the values count them.
+    // How many samples are in the group with these labels, where the values count them.
     pub(crate) fn count(&self, labels: &Labels) -> u128
         ensures { result ≡ numerator_at (map.get self.now labels.now) }
     {
@@ -56,7 +56,7 @@ impl Groups {
         }
     }
 
-    // One more element with this value in the group with these labels, behind the others.
+    // One more sample with this value in the group with these labels, after the others.
     pub(crate) fn add(
         &mut self,
         operator: VectorOperator,
@@ -75,7 +75,7 @@ impl Groups {
         Ok(())
     }
 
-    // An element for each group, in the order of their labels.
+    // A sample for each group, in the order of their labels.
     pub(crate) fn elements(&self, alloc: Global) -> Result<Vec<Sample>, AllocError>
         ensures { IfOk result (λ made. made.items ≡ map_list element_of (map.entries self.now)) }
     {
@@ -91,7 +91,7 @@ impl Groups {
     }
 }
 
-// The value of a group whose first element has this value.
+// The value of a group whose first sample has this value.
 fn first_value(operator: VectorOperator, value: Fraction) -> Fraction
     ensures { result ≡ first_value operator value }
 {
@@ -101,7 +101,7 @@ fn first_value(operator: VectorOperator, value: Fraction) -> Fraction
     }
 }
 
-// The value of a group with one more element of this value.
+// The value of a group with one more sample of this value.
 fn next_value(operator: VectorOperator, group: Fraction, value: Fraction) -> Fraction
     requires { (next_value operator group value).numerator < 2 ^ 128 }
     ensures { result ≡ next_value operator group value }

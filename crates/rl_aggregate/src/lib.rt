@@ -6,7 +6,7 @@
 //!
 //! - `total`, `totals`: counts and bytes, by label set. `partial`: `Partial`, `merge`. `counter`: `Counter`, by a `tally` for each term. `range`: `scratch`, and what is built of terms.
 //! - `aggregation`: what vector aggregations make of a vector, with `group_labels` and `groups`, and `topk`. `ratio` and `threshold`: ratios of vectors, and what is left of them.
-//! - `outcome`: `Outcome`, `Sample`, `Fraction`. `absence`: what `absent_over_time` gives. `vector`: `finish`. `finishing`: `Finisher`, which finishes again only what changed.
+//! - `outcome`: `Outcome`, `Sample`, `Fraction`. `absence`: what `absent_over_time` gives. `vector`: `finish`. `finishing`: `Finisher`, a cache of outcomes.
 #![tactic(auto)]
 
 pub mod absence;

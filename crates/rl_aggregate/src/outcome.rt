@@ -14,7 +14,7 @@ pub struct Fraction {
     pub denominator: u128,
 }
 
-/// An element of a vector.
+/// A sample of a vector.
 #[derive(Drop, PartialEq, Eq)]
 pub struct Sample {
     pub labels: Labels,
@@ -24,7 +24,7 @@ pub struct Sample {
 /// What a query gives at a moment.
 #[derive(Drop)]
 pub enum Outcome {
-    /// The elements, in the order of their label sets.
+    /// The samples, in the order of their label sets.
     Vector(PlainList<Sample>),
     /// A line had an error.
     Failed,

@@ -1,4 +1,4 @@
-//! What the elements of a range add up to, on one shard or on several.
+//! What the lines of a range add up to, on one shard or on several.
 ghost use Rattle.std.specs.Prelude.{◌≡◌, IfOk, IsOk};
 ghost use Rattle.std.specs.Bool.{Decides};
 ghost use Rattle.std.specs.FinMap as map;
@@ -10,17 +10,17 @@ use crate::totals::Totals;
 use rl_plain::{Same, TryCopy};
 use std::alloc::{AllocError, Global};
 
-/// What the elements of a term's range add up to.
+/// What the lines of a term's range add up to.
 #[derive(Drop)]
 pub struct Partial {
-    /// How many elements have an error.
+    /// How many lines have an error.
     pub errors: u64,
     /// The totals of the others, by label set.
     pub totals: Totals,
 }
 
 impl Partial {
-    /// What no element adds up to.
+    /// What no line adds up to.
     pub fn empty(alloc: Global) -> Self
         ensures { result ≡ record { errors = 0; totals = map.empty } }
     {
@@ -30,7 +30,7 @@ impl Partial {
         }
     }
 
-    /// Whether it is within the limits of one term: at most 2^30 lines and as many label sets, and less than 2^46 bytes.
+    /// Whether it is within the limits of one term: at most 2^30 lines and 2^30 label sets, and less than 2^46 bytes.
     pub fn is_limited(&self) -> bool
         ensures { Decides result (IsLimited self.now) }
     {

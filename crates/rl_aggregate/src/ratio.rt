@@ -8,7 +8,7 @@ use crate::outcome::{Fraction, Sample};
 use rl_labels::Labels;
 use std::alloc::{AllocError, Global};
 
-// Each element by the one with its labels, in one pass over both. An element without a partner, or whose partner is 0, is left out.
+// Each sample over the one with its labels, in one pass over both. A sample without a partner, or whose partner is 0, is left out.
 pub(crate) fn divide(
     alloc: Global,
     samples: Vec<Sample>,
@@ -47,7 +47,7 @@ fn not_before<'a>(labels: &Labels, divisors: &'a [Sample]) -> &'a [Sample]
     rest
 }
 
-// The value of the element by that of the first divisor, if this is its partner and not 0.
+// The value of the sample over that of the first divisor, if this is its partner and not 0.
 fn value_over(divisors: &[Sample], sample: &Sample) -> Option<Fraction>
     requires order { AreInOrder divisors.now }
     requires from { not_before sample.now.labels divisors.now ≡ divisors.now }

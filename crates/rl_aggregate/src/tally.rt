@@ -1,4 +1,4 @@
-//! What lines add up to behind the stages of one pipeline.
+//! What lines add up to after the stages of one pipeline.
 ghost use Rattle.std.specs.Prelude.{◌≡◌, ◌≤◌, ◌+◌, ◌<◌, ◌^◌, false, length, None, IfOk, OnOk, OnErr};
 ghost use Rattle.rl_labels.specs.EntryParts.{longest_line};
 ghost use Rattle.rl_aggregate.specs.Partials.{has_error, TotalFits};
@@ -25,7 +25,7 @@ pub(crate) struct Tally<'a> {
     waiting: Option<Run>,
 }
 
-// Lines with the same labels: how many, and their bytes.
+// Lines with equal labels: how many, and their bytes.
 #[derive(Drop)]
 pub(crate) struct Run {
     labels: Labels,

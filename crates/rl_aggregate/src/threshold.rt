@@ -8,7 +8,7 @@ use crate::outcome::{Fraction, Sample};
 use rl_pipeline::holds;
 use rl_query::{Comparison, Threshold};
 
-// The elements whose values pass the test, in place.
+// The samples whose values pass the test, without a new vector.
 pub(crate) fn compare(samples: Vec<Sample>, test: &Threshold) -> Vec<Sample>
     requires { AllByRecursion IsOfQuery samples.items }
     ensures { result.items ≡ tested test.now samples.items }
@@ -34,7 +34,7 @@ fn millionths(test: &Threshold) -> u128
     test.value.billionths() / 1_000
 }
 
-// Whether the comparison holds of a value and so many millionths, each multiplied by the other's divisor.
+// Whether the comparison holds of a value and a threshold in millionths, each multiplied by the other's divisor.
 fn passes(comparison: Comparison, threshold: u128, value: Fraction) -> bool
     requires threshold { threshold < 10 ^ 15 }
     requires value { (value.numerator < 2 ^ 68) × (value.denominator < 2 ^ 68) }

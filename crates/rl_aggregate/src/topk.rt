@@ -1,4 +1,4 @@
-//! The elements of a vector with the greatest values.
+//! The samples of a vector with the greatest values.
 ghost use Rattle.std.specs.Prelude.{◌≡◌, IfOk, OnOk, IsTrue};
 ghost use Rattle.std.specs.List.{filter};
 ghost use Rattle.std.specs.List.Sorted.{IsPermutation, IsSorted, IsStrictlySortedBy};
@@ -12,7 +12,7 @@ use rl_plain::TryCopy;
 use rl_query::{Grouping, VectorOperator};
 use std::alloc::{AllocError, Global};
 
-// So many elements of each group with the greatest values, in the order of their labels. Values are sorted, and label sets
+// The `k` samples of each group with the greatest values, in the order of their labels. Values are sorted, and label sets
 // only of what is kept.
 pub(crate) fn topk(
     alloc: Global,
@@ -29,7 +29,7 @@ pub(crate) fn topk(
     Ok(kept)
 }
 
-// The elements by their ranks. They are in the order of their labels, and elements with equal values stay so.
+// The samples by their ranks. They are in the order of their labels, and samples with equal values stay so.
 fn ranked(samples: Vec<Sample>) -> Result<Vec<Sample>, AllocError>
     requires { IsTrue (rises samples.items) }
     ensures moved { IfOk result (λ made. IsPermutation samples.items made.items) }
@@ -40,7 +40,7 @@ fn ranked(samples: Vec<Sample>) -> Result<Vec<Sample>, AllocError>
     Ok(samples)
 }
 
-// So many elements of each group that come first.
+// The first `k` samples of each group.
 fn first_of_each(
     alloc: Global,
     k: u16,
@@ -65,7 +65,7 @@ fn first_of_each(
     Ok(kept)
 }
 
-// Sorts the elements by their label sets.
+// Sorts the samples by their label sets.
 fn sort_by_labels(samples: &mut [Sample])
     ensures moved { IsPermutation samples.old samples.new }
     ensures in_order { IsSorted sample_cmp samples.new }

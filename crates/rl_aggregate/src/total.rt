@@ -1,10 +1,10 @@
-//! A number of elements, and the bytes of their lines.
+//! A number of lines, and their bytes.
 ghost use Rattle.std.specs.Prelude.{◌≡◌, IfOk, IsOk};
 
 use rl_plain::{Same, TryCopy};
 use std::alloc::AllocError;
 
-/// How many elements there are, and how many bytes their lines have.
+/// How many lines there are, and how many bytes they have.
 #[derive(Clone, Copy, PartialEq, Eq)]
 pub struct Total {
     pub count: u64,

@@ -82,7 +82,7 @@ impl Totals {
         add_shared(&mut self.by_labels, labels, total)
     }
 
-    // The same with a label set that is owned.
+    // Like `add`, with a label set that is owned.
     pub(crate) fn add_owned(&mut self, labels: Labels, total: Total) -> Result<(), AllocError>
         requires { TotalFits (plus (total_at self.old labels) total) }
         ensures ok { OnOk result (self.new ≡ added self.old labels total) }
@@ -117,7 +117,7 @@ impl Totals {
         Total { count, bytes }
     }
 
-    // An element of a vector for each label set, in their order.
+    // A sample for each label set, in their order.
     pub(crate) fn samples(&self, alloc: Global, term: &Term) -> Result<Vec<Sample>, AllocError>
         ensures { IfOk result (λ made. made.items ≡ samples term.now self.now) }
     {
@@ -185,7 +185,7 @@ fn add_known(
 }
 
 impl TryCopy for Totals {
-    /// Takes memory for the copy's places, and shares the label sets.
+    /// Takes memory for the copy's tree, and shares the label sets.
     fn try_copy(&self) -> Result<Self, AllocError> {
         let mut by_labels = BTreeMap::new(self.alloc);
         for (labels, total) in self.by_labels.iter() {

@@ -105,7 +105,7 @@ fn tested_by(test: &Option<Threshold>, samples: Vec<Sample>) -> Vec<Sample>
     }
 }
 
-// The elements that a range aggregation gives of totals.
+// The samples that a range aggregation gives of totals.
 fn samples_of(alloc: Global, term: &Term, totals: &Totals) -> Result<Vec<Sample>, AllocError>
     ensures { IfOk result (λ samples. samples.items ≡ samples_by term.now.function term.now totals.now) }
 {

@@ -1,4 +1,4 @@
--- What lines add up to that streams handed out once.
+-- What lines add up to that were visited once.
 use Rattle.std.proofs.Common.{◌≡◌, ◌≤◌, ◌<◌, leb, ltb, ℕ, ◌+◌, ◌-◌, ◌*◌, Bool, Bor, true, false, cond, not, ◌&&◌, ◌||◌, List, [], ◌∷◌, length, map, Err, refl, sym, ap, subst, ◌∙◌, arith}
 use Rattle.std.specs.Prelude.{◌==◌, min, nat_le, nat_lt}
 use Rattle.std.specs.List.{AllByRecursion, AllZip, filter, flat_map, fold}
@@ -79,7 +79,7 @@ module _ (requests : Bor RequestsView) (range t : ℕ) where
   abbrev pub is_counted : LabelSet × Line → Bool
   is_counted line = not (nat_lt t line.1.timestamp) && (not (nat_le range (t - line.1.timestamp)) && is_shown requests.now line)
 
-  -- the line is not reached within so long behind the moment, and if it was counted, it does not leave the window
+  -- the line is not reached within `lasts` nanoseconds after the moment, and if it was counted, it does not leave the window
   pub record Noticed (lasts : ℕ) (line : LabelSet × Line) : Type 0 where
     pub ahead : nat_lt t line.1.timestamp ≡ true → t + lasts < line.1.timestamp
     pub within : is_counted line ≡ true → lasts + (t - line.1.timestamp) < range
@@ -140,7 +140,7 @@ module _ (requests : Bor RequestsView) (range t : ℕ) where
         ] refl
       ] refl
 
-  -- so a window that ends so long behind the moment has the same lines
+  -- so a window that ends within `lasts` nanoseconds after the moment has the same lines
   module _ (lasts u : ℕ) (later : t ≤ u) (within : u ≤ t + lasts) where
     abbrev is_in : ℕ → Bool
     is_in ts = ltb u (ts + range) && leb ts u
@@ -206,7 +206,7 @@ abbrev tallies_line : TallyView → LabelSet × Line → TallyView
 tallies_line tally line = with_line line.0 line.1.text tally
 
 module _ (counter : CounterView) (line : LabelSet × Line) where
-  -- a counter behind a line that it may not count, and behind one that it may
+  -- a counter after a line that it may not count, and after one that it may
   abbrev behind : Bool → CounterView
   behind over = cond over (record { most = counter.most; left = counter.left; is_over = true; tallies = counter.tallies }) (record { most = counter.most; left = counter.left - 1; is_over = counter.is_over; tallies = map (with_line line.0 line.1.text) counter.tallies })
 
@@ -332,7 +332,7 @@ module _ (first : Term) (terms : List Term) (streams : StreamsView) (requests : 
           let fewer = ended.fewer in
           both_true (leb start ts) (leb ts to) (le-leb start ts (omega (arith, from, ltb-true u (ts + range) parts.0))) (le-leb ts to (omega (arith, leb-true ts u parts.1, within, fewer, short)))
 
-      -- of the window that ends then, what is shown and stays adds up to the same
+      -- of the window that ends then, what is shown and stays has an equal sum
       found_of : (term : Term) → IsAlike first term → partial_of (stayed term.range.stages order) ≡ partial (shown streams requests.now) term u
       found_of term alike =
           let stages = term.range.stages in
@@ -367,7 +367,7 @@ module _ (first : Term) (terms : List Term) (streams : StreamsView) (requests : 
     ended_told : Ends requests range t none.counter (to - t) all after
     ended_told = subst (Ends requests range t none.counter (to - t) all) (sym handed.told) (ends requests range t none.counter (to - t) all)
 
-    -- over any store as many lines may be counted as before
+    -- over any store the limit of lines that may be counted is as before
     pub most_is : after.counter.most ≡ streams.limits.entries
     most_is = ap (λ (counter : CounterView). counter.most) ended_told.counted ∙ most_stays none.counter (filter (is_counted requests range t) all)
 

@@ -1,4 +1,4 @@
--- What no step of today can show, since none sets the horizon: pushes below it and at it, by values worked out by hand.
+-- What no step of today can show, because none sets the horizon: pushes below it and at it, by values worked out by hand.
 use Rattle.std.specs.Prelude.{◌≡◌, ◌≤◌, ℕ, false, IsTrue, List, length, refl}
 use Rattle.std.specs.FinMap.{FinMap}
 use Rattle.rl_labels.specs.EntryOrder.{EntrySet}

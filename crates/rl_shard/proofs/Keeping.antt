@@ -40,7 +40,7 @@ zip_at R (a ∷ xs) [] i x y all within at there = absurd all
 zip_at R (a ∷ xs) (b ∷ ys) zero x y all within at there = subst (λ b. R x b) (sym there) (subst (λ a. R a b) (sym at) all.0)
 zip_at R (a ∷ xs) (b ∷ ys) (suc i) x y all within at there = zip_at R xs ys i x y all.1 (omega (arith, within)) at there
 
--- the range of the one at a place
+-- the range of the one at an index
 pub range_is : (kept : List KeptRange) (i : ℕ) (range : LogRange) (one : KeptRange) → option_map (λ (one : KeptRange). one.range) (slice_get kept i) ≡ Some range → one ≡ get_or kept i one → one.range ≡ range
 range_is [] i range one at is = absurd (none_is at)
   where

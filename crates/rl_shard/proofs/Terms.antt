@@ -28,7 +28,7 @@ all_append P (x ∷ xs) ys p q = (p.0, all_append P xs ys p.1 q)
 abbrev partial_by : List Entry → ℕ → LogRange → Partial
 partial_by entries t range = partial_of (map (element range.stages) (filter (λ e. (in_window range.seconds t e.timestamp && selects range.selector.matchers e.labels) && stays range.stages e) entries))
 
--- a term behind others: they read the same lines, and the first stays in front
+-- a term after others: they read the same lines, and the first stays in front
 pub alike_more : (lead : Term) {X : Type 0} (of : X → Term) (xs : List X) (x : X) → AllByRecursion (λ y. IsAlike lead (of y)) xs → IsAlike lead (of x) → AllByRecursion (λ y. IsAlike lead (of y)) (xs ++ x ∷ [])
 alike_more lead of xs x all one = all_append (λ y. IsAlike lead (of y)) xs (x ∷ []) all (one, tt)
 
@@ -39,7 +39,7 @@ first_stays f [] ys b is = absurd (none_is b is)
     none_is b h = cc
 first_stays f (x ∷ xs) ys b is = is
 
--- what is known of the place of a range
+-- what is known of the index of a range
 pub known_range : {X : Type 0} (of : X → LogRange) (known : List X) (i : ℕ) (range : LogRange) → option_map (λ (place : ℕ). option_map of (slice_get known place)) (Some i) ≡ option_map (λ (_ : ℕ). Some range) (Some i) → option_map of (slice_get known i) ≡ Some range
 known_range of known i range at = some_is (option_map of (slice_get known i)) (Some range) at
   where
@@ -64,7 +64,7 @@ module _ (requests : RequestsView) where
   pub none_of : (streams : StreamsView) (t : ℕ) → ArePartialsOf streams requests [] t []
   none_of streams t = record { each = refl; within = tt; read = tt; exact = λ _. refl }
 
-  -- those of more terms stand behind
+  -- those of more terms stand after them
   pub more_of : (streams : StreamsView) (terms others : List Term) (t : ℕ) (partials more : List Partial) → ArePartialsOf streams requests terms t partials → ArePartialsOf streams requests others t more → ArePartialsOf streams requests (terms ++ others) t (partials ++ more)
   more_of streams terms others t partials more p q = record {
     each = length-append partials more ∙ (λ i. p.each i + q.each i) ∙ sym (length-append terms others);
@@ -97,7 +97,7 @@ module _ (requests : RequestsView) where
     exact = λ honest. p.exact (look.seen.honest ∙ honest) ∙ ap (λ held. map (λ term. partial (uncovered (covered requests) (keys held)) term t) terms) look.held;
   }
 
-  -- the first, and those behind it
+  -- the first, and those after it
   pub split_of : (streams : StreamsView) (term : Term) (terms : List Term) (t : ℕ) (found : Partial) (partials : List Partial) → ArePartialsOf streams requests (term ∷ terms) t (found ∷ partials) → IsPartialOf streams requests term t found × ArePartialsOf streams requests terms t partials
   split_of streams term terms t found partials p = (
     record { within = p.within.0; read = p.read.0; exact = λ honest. head_is (p.exact honest) },
@@ -121,7 +121,7 @@ module _ (requests : RequestsView) where
     exact = λ honest. p.exact honest ∙ ap (partial_by (shown streams requests) t) same;
   }
 
-  -- the one at a place, by the range of the term there
+  -- the one at an index, by the range of the term there
   pub one_of : (streams : StreamsView) (terms : List Term) (t : ℕ) (partials : List Partial) (term known : Term) (i : ℕ) (found : Partial) → ArePartialsOf streams requests terms t partials
       → slice_get terms i ≡ Some known → known.range ≡ term.range → slice_get partials i ≡ Some found → IsPartialOf streams requests term t found
   one_of streams terms t partials term known i found p at same is = record {
@@ -173,7 +173,7 @@ module _ (requests : RequestsView) where
           tail_is : x ∷ xs ≡ map (λ one. partial (shown streams requests) one t) (one ∷ terms) → xs ≡ map (λ one. partial (shown streams requests) one t) terms
           tail_is h = cc
 
-  -- the partial at the place of a known term that has the range
+  -- the partial at the index of a known term that has the range
   pub known_at : {X : Type 0} (of : X → Term) (streams : StreamsView) (known : List X) (t : ℕ) (partials : List Partial) (term : Term) (i : ℕ) (found : Partial) → ArePartialsOf streams requests (map of known) t partials
       → option_map (λ one. (of one).range) (slice_get known i) ≡ Some term.range → slice_get partials i ≡ Some found → IsPartialOf streams requests term t found
   known_at of streams known t partials term i found are at is =

@@ -1,4 +1,4 @@
--- What streams hand out of a range of time, of a shorter one within it, and which windows have the same lines.
+-- What is visited of a range of time and of a shorter one within it, and which windows have the same lines.
 use Rattle.std.proofs.Common.{◌≡◌, ◌≤◌, ◌<◌, leb, ltb, ℕ, ◌+◌, ◌-◌, ◌*◌, Bool, true, false, cond, ◌&&◌, ◌⊎◌, List, [], ◌∷◌, ◌++◌, map, None, Some, refl, sym, ap, ◌∙◌, arith, ⊎_elim, inl, inr}
 use Rattle.std.specs.Option.{MatchOption}
 use Rattle.std.specs.Prelude.{MatchBool}
@@ -110,14 +110,14 @@ module _ (from to low high : ℕ) (above : from ≤ low) (below : high ≤ to) w
     | false ↦ λ none. ap (filter (is_between low high)) none
   ]
 
-  -- what streams handed out of a range, and what of it is of a shorter one
+  -- what was visited of a range, and what of it is of a shorter one
   pub narrow_rows : (selector : List Matcher) (rows : List Row) (lines : List (List (LabelSet × Line))) → AllZip (AreOfRow selector from to) rows lines → AllZip (AreOfRow selector low high) rows (map (filter (is_between low high)) lines)
   narrow_rows selector [] [] all = all
   narrow_rows selector [] (of_row ∷ lines) all = absurd all
   narrow_rows selector (row ∷ rows) [] all = absurd all
   narrow_rows selector (row ∷ rows) (of_row ∷ lines) all = (narrow_row selector row of_row all.0, narrow_rows selector rows lines all.1)
 
--- where the window of so many seconds begins that ends at a moment
+-- where a window begins, by its seconds and the moment at which it ends
 abbrev pub start_at : (seconds t : ℕ) → ℕ
 start_at seconds t = t + 1 - seconds * second
 

@@ -29,15 +29,15 @@ use Rattle.rl_shard.specs.declared.step.ShardFault.TheVariants as faults
 abbrev pub IsStartOf : ℕ → ℕ → ℕ → Type 0
 IsStartOf seconds t start = (timestamp : ℕ) → in_window seconds t timestamp ≡ (nat_le start timestamp && nat_le timestamp t)
 
--- what a line makes of a partial behind stages
+-- what a line makes of a partial after stages
 abbrev pub counting : List Stage → Partial → LabelSet × Line → Partial
 counting stages found line = merge found (partial_of (elements_of stages line.0 line.1.text))
 
--- the same, but for a line that a received request covers, which makes nothing of it
+-- what it makes of it under requests: one that a received request covers changes nothing
 abbrev pub counting_shown : RequestsView → List Stage → Partial → LabelSet × Line → Partial
 counting_shown requests stages found line = if covered_line requests line.0 line.1.timestamp line.1.text then found else counting stages found line
 
--- what the lines of a range add up to that streams hand out over any store: what is read of a part is told by bytes with its digest
+-- what the lines of a range add up to that are visited over any store: what is read of a part follows from bytes with its digest
 pub record IsRead (rows : List Row) (requests : RequestsView) (range : LogRange) (t : ℕ) (found : Partial) : Type 0 where
   pub start : ℕ
   pub starts : IsStartOf range.seconds t start
@@ -54,7 +54,7 @@ pub record ArePartialsOf (streams : StreamsView) (requests : RequestsView) (term
   pub read : AllZip (λ term found. IsRead streams.rows requests term.range t found) terms partials
   pub exact : streams.seen.honest ≡ true → partials ≡ map (λ term. partial (shown streams requests) term t) terms
 
--- the partial of a term: the same
+-- and the partial of one term
 pub record IsPartialOf (streams : StreamsView) (requests : RequestsView) (term : Term) (t : ℕ) (found : Partial) : Type 0 where
   pub within : IsWithin streams.limits.entries found
   pub read : IsRead streams.rows requests term.range t found

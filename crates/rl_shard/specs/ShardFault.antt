@@ -23,7 +23,7 @@ use Rattle.rl_shard.specs.declared.step.ShardReply.TheVariants as replies
 use Rattle.rl_shard.specs.declared.step.ShardFault.{ShardFault}
 use Rattle.rl_shard.specs.declared.step.ShardFault.TheVariants as faults
 
--- how a shard tells why streams were not read, or not written
+-- how a shard reports why streams were not read, or not written
 abbrev pub told_of_read : ReadFault → ShardFault
 told_of_read reads.Fault = faults.Fault
 told_of_read reads.Damaged = faults.Damaged
@@ -48,7 +48,7 @@ refused adding.Full = Ok replies.Full
 refused (adding.Read fault) = Err (told_of_read fault)
 
 -- whether a step may meet a fault: one that reads meets the store's and damage, one that writes meets the store's and that the
--- numbers are spent, one that removes entries does both, and each meets a full journal and want of memory
+-- numbers are spent, one that removes entries does both, and each meets a full journal and a lack of memory
 abbrev pub may_meet : ShardStep → ShardFault → Bool
 may_meet step faults.JournalFull = true
 may_meet step faults.Memory = true
@@ -96,7 +96,7 @@ IsWritten steps.Flush new = new.unwritten ≡ 0
 IsWritten step new = Unit {0}
 
 -- what is decided was done, over any store. A step that removes no entry leaves what stood in the store below the next number;
--- and what is left where entries are removed is told by bytes with the digests that were kept
+-- and what is left where entries are removed follows from bytes with the digests that were kept
 pub record IsDone (limits : Limits) (shard : ShardState) (step : ShardStep) (old new : StreamsView) : Type 0 where
   pub written : IsWritten step new
   pub left : MatchOption (removes limits shard step) (Grown old.seen old.next new.seen) (λ covers. AreLeftIn covers old.rows new.rows)

@@ -17,7 +17,7 @@ pub record ShardState : Type 0 where
   pub held : EntrySet
   -- the newest timestamp that each stream ever had, in nanoseconds
   pub newest : FinMap label_set_cmp ℕ
-  -- the delete requests, in whatever phase
+  -- the delete requests, in whatever status
   pub requests : RequestsView
   -- an entry below it is expired, in nanoseconds
   pub horizon : ℕ
@@ -46,7 +46,7 @@ pub record ShardView : Type 0 where
   pub horizon : ℕ
   pub records : ℕ
 
--- what streams hold, under requests and behind a horizon
+-- what streams hold, under requests and a horizon
 abbrev pub state_of : StreamsView → RequestsView → ℕ → ShardState
 state_of streams requests horizon = record { held = streams.held; newest = streams.newest; requests = requests; horizon = horizon }
 

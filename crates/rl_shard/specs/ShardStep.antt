@@ -98,11 +98,11 @@ pub record IsDeleteReply (requests : RequestsView) (id : ℕ) (request : Request
   pub is : IsReceiveFault requests id request fault
   pub told : reply ≡ told_of_receive fault
 
--- the requests behind a delete: one more where its number is new and there is room
+-- the requests after a delete: one more where its number is new and there is room
 abbrev pub deleted : RequestsView → ℕ → Request → RequestsView
 deleted requests id request = if nat_le most_requests (len requests.requests) then requests else received requests id request
 
--- the requests behind a process that is refused so, or is not
+-- the requests after a process that is refused so, or is not
 abbrev pub processed_if : Option ProcessFault → RequestsView → ℕ → RequestsView
 processed_if None requests id = processed requests id
 processed_if (Some fault) requests id = requests
@@ -127,14 +127,14 @@ abbrev pub left_of : Option (Entry → Bool) → EntrySet → EntrySet
 left_of None held = held
 left_of (Some covers) held = without covers held
 
--- the requests behind a step
+-- the requests after a step
 abbrev pub requests_after : ShardState → ShardStep → RequestsView
 requests_after shard (steps.Delete id sieve start end created) = deleted shard.requests id (asked sieve start end created)
 requests_after shard (steps.Cancel id) = cancelled shard.requests id
 requests_after shard (steps.Process id now) = processed_if (process_fault shard.requests id now) shard.requests id
 requests_after shard step = shard.requests
 
--- the horizon behind a step
+-- the horizon after a step
 abbrev pub horizon_after : Limits → ShardState → ShardStep → ℕ
 horizon_after limits shard (steps.Retain now) = advanced limits.keep shard.horizon now
 horizon_after limits shard step = shard.horizon
@@ -157,7 +157,7 @@ abbrev pub stepped : Limits → ShardState → ShardStep → ShardState
 stepped limits shard (steps.Push entry) = pushed limits shard entry
 stepped limits shard step = record { held = left_of (removes limits shard step) shard.held; newest = shard.newest; requests = requests_after shard step; horizon = horizon_after limits shard step }
 
--- the journal has as many records as it may have
+-- the journal has reached its limit of records
 abbrev pub is_journal_full : Journalled → Bool
 is_journal_full shard = nat_le shard.limits.records shard.records
 
@@ -171,7 +171,7 @@ IsTaken old entry replies.Accepted new = (new ≡ old) ⊎ (new ≡ with_entry o
 IsTaken old entry replies.Full new = new ≡ old
 IsTaken old entry other new = ⊥
 
--- one partial for each of so many terms, within what so many entries add up to
+-- one partial for each of that many terms, within what that many entries add up to
 pub record AreWithin (entries terms : ℕ) (partials : List Partial) : Type 0 where
   pub each : length partials ≡ terms
   pub within : AllByRecursion (IsWithin entries) partials

@@ -10,7 +10,7 @@ use Rattle.rl_shard.specs.Collecting.{IsPartialOf}
 use Rattle.rl_shard.specs.declared.kept.KeptRange.{KeptRange}
 use Rattle.rl_shard.specs.declared.kept.KeptRanges.{KeptRanges}
 
--- a term with the range has this partial from a moment on, until so many nanoseconds behind it
+-- a term with the range has this partial at a moment, and for `lasts` nanoseconds after it
 pub record StandsFor (streams : StreamsView) (requests : RequestsView) (range : LogRange) (first lasts : ℕ) (found : Partial) : Type 0 where
   pub at : (term : Term) (t : ℕ) → term.range ≡ range → first ≤ t → t ≤ first + lasts → IsPartialOf streams requests term t found
 

@@ -26,10 +26,10 @@ use std::alloc::{AllocError, Global};
 // A second, in nanoseconds.
 const SECOND: u64 = 1_000_000_000;
 
-// So many terms go through the lines together, so that what all of them add up stays near.
+// The most terms that go through the lines together, so that what all of them add up stays near.
 const MOST_TOGETHER: usize = 8;
 
-// What ranges add up to at a moment, and for so many nanoseconds behind it.
+// What ranges add up to at a moment, and for `lasts` nanoseconds after it.
 #[derive(Drop)]
 struct Counted {
     partials: Vec<Partial>,
@@ -62,7 +62,7 @@ pub(crate) fn collect<S: Store>(
     Ok(PlainList::from_vec(partials))
 }
 
-// What the entries in the term's range add up to. Where none is kept, it is added up together with those of the terms behind
+// What the entries in the term's range add up to. Where none is kept, it is added up together with those of the later terms
 // that read the same lines, and all of them are kept.
 fn next_partial<S: Store>(
     alloc: Global,
@@ -90,7 +90,7 @@ fn next_partial<S: Store>(
     Ok(partials[0].try_copy()?)
 }
 
-// Keeps what the ranges of terms add up to at a moment and so long behind it.
+// Keeps what the ranges of terms add up to at a moment and for `lasts` nanoseconds after it.
 fn keep_all(
     kept: &mut KeptRanges,
     terms: &[&Term],
@@ -107,8 +107,8 @@ fn keep_all(
     Ok(())
 }
 
-// What the entries in the ranges of terms add up to at a moment, which read the same lines as the first of them, and for how
-// long behind it.
+// What the entries in the ranges of terms add up to at a moment, and for how long after it. The terms read the same lines as
+// the first of them.
 fn add_up<S: Store>(
     alloc: Global,
     streams: &mut Streams<S>,
@@ -166,7 +166,7 @@ fn start_of(seconds: u64, t: Ns) -> Ns
     }
 }
 
-// A term, and some behind it that read the same lines; each range once.
+// A term, and some later ones that read the same lines; each range once.
 fn alike<'a>(alloc: Global, term: &'a Term, behind: &'a [Term]) -> Result<Vec<&'a Term>, AllocError>
     ensures alike { IfOk result (λ terms. AllByRecursion (λ other. IsAlike term.now other.now) terms.items) }
     ensures first { IfOk result (λ terms. option_map (λ one. one.now.range) (slice_get terms.items 0) ≡ Some term.now.range) }

@@ -21,8 +21,8 @@ use rl_plain::Shared;
 use rl_streams::{AddRefusal, Streams};
 use std::alloc::Global;
 
-// Decides a step over streams, under requests and behind a horizon. A step that may change what is shown makes that what is kept
-// of ranges no longer stands.
+// Decides a step over streams, under requests and a horizon. After a step that may change what is shown, what is kept of ranges
+// no longer stands.
 pub(crate) fn decide<S: Store>(
     alloc: Global,
     streams: &mut Streams<S>,

@@ -13,10 +13,10 @@ use rl_plain::{Same, Shared, TryCopy};
 use rl_query::{LogRange, Term};
 use std::alloc::{AllocError, Global};
 
-// So many are kept at most.
+// The most ranges that are kept.
 const MOST: usize = 1_024;
 
-// What a range adds up to at a moment, and for so many nanoseconds behind it, as long as its turn lasts.
+// What a range adds up to at a moment, and for `lasts` nanoseconds after it, until its turn ends.
 #[derive(Drop)]
 pub(crate) struct KeptRange {
     range: LogRange,
@@ -31,7 +31,7 @@ pub(crate) struct KeptRange {
 pub(crate) struct KeptRanges {
     kept: Vec<KeptRange>,
     turn: u64,
-    // Where one is sought first, since rules ask in turn.
+    // Where one is sought first, because rules ask in turn.
     next: usize,
     // The newest moment of a line that was pushed.
     newest: Ns,
@@ -69,7 +69,7 @@ impl KeptRanges {
         }
     }
 
-    // The same before a line of the moment is pushed.
+    // Begins another turn before a line of the moment is pushed.
     pub(crate) fn push(&mut self, timestamp: Ns)
         ensures { (streams others : StreamsView) (requests more : RequestsView) → AreKept streams requests self.old → AreKept others more self.new }
     {
@@ -79,7 +79,7 @@ impl KeptRanges {
         self.forget();
     }
 
-    // How far lines are read for a window that ends at the moment: where none was pushed behind it, those that come later are
+    // How far lines are read for a window that ends at the moment: where no later line was pushed, those that come later are
     // to be noticed.
     pub(crate) fn reach(&self, t: Ns) -> Ns
         ensures { t ≤ result }
@@ -114,8 +114,8 @@ impl KeptRanges {
         Ok(Some(partial))
     }
 
-    // Keeps what a range adds up to at a moment and so long behind it, in the place of what was kept of it. Where so many are
-    // kept already, these go.
+    // Keeps what a range adds up to at a moment and for `lasts` nanoseconds after it, instead of what was kept of it. Where
+    // `MOST` are kept already, these go.
     pub(crate) fn keep(
         &mut self,
         range: &LogRange,
@@ -150,7 +150,7 @@ impl KeptRanges {
     }
 }
 
-// Where the range is, if it is kept: at the place that is sought first, or elsewhere.
+// The index of the range, if it is kept: the one that is sought first, or another.
 fn place_of(kept: &[KeptRange], first: usize, range: &LogRange) -> Option<usize>
     ensures { option_map (λ place. option_map (λ one. one.range) (slice_get kept.now place)) result ≡ option_map (λ _. Some range.now) result }
 {

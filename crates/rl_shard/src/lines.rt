@@ -1,4 +1,4 @@
-//! What counts the lines that streams hand out.
+//! A visitor that counts the lines of streams.
 ghost use Rattle.std.specs.Prelude.{◌-◌, if◌then◌else◌, min, nat_le, nat_lt};
 ghost use Rattle.rl_aggregate.specs.Counter.{counted_line};
 ghost use Rattle.rl_deletes.specs.Deletes.{covered_line};
@@ -9,8 +9,8 @@ use rl_labels::{Labels, Ns};
 use rl_parts::Taker;
 use std::alloc::AllocError;
 
-// Counts each line that it is handed of the window of so many nanoseconds that ends at a moment, but for those that a received
-// request covers. The windows that end at most so long behind the moment have the same lines of all that were handed out.
+// Counts each visited line of the window of `range` nanoseconds that ends at `t`, but for those that a received request covers.
+// The windows that end at most `lasts` nanoseconds after `t` have the same visited lines.
 #[derive(Drop)]
 pub(crate) struct Lines<'a, 'b> {
     pub(crate) counter: Counter<'a>,

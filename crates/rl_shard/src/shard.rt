@@ -77,7 +77,7 @@ impl<S: Store> Shard<S> {
         self.records
     }
 
-    /// Whether the journal has as many records as it may have.
+    /// Whether the journal has reached its limit of records.
     pub fn is_journal_full(&self) -> bool
         ensures { result ≡ is_journal_full (journalled self.now) }
     {
@@ -99,7 +99,7 @@ impl<S: Store> Shard<S> {
         ensures record { OnOk result (((journalled self.new).limits ≡ (journalled self.old).limits) × ((journalled self.new).records ≡ (journalled self.old).records + 1)) }
         ensures answered { IfOk result (λ answer. IsAnswered (journalled self.old).limits (journalled self.old).state step answer.1 (journalled self.new).state) }
         ensures done { OnOk result (IsDone (journalled self.old).limits (journalled self.old).state step self.old.streams self.new.streams) }
-        // What is read of a chunk is told by bytes with the digest that was kept.
+        // What is read of a chunk follows from bytes with the digest that was kept.
         ensures read { IfOk result (λ answer. AreRead self.old.streams self.old.requests step answer.1) }
         // Over an honest store.
         ensures decided { IsHonest self.old → IfOk result (λ answer. IsReply (journalled self.old).limits (journalled self.old).state step answer.1) }

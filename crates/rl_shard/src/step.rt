@@ -66,11 +66,11 @@ pub enum ShardReply {
     Expired { horizon: Ns },
     /// The entry is older than the newest of its stream by more than half of the age of a chunk.
     TooFarBehind { newest: Ns },
-    /// The shard holds as many entries as it may.
+    /// The shard has reached its limit of entries.
     Full,
     /// The number is that of another request, or of one that was cancelled or processed.
     IdTaken,
-    /// The shard has as many requests as it may.
+    /// The shard has reached its limit of requests.
     RequestsFull,
     /// No request has the number.
     NoSuchRequest,

@@ -1,4 +1,4 @@
--- What absent_over_time gives of totals is what it gives of the elements that they are of.
+-- What absent_over_time gives of totals is what it gives of the lines that they are of.
 use Rattle.std.specs.Prelude.{◌≡◌, ℕ, zero, suc, ◌+◌, ◌==◌, nat_lt, true, false, cond, ◌||◌, List, [], ◌∷◌, length, Some, None, refl}
 use Rattle.std.specs.List.{count_by, list_any}
 use Rattle.std.specs.FinMap.{get, len, empty, empty_of_len, get-empty, len-empty}
@@ -20,11 +20,11 @@ use Rattle.rl_aggregate.specs.laws.Totals.{same_totals, get-totals_of}
 use Rattle.rl_aggregate.specs.declared.total.Total.{Total}
 use Rattle.rl_aggregate.specs.declared.outcome.Outcome.TheVariants as outcomes
 
--- no element has a total
+-- without lines there are no totals
 no_totals : totals_of [] ≡ empty {X = Total} {R = label_set_cmp}
 no_totals = same_totals (totals_of []) empty (λ q. get-totals_of [] q ∙ sym (get-empty label_set_cmp q))
 
--- where an element has no error there are totals
+-- where a line has no error there are totals
 some_total : (e : Element) (es : List Element) → has_error e.labels ≡ false → len (totals_of (e ∷ es)) ≡ 0 → ⊥
 some_total e es good none =
     let counts : counts_for e.labels e ≡ true = rw (label_set_eq_itself e.labels, good) refl in
@@ -35,7 +35,7 @@ some_total e es good none =
 more : (n : ℕ) → (suc n == 0) ≡ false
 more n = grind (arith, nat_tests)
 
--- without an error there are totals exactly where there are elements
+-- without an error there are totals exactly where there are lines
 pub len-totals_of : (es : List Element) → count_by (λ e. has_error e.labels) es ≡ 0 → (len (totals_of es) == 0) ≡ (length es == 0)
 len-totals_of [] good = ap (λ m. len m == 0) no_totals ∙ ap (λ n. n == 0) (len-empty label_set_cmp Total)
 len-totals_of (e ∷ es) good = counted (len (totals_of (e ∷ es))) refl ∙ sym (more (length es))
@@ -50,7 +50,7 @@ len-totals_of (e ∷ es) good = counted (len (totals_of (e ∷ es))) refl ∙ sy
     counted zero is = absurd (some_total e es own is)
     counted (suc n) is = more n
 
--- so an absence of totals is one of elements
+-- so an absence of totals is one of lines
 pub absent-elements : (term : Term) (entries : List Entry) (t : ℕ) → term.function ≡ functions.AbsentOverTime → range_value term (partial entries term t) ≡ absent_of (in_range entries term t) term.range.selector.matchers
 absent-elements term entries t is =
     let es = in_range entries term t in

@@ -1,5 +1,5 @@
 -- Bounds that vectors of terms stay within: those of the totals of a term, those of a vector that is aggregated, and those of
--- ratios. The elements of a vector whose label sets rise are in order.
+-- ratios. The samples of a vector whose label sets rise are in order.
 use Rattle.std.specs.Prelude.{◌≡◌, ℕ, ◌+◌, ◌-◌, ◌*◌, ◌<◌, ◌≤◌, ◌==◌, ◌^◌, true, false, cond, ◌&&◌, List, [], ◌∷◌, ◌++◌, length, map, Some, None, option_to_list, option_map, option_and_then, refl}
 use Rattle.std.specs.List.{AllByRecursion, sum_by}
 use Rattle.std.specs.Ordering.{is_lt}
@@ -37,7 +37,7 @@ use Rattle.rl_aggregate.specs.declared.outcome.Fraction.{Fraction}
 use Rattle.rl_aggregate.specs.declared.outcome.Sample.{Sample}
 use Rattle.rl_aggregate.specs.declared.partial.Partial.{Partial}
 
--- THE ORDER OF ELEMENTS
+-- THE ORDER OF SAMPLES
 
 less : (o : Ordering) → is_lt o ≡ true → o ≡ Less
 less Less h = refl
@@ -52,7 +52,7 @@ behind_below labels (s ∷ ss) below =
       behind_below labels ss parts.1,
     )
 
--- elements whose label sets rise are in order
+-- samples whose label sets rise are in order
 pub order-rises : (samples : List Sample) → rises samples ≡ true → AreInOrder samples
 order-rises [] up = tt
 order-rises (s ∷ ss) up =
@@ -63,7 +63,7 @@ order-rises (s ∷ ss) up =
 
 -- VECTORS OF ONE TERM
 
--- an element for each entry
+-- a sample for each entry
 abbrev vector : (Total → Fraction) → List (LabelSet × Total) → List Sample
 vector made es = map (λ e. record { labels = e.0; value = made e.1 }) es
 
@@ -71,7 +71,7 @@ below_made : (made : Total → Fraction) (labels : LabelSet) (es : List (LabelSe
 below_made made labels [] = refl
 below_made made labels (e ∷ es) = ap (λ b. is_lt (label_set_cmp labels e.0) && b) (below_made made labels es)
 
--- elements of entries rise where the entries do
+-- samples of entries rise where the entries do
 rises-made : (made : Total → Fraction) (es : List (LabelSet × Total)) → rises (vector made es) ≡ is_sorted label_set_cmp es
 rises-made made [] = refl
 rises-made made (e ∷ es) = λ i. below_made made e.0 es i && rises-made made es i
@@ -111,7 +111,7 @@ divisor-short BytesOverTime seconds short = omega arith
 divisor-short BytesRate seconds short = short
 divisor-short AbsentOverTime seconds short = omega arith
 
--- numerators of a term add up to lines, bytes or elements
+-- numerators of a term add up to lines, bytes or samples
 numerators-small : (function : RangeFunction) (seconds : ℕ) (partial : Partial) → IsLimited partial → sum_by (λ e. (fraction function seconds e.1).numerator) (entries partial.totals) < 2 ^ 46
 numerators-small CountOverTime seconds partial limited = omega (arith, limited.counts)
 numerators-small Rate seconds partial limited = omega (arith, limited.counts)
@@ -172,7 +172,7 @@ of_one_term-aggregated_by n aggregations samples are = record {
   sum = omega (arith, total-aggregated_by (2 ^ 46 - 1) aggregations samples (omega (arith, are.sum)) (omega (arith, are.elements)));
 }
 
--- and so is each of its elements
+-- and so is each of its samples
 each_within : (n : ℕ) (samples : List Sample) → n ≤ longest_range → have_divisor n samples ≡ true → total samples < 2 ^ 46 → AllByRecursion IsOfOneTerm samples
 each_within n [] short divisors small = tt
 each_within n (s ∷ ss) short divisors small =

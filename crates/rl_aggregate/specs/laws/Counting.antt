@@ -32,7 +32,7 @@ stayed-cons stages e es =
       | Some behind ↦ λ is. λ i. record { labels = unwrap_or (sym is i) no_labels; bytes = length e.line } ∷ stayed stages es
     ] refl
 
--- a tally of some elements, and the lines of entries more
+-- a tally of some lines, and then of those of entries
 counted_behind : (stages : List Stage) (elements : List Element) (entries : List Entry) → fold with_entry (record { running = stages; found = partial_of elements }) entries ≡ record { running = stages; found = partial_of (elements ++ stayed stages entries) }
 counted_behind stages elements [] = λ i. record { running = stages; found = partial_of (sym (append-nil elements) i) }
 counted_behind stages elements (e ∷ es) =
@@ -53,7 +53,7 @@ filter-both p q (x ∷ xs) = elim (p x) as (λ b. filter q (cond b (x ∷ filter
   | false ↦ filter-both p q xs
 ]
 
--- the same test again changes nothing
+-- a test that is made once more changes nothing
 filter-again : {X : Type 0} (p q : X → Bool) (xs : List X) → filter (λ x. p x && q x) (filter p xs) ≡ filter (λ x. p x && q x) xs
 filter-again p q [] = refl
 filter-again p q (x ∷ xs) =

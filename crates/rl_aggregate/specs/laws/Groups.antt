@@ -1,4 +1,4 @@
--- Vector aggregations: what one more element makes of groups, and what vectors of them keep: the order of their label sets,
+-- Vector aggregations: what one more sample makes of groups, and what vectors of them keep: the order of their label sets,
 -- their divisor, and the bounds of their length and of the sum of their numerators.
 use Rattle.std.specs.Prelude.{◌≡◌, ℕ, ◌+◌, ◌≤◌, ◌==◌, min, max, Bool, true, false, cond, not, ◌||◌, List, [], ◌∷◌, ◌++◌, map, length, Option, None, Some, is_some, refl}
 use Rattle.std.specs.List.{filter, list_any}
@@ -41,7 +41,7 @@ nothing (e ∷ es) none = absurd (omega arith)
 no_entries : entries (empty {X = Fraction} {R = label_set_cmp}) ≡ []
 no_entries = nothing _ (sym (len-entries empty) ∙ len-empty label_set_cmp Fraction)
 
--- ONE MORE ELEMENT
+-- ONE MORE SAMPLE
 
 -- a value for each of some label sets
 find_keyed : (f : LabelSet → Fraction) (g : Grouping) (q : LabelSet) (samples : List Sample) → find label_set_cmp q (map (λ sample. (group_of g sample.labels, f (group_of g sample.labels))) samples) ≡ cond (list_any (is_in g q) samples) (Some (f q)) None
@@ -55,11 +55,11 @@ find_keyed f g q (sample ∷ samples) =
       | false ↦ λ _. rest
     ] refl
 
--- a group is there where an element is in it, and has the value of its part
+-- a group is there where a sample is in it, and has the value of its part
 pub get-groups : (operator : VectorOperator) (g : Grouping) (samples : List Sample) (q : LabelSet) → get (groups operator g samples) q ≡ cond (list_any (is_in g q) samples) (Some (group_value operator (part g q samples))) None
 get-groups operator g samples q = get-from_entries label_set_cmp_total _ q ∙ find_keyed (λ k. group_value operator (part g k samples)) g q samples
 
--- the value of a group with its first element
+-- the value of a group with its first sample
 group_value-first : (operator : VectorOperator) (sample : Sample) → group_value operator (sample ∷ []) ≡ first_value operator sample.value
 group_value-first Sum sample =
     let sum : total (sample ∷ []) ≡ sample.value.numerator = omega (arith, sum_by-cons (λ s. s.value.numerator) sample []) in
@@ -81,7 +81,7 @@ greatest-push : (samples : List Sample) (other : Sample) → greatest (samples +
 greatest-push [] other = omega arith
 greatest-push (sample ∷ samples) other = omega (arith, greatest-push samples other)
 
--- and with one more behind others
+-- and with one more after others
 group_value-push : (operator : VectorOperator) (sample : Sample) (samples : List Sample) (other : Sample) → group_value operator ((sample ∷ samples) ++ other ∷ []) ≡ next_value operator (group_value operator (sample ∷ samples)) other.value
 group_value-push Sum sample samples other = λ i. record { numerator = sum_by_push (λ s. s.value.numerator) (sample ∷ samples) other i; denominator = sample.value.denominator }
 group_value-push Count sample samples other =
@@ -91,7 +91,7 @@ group_value-push Min sample samples other = λ i. record { numerator = least-pus
 group_value-push Max sample samples other = λ i. record { numerator = greatest-push (sample ∷ samples) other i; denominator = sample.value.denominator }
 group_value-push (Topk k) sample samples other = λ i. record { numerator = greatest-push (sample ∷ samples) other i; denominator = sample.value.denominator }
 
--- a group is there where its part has an element
+-- a group is there where its part has a sample
 group_value-with : (operator : VectorOperator) (g : Grouping) (q : LabelSet) (samples : List Sample) (other : Sample) → group_value operator (part g q samples ++ other ∷ []) ≡ with_value operator (cond (list_any (is_in g q) samples) (Some (group_value operator (part g q samples))) None) other.value
 group_value-with operator g q samples other = by_part (part g q samples) (list_any (is_in g q) samples) (any_part samples)
   where
@@ -103,7 +103,7 @@ group_value-with operator g q samples other = by_part (part g q samples) (list_a
     by_part [] b is = group_value-first operator other ∙ ap (λ b. with_value operator (cond b (Some (group_value operator [])) None) other.value) (sym is)
     by_part (sample ∷ elements) b is = group_value-push operator sample elements other ∙ ap (λ b. with_value operator (cond b (Some (group_value operator (sample ∷ elements))) None) other.value) (sym is)
 
--- one more element changes the value of its group
+-- one more sample changes the value of its group
 pub groups-push : (operator : VectorOperator) (g : Grouping) (samples : List Sample) (other : Sample) → groups operator g (samples ++ other ∷ []) ≡ insert (groups operator g samples) (group_of g other.labels) (with_value operator (get (groups operator g samples) (group_of g other.labels)) other.value)
 groups-push operator g samples other = same_map label_set_cmp_total label_set_cmp-IsAntisymmetric _ _ (λ q.
     let before = groups operator g samples in
@@ -130,7 +130,7 @@ groups-push operator g samples other = same_map label_set_cmp_total label_set_cm
     or_false true = refl
     or_false false = refl
 
--- what holds of no groups and stays with one more element holds of the groups of any
+-- what holds of no groups and stays with one more sample holds of the groups of any
 groups_hold : (operator : VectorOperator) (g : Grouping) (P : List Sample → GroupsMap → Type 0) → P [] empty → ((done : List Sample) (other : Sample) (m : GroupsMap) → P done m → P (done ++ other ∷ []) (insert m (group_of g other.labels) (with_value operator (get m (group_of g other.labels)) other.value))) → (samples : List Sample) → P samples (groups operator g samples)
 groups_hold operator g P start step samples = behind [] samples start
   where
@@ -209,7 +209,7 @@ divisor-with_value n Min (Some group) value before fits = before
 divisor-with_value n Max (Some group) value before fits = before
 divisor-with_value n (Topk k) (Some group) value before fits = before
 
--- what one element adds to the sum of the numerators, at most
+-- what one sample adds to the sum of the numerators, at most
 abbrev most_of : VectorOperator → Fraction → ℕ
 most_of Count value = 1
 most_of _ value = value.numerator
@@ -228,7 +228,7 @@ numerator-with_value (Topk k) (Some group) value = omega arith
 
 -- VECTORS OF GROUPS
 
--- elements of entries are those entries
+-- samples made of entries are those entries
 back_again : (es : List Entry) → map (λ sample. (sample.labels, sample.value)) (map element_of es) ≡ es
 back_again [] = refl
 back_again (e ∷ es) = ap (λ rest. e ∷ rest) (back_again es)
@@ -333,7 +333,7 @@ pub length-aggregated_by : (aggregations : List Aggregation) (samples : List Sam
 length-aggregated_by [] samples = omega arith
 length-aggregated_by (aggregation ∷ aggregations) samples = omega (arith, length-aggregated aggregation.operator aggregation.grouping (aggregated_by aggregations samples), length-aggregated_by aggregations samples)
 
--- its numerators add up to no more than those of the vector, or to its length where elements are counted
+-- its numerators add up to no more than those of the vector, or to its length where samples are counted
 abbrev pub most_total : VectorOperator → List Sample → ℕ
 most_total Count samples = length samples
 most_total _ samples = total samples
@@ -369,7 +369,7 @@ total-grouped operator grouping samples =
     ))
     samples
 
--- the value of a group with one more element is within the sum
+-- the value of a group with one more sample is within the sum
 pub numerator-next : (operator : VectorOperator) (grouping : Grouping) (samples : List Sample) (other : Sample) → (with_value operator (get (groups operator grouping samples) (group_of grouping other.labels)) other.value).numerator ≤ most_total operator (samples ++ other ∷ [])
 numerator-next operator grouping samples other =
     let m = groups operator grouping samples in

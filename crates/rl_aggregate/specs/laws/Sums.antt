@@ -1,5 +1,5 @@
 -- What numbers at label sets add up to, where each label set stands once: at most all. So do totals, merged or of the
--- elements of a range.
+-- lines of a range.
 use Rattle.std.specs.Prelude.{◌≡◌, ℕ, ◌+◌, ◌*◌, ◌≤◌, ◌^◌, Bool, true, false, cond, not, ◌&&◌, List, [], ◌∷◌, ◌++◌, map, length, Option, Some, None, refl}
 use Rattle.std.specs.Option.{unwrap_or}
 use Rattle.std.specs.List.{filter, count_by, sum_by}
@@ -69,7 +69,7 @@ module _ {X : Type 0} where
         | false ↦ λ apart. omega (arith, first, ap (λ b. cond b n 0) apart, once k n es parts.1)
       ] refl
 
-  -- each of some elements has one label set, so a number of theirs counts at most once among entries in order
+  -- each of some items has one label set, so a number of theirs counts at most once among entries in order
   pub shared-le : {A : Type 0} (key : A → LabelSet) (number : A → ℕ) (es : List (LabelSet × X)) (xs : List A) → is_sorted label_set_cmp es ≡ true → sum_by (λ e. sum_by (λ x. cond (eq_by_cmp label_set_cmp e.0 (key x)) (number x) 0) xs) es ≤ sum_by number xs
   shared-le key number es [] sorted = omega (arith, zeros es)
   shared-le key number es (x ∷ xs) sorted =
@@ -100,7 +100,7 @@ module _ {X : Type 0} where
   find_first : (e : LabelSet × X) (es : List (LabelSet × X)) → find label_set_cmp e.0 (e ∷ es) ≡ Some e.1
   find_first e es = ap (λ b. cond b (Some e.1) (find label_set_cmp e.0 es)) (sym (label_set_eq-cmp e.0 e.0) ∙ label_set_eq_itself e.0)
 
-  -- what stands behind the first of entries in order is found also with it
+  -- what stands after the first of entries in order is found also with it
   find_later : (e : LabelSet × X) (es : List (LabelSet × X)) (q : LabelSet) (v : X) → below_all label_set_cmp e.0 es ≡ true → find label_set_cmp q es ≡ Some v → find label_set_cmp q (e ∷ es) ≡ Some v
   find_later e es q v below is = elim (eq_by_cmp label_set_cmp q e.0) as (λ b. eq_by_cmp label_set_cmp q e.0 ≡ b → cond b (Some e.1) (find label_set_cmp q es) ≡ Some v) [
     | true ↦ λ same. absurd (none-some v (sym (find_below q es (ap (λ s. below_all label_set_cmp s es) (same_key q e.0 same) ∙ below)) ∙ is))
@@ -123,11 +123,11 @@ module _ {X : Type 0} where
   sorted : (m : FinMap label_set_cmp X) → is_sorted label_set_cmp (entries m) ≡ true
   sorted m = true_from _ (entries_sorted m)
 
-  -- the same of a map
+  -- so of the entries of a map
   pub sum_by-get : (f : X → ℕ) (bound : LabelSet → ℕ) (m : FinMap label_set_cmp X) → ((q : LabelSet) (v : X) → get m q ≡ Some v → f v ≤ bound q) → sum_by (λ e. f e.1) (entries m) ≤ sum_by (λ e. bound e.0) (entries m)
   sum_by-get f bound m each = sum_by-keys f bound (entries m) (sorted m) (λ q v is. each q v (get-entries m q ∙ is))
 
-  -- so where each number is within what the elements of its label set add up to, all are within what all elements do
+  -- so where each number is within what the items of its label set add up to, all are within what all items do
   pub sum_by-shared : {A : Type 0} (key : A → LabelSet) (number : A → ℕ) (xs : List A) (f : X → ℕ) (m : FinMap label_set_cmp X) → ((q : LabelSet) (v : X) → get m q ≡ Some v → f v ≤ sum_by (λ x. cond (eq_by_cmp label_set_cmp q (key x)) (number x) 0) xs) → sum_by (λ e. f e.1) (entries m) ≤ sum_by number xs
   sum_by-shared key number xs f m each = omega (
     arith,
@@ -135,7 +135,7 @@ module _ {X : Type 0} where
     shared-le key number (entries m) xs (sorted m),
   )
 
-  -- a map has at most as many entries as it is made of
+  -- a map has no more entries than it is made of
   pub len-from_entries : (es : List (LabelSet × X)) → len (from_entries {R = label_set_cmp} es) ≤ length es
   len-from_entries [] = omega (arith, len-empty label_set_cmp X)
   len-from_entries (e ∷ es) =
@@ -252,7 +252,7 @@ counts_as q n e = ap (λ b. cond (b && not (has_error e.labels)) n 0) (label_set
     split true false = refl
     split false c = refl
 
--- a number of the totals of elements is at most that of the elements without an error
+-- a number of the totals of lines is at most that of the lines without an error
 sum_of-totals_of : (number : Element → ℕ) (f : Total → ℕ) (es : List Element) → ((q : LabelSet) → f (total_of es q) ≡ sum_by (λ e. cond (counts_for q e) (number e) 0) es) → sum_of f (totals_of es) ≤ sum_by (λ e. cond (has_error e.labels) 0 (number e)) es
 sum_of-totals_of number f es adds = sum_by-shared (λ e. e.labels) (λ e. cond (has_error e.labels) 0 (number e)) es f (totals_of es) (λ q v is. omega (
   arith,
@@ -261,7 +261,7 @@ sum_of-totals_of number f es adds = sum_by-shared (λ e. e.labels) (λ e. cond (
   sum_by-le-sum_by (λ e. cond (counts_for q e) (number e) 0) (λ e. cond (eq_by_cmp label_set_cmp q e.labels) (cond (has_error e.labels) 0 (number e)) 0) es (λ e. omega (arith, counts_as q (number e) e)),
 ))
 
--- an element has an error or none
+-- a line has an error or none
 with_or_without : (es : List Element) → sum_by (λ e. cond (has_error e.labels) 0 1) es + count_by (λ e. has_error e.labels) es ≤ length es
 with_or_without es = omega (
   arith,
@@ -274,7 +274,7 @@ with_or_without es = omega (
     one true = omega arith
     one false = omega arith
 
--- how much elements add up to
+-- how much lines add up to
 pub len-partial_of : (es : List Element) → len (partial_of es).totals ≤ length es
 len-partial_of es =
     let good = filter (λ e. not (has_error e.labels)) es in
@@ -309,7 +309,7 @@ fewer-in_range stored term t = omega (
   count_by-le-length (is_in_range term t) stored,
 )
 
--- how much the partial of so many stored adds up to
+-- how much the partial of stored entries adds up to
 pub len-partial : (stored : List Entry) (term : Term) (t : ℕ) → len (partial stored term t).totals ≤ length stored
 len-partial stored term t = omega (arith, len-partial_of (in_range stored term t), fewer-in_range stored term t)
 

@@ -1,4 +1,4 @@
--- What totals answer, and how the partials of lists of entries go together: one list behind another, another order, and
+-- What totals answer, and how the partials of lists of entries go together: one list after another, another order, and
 -- that their numbers fit.
 use Rattle.std.specs.Prelude.{◌≡◌, ℕ, ◌+◌, ◌*◌, ◌≤◌, Bool, true, false, cond, not, ◌&&◌, ◌||◌, List, [], ◌∷◌, ◌++◌, map, length, Option, None, Some, is_some, refl}
 use Rattle.std.specs.Option.{unwrap_or}
@@ -36,7 +36,7 @@ label_set_eq-cmp s t = texts_ties (canonical_text s) (canonical_text t)
 pub same_totals : (a b : TotalsMap) → ((q : LabelSet) → get a q ≡ get b q) → a ≡ b
 same_totals a b alike = same_map label_set_cmp_total label_set_cmp-IsAntisymmetric a b alike
 
--- a look-up among one total for each label set of the elements that pass
+-- a look-up among one total for each label set of the lines that pass
 find_made : (f : LabelSet → Total) (p : Element → Bool) (q : LabelSet) (es : List Element) → find label_set_cmp q (map (λ e. (e.labels, f e.labels)) (filter p es)) ≡ cond (list_any (λ e. label_set_eq q e.labels && p e) es) (Some (f q)) None
 find_made f p q [] = refl
 find_made f p q (e ∷ es) =
@@ -51,7 +51,7 @@ find_made f p q (e ∷ es) =
       | false ↦ rest ∙ ap (λ b. cond (b || others) (Some (f q)) None) (sym (and_right (label_set_eq q e.labels) false refl))
     ]
 
--- totals have what their elements add up to, where one counts
+-- totals have what their lines add up to, where one counts
 pub get-totals_of : (es : List Element) (q : LabelSet) → get (totals_of es) q ≡ cond (list_any (counts_for q) es) (Some (total_of es q)) None
 get-totals_of es q = get-from_entries label_set_cmp_total _ q ∙ find_made (total_of es) (λ e. not (has_error e.labels)) q es
 
@@ -81,7 +81,7 @@ total_at-both_totals a b q = ap (λ t. unwrap_or t no_total) (get-both_totals a 
     summed None (Some y) = refl
     summed (Some x) y = refl
 
--- no element counts, and the total is none
+-- no line counts, and the total is none
 total_of-none : (es : List Element) (q : LabelSet) → list_any (counts_for q) es ≡ false → total_of es q ≡ no_total
 total_of-none es q none = λ i. record { count = counted es none i; bytes = weighed es none i }
   where
@@ -97,7 +97,7 @@ total_of-none es q none = λ i. record { count = counted es none i; bytes = weig
         let parts = or_parts (counts_for q e) (list_any (counts_for q) es) none in
         sum_by-cons (λ x. cond (counts_for q x) x.bytes 0) e es ∙ (λ i. cond (parts.0 i) e.bytes 0 + weighed es parts.1 i)
 
--- so the total at a label set is what the elements add up to, also where none counts
+-- so the total at a label set is what the lines add up to, also where none counts
 pub total_at-totals_of : (es : List Element) (q : LabelSet) → total_at (totals_of es) q ≡ total_of es q
 total_at-totals_of es q =
     ap (λ t. unwrap_or t no_total) (get-totals_of es q)
@@ -106,7 +106,7 @@ total_at-totals_of es q =
       | false ↦ λ none. sym (total_of-none es q none)
     ] refl
 
--- what a list behind another adds up to
+-- what a list followed by another adds up to
 pub total_of-append : (es fs : List Element) (q : LabelSet) → total_of (es ++ fs) q ≡ plus (total_of es q) (total_of fs q)
 total_of-append es fs q = λ i. record {
   count = sum_by-append (λ x. cond (counts_for q x) 1 0) es fs i;
@@ -135,11 +135,11 @@ pub in_range-append : (first second : List Entry) (term : Term) (t : ℕ) → in
 in_range-append first second term t =
     ap (map (element term.range.stages)) (filter-append (is_in_range term t) first second) ∙ map-append (element term.range.stages) (filter (is_in_range term t) first) (filter (is_in_range term t) second)
 
--- the partial of one list of entries behind another is the merge of their partials
+-- the partial of one list of entries followed by another is the merge of their partials
 pub partial-append : (first second : List Entry) (term : Term) (t : ℕ) → partial (first ++ second) term t ≡ merge (partial first term t) (partial second term t)
 partial-append first second term t = ap partial_of (in_range-append first second term t) ∙ partial_of-append (in_range first term t) (in_range second term t)
 
--- a sum over the elements of entries that are kept is one over the entries
+-- a sum over the lines of entries that are kept is one over the entries
 sum_by-kept : (f : Element → ℕ) (keep : Entry → Bool) (stages : List Stage) (entries : List Entry) → sum_by f (map (element stages) (filter keep entries)) ≡ sum_by (λ e. cond (keep e) (f (element stages e)) 0) entries
 sum_by-kept f keep stages [] = refl
 sum_by-kept f keep stages (e ∷ es) =
@@ -149,7 +149,7 @@ sum_by-kept f keep stages (e ∷ es) =
     ]
     ∙ sym (sum_by-cons (λ x. cond (keep x) (f (element stages x)) 0) e es)
 
--- a test of their elements is one of the entries
+-- a test of their lines is one of the entries
 list_any-kept : (p : Element → Bool) (keep : Entry → Bool) (stages : List Stage) (entries : List Entry) → list_any p (map (element stages) (filter keep entries)) ≡ list_any (λ e. keep e && p (element stages e)) entries
 list_any-kept p keep stages [] = refl
 list_any-kept p keep stages (e ∷ es) =
@@ -189,7 +189,7 @@ kept-permuted keep stages entries others moved =
 pub partial-permuted : (entries others : List Entry) (term : Term) (t : ℕ) → IsPermutation entries others → partial entries term t ≡ partial others term t
 partial-permuted entries others term t moved = kept-permuted (is_in_range term t) term.range.stages entries others moved
 
--- a sum over the elements of a range, each of them within a bound
+-- a sum over the lines of a range, each of them within a bound
 pub sum_by-within : (f : Element → ℕ) (m : ℕ) (entries : List Entry) (term : Term) (t : ℕ) → ((e : Entry) → f (element term.range.stages e) ≤ m) → sum_by f (in_range entries term t) ≤ length entries * m
 sum_by-within f m [] term t within = omega arith
 sum_by-within f m (e ∷ es) term t within =
@@ -232,6 +232,6 @@ partial-fits first second term t few = (
       ),
 )
 
--- the same of two partials with a name of their own
+-- so two partials with names of their own fit together
 pub merge_fits : (a b : Partial) (first second : List Entry) (term : Term) (t : ℕ) → a ≡ partial first term t → b ≡ partial second term t → length first + length second ≤ most_entries → Fits (merge a b)
 merge_fits a b first second term t of_first of_second few = subst Fits (λ i. merge (sym of_first i) (sym of_second i)) (partial-fits first second term t few)

@@ -1,4 +1,4 @@
--- What lines add up to is within what so many of them may: of two partials together, of entries, and of one line more.
+-- What lines add up to is within the limits for their number: of two partials together, of entries, and of one line more.
 use Rattle.std.specs.Prelude.{ℕ, ◌+◌, ◌≤◌, List, [], map, length, Option, None, Some, option_to_list}
 use Rattle.std.specs.List.{sum_by}
 use Rattle.std.proofs.Common.{arith}
@@ -40,7 +40,7 @@ within-partial entries term t = record {
   bytes = bytes-partial entries term t;
 }
 
--- a line has at most one element, and its bytes
+-- a line counts once at most, with its bytes
 abbrev made : List ℕ → Option LabelSet → List Element
 made text found = map (λ behind. record { labels = behind; bytes = length text }) (option_to_list found)
 

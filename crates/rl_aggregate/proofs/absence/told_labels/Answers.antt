@@ -1,4 +1,4 @@
--- The last of the matchers that are left is told, if it tells a label.
+-- The label of the last of the matchers that are left is added, if one follows from it.
 use Rattle.std.proofs.Common.{◌≡◌, cond, List, sym, ap, ◌∙◌}
 use Rattle.rl_labels.specs.LabelSet.{LabelSet, with_label}
 use Rattle.rl_labels.specs.declared.matcher.Matcher.{Matcher}

@@ -1,4 +1,4 @@
--- The vector so far is what the aggregations behind those that are left make.
+-- The vector so far is what the aggregations after those that are left make.
 use Rattle.std.proofs.Common.{◌≡◌, ◌++◌, List, length}
 use Rattle.rl_query.specs.declared.aggregation.Aggregation.{Aggregation}
 use Rattle.rl_aggregate.specs.Grouping.{aggregated_by}

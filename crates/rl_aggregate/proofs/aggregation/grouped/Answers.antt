@@ -1,4 +1,4 @@
--- Each element goes into its group.
+-- Each sample goes into its group.
 use Rattle.std.proofs.Common.{◌∙◌, arith}
 use Rattle.rl_aggregate.proofs.Grouped.{next_fits, next_grouped}
 use Rattle.rl_aggregate.proofs.aggregation.grouped.Goals as goal

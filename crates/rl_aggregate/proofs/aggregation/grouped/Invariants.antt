@@ -1,4 +1,4 @@
--- The groups of the elements so far.
+-- The groups of the samples so far.
 use Rattle.std.proofs.Common.{◌≡◌, take}
 use Rattle.rl_aggregate.specs.Grouping.{groups}
 use Rattle.rl_aggregate.proofs.aggregation.grouped.Given as goal

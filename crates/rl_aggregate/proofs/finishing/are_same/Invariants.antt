@@ -1,4 +1,4 @@
--- The partials so far are the same in both lists.
+-- The partials so far are equal in both lists.
 use Rattle.std.proofs.Common.{◌≡◌, take}
 use Rattle.rl_aggregate.proofs.finishing.are_same.Given as goal
 

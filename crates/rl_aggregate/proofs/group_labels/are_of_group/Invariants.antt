@@ -1,4 +1,4 @@
--- The labels of the group are those of the labels so far that tell it, and the rest.
+-- The labels of the group are those of the labels so far that decide it, and the rest.
 use Rattle.std.proofs.Common.{◌≡◌, ◌++◌, take}
 use Rattle.std.specs.List.{filter}
 use Rattle.rl_aggregate.specs.Grouping.{tells_group}

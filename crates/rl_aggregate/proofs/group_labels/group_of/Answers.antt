@@ -1,4 +1,4 @@
--- The labels of an element's group make its label set again.
+-- The labels of a sample's group make its label set again.
 use Rattle.std.proofs.Common.{◌≡◌, IfOk, sym, ap, subst, ◌∙◌}
 use Rattle.std.specs.List.{filter}
 use Rattle.rl_labels.specs.LabelSet.{label_set_of}

@@ -1,4 +1,4 @@
--- The next label goes to the front, if it tells the group.
+-- The next label goes to the front, if it decides the group.
 use Rattle.std.proofs.Common.{◌≡◌, ◌++◌, ◌∷◌, [], List, true, cond, is_some, sym, ap, ◌∙◌, append_assoc}
 use Rattle.rl_labels.specs.LabelSet.{Pair, LabelSet, is_label, label, with_label}
 use Rattle.rl_aggregate.specs.Grouping.{tells_group}

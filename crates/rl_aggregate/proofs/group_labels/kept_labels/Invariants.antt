@@ -1,4 +1,4 @@
--- The labels so far are those of the pairs behind the ones that are left.
+-- The labels so far are those of the pairs after the ones that are left.
 use Rattle.std.proofs.Common.{◌≡◌, ◌++◌, List, length}
 use Rattle.std.specs.List.{filter}
 use Rattle.rl_labels.specs.LabelSet.{Pair, labels_of, label_set_of}

@@ -1,4 +1,4 @@
--- The divisors that stand before an element are left behind, and it is divided by its partner.
+-- The divisors that stand before a sample are dropped, and it is divided by its partner.
 use Rattle.std.proofs.Common.{◌≡◌, ◌++◌, ◌∷◌, Some, None, sym, ap, subst, ◌∙◌, append-nil}
 use Rattle.std.specs.List.{AllByRecursion}
 use Rattle.rl_aggregate.specs.Ratios.{not_before, ratios, value_over}

@@ -1,4 +1,4 @@
--- The ratios so far and those of the elements that are left, by the divisors that are left, are all.
+-- The ratios so far and those of the samples that are left, by the divisors that are left, are all.
 use Rattle.std.proofs.Common.{◌≡◌, ◌++◌}
 use Rattle.std.specs.List.{AllByRecursion}
 use Rattle.rl_aggregate.specs.Ratios.{ratios}

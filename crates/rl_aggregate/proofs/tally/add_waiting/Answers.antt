@@ -1,4 +1,4 @@
--- Lines that wait have room, since what was found with them is within what may be counted.
+-- Lines that wait have room, because what was found with them is within what may be counted.
 use Rattle.std.proofs.Common.{subst}
 use Rattle.rl_aggregate.specs.Tallies.{HasRoom}
 use Rattle.rl_aggregate.specs.Waiting.{with_waiting}

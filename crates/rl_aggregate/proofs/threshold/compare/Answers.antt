@@ -1,4 +1,4 @@
--- An element that passes goes to the front.
+-- A sample that passes goes to the front.
 use Rattle.std.proofs.Common.{ℕ, sym, ap, arith, ◌∙◌}
 use Rattle.std.proofs.lemmas.List.Filters.{FiltersInPlace-more_swap, FiltersInPlace-more_no}
 use Rattle.rl_aggregate.specs.Ratios.{passes}

@@ -1,4 +1,4 @@
--- The elements that pass stand in front, in their order, and those from the index on are as they were.
+-- The samples that pass stand in front, in their order, and those from the index on are as they were.
 use Rattle.std.proofs.lemmas.List.Filters.{FiltersInPlace}
 use Rattle.rl_aggregate.specs.Ratios.{millionths, passes}
 use Rattle.rl_aggregate.proofs.threshold.compare.Given as goal

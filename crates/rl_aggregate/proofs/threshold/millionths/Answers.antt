@@ -1,4 +1,4 @@
--- A threshold has at most nine digits in front of its point, and six behind it.
+-- A threshold has at most nine digits in front of its point, and six after it.
 use Rattle.std.proofs.Common.{◌^◌, ◌∙◌, arith}
 use Rattle.std.proofs.lemmas.Bool.{and_parts, ltb-true, leb-true}
 use Rattle.std.specs.Prelude.{nat_lt, nat_le, ◌&&◌}

@@ -1,4 +1,4 @@
--- Each element goes to the count of its group, and is kept where that was low.
+-- Each sample goes to the count of its group, and is kept where that was low.
 use Rattle.std.proofs.Common.{◌≡◌, ◌++◌, [], ◌∷◌, length, true, false, sym, ap, ◌∙◌, arith, append_assoc, length-append}
 use Rattle.std.proofs.lemmas.Bool.{lt-ltb, le-ltb}
 use Rattle.std.proofs.lemmas.List.{append-nil}

@@ -1,4 +1,4 @@
--- What is kept of the elements so far, and the counts of their groups.
+-- What is kept of the samples so far, and the counts of their groups.
 use Rattle.std.proofs.Common.{◌≡◌, ◌++◌}
 use Rattle.std.specs.List.{filter}
 use Rattle.rl_query.specs.declared.aggregation.VectorOperator.TheVariants.{Count}

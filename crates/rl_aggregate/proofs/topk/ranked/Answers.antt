@@ -1,4 +1,4 @@
--- The sort by values leaves elements with equal values in the order of their labels.
+-- The sort by values leaves samples with equal values in the order of their labels.
 use Rattle.std.proofs.Common.{rules}
 use Rattle.std.proofs.lemmas.List.Sorted.{answers_always}
 use Rattle.rl_aggregate.proofs.Ranked.{is_greater, greater_order, ranked-sorted}

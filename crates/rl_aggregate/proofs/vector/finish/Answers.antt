@@ -1,4 +1,4 @@
--- An absence of totals is one of elements.
+-- An absence of totals is one of lines.
 use Rattle.std.proofs.Common.{◌≡◌, cond, ap, sym, ◌∙◌}
 use Rattle.rl_aggregate.specs.Evaluated.{finished}
 use Rattle.rl_aggregate.specs.declared.outcome.Outcome.TheVariants as outcomes

@@ -1,4 +1,4 @@
--- The elements that a range aggregation gives are in the order of their labels.
+-- The samples that a range aggregation gives are in the order of their labels.
 use Rattle.std.proofs.Common.{ap, ◌∙◌}
 use Rattle.rl_aggregate.specs.Grouping.{rises}
 use Rattle.rl_aggregate.specs.laws.Bounds.{of_one_term-samples}

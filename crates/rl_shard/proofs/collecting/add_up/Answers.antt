@@ -1,4 +1,4 @@
--- What the counter has is what the lines add up to that were handed out.
+-- What the counter has is what the visited lines add up to.
 use Rattle.std.proofs.Common.{◌≡◌, ◌*◌, ◌-◌, ◌<◌, false, map, Bor, sym, subst, ◌∙◌, true≢false, arith}
 use Rattle.std.specs.List.{AllByRecursion, AllZip}
 use Rattle.std.proofs.lemmas.Simd.{map-map}

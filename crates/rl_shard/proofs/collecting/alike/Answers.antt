@@ -1,4 +1,4 @@
--- A term that may join stands behind the others.
+-- A term that may join stands after the others.
 use Rattle.std.proofs.Common.{◌≡◌, Some, Bor, slice_get, sym, ap, subst, ◌∙◌}
 use Rattle.std.specs.List.{AllByRecursion}
 use Rattle.std.specs.Option.{option_map}

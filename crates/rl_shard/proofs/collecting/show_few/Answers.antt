@@ -1,4 +1,4 @@
--- A set has as many members as it is long, and no more are shown than there are.
+-- The length of a set is the number of its members, and no more are shown than there are.
 use Rattle.std.proofs.Common.{◌≡◌, not, length, arith}
 use Rattle.std.specs.FinMap.{entries, keys, len-entries}
 use Rattle.std.proofs.lemmas.List.{length-map}

@@ -1,4 +1,4 @@
--- The value of a group that is there already changes in place, and that of a new one is inserted.
+-- The value of a group that is there already changes where it is, and that of a new one is inserted.
 use Rattle.std.proofs.Common.{◌≡◌, cond, None, Some, IsSome, refl, sym, ap, subst, ◌∙◌, arith}
 use Rattle.std.specs.BTreeMap.{is_at}
 use Rattle.std.specs.FinMap as map

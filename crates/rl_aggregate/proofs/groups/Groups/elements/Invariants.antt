@@ -1,4 +1,4 @@
--- The elements so far and those of the groups that are left are all.
+-- The samples so far and those of the groups that are left are all.
 use Rattle.std.proofs.Common.{◌≡◌, ◌++◌, map as map_list}
 use Rattle.std.specs.FinMap as map
 use Rattle.rl_aggregate.specs.Grouping.{element_of}

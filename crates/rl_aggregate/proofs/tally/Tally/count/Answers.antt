@@ -1,4 +1,4 @@
--- A line that stays is one element more, with the labels that it has behind the stages.
+-- A line that stays is counted as one more, with the labels that it has after the stages.
 use Rattle.std.proofs.Common.{◌≡◌, cond, None, Some, length, refl, sym, ap, ◌∙◌}
 use Rattle.std.proofs.lemmas.Result.{on_ok_weaker}
 use Rattle.rl_pipeline.specs.Lines.{StreamLine}

@@ -1,4 +1,4 @@
--- Trees that are tested equal have the same entries, and so have those that make the same totals.
+-- Trees that are tested equal have equal entries, and so have those that make equal totals.
 use Rattle.std.proofs.Common.{length, sym, ap, ◌∙◌}
 use Rattle.std.proofs.lemmas.Bool.{eqb-true, eq-eqb}
 use Rattle.std.proofs.lemmas.Map.Lookups.{btree_map_eq-Decides}

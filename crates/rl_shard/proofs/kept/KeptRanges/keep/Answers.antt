@@ -1,4 +1,4 @@
--- What is kept stands, and so does what is put in its place.
+-- What is kept stands, and so does what replaces it.
 use Rattle.std.proofs.Common.{◌≡◌, Some, List, slice_get, option_map, sym, subst, arith}
 use Rattle.rl_query.specs.declared.query.LogRange.{LogRange}
 use Rattle.rl_shard.specs.Standing.{IsKept, StandsFor}
