@@ -1,4 +1,4 @@
--- Alerts by their label sets: one more goes in before the others, and the elements find theirs.
+-- Alerts by their label sets: one more goes in before the others, and the samples find theirs.
 use Rattle.std.proofs.Common.{◌≡◌, ℕ, suc, ◌<◌, cond, List, [], ◌∷◌, map, length, get_or, drop, drop-cons, Some, refl, sym, ap, ◌∙◌}
 use Rattle.std.specs.BTreeMap.{is_at}
 use Rattle.std.specs.FinMap.{entries, from_entries, insert, get-entries, get-from_entries}

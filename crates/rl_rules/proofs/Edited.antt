@@ -1,4 +1,4 @@
--- Old rules that are not the same are passed over, and the first that is goes.
+-- Old rules that differ are passed over, and the first that is equal goes.
 use Rattle.std.proofs.Common.{◌≡◌, ℕ, ◌+◌, ◌<◌, ◌≤◌, Bool, true, false, cond, List, [], ◌∷◌, ◌++◌, length, get_or, take, drop, Option, None, Some, sym, ap, ◌∙◌, append_assoc}
 use Rattle.std.proofs.lemmas.List.{take_more, drop_more, drop_all, take_all, append-nil, get_or_default}
 use Rattle.rl_rules.specs.declared.alert.Alert.{Alert}
@@ -10,11 +10,11 @@ abbrev Old : Type 0
 Old = Rule × List Alert
 
 module _ (rule : Rule) where
-  -- the olds before a place were passed over
+  -- the old rules before an index were passed over
   abbrev pub IsPassed : List Old → ℕ → Type 0
   IsPassed olds i = taken rule olds ≡ ((taken rule (drop i olds)).0, take i olds ++ (taken rule (drop i olds)).1)
 
-  -- what is taken from a place on, by whether the rule there is the same
+  -- what is taken from an index on, by whether the rule there is equal
   abbrev by_first : Bool → Old → List Old → Option (List Alert) × List Old
   by_first b old rest = cond b (Some old.1, rest) ((taken rule rest).0, old ∷ (taken rule rest).1)
 

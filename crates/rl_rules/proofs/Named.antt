@@ -22,7 +22,7 @@ same_name : (group : Group) (groups : List Group) → list_any (λ other. is_tex
 same_name group [] = refl
 same_name group (other ∷ groups) = ap (λ b. is_text group.name other.name || b) (same_name group groups)
 
--- whether two from a place on have one name
+-- whether two from an index on have one name
 same_from : (groups : List Group) (i : ℕ) (group : Group) (b : Bool) → i < length groups → group ≡ get_or groups i group → list_any (λ other. is_text group.name other.name) (drop (i + 1) groups) ≡ b
     → has_same_group (map group_form (drop i groups)) ≡ (b || has_same_group (map group_form (drop (i + 1) groups)))
 same_from groups i group b within is named =

@@ -28,7 +28,7 @@ use Rattle.rl_rules.specs.Naming.{Naming, final_by}
 use Rattle.rl_rules.specs.Outcomes.{final_labels, final_elements, has_same_labels, is_exceeded, in_order, outcome_of}
 use Rattle.rl_rules.specs.Recording.{named, named_by, sample_cmp, has_same_neighbours}
 
--- the first of some elements are changed, and then the next one
+-- the first of some items are changed, and then the next one
 set_next : {A : Type 0} (f : A → A) (xs : List A) (i : ℕ) (d : A) → i < length xs → set (map f (take i xs) ++ drop i xs) i (f (get_or xs i d)) ≡ map f (take (suc i) xs) ++ drop (suc i) xs
 set_next f [] i d h = absurd (omega arith)
 set_next f (x ∷ xs) zero d h = refl
@@ -48,7 +48,7 @@ named_more naming old now i x labels within so_far set_to =
     λ j. record { labels = (set_to ∙ ap (λ (s : Sample). final_by naming s.labels) there) j; value = (there j).value } in
     (λ j. set (so_far j) i (made j)) ∙ set_next (named_by naming) old i x within ∙ ap (λ n. map (named_by naming) (take n old) ++ drop n old) (sym (add-one i))
 
--- all of a list, written over as many
+-- a list and more, cut to the length of the list, is the list
 pub take_whole : (n : ℕ) (xs ys : List Sample) → n ≡ length xs → take n (xs ++ ys) ≡ xs
 take_whole n [] ys h = ap (λ m. take m ys) h
 take_whole zero (x ∷ xs) ys h = absurd (omega arith)
@@ -63,7 +63,7 @@ no_neighbours (sample ∷ next ∷ samples) h = absurd (omega arith)
 abbrev Element : Type 0
 Element = LabelSet × Fraction
 
--- samples as elements, and back
+-- samples as pairs, and back
 abbrev pairs : List Sample → List Element
 pairs = map (λ sample. (sample.labels, sample.value))
 
@@ -85,7 +85,7 @@ same-ties s t = texts_ties (canonical_text s) (canonical_text t)
 flips : (s t : LabelSet) → ties s t ≡ ties t s
 flips = (eq_by_cmp_equiv label_set_cmp_total).symm
 
--- no two elements have one label set where the sets differ
+-- no two samples have one label set where the sets differ
 none_behind : (s : LabelSet) (es : List Element) → AllByRecursion (λ t. ties s t ≡ false) (keys_of es) → list_any (λ other. label_set_eq s other.0) es ≡ false
 none_behind s [] h = refl
 none_behind s (e ∷ es) h = or_from _ _ (same-ties s e.0 ∙ h.0) (none_behind s es h.1)
@@ -146,7 +146,7 @@ same_option None None to back = refl
 same_option None (Some x) to back = back x refl
 same_option (Some x) p to back = sym (to x refl)
 
--- elements whose label sets rise are those of the map of any permutation of them
+-- samples whose label sets rise are those of the map of any permutation of them
 in_map : (es fs : List Element) → IsPermutation es fs → IsDistinct ties (keys_of es) → IsStrictlySortedBy label_set_cmp (keys_of fs) → entries (from_entries {R = label_set_cmp} es) ≡ fs
 in_map es fs moved differ up =
     ap entries (same_map label_set_cmp_total label_set_cmp-IsAntisymmetric _ _ (λ q. get-of_tree label_set_cmp_total es q ∙ same_option _ _ (found es fs q moved (IsDistinct-from_sorted label_set_cmp (keys_of fs) up)) (found fs es q (IsPermutation-sym es fs moved) differ) ∙ sym (get-of_tree label_set_cmp_total fs q)))
@@ -159,7 +159,7 @@ in_map es fs moved differ up =
 still_differ : (samples others : List Sample) → IsPermutation samples others → IsDistinct ties (keys_of (pairs samples)) → IsDistinct ties (keys_of (pairs others))
 still_differ samples others moved = IsDistinct-IsPermutation ties flips _ _ (IsPermutation-map (λ (e : Element). e.0) _ _ (IsPermutation-map (λ (s : Sample). (s.labels, s.value)) samples others moved))
 
--- which of the three is made of elements is told by two tests
+-- two tests decide which of the three is made of samples
 module _ (rule : Rule) (limit : ℕ) (make : List Sample → RuleOutcome) (samples : List Sample) (exceeded : Bool) (count : is_exceeded limit (length samples) ≡ exceeded) where
   chosen : (b : Bool) → has_same_labels (pairs (map (named rule) samples)) ≡ b
       → outcome_of limit make (final_elements rule samples) ≡ cond b (made.Failed causes.SameLabels) (cond exceeded (made.Failed causes.LimitExceeded) (make (in_order (pairs (map (named rule) samples)))))

@@ -19,7 +19,7 @@ refused_with Memory part whole Lacks LacksToo fails lacks here = tt
 refused_with (Fault fault) part whole Lacks LacksToo fails lacks (inl is) = inl (fails fault is)
 refused_with (Fault fault) part whole Lacks LacksToo fails lacks (inr lack) = inr (lacks fault lack)
 
--- the tables from a place on
+-- the tables from an index on
 abbrev pub tables_from : ℕ → List Value → List Members
 tables_from i vs = tables_of (items_view (drop i vs))
 
@@ -29,7 +29,7 @@ tables_next vs i v within is =
     ∙ ap (λ w. option_map_or (λ t. t ∷ tables_from (i + 1) vs) (as_table (view w)) (tables_from (i + 1) vs)) (sym is)
 
 module _ {A X : Type 0} (read : ℕ → Members → Result A RulesFault) (form : X → A) where
-  -- tables behind others are read after them
+  -- tables that follow others are read after them
   each_behind : (n m : ℕ) (ts us : List Members) → m ≡ n + length ts → each_from read n (ts ++ us) ≡ both (each_from read n ts) (each_from read m us)
   each_behind n m [] us place = sym (with_nothing (each_from read n us)) ∙ ap (λ k. both (Ok []) (each_from read k us)) (omega (arith, place))
   each_behind n m (t ∷ ts) us place = ap (first_then (read n t)) (each_behind (n + 1) m ts us (omega (arith, place))) ∙ regroup (read n t) (each_from read (n + 1) ts) (each_from read m us)
@@ -40,7 +40,7 @@ module _ {A X : Type 0} (read : ℕ → Members → Result A RulesFault) (form :
       regroup (Ok x) (Err e) rest = refl
       regroup (Err e) others rest = refl
 
-  -- some tables were read, and those from a place on are left
+  -- some tables were read, and those from an index on are left
   pub record AreRead (so_far : List X) (i : ℕ) (vs : List Value) : Type 0 where
     pub before : List Members
     pub are : tables_of (items_view vs) ≡ before ++ tables_from i vs

@@ -1,4 +1,4 @@
--- Alerts: what becomes of an alert at a moment, by the element with its label set and by what it was before.
+-- Alerts: what becomes of an alert at a moment, by the sample with its label set and by what it was before.
 use Rattle.std.specs.Prelude.{ℕ, ◌+◌, ◌*◌, ◌^◌, nat_le, Bool, true, false, List, ◌++◌, map, flat_map, option_to_list, Option, None, Some, if◌then◌else◌}
 use Rattle.std.specs.FinMap.{entries, from_entries}
 use Rattle.std.specs.FinMap.Entries.{find}
@@ -20,7 +20,7 @@ is_active phases.Pending = true
 is_active phases.Firing = true
 is_active phases.Resolved = false
 
--- since when its element is there: of an alert that is active this stays
+-- the moment from which it is active: of an alert that is active already this stays
 abbrev pub since_of : ℕ → Option Alert → ℕ
 since_of t None = t
 since_of t (Some alert) = if is_active alert.phase then alert.since else t
@@ -34,18 +34,18 @@ abbrev pub fired_of : ℕ → Option Alert → Option ℕ
 fired_of t None = Some t
 fired_of t (Some alert) = fired_from t alert.phase alert.fired
 
--- its element has been there for so many seconds
+-- its series has been there for `hold` seconds
 abbrev pub is_due : ℕ → ℕ → ℕ → Bool
 is_due hold since t = nat_le (since + hold * 10 ^ 9) t
 
--- an alert whose element is there, with the value that this has now: it fires once the rule's time has passed
+-- an alert whose series is there, with the value that this has now: it fires once the rule's time has passed
 abbrev pub standing : ℕ → ℕ → LabelSet → Fraction → Option Alert → Alert
 standing hold t labels value before =
     if is_due hold (since_of t before) t
     then record { labels = labels; value = value; since = since_of t before; fired = fired_of t before; phase = phases.Firing }
     else record { labels = labels; value = value; since = since_of t before; fired = None; phase = phases.Pending }
 
--- an alert whose element is gone: one that was firing is resolved, with its last value; any other is forgotten
+-- an alert whose series is gone: one that was firing is resolved, with its last value; any other is forgotten
 abbrev pub gone_from : Phase → Alert → Option Alert
 gone_from phases.Firing alert = Some (record { labels = alert.labels; value = alert.value; since = alert.since; fired = alert.fired; phase = phases.Resolved })
 gone_from _ alert = None
@@ -53,11 +53,11 @@ gone_from _ alert = None
 abbrev pub gone : Alert → Option Alert
 gone alert = gone_from alert.phase alert
 
--- those whose elements are there, by the first alert before with the label set
+-- those whose series are there, by the first alert before with the label set
 abbrev pub all_standing : ℕ → ℕ → List Sample → List Alert → List Alert
 all_standing hold t samples before = map (λ sample. standing hold t sample.labels sample.value (find label_set_cmp sample.labels (keyed before))) samples
 
--- those that are resolved where their elements are gone
+-- those that are resolved where their series are gone
 abbrev pub all_gone : List Alert → List Alert
 all_gone before = flat_map (λ alert. option_to_list (gone alert)) before
 
@@ -65,6 +65,6 @@ all_gone before = flat_map (λ alert. option_to_list (gone alert)) before
 abbrev pub in_label_order : List Alert → List Alert
 in_label_order alerts = map (λ entry. entry.1) (entries (from_entries {R = label_set_cmp} (keyed alerts)))
 
--- the alerts after the moment: an element that is there counts before an alert that was
+-- the alerts after the moment: a sample that is there counts before an alert that was
 abbrev pub alerts_after : ℕ → ℕ → List Sample → List Alert → List Alert
 alerts_after hold t samples before = in_label_order (all_standing hold t samples before ++ all_gone before)

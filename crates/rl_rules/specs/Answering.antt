@@ -11,7 +11,7 @@ use Rattle.rl_rules.specs.Values.{text_at}
 use Rattle.rl_rules.specs.declared.fault.RulesFault.{RulesFault}
 use Rattle.rl_rules.specs.declared.fault.RulesFault.TheVariants as faults
 
--- of the rule at a group and a place the query meets a pattern, and is refused for want of room
+-- the query of the rule at these indexes meets a pattern, and is refused for lack of room
 abbrev pub QueryLacksRoom : ℕ → ℕ → List ℕ → RulesFault → Type 0
 QueryLacksRoom group rule text fault = (fault ≡ faults.BadQuery group rule BadRegex) × (query_meets_pattern text ≡ true)
 
@@ -19,7 +19,7 @@ QueryLacksRoom group rule text fault = (fault ≡ faults.BadQuery group rule Bad
 abbrev pub RuleLacksRoom : ℕ → ℕ → Members → RulesFault → Type 0
 RuleLacksRoom group rule table = QueryLacksRoom group rule (text_at (codes "expr") table)
 
--- one of some tables is refused so at its place, and each before it is read
+-- one of some tables is refused so at its index, and each before it is read
 pub record OneLacksRoom {A : Type 0} (read : ℕ → Members → Result A RulesFault) (LacksRoom : ℕ → Members → RulesFault → Type 0) (tables : List Members) (fault : RulesFault) : Type 0 where
   pub before : List Members
   pub table : Members
@@ -40,7 +40,7 @@ DocumentLacksRoom document fault = (check_keys document ≡ Ok tt) × OneLacksRo
 abbrev pub LacksRoom : List ℕ → RulesFault → Type 0
 LacksRoom text fault = (document : Members) × (parse_document text ≡ Some document) × DocumentLacksRoom document fault
 
--- a refusal is the fault that is read, or one for want of room; of memory nothing is said
+-- a refusal is the fault that is read, or one for lack of room; of memory nothing is said
 abbrev pub IsRefused : {Y : Type 0} → OrMemory RulesFault → Result Y RulesFault → (RulesFault → Type 0) → Type 0
 IsRefused Memory read Lacks = Unit {0}
 IsRefused (Fault fault) read Lacks = (read ≡ Err fault) ⊎ Lacks fault

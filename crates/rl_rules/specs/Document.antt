@@ -141,12 +141,12 @@ group_passes test group = test group_keys group && list_all (rule_passes test) (
 abbrev pub document_passes : (List KeyForm → Members → Bool) → Members → Bool
 document_passes test document = test document_keys document && list_all (group_passes test) (tables_at (codes "groups") document)
 
--- the query of a rule, or its fault with the places of the group and of the rule, counted from 0
+-- the query of a rule, or its fault with the indexes of the group and of the rule, counted from 0
 abbrev pub query_at : ℕ → ℕ → Result QueryForm QueryFault → Result QueryForm RulesFault
 query_at group rule (Ok query) = Ok query
 query_at group rule (Err fault) = Err (faults.BadQuery group rule fault)
 
--- for how long an element has to be there, in seconds: not at all where no time is named
+-- for how long a series has to be there, in seconds: not at all where no time is named
 abbrev pub hold_of : Members → ℕ
 hold_of members = unwrap_or (option_and_then (seconds_in 0) (get_member (codes "for") members)) 0
 
@@ -155,7 +155,7 @@ rule_at group rule members = do
   query ← query_at group rule (query_of (text_at (codes "expr") members))
   Ok (record { kind = kind_of members; name = name_of members; query = query; labels = texts_at (codes "labels") members; hold = hold_of members; annotations = labels_at (codes "annotations") members })
 
--- what is read of tables one after the other, each with its place
+-- what is read of tables one after the other, each with its index
 abbrev pub each_from : {A : Type 0} → (ℕ → Members → Result A RulesFault) → ℕ → List Members → Result (List A) RulesFault
 each_from read place [] = Ok []
 each_from read place (table ∷ tables) = do

@@ -19,7 +19,7 @@ use Rattle.rl_rules.specs.declared.evaluation.Cause.TheVariants as causes
 use Rattle.rl_rules.specs.declared.alert.Alert.{Alert}
 use Rattle.rl_rules.specs.Alerts.{alerts_after}
 
--- the labels with a pair in its place, and without its name where its value is empty; what is no name names none
+-- the labels with a pair set, and without its name where its value is empty; what is no name names none
 abbrev pub with_pair : LabelSet → Pair → LabelSet
 with_pair labels pair = if is_name pair.0 then with_label labels pair.0 pair.1 else labels
 
@@ -33,15 +33,15 @@ abbrev pub name_label : RuleKind → List ℕ
 name_label kinds.Recording = codes "__name__"
 name_label kinds.Alerting = codes "alertname"
 
--- the labels of an element, the rule's over them, and its name over all
+-- the labels of a sample, the rule's over them, and its name over all
 abbrev pub final_labels : Rule → LabelSet → LabelSet
 final_labels rule labels = with_label (with_pairs labels rule.labels) (name_label rule.kind) rule.name
 
--- the elements under their final label sets
+-- the samples under their final label sets
 abbrev pub final_elements : Rule → List Sample → List (LabelSet × Fraction)
 final_elements rule samples = map (λ sample. (final_labels rule sample.labels, sample.value)) samples
 
--- two of the elements have one label set
+-- two of the samples have one label set
 abbrev pub has_same_labels : List (LabelSet × Fraction) → Bool
 has_same_labels [] = false
 has_same_labels (element ∷ elements) = list_any (λ other. label_set_eq element.0 other.0) elements || has_same_labels elements
@@ -50,16 +50,16 @@ has_same_labels (element ∷ elements) = list_any (λ other. label_set_eq elemen
 abbrev pub in_order : List (LabelSet × Fraction) → List Sample
 in_order elements = map (λ element. record { labels = element.0; value = element.1 }) (entries (from_entries {R = label_set_cmp} elements))
 
--- so many elements are more than the limit; 0 is none
+-- `count` samples are more than the limit; 0 is no limit
 abbrev pub is_exceeded : ℕ → ℕ → Bool
 is_exceeded limit count = nat_lt 0 limit && nat_lt limit count
 
--- what a rule makes of elements with different label sets, in order
+-- what a rule makes of samples with different label sets, in order
 abbrev pub made_by : RuleKind → ℕ → List Alert → ℕ → List Sample → RuleOutcome
 made_by kinds.Recording hold alerts t samples = made.Samples samples
 made_by kinds.Alerting hold alerts t samples = made.Alerts (alerts_after hold t samples alerts)
 
--- what is made of elements, if they are not too many and no two have one label set
+-- what is made of samples, if they are not too many and no two have one label set
 abbrev pub outcome_of : ℕ → (List Sample → RuleOutcome) → List (LabelSet × Fraction) → RuleOutcome
 outcome_of limit make elements =
     if has_same_labels elements then made.Failed causes.SameLabels
@@ -70,7 +70,7 @@ abbrev pub rule_outcome : Rule → ℕ → List Alert → Outcome → ℕ → Ru
 rule_outcome rule limit alerts (outcomes.Vector samples) t = outcome_of limit (made_by rule.kind rule.hold alerts t) (final_elements rule samples)
 rule_outcome rule limit alerts outcomes.Failed t = made.Failed causes.PipelineError
 
--- the alerts that a rule keeps where it failed: none where its elements were too many
+-- the alerts that a rule keeps where it failed: none where its samples were too many
 abbrev pub kept_at : Cause → List Alert → List Alert
 kept_at causes.PipelineError alerts = alerts
 kept_at causes.SameLabels alerts = alerts

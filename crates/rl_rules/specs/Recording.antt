@@ -11,7 +11,7 @@ use Rattle.rl_rules.specs.declared.rule.Rule.{Rule}
 abbrev pub named : Rule → Sample → Sample
 named rule sample = record { labels = final_labels rule sample.labels; value = sample.value }
 
--- the same by what is taken of a rule
+-- a sample under that label set, by what this takes of a rule
 abbrev pub named_by : Naming → Sample → Sample
 named_by naming sample = record { labels = final_by naming sample.labels; value = sample.value }
 

@@ -8,7 +8,7 @@ use Rattle.rl_labels.specs.Name.{is_name_start}
 abbrev pub is_metric_start : ℕ → Bool
 is_metric_start byte = is_name_start byte || byte == 58
 
--- the same, or a digit
+-- one of these, or a digit
 abbrev pub is_metric_byte : ℕ → Bool
 is_metric_byte byte = is_metric_start byte || is_ascii_digit byte
 

@@ -49,7 +49,7 @@ module _ {A : Type 0} (coded : Coded A) where
   pub same_coded-equiv : IsEquivalence same_coded
   same_coded-equiv = decided same_coded same_coded-true
 
-  -- a test that tells whether two values are one is this one
+  -- any test of whether two values are one is this one
   pub same_answer : (b : Bool) (one other : A) → (IsTrue b ↔ (one ≡ other)) → b ≡ same_coded one other
   same_answer b one other tells = alike b (same_coded one other) tells (same_coded-true one other)
     where

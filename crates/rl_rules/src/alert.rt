@@ -1,4 +1,4 @@
-//! Alerts: elements of an alerting rule, from one evaluation to the next.
+//! Alerts: series of an alerting rule, from one evaluation to the next.
 ghost use Rattle.std.specs.Prelude.{◌≡◌, ◌↔◌, IsTrue, IfOk, IsOk};
 
 use rl_aggregate::Fraction;
@@ -6,27 +6,27 @@ use rl_labels::{Labels, Ns};
 use rl_plain::{Same, TryCopy};
 use std::alloc::AllocError;
 
-/// An alert of a rule: an element that its vector has, or had.
+/// An alert of a rule: a series that its vector has, or had.
 #[derive(Drop)]
 pub struct Alert {
-    /// The element's labels, the rule's over them, and the rule's name as `alertname`.
+    /// The series' labels, the rule's over them, and the rule's name as `alertname`.
     pub labels: Labels,
-    /// The value that the element has, or had last.
+    /// The value that the series has, or had last.
     pub value: Fraction,
-    /// Since when the element is there without a break.
+    /// The moment from which it is active, its series there without a break.
     pub since: Ns,
     /// When the alert became firing, if it has.
     pub fired: Option<Ns>,
     pub phase: Phase,
 }
 
-/// Where an alert stands.
+/// The state of an alert.
 #[derive(Clone, Copy, Debug, PartialEq, Eq)]
 pub enum Phase {
-    /// The element is not there for long enough.
+    /// Its series has not been there for long enough.
     Pending,
     Firing,
-    /// It was firing at the evaluation before, and its element is gone.
+    /// It was firing at the evaluation before, and its series is gone.
     Resolved,
 }
 

@@ -13,7 +13,7 @@ use rl_plain::TryCopy;
 use std::alloc::{AllocError, Global};
 use std::collections::BTreeMap;
 
-/// The alerts after a moment at which the vector has these elements, under their final label sets. An element fires once it
+/// The alerts after a moment at which the vector has these samples, under their final label sets. An alert fires once its series
 /// has been there for `hold` seconds.
 pub(crate) fn alerts_after(
     alloc: Global,
@@ -31,7 +31,7 @@ pub(crate) fn alerts_after(
     in_label_order(alloc, &after)
 }
 
-// Adds the alerts of the elements.
+// Adds the alerts of the samples.
 fn push_standing(
     after: &mut Vec<Alert>,
     hold: u64,
@@ -48,7 +48,7 @@ fn push_standing(
     Ok(())
 }
 
-// Adds those that are resolved if their elements are gone.
+// Adds those that are resolved if their series are gone.
 fn push_gone(after: &mut Vec<Alert>, alerts: &[Alert]) -> Result<(), AllocError>
     ensures { OnOk result (after.new.items ≡ after.old.items ++ all_gone alerts.now) }
 {
@@ -60,7 +60,7 @@ fn push_gone(after: &mut Vec<Alert>, alerts: &[Alert]) -> Result<(), AllocError>
     Ok(())
 }
 
-// What an alert is whose element is gone, if it is one.
+// What an alert is whose series is gone, if it is one.
 fn gone(alert: &Alert) -> Result<Option<Alert>, AllocError>
     ensures { IfOk result (λ after. after ≡ gone alert.now) }
 {
@@ -74,7 +74,7 @@ fn gone(alert: &Alert) -> Result<Option<Alert>, AllocError>
     }
 }
 
-// The alert of an element that is there.
+// The alert of a sample that is there.
 fn standing(hold: u64, t: Ns, sample: &Sample, before: Option<&Alert>) -> Result<Alert, AllocError>
     ensures { IfOk result (λ alert. alert ≡ standing hold t sample.now.labels sample.now.value (option_copied before.entry)) }
 {
@@ -108,7 +108,7 @@ fn fired_of(t: Ns, before: Option<&Alert>) -> Option<Ns>
     }
 }
 
-// Whether an element has been there for so many seconds.
+// Whether a series has been there for `hold` seconds.
 fn is_due(hold: u64, since: Ns, t: Ns) -> bool
     ensures { result ≡ is_due hold since t }
 {

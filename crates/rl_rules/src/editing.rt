@@ -25,7 +25,7 @@ pub fn hand_on(
     Ok(alerts)
 }
 
-// Takes the first rule that is the same, if there is one: its alerts.
+// Removes the first rule that is equal, if there is one: its alerts.
 fn take_first(before: &mut Vec<(Rule, PlainList<Alert>)>, rule: &Rule) -> Option<PlainList<Alert>>
     ensures { (result, before.new.items) ≡ taken rule.now before.old.items }
 {

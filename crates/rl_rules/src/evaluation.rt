@@ -34,7 +34,7 @@ pub struct RuleResult {
 pub enum RuleOutcome {
     /// The recorded samples, in the order of their label sets.
     Samples(PlainList<Sample>),
-    /// The alerts, in the order of their label sets. Those that are resolved are told of once.
+    /// The alerts, in the order of their label sets. Those that are resolved are given once.
     Alerts(PlainList<Alert>),
     Failed(Cause),
 }
@@ -44,9 +44,9 @@ pub enum RuleOutcome {
 pub enum Cause {
     /// A line had an error.
     PipelineError,
-    /// Two elements have one final label set.
+    /// Two samples have one final label set.
     SameLabels,
-    /// The vector has more elements than the group's limit.
+    /// The vector has more samples than the group's limit.
     LimitExceeded,
 }
 

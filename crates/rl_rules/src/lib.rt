@@ -2,7 +2,7 @@
 //!
 //! `read_rules` gives exactly the groups that the document has, or its lowest fault. `step_rule` gives the samples of a
 //! recording rule or the alerts of an alerting one, or why it failed. `hand_on` gives the rules of an edited group the
-//! alerts of those before that are the same.
+//! alerts of those before that are equal.
 //!
 //! - `rule`: `Group`, `Rule`. `alert`: `Alert`, `Phase`. `evaluation`: `Evaluation`, `RuleResult`, `RuleOutcome`, `Cause`.
 //! - `fault`: why a rule file is refused. `reading`: `read_rules`. `stepping`: `step_rule`. `naming`: `Namer`, which

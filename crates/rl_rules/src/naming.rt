@@ -1,4 +1,4 @@
-//! Final label sets: the labels of an element, a rule's over them, and its name over all.
+//! Final label sets: the labels of a sample, a rule's over them, and its name over all.
 ghost use Rattle.std.specs.Prelude.{◌≡◌, true, IfOk, IfSome, OnOk};
 ghost use Rattle.rl_rules.specs.Naming.{final_by, naming_of, AreFinal, Naming};
 ghost use Rattle.rl_rules.specs.Outcomes.{name_label, with_pair, with_pairs};
@@ -17,14 +17,14 @@ pub const NAME_LABEL: &str = "__name__";
 /// The label that has the name of a rule's alerts.
 pub const ALERT_LABEL: &str = "alertname";
 
-/// Gives the elements of a rule their final label sets, and shares those that it gave at the last evaluation. Contracts see
+/// Gives the samples of a rule their final label sets, and shares those that it gave at the last evaluation. Contracts see
 /// what it takes of the rule.
 #[derive(Drop)]
 pub struct Namer {
     kind: RuleKind,
     name: PlainText,
     labels: PlainList<(PlainText, PlainText)>,
-    // Label sets of elements with their final ones: those of the last evaluation, from which place on they are sought, and
+    // Label sets of samples with their final ones: those of the last evaluation, the index from which they are sought, and
     // those of this one.
     known: Vec<(Labels, Labels)>,
     place: usize,
@@ -81,7 +81,7 @@ impl Namer {
         Ok(())
     }
 
-    // The final label set of an element. Elements in the order of their label sets find what they had before.
+    // The final label set of a sample. Samples in the order of their label sets find what their series had before.
     pub(crate) fn named(&mut self, labels: &Labels) -> Result<Labels, AllocError>
         ensures same { self.new ≡ self.old }
         ensures named { IfOk result (λ named. named ≡ final_by self.old labels.now) }
@@ -97,7 +97,7 @@ impl Namer {
         Ok(named)
     }
 
-    // The same where all elements so far are those of the last evaluation, which stay where they are then.
+    // The known one, where all series so far are those of the last evaluation, which then stay where they are.
     fn as_before(&mut self, labels: &Labels) -> Result<Option<Labels>, AllocError>
         ensures same { self.new ≡ self.old }
         ensures named { IfOk result (λ found. IfSome found (λ named. named ≡ final_by self.old labels.now)) }
@@ -114,7 +114,7 @@ impl Namer {
         Ok(None)
     }
 
-    // What was not asked for since it began goes.
+    // What was not asked for after `begin` goes.
     pub(crate) fn end(&mut self)
         ensures { self.new ≡ self.old }
     {
@@ -126,7 +126,7 @@ impl Namer {
     }
 }
 
-// Adds copies of the first known pairs, up to a place.
+// Adds copies of the first known pairs, up to an index.
 fn push_first(
     fresh: &mut Vec<(Labels, Labels)>,
     known: &[(Labels, Labels)],
@@ -141,7 +141,7 @@ fn push_first(
     Ok(())
 }
 
-// The first place, of those from one on, whose label set is no lesser one.
+// The first index, from one on, whose label set is not less.
 fn first_from(known: &[(Labels, Labels)], from: usize, labels: &Labels) -> usize {
     for place in from..known.len() {
         if known[place].0 >= *labels {
@@ -151,7 +151,7 @@ fn first_from(known: &[(Labels, Labels)], from: usize, labels: &Labels) -> usize
     known.len()
 }
 
-// The final label set at the place, if it is that of the labels.
+// The final label set at the index, if it is that of the labels.
 fn known_at(
     known: &[(Labels, Labels)],
     place: usize,

@@ -129,7 +129,7 @@ fn rule_at(alloc: Global, group: usize, rule: usize, table: &Table) -> Result<Ru
     })
 }
 
-// The query of a rule, or its fault with the places of the group and of the rule.
+// The query of a rule, or its fault with the indexes of the group and of the rule.
 fn query_at(alloc: Global, group: usize, rule: usize, text: &str) -> Result<Query, RulesError>
     ensures { Reads query_form result (query_at group rule (query_of text.now)) (QueryLacksRoom group rule text.now) }
 {

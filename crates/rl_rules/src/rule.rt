@@ -12,7 +12,7 @@ pub struct Group {
     pub name: PlainText,
     /// From one evaluation to the next, in seconds.
     pub interval: u64,
-    /// The most elements that the vector of a rule may have; 0 is no limit.
+    /// The most samples that the vector of a rule may have; 0 is no limit.
     pub limit: u64,
     pub rules: PlainList<Rule>,
 }
@@ -24,11 +24,11 @@ pub struct Rule {
     /// The name of the metric that is recorded, or of the alerts.
     pub name: PlainText,
     pub query: Query,
-    /// Names and values that stand over the labels of each element, by rising name. An empty value removes a label.
+    /// Names and values that stand over the labels of each sample, by rising name. An empty value removes a label.
     pub labels: PlainList<(PlainText, PlainText)>,
-    /// How long an element has to be there until its alert fires, in seconds.
+    /// How long a series has to be there until its alert fires, in seconds.
     pub hold: u64,
-    /// What is told of each alert besides.
+    /// What else is said of each alert.
     pub annotations: Labels,
 }
 
@@ -37,7 +37,7 @@ pub struct Rule {
 pub enum RuleKind {
     /// Its vector is recorded under a new name.
     Recording,
-    /// Each element of its vector is an alert.
+    /// Each sample of its vector is an alert.
     Alerting,
 }
 

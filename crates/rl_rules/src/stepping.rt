@@ -15,8 +15,8 @@ use rl_plain::{PlainList, TryCopy};
 use std::alloc::AllocError;
 
 /// The alerts that a rule has after a moment, and what it makes of the outcome of its query, in a group with this limit and
-/// with the alerts that it had before. Where the query failed it takes no memory, and is never refused. What the namer has of
-/// the last evaluation is shared.
+/// with the alerts that it had before. Where the query failed it takes no memory, and is never refused. What the cache of label
+/// sets has of the last evaluation is shared.
 pub fn step_rule(
     rule: &Rule,
     limit: u64,
@@ -61,7 +61,7 @@ fn kept_at(cause: Cause, alerts: PlainList<Alert>) -> PlainList<Alert>
     }
 }
 
-// What the rule makes of its elements, under their final label sets and in the order of these.
+// What the rule makes of its samples, under their final label sets and in the order of these.
 fn make(
     rule: &Rule,
     limit: u64,
@@ -122,7 +122,7 @@ fn final_samples(
     Ok(samples)
 }
 
-// Puts each sample under the final label set that the namer gives it.
+// Puts each sample under the final label set that the cache gives it.
 fn name_samples(samples: &mut [Sample], namer: &mut Namer) -> Result<(), AllocError>
     ensures { OnOk result (samples.new ≡ map (named_by namer.old) samples.old) }
 {
@@ -132,7 +132,7 @@ fn name_samples(samples: &mut [Sample], namer: &mut Namer) -> Result<(), AllocEr
     Ok(())
 }
 
-// Whether so many elements are more than the limit; 0 is none.
+// Whether `count` samples are more than the limit; 0 is no limit.
 fn is_exceeded(limit: u64, count: usize) -> bool
     ensures { result ≡ is_exceeded limit count }
 {

@@ -1,4 +1,4 @@
--- What a writer got, step by step.
+-- What was written, step by step.
 use Rattle.std.proofs.Common.{◌≡◌, ◌≢◌, Bool, true, false, ℕ, zero, suc, ◌∷◌, slice_index_or, ◌+◌, ◌-◌, ◌<◌, ◌≤◌, List, [], ◌++◌, length, take, drop, get_or, Option, None, Some, Result, Ok, Err, OnOk, OnErr, sym, ap, subst, ◌∙◌, refl, arith, append_assoc, length-append}
 use Rattle.std.proofs.lemmas.List.{get_or_append_left, take-append-drop, append-nil, take_all, drop-append-le, drop_more, length-drop}
 use Rattle.std.specs.List.{flat_map}
@@ -30,15 +30,15 @@ Writes-step o m n all rest count w a = (w.0 ++ take count rest, w.1 ∙ ap (λ l
 pub Writes-trans : (o m n : Option (List ℕ)) (a b c : List ℕ) → Writes o m a b → Writes m n b c → Writes o n a c
 Writes-trans o m n a b c v w = (v.0 ++ w.0, v.1 ∙ ap (λ l. v.0 ++ l) w.1 ∙ sym (append_assoc v.0 w.0 c), Appends-trans o m n v.0 w.0 v.2 w.2)
 
--- with more to write behind
+-- with more to write after it
 pub Writes-behind : (o n : Option (List ℕ)) (a b more : List ℕ) → Writes o n a b → Writes o n (a ++ more) (b ++ more)
 Writes-behind o n a b more w = (w.0, ap (λ l. l ++ more) w.1 ∙ append_assoc w.0 b more, w.2)
 
--- all that stands behind some bytes
+-- all that follows some bytes
 pub behind : (n : ℕ) (bytes : List ℕ) → take (length bytes - n) (drop n bytes) ≡ drop n bytes
 behind n bytes = take_all (length bytes - n) (drop n bytes) (omega (arith, length-drop n bytes))
 
--- what is left: the rest of the next piece, and those behind it
+-- what is left: the rest of the next piece, and those after it
 pub rest_of-next : (all : List (List ℕ)) (next part : ℕ) → next < length all → part ≤ length (get_or all next []) → rest_of all next part ≡ drop part (get_or all next []) ++ rest_of all (next + 1) 0
 rest_of-next all next part within fits =
     ap (λ left. drop part (flat_map (λ piece. piece) left)) (drop_more all next [] within)
@@ -75,7 +75,7 @@ rest_of-left all next part within fits none =
     let piece = get_or all next [] in
     omega (arith, fits, length-drop part piece, length-append (drop part piece) (rest_of all (next + 1) 0), ap length (sym (rest_of-next all next part within (omega (arith, fits))) ∙ none))
 
--- the last line wanted or not, a piece is the same
+-- the last line wanted or not, a piece stays as it is
 piece_wanted : (ended : Bool) (texts : List (List ℕ)) (count i : ℕ) → i < length (pieces ended texts count) → get_or (pieces true texts count) i [] ≡ get_or (pieces ended texts count) i []
 piece_wanted false texts count i within = get_or_append_left texts (end_pieces count) [] i within
 piece_wanted true texts count i within = refl
@@ -113,6 +113,6 @@ fits_behind [] ys n p f = omega (arith, f)
 fits_behind (x ∷ xs) ys zero p f = f
 fits_behind (x ∷ xs) ys (suc n) p f = fits_behind xs ys n p f
 
--- a place among pieces is one with more behind them
+-- a position among pieces is one with more after them
 pub place_behind : (xs ys : List (List ℕ)) (n p : ℕ) → IsPlace xs n p → IsPlace (xs ++ ys) n p
 place_behind xs ys n p is = record { within = let within = is.within in omega (arith, within, length-append xs ys); fits = fits_behind xs ys n p is.fits }

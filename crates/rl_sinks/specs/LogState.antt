@@ -21,7 +21,7 @@ pub record Logged (W : Type 0) : Type 0 where
   -- how often a text was refused, modulo 2 to the power 64
   pub refusals : ℕ
 
--- the same as numbers, for a store
+-- such texts as numbers, for a store
 abbrev pub logged_code : {W : Type 0} → Coded W → Coded (Logged W)
 logged_code {W} writer = code_by (W × (ℕ × (List (List ℕ) × (ℕ × (ℕ × (Bool × ℕ))))))
     (coded× writer (coded× coded_ℕ (coded× (coded_list (coded_list coded_ℕ)) (coded× coded_ℕ (coded× coded_ℕ (coded× coded_bool coded_ℕ))))))
@@ -63,7 +63,7 @@ module _ {W : Type 0} where
   abbrev pub unwritten : Logged W → List ℕ
   unwritten log = rest_of (pieces true log.texts (length log.texts)) log.next log.part
 
-  -- as many texts wait to be written as there is room for
+  -- the texts that wait to be written fill the room
   abbrev pub is_full : Logged W → Bool
   is_full log = nat_le log.room (length log.texts - log.next)
 

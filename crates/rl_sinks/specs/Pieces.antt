@@ -8,12 +8,12 @@ use Rattle.std.specs.Io.KnownBytes.{Appends}
 abbrev pub end_pieces : ℕ → List (List ℕ)
 end_pieces count = codes "# end " ∷ decimal count ∷ codes "\n" ∷ []
 
--- texts, and behind them the last line of a sink that has taken so many, where it is wanted
+-- texts, and after them the last line of a sink that has taken `count` texts, where it is wanted
 abbrev pub pieces : Bool → List (List ℕ) → ℕ → List (List ℕ)
 pieces false texts count = texts
 pieces true texts count = texts ++ end_pieces count
 
--- what is left of pieces behind the first ones and a part of the next
+-- what is left of pieces after the first ones and a part of the next
 abbrev pub rest_of : List (List ℕ) → ℕ → ℕ → List ℕ
 rest_of all next part = drop part (flat_map (λ piece. piece) (drop next all))
 
@@ -22,6 +22,6 @@ pub record IsPlace (all : List (List ℕ)) (next part : ℕ) : Type 0 where
   pub within : next ≤ length all
   pub fits : part ≤ length (slice_index_or all next [])
 
--- the writer got a front of what was to write, and the rest is left
+-- a front of what was to be written is written, and the rest is left
 abbrev pub Writes : Option (List ℕ) → Option (List ℕ) → List ℕ → List ℕ → Type 0
 Writes old new before after = (front : List ℕ) × (before ≡ front ++ after) × Appends old new front

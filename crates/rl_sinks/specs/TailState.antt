@@ -23,7 +23,7 @@ pub record Tailed (W : Type 0) : Type 0 where
   -- how often a text was refused, modulo 2 to the power 64
   pub refusals : ℕ
 
--- the same as numbers, for a store
+-- such texts as numbers, for a store
 abbrev pub tailed_code : {W : Type 0} → Coded W → Coded (Tailed W)
 tailed_code {W} writer = code_by (W × (ℕ × (List (List ℕ) × (ℕ × (ℕ × (ℕ × (Bool × ℕ)))))))
     (coded× writer (coded× coded_ℕ (coded× (coded_list (coded_list coded_ℕ)) (coded× coded_ℕ (coded× coded_ℕ (coded× coded_ℕ (coded× coded_bool coded_ℕ)))))))

@@ -1,4 +1,4 @@
--- What a sink is told of an evaluation, by its kind.
+-- What a sink is given of an evaluation, by its kind.
 use Rattle.std.specs.Prelude.{ℕ, ◌==◌, Bool, true, false, List, [], ◌++◌, Option, None, Some, codes, if◌then◌else◌}
 use Rattle.std.specs.List.{flat_map}
 use Rattle.std.specs.Fmt.{decimal}
@@ -32,7 +32,7 @@ phase_text phases.Pending = codes "pending"
 phase_text phases.Firing = codes "firing"
 phase_text phases.Resolved = codes "resolved"
 
--- phase, labels, value, and since when
+-- state, labels, value, and the moment from which it is active
 unfoldable pub alert_text : Alert → List ℕ
 alert_text alert = phase_text alert.phase ++ codes " " ++ canonical_text alert.labels ++ codes " " ++ value_text alert.value ++ codes " " ++ decimal alert.since
 
@@ -98,7 +98,7 @@ tail_lines name (outcomes.Failed cause) = codes "failed " ++ cause_text cause ++
 abbrev pub tail_text : Evaluation → List ℕ
 tail_text evaluation = codes "eval " ++ decimal evaluation.t ++ codes " " ++ evaluation.group ++ codes "\n" ++ flat_map (λ rule. tail_lines rule.name rule.outcome) evaluation.outcomes
 
--- what a sink of the kind is told
+-- what a sink of the kind is given
 abbrev pub evaluation_text : SinkKind → Evaluation → List ℕ
 evaluation_text sinks.Recorder evaluation = recorder_text evaluation
 evaluation_text sinks.Notifier evaluation = notifier_text evaluation

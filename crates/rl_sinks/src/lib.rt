@@ -4,7 +4,7 @@
 //! refused. `take` that is answered Ok adds one text; a refusal counts as one and changes nothing else.
 //!
 //! - `sink`: `Sink`, `SinkKind`, `SinkFault`, and boxes of sinks. `text`: `evaluation_text`, `write_tail`.
-//! - `recorder`: `Recorder`, which writes the samples of recording rules. `notifier`: `Notifier`, which tells of alerts.
+//! - `recorder`: `Recorder`, which writes the samples of recording rules. `notifier`: `Notifier`, which reports alerts.
 //!   Both are a `TextLog`, in `log`: each text is kept and written once, in order.
 //! - `tail`: `Tail`, which keeps the last texts. `writing`: piece by piece to a writer that may stop anywhere.
 #![tactic(auto)]

@@ -14,7 +14,7 @@ use std::alloc::{AllocError, Global};
 use std::io::Write;
 use std::marker::Model;
 
-/// Keeps every text, and writes them to its writer, the last line `# end <count>` behind them. A drop writes what is left of
+/// Keeps every text, and writes them to its writer, the last line `# end <count>` after them. A drop writes what is left of
 /// both. Contracts see a `Logged`.
 pub(crate) struct TextLog<W: Write + Drop> {
     writer: W,

@@ -1,4 +1,4 @@
-//! A sink that tells of alerts that began to fire or are resolved, and keeps every text.
+//! A sink that reports alerts that began to fire or are resolved, and keeps every text.
 ghost use Rattle.std.specs.Prelude.{◌≡◌, ◌+◌, ◌<◌, ◌^◌, length, true, OnOk, OnErr, IfErr};
 ghost use Rattle.rl_sinks.specs.Pieces.{Writes};
 
@@ -9,7 +9,7 @@ use std::alloc::Global;
 use std::io::Write;
 use std::marker::Model;
 
-/// Keeps every text, and writes them to its writer when it is pumped, closed or dropped, the last line `# end <count>` behind
+/// Keeps every text, and writes them to its writer when it is pumped, closed or dropped, the last line `# end <count>` after
 /// them when it is closed or dropped. Contracts see a `Logged`.
 #[derive(Drop)]
 pub struct Notifier<W: Write + Drop> {

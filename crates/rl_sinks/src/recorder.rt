@@ -9,7 +9,7 @@ use std::alloc::Global;
 use std::io::Write;
 use std::marker::Model;
 
-/// Keeps every text, and writes them to its writer when it is pumped, closed or dropped, the last line `# end <count>` behind
+/// Keeps every text, and writes them to its writer when it is pumped, closed or dropped, the last line `# end <count>` after
 /// them when it is closed or dropped. Contracts see a `Logged`.
 #[derive(Drop)]
 pub struct Recorder<W: Write + Drop> {

@@ -11,7 +11,7 @@ use rl_rules::Evaluation;
 use std::alloc::{AllocError, AllocFailed};
 use thiserror::Error;
 
-/// What a sink is told of an evaluation.
+/// What a sink is given of an evaluation.
 #[derive(Clone, Copy, Debug, PartialEq, Eq)]
 pub enum SinkKind {
     /// The samples of recording rules.
@@ -78,7 +78,7 @@ pub trait Sink: Drop {
         ensures { option_copied result ≡ slice_get (state self.now).kept index };
 
     /// Takes the evaluation's text for its kind. A refusal keeps nothing and is counted. A closed sink refuses with reason 1,
-    /// and no sink that is open does; so who is told `Refused(1)` knows that the sink is closed.
+    /// and no sink that is open does; so `Refused(1)` means that the sink is closed.
     fn take(&mut self, evaluation: &Evaluation) -> Result<(), SinkFault>
         requires { (state self.old).count + 1 < 2 ^ 64 }
         ensures ok { OnOk result (state self.new ≡ taken (state self.old) (evaluation_text (state self.old).kind evaluation.now)) }
@@ -93,7 +93,7 @@ pub trait Sink: Drop {
         ensures fault { IfErr result (λ fault. fault ≡ faults.WriteFault) }
         ensures answer { pump_answers self.new result };
 
-    /// Writes what is not yet written, and a last line behind it, and closes the sink with either answer. A sink that is closed
+    /// Writes what is not yet written, and a last line after it, and closes the sink with either answer. A sink that is closed
     /// can be closed again, to go on; so does its drop.
     fn close(&mut self) -> Result<(), SinkFault>
         ensures closed { state self.new ≡ closed (state self.old) }

@@ -12,7 +12,7 @@ use std::alloc::{AllocError, Global};
 use std::io::Write;
 use std::marker::Model;
 
-/// Keeps the last texts, and writes those to its writer when it is closed or dropped, the last line `# end <count>` behind them.
+/// Keeps the last texts, and writes those to its writer when it is closed or dropped, the last line `# end <count>` after them.
 /// It is never full, and a pump writes nothing. Contracts see a `Tailed`.
 pub struct Tail<W: Write + Drop> {
     writer: W,

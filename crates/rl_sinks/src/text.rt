@@ -15,7 +15,7 @@ use std::alloc::{AllocError, Global};
 use std::io;
 use std::io::Write;
 
-/// What a sink of the kind is told of the evaluation. Each line ends with a newline; moments are nanoseconds.
+/// What a sink of the kind is given of the evaluation. Each line ends with a newline; moments are nanoseconds.
 pub fn evaluation_text(
     alloc: Global,
     kind: SinkKind,
@@ -26,7 +26,7 @@ pub fn evaluation_text(
     text_with_room(alloc, kind, evaluation, 0)
 }
 
-/// The same, in a text that has room for so many bytes before it grows.
+/// What it is given, in a text that has room for `room` bytes before it grows.
 pub(crate) fn text_with_room(
     alloc: Global,
     kind: SinkKind,
@@ -46,7 +46,7 @@ pub(crate) fn text_with_room(
     Ok(target.text)
 }
 
-/// Writes what a tail is told of the evaluation. It takes no memory.
+/// Writes what a tail is given of the evaluation. It takes no memory.
 pub fn write_tail<W: Write>(out: &mut W, evaluation: &Evaluation) -> io::Result<()>
     ensures { OnOk result (Appends (W.contents out.old) (W.contents out.new) (tail_text evaluation.now)) }
 {

@@ -13,7 +13,7 @@ took_prefix-closed : (evaluations : List Evaluation) (sinks : List SinkState) �
 took_prefix-closed evaluations [] all = all
 took_prefix-closed evaluations (sink ∷ sinks) all = (all.0, took_prefix-closed evaluations sinks all.1)
 
--- the sinks of a vector of so many, where the closed ones were put back
+-- the sinks of a vector of `many` sinks, where the closed ones were put back
 pub took_prefix-put : {S : Type 0} (state : S → SinkState) (evaluations : List Evaluation) (olds news : List S) (many : ℕ) → many ≡ length news → map state news ≡ map closed (map state olds)
     → AllByRecursion (TookPrefix evaluations) (map state olds) → AllByRecursion (TookPrefix evaluations) (map state (take many (news ++ drop (length news) olds)))
 took_prefix-put state evaluations olds news many is_many is_closed all =

@@ -28,7 +28,7 @@ both_closed {S} state Says firsts others n m here there = record {
   failures_are = sum_by-append {X = S × Result ⊤ SinkFault} (λ close. cond (is_err close.1) 1 0) here.answers there.answers ∙ (λ i. here.failures_are i + there.failures_are i);
 }
 
--- the sink at the place was closed, and those before it were
+-- the sink at the index was closed, and those before it were
 pub sinks-next : {S : Type 0} (state : S → SinkState) (Says : S → Result ⊤ SinkFault → Type 0) (nows : List S) (i : ℕ) (new : S) (answer : Result ⊤ SinkFault) (failures after : ℕ) → i < length nows → Says new answer → after ≡ failures + cond (is_err answer) 1 0
     → SinksAnswered state Says (map state (take i nows)) failures → SinksAnswered state Says (map state (take (i + 1) (set nows i new))) after
 sinks-next state Says nows i new answer failures after within says is so_far =
@@ -43,7 +43,7 @@ no_books_closed state Says = (0, none_closed state Says, refl)
 least_of_sum : (count failures one most : ℕ) → count ≡ min failures most → min (count + one) most ≡ min (failures + one) most
 least_of_sum count failures one most is = omega (arith, is)
 
--- the sinks of the book at the place were closed, and those of the books before it were
+-- the sinks of the book at the index were closed, and those of the books before it were
 pub books-counted : {S : Type 0} (state : S → SinkState) (Says : S → Result ⊤ SinkFault → Type 0) (nows : List BookState) (i : ℕ) (new : BookState) (count one after : ℕ) → i < length nows → SinksAnswered state Says new.sinks one → after ≡ min (count + one) (2 ^ 64 - 1)
     → BooksClosed state Says (take i nows) count → BooksClosed state Says (take (i + 1) (set nows i new)) after
 books-counted state Says nows i new count one after within here is so_far =

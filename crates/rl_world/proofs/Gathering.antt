@@ -45,7 +45,7 @@ open_at : {X : Type 0} (slot : Option (OpenEvaluation X)) (t : ℕ) → option_m
 open_at None t h = absurd (none_some t h)
 open_at (Some opened) t h = record { opened = opened; is = refl; moment = some_is opened.t t h }
 
--- what was read at one place twice is one
+-- what was read at one index twice is one
 pub same_read : {X : Type 0} (xs : List X) (k : ℕ) (x y : X) → slice_get xs k ≡ Some x → slice_get xs k ≡ Some y → x ≡ y
 same_read xs k x y first second = some_is x y (sym first ∙ second)
 

@@ -45,7 +45,7 @@ few_evaluations [] = omega arith
 few_evaluations (kinds.Edited group ∷ items) = let rest = few_evaluations items in omega arith
 few_evaluations (kinds.Evaluated evaluation ∷ items) = let rest = few_evaluations items in omega arith
 
--- two lists side by side from a place on
+-- two lists side by side from an index on
 zip-drop : {X Y : Type 0} (xs : List X) (ys : List Y) (i : ℕ) (x : X) (y : Y) → i < length xs → i < length ys → zip (drop i xs) (drop i ys) ≡ (get_or xs i x, get_or ys i y) ∷ zip (drop (suc i) xs) (drop (suc i) ys)
 zip-drop [] ys i x y low high = absurd (omega arith)
 zip-drop (a ∷ xs) [] i x y low high = absurd (omega arith)

@@ -172,7 +172,7 @@ lift_shard world number step place reply new turn = record {
   turn = record { shard = turn.shard; there = turn.there; place_is = turn.place_is; reply_is = turn.reply_is; after = refl };
 }
 
--- a change of a history that may be made before or behind the keeping
+-- a change of a history that may be made before or after the keeping
 lift_history : (world : Lists) (group : ℕ) (step : Step) (reply : Reply) (kept_change : History (List Partial) → History (List Partial)) (change : History (List Entry) → History (List Entry)) (new : Parts)
     → ((history : History (List Entry)) → kept_change (kept_history history) ≡ kept_history (change history)) → ((after : Lists) → HistoryTurn change world group after → Turn lists world step reply after)
     → HistoryTurn kept_change (kept_world world) group new → LiftedTurn world step reply new

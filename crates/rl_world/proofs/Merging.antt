@@ -1,4 +1,4 @@
--- Merging the partials of shards: what each loop over the slots keeps, and that the numbers fit.
+-- Merging the partials of shards: what each loop over the answers keeps, and that the numbers fit.
 use Rattle.std.proofs.Common.{◌≡◌, ℕ, zero, suc, ◌+◌, ◌-◌, ◌*◌, ◌<◌, ◌≤◌, List, [], ◌∷◌, ◌++◌, length, get_or, drop, flat_map, cond, ◌||◌, Option, None, Some, is_some, option_to_list, refl, sym, ap, subst, ◌∙◌, append_assoc, add-one, arith}
 use Rattle.std.specs.List.{AllByRecursion}
 use Rattle.std.specs.Option.{unwrap_or}
@@ -82,7 +82,7 @@ Slot = Option (Gathered (List Partial))
 abbrev Slots : Type 0
 Slots = List Slot
 
--- the sum so far, with what the slots from one on have, is the merge of all slots, and so many shards may hold its numbers
+-- the sum so far, with the answers from index `i` on, is the merge of all answers, and `i` shards may hold its numbers
 pub record IsSumBefore (term : ℕ) (slots : Slots) (i : ℕ) (sum : Partial) : Type 0 where
   pub all : merged_from sum term (flat_map option_to_list (drop i slots)) ≡ merged_from no_partial term (flat_map option_to_list slots)
   pub within : IsWithin (i * most_in_shard) sum
@@ -91,7 +91,7 @@ pub nothing_merged : (term : ℕ) (slots : Slots) → IsSumBefore term slots 0 n
 nothing_merged term slots = record { all = refl; within = within-none }
 
 module _ (term : ℕ) (slots : Slots) (i : ℕ) (slot : Slot) (sum : Partial) (inside : i < length slots) (slot_is : slot ≡ get_or slots i slot) (before : IsSumBefore term slots i sum) where
-  -- what the slots from one on add is what it adds first, and then the others
+  -- what the answers from one on add is what it adds first, and then the others
   first_slot : (own : Slot) → slot ≡ own → merged_from sum term (flat_map option_to_list (own ∷ drop (i + 1) slots)) ≡ merged_from no_partial term (flat_map option_to_list slots)
   first_slot own is =
       ap (λ first. merged_from sum term (flat_map option_to_list (first ∷ drop (i + 1) slots))) (sym is ∙ slot_is)
@@ -136,7 +136,7 @@ pub length-merged_terms : (term terms : ℕ) (answers : List (Gathered (List Par
 length-merged_terms term zero answers = refl
 length-merged_terms term (suc more) answers = ap suc (length-merged_terms (suc term) more answers)
 
--- what all slots merge to is within what all shards may hold
+-- what all answers merge to is within what all shards may hold
 merged-within : (term n : ℕ) (slots : Slots) (sum : Partial) → IsWithin n sum → AllByRecursion (HasTerm term) slots → IsWithin (n + length slots * most_in_shard) (merged_from sum term (flat_map option_to_list slots))
 merged-within term n [] sum within each = within-more n _ sum (omega arith) within
 merged-within term n (None ∷ slots) sum within each = within-more (n + length slots * most_in_shard) _ _ (omega arith) (merged-within term n slots sum within each.1)
@@ -145,7 +145,7 @@ merged-within term n (Some answer ∷ slots) sum within each =
     let own_within : IsWithin most_in_shard own = All-from_recursion _ answer.shown each.0.1 term no_partial each.0.0 in
     within-more (n + most_in_shard + length slots * most_in_shard) _ _ (omega arith) (merged-within term (n + most_in_shard) slots (merge sum own) (within-merge n most_in_shard sum own within own_within) each.1)
 
--- a slot that has a partial for each term has one for this
+-- an answer that has a partial for each term has one for this
 has_term : (term terms : ℕ) (slots : Slots) → term < terms → AllByRecursion (IsKept terms) slots → AllByRecursion (HasTerm term) slots
 has_term term terms [] inside kept = tt
 has_term term terms (None ∷ slots) inside kept = (kept.0, has_term term terms slots inside kept.1)
@@ -168,7 +168,7 @@ merged_terms-alone term (suc more) answer all =
     ∙ ap (λ others. own ∷ others) (merged_terms-alone (suc term) more answer (omega (arith, all)) ∙ ap (λ n. drop n answer.shown) (sym (add-one term)))
     ∙ sym (at_drop_more (λ left. left) answer.shown term no_partial (omega (arith, all)))
 
--- so the merges of all slots are what the only one has
+-- so the merges of all answers are what the only one has
 pub merged_terms-lone : (terms : ℕ) (slots : Slots) (slot : Slot) (answer : Gathered (List Partial)) → length slots < 2 → 1 ≤ length slots → slot ≡ get_or slots 0 slot → slot ≡ Some answer → AllByRecursion (IsKept terms) slots → answer.shown ≡ merged_terms 0 terms (flat_map option_to_list slots)
 merged_terms-lone terms (first ∷ []) slot answer one some is asked kept =
     let own : Some answer ≡ first = sym asked ∙ is in

@@ -8,7 +8,7 @@ use Rattle.rl_rules.specs.declared.evaluation.Evaluation.{Evaluation}
 use Rattle.rl_sinks.specs.SinkState.{SinkState, closed}
 use Rattle.rl_world.specs.Offering.{TookPrefix, Offered, AllOffered, is_behind, behind_from, behind_of}
 
--- where the rest is as it was, the first of the rest is, and what stands behind it
+-- where the rest is as it was, the first of the rest is, and what follows it
 get_or-rest : (olds nows : List SinkState) (i : ℕ) (d : SinkState) → drop i nows ≡ drop i olds → get_or nows i d ≡ get_or olds i d
 get_or-rest olds nows i d rest =
     let place : i + 0 ≡ i = omega arith in
@@ -71,11 +71,11 @@ all_offered-next state evaluations olds nows i sink new same within rest others 
     subst (λ (sinks : List SinkState). AllOffered evaluations (take (i + 1) (map state olds)) (take (i + 1) sinks)) (sym (map-set state nows i new))
     (AllOffered-more evaluations (map state olds) (map state nows) i old (state new) (omega (arith, length-map olds state)) (omega (arith, length-map nows state)) read others one)
 
--- those behind it are as they were
+-- those after it are as they were
 pub rest-next : {S : Type 0} (state : S → SinkState) (olds nows : List S) (i : ℕ) (new : S) → drop i (map state nows) ≡ drop i (map state olds) → drop (i + 1) (map state (set nows i new)) ≡ drop (i + 1) (map state olds)
 rest-next state olds nows i new rest = ap (drop (i + 1)) (map-set state nows i new) ∙ drop-rest (map state olds) (map state nows) i (state new) rest
 
--- its number was told if it is behind
+-- its number was listed if it is behind
 pub behind-next : {S : Type 0} (state : S → SinkState) (evaluations : List Evaluation) (nows : List S) (i : ℕ) (new : S) (told : Bool) (before numbers more : List ℕ) → i < length nows → told ≡ is_behind evaluations (state new)
     → numbers ≡ before ++ behind_of evaluations (take i (map state nows)) → more ≡ numbers ++ cond told (i ∷ []) [] → more ≡ before ++ behind_of evaluations (take (i + 1) (map state (set nows i new)))
 behind-next state evaluations nows i new told before numbers more within is_told so_far one =

@@ -60,7 +60,7 @@ fresh_took (sink ∷ sinks) all =
     let none : texts_of sink.kind (take sink.count []) ≡ [] = ap (texts_of sink.kind) (take-nil {A = Evaluation} sink.count) in
     ((omega (arith, all.0.0), all.0.1 ∙ sym (ap (within sink.limit) none ∙ within_none sink.limit)), fresh_took sinks all.1)
 
--- the books are books of a world with so many shards
+-- the books are books of a world with `shards` shards
 pub books_from-fit : {X : Type 0} (states : X → List SinkState) (slot records shards : ℕ) (groups : List Group) (sinks : List X) → AllByRecursion (λ own. AllByRecursion IsFresh (states own)) sinks
     → AllByRecursion (IsBookOf shards) (books_from slot records shards groups (map states sinks))
 books_from-fit states slot records shards [] sinks all = tt

@@ -18,7 +18,7 @@ each_within : (entries : ℕ) (partials : List Partial) → entries ≤ most_in_
 each_within entries [] few all = all
 each_within entries (partial ∷ partials) few all = (within-more entries most_in_shard partial few all.0, each_within entries partials few all.1)
 
--- what so many entries add up to at most
+-- what the entries of one shard add up to at most
 pub of_one_shard : (entries terms : ℕ) (partials : List Partial) → entries ≤ most_in_shard → AreWithin entries terms partials → AreOfOneShard terms partials
 of_one_shard entries terms partials few are = record { each = are.each; within = each_within entries partials few are.within }
 

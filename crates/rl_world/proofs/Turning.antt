@@ -43,7 +43,7 @@ not_true false h = refl
 pub set_same : {X : Type 0} (xs : List X) (k : ℕ) (x : X) → slice_get xs k ≡ Some x → slice_set xs k x ≡ xs
 set_same xs k x there = ap (slice_set xs k) (sym (get_or_from_slice_get xs k x x there)) ∙ set-get_or xs k x
 
--- what holds of each holds of the one at a place
+-- what holds of each holds of the one at an index
 pub each_at : {X : Type 0} (P : X → Type 0) (xs : List X) (k : ℕ) (x : X) → AllByRecursion P xs → slice_get xs k ≡ Some x → P x
 each_at P [] k x all there = absurd (none_some x there)
   where
@@ -131,7 +131,7 @@ module _ (shards : List ShardView) (books : List BookState) where
   pub world_with_shard : (number : ℕ) (after : ShardView) → world_of (slice_set shards number after) books ≡ record { shards = slice_set (map journalled shards) number (journalled after); histories = map (λ (b : BookState). b.history) books }
   world_with_shard number after = λ i. record { shards = map-set journalled shards number after i; histories = map (λ (b : BookState). b.history) books }
 
-  -- a shard of which the same is promised as before
+  -- a shard with the promises that it had before
   pub shard_kept : (number : ℕ) (shard after : ShardView) → slice_get shards number ≡ Some shard → journalled after ≡ journalled shard → world_of (slice_set shards number after) books ≡ world_of shards books
   shard_kept number shard after there kept =
       world_with_shard number after

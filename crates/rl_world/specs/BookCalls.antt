@@ -37,7 +37,7 @@ Refuses (Some fault) result = result ≡ Err fault
 Refuses None (Ok answer) = Unit {0}
 Refuses None (Err fault) = ⊥
 
--- a call that takes memory is refused exactly for the fault, where there is one, and else may want for memory
+-- a call that takes memory is refused exactly for the fault, where there is one, and else may lack memory
 abbrev pub Answers : {A : Type 0} → Option BookFault → Result A (OrMemory BookFault) → Type 0
 Answers (Some fault) result = result ≡ Err (errors.Fault fault)
 Answers None (Ok answer) = Unit {0}

@@ -5,7 +5,7 @@ use Rattle.rl_sinks.specs.SinkState.{SinkState}
 use Rattle.rl_sinks.specs.declared.sink.SinkFault.{SinkFault}
 use Rattle.rl_world.specs.WorldState.{BookState}
 
--- sinks that are seen so, each with an answer of its close or pump that it stands for; so many of the answers are errors
+-- sinks that are seen so, each with an answer of its close or pump that it stands for; `failures` of the answers are errors
 pub record SinksAnswered {S : Type 0} (state : S → SinkState) (Says : S → Result ⊤ SinkFault → Type 0) (sinks : List SinkState) (failures : ℕ) : Type 0 where
   pub answers : List (S × Result ⊤ SinkFault)
   pub sinks_are : map (λ close. state close.0) answers ≡ sinks
@@ -16,10 +16,10 @@ pub record SinksAnswered {S : Type 0} (state : S → SinkState) (Says : S → Re
 abbrev pub SinksPumped : {S : Type 0} → (S → SinkState) → (S → Result ⊤ SinkFault → Type 0) → List SinkState → Type 0
 SinksPumped state Says sinks = (failures : ℕ) × SinksAnswered state Says sinks failures
 
--- the sinks of books, those of one book behind those of the other
+-- the sinks of books, those of one book after those of the other
 abbrev pub sinks_of : List BookState → List SinkState
 sinks_of books = flat_map (λ book. book.sinks) books
 
--- the same of all sinks of these books, told as a number of 64 bits or the greatest of them
+-- so for all sinks of these books, with the failures as a number of 64 bits or the greatest of them
 abbrev pub BooksClosed : {S : Type 0} → (S → SinkState) → (S → Result ⊤ SinkFault → Type 0) → List BookState → ℕ → Type 0
 BooksClosed state Says books count = (failures : ℕ) × SinksAnswered state Says (sinks_of books) failures × (count ≡ min failures (2 ^ 64 - 1))

@@ -38,7 +38,7 @@ results_of limit t outcome (rule ∷ rules) alerts = result_of limit t rule (fir
 abbrev pub evaluation_with : {X : Type 0} → Group → OpenEvaluation X → List RuleResult → Evaluation
 evaluation_with group opened outcomes = record { group = group.name; t = opened.t; places = map (λ answer. answer.place) (answers opened); outcomes = outcomes }
 
--- the lists that the shards showed, one behind the other
+-- the lists that the shards showed, one after the other
 abbrev pub shown_entries : OpenEvaluation (List Entry) → List Entry
 shown_entries opened = flat_map (λ answer. answer.shown) (answers opened)
 

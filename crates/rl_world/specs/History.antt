@@ -54,7 +54,7 @@ evaluations_in [] = []
 evaluations_in (kinds.Edited group ∷ items) = evaluations_in items
 evaluations_in (kinds.Evaluated evaluation ∷ items) = evaluation ∷ evaluations_in items
 
--- so many seconds have passed since a moment, if there is one
+-- `seconds` seconds have passed after a moment, if there is one
 abbrev pub has_passed : ℕ → Option ℕ → ℕ → Bool
 has_passed seconds None now = true
 has_passed seconds (Some last) now = nat_le (last + seconds * 10 ^ 9) now
@@ -73,7 +73,7 @@ module _ {X : Type 0} where
   abbrev pub last_moment : History X → Option ℕ
   last_moment history = option_map (λ evaluation. evaluation.t) (slice_get history.evaluations (length history.evaluations - 1))
 
-  -- an evaluation is due: none is open, and the interval has passed since the last one
+  -- an evaluation is due: none is open, and the interval has passed after the last one
   abbrev pub is_due : History X → ℕ → Bool
   is_due history now = not (is_some history.opened) && has_passed history.group.interval (last_moment history) now
 

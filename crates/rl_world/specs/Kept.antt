@@ -27,7 +27,7 @@ abbrev pub merged_from : Partial → ℕ → List (Gathered (List Partial)) → 
 merged_from sum term [] = sum
 merged_from sum term (answer ∷ answers) = merged_from (merge sum (slice_index_or answer.shown term no_partial)) term answers
 
--- the same of each of so many terms, from one on
+-- the merge for each of some terms, from one on
 abbrev pub merged_terms : ℕ → ℕ → List (Gathered (List Partial)) → List Partial
 merged_terms term zero answers = []
 merged_terms term (suc more) answers = merged_from no_partial term answers ∷ merged_terms (suc term) more answers

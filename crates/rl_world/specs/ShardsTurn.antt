@@ -63,7 +63,7 @@ pub record CollectFaults (group : ℕ) (refusal : Refusal) (before after : Shard
   pub t : ℕ
   pub faults : Faults (shard_steps.Collect group terms t) refusal before after
 
--- no shard was asked, and no store is told of
+-- no shard was asked, and nothing is reported of a store
 abbrev pub IsUnasked : List ShardView → Refusal → List ShardView → Type 0
 IsUnasked old refusal new = (is_store_refusal refusal ≡ false) × (new ≡ old)
 

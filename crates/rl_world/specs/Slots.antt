@@ -12,7 +12,7 @@ most_in_shard = 67108864
 abbrev pub most_shards : ℕ
 most_shards = 16
 
--- one partial for each of so many terms, within what one shard may hold
+-- one partial for each of `terms` terms, within what one shard may hold
 pub record AreOfOneShard (terms : ℕ) (partials : List Partial) : Type 0 where
   pub each : length partials ≡ terms
   pub within : AllByRecursion (IsWithin most_in_shard) partials
@@ -21,6 +21,6 @@ pub record AreOfOneShard (terms : ℕ) (partials : List Partial) : Type 0 where
 abbrev pub IsKept : ℕ → Option (Gathered (List Partial)) → Type 0
 IsKept terms slot = IfSome slot (λ answer. AreOfOneShard terms answer.shown)
 
--- the same, as far as one term needs it
+-- that, as far as one term needs it
 abbrev pub HasTerm : ℕ → Option (Gathered (List Partial)) → Type 0
 HasTerm term slot = IfSome slot (λ answer. (term < length answer.shown) × AllByRecursion (IsWithin most_in_shard) answer.shown)

@@ -1,4 +1,4 @@
--- What the replies of a run tell of the stores of its shards.
+-- What the replies of a run say of the stores of its shards.
 use Rattle.std.specs.Prelude.{◌≡◌, ◌==◌, ℕ, ◌<◌, Bool, true, false, ◌&&◌, List, Some, slice_get, zip}
 use Rattle.std.specs.List.{list_any}
 use Rattle.rl_chunks.specs.StoreState.{greatest}
@@ -17,7 +17,7 @@ asks number (steps.Shard shard step) = shard == number
 asks number (steps.Gather group shard) = shard == number
 asks number step = false
 
--- whether a reply tells that the device failed, that a chunk was damaged, or that no number is left
+-- whether a reply says that the device failed, that a chunk was damaged, or that no number is left
 abbrev pub tells_fault : Reply → Bool
 tells_fault (replies.Refused refusals.Fault) = true
 tells_fault reply = false
@@ -30,7 +30,7 @@ abbrev pub tells_spent : Reply → Bool
 tells_spent (replies.Refused refusals.NumbersSpent) = true
 tells_spent reply = false
 
--- whether a reply to a step that asks the shard tells so
+-- whether a reply to a step that asks the shard says so
 abbrev pub is_told : ℕ → (Reply → Bool) → Step × Reply → Bool
 is_told number tells turn = asks number turn.0 && tells turn.1
 
@@ -38,9 +38,9 @@ is_told number tells turn = asks number turn.0 && tells turn.1
 abbrev pub was_told : ℕ → (Reply → Bool) → List (Step × Reply) → Bool
 was_told number tells turns = list_any (λ turn. is_told number tells turn) turns
 
--- what a run tells of the store of a shard: it is as honest as before, and its faults never go down; where none was counted and
--- more can be, no reply tells of one; where one tells that the numbers are spent, only the greatest is left; and over an honest
--- store none tells of damage
+-- what a run says of the store of a shard: it is as honest as before, and its faults never go down; where none was counted and
+-- more can be, no reply reports one; where one says that the numbers are spent, only the greatest is left; and over an honest
+-- store none reports damage
 pub record StoreFollows (number : ℕ) (turns : List (Step × Reply)) (before after : ShardView) : Type 0 where
   pub honest : after.streams.seen.honest ≡ before.streams.seen.honest
   pub faults : FaultsRise before.streams.seen.faults after.streams.seen.faults

@@ -17,8 +17,8 @@ use Rattle.rl_world.specs.declared.step.Step.TheVariants as steps
 use Rattle.rl_world.specs.declared.step.Reply.{Reply}
 use Rattle.rl_world.specs.declared.step.Reply.TheVariants as replies
 
--- the sinks of a group are offered what they have not taken, and those that are behind are listed; its book asks as many shards
--- as before, under the same number
+-- the sinks of a group are offered what they have not taken, and those that are behind are listed; its book keeps the number of
+-- shards that it asks, and the number under which it asks them
 pub record SinksOffered (old : List BookState) (group : ℕ) (behind : List ℕ) (new : List BookState) : Type 0 where
   pub before : BookState
   pub there : slice_get old group ≡ Some before
@@ -28,7 +28,7 @@ pub record SinksOffered (old : List BookState) (group : ℕ) (behind : List ℕ)
   pub offered : AllOffered after.history.evaluations before.sinks after.sinks
   pub behind_is : behind ≡ behind_of after.history.evaluations after.sinks
 
--- what sinks are told of, the sinks, how many shards a book asks, and under which number
+-- what sinks are offered, the sinks, how many shards a book asks, and under which number
 pub record BookTold : Type 0 where
   pub evaluations : List Evaluation
   pub sinks : List SinkState

@@ -1,4 +1,4 @@
--- The state of a world, of one book, and what is kept in place of lists.
+-- The state of a world, of one book, and what is kept instead of lists.
 use Rattle.std.specs.Prelude.{◌≡◌, ℕ, ◌≤◌, List, map, length, Option, option_map, option_and_then, slice_get, IfSome}
 use Rattle.std.specs.List.{AllByRecursion}
 use Rattle.rl_labels.specs.declared.entry.Entry.{Entry}
@@ -42,7 +42,7 @@ world_of shards books = record { shards = map journalled shards; histories = map
 abbrev pub sink_at : List BookState → ℕ → ℕ → Option SinkState
 sink_at books group number = option_and_then (λ book. slice_get book.sinks number) (slice_get books group)
 
--- with the partials of a list in its place
+-- with the partials of a list instead of it
 abbrev pub kept_answer : List Term → ℕ → Gathered (List Entry) → Gathered (List Partial)
 kept_answer terms t answer = record { place = answer.place; shown = partials_of answer.shown terms t }
 
@@ -63,7 +63,7 @@ Stands kept world = kept ≡ kept_world world
 abbrev pub StandsForSome : WorldState (List Partial) → Type 0
 StandsForSome kept = (shown : WorldState (List Entry)) × Stands kept shown
 
--- what holds of every book: its terms are the group's, its alerts are what its history left, the group and the evaluations are those of its items, an open evaluation has a slot for each shard, and its sinks took prefixes
+-- what holds of every book: its terms are the group's, its alerts are what its history left, the group and the evaluations are those of its items, an open evaluation has room for each shard, and its sinks took prefixes
 pub record IsBook (terms : List Term) (alerts : List (List Alert)) (book : BookState) : Type 0 where
   pub terms_are : terms ≡ group_terms book.history.group
   pub alerts_are : alerts ≡ alerts_of book.history
@@ -75,7 +75,7 @@ pub record IsBook (terms : List Term) (alerts : List (List Alert)) (book : BookS
   pub slots : IfSome book.history.opened (λ opened. (length opened.gathered ≡ book.shards) × AllByRecursion (IsKept (length terms)) opened.gathered)
   pub prefixes : AllByRecursion (TookPrefix book.history.evaluations) book.sinks
 
--- a book of a world with so many shards
+-- a book of a world with `shards` shards
 abbrev pub IsBookOf : ℕ → BookState → Type 0
 IsBookOf shards book = (book.shards ≡ shards) × AllByRecursion (TookPrefix book.history.evaluations) book.sinks
 

@@ -55,7 +55,7 @@ or_else (Some refusal) next = Some refusal
 abbrev pub journal_refusal : Journalled → Option Refusal
 journal_refusal shard = if is_journal_full shard then Some refusals.JournalFull else None
 
--- how a world tells what a shard or a book refused
+-- how a world reports what a shard or a book refused
 abbrev pub told_of_shard : ShardFault → Refusal
 told_of_shard shard_faults.JournalFull = refusals.JournalFull
 told_of_shard shard_faults.Fault = refusals.Fault
@@ -67,7 +67,7 @@ abbrev pub told_of_book : OrMemory BookFault → Refusal
 told_of_book (errors.Fault fault) = refusals.Book fault
 told_of_book errors.Memory = refusals.Memory
 
--- whether a step may want memory: each but Abandon
+-- whether a step may lack memory: each but Abandon
 abbrev pub may_want : Step → Bool
 may_want (steps.Abandon group) = false
 may_want step = true
@@ -85,7 +85,7 @@ is_store_refusal refusals.Damaged = true
 is_store_refusal refusals.NumbersSpent = true
 is_store_refusal refusal = false
 
--- what a step may come to nothing for where no refusal applies: want of memory, or the store of the shard that it asks
+-- what a step may come to nothing for where no refusal applies: lack of memory, or the store of the shard that it asks
 abbrev pub may_fail : Step → Refusal → Bool
 may_fail step refusals.Memory = may_want step
 may_fail step refusal = asks_shard step && is_store_refusal refusal
@@ -138,7 +138,7 @@ module _ {X : Type 0} where
     pub there : slice_get old.histories group ≡ Some history
     pub after : new ≡ with_history old group (change history)
 
-  -- a group is edited; the place is the number of items before
+  -- a group is edited; the index is the number of items before
   pub record EditTurn (old : WorldState X) (group : ℕ) (to : Group) (place : ℕ) (new : WorldState X) : Type 0 where
     pub history : History X
     pub there : slice_get old.histories group ≡ Some history

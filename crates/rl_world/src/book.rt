@@ -76,7 +76,7 @@ impl<S: Sink> Book<S> {
     ghost use Rattle.rl_world.specs.Offering.{AllOffered, behind_of};
     ghost use Rattle.rl_world.specs.Slots.{AreOfOneShard, most_shards};
 
-    /// A book with no evaluation. It asks so many shards, under the number `slot`, and keeps at most `records` edits and
+    /// A book with no evaluation. It asks `shards` shards, under the number `slot`, and keeps at most `records` edits and
     /// evaluations, up to 1,048,576. The sinks have taken nothing.
     pub fn open(
         alloc: Global,
@@ -111,8 +111,8 @@ impl<S: Sink> Book<S> {
         })
     }
 
-    /// Puts another group under the same name in the place of the group. Each of its rules, in order, takes the alerts of the
-    /// first rule before that is equal in all fields and was not yet taken. The place of the edit in the history.
+    /// Replaces the group by another one under its name. Each of the new rules, in order, takes the alerts of the
+    /// first rule before that is equal in all fields and was not yet taken. The index of the edit in the history.
     pub fn edit(&mut self, group: Group) -> Result<u64, BookError>
         requires name { group.name ≡ self.old.history.group.name }
         ensures answer { Answers (edit_fault self.old.history) result }
@@ -301,14 +301,14 @@ impl<S: Sink> Book<S> {
         self.first.get()
     }
 
-    /// An edit or an evaluation by its place in the history, counted from 0.
+    /// An edit or an evaluation by its index in the history, counted from 0.
     pub fn item(&self, index: u64) -> Option<&Item>
         ensures { option_copied result ≡ slice_get self.now.history.items index }
     {
         self.items.get(index as usize)
     }
 
-    /// Whether an evaluation is due: none is open, and there was none, or the group's interval has passed since the last.
+    /// Whether an evaluation is due: none is open, and there was none, or the group's interval has passed after the last.
     pub fn due(&self, now: Ns) -> bool
         ensures { result ≡ is_due self.now.history now }
     {
@@ -377,7 +377,7 @@ impl<S: Sink> Book<S> {
     }
 }
 
-// Whether so many seconds have passed since a moment.
+// Whether `seconds` seconds have passed after a moment.
 fn has_passed(seconds: u64, last: Ns, now: Ns) -> bool
     ensures { result ≡ has_passed seconds (Some last) now }
 {
@@ -431,7 +431,7 @@ fn all_asked(slots: &[Slot]) -> bool
     slots.iter().all(|slot| slot.is_some())
 }
 
-// Puts what a shard showed into its slot.
+// Keeps what a shard showed as its answer.
 fn put(
     opened: &mut Option<OpenEvaluation<PlainList<Shared<Partial>>>>,
     shard: usize,
@@ -452,7 +452,7 @@ fn close(opened: &mut Option<OpenEvaluation<PlainList<Shared<Partial>>>>)
     *opened = None;
 }
 
-// A slot for each shard, none of which was asked.
+// For each shard no answer, as none was asked.
 fn empty_slots(alloc: Global, shards: usize) -> Result<PlainList<Slot>, AllocError>
     ensures { IfOk result (λ slots. slots ≡ replicate shards None) }
 {

@@ -47,8 +47,8 @@ pub(crate) fn terms_of_group(
     Ok(terms)
 }
 
-/// The evaluation of the group, which has so many terms and whose rules have these alerts, and the alerts that it leaves. There
-/// is a memory for each rule.
+/// The evaluation of the group, which has `terms` terms and whose rules have these alerts, and the alerts that it leaves. There
+/// is a cache for each rule.
 pub(crate) fn evaluate(
     alloc: Global,
     group: &Group,
@@ -200,7 +200,7 @@ fn results(
     Ok((results, left))
 }
 
-// Adds memories until there are so many.
+// Adds caches until there are `count`.
 fn fill(alloc: Global, memories: &mut Vec<RuleMemory>, count: usize) -> Result<(), AllocError>
     ensures { OnOk result (count ≤ length memories.new.items) }
 {

@@ -24,7 +24,7 @@ pub enum BookFault {
     SessionFull,
 }
 
-/// A fault of a book, or want of memory. Either left it as it was.
+/// A fault of a book, or lack of memory. Either left it as it was.
 pub type BookError = OrMemory<BookFault>;
 
 impl From<BookFault> for BookError {

@@ -2,7 +2,7 @@
 //!
 //! `World::run` takes any list of steps. Over honest stores what it answers is a replay of the definition of the world step, in
 //! which each evaluation is LogQL from scratch on the entries that each shard showed when it was asked. Over any stores every
-//! sink has taken exactly the texts of the first evaluations of its group, and a fault of a store is told with its cause.
+//! sink has taken exactly the texts of the first evaluations of its group, and a fault of a store is reported with its cause.
 //!
 //! - `step`: `Step`, `Reply`, `Committed`. `fault`: `BookFault`, `BookError`, `Refusal`. `opened`: an evaluation that is open.
 //! - `item`: `Item`, an edit or an evaluation in the history of a group.

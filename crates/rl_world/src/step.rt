@@ -10,7 +10,7 @@ use rl_shard::{ShardReply, ShardStep};
 pub enum Step {
     /// A step of one shard.
     Shard { number: usize, step: ShardStep },
-    /// Puts a group of the same name in the place of the group. Rules that stay keep their alerts.
+    /// Replaces the group by another one under its name. Rules that stay keep their alerts.
     Edit { group: usize, to: Group },
     /// Opens an evaluation of the group at a moment.
     Begin { group: usize, t: Ns },
@@ -29,7 +29,7 @@ pub enum Step {
 pub enum Reply {
     /// The shard decided the step; its journal has it at the place.
     Decided { place: u64, reply: ShardReply },
-    /// The group was edited; its history has the edit at the place.
+    /// The group was edited; its history has the edit at the index.
     Edited { place: u64 },
     Begun,
     /// The shard was asked; its journal has the question at the place.

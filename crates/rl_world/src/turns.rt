@@ -195,7 +195,7 @@ fn is_same_name(one: &Group, other: &Group) -> bool
     one.name.as_str() == other.name.as_str()
 }
 
-// A fault of a shard, as a world tells it.
+// A fault of a shard, as a world reports it.
 fn refusal_of_shard(fault: ShardFault) -> Refusal
     ensures { result ≡ told_of_shard fault }
 {
@@ -208,7 +208,7 @@ fn refusal_of_shard(fault: ShardFault) -> Refusal
     }
 }
 
-// A refusal of a book, as a world tells it.
+// A refusal of a book, as a world reports it.
 fn refusal_of_book(error: BookError) -> Refusal
     ensures { result ≡ told_of_book error }
 {

@@ -95,7 +95,7 @@ impl<D: Store, S: Sink> World<D, S> {
         Ok(())
     }
 
-    // The same, turn by turn.
+    // Answers each step, turn by turn.
     fn answer_all(&mut self, steps: Vec<Step>, out: &mut Vec<Reply>) -> Result<(), AllocError>
         ensures memory { OnErr result ((self.new ≡ self.old) × (out.new.items ≡ out.old.items)) }
         ensures room { length out.old.items + length steps.items ≤ vec_capacity out.old → IsOk result }
@@ -158,7 +158,7 @@ fn open_shards<D: Store>(
     Ok(shards)
 }
 
-// A book for each group, with the sinks at the group's place.
+// A book for each group, with the sinks at the group's index.
 fn open_books<S: Sink>(
     alloc: Global,
     records: u64,

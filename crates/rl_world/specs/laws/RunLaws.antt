@@ -81,7 +81,7 @@ listed_at evaluations (x ∷ sinks) n (suc k) sink there =
       | false ↦ rest
     ]
 
--- what turns made of one sink: so many refusals, and what the last commit says; with none, nothing
+-- what turns made of one sink: `count` refusals, and what the last commit says; with none, nothing
 record FollowsOn (count : ℕ) (last : Option Bool) (group number : ℕ) (book : BookState) (sink : SinkState) (books : List BookState) : Type 0 where
   pub after : BookState
   pub there : slice_get books group ≡ Some after
@@ -96,7 +96,7 @@ mod_again n = omega arith
 mod_chain : (new mid old a b : ℕ) → new % 2 ^ 64 ≡ (mid + b) % 2 ^ 64 → mid % 2 ^ 64 ≡ (old + a) % 2 ^ 64 → new % 2 ^ 64 ≡ (old + (a + b)) % 2 ^ 64
 mod_chain new mid old a b first second = omega (arith, first, second)
 
--- a look-up through what sinks are told of
+-- a look-up through what sinks are offered
 record ToldAt (books : List BookState) (group : ℕ) (book : BookState) : Type 0 where
   pub after : BookState
   pub there : slice_get books group ≡ Some after
@@ -300,7 +300,7 @@ module _ {X : Type 0} (keeping : Keeping X) where
   replay_unlisted old [] (reply ∷ replies) new replay = absurd replay
   replay_unlisted old (step ∷ steps) [] new replay = absurd replay
 
--- a run whose replies are told without those lists is a replay all the same
+-- a run whose replies are given without those lists is still a replay
 pub unlisted_replays : (old : WorldBooks) (steps : List Step) (replies told : List Reply) (new : WorldBooks) → AreHonest old.shards → Ran old steps replies new → told ≡ map unlisted replies → Replays old steps told new
 unlisted_replays old steps replies told new honest run is shown stands =
     let replay = ran_replays old steps replies new honest run shown stands in

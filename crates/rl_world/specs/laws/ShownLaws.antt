@@ -16,14 +16,14 @@ use Rattle.rl_world.specs.WorldState.{kept_answer, kept_open}
 use Rattle.rl_world.specs.declared.opened.Gathered.{Gathered}
 use Rattle.rl_world.specs.declared.opened.OpenEvaluation.{OpenEvaluation}
 
--- a place of a list with an element and a rest behind it has that element
+-- where a list goes on with an item and a rest, that item is at the index
 pub index-from : {X Y : Type 0} (f : X → Y) (d : Y) (xs : List X) (i : ℕ) (x : X) (rest : List X) → drop i xs ≡ x ∷ rest → slice_index_or (map f xs) i d ≡ f x
 index-from f d [] zero x rest is = cc
 index-from f d (y ∷ ys) zero x rest is = cc
 index-from f d [] (suc i) x rest is = cc
 index-from f d (y ∷ ys) (suc i) x rest is = index-from f d ys i x rest is
 
--- and the rest is behind the next place
+-- and the rest starts at the next index
 pub drop-next : {X : Type 0} (xs : List X) (i : ℕ) (x : X) (rest : List X) → drop i xs ≡ x ∷ rest → drop (suc i) xs ≡ rest
 drop-next [] zero x rest is = cc
 drop-next (y ∷ ys) zero x rest is = cc
@@ -39,7 +39,7 @@ gathered-kept terms t (Some answer ∷ slots) = ap (λ rest. kept_answer terms t
 pub answers-kept : (terms : List Term) (opened : OpenEvaluation (List Entry)) → answers (kept_open terms opened) ≡ map (kept_answer terms opened.t) (answers opened)
 answers-kept terms opened = gathered-kept terms opened.t opened.gathered
 
--- under the same places
+-- under unchanged places
 places-kept : (terms : List Term) (t : ℕ) (shown : List (Gathered (List Entry))) → map (λ answer. answer.place) (map (kept_answer terms t) shown) ≡ map (λ answer. answer.place) shown
 places-kept terms t [] = refl
 places-kept terms t (answer ∷ rest) = ap (λ places. answer.place ∷ places) (places-kept terms t rest)
@@ -59,7 +59,7 @@ merged_terms-kept terms i [] t shown is = refl
 merged_terms-kept terms i (term ∷ rest) t shown is = λ k.
     merged_from-kept [] terms i term rest t shown is k ∷ merged_terms-kept terms (suc i) rest t shown (drop-next terms i term rest is) k
 
--- a rule's own partials are the first, and those of the others stand behind
+-- a rule's own partials are the first, and those of the others follow
 own_first : (f : Term → Partial) (own others : List Term) → take (length own) (map f (own ++ others)) ≡ map f own
 own_first f [] others = refl
 own_first f (term ∷ own) others = ap (λ rest. f term ∷ rest) (own_first f own others)

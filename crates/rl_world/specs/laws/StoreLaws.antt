@@ -82,7 +82,7 @@ still_honest old (steps.Gather group number) (replies.Refused refusal) new (inr 
 still_honest old (steps.Gather group number) other new turn all = absurd turn
 still_honest old step reply new same all = subst AreHonest (sym same) all
 
--- what a reply tells of the store of the shard that was asked
+-- what a reply says of the store of the shard that was asked
 record Tells (reply : Reply) (before after : ShardView) : Type 0 where
   pub fault : tells_fault reply ≡ true → FaultCame before.streams.seen.faults after.streams.seen.faults
   pub spent : tells_spent reply ≡ true → after.streams.next ≡ greatest
@@ -104,11 +104,11 @@ record StoreTurn (number : ℕ) (step : Step) (reply : Reply) (before : ShardVie
   pub stays : before.streams.next ≡ greatest → after.streams.next ≡ greatest
   pub tells : asks number step ≡ true → Tells reply before after
 
--- a shard that was not asked, or not told of
+-- a shard that was not asked, or of which nothing is reported
 store_kept : (number : ℕ) (step : Step) (reply : Reply) (before : ShardView) (shards : List ShardView) → slice_get shards number ≡ Some before → (asks number step ≡ true → Tells reply before before) → StoreTurn number step reply before shards
 store_kept number step reply before shards there tells = record { after = before; there = there; honest = refl; faults = omega arith; stays = λ h. h; tells = tells }
 
--- a refusal that is no store's tells of none
+-- a refusal that is no store's says nothing of one
 untold : (refusal : Refusal) (before after : ShardView) → is_store_refusal refusal ≡ false → Tells (replies.Refused refusal) before after
 untold refusals.Fault before after free = absurd (true_false free)
 untold refusals.Damaged before after free = absurd (true_false free)

@@ -1,4 +1,4 @@
--- The elements find their alerts in the tree.
+-- The samples find their alerts in the tree.
 use Rattle.std.proofs.Common.{◌≡◌, ◌++◌, IfOk, List, ap, subst, ◌∙◌}
 use Rattle.rl_rules.specs.declared.alert.Alert.{Alert}
 use Rattle.rl_rules.specs.Alerts.{all_gone, all_standing, in_label_order}

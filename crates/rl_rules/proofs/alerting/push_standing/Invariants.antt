@@ -1,4 +1,4 @@
--- Those of the elements so far.
+-- Those of the samples so far.
 use Rattle.std.proofs.Common.{◌≡◌, ◌++◌, map, take}
 use Rattle.std.specs.BTreeMap as tree
 use Rattle.rl_labels.specs.LabelText.{label_set_cmp}

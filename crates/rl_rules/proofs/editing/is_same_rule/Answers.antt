@@ -1,4 +1,4 @@
--- The sameness of rules tells whether two are one.
+-- Whether two rules are one follows from their codes.
 use Rattle.rl_rules.specs.SameCoded.{same_answer}
 use Rattle.rl_rules.specs.contracts.rule.Rule as rule_type
 use Rattle.rl_rules.proofs.editing.is_same_rule.Goals as goal

@@ -1,4 +1,4 @@
--- The rules before a place are passed over, and all are still there.
+-- The rules before an index are passed over, and all are still there.
 use Rattle.std.proofs.Common.{◌≡◌}
 use Rattle.rl_rules.proofs.Edited.{IsPassed}
 use Rattle.rl_rules.proofs.editing.take_first.Given as goal

@@ -1,4 +1,4 @@
--- Whether all are named well is told by those that are left.
+-- Those that are left decide whether all are named well.
 use Rattle.std.proofs.Common.{◌≡◌, drop}
 use Rattle.toml.specs.View.{items_view}
 use Rattle.rl_rules.specs.Document.{tables_of, groups_are_named_well}

@@ -1,4 +1,4 @@
--- Whether all are named well is told by those that are left.
+-- Those that are left decide whether all are named well.
 use Rattle.std.proofs.Common.{◌≡◌, drop}
 use Rattle.std.specs.List.{list_all}
 use Rattle.toml.specs.View.{items_view}

@@ -1,4 +1,4 @@
--- What is known at a place of the same labels.
+-- What is known at an index with equal labels.
 use Rattle.std.proofs.Common.{◌≡◌, sym, ap, subst, ◌∙◌, arith}
 use Rattle.rl_labels.specs.LabelSet.{LabelSet}
 use Rattle.rl_labels.specs.laws.TextLaws.{label_set_eq-true}

@@ -1,4 +1,4 @@
--- What is known is final, and so is what was put behind the others.
+-- What is known is final, and so is what was put after the others.
 use Rattle.rl_rules.specs.Naming.{Naming, AreFinal}
 use Rattle.rl_rules.proofs.naming.push_first.Given as goal
 

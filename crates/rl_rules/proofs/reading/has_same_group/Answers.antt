@@ -1,4 +1,4 @@
--- A group is compared with those behind it.
+-- A group is compared with those after it.
 use Rattle.std.proofs.Common.{◌≡◌, ◌+◌, drop, true, false, sym, ap, ◌∙◌}
 use Rattle.std.specs.List.{list_any}
 use Rattle.std.proofs.lemmas.List.{take_rest}

@@ -1,4 +1,4 @@
--- Whether two have one name is told by those that are left.
+-- Those that are left decide whether two have one name.
 use Rattle.std.proofs.Common.{◌≡◌, map, drop}
 use Rattle.rl_rules.specs.Forms.{group_form}
 use Rattle.rl_rules.specs.Document.{has_same_group}

@@ -1,4 +1,4 @@
--- The named samples are sorted in place.
+-- The named samples are sorted where they are.
 use Rattle.std.proofs.Common.{◌≡◌, List, length, map, subst, arith}
 use Rattle.std.specs.List.Sorted.{IsPermutation}
 use Rattle.std.proofs.lemmas.Grind.{common_steps}

@@ -5,7 +5,7 @@ use Rattle.rl_sinks.proofs.writing.write_rest.Given as goal
 abbrev pub decreases-loop-next : goal.decreases-loop-next
 decreases-loop-next g l = l.all - l.next
 
--- the writer got what was left before the piece that is next
+-- what was left before the next piece is written
 abbrev pub invariant-loop-next : goal.invariant-loop-next
 invariant-loop-next g l = record {
   all : l.all ≡ length (pieces l.ended l.texts l.count);

@@ -1,4 +1,4 @@
--- The slots so far.
+-- The shards so far, none of which was asked.
 use Rattle.std.proofs.Common.{◌≡◌, replicate, None}
 use Rattle.rl_world.proofs.book.empty_slots.Given as goal
 

@@ -1,4 +1,4 @@
--- There is a memory for each turn.
+-- There is a cache for each turn.
 use Rattle.std.proofs.Common.{◌≤◌, length}
 use Rattle.rl_world.proofs.evaluating.fill.Given as goal
 

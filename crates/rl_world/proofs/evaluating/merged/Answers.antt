@@ -1,4 +1,4 @@
--- The slot of a shard that was asked goes into the sum, which still fits; any other has nothing.
+-- The answer of a shard that was asked goes into the sum, which still fits; any other shard has none.
 use Rattle.std.proofs.Common.{◌≡◌, ◌+◌, get_or, sym, ap, subst, ◌∙◌}
 use Rattle.std.specs.Option.{unwrap_or}
 use Rattle.rl_world.specs.Kept.{no_partial}

@@ -1,4 +1,4 @@
--- Whether two are one is what their codes tell.
+-- Whether two are one follows from their codes.
 use Rattle.rl_rules.specs.SameCoded.{same_answer}
 use Rattle.rl_rules.specs.contracts.evaluation.RuleResult as result_type
 use Rattle.rl_rules.proofs.evaluation.RuleResultPartialEq.eq.Goals as goal

@@ -1,4 +1,4 @@
--- What is known is that of the rule, and so is what is put behind it.
+-- What is known is that of the rule, and so is what is put after it.
 use Rattle.std.proofs.Common.{sym, ap, subst, ◌∙◌}
 use Rattle.rl_labels.specs.LabelSet.{LabelSet}
 use Rattle.rl_rules.specs.Naming.{Naming, AreFinal, final_by}

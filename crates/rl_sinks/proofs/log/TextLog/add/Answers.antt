@@ -1,4 +1,4 @@
--- One text more waits behind the others.
+-- One text more waits after the others.
 use Rattle.std.proofs.Common.{◌++◌, ◌∷◌, [], refl, sym, subst}
 use Rattle.std.specs.Prelude.{IsTrue, not}
 use Rattle.rl_sinks.specs.LogState.{IsLogged}
