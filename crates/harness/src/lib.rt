@@ -1,12 +1,12 @@
 //! Tests of what neither cases nor scripts can show: writers, readers and sinks that fail or refuse by plan, counts of
-//! turns, short and interrupted writes and reads, and want of memory.
+//! turns, short and interrupted writes and reads, and lack of memory.
 //!
 //! - `tests_sinks`: what recorders and tails write when writes fail. `tests_worlds`: sinks in a world that fail, refuse and
 //!   catch up.
 //! - `tests_reading`: readers of an input, turn by turn. `tests_sessions`: a session whose output or recorder fails.
 //! - `tests_stores`: stores in memory and in folders, and what spoils them. `tests_streams`: streams whose store fails.
 //!   `tests_deletes`: a shard whose store fails while lines are removed.
-//! - `tests_memory`: calls that want memory, made again. `tests_given`: what several of these need.
+//! - `tests_memory`: calls that run out of memory, made again. `tests_given`: what several of these need.
 #![tactic(auto)]
 
 #[cfg(test)]

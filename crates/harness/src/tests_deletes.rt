@@ -20,7 +20,7 @@ const FLUSHED: &str = r#"{"streams":[
     {"stream":{"app":"b"},"values":[["1","gone"]]},
     {"stream":{"app":"c"},"values":[["1","gone"]]}]}"#;
 
-// Lines that are sealed behind them.
+// Lines that are sealed after them.
 const SEALED: &str = r#"{"streams":[
     {"stream":{"app":"a"},"values":[["2","gone"],["5","kept"]]},
     {"stream":{"app":"b"},"values":[["5","kept"]]}]}"#;
@@ -49,11 +49,11 @@ const BEFORE: u64 = 6;
 struct Removal {
     // Whether a request is processed. Else lines expire.
     is_process: bool,
-    // How many lines of `a`, `b` and `c` are shown, as digits: before it, behind it, and when all were pushed again.
+    // How many lines of `a`, `b` and `c` are shown, as digits: before it, after it, and when all were pushed again.
     shown: [u64; 3],
     // How many lines are taken when all are pushed again.
     taken: u64,
-    // How many of its calls tell of a refusal; the first ones.
+    // How many of its calls report a refusal; the first ones.
     telling: u64,
     // How many chunks there are at the end where the store refused a call, for each call; and last, where it refused none.
     chunks: &'static [usize],
@@ -101,7 +101,7 @@ fn answered(shard: &mut Shard<Failing>, step: ShardStep) -> &'static str {
     }
 }
 
-// The name of what is answered. Here and below there is nothing where memory is wanted.
+// The name of what is answered. Here and below there is nothing where memory runs out.
 fn asked(shard: &mut Shard<Failing>, step: Option<ShardStep>) -> &'static str {
     match step {
         Some(step) => answered(shard, step),
@@ -152,7 +152,7 @@ fn digits(alloc: Global, partial: &Partial) -> Option<u64> {
     Some(digits)
 }
 
-// The same of what a shard shows.
+// How many lines of each a shard shows, as digits.
 fn shown(alloc: Global, shard: &mut Shard<Failing>) -> Option<u64> {
     match shard.apply(collect(alloc)?) {
         Ok((_, ShardReply::Collected(partials))) => {
@@ -236,7 +236,7 @@ fn finishes(rt: &impl Abort, alloc: Global, shard: &mut Shard<Failing>, of: &Rem
     is(rt, shown(alloc, shard), Some(of.shown[2]), at);
 }
 
-// Asks for a removal, one of whose calls is refused, and again where that is told.
+// Asks for a removal, one of whose calls is refused, and again where that is reported.
 fn removes(
     rt: &impl Abort,
     alloc: Global,
@@ -253,7 +253,7 @@ fn removes(
     finishes(rt, alloc, shard, of, why.1);
 }
 
-// The same with a new shard. Asserts how often its store refused, and how many chunks that has at the end.
+// Removes with a new shard. Asserts how often its store refused, and how many chunks that has at the end.
 fn removes_anew(
     rt: &impl Abort,
     alloc: Global,
@@ -261,7 +261,7 @@ fn removes_anew(
     fault: (StoreFault, &str),
     want: (u64, usize),
 ) {
-    // Behind the last call none is refused.
+    // After the last call none is refused.
     let is_refused = want.0.wrapping_add(1) < of.chunks.len() as u64;
     let refused = if is_refused {
         BEFORE.wrapping_add(want.0)
@@ -353,7 +353,7 @@ fn say<F: Display>(rt: &impl Abort, alloc: Global, faults: &[(F, &str)]) {
     }
 }
 
-// No program tells these.
+// No program prints these.
 #[test]
 fn faults_of_requests_have_texts(rt: HostRuntime) {
     say(&rt, rt.alloc(), &RECEIVING);

@@ -35,7 +35,7 @@ pub(crate) fn front(text: &str, bytes: u64) -> &str {
     text.get(..bytes as usize).unwrap_or("no text")
 }
 
-// The group. Here and below there is nothing where memory is wanted.
+// The group. Here and below there is nothing where memory runs out.
 fn group(alloc: Global) -> Option<Group> {
     read_rules(alloc, RULES).ok()?.pop()
 }
@@ -80,13 +80,13 @@ pub(crate) fn opened<S: Sink>(alloc: Global, sinks: Vec<Vec<S>>) -> Option<World
     }
 }
 
-/// The same, of one group with a recorder, which has room for so many texts.
+/// Such a world of one group with a recorder, which has room for `cap` texts.
 pub(crate) fn recorded(alloc: Global, cap: usize) -> Option<World<MemStore, Recorder<Vec<u8>>>> {
     let own = one(alloc, Recorder::new(alloc, Vec::new(alloc), cap))?;
     opened(alloc, one(alloc, own)?)
 }
 
-/// A world, of whose answers no contract tells: so what asks it is proved soon.
+/// A world of whose answers no contract says anything, so what asks it is proved soon.
 pub(crate) trait Asked {
     fn ask(&mut self, step: Step) -> Reply;
 
@@ -115,7 +115,7 @@ fn takes<W: Asked>(world: &mut W, step: Step) -> bool {
     matches!(world.ask(step), Reply::Decided { .. })
 }
 
-/// Evaluates a group at a moment in seconds, and goes on where the first time memory is wanted.
+/// Evaluates a group at a moment in seconds, and tries again where memory runs out the first time.
 pub(crate) fn commit<W: Asked>(world: &mut W, at: (usize, u64)) -> Option<Committed> {
     let (group, t) = (at.0, Ns::new(at.1.saturating_mul(1_000_000_000))?);
     for _ in 0..2 {
@@ -137,7 +137,7 @@ pub(crate) fn digits(sinks: &PlainList<u64>) -> u64 {
     all
 }
 
-/// Lets the sinks of the first group catch up. Which are still behind, as digits; nothing where memory is wanted.
+/// Lets the sinks of the first group catch up. Which are still behind, as digits; nothing where memory runs out.
 pub(crate) fn catch_up<W: Asked>(world: &mut W) -> Option<u64> {
     match world.ask(Step::CatchUp { group: 0 }) {
         Reply::CaughtUp { behind } => Some(digits(&behind)),
@@ -201,7 +201,7 @@ pub const FULL: Option<ErrorKind> = Some(ErrorKind::StorageFull);
 #[derive(Drop)]
 pub struct Planned {
     pub bytes: Vec<u8>,
-    // At most so many bytes are taken at a write.
+    // The most bytes that are taken at a write.
     step: usize,
     // The calls from the first to the last of these fail, counted from 1.
     fails: (u64, u64),

@@ -1,5 +1,5 @@
-//! Calls that want memory. One allocation of a test may fail: the call tells it, and made again it answers as ever.
-//! Where what a test is given wants memory, it ends well.
+//! Calls that run out of memory. One allocation of a test may fail: the call reports it, and made again it answers as ever.
+//! Where memory runs out for what a test is given, it ends well.
 use crate::tests_given::{Asked, End, FULL, Planned, catch_up, commit, is, recorded, session};
 use rl_session::{FrontError, Status, read_front};
 use std::alloc::Global;
@@ -26,7 +26,7 @@ fn an_input(rt: HostRuntime) {
 const COMMANDS: &str =
     "push {\"streams\":[{\"stream\":{\"app\":\"a\"},\"values\":[[\"5000000000\",\"x\"]]}]}\neval 10 g\neval 20 g\nshow 0 g\n";
 
-// What the session prints, and what it prints where one of these wants memory: reading the push, taking its line, the
+// What the session prints, and what it prints where one of these runs out of memory: reading the push, taking its line, the
 // first evaluation, its text, the second evaluation, its text.
 const ENDS: [&str; 7] = [
     "accepted 1\neval 10000000000 g\n{__name__=\"c\",app=\"a\"} 1\neval 20000000000 g\n{__name__=\"c\",app=\"a\"} 1\ncount 2\n{__name__=\"c\",app=\"a\"} 1 10000000000\n{__name__=\"c\",app=\"a\"} 1 20000000000\nclosed\n",
@@ -38,7 +38,7 @@ const ENDS: [&str; 7] = [
     "accepted 1\neval 10000000000 g\n{__name__=\"c\",app=\"a\"} 1\neval 20000000000 g\n{__name__=\"c\",app=\"a\"} 1\nbehind 0\ncount 1\n{__name__=\"c\",app=\"a\"} 1 10000000000\nclosed\n",
 ];
 
-// Whether a session may end so. It stops for no want of memory.
+// Whether a session may end like this. Lack of memory does not stop it.
 fn may_end(end: End, printed: &str) -> bool {
     let status = [Status::Taken, Status::Refused][printed.contains("refused") as usize];
     end == Ok(status) && ENDS.contains(&printed)
@@ -90,7 +90,7 @@ fn behind<W: Asked>(rt: &impl Abort, world: &mut W) -> u64 {
     all
 }
 
-// A recorder that wanted memory is behind, and catches up.
+// A recorder that ran out of memory is behind, and catches up.
 #[test]
 fn a_world(rt: HostRuntime) {
     if let Some(mut world) = recorded(rt.alloc(), 8) {
@@ -98,7 +98,7 @@ fn a_world(rt: HostRuntime) {
     }
 }
 
-// A recorder has room for one of two evaluations. Where memory is wanted while it could catch up, its count stays, and it
+// A recorder has room for one of two evaluations. Where memory runs out while it could catch up, its count stays, and it
 // catches up when that is asked again.
 fn catches_up<W: Asked>(rt: &impl Abort, world: &mut W) {
     for t in [10, 20] {

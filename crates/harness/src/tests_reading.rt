@@ -9,7 +9,7 @@ use std::process::Abort;
 // An input with 15 bytes in front of its commands, which have 2.
 const TEXT: &[u8] = b"groups = []\n%%\n\xc3\xa9";
 
-// Gives what another reader has, by a plan: at most so many bytes a turn, and of so many turns only at the last, since the
+// Gives what another reader has, by a plan: the most bytes a turn; a period of turns, of which the last one gives bytes and the
 // others are interrupted; and whether it fails where it would end.
 #[derive(Drop)]
 struct Slow<R> {
@@ -33,7 +33,7 @@ impl<R: Read> Read for Slow<R> {
     }
 }
 
-// How many bytes the commands have behind the first character; no such number for want of memory.
+// How many bytes the commands have after the first character; no such number where memory ran out.
 fn rest(got: Result<Front, FrontError>) -> Result<usize, FrontFault> {
     match got {
         Ok(front) => Ok(front.commands.as_str().trim_start_matches('é').len()),
@@ -42,10 +42,10 @@ fn rest(got: Result<Front, FrontError>) -> Result<usize, FrontFault> {
     }
 }
 
-// What is wanted where the reader ends and where it fails in place of that, and in how many turns.
+// What is wanted where the reader ends and where it fails instead, and in how many turns.
 type Wants = ([Result<usize, FrontFault>; 2], u64);
 
-// Reads a text and so many `a` behind it by a step and a period. Asserts the rest of the commands, or the fault.
+// Reads a text, followed by a number of `a`, by a step and a period. Asserts the rest of the commands, or the fault.
 fn reads(rt: &impl Abort, alloc: Global, input: (&[u8], u64), plan: (usize, u64), wants: Wants) {
     for (fails, want) in [(false, wants.0[0]), (true, wants.0[1])] {
         let inner = input.0.chain(io::repeat(b'a').take(input.1));
@@ -74,7 +74,7 @@ fn few_bytes_a_turn(rt: HostRuntime) {
     }
 }
 
-// An input that is interrupted at every other turn, also behind thousands of bytes, and one that ends with a full turn.
+// An input that is interrupted at every other turn, also after thousands of bytes, and one that ends with a full turn.
 #[test]
 fn many_bytes_a_turn(rt: HostRuntime) {
     for (filler, rest, step, period, turns) in [
@@ -86,8 +86,8 @@ fn many_bytes_a_turn(rt: HostRuntime) {
     }
 }
 
-// An input has at most 67,108,864 bytes and as many turns. With a byte more its end is not looked for; the last turn may give
-// the end.
+// An input has at most 67,108,864 bytes, and 67,108,864 turns. With a byte more its end is not looked for; the last turn may
+// give the end.
 #[test]
 fn the_longest_input(rt: HostRuntime) {
     let cases = [

@@ -13,7 +13,7 @@ const COMMANDS: &str =
 const PRINTED: &str =
     "accepted 1\neval 10000000000 g\n{__name__=\"c\",app=\"a\"} 1\ncount 1\n{__name__=\"c\",app=\"a\"} 1 10000000000\nrefused BadCommand\nclosed\n";
 
-// Which calls of an output that takes a byte a write are flushes: behind each command but blank lines, and at the end.
+// Which calls of an output that takes a byte a write are flushes: after each command but blank lines, and at the end.
 const FLUSHES: [u64; 6] = [12, 57, 103, 123, 124, 132];
 
 // How many bytes are printed before a call.
@@ -41,7 +41,7 @@ fn ends(
     (out.calls, sink.calls)
 }
 
-// One call of the output fails. A write that is interrupted is made again. Else nothing is printed behind it, and the
+// One call of the output fails. A write that is interrupted is made again. Else nothing is printed after it, and the
 // recorder writes what it has taken, which is a text from the evaluation on.
 fn output_fails(rt: &impl Abort, alloc: Global, at: u64, kind: Option<ErrorKind>) {
     let out = Planned::new(alloc, 1, (at, at), kind);
@@ -79,7 +79,7 @@ const OTHERS: &str =
 const OTHERS_PRINTED: &str =
     "eval 10000000000 g\nok\ncount 1\nok\nok\nok\nok\nrefused WasCancelled\nok\nrefused NotOneGroup\nclosed\n";
 
-// Each call of an output that takes a byte a write is a byte, but for a flush behind each of the ten commands and at the end.
+// Each call of an output that takes a byte a write is a byte, but for a flush after each of the ten commands and at the end.
 #[test]
 fn each_answer_is_flushed(rt: HostRuntime) {
     let mut out = Planned::new(rt.alloc(), 1, (0, 0), FULL);
@@ -94,11 +94,11 @@ fn each_answer_is_flushed(rt: HostRuntime) {
 const NINE: &str =
     "eval 1 g\neval 2 g\neval 3 g\neval 4 g\neval 5 g\neval 6 g\neval 7 g\neval 8 g\neval 9 g\n";
 
-// What the session prints of them: nine lines of 18 bytes, 9 bytes of who is behind, and 7.
+// What the session prints of them: nine lines of 18 bytes, 9 bytes that name the sink that is behind, and 7.
 const NINE_PRINTED: &str =
     "eval 1000000000 g\neval 2000000000 g\neval 3000000000 g\neval 4000000000 g\neval 5000000000 g\neval 6000000000 g\neval 7000000000 g\neval 8000000000 g\neval 9000000000 g\nbehind 0\nclosed\n";
 
-// A write fails of the line that tells who is behind, a byte a write. Nothing is printed behind it.
+// A write of the line that names the sink that is behind fails, a byte a write. Nothing is printed after it.
 #[test]
 fn a_line_that_is_cut_off_is_not_ended(rt: HostRuntime) {
     for byte in 0..9 {
@@ -132,8 +132,8 @@ fn short_writes_of_a_long_text(rt: HostRuntime) {
     }
 }
 
-// One write of the recorder fails or is interrupted. Its close tells it, and its drop goes on at that byte. Where the output
-// fails too, before its last line, it is that failure that is told.
+// One write of the recorder fails or is interrupted. Its close reports it, and its drop goes on at that byte. Where the output
+// fails too, before its last line, it is that failure that is reported.
 fn recorder_fails(rt: &impl Abort, alloc: Global, at: u64, kind: Option<ErrorKind>) {
     for (last, want) in [(0, Ok(Status::Unwritten)), (1, Err(RunError::WriteFault))] {
         let out = Planned::new(alloc, 1, (124 * last, 124 * last), FULL);

@@ -13,12 +13,11 @@ use std::test::Fail;
 const THREE: &str =
     "{__name__=\"c\",app=\"a\"} 1 10000000000\n{__name__=\"c\",app=\"a\"} 1 10000000000\n# end 3\n";
 
-// What a tail writes of the same that keeps two texts: 20, 44 and 8 bytes.
+// What a tail that keeps two texts writes of these three: 20, 44 and 8 bytes.
 const LAST: &str =
     "eval 100000000000 g\neval 10000000000 g\n{__name__=\"c\",app=\"a\"} 1\n# end 3\n";
 
-// An evaluation, of which there is something to tell at ten seconds and nothing at a hundred. There is none where memory is
-// wanted.
+// An evaluation, which has a sample at ten seconds and none at a hundred; nothing where memory runs out.
 fn evaluation(alloc: Global, t: u64) -> Option<Shared<Evaluation>> {
     let mut world = recorded(alloc, 8)?;
     Some(commit(&mut world, (0, t))?.evaluation)
@@ -48,7 +47,7 @@ fn closes<S: Sink>(sink: &mut S) -> u64 {
     3
 }
 
-// A sink takes three texts. The bits of a plan say behind which of them it is pumped, and the last one whether it is closed.
+// A sink takes three texts. The bits of a plan say after which of them it is pumped, and the last one whether it is closed.
 // How often that failed.
 fn uses<S: Sink>(rt: &impl Abort, sink: &mut S, told: [&Evaluation; 3], plan: u64) -> u64 {
     let (mut rest, mut failed) = (plan, 0u64);
@@ -77,7 +76,7 @@ fn recorder_fails(
     uses(rt, &mut recorder, told, plan)
 }
 
-// The same of a tail; no such number for want of memory.
+// A tail is used by a plan, and dropped. How often it failed before that; no such number where memory ran out.
 fn tail_fails(
     rt: &impl Abort,
     alloc: Global,
@@ -91,7 +90,7 @@ fn tail_fails(
     }
 }
 
-// Asserts what a writer got of a sink that is gone: all of a text, in so many writes and the one that failed. Where only the
+// Asserts what a sink that is gone wrote: all of a text, in a number of writes and the one that failed. Where only the
 // drop met that one, it stopped there; a sink that was closed met it before.
 fn is_written(
     rt: &impl Abort,
@@ -128,7 +127,7 @@ fn plans(
     }
 }
 
-// Each write fails in turn, of a sink that makes so many by a step.
+// Each write of a sink fails in turn. By a step it makes the wanted number of them.
 fn goes_on(
     rt: &impl Abort,
     alloc: Global,

@@ -15,7 +15,7 @@ const LINES: &str = r#"{"streams":[
     {"stream":{"app":"b"},"values":[["1","b one"],["2","b two"]]},
     {"stream":{"app":"c"},"values":[["1","c one"],["2","c two"]]}]}"#;
 
-// The streams take the lines. Here and below there is nothing where memory is wanted.
+// The streams take the lines. Here and below there is nothing where memory runs out.
 fn add(alloc: Global, streams: &mut Streams<Failing>) -> Option<u64> {
     let horizon = Ns::new(0)?;
     let mut taken = 0u64;

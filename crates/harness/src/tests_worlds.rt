@@ -43,7 +43,7 @@ fn recorders_close(rt: &impl Abort, alloc: Global, fails: (u64, u64), failed: u6
     Some(true)
 }
 
-// How many could not write is told, over all groups; closed again they write the rest, and none is told.
+// How many could not write is reported, over all groups; closed again they write the rest, and none is reported.
 #[test]
 fn sinks_of_every_group_are_closed(rt: HostRuntime) {
     for (at, other, failed) in [(0, 0, 0), (1, 0, 1), (0, 3, 1), (4, 1, 2)] {

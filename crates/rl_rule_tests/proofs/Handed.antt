@@ -33,7 +33,7 @@ pub fresh_books : (records count : ℕ) (copies groups : List Group) (sinks : Li
 fresh_books records count copies groups sinks books are one same none =
     are ∙ ap (λ n. books_from 0 records n copies sinks) one ∙ ap (λ s. books_from 0 records 1 copies s) none ∙ ap (λ all. books_from 0 records 1 all (map (λ _. []) all)) same
 
--- a name is told where there is one
+-- a name is given where there is one
 pub some_told : {A B : Type 0} (f : A → B) (o : Option A) (told : Option B) → option_map f o ≡ told → is_some o ≡ is_some told
 some_told f None told same = ap is_some same
 some_told f (Some x) told same = ap is_some same

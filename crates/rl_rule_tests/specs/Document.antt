@@ -61,7 +61,7 @@ time_of text = option_and_then (λ parts. time_within (duration_value parts / 10
 abbrev pub time_at : List ℕ → Members → Option ℕ
 time_at key table = option_and_then time_of (text_at key table)
 
--- the moments from one on, each so much behind the one before it, up to another
+-- the moments from one up to another, each a step after the one before it
 pub record IsSteps (table : Members) (steps : Steps) : Type 0 where
   pub last : ℕ
   pub from : time_at (codes "from") table ≡ Some steps.from
@@ -112,7 +112,7 @@ fraction_of parts = option_and_then (λ above. option_and_then (fraction_over ab
 abbrev pub billionths_of : DecimalForm → Fraction
 billionths_of decimal = record { numerator = billionths decimal; denominator = 1000000000 }
 
--- the parts before and behind the first slash
+-- the parts before and after the first slash
 abbrev pub cut_at_slash : List ℕ → Option (List ℕ × List ℕ)
 cut_at_slash text = option_map (λ place. (take place text, drop (place + 1) text)) (position (λ byte. byte == 47) text)
 
@@ -191,7 +191,7 @@ pub record IsEdit (kind : RuleKind) (rule : List ℕ) (table : Members) (edit : 
   pub rules : text_at (codes "rules") table ≡ Some edit.rules.now
   pub unread : edit.groups.items ≡ []
 
--- how often a line stands at each moment, once where that is not told
+-- how often a line stands at each moment, once where that is not given
 abbrev pub times_in : Option Data → ℕ
 times_in (Some (integer (pos number))) = number
 times_in _ = 1
@@ -231,14 +231,14 @@ repeated_lines repeat = repeated_from repeat 0 repeat.steps.count
 abbrev pub stream_keys : List (List ℕ)
 stream_keys = codes "labels" ∷ codes "late" ∷ codes "lines" ∷ codes "repeat" ∷ []
 
--- a stream before its repeated lines are written out; which ones `lines` stands for is not told
+-- a stream before its repeated lines are written out; which ones `lines` stands for is not specified
 pub record IsUnexpanded (kind : RuleKind) (rule : List ℕ) (table : Members) (stream : Stream) : Type 0 where
   pub known : IsTrue (has_only stream_keys table)
   pub labels : AreLabels (codes "labels") None table stream.labels
   pub late : stream.late ≡ unwrap_or (time_at (codes "late") table) 0
   pub repeats : AllZip (IsRepeat kind rule) (tables_at (codes "repeat") table) stream.repeats.items
 
--- the lines that are repeated stand behind the others
+-- the repeated lines follow the others
 pub record IsExpansion (old new : Stream) : Type 0 where
   pub labels : new.labels ≡ old.labels
   pub late : new.late ≡ old.late
@@ -278,6 +278,6 @@ pub record IsDocument (table : Members) (document : Document) : Type 0 where
   pub rules : text_at (codes "rules") table ≡ Some document.rules.now
   pub tests : AllZip (IsTest kinds.Alerting []) (tables_at (codes "tests") table) document.tests.items
 
--- items that are what tables say, behind others
+-- items that are what tables say, after others
 abbrev pub AreBehind : {T : Type 0} → (Members → T → Type 0) → List Members → List T → List T → Type 0
 AreBehind {T} Is tables old new = (more : List T) × (new ≡ old ++ more) × AllZip Is tables more

@@ -18,7 +18,7 @@ use Rattle.rl_rule_tests.specs.declared.lines.Stream.{Stream}
 use Rattle.rl_rule_tests.specs.Document.{sum_up_to}
 use Rattle.rl_rule_tests.specs.Judging.{is_named}
 
--- a line arrives so much behind its moment as its stream is late
+-- a line arrives after its moment by what its stream is late
 abbrev pub line_event : ℕ → ℕ → ℕ × Line → Event
 line_event number late line = record { at = sum_up_to line.1.moment late; what = whats.Line; number = number; line = line.0 }
 
@@ -37,7 +37,7 @@ check_event check = record { at = check.1.at; what = whats.Check; number = check
 abbrev pub most_moments : ℕ
 most_moments = 1048576
 
--- so many moments from one on, each so much behind the one before it
+-- `count` moments from one on, each a step after the one before it
 abbrev pub moments_from : (number at step count : ℕ) → List Event
 moments_from number at step zero = []
 moments_from number at step (suc count) = record { at = at; what = whats.Evaluation; number = number; line = 0 } ∷ moments_from number (sum_up_to at step) step count

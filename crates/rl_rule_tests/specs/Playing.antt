@@ -36,7 +36,7 @@ use Rattle.rl_rule_tests.specs.Counting.{Counts, one_failed, one_failed_if, IsCo
 use Rattle.rl_rule_tests.specs.Happening.{event_cmp, happenings}
 use Rattle.rl_rule_tests.specs.Document.{sum_up_to}
 
--- states one behind another, by what each item makes of them
+-- states one after another, by what each item makes of them
 abbrev pub Chain : {S A : Type 0} → (S → A → S → Type 0) → S → List A → S → Type 0
 Chain Makes old [] new = new ≡ old
 Chain {S} Makes old (item ∷ items) new = (mid : S) × Makes old item mid × Chain Makes mid items new
@@ -71,11 +71,11 @@ pub record Stage (E : Type 0) : Type 0 where
 abbrev pub start_of_tests : ℕ
 start_of_tests = 946684800000000000
 
--- a moment of the ruler that lies so little before one of the test, unless it is past the greatest
+-- a moment of the ruler that lies some nanoseconds before one of the test, unless it is past the greatest
 abbrev pub moment_of : ℕ → ℕ → Option ℕ
 moment_of at before = if nat_le (sum_up_to start_of_tests at - before) greatest_moment then Some (sum_up_to start_of_tests at - before) else None
 
--- the text of a line; what stands in the place of `{n}` is not told
+-- the text of a line; what stands for `{n}` is not specified
 abbrev pub IsTextOf : Line → List ℕ → Type 0
 IsTextOf line text = line.number ≡ None → text ≡ line.text.now
 
@@ -124,7 +124,7 @@ module _ {E : Type 0} (ruler : Ruler E) where
       ((refused ≡ true) × (new ≡ old))
       (λ moment. (text : List ℕ) × IsTextOf line.1 text × IsHandedParts old line.0.labels moment text refused new)
 
-  -- a group takes the place of the one with its name; whether that is refused
+  -- a group replaces the one with its name; whether that is refused
   abbrev pub IsPut : E → Group → Bool → E → Type 0
   IsPut old to refused new =
       MatchOption (number_named to.name (ruler.groups old))

@@ -53,7 +53,7 @@ fn push_line(
     Ok(())
 }
 
-// Adds the state, the label text and the value, each where the row has one, and the annotations where they are told.
+// Adds the state, the label text and the value, each where the row has one, and the annotations where they are printed.
 fn push_row(text: &mut String, row: Row<'_>, annotated: bool) -> Result<(), AllocError> {
     if let Some(state) = row.state {
         write!(text, "{} ", state_name(state))?;
@@ -93,7 +93,7 @@ fn push_pairs(text: &mut String, wanted: &[Row<'_>], got: &[Row<'_>]) -> Result<
     Ok(())
 }
 
-// Which side has the next label set. One that is at its end comes behind the other.
+// Which side has the next label set. One that is at its end comes after the other.
 fn order_of(wanted: Option<Row<'_>>, got: Option<Row<'_>>) -> Ordering {
     match (wanted, got) {
         (Some(one), Some(other)) => one.labels.cmp(other.labels),

@@ -17,7 +17,7 @@ use std::alloc::Global;
 use toml::Table;
 use toml::de::Error;
 
-/// The most moments at which a test asks for evaluations: as many as a ruler keeps of a group.
+/// The most moments at which a test asks for evaluations: what a ruler keeps of a group.
 pub(crate) const MOST_MOMENTS: u64 = 1_048_576;
 
 /// A test file.
@@ -28,7 +28,7 @@ pub struct Document<'a> {
     pub tests: Vec<Test<'a>>,
 }
 
-/// A test. All times are nanoseconds since its start.
+/// A test. All times are nanoseconds from its start on.
 #[derive(Drop)]
 pub struct Test<'a> {
     pub(crate) name: &'a str,

@@ -2,7 +2,7 @@
 use rl_plain::OrMemory;
 use std::alloc::{AllocError, Global};
 
-/// What a test file has against it, and where, as `tests 2, streams 1`; the place of a whole file is empty.
+/// What is wrong with a test file, and where: `tests 2, streams 1`, or nothing for the whole file.
 #[derive(Drop)]
 pub struct TestsFault {
     pub place: String,
@@ -28,7 +28,7 @@ pub(crate) fn within(alloc: Global, error: TestsError, array: &str, index: usize
     }
 }
 
-// Places count from 1.
+// Numbers count from 1.
 fn place_within(
     alloc: Global,
     array: &str,
@@ -43,7 +43,7 @@ fn place_within(
     }
 }
 
-// The fault that is told so.
+// The fault with this text.
 pub(crate) fn fault(told: Result<String, AllocError>) -> TestsError {
     match told {
         Ok(what) => TestsError::Fault(TestsFault {

@@ -4,7 +4,7 @@
 //!   `number` for values. `fault`: why a text is no test file.
 //! - `events`: what happens in a test, in its order. `playing`: that, played to a ruler.
 //! - `judging`: whether what rules gave is what is wanted, as `rows`. `differences`: where it is not, as text.
-//! - `told`: what is told of tests, and the counts.
+//! - `told`: what is printed of tests, and the counts.
 #![tactic(auto)]
 
 mod differences;

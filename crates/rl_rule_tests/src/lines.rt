@@ -5,7 +5,7 @@ ghost use Rattle.rl_labels.specs.EntryParts.{are_stream_labels};
 use crate::part::Steps;
 use rl_labels::Labels;
 
-/// The lines of a stream, each of which arrives so much later than its time.
+/// The lines of a stream, each of which arrives later than its time by `late`.
 #[derive(Drop)]
 pub(crate) struct Stream<'a> {
     pub(crate) labels: Labels,
@@ -16,7 +16,7 @@ pub(crate) struct Stream<'a> {
     ghost of_stream: { IsTrue (are_stream_labels labels) },
 }
 
-/// A line, whose time lies so little before its moment. A repeated one has the number of its moment, from 1, in the place of `{n}`.
+/// A line, whose time lies `before` nanoseconds before its moment. A repeated one has its moment's number, from 1, for `{n}`.
 #[derive(Clone, Copy)]
 pub(crate) struct Line<'a> {
     pub(crate) moment: u64,
@@ -25,7 +25,7 @@ pub(crate) struct Line<'a> {
     pub(crate) text: &'a str,
 }
 
-// So many lines at each moment.
+// A line that stands `times` times at each moment.
 #[derive(Clone, Copy, Drop)]
 pub(crate) struct Repeat<'a> {
     pub(crate) steps: Steps,

@@ -68,7 +68,7 @@ fn fraction_in(text: &str) -> Option<Fraction>
     }
 }
 
-// The same of a text without a slash.
+// The fraction that a text without a slash is.
 fn decimal_in(text: &str) -> Option<Fraction>
     ensures { result ≡ option_or (option_map whole (number_of 19 text.now)) (option_map billionths_of (decimal_of 15 text.now)) }
 {
@@ -84,7 +84,7 @@ fn decimal_in(text: &str) -> Option<Fraction>
     }
 }
 
-// The parts before and behind the first slash.
+// The parts before and after the first slash.
 fn cut_at_slash(text: &[u8]) -> Option<(&[u8], &[u8])>
     ensures { option_map (λ parts. (parts.0.now, parts.1.now)) result ≡ cut_at_slash text.now }
 {
@@ -92,7 +92,7 @@ fn cut_at_slash(text: &[u8]) -> Option<(&[u8], &[u8])>
     Some((text.split_at(place).0, text.split_at(place + 1).1))
 }
 
-// The place of the first slash.
+// The index of the first slash.
 fn slash_in(text: &[u8]) -> Option<usize>
     ensures place { result ≡ position (λ byte. byte == 47) text.now }
     ensures inside { IfSome result (λ place. place < length text.now) }
@@ -126,7 +126,7 @@ pub(crate) fn are_equal(one: Fraction, other: Fraction) -> bool
     left.is_some() && left == right
 }
 
-/// Adds a number as it is written, and one that is not in lowest terms, behind a space.
+/// Adds a number as it is written, and one that is not in lowest terms, after a space.
 pub(crate) fn push_number(text: &mut String, number: Number<'_>) -> Result<(), AllocError> {
     if !number.text.is_empty() {
         return write!(text, " {}", number.text);

@@ -39,7 +39,7 @@ pub(crate) trait Item<'a>: Drop {
         ensures { IfOk result (is part.entry.kind part.entry.rule.now (table_view part.entry.table.now)) };
 }
 
-/// Moments of a test, each so much behind the one before it.
+/// Moments of a test, each a step after the one before it.
 #[derive(Clone, Copy)]
 pub(crate) struct Steps {
     pub(crate) from: u64,
@@ -117,7 +117,7 @@ impl<'a> Part<'a> {
         }
     }
 
-    /// The moments at `from` and each `step` behind it, up to `to` itself.
+    /// The moments at `from` and each `step` after it, up to `to` itself.
     pub(crate) fn steps(self) -> Result<Steps, TestsError>
         ensures { IfOk result (IsSteps (table_view self.entry.table.now)) }
     {
@@ -145,7 +145,7 @@ impl<'a> Part<'a> {
         Ok(all)
     }
 
-    /// Puts the items of the array at a key behind others.
+    /// Adds the items of the array at a key to others.
     pub(crate) fn push_all<T: Item<'a>>(
         self,
         array: &str,

@@ -36,7 +36,7 @@ struct Moment {
     given: Vec<Shared<Evaluation>>,
 }
 
-/// Plays a test of these groups to a ruler of its own, and tells of it: how many checks passed and failed, and of each failure
+/// Plays a test of these groups to a ruler of its own, and reports how many checks passed and failed, and of each failure
 /// what differs.
 pub fn play(
     alloc: Global,
@@ -53,7 +53,7 @@ pub fn play(
     Ok(())
 }
 
-// Tells of evaluations that are asked for of groups that are not there.
+// Reports evaluations that are asked for of groups that are not there.
 fn tell_spans<E: Engine>(engine: &E, test: &Test<'_>, told: &mut Told) -> Result<(), AllocError>
     ensures { OnOk result (Chain (AsksOfNobody (ruler_of E.calls) engine.now) (counts_of told.old) test.now.spans.items (counts_of told.new)) }
 {
@@ -176,7 +176,7 @@ fn arrive(moment: &mut Moment, at: u64)
     }
 }
 
-// A moment of the ruler, which lies so little before one of the test.
+// A moment of the ruler, which lies some nanoseconds before one of the test.
 fn moment_of(at: u64, before: u64) -> Option<Ns>
     ensures { result ≡ moment_of at before }
 {
@@ -302,7 +302,7 @@ fn play_group<E: Engine>(
     }
 }
 
-// Puts a group in the place of the one with its name. Why this is refused, if it is.
+// Puts a group instead of the one with its name. Why this is refused, if it is.
 fn put_group<E: Engine>(engine: &mut E, group: &Group) -> Result<Option<&'static str>, AllocError>
     ensures { IfOk result (λ why. IsPut (ruler_of E.calls) engine.old group.now (is_some why) engine.new) }
 {
@@ -371,7 +371,7 @@ fn play_check(
     count_check(alloc, groups, test, check, evaluations, told)
 }
 
-// Counts a check, and tells where it fails.
+// Counts a check, and reports it where it fails.
 fn count_check(
     alloc: Global,
     groups: &[Group],

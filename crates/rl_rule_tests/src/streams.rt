@@ -11,7 +11,7 @@ use crate::lines::{Line, Repeat, Stream};
 use crate::part::{Item, Part, nanoseconds_in};
 use std::alloc::Global;
 
-// The most lines of a test: about as many as a ruler's journal has room for.
+// The most lines of a test: about what a ruler's journal has room for.
 const MOST_LINES: u64 = 1_000_000;
 
 impl<'a> Item<'a> for Stream<'a> {
@@ -62,7 +62,7 @@ fn push_written<'a>(part: Part<'a>, lines: &mut Vec<Line<'a>>) -> Result<(), Tes
     Ok(())
 }
 
-// The line that is written behind its time and blanks.
+// The line that is written after its time and blanks.
 fn line_in(line: &str) -> Option<Line<'_>> {
     let (time, text) = match line.find(|letter: char| letter == ' ' || letter == '\t') {
         Some(end) => line.split_at(end),
@@ -174,7 +174,7 @@ fn push_repeated<'a>(lines: &mut Vec<Line<'a>>, repeat: Repeat<'a>) -> Result<()
     Ok(())
 }
 
-// Adds so many lines at a moment. The last has the moment itself, and each one before it a nanosecond less.
+// Adds the repeated lines at a moment. The last has the moment itself, and each one before it a nanosecond less.
 fn push_moment<'a>(
     lines: &mut Vec<Line<'a>>,
     repeat: Repeat<'a>,

@@ -1,4 +1,4 @@
-//! What is told of tests, and how many checks passed and failed.
+//! What is printed of tests, and how many checks passed and failed.
 ghost use Rattle.std.specs.Prelude.{◌≡◌, ◌++◌, string_bytes, OnOk};
 ghost use Rattle.rl_rule_tests.specs.Counting.{counted_text, counts_of, no_counts, one_failed, one_passed};
 
@@ -6,7 +6,7 @@ use crate::document::Check;
 use rl_rules::RuleKind;
 use std::alloc::{AllocError, Global};
 
-/// What is told so far, and how many checks passed and failed. What a ruler refuses is one failure more.
+/// What is printed so far, and how many checks passed and failed. What a ruler refuses is one failure more.
 #[derive(Drop)]
 pub struct Told {
     pub text: String,
@@ -15,7 +15,7 @@ pub struct Told {
 }
 
 impl Told {
-    /// Nothing told.
+    /// Nothing printed, and no checks.
     pub fn new(alloc: Global) -> Told
         ensures { counts_of result ≡ no_counts }
     {
@@ -26,7 +26,7 @@ impl Told {
         }
     }
 
-    // Tells why a line, an edit or an evaluation of a test was refused, which is a failure.
+    // Reports why a line, an edit or an evaluation of a test was refused, which is a failure.
     pub(crate) fn refuse(
         &mut self,
         test: &str,
@@ -51,7 +51,7 @@ impl Told {
         self.passed = self.passed.saturating_add(1);
     }
 
-    // Tells where a rule of a test differs from what is wanted, which is a failure.
+    // Reports where a rule of a test differs from what is wanted, which is a failure.
     pub(crate) fn fail(
         &mut self,
         test: &str,
@@ -68,7 +68,7 @@ impl Told {
         write!(text, "\n{differences}")
     }
 
-    /// Tells how many passed and failed.
+    /// Adds how many passed and failed.
     pub fn finish(&mut self) -> Result<(), AllocError>
         ensures text { OnOk result (string_bytes self.new.text ≡ string_bytes self.old.text ++ counted_text (counts_of self.old)) }
         ensures counts { counts_of self.new ≡ counts_of self.old }
@@ -93,7 +93,7 @@ fn push_name(text: &mut String, check: &Check<'_>) -> Result<(), AllocError> {
     }
 }
 
-// Adds a time since the start, as 1m30s.
+// Adds a time from the start on, as 1m30s.
 fn push_time(text: &mut String, time: u64) -> Result<(), AllocError> {
     let (all, behind) = (time / 1_000_000_000, time % 1_000_000_000);
     let (hours, minutes, seconds) = (all / 3_600, all / 60 % 60, all % 60);

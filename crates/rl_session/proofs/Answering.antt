@@ -22,7 +22,7 @@ front_in-no_text bytes not = inl (sym (front_in-test bytes false (false_from_ne_
 pub front_in-no_mark : (bytes whole : List ℕ) → IsUtf8 bytes → whole ≡ bytes → None ≡ front_of whole → Says bytes (Err faults.NoMark)
 front_in-no_mark bytes whole utf8 same is = inl (sym (front_in-test bytes true (is_utf8-from_IsUtf8 bytes utf8) ∙ ap front_from (ap front_of (sym same) ∙ sym is)))
 
--- a document's groups or its fault, with the commands behind it
+-- a document's groups or its fault, with the commands after it
 front_in-parts : (bytes whole document commands : List ℕ) (groups : Result (List GroupForm) FrontFault) → IsUtf8 bytes → whole ≡ bytes → Some (document, commands) ≡ front_of whole → HasGroups document groups → Says bytes (with_commands commands groups)
 front_in-parts bytes whole document commands groups utf8 same is (inl read) =
     inl (sym (front_in-test bytes true (is_utf8-from_IsUtf8 bytes utf8) ∙ ap front_from (ap front_of (sym same) ∙ sym is) ∙ ap (with_commands commands) (sym read)))

@@ -43,7 +43,7 @@ front_cut (line ∷ next ∷ lines) parts is =
 pub IsCut-front_of : (text : List ℕ) (parts : List ℕ × List ℕ) → front_of text ≡ Some parts → IsCut text parts
 IsCut-front_of text parts is = subst (λ t. IsCut t parts) (join_with_byte-slice_split 10 text) (front_cut (lines_of text) parts is)
 
--- a text may be cut behind a line feed
+-- a text may be cut after a line feed
 pub feed_boundary : (text front behind : List ℕ) → IsUtf8 text → text ≡ front ++ 10 ∷ behind → IsCharBoundary text (length front + 1)
 feed_boundary text front behind utf8 is =
     let feed : get_or text (length front) 0 ≡ 10 = ap (λ t. get_or t (length front) 0) is ∙ get_or-append_seam front 10 behind 0 in
@@ -55,7 +55,7 @@ behind_feed text front behind is =
     let len : length front + 1 ≡ length (front ++ 10 ∷ []) = omega (arith, length-append front (10 ∷ [])) in
     ap (λ n. drop n text) len ∙ ap (drop (length (front ++ 10 ∷ []))) whole ∙ drop-append_seam (front ++ 10 ∷ []) behind
 
--- what stands behind a line feed is text
+-- what follows a line feed is text
 pub IsUtf8-behind : (text front behind : List ℕ) → IsUtf8 text → text ≡ front ++ 10 ∷ behind → IsUtf8 behind
 IsUtf8-behind text front behind utf8 is = subst IsUtf8 (behind_feed text front behind is) (IsUtf8-drop text (length front + 1) utf8 (feed_boundary text front behind utf8 is))
 

@@ -42,7 +42,7 @@ few_items [] few = refl
 few_items (v ∷ []) few = refl
 few_items (v ∷ w ∷ vs) few = absurd (omega arith)
 
--- more items than one behind the line
+-- more items than one after the line
 pub many_items : {A : Type 0} (vs : List (Value A)) → 2 ≤ length vs → metadata_in (items_data (items_view vs)) ≡ Err faults.Shape
 many_items [] many = absurd (omega arith)
 many_items (v ∷ []) many = absurd (omega arith)

@@ -163,7 +163,7 @@ name_seen world group = ap name (slice_get-map (λ (book : BookState). book.hist
     through None = refl
     through (Some book) = refl
 
--- what a step that asks no shard tells
+-- what the reply to a step that asks no shard says
 told_unasked : (old : WorldBooks) (step : Step) (reply : Reply) (new : WorldBooks) → asks_shard step ≡ false → Turned old step reply new → Tells old step reply new
 told_unasked old step reply new asks turned =
     let told = told_kept (kept old) step reply (kept new) asks (turned.on_kept asks) in
@@ -228,7 +228,7 @@ shards_stay old (steps.Abandon group) reply new turn = ap length turn
 shards_stay old (steps.CatchUp group) reply new turn = ap length turn
 shards_stay old step reply new turn = absurd turn
 
--- books of the same names with as many sinks
+-- books of the same names and numbers of sinks
 listed_alike : (old new : List BookState) → map (λ (book : BookState). book.history.group.name) new ≡ map (λ (book : BookState). book.history.group.name) old → sink_counts new ≡ sink_counts old → map listed new ≡ map listed old
 listed_alike [] [] same counts = refl
 listed_alike [] (next ∷ new) same counts = let never : ⊥ = cc in absurd never

@@ -25,7 +25,7 @@ concat-one : (pieces : List (List ℕ)) (piece : List ℕ) → concat (pieces ++
 concat-one [] piece = append-nil piece
 concat-one (first ∷ pieces) piece = ap (λ l. first ++ l) (concat-one pieces piece) ∙ sym (append_assoc first (concat pieces) piece)
 
--- so many turns gave these bytes
+-- `turns` turns gave these bytes
 pub record Gathered (old new : Option (List ℕ)) (turns : ℕ) (bytes : List ℕ) : Type 0 where
   pub pieces : List (List ℕ)
   pub each : length pieces ≡ turns

@@ -17,7 +17,7 @@ no_feeds text none k d inside = ne_eqb (get_or text k d) 10 (λ feed. none k ins
 lines_of-one : (text : List ℕ) → ((i : ℕ) → i < length text → get_or text i 0 ≢ 10) → lines_of text ≡ text ∷ []
 lines_of-one text none = slice_split_none (λ byte. byte == 10) text (no_feeds text none)
 
--- a line, and the lines behind its line feed
+-- a line, and the lines after its line feed
 pub lines_of-next : (line behind : List ℕ) → ((i : ℕ) → i < length line → get_or line i 0 ≢ 10) → lines_of (line ++ 10 ∷ behind) ≡ line ∷ lines_of behind
 lines_of-next line behind none = slice_split_at (λ byte. byte == 10) line 10 behind (no_feeds line none) refl
 
@@ -49,7 +49,7 @@ IsFirstLine-at text at found =
 abbrev pub in_front : List ℕ → List ℕ × List ℕ → List ℕ × List ℕ
 in_front seen parts = (seen ++ parts.0, parts.1)
 
--- the lines that were seen are no marks, and the rest of the text stands behind them
+-- the lines that were seen are no marks, and the rest of the text follows them
 pub record Seen (text rest : List ℕ) : Type 0 where
   pub seen : List ℕ
   pub seam : text ≡ seen ++ rest

@@ -1,4 +1,4 @@
--- What was told of the lines so far.
+-- What was written of the lines so far.
 use Rattle.std.proofs.Common.{◌≡◌, ℕ, Bool, true, false, ◌||◌, List, [], ◌∷◌, ◌++◌, Option, None, Some, Ok, refl, sym, subst, append_assoc, append-nil}
 use Rattle.std.proofs.Math.Bool.{or_assoc, or-false}
 use Rattle.std.specs.Io.KnownBytes.{Appends}
@@ -9,19 +9,19 @@ use Rattle.rl_session.specs.Session.{TellsLine, TellsText, AreLinesTold, IsRestT
 use Rattle.rl_session.specs.declared.telling.Answer.{Answer}
 use Rattle.rl_session.specs.declared.telling.Answer.TheVariants.{Taken, Refused, Ended}
 
--- no end: the lines behind are told behind it
+-- no end: what the rest gives is written after it
 rest_told : {E : Type 0} (mid : E) (here : Answer) (first : List ℕ) (AreTold : List ℕ → Bool → E → Type 0) (rest : List ℕ) (later : Bool) (new : E) → is_end here ≡ false → AreTold rest later new → IsRestTold mid here first AreTold (first ++ rest) (is_refusal here || later) new
 rest_told mid Ended first AreTold rest later new goes told = let never : ⊥ = cc in absurd never
 rest_told mid Taken first AreTold rest later new goes told = (rest, later, told, refl, refl)
 rest_told mid Refused first AreTold rest later new goes told = (rest, later, told, refl, refl)
 
--- an end: nothing is told behind it
+-- an end: nothing is written after it
 end_told : {E : Type 0} (mid : E) (here : Answer) (first : List ℕ) (AreTold : List ℕ → Bool → E → Type 0) → is_end here ≡ true → IsRestTold mid here first AreTold first false mid
 end_told mid Ended first AreTold is = (refl, refl, refl)
 end_told mid Taken first AreTold is = let never : ⊥ = cc in absurd never
 end_told mid Refused first AreTold is = let never : ⊥ = cc in absurd never
 
--- whatever is told of the rest, over the engine as it is now, is told of the whole behind what was written
+-- whatever the rest gives, over the engine as it is now, the whole gives after what was written
 pub record ToldSoFar {E : Type 0} (calls : Calls E) (start : E) (commands rest : List ℕ) (refused : Bool) (before after : Option (List ℕ)) (now : E) : Type 0 where
   pub written : List ℕ
   pub whole : (text : List ℕ) (later : Bool) (new : E) → AreLinesTold calls now (lines_of rest) text later new → AreLinesTold calls start (lines_of commands) (written ++ text) (refused || later) new
@@ -58,7 +58,7 @@ module _ {E : Type 0} (calls : Calls E) (start : E) where
       subst (λ r. IsRestTold new here text (AreLinesTold calls new []) text r new) (or-false (is_refusal here))
       (subst (λ t. IsRestTold new here text (AreLinesTold calls new []) t (is_refusal here || false) new) (append-nil text) (rest_told new here text (AreLinesTold calls new []) [] false new goes (refl, refl, refl)))) so_far
 
-  -- an end, and nothing behind it
+  -- an end, and nothing after it
   pub told_end : (commands rest line : List ℕ) (behind : Option (List ℕ)) (refused : Bool) (here : Answer) (before mid after : Option (List ℕ)) (old new : E) → is_end here ≡ true → IsFirstLine rest line behind → TellsLine calls old line mid (Ok here) after new
       → ToldSoFar calls start commands rest refused before mid old → TellsText calls start commands before (Ok refused) after new
   told_end commands rest line None refused here before mid after old new is first told so_far =

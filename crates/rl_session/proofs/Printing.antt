@@ -29,7 +29,7 @@ pub answers_told : (old mid new : Option (List ℕ)) (answers : List (Result Sha
 answers_told old mid new answers i answer refusal below is refused before more =
     appends_more old mid new _ _ _ before more (ap (λ r. entry_lines 0 (take i answers) ++ entry_line i r) (sym refused) ∙ entry_lines_more answers i answer below is)
 
--- the same where each answer is this one
+-- an answer more, where each one is this answer
 pub entry_lines_repeated : (i : ℕ) (answer : Result ShardReply Refusal) → entry_lines 0 (replicate i answer) ++ entry_line i (push_refusal answer) ≡ entry_lines 0 (replicate (i + 1) answer)
 entry_lines_repeated i answer =
     let place : 0 + length (replicate i answer) ≡ i = omega (arith, length-replicate i answer) in

@@ -93,7 +93,7 @@ apart name first groups none =
 named_by : (name : List ℕ) (first : Listed) (groups : List Listed) (t : Bool) → is_text first.name name ≡ t → number_named name (first ∷ groups) ≡ cond t (Some 0) (option_map suc (number_named name groups))
 named_by name first groups t is = ap (λ b. cond b (Some 0) (option_map suc (number_named name groups))) is
 
--- what a comparison of a name with that of a book's group tells
+-- what a comparison of a name with that of a book's group says
 pub named_test : (name text : List ℕ) (book : BookState) (group : Group) (t : Bool) → text ≡ group.name → group ≡ book.history.group → t ≡ is_text text name → is_text book.history.group.name name ≡ t
 named_test name text book group t text_is group_is test = sym (test ∙ ap (λ n. is_text n name) (text_is ∙ ap (λ (g : Group). g.name) group_is))
 

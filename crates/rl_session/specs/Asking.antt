@@ -1,4 +1,4 @@
--- What a command asks of an engine, call after call, and what it gets.
+-- What a command asks of an engine, call after call, and its result.
 use Rattle.std.specs.Prelude.{◌≡◌, ℕ, zero, suc, ⊤, Bool, true, false, List, [], ◌∷◌, ◌++◌, map, length, Option, None, Some, Result, Ok, Err, IfOk}
 use Rattle.rl_plain.specs.declared.refusal.OrMemory.{OrMemory}
 use Rattle.rl_plain.specs.declared.refusal.OrMemory.TheVariants as errors
@@ -40,7 +40,7 @@ module _ {E : Type 0} (calls : Calls E) where
   PushesAll old (entry ∷ entries) (answer ∷ answers) new = (mid : E) × calls.pushes old entry answer mid × PushesAll mid entries answers new
   PushesAll old entries answers new = ⊥
 
-  -- of a body with entries each is handed in, or none for want of memory; of another nothing is asked
+  -- of a body with entries each is handed in, or none where memory runs out; of another nothing is asked
   abbrev pub IsForPush : E → Result (List EntryForm) PushFault → Got → E → Type 0
   IsForPush old read (gots.Unread errors.Memory) new = new ≡ old
   IsForPush old (Ok forms) (gots.Pushed answers) new = (entries : List Entry) × (map entry_form entries ≡ forms) × PushesAll old entries answers.items new
@@ -68,16 +68,16 @@ module _ {E : Type 0} (calls : Calls E) where
   IsTurn true old now group Rest results = (answer : Result Committed Refusal) × (mid : E) × (rest : List (Result Committed Refusal)) × EvaluatesAt old group now answer mid × (results ≡ answer ∷ rest) × Rest mid rest
   IsTurn false old now group Rest results = Rest old results
 
-  -- so many groups, from one on, are asked in their order whether they are due, and those that are give these results
+  -- a number of groups, from one on, are asked in their order whether they are due, and those that are give these results
   abbrev pub EvaluatesDue : E → ℕ → ℕ → ℕ → List (Result Committed Refusal) → E → Type 0
   EvaluatesDue old now group zero results new = (results ≡ []) × (new ≡ old)
   EvaluatesDue old now group (suc left) results new = (due : Bool) × calls.is_due old group now due × IsTurn due old now group (λ mid rest. EvaluatesDue mid now (suc group) left rest new) results
 
-  -- one group takes its turn, and what it gives stands behind what others gave
+  -- one group takes its turn, and what it gives follows what others gave
   abbrev pub TakesTurn : E → ℕ → ℕ → List (Result Committed Refusal) → List (Result Committed Refusal) → E → Type 0
   TakesTurn old now group before after new = (due : Bool) × (more : List (Result Committed Refusal)) × calls.is_due old group now due × IsTurn due old now group (λ mid rest. (rest ≡ []) × (new ≡ mid)) more × (after ≡ before ++ more)
 
-  -- all groups are; or none for want of memory
+  -- all groups are; or none where memory runs out
   abbrev pub IsForTick : E → ℕ → Got → E → Type 0
   IsForTick old now (gots.Ticked results) new = EvaluatesDue old now 0 (length (calls.groups old)) results.items new
   IsForTick old now (gots.Evaluated (Err refusal)) new = (refusal ≡ refusals.Memory) × (new ≡ old)
@@ -103,7 +103,7 @@ module _ {E : Type 0} (calls : Calls E) where
   abbrev pub PutsGroup : E → Group → Result ⊤ EditRefusal → E → Type 0
   PutsGroup old to result new = PutsAt old (number_named to.name (calls.groups old)) to result new
 
-  -- the one group of a document is put into its place; where the document has not one, nothing is asked
+  -- the one group of a document replaces the one with its name; where the document has not one, nothing is asked
   abbrev pub EditsRead : E → Result Group EditRefusal → Result ⊤ EditRefusal → E → Type 0
   EditsRead old (Ok to) result new = PutsGroup old to result new
   EditsRead old (Err refusal) result new = (result ≡ Err refusal) × (new ≡ old)

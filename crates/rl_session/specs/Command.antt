@@ -40,7 +40,7 @@ asked (commands.Pump group) = pumps group.now
 asked (commands.Show sink group) = shows sink group.now
 asked commands.End = ends
 
--- the parts before and behind the first such byte
+-- the parts before and after the first such byte
 abbrev pub cut_at : ℕ → List ℕ → Option (List ℕ × List ℕ)
 cut_at byte text = if nat_lt (position_or_len (λ b. b == byte) text) (length text) then Some (before_first (λ b. b == byte) text, after_first (λ b. b == byte) text) else None
 

@@ -32,7 +32,7 @@ pub record Calls (E : Type 0) : Type 1 where
   pub pushes : E → Entry → Result ShardReply Refusal → E → Type 0
   -- each shard is asked for a step, up to the first that does not decide it: the first reply that is a refusal
   pub asks_all : E → ShardStep → Result (Option ShardReply) Partly → E → Type 0
-  -- a group is put in the place of the one at a number
+  -- a group replaces the one at a number
   pub edits : E → ℕ → Group → Result ⊤ Refusal → E → Type 0
   -- the group at a number is evaluated at a moment
   pub evaluates : E → ℕ → ℕ → Result Committed Refusal → E → Type 0
@@ -55,7 +55,7 @@ abbrev pub kept_text : Option Shown → List ℕ
 kept_text None = []
 kept_text (Some sink) = codes "count " ++ decimal sink.count ++ codes "\n" ++ concat sink.kept
 
--- whether a sink is there, and what it has stands behind what stood there
+-- whether a sink is there, and what it has follows what stood there
 abbrev pub ShowsIn : {E : Type 0} → Calls E → E → ℕ → ℕ → Option (List ℕ) → Result Bool Error → Option (List ℕ) → Type 0
 ShowsIn calls engine group sink old (Ok there) new = (shown : Option Shown) × calls.shows engine group sink shown × (there ≡ is_some shown) × Appends old new (kept_text shown)
 ShowsIn calls engine group sink old (Err error) new = Unit {0}

@@ -17,7 +17,7 @@ use Rattle.rl_session.specs.declared.front.fault.FrontFault.TheVariants as fault
 abbrev pub lines_of : List ℕ → List (List ℕ)
 lines_of text = slice_split (λ byte. byte == 10) text
 
--- the first line of a text, and what stands behind its line feed, if it has one
+-- the first line of a text, and what follows its line feed, if it has one
 abbrev pub IsFirstLine : List ℕ → List ℕ → Option (List ℕ) → Type 0
 IsFirstLine text line None = lines_of text ≡ line ∷ []
 IsFirstLine text line (Some behind) = (lines_of text ≡ line ∷ lines_of behind) × (text ≡ line ++ 10 ∷ behind)
@@ -30,7 +30,7 @@ is_mark line = is_text line (codes "%%")
 abbrev pub behind_line : List ℕ → List ℕ × List ℕ → List ℕ × List ℕ
 behind_line line parts = (line ++ 10 ∷ parts.0, parts.1)
 
--- the lines before the first mark as a document, and those behind it as commands
+-- the lines before the first mark as a document, and those after it as commands
 abbrev pub front_of_lines : List (List ℕ) → Option (List ℕ × List ℕ)
 front_of_lines [] = None
 front_of_lines (line ∷ lines) = if is_mark line then Some ([], join_with_byte 10 lines) else option_map (behind_line line) (front_of_lines lines)
@@ -39,7 +39,7 @@ front_of_lines (line ∷ lines) = if is_mark line then Some ([], join_with_byte 
 abbrev pub front_of : List ℕ → Option (List ℕ × List ℕ)
 front_of text = front_of_lines (lines_of text)
 
--- a text is its document, the mark, and its commands behind a line feed; or the mark ends it
+-- a text is its document, the mark, and its commands after a line feed; or the mark ends it
 abbrev pub IsCut : List ℕ → List ℕ × List ℕ → Type 0
 IsCut text parts = (text ≡ parts.0 ++ (codes "%%\n" ++ parts.1)) ⊎ ((text ≡ parts.0 ++ codes "%%") × (parts.1 ≡ []))
 

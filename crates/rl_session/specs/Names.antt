@@ -66,7 +66,7 @@ refusal_name refusals.Damaged = codes "Damaged"
 refusal_name refusals.NumbersSpent = codes "NumbersSpent"
 refusal_name refusals.Memory = codes "Memory"
 
--- a rule file's fault, or want of memory
+-- a rule file's fault, or lack of memory
 abbrev pub rules_error_name : OrMemory RulesFault → List ℕ
 rules_error_name (errors.Fault fault) = rules_fault_name fault
 rules_error_name errors.Memory = codes "Memory"

@@ -47,7 +47,7 @@ is_refused answer = is_some (push_refusal answer)
 abbrev pub pushed_text : List (Result ShardReply Refusal) → List ℕ
 pushed_text answers = counts_line (length answers - count_by is_refused answers) (count_by is_refused answers) ++ entry_lines 0 answers
 
--- no memory for any of so many entries
+-- no memory for any of `count` entries
 abbrev pub none_pushed : ℕ → List (Result ShardReply Refusal)
 none_pushed count = replicate count (Err refusals.Memory)
 
@@ -75,7 +75,7 @@ abbrev pub evaluated_text : Result Committed Refusal → List ℕ
 evaluated_text (Ok committed) = committed_text committed
 evaluated_text (Err refusal) = refusal_line (refusal_name refusal)
 
--- what those of the groups that are due print, one behind the other
+-- what those of the groups that are due print, one after the other
 abbrev pub ticked_text : List (Result Committed Refusal) → List ℕ
 ticked_text [] = codes "ok\n"
 ticked_text (result ∷ results) = flat_map evaluated_text (result ∷ results)
@@ -115,7 +115,7 @@ abbrev pub shown_answer : Option Shown → Answer
 shown_answer None = Refused
 shown_answer (Some sink) = Taken
 
--- what is printed of what a command got
+-- what is printed of a command's result
 abbrev pub printed : Got → List ℕ
 printed gots.Refused = refusal_line (codes "BadCommand")
 printed (gots.Unread error) = bad_push_line (push_error_name error)

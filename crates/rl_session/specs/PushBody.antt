@@ -56,7 +56,7 @@ labels_of found = do
   pairs ← pairs_of members
   stream_labels (labels_from pairs)
 
--- what stands behind the line: metadata, or nothing
+-- what follows the line: metadata, or nothing
 abbrev pub metadata_in : Items → Result (Option Data) PushFault
 metadata_in no_items = Ok None
 metadata_in (item metadata no_items) = Ok (Some metadata)
@@ -119,7 +119,7 @@ stream_entries stream = do
   values ← array_of (get (codes "values") stream)
   entries_from labels values
 
--- the entries of streams, one behind the other
+-- the entries of streams, one after the other
 abbrev pub streams_entries : Items → Result (List EntryForm) PushFault
 streams_entries no_items = Ok []
 streams_entries (item stream streams) = do

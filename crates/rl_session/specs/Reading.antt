@@ -1,4 +1,4 @@
--- Reading to the end: at most so many bytes, in at most so many turns.
+-- Reading to the end, with a limit for the bytes and for the turns.
 use Rattle.std.specs.Prelude.{◌≡◌, ℕ, ◌<◌, ◌≤◌, ◌⊎◌, List, length, Option, Result, Ok, Err}
 use Rattle.std.specs.List.{concat}
 use Rattle.std.specs.Io.KnownBytes.{Consumes, IsAtEnd}

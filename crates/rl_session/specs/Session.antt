@@ -40,13 +40,13 @@ IsPrinted got text answer = (text ≡ printed got) × (answer ≡ answer_to got)
 abbrev pub IsShown : Option Shown → List ℕ → Answer → Type 0
 IsShown shown text answer = (text ≡ shown_text shown) × (answer ≡ shown_answer shown)
 
--- the text of lines, and whether one was refused, by the first of them: behind an end no line is looked at
+-- the text of lines, and whether one was refused, by the first of them: after an end no line is looked at
 abbrev pub IsRestTold : {E : Type 0} → E → Answer → List ℕ → (List ℕ → Bool → E → Type 0) → List ℕ → Bool → E → Type 0
 IsRestTold mid Ended first AreTold text refused new = (text ≡ first) × (refused ≡ false) × (new ≡ mid)
 IsRestTold mid here first AreTold text refused new = (rest : List ℕ) × (later : Bool) × AreTold rest later new × (text ≡ first ++ rest) × (refused ≡ (is_refusal here || later))
 
 module _ {E : Type 0} (calls : Calls E) where
-  -- a command: what it prints, and what becomes of it, is by what it got of the engine for its own words
+  -- a command: what it prints, and what becomes of it, follows from the engine's result for its own words
   abbrev pub IsTold : E → Option Asked → List ℕ → Answer → E → Type 0
   IsTold old None text answer new = IsPrinted gots.Refused text answer × (new ≡ old)
   IsTold old (Some (pushes json)) text answer new = (got : Got) × IsForPush calls old (entries_of json) got new × IsPrinted got text answer
@@ -68,12 +68,12 @@ module _ {E : Type 0} (calls : Calls E) where
   IsLineTold old true line text answer new = (text ≡ []) × (answer ≡ Taken) × (new ≡ old)
   IsLineTold old false line text answer new = IsTold old (command_of line) text answer new
 
-  -- lines: each is told in its order, up to an end
+  -- lines: each is answered in its order, up to an end
   abbrev pub AreLinesTold : E → List (List ℕ) → List ℕ → Bool → E → Type 0
   AreLinesTold old [] text refused new = (text ≡ []) × (refused ≡ false) × (new ≡ old)
   AreLinesTold old (line ∷ lines) text refused new = (first : List ℕ) × (here : Answer) × (mid : E) × IsLineTold old (list_all is_blank_byte line) line first here mid × IsRestTold mid here first (AreLinesTold mid lines) text refused new
 
-  -- where no error came, the text stands behind what stood there: of a command
+  -- where no error came, the text follows what stood there: of a command
   abbrev pub Tells : E → Option Asked → Option (List ℕ) → Result Answer Error → Option (List ℕ) → E → Type 0
   Tells old asked before (Ok answer) after new = (text : List ℕ) × IsTold old asked text answer new × Appends before after text
   Tells old asked before (Err error) after new = Unit {0}
@@ -93,7 +93,7 @@ module _ {E : Type 0} (calls : Calls E) where
   TellsText old commands before (Ok refused) after new = (text : List ℕ) × AreLinesTold old (lines_of commands) text refused new × Appends before after text
   TellsText old commands before (Err error) after new = Unit {0}
 
-  -- a session: its lines are told, then the engine is closed, and that is told; or a write failed, and it is closed all the same
+  -- a session: its lines are answered, then the engine is closed, and that is printed; or a write failed, and it is still closed
   abbrev pub TellsSession : E → List ℕ → Option (List ℕ) → Result Status RunError → Option (List ℕ) → E → Type 0
   TellsSession old commands before (Ok status) after new = (text : List ℕ) × (refused : Bool) × (mid : E) × (closed : Result ℕ Refusal) × AreLinesTold old (lines_of commands) text refused mid × calls.closes mid closed new × (status ≡ ended_by closed refused) × Appends before after (text ++ closed_text closed)
   TellsSession old commands before (Err error) after new = (error ≡ WriteFault) × (mid : E) × (closed : Result ℕ Refusal) × calls.closes mid closed new

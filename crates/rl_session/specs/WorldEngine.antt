@@ -51,12 +51,12 @@ IsPushed old entry (Err refusal) new = Turned old (push_step old entry) (replies
 abbrev pub IsStopped : WorldBooks → ShardStep → ℕ → Refusal → WorldBooks → Type 0
 IsStopped old step number refusal new = Turned old (steps.Shard number step) (replies.Refused refusal) new ⊎ ((refusal ≡ Memory) × (new ≡ old))
 
--- a shard is asked for a step; where it does not decide it, as many did as have a lower number
+-- a shard is asked for a step; where it does not decide it, those with a lower number did
 abbrev pub IsAskedFor : WorldBooks → ShardStep → ℕ → Result ShardReply Partly → WorldBooks → Type 0
 IsAskedFor old step number (Ok reply) new = (place : ℕ) × Turned old (steps.Shard number step) (replies.Decided place reply) new
 IsAskedFor old step number (Err partly) new = (partly.done ≡ number) × IsStopped old step number partly.refusal new
 
--- behind a step that was refused nothing is done
+-- after a step that was refused nothing is done
 abbrev pub IsBehind : {A F : Type 0} → Result ⊤ F → WorldBooks → (Result A F → WorldBooks → Type 0) → Result A F → WorldBooks → Type 0
 IsBehind (Ok done) mid Next answer new = Next answer new
 IsBehind (Err refusal) mid Next answer new = (answer ≡ Err refusal) × (new ≡ mid)
@@ -80,7 +80,7 @@ abbrev pub first_refused : List ShardReply → Option ShardReply
 first_refused [] = None
 first_refused (reply ∷ replies) = or_else (refusing reply) (first_refused replies)
 
--- all shards decide a step, or as many as are told, and the next one does not
+-- all shards decide a step, or the answered number of them does, and the next one does not
 abbrev pub IsAskedOfAll : WorldBooks → ShardStep → Result (Option ShardReply) Partly → WorldBooks → Type 0
 IsAskedOfAll old step (Ok refused) new = (replies : List ShardReply) × (length replies ≡ length old.shards) × (refused ≡ first_refused replies) × AreDecided old step 0 replies new
 IsAskedOfAll old step (Err partly) new = (replies : List ShardReply) × (length replies ≡ partly.done) × (partly.done < length old.shards) × (mid : WorldBooks) × AreDecided old step 0 replies mid × IsStopped mid step partly.done partly.refusal new
@@ -105,7 +105,7 @@ abbrev pub IsCommitted : WorldBooks → ℕ → Result Committed Refusal → Wor
 IsCommitted old group (Ok committed) new = Turned old (steps.Commit group) (replies.Committed committed) new
 IsCommitted old group (Err refusal) new = Turned old (steps.Commit group) (replies.Refused refusal) new
 
--- so many shards are asked in their order, from one on, up to the first refusal
+-- a number of shards are asked in their order, from one on, up to the first refusal
 abbrev pub AreGathered : WorldBooks → ℕ → ℕ → ℕ → Result ⊤ Refusal → WorldBooks → Type 0
 AreGathered old group number zero answer new = (answer ≡ Ok tt) × (new ≡ old)
 AreGathered old group number (suc left) answer new = (first : Result ⊤ Refusal) × (mid : WorldBooks) × IsGathered old group number first mid × IsBehind first mid (AreGathered mid group (suc number) left) answer new
@@ -135,7 +135,7 @@ abbrev pub IsCaughtUp : WorldBooks → ℕ → Result (List ℕ) Refusal → Wor
 IsCaughtUp old group (Ok behind) new = Turned old (steps.CatchUp group) (replies.CaughtUp behind) new
 IsCaughtUp old group (Err refusal) new = Turned old (steps.CatchUp group) (replies.Refused refusal) new
 
--- each sink is closed, and the answers of so many say that they could not write all
+-- each sink is closed, and how many answer that they could not write all
 abbrev pub IsClosed : {S : Type 0} → (S → SinkState) → (S → Result ⊤ SinkFault → Type 0) → WorldBooks → Result ℕ Refusal → WorldBooks → Type 0
 IsClosed state Says old (Ok failures) new = (new ≡ record { shards = old.shards; books = map with_sinks_closed old.books }) × BooksClosed state Says new.books failures
 IsClosed state Says old (Err refusal) new = ⊥
@@ -161,7 +161,7 @@ open_moment world group = option_and_then (λ book. option_map (λ opened. opene
 abbrev pub IsAlike : WorldBooks → WorldBooks → Type 0
 IsAlike old new = (map listed new.books ≡ map listed old.books) × (length new.shards ≡ length old.shards)
 
--- what a reply tells of the moments of open evaluations before and after, and of the names of groups; other replies never come
+-- what a reply says of the moments of open evaluations before and after, and of the names of groups; other replies never come
 abbrev pub TellsOf : (ℕ → Option ℕ) → (ℕ → Option ℕ) → (ℕ → Option (List ℕ)) → Step → Reply → Type 0
 TellsOf before after name (steps.Shard number step) (replies.Decided place reply) = Unit {0}
 TellsOf before after name (steps.Shard number step) (replies.Refused refusal) = Unit {0}

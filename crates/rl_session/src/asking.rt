@@ -1,4 +1,4 @@
-//! What commands ask of an engine, and what they get.
+//! What commands ask of an engine, and their results.
 ghost use Rattle.std.specs.Prelude.{◌≡◌, ◌+◌, ◌<◌, ◌≤◌, length, IfOk, OnErr, vec_len, vec_capacity};
 ghost use Rattle.rl_session.specs.Asking.{IsForPush, IsForAll, IsForDelete, IsForEdit, IsForTick, IsForCatchUp, IsForEvaluation, PushesAll, EvaluatesDue, TakesTurn, PutsGroup, SelectsIn};
 ghost use Rattle.rl_session.specs.Engine.{number_named};
@@ -169,7 +169,7 @@ pub(crate) fn catch_up<E: Engine>(engine: &mut E, name: &str) -> Got
     }
 }
 
-/// Puts the one group of a document in the place of the group with its name.
+/// Puts the one group of a document instead of the group with its name.
 pub(crate) fn edit<E: Engine>(alloc: Global, engine: &mut E, document: &str) -> Got
     ensures { IsForEdit E.calls engine.old document.now result engine.new }
 {
@@ -179,7 +179,7 @@ pub(crate) fn edit<E: Engine>(alloc: Global, engine: &mut E, document: &str) -> 
     }
 }
 
-// Puts a group in the place of the group with its name, or tells why not.
+// Puts a group instead of the group with its name, or says why not.
 fn put_group<E: Engine>(engine: &mut E, to: Group) -> Result<(), EditRefusal>
     ensures { PutsGroup E.calls engine.old to result engine.new }
 {

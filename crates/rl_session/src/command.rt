@@ -37,7 +37,7 @@ pub enum Command<'a> {
     Retain {
         now: Ns,
     },
-    /// To put the one group of a TOML document in the place of the group with its name.
+    /// To put the one group of a TOML document instead of the group with its name.
     Edit(&'a str),
     /// To evaluate a group at a moment.
     Eval {
@@ -208,7 +208,7 @@ fn time_of(word: &str) -> Option<Ns>
     Ns::new(u64::try_from(seconds.billionths()).ok()?)
 }
 
-// The parts before and behind the first such character.
+// The parts before and after the first such character.
 fn cut_at(text: &str, sign: char) -> Option<(&str, &str)>
     requires { sign < 128 }
     ensures { option_map (λ parts. (parts.0.now, parts.1.now)) result ≡ cut_at sign text.now }

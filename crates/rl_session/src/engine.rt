@@ -19,7 +19,7 @@ pub struct Partly {
     pub refusal: Refusal,
 }
 
-/// Evaluates rule groups over shards: a world on one thread, or many threads behind locks. Groups and their sinks go by their
+/// Evaluates rule groups over shards: a world on one thread, or many threads with locks. Groups and their sinks go by their
 /// number, counted from 0. None of them comes or goes, and no group gets another name.
 pub trait Engine: Drop {
     // What is known of each answer.
@@ -43,7 +43,7 @@ pub trait Engine: Drop {
         ensures answer { calls.asks_all self.old step result self.new }
         ensures groups { calls.groups self.new ≡ calls.groups self.old };
 
-    /// Puts a group of the same name in the place of the group at the number.
+    /// Replaces the group at the number by one of the same name.
     fn edit(&mut self, group: usize, to: Group) -> Result<(), Refusal>
         ensures answer { calls.edits self.old group to result self.new }
         ensures groups { calls.groups self.new ≡ calls.groups self.old };

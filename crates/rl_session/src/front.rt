@@ -18,7 +18,7 @@ use rl_rules::{Group, RulesError, read_rules};
 use std::alloc::Global;
 use std::io::{ErrorKind, Read};
 
-/// The longest input in bytes, and the most turns that its reader gets.
+/// The longest input in bytes, and the most turns of its reader.
 pub const MAX_INPUT_LEN: usize = 67_108_864;
 
 // How many bytes a turn may give.
@@ -43,7 +43,7 @@ pub fn read_front<R: Read>(alloc: Global, reader: &mut R) -> Result<Front, Front
     front_in(alloc, bytes)
 }
 
-// All that a reader gives: at most so many bytes, in at most so many turns.
+// All that a reader gives: at most `most` bytes, in at most `most` turns.
 fn read_all<R: Read>(alloc: Global, reader: &mut R, most: usize) -> Result<Vec<u8>, FrontError>
     ensures { GivesOne (λ bytes. bytes.items) (Reads most (R.remaining reader.old) (R.remaining reader.new)) result }
 {
@@ -51,7 +51,7 @@ fn read_all<R: Read>(alloc: Global, reader: &mut R, most: usize) -> Result<Vec<u
     gather(alloc, reader, &mut buffer, most)
 }
 
-// The same, through a buffer that has room for a turn.
+// All that a reader gives, through a buffer that has room for a turn.
 fn gather<R: Read>(
     alloc: Global,
     reader: &mut R,
@@ -121,7 +121,7 @@ fn groups_in(alloc: Global, document: &str) -> Result<Vec<Group>, FrontError>
     }
 }
 
-/// The document before the first line that is `%%`, and the commands behind that line.
+/// The document before the first line that is `%%`, and the commands after that line.
 pub fn split_front(text: &str) -> Option<(&str, &str)>
     ensures front { option_map (λ parts. (parts.0.now, parts.1.now)) result ≡ front_of text.now }
     ensures cut { IfSome result (λ parts. IsCut text.now (parts.0.now, parts.1.now)) }
@@ -137,7 +137,7 @@ pub fn split_front(text: &str) -> Option<(&str, &str)>
     }
 }
 
-// A text's first line, and what stands behind its line feed.
+// A text's first line, and what follows its line feed.
 pub(crate) fn first_line(text: &str) -> (&str, Option<&str>)
     ensures { IsFirstLine text.now result.0.now (option_copied result.1) }
 {

@@ -1,8 +1,8 @@
 //! Sessions: rules, a mark and commands as they are read, and what the commands print.
 //!
-//! - `front`: `read_front`, what stands before the mark and behind it. `push`: `PushReader` and `read_push`, entries from JSON.
+//! - `front`: `read_front`, what stands before the mark and after it. `push`: `PushReader` and `read_push`, entries from JSON.
 //! - `engine`: `Engine`, what evaluates the groups. `world_engine`: `WorldEngine`, a world on one thread.
-//! - `command`: `Command`, one line. `edit`: the group of an edit. `asking`: what commands ask of an engine, and what they get.
+//! - `command`: `Command`, one line. `edit`: the group of an edit. `asking`: what commands ask of an engine, and their results.
 //! - `telling`: what is printed of that. `session`: `Session`, many lines.
 //! - `names`: the names of faults and refusals.
 #![tactic(auto)]

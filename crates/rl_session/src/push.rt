@@ -264,7 +264,7 @@ fn text_of<'v>(value: &Value<'v>) -> Result<&'v str, PushFault>
     }
 }
 
-// What stands behind the line: metadata, or nothing.
+// What follows the line: metadata, or nothing.
 fn metadata_in<'m, 'v>(rest: &'m [Value<'v>]) -> Result<Option<&'m Value<'v>>, PushFault>
     ensures { Answers (option_map (λ value. datum value.now)) result (metadata_in (items_data (items_view rest.now))) }
 {

@@ -163,7 +163,7 @@ fn answer_line<E: Engine, W: Write>(
     Ok(answer)
 }
 
-// Carries out the command of a line, and tells what it got.
+// Executes the command of a line, and prints its result.
 fn answer_command<E: Engine, W: Write>(
     alloc: Global,
     reader: &mut PushReader,

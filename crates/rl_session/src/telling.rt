@@ -1,4 +1,4 @@
-//! What is printed of what commands got.
+//! What is printed of the results of commands.
 ghost use Rattle.std.specs.Prelude.{◌≡◌, flat_map, Some, OnOk, IfOk, is_err};
 ghost use Rattle.std.specs.List.{list_any};
 ghost use Rattle.std.specs.Option.{option_map};
@@ -28,7 +28,7 @@ pub(crate) enum Answer {
     Ended,
 }
 
-/// What a command got, but for a sink that is shown.
+/// The result of a command, but for a sink that is shown.
 #[derive(Drop)]
 pub(crate) enum Got {
     // No command, or no such group or sink.
@@ -37,7 +37,7 @@ pub(crate) enum Got {
     Unread(PushError),
     // An answer to each entry of a push.
     Pushed(Vec<Result<ShardReply, Refusal>>),
-    // No memory for the answers to so many entries, of which none was handed in.
+    // No memory for the answers to this number of entries, of which none was handed in.
     Unpushed(usize),
     // What kept a request from being asked.
     NoSelector(QueryError),
@@ -47,13 +47,13 @@ pub(crate) enum Got {
     Edited(Result<(), EditRefusal>),
     // The evaluation that was committed, or the first refusal.
     Evaluated(Result<Committed, Refusal>),
-    // The same of each group that was due.
+    // That of each group that was due.
     Ticked(Vec<Result<Committed, Refusal>>),
     // The sinks that are still behind after they could catch up.
     CaughtUp(Result<PlainList<u64>, Refusal>),
 }
 
-// What becomes of a command by what it got.
+// What becomes of a command by its result.
 fn answer_to(got: &Got) -> Answer
     ensures { result ≡ answer_to got.now }
 {
@@ -91,7 +91,7 @@ fn answer_of(refused: bool) -> Answer
     }
 }
 
-/// Prints what a command got. What becomes of the command.
+/// Prints the result of a command. What becomes of the command.
 pub(crate) fn tell<W: Write>(got: &Got, out: &mut W) -> io::Result<Answer>
     ensures text { OnOk result (Appends (W.contents out.old) (W.contents out.new) (printed got.now)) }
     ensures answer { IfOk result (λ answer. answer ≡ answer_to got.now) }
@@ -100,7 +100,7 @@ pub(crate) fn tell<W: Write>(got: &Got, out: &mut W) -> io::Result<Answer>
     Ok(answer_to(got))
 }
 
-// Prints what a command got.
+// Prints the result of a command.
 fn print<W: Write>(got: &Got, out: &mut W) -> io::Result<()>
     ensures { OnOk result (Appends (W.contents out.old) (W.contents out.new) (printed got.now)) }
 {
@@ -131,7 +131,7 @@ fn refuse_push<W: Write>(out: &mut W, name: &str) -> io::Result<()>
     writeln!(out, "refused BadPush {name}")
 }
 
-// Tells how many entries were accepted, and of the others each with its number and its refusal.
+// Prints how many entries were accepted, and each of the others with its number and its refusal.
 fn tell_pushed<W: Write>(answers: &[Result<ShardReply, Refusal>], out: &mut W) -> io::Result<()>
     ensures { OnOk result (Appends (W.contents out.old) (W.contents out.new) (pushed_text answers.now)) }
 {
@@ -146,7 +146,7 @@ fn is_refused(answer: &Result<ShardReply, Refusal>) -> bool
     push_refusal(answer).is_some()
 }
 
-// Tells how many entries were accepted, and how many refused if some were.
+// Prints how many entries were accepted, and how many refused if some were.
 fn tell_counts<W: Write>(accepted: usize, refused: usize, out: &mut W) -> io::Result<()>
     ensures { OnOk result (Appends (W.contents out.old) (W.contents out.new) (counts_line accepted refused)) }
 {
@@ -157,7 +157,7 @@ fn tell_counts<W: Write>(accepted: usize, refused: usize, out: &mut W) -> io::Re
     }
 }
 
-// Tells of each entry that was refused its number and its refusal.
+// Prints the number and the refusal of each entry that was refused.
 fn tell_refusals<W: Write>(answers: &[Result<ShardReply, Refusal>], out: &mut W) -> io::Result<()>
     ensures { OnOk result (Appends (W.contents out.old) (W.contents out.new) (entry_lines 0 answers.now)) }
 {
@@ -175,7 +175,7 @@ fn tell_refusal<W: Write>(number: usize, name: &str, out: &mut W) -> io::Result<
     writeln!(out, "  {number} {name}")
 }
 
-// Tells that there was no memory for any of so many entries.
+// Prints that there was no memory for any of `count` entries.
 fn tell_none_pushed<W: Write>(count: usize, out: &mut W) -> io::Result<()>
     ensures { OnOk result (Appends (W.contents out.old) (W.contents out.new) (pushed_text (none_pushed count))) }
 {
@@ -183,7 +183,7 @@ fn tell_none_pushed<W: Write>(count: usize, out: &mut W) -> io::Result<()>
     tell_each_refused(count, out)
 }
 
-// Tells of each of so many entries that there was no memory for it.
+// Prints of each of `count` entries that there was no memory for it.
 fn tell_each_refused<W: Write>(count: usize, out: &mut W) -> io::Result<()>
     ensures { OnOk result (Appends (W.contents out.old) (W.contents out.new) (entry_lines 0 (none_pushed count))) }
 {
@@ -193,7 +193,7 @@ fn tell_each_refused<W: Write>(count: usize, out: &mut W) -> io::Result<()>
     Ok(())
 }
 
-// Tells whether each shard decided a step, or how many did and why the next one did not.
+// Prints whether each shard decided a step, or how many did and why the next one did not.
 fn tell_asked<W: Write>(asked: &Result<Option<ShardReply>, Partly>, out: &mut W) -> io::Result<()>
     ensures { OnOk result (Appends (W.contents out.old) (W.contents out.new) (asked_text asked.now)) }
 {
@@ -204,7 +204,7 @@ fn tell_asked<W: Write>(asked: &Result<Option<ShardReply>, Partly>, out: &mut W)
     }
 }
 
-// Tells why a shard refused, if it did.
+// Prints why a shard refused, if it did.
 fn tell_decided<W: Write>(refusal: Option<&'static str>, out: &mut W) -> io::Result<()>
     ensures { OnOk result (Appends (W.contents out.old) (W.contents out.new) (decided_text (option_map (λ name. name.now) refusal.entry))) }
 {
@@ -220,7 +220,7 @@ fn tell_partly<W: Write>(done: u64, name: &str, out: &mut W) -> io::Result<()>
     writeln!(out, "partly {done} {name}")
 }
 
-// Tells what the groups that were due gave, if some were.
+// Prints what the groups that were due gave, if some were.
 fn tell_ticked<W: Write>(results: &[Result<Committed, Refusal>], out: &mut W) -> io::Result<()>
     ensures { OnOk result (Appends (W.contents out.old) (W.contents out.new) (ticked_text results.now)) }
 {
@@ -233,7 +233,7 @@ fn tell_ticked<W: Write>(results: &[Result<Committed, Refusal>], out: &mut W) ->
     Ok(())
 }
 
-// Tells what an evaluation found, or why it was refused.
+// Prints what an evaluation found, or why it was refused.
 fn tell_evaluated<W: Write>(evaluated: &Result<Committed, Refusal>, out: &mut W) -> io::Result<()>
     ensures { OnOk result (Appends (W.contents out.old) (W.contents out.new) (evaluated_text evaluated.now)) }
 {
@@ -243,7 +243,7 @@ fn tell_evaluated<W: Write>(evaluated: &Result<Committed, Refusal>, out: &mut W)
     }
 }
 
-// Tells what an evaluation found, and which sinks are behind.
+// Prints what an evaluation found, and which sinks are behind.
 fn tell_committed<W: Write>(committed: &Committed, out: &mut W) -> io::Result<()>
     ensures { OnOk result (Appends (W.contents out.old) (W.contents out.new) (committed_text committed.now)) }
 {
@@ -251,7 +251,7 @@ fn tell_committed<W: Write>(committed: &Committed, out: &mut W) -> io::Result<()
     tell_behind(committed.behind.as_slice(), out)
 }
 
-// Tells which sinks are behind, or that none is.
+// Prints which sinks are behind, or that none is.
 fn tell_caught_up<W: Write>(caught: &Result<PlainList<u64>, Refusal>, out: &mut W) -> io::Result<()>
     ensures { OnOk result (Appends (W.contents out.old) (W.contents out.new) (caught_up_text caught.now)) }
 {
@@ -262,7 +262,7 @@ fn tell_caught_up<W: Write>(caught: &Result<PlainList<u64>, Refusal>, out: &mut 
     }
 }
 
-// Tells the numbers of the sinks that are behind, if some are.
+// Prints the numbers of the sinks that are behind, if some are.
 fn tell_behind<W: Write>(behind: &[u64], out: &mut W) -> io::Result<()>
     ensures { OnOk result (Appends (W.contents out.old) (W.contents out.new) (behind_line behind.now)) }
 {
@@ -283,7 +283,7 @@ fn tell_numbers<W: Write>(numbers: &[u64], out: &mut W) -> io::Result<()>
     Ok(())
 }
 
-/// Tells whether the sinks were closed.
+/// Prints whether the sinks were closed.
 pub(crate) fn tell_closed<W: Write>(closed: &Result<u64, Refusal>, out: &mut W) -> io::Result<()>
     ensures { OnOk result (Appends (W.contents out.old) (W.contents out.new) (closed_text closed.now)) }
 {

@@ -83,7 +83,7 @@ impl<D: Store, S: Sink> WorldEngine<D, S> {
         self.world.answer(step)
     }
 
-    // Asks a shard for a step, behind those that decided it.
+    // Asks a shard for a step, after those that decided it.
     fn ask(&mut self, number: usize, step: &ShardStep) -> Result<ShardReply, Partly>
         ensures made { IsAskedFor self.old step.now number result self.new }
         ensures alike { IsAlike self.old self.new }
@@ -309,7 +309,7 @@ fn write_sink<S: Sink, W: Write>(book: &Book<S>, sink: usize, out: &mut W) -> io
     Ok(true)
 }
 
-// Writes the texts that a sink keeps, which are at most so many.
+// Writes the texts that a sink keeps, which are at most `count`.
 fn write_texts<S: Sink, W: Write>(
     book: &Book<S>,
     sink: usize,

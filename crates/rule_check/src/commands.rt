@@ -20,7 +20,7 @@ const LAST_SINK: usize = 2;
 // The longest word that is shown, in bytes.
 const LONGEST_WORD: usize = 60;
 
-// The words of the commands, and what each wants behind it.
+// The words of the commands, and what each wants after it.
 const WANTED: [(&str, &str); 13] = [
     ("push", "wants the JSON of a push"),
     ("cut", "stands alone"),
@@ -207,7 +207,7 @@ fn push_no_command(told: &mut Told, place: &Place<'_>, line: &str) -> Result<(),
     }
 }
 
-// What a command wants behind its word, if it is one of a command.
+// What a command wants after its word, if it is one of a command.
 fn wanted_of(word: &str) -> Option<&'static str> {
     for (command, wanted) in WANTED {
         if command == word {
@@ -237,7 +237,7 @@ fn meant_by(word: &str) -> Option<&'static str> {
     None
 }
 
-// Whether a word may stand for one that is written. Behind a carriage return the line is told of that instead.
+// Whether a word may stand for one that is written. A carriage return at the end of that is reported instead.
 fn is_meant(word: &str, written: &str) -> bool {
     !written.ends_with('\r') && is_near(word, written)
 }

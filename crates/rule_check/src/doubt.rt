@@ -18,14 +18,14 @@ pub(crate) enum Doubt<'a> {
     Other(&'a str, &'static str),
 }
 
-// What is known behind some stages: whether one is a parser, and what is in doubt.
+// What is known after some stages: whether one is a parser, and what is in doubt.
 #[derive(Clone, Copy)]
 struct Known<'a> {
     is_parsed: bool,
     doubt: Option<Doubt<'a>>,
 }
 
-/// The line that would be an error and stay, behind a parser, if there is one.
+/// The line that would be an error and stay, after a parser, if there is one.
 pub(crate) fn doubt_of(alloc: Global, stages: &[Stage]) -> Result<Option<Doubt<'_>>, Untold> {
     let mut known = Known {
         is_parsed: false,
@@ -74,7 +74,7 @@ fn leaves_of(alloc: Global, tests: &LabelTests) -> Result<Vec<&LabelTest>, Untol
     Ok(leaves)
 }
 
-// What is in doubt behind tests: nothing where one asks for errors; such a line still where each test lets it pass.
+// What is in doubt after tests: nothing where one asks for errors; such a line still where each test lets it pass.
 fn behind_tests<'a>(
     alloc: Global,
     doubt: Option<Doubt<'a>>,

@@ -35,7 +35,7 @@ pub(crate) fn push_faults(
     Ok(())
 }
 
-// The faults of a group behind others, whose names are known.
+// The faults of a group after others, whose names are known.
 fn push_group(
     told: &mut Told,
     place: &Place<'_>,

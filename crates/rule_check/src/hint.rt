@@ -35,7 +35,7 @@ fn push(text: &mut String, hint: &str) -> Result<(), Untold> {
     Ok(())
 }
 
-// Near what no query has at its place.
+// Near what no query has where it stands.
 fn push_near_syntax(text: &mut String, front: &str, back: &str) -> Result<(), Untold> {
     let (before, word) = (last_word(front), first_word(back));
     if is_grouping(before) && !word.is_empty() {
@@ -109,7 +109,7 @@ fn is_term_word(word: &str) -> bool {
         || matches!(word, "sum" | "count" | "min" | "max" | "topk")
 }
 
-// Near what LogQL has at its place.
+// Near what LogQL has where it stands.
 fn push_near_unsupported(text: &mut String, front: &str, back: &str) -> Result<(), Untold> {
     if begins_with_digit(back) {
         return push(text, number_near(front));
@@ -158,7 +158,7 @@ fn begins_with_digit(text: &str) -> bool {
     }
 }
 
-// Whether the word is one of the ruler's at this place. Behind a comparison none is.
+// Whether the word is one of the ruler's at this position. After a comparison none is.
 fn is_lawful_behind(front: &str, word: &str) -> bool {
     if front.ends_with('|') {
         is_parser(word)
@@ -179,7 +179,7 @@ fn ends_text(front: &str) -> bool {
     front.ends_with('"') || front.ends_with('`')
 }
 
-// The numbers that stand behind the parenthesis of `topk`, or behind a comparison.
+// The numbers that stand after the parenthesis of `topk`, or after a comparison.
 fn number_near(front: &str) -> &'static str {
     if front.ends_with('(') {
         "a number from 1 to 65535"

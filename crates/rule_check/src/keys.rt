@@ -128,7 +128,7 @@ impl Owner {
         self.keys().iter().any(|key| key.name == name)
     }
 
-    /// What is told of a key that has to be there and is not. What is neither rule counts as an alerting one.
+    /// What is reported of a key that has to be there and is not. What is neither rule counts as an alerting one.
     pub(crate) fn missing(self, key: &Key) -> &'static str {
         match self {
             Owner::Alerting if key.name == "alert" => "record or alert",
@@ -163,7 +163,7 @@ fn is_near(key: &str, name: &str) -> bool {
     key.eq_ignore_ascii_case(name) || is_plural(key, name) || is_plural(name, key)
 }
 
-// Whether the one is the other with an s behind it.
+// Whether the one is the other with an s after it.
 fn is_plural(many: &str, one: &str) -> bool {
     match many.strip_suffix('s') {
         Some(front) => front.eq_ignore_ascii_case(one),

@@ -76,7 +76,7 @@ fn push_rule(
     Ok(())
 }
 
-// Whether all elements stay. That of an absence is there only where something is wrong.
+// Whether all samples stay. That of an absence is there only where something is wrong.
 fn compares_nothing(query: &Query) -> bool {
     let is_absence = matches!(query.left.function, RangeFunction::AbsentOverTime);
     query.test.is_none() && !(is_absence && query.over.is_none())

@@ -1,12 +1,12 @@
-//! The rule checker: tells what a ruler would do with a rule file, or with the input of a session.
+//! The rule checker: reports what a ruler would do with a rule file, or with the input of a session.
 //!
-//! - `options`: the command line. `report`: what is told of a rule file. `print`: the groups that `--print` asks for.
+//! - `options`: the command line. `report`: what is reported of a rule file. `print`: the groups that `--print` asks for.
 //! - `faults`: each fault of a document, table by table. `keys`: what its tables have. `values`: what stands at a key.
 //!   `names`: names and labels. `queries`: the query of a rule. `no_toml`: a text that is no document.
-//! - `session`: what is told of the input of a session. `commands`: its command lines. `near`: words that are nearly the same.
+//! - `session`: what is reported of the input of a session. `commands`: its command lines. `near`: words that are nearly equal.
 //! - `hint`: what a ruler has near a query that it refuses. `lint`: what is taken and looks like a mistake.
 //!   `doubt`: lines that would fail a rule.
-//! - `place`: where a fault is. `told`: what is told so far.
+//! - `place`: where a fault is. `told`: what is reported so far.
 #![tactic(auto)]
 
 mod commands;
@@ -45,7 +45,7 @@ fn main(rt: HostRuntime) -> ExitCode {
     }
 }
 
-// Tells why nothing is checked.
+// Reports why nothing is checked.
 fn stopped(rt: &HostRuntime, stop: Stop) -> ExitCode {
     match stop {
         Stop::Help => match print_help(rt) {
@@ -70,7 +70,7 @@ fn print_help(rt: &HostRuntime) -> io::Result<()> {
     Ok(())
 }
 
-// Tells what a ruler would do with the input, and whether it would take it.
+// Reports what a ruler would do with the input, and whether it would take it.
 fn run(rt: &HostRuntime, options: Options) -> io::Result<bool> {
     let Options { prints, input } = options;
     match input {
@@ -92,7 +92,7 @@ fn run(rt: &HostRuntime, options: Options) -> io::Result<bool> {
     }
 }
 
-// Tells what a ruler would do with a rule file that was read. What cannot be read is told on standard error.
+// Reports what a ruler would do with a rule file that was read. What cannot be read is reported on standard error.
 fn tell_rules(
     rt: &HostRuntime,
     name: &str,

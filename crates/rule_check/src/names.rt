@@ -14,7 +14,7 @@ use toml::Table;
 // The longest name of a group or of alerts, in bytes.
 const LONGEST_NAME: usize = 256;
 
-/// The place of a group or a rule by the text at a key and its number.
+/// Where a group or a rule stands, by the text at a key and its number.
 pub(crate) fn spot_of<'a>(table: &'a Table, key: &str, number: usize) -> Spot<'a> {
     let name = match text_at(table, key) {
         Some(name) if is_name(name) => Some(name),

@@ -1,9 +1,9 @@
-//! Words that are nearly the same.
+//! Words that are nearly equal.
 
 // A shorter word is one letter away from too many.
 const SHORTEST: usize = 3;
 
-/// Whether the words differ by case alone, or by one letter: another, one more or less, or two that changed places.
+/// Whether the words differ by case alone, or by one letter: another, one more or less, or two that are swapped.
 pub(crate) fn is_near(one: &str, other: &str) -> bool {
     one.eq_ignore_ascii_case(other) || is_one_apart(one.as_bytes(), other.as_bytes())
 }
@@ -22,7 +22,7 @@ fn is_one_apart(one: &[u8], other: &[u8]) -> bool {
     }
 }
 
-// How many bytes at their fronts are the same.
+// How many bytes at their fronts are equal.
 fn same_front(one: &[u8], other: &[u8]) -> usize {
     let mut count = 0usize;
     for (byte, same) in one.iter().zip(other.iter()) {
@@ -34,7 +34,7 @@ fn same_front(one: &[u8], other: &[u8]) -> usize {
     count
 }
 
-// How many bytes at their ends are the same.
+// How many bytes at their ends are equal.
 fn same_back(one: &[u8], other: &[u8]) -> usize {
     let mut count = 0usize;
     for (byte, same) in one.iter().rev().zip(other.iter().rev()) {
@@ -46,7 +46,7 @@ fn same_back(one: &[u8], other: &[u8]) -> usize {
     count
 }
 
-// Whether the byte at a place and the next one changed places.
+// Whether the byte at an index and the next one are swapped.
 fn changed_places(place: usize, one: &[u8], other: &[u8]) -> bool {
     let next = place.saturating_add(1);
     one.get(place) == other.get(next) && one.get(next) == other.get(place)

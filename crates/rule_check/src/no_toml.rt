@@ -47,7 +47,7 @@ pub(crate) fn push_no_toml(
     push_near_text(told, line)
 }
 
-// The line behind its lead.
+// The line after its lead.
 fn push_led_line(told: &mut Told, lead: &str, line: Line<'_>) -> Result<(), Untold> {
     let mut before = String::from_str(*told.text.allocator(), lead)?;
     before.push_str(line.before)?;

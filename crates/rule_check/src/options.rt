@@ -67,7 +67,7 @@ pub(crate) fn read_options(rt: &HostRuntime) -> Result<Options, Stop> {
     options_in(rt.alloc(), words)
 }
 
-// The program's name and the words behind it.
+// The program's name and the words after it.
 fn words_of(rt: &HostRuntime) -> Result<Vec<String>, Stop> {
     match env::args(rt) {
         Ok(words) => Ok(words.collect(rt.alloc())?),

@@ -47,7 +47,7 @@ impl<'a> Place<'a> {
     }
 }
 
-/// Writes the place as `line 7: group shop, rule Errors: `, as much as there is of it.
+/// Writes the position as `line 7: group shop, rule Errors: `, as much as there is of it.
 pub(crate) fn push_place(text: &mut String, place: &Place<'_>) -> Result<(), Untold> {
     if let Some(line) = place.line {
         write!(text, "line {line}: ")?;
@@ -111,7 +111,7 @@ pub(crate) fn line_at(text: &str, place: usize) -> Line<'_> {
     Line { before, behind }
 }
 
-/// Writes the line behind two spaces, and below it a caret under the byte.
+/// Writes the line after two spaces, and below it a caret under the byte.
 pub(crate) fn push_line(text: &mut String, line: Line<'_>) -> Result<(), Untold> {
     writeln!(text, "  {}{}", line.before, line.behind)?;
     text.push_str("  ")?;

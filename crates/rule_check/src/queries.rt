@@ -19,7 +19,7 @@ pub(crate) fn push_query(told: &mut Told, place: &Place<'_>, query: &str) -> Res
     }
 }
 
-/// The fault of a text that is no query, behind its place.
+/// The fault of a text that is no query, after its position.
 pub(crate) fn push_query_fault(
     text: &mut String,
     query: &str,

@@ -1,4 +1,4 @@
-//! What is told of a rule file.
+//! What is reported of a rule file.
 
 use crate::faults::push_faults;
 use crate::lint::push_lints;
@@ -10,8 +10,8 @@ use rl_rules::{Group, RulesError, RulesFault, read_rules};
 use std::alloc::Global;
 use std::fmt::Write;
 
-/// What is told of a rule file: its groups, if they are to be printed, what looks like a mistake, and how much it has; or each
-/// of its faults.
+/// What is reported of a rule file: its groups, if they are to be printed, what looks like a mistake, and how much it has; or
+/// each of its faults.
 pub(crate) fn report_of(alloc: Global, file: &str, prints: bool) -> Result<Report, Untold> {
     let mut told = Told::new(alloc);
     if let Some(groups) = push_rules(alloc, &mut told, file, prints)? {
@@ -25,7 +25,7 @@ pub(crate) fn report_of(alloc: Global, file: &str, prints: bool) -> Result<Repor
     })
 }
 
-/// The groups of a file that is taken, with all that is told of it but how much it has; or none, with its faults.
+/// The groups of a file that is taken, with all that is reported of it but how much it has; or none, with its faults.
 pub(crate) fn push_rules(
     alloc: Global,
     told: &mut Told,
@@ -80,7 +80,7 @@ pub(crate) fn push_counts(text: &mut String, groups: &[Group]) -> Result<(), Unt
     Ok(())
 }
 
-/// The ending of a word for so many.
+/// The ending of a word for a count.
 pub(crate) fn ending(count: usize) -> &'static str {
     if count == 1 { "" } else { "s" }
 }

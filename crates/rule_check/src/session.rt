@@ -1,4 +1,4 @@
-//! What is told of the input of a session: rules, a line `%%`, and commands.
+//! What is reported of the input of a session: rules, a line `%%`, and commands.
 
 use crate::commands::{Known, push_command};
 use crate::place::Place;
@@ -10,7 +10,7 @@ use rl_session::{FrontFault, PushReader, is_blank};
 use std::alloc::Global;
 use std::fmt::Write;
 
-/// What is told of an input: all that is told of its rules, then the faults of each command up to `end`, and how much it has.
+/// The report of an input: all that is reported of its rules, then the faults of each command up to `end`, and how much it has.
 pub(crate) fn session_report(
     alloc: Global,
     bytes: Vec<u8>,

@@ -1,17 +1,17 @@
-//! What is told: a text, and how many faults it has.
+//! What is reported: a text, and how many faults it has.
 
 use crate::place::{Place, push_place};
 use std::alloc::{AllocError, AllocFailed, Global};
 use std::fmt;
 
-/// What is told, and whether a ruler takes the file.
+/// What is reported, and whether a ruler takes the file.
 #[derive(Drop)]
 pub(crate) struct Report {
     pub(crate) text: String,
     pub(crate) is_taken: bool,
 }
 
-/// Why nothing can be told: memory ran out.
+/// Why nothing can be reported: memory ran out.
 #[derive(Debug, Drop)]
 pub(crate) struct Untold;
 
@@ -33,7 +33,7 @@ impl From<fmt::Error> for Untold {
     }
 }
 
-/// The faults that are told so far.
+/// The faults that are reported so far.
 #[derive(Drop)]
 pub(crate) struct Told {
     pub(crate) text: String,
@@ -49,7 +49,7 @@ impl Told {
         }
     }
 
-    /// Begins one more, with its place. The caller writes the rest of its line.
+    /// Begins one more, with its position. The caller writes the rest of its line.
     pub(crate) fn begin(&mut self, place: &Place<'_>) -> Result<(), Untold> {
         self.count = self.count.saturating_add(1);
         push_place(&mut self.text, place)

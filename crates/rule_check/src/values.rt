@@ -177,7 +177,7 @@ fn push_texts(told: &mut Told, place: &Place<'_>, name: &str, value: &Value) -> 
     Ok(())
 }
 
-// The place and the value that does not fit; what is wanted follows.
+// The position and the value that does not fit; what is wanted follows.
 fn push_misfit(
     told: &mut Told,
     place: &Place<'_>,

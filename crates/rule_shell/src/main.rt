@@ -67,7 +67,7 @@ fn main(rt: HostRuntime) -> ExitCode {
     exit_code(ended)
 }
 
-// Tells what the options or the input had, if the program stopped for that.
+// Reports what was wrong with the options or the input, if the program stopped for that.
 fn tell_stop(rt: &HostRuntime, stop: Stop) {
     let _ = match stop {
         Stop::BadOptions => eprintln!(rt; "rule_shell: bad options"),

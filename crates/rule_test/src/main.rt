@@ -1,6 +1,6 @@
-//! The rule tester: plays test files of rules, and tells where rules give something else than is wanted.
+//! The rule tester: plays test files of rules, and reports where rules give something else than is wanted.
 //!
-//! `options` reads the command line, and `files` the files. What a test file says, and whether rules give it, is told by
+//! `options` reads the command line, and `files` the files. What a test file says, and whether rules give it, is decided by
 //! `rl_rule_tests`.
 #![tactic(auto)]
 
@@ -19,7 +19,7 @@ pub(crate) enum Stop {
     BadOptions,
     /// What the program does was asked for.
     Help(String),
-    /// What a file has against it, and where; the place of a whole file is empty.
+    /// What is wrong with a file, and where; nothing for the whole file.
     Fault { place: String, what: String },
     /// The file that cannot be read.
     Unread(String),
@@ -59,7 +59,7 @@ fn main(rt: HostRuntime) -> ExitCode {
     }
 }
 
-// Tells why nothing is played, and gives the status of the process.
+// Reports why nothing is played, and gives the status of the process.
 fn tell_stop(rt: &HostRuntime, stop: Stop) -> ExitCode {
     let (told, status) = match &stop {
         Stop::Help(text) => (print!(rt; "{text}"), 0),

@@ -22,7 +22,7 @@ pub(crate) fn read_options(rt: &HostRuntime) -> Result<Option<PlainText>, Stop> 
     file_in(rt.alloc(), words)
 }
 
-// The program's name and the words behind it.
+// The program's name and the words after it.
 fn words_of(rt: &HostRuntime) -> Result<Vec<String>, Stop> {
     match env::args(rt) {
         Ok(words) => Ok(words.collect(rt.alloc())?),
@@ -47,7 +47,7 @@ fn file_in<'a>(alloc: Global, words: &'a [String]) -> Result<Option<PlainText>, 
     }
 }
 
-// Why the program stops at what is told of its options.
+// Why the program stops, by what is wrong with its options.
 fn stop_of(alloc: Global, error: &Error) -> Stop {
     match error.kind() {
         OptionsFault::OutOfMemory => Stop::Memory,

@@ -31,7 +31,7 @@ fn of_query(told: &mut String, directive: &str, query: &Query, rest: &str) -> Re
     }
 }
 
-// Tells what the entries of two lists add up to, and what the query gives of both together.
+// Writes what the entries of two lists add up to, and what the query gives of both together.
 fn push_range(told: &mut String, query: &Query, input: &str) -> Result<(), Trouble> {
     let (moment, entries) = input.split_once('\n').ok_or(Trouble::BadInput)?;
     let (first, second) = entries.split_once("\n--\n").unwrap_or((entries, ""));
@@ -66,7 +66,7 @@ fn entries_in(alloc: Global, text: &str) -> Result<Vec<Shared<Entry>>, Trouble>
     Ok(entries)
 }
 
-// Tells what a partial has, and what its query gives.
+// Writes what a partial has, and what its query gives.
 fn push_partial(told: &mut String, query: &Query, partial: &Partial) -> Result<(), Trouble> {
     let (errors, many) = (partial.errors, partial.totals.len());
     writeln!(told, "{errors} errors, {many} label sets")?;
@@ -106,7 +106,7 @@ fn finished(alloc: Global, query: &Query, partial: &Partial) -> Result<Outcome, 
     }
 }
 
-// Tells what steps on a partial give that has nothing at first, and on a copy of it, of which the query is asked.
+// Writes what steps give on a partial that has nothing at first, and on a copy of it, of which the query is asked.
 fn push_steps(told: &mut String, query: &Query, steps: &str) -> Result<(), Trouble> {
     let alloc = *told.allocator();
     let mut here = Partial::empty(alloc);
@@ -148,7 +148,7 @@ fn has_changed(
     Ok(true)
 }
 
-// Tells what a step gives that changes nothing.
+// Writes what a step that changes nothing gives.
 fn push_step(
     told: &mut String,
     query: &Query,
@@ -166,7 +166,7 @@ fn push_step(
     }
 }
 
-// Tells the totals at a label set, and whether they and their values are the copy's.
+// Writes the totals at a label set, and whether they and their values are the copy's.
 fn push_got(told: &mut String, here: &Totals, copy: &Totals, labels: &str) -> Result<(), Trouble> {
     let (here, copy) = both_at(*told.allocator(), here, copy, labels)?;
     push_total(told, here)?;
@@ -187,7 +187,7 @@ fn both_at(
     Ok((here.get(&labels), copy.get(&labels)))
 }
 
-// Tells whether the query gives the same of both.
+// Writes whether the query gives the same value of both.
 fn push_same(
     told: &mut String,
     query: &Query,

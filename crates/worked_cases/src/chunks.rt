@@ -100,7 +100,7 @@ fn cut(told: &mut String, bytes: &[u8]) -> Result<(), Trouble> {
     Ok(())
 }
 
-// Tells what a front is read as, if it is not what the last one was.
+// Writes what a front is read as, if it is not what the last one was.
 fn push_front(told: &mut String, last: &mut String, front: &[u8]) -> Result<(), Trouble> {
     let now = read_as(*told.allocator(), front)?;
     if now != *last {

@@ -1,10 +1,10 @@
-//! Two values that a case compares, written before and behind ` ~ `.
+//! Two values that a case compares, written before and after ` ~ `.
 use crate::given::Read;
 use crate::trouble::Trouble;
 use rl_plain::{Same, TryCopy};
 use std::hash::{DefaultHasher, Hash, Hasher};
 
-/// The texts before and behind the sign.
+/// The texts before and after the sign.
 pub(crate) fn halves(input: &str) -> Result<(&str, &str), Trouble> {
     input.split_once(" ~ ").ok_or(Trouble::BadInput)
 }

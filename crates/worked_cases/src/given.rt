@@ -73,7 +73,7 @@ pub(crate) fn moment_in(text: &str) -> Result<Ns, Trouble> {
     Ns::new(nanoseconds).ok_or(Trouble::BadInput)
 }
 
-/// The first word, and what stands behind its space.
+/// The first word, and what follows its space.
 pub(crate) fn words_of(text: &str) -> (&str, &str) {
     text.split_once(' ').unwrap_or((text, ""))
 }

@@ -118,7 +118,7 @@ fn push_pairs(told: &mut String, labels: &Labels, names: &str) -> Result<(), Tro
     Ok(())
 }
 
-// The first line's set with each other line's label set in it, and the set itself behind these.
+// The first line's set with each other line's label set in it, and the set itself after these.
 fn with(told: &mut String, input: &str) -> Result<(), Trouble> {
     let (first, changes) = input.split_once('\n').ok_or(Trouble::BadInput)?;
     let labels = labels_in(*told.allocator(), first)?;

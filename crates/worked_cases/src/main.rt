@@ -99,7 +99,7 @@ fn family_of(path: &str) -> &str {
     family
 }
 
-// Tells what a directive gives for its input, or for each line of it.
+// Writes what a directive gives for its input, or for each line of it.
 fn answer(told: &mut String, family: &str, directive: &str, input: &str) -> Result<(), Trouble> {
     let Some(directive) = directive.strip_suffix("..") else {
         return push_answer(told, family, directive, input);

@@ -1,4 +1,4 @@
-//! Cases of pipelines: the labels that lines have behind a parser where an error is set, what is counted of lines that go
+//! Cases of pipelines: the labels that lines have after a parser where an error is set, what is counted of lines that go
 //! through stages, and what sieves cover.
 //!
 //! `json` and `logfmt` have the label set of a stream, which gets the error `E`, and its lines. `runs` has a query before these.
@@ -25,7 +25,7 @@ pub(crate) fn answer(told: &mut String, directive: &str, input: &str) -> Result<
     }
 }
 
-// The labels that each line of a stream has behind the parser, where an error is set before it.
+// The labels that each line of a stream has after the parser, where an error is set before it.
 fn behind(told: &mut String, parser: Parser, labels: &str, lines: &str) -> Result<(), Trouble> {
     let labels = faulty_labels(*told.allocator(), labels)?;
     for line in lines.split('\n') {
@@ -53,7 +53,7 @@ fn push_parsed(
     tell(told, &labels)
 }
 
-// The labels that each line has behind all stages, and what was counted.
+// The labels that each line has after all stages, and what was counted.
 fn runs(told: &mut String, query: &str, rest: &str) -> Result<(), Trouble> {
     let (labels, lines) = rest.split_once('\n').ok_or(Trouble::BadInput)?;
     let labels = labels_in(*told.allocator(), labels)?;

@@ -84,7 +84,7 @@ fn push_list(told: &mut String, list: &PlainList<u64>) -> Result<(), Trouble> {
     Ok(())
 }
 
-// A list with an item in the place of the one at an index, as `7,8 1 9`.
+// A list with an item instead of the one at an index, as `7,8 1 9`.
 fn put(told: &mut String, input: &str) -> Result<(), Trouble> {
     let (items, rest) = words_of(input);
     let (index, item) = words_of(rest);

@@ -73,7 +73,7 @@ fn push_error(told: &mut String, error: QueryError) -> Result<(), Trouble> {
     }
 }
 
-// What is told of the fault of a text that is no query, or of the want of memory that is named.
+// What is printed of the fault of a text that is no query, or of the lack of memory that is named.
 fn fault(told: &mut String, input: &str) -> Result<(), Trouble> {
     let error = match input {
         "AllocError" => QueryError::from(AllocError),

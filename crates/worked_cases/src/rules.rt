@@ -1,4 +1,4 @@
-//! Rule files: what is told of those that are refused, and groups beside one another.
+//! Rule files: what is printed of those that are refused, and groups beside one another.
 use crate::compared::matched;
 use crate::given::Read;
 use crate::told::tell;
@@ -15,7 +15,7 @@ pub(crate) fn answer(told: &mut String, directive: &str, input: &str) -> Result<
     }
 }
 
-// What is told of the fault of a rule file, or of the want of memory that is named.
+// What is printed of the fault of a rule file, or of the lack of memory that is named.
 fn fault(told: &mut String, input: &str) -> Result<(), Trouble> {
     let error = match input {
         "AllocError" => RulesError::from(AllocError),

@@ -1,7 +1,7 @@
 //! Sessions over one group with two recorders, and bodies of pushes.
 //!
 //! The first line of `run` has limits, or how many texts may wait in the first recorder, as `cap=1`. In the second it is
-//! two. Behind it stand a rule file, the mark and commands. `push` has a body, in which `�` is the byte 255, which is in no
+//! two. After it stand a rule file, the mark and commands. `push` has a body, in which `�` is the byte 255, which is in no
 //! text.
 ghost use Rattle.std.specs.Prelude.{◌≡◌, length, map, IfOk};
 ghost use Rattle.std.specs.List.{AllByRecursion};

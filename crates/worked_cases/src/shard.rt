@@ -58,7 +58,7 @@ impl Read for ShardStep {
     }
 }
 
-/// The step that a word and what stands behind it ask for.
+/// The step that a word and what follows it ask for.
 pub(crate) fn step_in(alloc: Global, word: &str, rest: &str) -> Result<ShardStep, Trouble> {
     match word {
         "push" => Ok(ShardStep::Push(Shared::read(alloc, rest)?)),

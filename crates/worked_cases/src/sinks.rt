@@ -1,6 +1,6 @@
-//! Evaluations, what sinks are told of them, and sinks of each kind.
+//! Evaluations, what sinks write of them, and sinks of each kind.
 //!
-//! An evaluation is `moment place group`, and behind it `; ` and `name annotations outcome` for each rule, where the
+//! An evaluation is `moment place group`, and after it `; ` and `name annotations outcome` for each rule, where the
 //! outcome is samples, or the cause of its failure.
 use crate::compared::matched;
 use crate::given::{Read, labels_in, list_in, moment_in, number_in, words_of};
@@ -23,7 +23,7 @@ pub(crate) fn answer(told: &mut String, directive: &str, input: &str) -> Result<
     }
 }
 
-// What each kind of sink is told of an evaluation.
+// What each kind of sink writes of an evaluation.
 fn text(told: &mut String, input: &str) -> Result<(), Trouble> {
     let evaluation = Evaluation::read(*told.allocator(), input)?;
     push_text(told, SinkKind::Recorder, &evaluation)?;
@@ -58,7 +58,7 @@ fn push_written(told: &mut String, written: &[u8]) -> Result<(), Trouble> {
     Ok(())
 }
 
-// The same with room for one text, in a box.
+// A recorder with room for one text, in a box.
 fn boxed(told: &mut String, input: &str) -> Result<(), Trouble> {
     let alloc = *told.allocator();
     let recorder = Recorder::new(alloc, Vec::new(alloc), 1);
@@ -90,7 +90,7 @@ fn push_taken<S: Sink>(told: &mut String, sink: &mut S, line: &str) -> Result<()
     tell_debug(told, &sink.take(&evaluation))
 }
 
-// Its kind, its limit and its count, and the texts that it keeps, up to one behind the last.
+// Its kind, its limit and its count, and the texts that it keeps, up to one past the last.
 fn push_kept<S: Sink>(told: &mut String, sink: &S) -> Result<(), Trouble> {
     let (kind, limit, count) = (sink.kind(), sink.limit(), sink.count());
     writeln!(told, "{kind:?}, limit {limit:?}, count {count}")?;
@@ -101,7 +101,7 @@ fn push_kept<S: Sink>(told: &mut String, sink: &S) -> Result<(), Trouble> {
     Ok(())
 }
 
-// What is told of each fault.
+// What is printed of each fault.
 fn fault(told: &mut String) -> Result<(), Trouble> {
     tell_fault(told, &SinkFault::Full)?;
     tell_fault(told, &SinkFault::Refused(1))?;

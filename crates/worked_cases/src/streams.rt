@@ -1,7 +1,7 @@
 //! Cases of streams over a store.
 //!
-//! The first line of an input has limits by their names, and behind a `|` how reads of the store are spoilt: `0=gone` and
-//! `1=flip:9`, `2=cut:3`, `3=swap:7`. Each line behind it is a call: `push` and `holds` with an entry, `horizon` with a
+//! The first line of an input has limits by their names, and after a `|` how reads of the store are spoilt: `0=gone` and
+//! `1=flip:9`, `2=cut:3`, `3=swap:7`. Each line after it is a call: `push` and `holds` with an entry, `horizon` with a
 //! moment, `cut`, `flush`, `len`, `reads`, `chunks`, `each` with labels and two moments, `walk` with labels, by a cursor.
 use crate::given::{Read, entry_in, limits_in, list_in, moment_in, number_in, words_of};
 use crate::streams_random::random;
@@ -39,7 +39,7 @@ fn run(told: &mut String, input: &str) -> Result<(), Trouble> {
     ended
 }
 
-/// Streams under limits, whose reads are spoilt so.
+/// Streams under limits, whose reads are spoilt in these ways.
 pub(crate) fn opened(alloc: Global, limits: &str, spoils: &str) -> Result<Asked, Trouble> {
     let limits = limits_in(limits)?;
     let plan = plan_in(alloc, spoils)?;
@@ -79,7 +79,7 @@ impl Read for Spoil {
     }
 }
 
-// Tells what one call answers.
+// Writes what one call answers.
 fn call(
     told: &mut String,
     streams: &mut Asked,
@@ -132,7 +132,7 @@ pub(crate) fn selector_in(alloc: Global, text: &str) -> Result<PlainList<Matcher
     Ok(PlainList::from_vec(matchers))
 }
 
-// Lines that were handed out, with their labels, as text. Contracts see nothing of it.
+// Lines that were visited, with their labels, as text. Contracts see nothing of it.
 #[derive(Drop)]
 pub(crate) struct Told {
     pub(crate) text: String,
@@ -164,7 +164,7 @@ fn push_line(
     writeln!(told, "{labels} {timestamp} {text}")
 }
 
-// What is handed out from one moment to another, or the fault behind what was handed out until then.
+// The lines that are visited from one moment to another, or the fault after those that were visited until then.
 fn each(told: &mut String, streams: &mut Asked, rest: &str) -> Result<(), Trouble> {
     let (labels, range) = words_of(rest);
     let (from, to) = words_of(range);
@@ -191,7 +191,7 @@ fn hand_out(
     }
 }
 
-// What a cursor hands out one by one. After a fault it is asked again, up to as often as there are lines to tell.
+// The lines that a cursor gives, one by one. After a fault it is asked again, at most a hundred times in all.
 fn walk(told: &mut String, streams: &mut Asked, rest: &str) -> Result<(), Trouble> {
     let alloc = *told.allocator();
     let selector = selector_in(alloc, rest)?;
@@ -211,7 +211,7 @@ fn push_walk(told: &mut String, cursor: &mut Walker<'_>) -> Result<(), Trouble> 
 
 type Walker<'a> = Cursor<'a, SpoilStore<MemStore>>;
 
-// Tells what a cursor hands out next. Whether there was something.
+// Writes what a cursor gives next. Whether there was something.
 fn push_next(told: &mut String, cursor: &mut Walker<'_>) -> Result<bool, Trouble> {
     match cursor.next() {
         Ok(Some((labels, line))) => {

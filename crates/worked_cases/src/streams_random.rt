@@ -1,4 +1,4 @@
-//! Streams, and one plain list that is asked the same.
+//! Streams, and one plain list that is asked the same questions.
 use crate::chunks::Draws;
 use crate::given::{entry_in, moment_in};
 use crate::streams::{Asked, Told, opened, selector_in};
@@ -12,7 +12,7 @@ use std::mem;
 // A stream, a timestamp in seconds, and a line.
 type Drawn = (u32, u64, u32);
 
-/// How many of so many turns streams answer as the plain list, and whether both hold the same at the end. A turn may cut or
+/// In how many of `count` turns streams answer as the plain list, and whether both hold the same at the end. A turn may cut or
 /// flush, asks whether an entry is held, and pushes it.
 pub(crate) fn random(told: &mut String, count: u64) -> Result<(), Trouble> {
     let alloc = *told.allocator();
@@ -111,7 +111,7 @@ fn plain(held: &mut Vec<Drawn>, drawn: Drawn) -> Result<&'static str, AllocError
     Ok("ok")
 }
 
-// Whether streams hand out as many lines as the plain list has, and each of its lines, of which no two are the same.
+// Whether streams have the number of lines that the plain list has, and each of its lines, of which no two are equal.
 fn hold_the_same(alloc: Global, streams: &mut Asked, held: &[Drawn]) -> Result<bool, Trouble> {
     let told = told_by(alloc, streams)?;
     let lines = told.text.as_str();
@@ -122,7 +122,7 @@ fn hold_the_same(alloc: Global, streams: &mut Asked, held: &[Drawn]) -> Result<b
     have_all(alloc, lines, held)
 }
 
-// All that streams hand out.
+// All lines of streams.
 fn told_by(alloc: Global, streams: &mut Asked) -> Result<Told, Trouble> {
     let selector = selector_in(alloc, "-")?;
     let (from, to) = (moment_in("0")?, moment_in("9000000000s")?);

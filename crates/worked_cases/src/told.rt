@@ -1,4 +1,4 @@
-//! What answers tell in one way, each in a line.
+//! Answers that are written in one way, each in a line.
 use crate::trouble::Trouble;
 use rl_plain::OrMemory;
 use std::fmt::{Debug, Display};
@@ -21,7 +21,7 @@ pub(crate) fn tell_fault<F: Debug + Display>(told: &mut String, fault: &F) -> Re
     Ok(())
 }
 
-/// The same where it is no want of memory.
+/// A fault as it is, and in words; not where memory ran out.
 pub(crate) fn tell_refused<F>(told: &mut String, refused: &OrMemory<F>) -> Result<(), Trouble>
 where
     F: Debug + Display,

@@ -2,7 +2,7 @@
 //!
 //! An input is a line of settings, a rule file, a line `%%`, and a step or a look-up in each line. The settings are how many
 //! shards there are, the number under which a book asks, the room of each recorder, as `1,8/-` for two of the first group
-//! and none of the second, limits by their names, and behind a `|` how reads of the first shard's store are spoilt, as for
+//! and none of the second, limits by their names, and after a `|` how reads of the first shard's store are spoilt, as for
 //! streams.
 ghost use Rattle.std.specs.Prelude.{◌≡◌, ◌≤◌, IfOk, length, map};
 ghost use Rattle.std.specs.List.{AllByRecursion};
@@ -59,7 +59,7 @@ fn book(told: &mut String, input: &str) -> Result<(), Trouble> {
     ended
 }
 
-// What is told of the faults that no step has.
+// What is printed of the faults that no step has.
 fn others(told: &mut String) -> Result<(), Trouble> {
     tell(told, &BookError::Memory)?;
     tell(told, &Refusal::Memory)?;
@@ -116,7 +116,7 @@ fn opened(alloc: Global, settings: Settings<'_>, file: &str) -> Result<World<Kep
     Ok(World::open(alloc, settings.limits, stores, groups, sinks)?)
 }
 
-// The groups of a rule file of so many.
+// The groups of a rule file, `count` of them.
 fn groups_in(alloc: Global, file: &str, count: usize) -> Result<Vec<Group>, Trouble>
     ensures { IfOk result (λ groups. length groups.items ≡ count) }
 {
@@ -127,7 +127,7 @@ fn groups_in(alloc: Global, file: &str, count: usize) -> Result<Vec<Group>, Trou
     Ok(groups)
 }
 
-/// So many stores, of which the first is spoilt.
+/// A store for each shard, of which the first is spoilt.
 pub(crate) fn stores_of(alloc: Global, shards: usize, spoils: &str) -> Result<Vec<Kept>, Trouble>
     ensures { IfOk result (λ stores. length stores.items ≡ shards) }
 {
@@ -178,7 +178,7 @@ fn recorders(alloc: Global, caps: &str) -> Result<Vec<Sunk>, Trouble>
     Ok(own)
 }
 
-// A recorder with room for so many texts.
+// A recorder with room for `cap` texts.
 fn recorder(alloc: Global, cap: &str) -> Result<Sunk, Trouble>
     ensures { IfOk result (λ sink. IsFresh (log_state kinds.Recorder sink)) }
 {

@@ -16,7 +16,7 @@ use std::alloc::Global;
 use std::fmt::{Debug, Display};
 use std::mem;
 
-/// Tells what a world answers to each line. It is asked all steps up to a look-up at once.
+/// Writes what a world answers to each line. It is asked all steps up to a look-up at once.
 pub(crate) fn push_lines(
     told: &mut String,
     world: &mut World<Kept, Sunk>,
@@ -29,7 +29,7 @@ pub(crate) fn push_lines(
     ask(told, world, &mut steps)
 }
 
-// Puts a step behind those that are to be asked, or asks them and looks something up.
+// Adds a step to those that are to be asked, or asks them and looks something up.
 fn push_line(
     told: &mut String,
     world: &mut World<Kept, Sunk>,
@@ -53,7 +53,7 @@ fn is_look_up(word: &str) -> bool {
     }
 }
 
-// Asks the world the steps, which are gone then, and tells what it answers.
+// Asks the world the steps, which are gone then, and writes what it answers.
 fn ask(
     told: &mut String,
     world: &mut World<Kept, Sunk>,
@@ -68,7 +68,7 @@ fn ask(
     ended
 }
 
-// The step at a shard or a group, by its word and what stands behind it.
+// The step at a shard or a group, by its word and what follows it.
 fn step_in(alloc: Global, word: &str, rest: &str) -> Result<Step, Trouble> {
     let (number, rest) = words_of(rest);
     let number = number_in(number)? as usize;
@@ -177,7 +177,7 @@ fn push_caught_up(told: &mut String, behind: &[u64]) -> Result<(), Trouble> {
     Ok(())
 }
 
-// Numbers, each behind a space.
+// Numbers, each after a space.
 fn push_numbers(told: &mut String, numbers: &[u64]) -> Result<(), Trouble> {
     for number in numbers {
         write!(told, " {number}")?;
@@ -258,7 +258,7 @@ fn push_kept(told: &mut String, book: &Book<Sunk>, sink: usize, index: u64) -> R
     Ok(())
 }
 
-// The alerts of each rule, each behind the number of the rule.
+// The alerts of each rule, each after the number of the rule.
 fn push_alerts(told: &mut String, of_rules: &[PlainList<Alert>]) -> Result<(), Trouble> {
     writeln!(told, "of {} rules", of_rules.len())?;
     for (number, alerts) in of_rules.iter().enumerate() {
@@ -310,7 +310,7 @@ pub(crate) struct Asking {
 }
 
 impl Asking {
-    /// Tells what the book answers to each line.
+    /// Writes what the book answers to each line.
     pub(crate) fn push_calls(&mut self, told: &mut String, lines: &str) -> Result<(), Trouble> {
         for line in lines.split('\n') {
             self.push_call(told, line)?;

@@ -1,4 +1,4 @@
--- The rows of the alerts so far stand behind the others.
+-- The rows of the alerts so far follow the others.
 use Rattle.std.proofs.Common.{◌≡◌, ◌++◌, map, take}
 use Rattle.rl_rule_tests.specs.Judging.{alert_row, form}
 use Rattle.rl_rule_tests.proofs.judging.push_alerts.Given as goal

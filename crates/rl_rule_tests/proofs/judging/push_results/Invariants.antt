@@ -1,4 +1,4 @@
--- What rules of the check gave so far stands behind the others.
+-- What rules of the check gave so far follows the others.
 use Rattle.std.proofs.Common.{◌≡◌, ◌++◌, map, take}
 use Rattle.std.specs.List.{filter}
 use Rattle.rl_rule_tests.specs.Judging.{is_of}

@@ -1,4 +1,4 @@
--- The rows of the samples so far stand behind the others.
+-- The rows of the samples so far follow the others.
 use Rattle.std.proofs.Common.{◌≡◌, ◌++◌, map, take}
 use Rattle.rl_rule_tests.specs.Judging.{form, sample_row}
 use Rattle.rl_rule_tests.proofs.judging.push_samples.Given as goal

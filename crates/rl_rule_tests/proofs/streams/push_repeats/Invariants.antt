@@ -1,4 +1,4 @@
--- The lines so far stand behind the others.
+-- The lines so far follow the others.
 use Rattle.std.proofs.Common.{◌≡◌, ◌++◌, take}
 use Rattle.std.specs.List.{flat_map}
 use Rattle.rl_rule_tests.specs.Document.{repeated_lines}

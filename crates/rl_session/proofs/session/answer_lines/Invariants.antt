@@ -1,4 +1,4 @@
--- What was told of the lines so far.
+-- What was written of the lines so far.
 use Rattle.std.proofs.Common.{length}
 use denote.Text.{Utf8}
 use denote.Shadow.{shadow}
