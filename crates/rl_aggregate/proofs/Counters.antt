@@ -14,9 +14,9 @@ all_weaker : {X : Type 0} (P Q : X → Type 0) → ((x : X) → P x → Q x) →
 all_weaker P Q weaker [] all = all
 all_weaker P Q weaker (x ∷ xs) all = (weaker x all.0, all_weaker P Q weaker xs all.1)
 
-all_behind : {X Y : Type 0} (P : X → Type 0) (Q : Y → Type 0) (f : X → Y) → ((x : X) → P x → Q (f x)) → (xs : List X) → AllByRecursion P xs → AllByRecursion Q (map f xs)
-all_behind P Q f keeps [] all = all
-all_behind P Q f keeps (x ∷ xs) all = (keeps x all.0, all_behind P Q f keeps xs all.1)
+all_after : {X Y : Type 0} (P : X → Type 0) (Q : Y → Type 0) (f : X → Y) → ((x : X) → P x → Q (f x)) → (xs : List X) → AllByRecursion P xs → AllByRecursion Q (map f xs)
+all_after P Q f keeps [] all = all
+all_after P Q f keeps (x ∷ xs) all = (keeps x all.0, all_after P Q f keeps xs all.1)
 
 -- also where the first of them were changed, and the others were not
 all_partly : {X : Type 0} (P Q : X → Type 0) (f : X → X) → ((x : X) → P x → Q (f x)) → ((x : X) → P x → Q x) → (xs : List X) (i : ℕ) → AllByRecursion P xs → AllByRecursion Q (map f (take i xs) ++ drop i xs)
@@ -77,4 +77,4 @@ module _ {most left : ℕ} {tallies : List TallyView} (counter : IsCounter most 
 
   -- all that was counted is within what may be counted
   pub counter-within : AllByRecursion (IsWithin most) (map (λ tally. tally.found) tallies)
-  counter-within = all_behind (λ (tally : TallyView). IsWithin (most - left) tally.found) (IsWithin most) (λ tally. tally.found) (λ tally within. within-more (most - left) most tally.found (omega arith) within) tallies counter.within
+  counter-within = all_after (λ (tally : TallyView). IsWithin (most - left) tally.found) (IsWithin most) (λ tally. tally.found) (λ tally within. within-more (most - left) most tally.found (omega arith) within) tallies counter.within

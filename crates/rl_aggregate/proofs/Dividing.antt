@@ -14,38 +14,38 @@ use Rattle.rl_aggregate.specs.declared.outcome.Fraction.{Fraction}
 use Rattle.rl_aggregate.specs.declared.outcome.Sample.{Sample}
 
 -- all samples stand after a label set
-abbrev pub AreBehind : LabelSet → List Sample → Type 0
-AreBehind labels samples = AllByRecursion (λ other. label_set_cmp labels other.labels ≡ Less) samples
+abbrev pub AreAfter : LabelSet → List Sample → Type 0
+AreAfter labels samples = AllByRecursion (λ other. label_set_cmp labels other.labels ≡ Less) samples
 
-apart_behind : (s t : LabelSet) → label_set_cmp s t ≡ Less → label_set_eq s t ≡ false
-apart_behind s t less = label_set_eq-cmp s t ∙ ap is_eq less
+apart_after : (s t : LabelSet) → label_set_cmp s t ≡ Less → label_set_eq s t ≡ false
+apart_after s t less = label_set_eq-cmp s t ∙ ap is_eq less
 
 apart_before : (s t : LabelSet) → label_set_cmp t s ≡ Less → label_set_eq s t ≡ false
 apart_before s t less = label_set_eq-cmp s t ∙ ap is_eq (label_set_cmp_total.antisymm s t ∙ ap ordering_reverse less)
 
 -- what stands after a label set stands after one before it
-behind_more : (s t : LabelSet) (samples : List Sample) → label_set_cmp s t ≡ Less → AreBehind t samples → AreBehind s samples
-behind_more s t [] less behind = tt
-behind_more s t (x ∷ xs) less behind = (label_set_cmp_total.trans s t x.labels less behind.0, behind_more s t xs less behind.1)
+after_more : (s t : LabelSet) (samples : List Sample) → label_set_cmp s t ≡ Less → AreAfter t samples → AreAfter s samples
+after_more s t [] less following = tt
+after_more s t (x ∷ xs) less following = (label_set_cmp_total.trans s t x.labels less following.0, after_more s t xs less following.1)
 
-none_behind : (sample : Sample) (divisors : List Sample) → AreBehind sample.labels divisors → partner divisors sample ≡ None
-none_behind sample [] behind = refl
-none_behind sample (d ∷ ds) behind = ap (λ b. cond b (Some d) (partner ds sample)) (apart_behind sample.labels d.labels behind.0) ∙ none_behind sample ds behind.1
+none_after : (sample : Sample) (divisors : List Sample) → AreAfter sample.labels divisors → partner divisors sample ≡ None
+none_after sample [] following = refl
+none_after sample (d ∷ ds) following = ap (λ b. cond b (Some d) (partner ds sample)) (apart_after sample.labels d.labels following.0) ∙ none_after sample ds following.1
 
 -- a divisor that stands before all samples divides none
-first_dropped : (first : Sample) (divisors samples : List Sample) → AreBehind first.labels samples → ratios samples divisors ≡ ratios samples (first ∷ divisors)
-first_dropped first divisors [] behind = refl
-first_dropped first divisors (x ∷ xs) behind =
-    let same : partner divisors x ≡ partner (first ∷ divisors) x = ap (λ b. cond b (Some first) (partner divisors x)) (sym (apart_before x.labels first.labels behind.0)) in
+first_dropped : (first : Sample) (divisors samples : List Sample) → AreAfter first.labels samples → ratios samples divisors ≡ ratios samples (first ∷ divisors)
+first_dropped first divisors [] following = refl
+first_dropped first divisors (x ∷ xs) following =
+    let same : partner divisors x ≡ partner (first ∷ divisors) x = ap (λ b. cond b (Some first) (partner divisors x)) (sym (apart_before x.labels first.labels following.0)) in
     let value : value_over divisors x ≡ value_over (first ∷ divisors) x = ap (option_and_then (λ d. quotient x.value d.value)) same in
-    λ i. option_to_list (option_map (λ v. record { labels = x.labels; value = v }) (value i)) ++ first_dropped first divisors xs behind.1 i
+    λ i. option_to_list (option_map (λ v. record { labels = x.labels; value = v }) (value i)) ++ first_dropped first divisors xs following.1 i
 
 -- nor do those that stand before the first sample
-pub ratios-not_before : (sample : Sample) (samples divisors : List Sample) → AreBehind sample.labels samples → ratios (sample ∷ samples) (not_before sample.labels divisors) ≡ ratios (sample ∷ samples) divisors
-ratios-not_before sample samples [] behind = refl
-ratios-not_before sample samples (d ∷ ds) behind =
+pub ratios-not_before : (sample : Sample) (samples divisors : List Sample) → AreAfter sample.labels samples → ratios (sample ∷ samples) (not_before sample.labels divisors) ≡ ratios (sample ∷ samples) divisors
+ratios-not_before sample samples [] following = refl
+ratios-not_before sample samples (d ∷ ds) following =
     elim (label_set_cmp d.labels sample.labels) as (λ o. label_set_cmp d.labels sample.labels ≡ o → ratios (sample ∷ samples) (cond (is_lt o) (not_before sample.labels ds) (d ∷ ds)) ≡ ratios (sample ∷ samples) (d ∷ ds)) [
-      | Less ↦ λ is. ratios-not_before sample samples ds behind ∙ first_dropped d ds (sample ∷ samples) (is, behind_more d.labels sample.labels samples is behind)
+      | Less ↦ λ is. ratios-not_before sample samples ds following ∙ first_dropped d ds (sample ∷ samples) (is, after_more d.labels sample.labels samples is following)
       | Equal ↦ λ _. refl
       | Greater ↦ λ _. refl
     ] refl
@@ -91,7 +91,7 @@ module _ (sample first : Sample) where
   by_none [] some is order from apart = absurd (omega (arith, some))
   by_none (d ∷ ds) some is order from apart =
       elim (label_set_cmp sample.labels d.labels) as (λ o. label_set_cmp sample.labels d.labels ≡ o → None ≡ value_over (d ∷ ds) sample) [
-        | Less ↦ λ less. ap (option_and_then (λ d. quotient sample.value d.value)) (sym (none_behind sample (d ∷ ds) (less, behind_more sample.labels d.labels ds less order.0)))
+        | Less ↦ λ less. ap (option_and_then (λ d. quotient sample.value d.value)) (sym (none_after sample (d ∷ ds) (less, after_more sample.labels d.labels ds less order.0)))
         | Equal ↦ λ same. absurd (true≢false (sym (label_set_eq-cmp sample.labels d.labels ∙ ap is_eq same) ∙ label_set_eq_equiv.symm sample.labels d.labels ∙ ap (λ d. label_set_eq d.labels sample.labels) (sym is) ∙ apart))
         | Greater ↦ λ greater.
             let less : label_set_cmp d.labels sample.labels ≡ Less = label_set_cmp_total.antisymm d.labels sample.labels ∙ ap ordering_reverse greater in
@@ -104,8 +104,8 @@ abbrev pub with_value : Sample → Option Fraction → List Sample
 with_value sample value = option_to_list (option_map (λ v. record { labels = sample.labels; value = v }) value)
 
 -- one sample more, with the ratios so far
-pub one_divided : (made : List Sample) (sample : Sample) (samples divisors : List Sample) (value : Option Fraction) → AreBehind sample.labels samples → value ≡ value_over (not_before sample.labels divisors) sample → (made ++ with_value sample value) ++ ratios samples (not_before sample.labels divisors) ≡ made ++ ratios (sample ∷ samples) divisors
-one_divided made sample samples divisors value behind is =
+pub one_divided : (made : List Sample) (sample : Sample) (samples divisors : List Sample) (value : Option Fraction) → AreAfter sample.labels samples → value ≡ value_over (not_before sample.labels divisors) sample → (made ++ with_value sample value) ++ ratios samples (not_before sample.labels divisors) ≡ made ++ ratios (sample ∷ samples) divisors
+one_divided made sample samples divisors value following is =
     let rest = not_before sample.labels divisors in
-    let first : made ++ (with_value sample (value_over rest sample) ++ ratios samples rest) ≡ made ++ ratios (sample ∷ samples) divisors = ap (λ all. made ++ all) (ratios-not_before sample samples divisors behind) in
+    let first : made ++ (with_value sample (value_over rest sample) ++ ratios samples rest) ≡ made ++ ratios (sample ∷ samples) divisors = ap (λ all. made ++ all) (ratios-not_before sample samples divisors following) in
     append_assoc made (with_value sample value) (ratios samples rest) ∙ ap (λ v. made ++ (with_value sample v ++ ratios samples rest)) is ∙ first

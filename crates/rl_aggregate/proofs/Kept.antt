@@ -43,17 +43,17 @@ labels-kept p (e ∷ es) h =
       | false ↦ labels-kept p es parts.1
     ]
 
-behind : (labels : LabelSet) (pre done : List Pair) (pair : Pair) → pre ++ pair ∷ done ≡ labels_of labels → are_labels (pair ∷ done) ≡ true
-behind labels pre done pair is = labels_from pre (pair ∷ done) (ap are_labels is ∙ true_from _ (labels_are_proper labels))
+following : (labels : LabelSet) (pre done : List Pair) (pair : Pair) → pre ++ pair ∷ done ≡ labels_of labels → are_labels (pair ∷ done) ≡ true
+following labels pre done pair is = labels_from pre (pair ∷ done) (ap are_labels is ∙ true_from _ (labels_are_proper labels))
 
 -- a label of a set is one
 pub label_of : (labels : LabelSet) (pre done : List Pair) (pair : Pair) → pre ++ pair ∷ done ≡ labels_of labels → is_label pair ≡ true
-label_of labels pre done pair is = (and_parts (is_label pair) (list_all is_label done) (and_parts (is_sorted name_cmp (pair ∷ done)) (list_all is_label (pair ∷ done)) (behind labels pre done pair is)).1).0
+label_of labels pre done pair is = (and_parts (is_label pair) (list_all is_label done) (and_parts (is_sorted name_cmp (pair ∷ done)) (list_all is_label (pair ∷ done)) (following labels pre done pair is)).1).0
 
 -- the set of those that are kept after a label has none of its name
-pub label-behind : (p : Pair → Bool) (labels : LabelSet) (pre done : List Pair) (pair : Pair) → pre ++ pair ∷ done ≡ labels_of labels → label (label_set_of (filter p done)) pair.0 ≡ None
-label-behind p labels pre done pair is =
-    let parts = and_parts (is_sorted name_cmp (pair ∷ done)) (list_all is_label (pair ∷ done)) (behind labels pre done pair is) in
+pub label-following : (p : Pair → Bool) (labels : LabelSet) (pre done : List Pair) (pair : Pair) → pre ++ pair ∷ done ≡ labels_of labels → label (label_set_of (filter p done)) pair.0 ≡ None
+label-following p labels pre done pair is =
+    let parts = and_parts (is_sorted name_cmp (pair ∷ done)) (list_all is_label (pair ∷ done)) (following labels pre done pair is) in
     label-label_set_of (filter p done) pair.0 (are_named-labels (filter p done) (labels-kept p done (and_parts (is_label pair) (list_all is_label done) parts.1).1))
     ∙ ap (option_and_then non_empty) (find-kept p pair.0 done (and_parts (below_all name_cmp pair.0 done) (is_sorted name_cmp done) parts.0).0)
 
@@ -61,5 +61,5 @@ label-behind p labels pre done pair is =
 pub added-front : (p : Pair → Bool) (labels set : LabelSet) (pre done : List Pair) (pair : Pair) → pre ++ pair ∷ done ≡ labels_of labels → set ≡ label_set_of (filter p done) → p pair ≡ true → cond (is_some (label set pair.0)) set (with_label set pair.0 pair.1) ≡ label_set_of (filter p (pair ∷ done))
 added-front p labels set pre done pair is made kept =
     ap (λ s. cond (is_some (label s pair.0)) s (with_label s pair.0 pair.1)) made
-    ∙ ap (λ o. cond (is_some o) (label_set_of (filter p done)) (with_label (label_set_of (filter p done)) pair.0 pair.1)) (label-behind p labels pre done pair is)
+    ∙ ap (λ o. cond (is_some o) (label_set_of (filter p done)) (with_label (label_set_of (filter p done)) pair.0 pair.1)) (label-following p labels pre done pair is)
     ∙ ap (λ b. label_set_of (cond b (pair ∷ filter p done) (filter p done))) (sym kept)

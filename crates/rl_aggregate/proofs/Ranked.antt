@@ -43,11 +43,11 @@ middle P [] sample back h = h.0
 middle P (other ∷ front) sample back h = middle P front sample back h.1
 
 -- samples after one do not come before it
-none_behind : (g : Grouping) (q : LabelSet) (sample : Sample) (others : List Sample) → AllByRecursion (λ other. rank_cmp sample other ≡ Less) others → count_by (λ other. comes_before other sample) (part g q others) ≡ 0
-none_behind g q sample [] behind = refl
-none_behind g q sample (other ∷ others) behind =
-    let rest = none_behind g q sample others behind.1 in
-    let after : comes_before other sample ≡ false = ap is_lt (rank_total.antisymm other sample ∙ ap ordering_reverse behind.0) in
+none_after : (g : Grouping) (q : LabelSet) (sample : Sample) (others : List Sample) → AllByRecursion (λ other. rank_cmp sample other ≡ Less) others → count_by (λ other. comes_before other sample) (part g q others) ≡ 0
+none_after g q sample [] following = refl
+none_after g q sample (other ∷ others) following =
+    let rest = none_after g q sample others following.1 in
+    let after : comes_before other sample ≡ false = ap is_lt (rank_total.antisymm other sample ∙ ap ordering_reverse following.0) in
     elim (is_in g q other) as (λ b. count_by (λ o. comes_before o sample) (cond b (other ∷ part g q others) (part g q others)) ≡ 0) [
       | true ↦ sum_by-cons (λ o. cond (comes_before o sample) 1 0) other (part g q others) ∙ (λ i. cond (after i) 1 0 + rest i)
       | false ↦ rest
@@ -59,7 +59,7 @@ one_of b is = λ i. cond (is i) 1 0
 -- so those of a group that come before a sample are those in front of it
 counted : (g : Grouping) (q : LabelSet) (front : List Sample) (sample : Sample) (back : List Sample) → IsStrictlySortedBy rank_cmp (front ++ sample ∷ back) → count_by (λ other. comes_before other sample) (part g q (front ++ sample ∷ back)) ≡ length (part g q front)
 counted g q [] sample back sorted =
-    let rest = none_behind g q sample back (sorted_head rank_cmp sample back sorted) in
+    let rest = none_after g q sample back (sorted_head rank_cmp sample back sorted) in
     let itself : comes_before sample sample ≡ false = ap is_lt (tied_itself rank_total sample) in
     elim (is_in g q sample) as (λ b. count_by (λ o. comes_before o sample) (cond b (sample ∷ part g q back) (part g q back)) ≡ 0) [
       | true ↦ sum_by-cons (λ o. cond (comes_before o sample) 1 0) sample (part g q back) ∙ (λ i. cond (itself i) 1 0 + rest i)

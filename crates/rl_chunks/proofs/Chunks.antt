@@ -47,32 +47,32 @@ above_more : (a b : Line) (lines : List Line) → line_cmp a b ≡ Less → AllB
 above_more a b [] below h = tt
 above_more a b (line ∷ lines) below h = (line_cmp_total.trans a b line below h.0, above_more a b lines below h.1)
 
-sorted_behind : (line : Line) (lines : List Line) → Chain IsNextLine (Some line) lines → AllByRecursion (IsAbove line) lines × IsStrictlySortedBy line_cmp lines
+sorted_after : (line : Line) (lines : List Line) → Chain IsNextLine (Some line) lines → AllByRecursion (IsAbove line) lines × IsStrictlySortedBy line_cmp lines
 unfolding IsStrictlySortedBy
-sorted_behind line [] h = (tt, tt)
-sorted_behind line (next ∷ lines) h =
-    let rest = sorted_behind next lines h.1 in
+sorted_after line [] h = (tt, tt)
+sorted_after line (next ∷ lines) h =
+    let rest = sorted_after next lines h.1 in
     let below = less _ h.0.above in
     ((below, above_more line next lines below rest.0), rest)
 
 lines_rise : (lines : List Line) → Chain IsNextLine None lines → IsStrictlySortedBy line_cmp lines
 unfolding IsStrictlySortedBy
 lines_rise [] h = tt
-lines_rise (line ∷ lines) h = sorted_behind line lines h.1
+lines_rise (line ∷ lines) h = sorted_after line lines h.1
 
 each_line : (before : Option Line) (lines : List Line) → Chain IsNextLine before lines → AllByRecursion IsLine lines
 each_line before [] h = tt
 each_line before (line ∷ lines) h = (h.0.good, each_line (Some line) lines h.1)
 
-chain_behind : (before : Line) (lines : List Line) → AllByRecursion IsLine lines → AllByRecursion (IsAbove before) lines → IsStrictlySortedBy line_cmp lines → Chain IsNextLine (Some before) lines
+chain_after : (before : Line) (lines : List Line) → AllByRecursion IsLine lines → AllByRecursion (IsAbove before) lines → IsStrictlySortedBy line_cmp lines → Chain IsNextLine (Some before) lines
 unfolding IsStrictlySortedBy
-chain_behind before [] good above sorted = tt
-chain_behind before (line ∷ lines) good above sorted = (record { good = good.0; above = ap is_lt above.0 }, chain_behind line lines good.1 sorted.0 sorted.1)
+chain_after before [] good above sorted = tt
+chain_after before (line ∷ lines) good above sorted = (record { good = good.0; above = ap is_lt above.0 }, chain_after line lines good.1 sorted.0 sorted.1)
 
 chain_of_lines : (lines : List Line) → AllByRecursion IsLine lines → IsStrictlySortedBy line_cmp lines → Chain IsNextLine None lines
 unfolding IsStrictlySortedBy
 chain_of_lines [] good sorted = tt
-chain_of_lines (line ∷ lines) good sorted = (record { good = good.0; above = refl }, chain_behind line lines good.1 sorted.0 sorted.1)
+chain_of_lines (line ∷ lines) good sorted = (record { good = good.0; above = refl }, chain_after line lines good.1 sorted.0 sorted.1)
 
 -- ---- the parts of a chunk
 

@@ -75,10 +75,10 @@ pub record AreGood (pairs : List Pair) : Type 0 where
   pub names : names_are_good pairs ≡ true
   pub texts : AllByRecursion IsText pairs
 
-sorted_behind : (p : Pair) (pairs : List Pair) → Chain IsNextLabel (Some p) pairs → (below_all name_cmp p.0 pairs ≡ true) × (is_sorted name_cmp pairs ≡ true)
-sorted_behind p [] h = (refl, refl)
-sorted_behind p (q ∷ qs) h =
-    let rest = sorted_behind q qs h.1 in
+sorted_after : (p : Pair) (pairs : List Pair) → Chain IsNextLabel (Some p) pairs → (below_all name_cmp p.0 pairs ≡ true) × (is_sorted name_cmp pairs ≡ true)
+sorted_after p [] h = (refl, refl)
+sorted_after p (q ∷ qs) h =
+    let rest = sorted_after q qs h.1 in
     (and_from _ _ h.0.above (below_more_names p.0 q.0 qs h.0.above rest.0), and_from _ _ rest.0 rest.1)
 
 name_of_stream : (name : List ℕ) → is_stream_name name ≡ true → is_name name ≡ true
@@ -94,22 +94,22 @@ good_all before (p ∷ ps) h =
 pub good_from_chain : (pairs : List Pair) → Chain IsNextLabel None pairs → AreGood pairs
 good_from_chain [] h = record { sorted = refl; labels = refl; names = refl; texts = tt }
 good_from_chain (p ∷ ps) h =
-    let parts = sorted_behind p ps h.1 in
+    let parts = sorted_after p ps h.1 in
     let good = good_all None (p ∷ ps) h in
     record { sorted = and_from _ _ parts.0 parts.1; labels = good.0; names = good.1; texts = good.2 }
 
-chain_behind : (p : Pair) (pairs : List Pair) → below_all name_cmp p.0 pairs ≡ true → is_sorted name_cmp pairs ≡ true → AllByRecursion IsGood pairs → Chain IsNextLabel (Some p) pairs
-chain_behind p [] below sorted good = tt
-chain_behind p (q ∷ qs) below sorted good =
+chain_after : (p : Pair) (pairs : List Pair) → below_all name_cmp p.0 pairs ≡ true → is_sorted name_cmp pairs ≡ true → AllByRecursion IsGood pairs → Chain IsNextLabel (Some p) pairs
+chain_after p [] below sorted good = tt
+chain_after p (q ∷ qs) below sorted good =
     let first = and_parts (is_lt (name_cmp p.0 q.0)) (below_all name_cmp p.0 qs) below in
     let rest = and_parts (below_all name_cmp q.0 qs) (is_sorted name_cmp qs) sorted in
-    (record { good = good.0; above = first.0 }, chain_behind q qs rest.0 rest.1 good.1)
+    (record { good = good.0; above = first.0 }, chain_after q qs rest.0 rest.1 good.1)
 
 chain_from_good : (pairs : List Pair) → is_sorted name_cmp pairs ≡ true → AllByRecursion IsGood pairs → Chain IsNextLabel None pairs
 chain_from_good [] sorted good = tt
 chain_from_good (p ∷ ps) sorted good =
     let parts = and_parts (below_all name_cmp p.0 ps) (is_sorted name_cmp ps) sorted in
-    (record { good = good.0; above = refl }, chain_behind p ps parts.0 parts.1 good.1)
+    (record { good = good.0; above = refl }, chain_after p ps parts.0 parts.1 good.1)
 
 -- ---- lengths
 

@@ -25,54 +25,54 @@ last_push xs x =
     ap (slice_get (xs ++ x ∷ [])) place ∙ at_push xs x
 
 -- what was read before, and what is still read
-abbrev pub behind : {A : Type 0} → List A → Read (List A) → Read (List A)
-behind front read = read >>= λ x. Ok (front ++ x.0, x.1)
+abbrev pub following : {A : Type 0} → List A → Read (List A) → Read (List A)
+following front read = read >>= λ x. Ok (front ++ x.0, x.1)
 
-regroup : {A : Type 0} (front : List A) (x : A) (read : Read (List A)) → behind front (read >>= λ y. Ok (x ∷ y.0, y.1)) ≡ behind (front ++ x ∷ []) read
+regroup : {A : Type 0} (front : List A) (x : A) (read : Read (List A)) → following front (read >>= λ y. Ok (x ∷ y.0, y.1)) ≡ following (front ++ x ∷ []) read
 regroup front x (Ok y) = ap (λ xs. Ok (xs, y.1)) (sym (append_assoc front (x ∷ []) y.0))
 regroup front x (Err fault) = refl
 
 module _ {A : Type 0} (item : Option A → List ℕ → Read A) where
   -- one more was read
   pub goes_on : (front : List A) (count i : ℕ) (bytes : List ℕ) (x : A) (rest : List ℕ) (total : Read (List A)) → i < count → item (last_of front) bytes ≡ Ok (x, rest)
-      → behind front (in_turn item (count - i) (last_of front) bytes) ≡ total → behind (front ++ x ∷ []) (in_turn item (count - (i + 1)) (last_of (front ++ x ∷ [])) rest) ≡ total
+      → following front (in_turn item (count - i) (last_of front) bytes) ≡ total → following (front ++ x ∷ []) (in_turn item (count - (i + 1)) (last_of (front ++ x ∷ [])) rest) ≡ total
   unfolding in_turn
   goes_on front count i bytes x rest total lt here so_far =
       let more : count - i ≡ suc (count - (i + 1)) = omega arith in
-      let one : behind front (in_turn item (count - i) (last_of front) bytes) ≡ behind (front ++ x ∷ []) (in_turn item (count - (i + 1)) (Some x) rest) =
-      ap (λ n. behind front (in_turn item n (last_of front) bytes)) more
-      ∙ ap (λ read. behind front (read >>= λ first. in_turn item (count - (i + 1)) (Some first.0) first.1 >>= λ others. Ok (first.0 ∷ others.0, others.1))) here
+      let one : following front (in_turn item (count - i) (last_of front) bytes) ≡ following (front ++ x ∷ []) (in_turn item (count - (i + 1)) (Some x) rest) =
+      ap (λ n. following front (in_turn item n (last_of front) bytes)) more
+      ∙ ap (λ read. following front (read >>= λ first. in_turn item (count - (i + 1)) (Some first.0) first.1 >>= λ others. Ok (first.0 ∷ others.0, others.1))) here
       ∙ regroup front x (in_turn item (count - (i + 1)) (Some x) rest) in
-      ap (λ last. behind (front ++ x ∷ []) (in_turn item (count - (i + 1)) last rest)) (last_push front x) ∙ (sym one ∙ so_far)
+      ap (λ last. following (front ++ x ∷ []) (in_turn item (count - (i + 1)) last rest)) (last_push front x) ∙ (sym one ∙ so_far)
 
   -- one was refused
   pub ends : (e : OrMemory ChunkFault) (front : List A) (count i : ℕ) (bytes : List ℕ) (total : Read (List A)) → i < count → Fails e (item (last_of front) bytes)
-      → behind front (in_turn item (count - i) (last_of front) bytes) ≡ total → Fails e total
+      → following front (in_turn item (count - i) (last_of front) bytes) ≡ total → Fails e total
   unfolding in_turn
   ends Memory front count i bytes total lt here so_far = tt
   ends (Fault fault) front count i bytes total lt here so_far =
       let more : count - i ≡ suc (count - (i + 1)) = omega arith in
-      let one : behind front (in_turn item (count - i) (last_of front) bytes) ≡ Err fault =
-      ap (λ n. behind front (in_turn item n (last_of front) bytes)) more
-      ∙ ap (λ read. behind front (read >>= λ first. in_turn item (count - (i + 1)) (Some first.0) first.1 >>= λ others. Ok (first.0 ∷ others.0, others.1))) here in
+      let one : following front (in_turn item (count - i) (last_of front) bytes) ≡ Err fault =
+      ap (λ n. following front (in_turn item n (last_of front) bytes)) more
+      ∙ ap (λ read. following front (read >>= λ first. in_turn item (count - (i + 1)) (Some first.0) first.1 >>= λ others. Ok (first.0 ∷ others.0, others.1))) here in
       sym so_far ∙ one
 
   -- none is left
-  pub is_done : (front : List A) (count i : ℕ) (bytes : List ℕ) (total : Read (List A)) → count ≤ i → behind front (in_turn item (count - i) (last_of front) bytes) ≡ total → total ≡ Ok (front, bytes)
+  pub is_done : (front : List A) (count i : ℕ) (bytes : List ℕ) (total : Read (List A)) → count ≤ i → following front (in_turn item (count - i) (last_of front) bytes) ≡ total → total ≡ Ok (front, bytes)
   unfolding in_turn
   is_done front count i bytes total le so_far =
       let none : count - i ≡ 0 = omega arith in
-      let one : behind front (in_turn item (count - i) (last_of front) bytes) ≡ Ok (front, bytes) =
-      ap (λ n. behind front (in_turn item n (last_of front) bytes)) none ∙ ap (λ xs. Ok (xs, bytes)) (append-nil front) in
+      let one : following front (in_turn item (count - i) (last_of front) bytes) ≡ Ok (front, bytes) =
+      ap (λ n. following front (in_turn item n (last_of front) bytes)) none ∙ ap (λ xs. Ok (xs, bytes)) (append-nil front) in
       sym so_far ∙ one
 
   -- at the start nothing was read
-  pub begins : (count : ℕ) (bytes : List ℕ) → behind [] (in_turn item (count - 0) (last_of []) bytes) ≡ in_turn item count None bytes
+  pub begins : (count : ℕ) (bytes : List ℕ) → following [] (in_turn item (count - 0) (last_of []) bytes) ≡ in_turn item count None bytes
   begins count bytes =
       let all : count - 0 ≡ count = omega arith in
-      ap (λ n. behind [] (in_turn item n None bytes)) all ∙ same (in_turn item count None bytes)
+      ap (λ n. following [] (in_turn item n None bytes)) all ∙ same (in_turn item count None bytes)
     where
-      same : (read : Read (List A)) → behind [] read ≡ read
+      same : (read : Read (List A)) → following [] read ≡ read
       same (Ok x) = refl
       same (Err fault) = refl
 

@@ -166,9 +166,9 @@ fn pairs_at(
     let mut pairs = Vec::new(alloc);
     let mut rest = bytes;
     for _ in 0..count {
-        let (label, behind) = next_label(alloc, &pairs, rest)?;
+        let (label, following) = next_label(alloc, &pairs, rest)?;
         pairs.push(label)?;
-        rest = behind;
+        rest = following;
     }
     Ok((pairs, rest))
 }
@@ -270,12 +270,12 @@ fn rising_lines(
     let mut lines = Vec::with_capacity(alloc, room)?;
     let mut rest = bytes;
     for _ in 0..count {
-        let (line, behind) = match next_line(alloc, format, &lines, rest) {
+        let (line, following) = match next_line(alloc, format, &lines, rest) {
             Ok(line) => line,
             Err(error) => return Err(error),
         };
         lines.push(line)?;
-        rest = behind;
+        rest = following;
     }
     Ok((lines, rest))
 }

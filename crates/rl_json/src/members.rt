@@ -51,8 +51,8 @@ fn put_member<'m, 'v>(
 ) -> Result<(), AllocError>
     ensures { OnOk result (referred found.new.items ≡ put key.now (data_of (value_view value.now)) (referred found.old.items)) }
 {
-    let (place, behind) = place_of(found, key);
-    if place < behind {
+    let (place, following) = place_of(found, key);
+    if place < following {
         replace_at(found, place, (key, value));
     } else {
         found.insert(place, (key, value))?;

@@ -54,22 +54,22 @@ module _ (name : List ℕ) where
   put_below value (e ∷ es) h = ap (λ o. by_order o ((name, value) ∷ e ∷ es) ((e.0, value) ∷ es) (e ∷ put name_cmp name value es)) (is_less (name_cmp name e.0) (and_parts (is_lt (name_cmp name e.0)) (below_all name_cmp name es) h).0)
 
   -- the labels up to one that is below the name are passed over
-  pub find_behind : (es : List Pair) (i : ℕ) (pair : Pair) → is_sorted name_cmp es ≡ true → i < length es → pair ≡ get_or es i pair → name_cmp name pair.0 ≡ Greater → find name_cmp name es ≡ find name_cmp name (drop (suc i) es)
-  find_behind [] i pair sorted in' is above = absurd (omega arith)
-  find_behind (e ∷ es) zero pair sorted in' is above = ap (λ o. cond (is_eq o) (Some e.1) (find name_cmp name es)) (ap (λ p. name_cmp name p.0) (sym is) ∙ above)
-  find_behind (e ∷ es) (suc i) pair sorted in' is above =
+  pub find_after : (es : List Pair) (i : ℕ) (pair : Pair) → is_sorted name_cmp es ≡ true → i < length es → pair ≡ get_or es i pair → name_cmp name pair.0 ≡ Greater → find name_cmp name es ≡ find name_cmp name (drop (suc i) es)
+  find_after [] i pair sorted in' is above = absurd (omega arith)
+  find_after (e ∷ es) zero pair sorted in' is above = ap (λ o. cond (is_eq o) (Some e.1) (find name_cmp name es)) (ap (λ p. name_cmp name p.0) (sym is) ∙ above)
+  find_after (e ∷ es) (suc i) pair sorted in' is above =
       let parts = and_parts (below_all name_cmp e.0 es) (is_sorted name_cmp es) sorted in
       let first = less_turned e.0 name (name_cmp_total.trans e.0 pair.0 name (below_each e.0 es i pair parts.0 (omega arith) is) (greater_turned name pair.0 above)) in
-      ap (λ o. cond (is_eq o) (Some e.1) (find name_cmp name es)) first ∙ find_behind es i pair parts.1 (omega arith) is above
+      ap (λ o. cond (is_eq o) (Some e.1) (find name_cmp name es)) first ∙ find_after es i pair parts.1 (omega arith) is above
 
-  put_behind : (value : List ℕ) (es : List Pair) (i : ℕ) (pair : Pair) → is_sorted name_cmp es ≡ true → i < length es → pair ≡ get_or es i pair → name_cmp name pair.0 ≡ Greater → put name_cmp name value es ≡ take (suc i) es ++ put name_cmp name value (drop (suc i) es)
-  put_behind value [] i pair sorted in' is above = absurd (omega arith)
-  put_behind value (e ∷ es) zero pair sorted in' is above = ap (λ o. by_order o ((name, value) ∷ e ∷ es) ((e.0, value) ∷ es) (e ∷ put name_cmp name value es)) (ap (λ p. name_cmp name p.0) (sym is) ∙ above)
-  put_behind value (e ∷ es) (suc i) pair sorted in' is above =
+  put_after : (value : List ℕ) (es : List Pair) (i : ℕ) (pair : Pair) → is_sorted name_cmp es ≡ true → i < length es → pair ≡ get_or es i pair → name_cmp name pair.0 ≡ Greater → put name_cmp name value es ≡ take (suc i) es ++ put name_cmp name value (drop (suc i) es)
+  put_after value [] i pair sorted in' is above = absurd (omega arith)
+  put_after value (e ∷ es) zero pair sorted in' is above = ap (λ o. by_order o ((name, value) ∷ e ∷ es) ((e.0, value) ∷ es) (e ∷ put name_cmp name value es)) (ap (λ p. name_cmp name p.0) (sym is) ∙ above)
+  put_after value (e ∷ es) (suc i) pair sorted in' is above =
       let parts = and_parts (below_all name_cmp e.0 es) (is_sorted name_cmp es) sorted in
       let first = less_turned e.0 name (name_cmp_total.trans e.0 pair.0 name (below_each e.0 es i pair parts.0 (omega arith) is) (greater_turned name pair.0 above)) in
       ap (λ o. by_order o ((name, value) ∷ e ∷ es) ((e.0, value) ∷ es) (e ∷ put name_cmp name value es)) first
-      ∙ ap (λ t. e ∷ t) (put_behind value es i pair parts.1 (omega arith) is above)
+      ∙ ap (λ t. e ∷ t) (put_after value es i pair parts.1 (omega arith) is above)
 
   -- a label with the name is found
   pub find_there : (es : List Pair) (i : ℕ) (pair : Pair) → i < length es → pair ≡ get_or es i pair → name_cmp name pair.0 ≡ Equal → is_some (find name_cmp name es) ≡ true
@@ -86,11 +86,11 @@ module _ (name : List ℕ) where
 
   -- after a label that is below the name, and before those above it, no label has the name
   pub absent_at : (es : List Pair) (i : ℕ) (pair : Pair) → is_sorted name_cmp es ≡ true → i < length es → pair ≡ get_or es i pair → name_cmp name pair.0 ≡ Greater → below_all name_cmp name (drop (suc i) es) ≡ true → find name_cmp name es ≡ None
-  absent_at es i pair sorted in' is above below = find_behind es i pair sorted in' is above ∙ find_below (drop (suc i) es) below
+  absent_at es i pair sorted in' is above below = find_after es i pair sorted in' is above ∙ find_below (drop (suc i) es) below
 
   -- and one would stand there
   pub placed_at : (value : List ℕ) (es : List Pair) (i : ℕ) (pair : Pair) → is_sorted name_cmp es ≡ true → i < length es → pair ≡ get_or es i pair → name_cmp name pair.0 ≡ Greater → below_all name_cmp name (drop (suc i) es) ≡ true → put name_cmp name value es ≡ insert es (suc i) (name, value)
-  placed_at value es i pair sorted in' is above below = put_behind value es i pair sorted in' is above ∙ ap (λ t. take (suc i) es ++ t) (put_below value (drop (suc i) es) below)
+  placed_at value es i pair sorted in' is above below = put_after value es i pair sorted in' is above ∙ ap (λ t. take (suc i) es ++ t) (put_below value (drop (suc i) es) below)
 
 module _ (name value : List ℕ) (es : List Pair) (this : is_label (name, value) ≡ true) (h : are_labels es ≡ true) where
   is_named : is_name name ≡ true

@@ -20,13 +20,13 @@ all_left text = record { read = whole (parts_of 8 text); fit = refl }
     whole None = refl
 
 -- the last part
-pub last_there : (text : List ℕ) (parts : List DurationPart) (left : ℕ) (rest behind : List ℕ) (part : DurationPart) → Some (part, behind) ≡ part_at rest → (length behind == 0) ≡ true → 0 < left → Left text parts left rest → duration_of text ≡ Some (parts ++ part ∷ [])
-last_there text parts zero rest behind part is last some so_far = absurd (omega (arith, some))
+pub last_there : (text : List ℕ) (parts : List DurationPart) (left : ℕ) (rest following : List ℕ) (part : DurationPart) → Some (part, following) ≡ part_at rest → (length following == 0) ≡ true → 0 < left → Left text parts left rest → duration_of text ≡ Some (parts ++ part ∷ [])
+last_there text parts zero rest following part is last some so_far = absurd (omega (arith, some))
 last_there text parts (suc left) rest [] part is last some so_far = sym so_far.read ∙ ap (λ first. option_map (λ others. parts ++ others) (option_and_then (part_then (parts_of left)) first)) (sym is)
 last_there text parts (suc left) rest (byte ∷ bytes) part is last some so_far = let none : length (byte ∷ bytes) ≡ 0 = eqb-true _ 0 last in absurd (omega (arith, none))
 
 -- a part, and more after it
-pub part_there : (text : List ℕ) (parts : List DurationPart) (left : ℕ) (rest behind : List ℕ) (part : DurationPart) → Some (part, behind) ≡ part_at rest → (length behind == 0) ≡ false → Left text parts (suc left) rest → Left text (parts ++ part ∷ []) left behind
+pub part_there : (text : List ℕ) (parts : List DurationPart) (left : ℕ) (rest following : List ℕ) (part : DurationPart) → Some (part, following) ≡ part_at rest → (length following == 0) ≡ false → Left text parts (suc left) rest → Left text (parts ++ part ∷ []) left following
 part_there text parts left rest [] part is more so_far = absurd (eqb-false 0 0 more refl)
 part_there text parts left rest (byte ∷ bytes) part is more so_far = record {
   read = regroup (parts_of left (byte ∷ bytes)) ∙ ap (λ first. option_map (λ others. parts ++ others) (option_and_then (part_then (parts_of left)) first)) is ∙ so_far.read;

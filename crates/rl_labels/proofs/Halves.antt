@@ -31,10 +31,10 @@ sorted_front (suc n) (e ∷ es) h =
     and_from (below_all name_cmp e.0 (take n es)) _ (below_front e.0 n es parts.0) (sorted_front n es parts.1)
 
 -- and so are the rest
-pub sorted_behind : (n : ℕ) (es : List Pair) → is_sorted name_cmp es ≡ true → is_sorted name_cmp (drop n es) ≡ true
-sorted_behind zero es h = h
-sorted_behind (suc n) [] h = refl
-sorted_behind (suc n) (e ∷ es) h = sorted_behind n es (and_parts (below_all name_cmp e.0 es) (is_sorted name_cmp es) h).1
+pub sorted_after : (n : ℕ) (es : List Pair) → is_sorted name_cmp es ≡ true → is_sorted name_cmp (drop n es) ≡ true
+sorted_after zero es h = h
+sorted_after (suc n) [] h = refl
+sorted_after (suc n) (e ∷ es) h = sorted_after n es (and_parts (below_all name_cmp e.0 es) (is_sorted name_cmp es) h).1
 
 -- labels from one on that is above the name are none of it
 pub find_before : (name : List ℕ) (es : List Pair) (i : ℕ) (pair : Pair) → is_sorted name_cmp es ≡ true → i < length es → pair ≡ get_or es i pair → name_cmp name pair.0 ≡ Less → find name_cmp name es ≡ find name_cmp name (take i es)
@@ -60,6 +60,6 @@ find_at name (e ∷ es) (suc i) pair sorted in' is tied =
 pub put_in_front : (es : List Pair) (i : ℕ) (pair : Pair) → is_sorted name_cmp es ≡ true → i < length es → pair ≡ get_or es i pair → put name_cmp pair.0 pair.1 (drop (suc i) es) ≡ drop i es
 put_in_front es i pair sorted in' is =
     let split : drop i es ≡ pair ∷ drop (suc i) es = drop-cons es i pair in' ∙ ap (λ p. p ∷ drop (suc i) es) (sym is) in
-    let left : is_sorted name_cmp (pair ∷ drop (suc i) es) ≡ true = subst (λ t. is_sorted name_cmp t ≡ true) split (sorted_behind i es sorted) in
+    let left : is_sorted name_cmp (pair ∷ drop (suc i) es) ≡ true = subst (λ t. is_sorted name_cmp t ≡ true) split (sorted_after i es sorted) in
     put_below pair.0 pair.1 (drop (suc i) es) (and_parts (below_all name_cmp pair.0 (drop (suc i) es)) (is_sorted name_cmp (drop (suc i) es)) left).0
     ∙ sym split

@@ -34,8 +34,8 @@ front-below digits i most are few =
     omega (arith, all, front)
 
 -- a number below the power of its digits, with zeros after it up to nine digits
-pub zeros_behind-below : (n k : ℕ) → k ≤ 9 → n < 10 ^ k → n * 10 ^ (9 - k) < 1000000000
-zeros_behind-below n k few below =
+pub zeros_after-below : (n k : ℕ) → k ≤ 9 → n < 10 ^ k → n * 10 ^ (9 - k) < 1000000000
+zeros_after-below n k few below =
     let sum : k + (9 - k) ≡ 9 = omega (arith, few) in
     let whole : 10 ^ k * 10 ^ (9 - k) ≡ 1000000000 = sym (pow-add 10 k (9 - k)) ∙ ap (λ n. 10 ^ n) sum in
     subst (λ m. n * 10 ^ (9 - k) < m) whole (mul-lt-mul_of_pos_right below (one-le-pow (9 - k) 10 (omega arith)))

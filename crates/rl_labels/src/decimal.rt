@@ -120,10 +120,10 @@ impl Decimal {
                     digits: 0,
                 })
             }
-            Some((whole, behind)) => {
+            Some((whole, following)) => {
                 let whole = number_of(whole, most)?;
-                let fraction = number_of(behind, 9)?;
-                let digits = behind.len() as u32;
+                let fraction = number_of(following, 9)?;
+                let digits = following.len() as u32;
                 Some(Decimal {
                     whole,
                     fraction,

@@ -253,11 +253,11 @@ fn with(
 ) -> Result<Vec<(PlainText, PlainText)>, AllocError>
     ensures { IfOk result (λ all. all.items ≡ put name_cmp name.now value.now labels.now) }
 {
-    let (before, behind) = around(labels, name);
+    let (before, following) = around(labels, name);
     let mut all = Vec::with_capacity(alloc, labels.len().saturating_add(1))?;
     push_copies(&mut all, before)?;
     push_new(&mut all, alloc, name, value)?;
-    push_copies(&mut all, behind)?;
+    push_copies(&mut all, following)?;
     Ok(all)
 }
 

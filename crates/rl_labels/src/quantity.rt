@@ -171,7 +171,7 @@ pub struct Size {
 // The longest front of bytes of a number or else of a unit, and the rest.
 fn front_of(text: &[u8], of_number: bool) -> (&[u8], &[u8])
     ensures front { result.0.now ≡ take (prefix_len (is_byte_of of_number) text.now) text.now }
-    ensures behind { result.1.now ≡ drop (prefix_len (is_byte_of of_number) text.now) text.now }
+    ensures following { result.1.now ≡ drop (prefix_len (is_byte_of of_number) text.now) text.now }
 {
     text.split_at(front_len(text, of_number))
 }
@@ -200,10 +200,10 @@ fn part_at(text: &[u8]) -> Option<(DurationPart, &[u8])>
     ensures { option_map (λ part. (part.0, part.1.now)) result ≡ part_at text.now }
 {
     let (number, rest) = front_of(text, true);
-    let (unit, behind) = front_of(rest, false);
+    let (unit, following) = front_of(rest, false);
     let number = Decimal::of_digits(number, 15)?;
     let unit = duration_unit(unit)?;
-    Some((DurationPart { number, unit }, behind))
+    Some((DurationPart { number, unit }, following))
 }
 
 impl DurationPart {
@@ -370,14 +370,14 @@ fn read_parts(text: &[u8], parts: &mut ArrayVec<DurationPart, 8>) -> bool
 {
     let mut rest = text;
     for _turn in 0..MOST_PARTS {
-        let Some((part, behind)) = part_at(rest) else {
+        let Some((part, following)) = part_at(rest) else {
             return false;
         };
         parts.push(part);
-        if behind.is_empty() {
+        if following.is_empty() {
             return true;
         }
-        rest = behind;
+        rest = following;
     }
     false
 }

@@ -67,7 +67,7 @@ nothing_told set xs first last from to run range out = none_told from to xs (rec
   where
     at : (entry : Entry) → entry.timestamp ≤ timestamp_at xs (length xs - 1) → timestamp_at xs 0 ≤ entry.timestamp → (last < from) ⊎ (to < first) → is_in_range from to entry ≡ false
     at entry low high (inl before) = grind (arith, nat_tests, range.start, range.end)
-    at entry low high (inr behind) = grind (arith, nat_tests, range.start, range.end)
+    at entry low high (inr following) = grind (arith, nat_tests, range.start, range.end)
 
 -- parts, and then the head
 pub both_told : {T : Type 0} (taking : T → LabelSet × Line → T) (set : LabelSet) (from to : ℕ) (parts : List PartView) (head : List Entry) (start mid now : T) → All (λ entry. entry.labels ≡ set) head
@@ -81,7 +81,7 @@ handed_then : {T : Type 0} (taking : T → LabelSet × Line → T) (set : LabelS
 handed_then taking set from to xs ys a b c p q = record {
   pieces = p.pieces ++ q.pieces;
   each = AllZip-append (IsPiece set from to) xs p.pieces ys q.pieces p.each q.each;
-  behind = q.behind ∙ ap (λ t. fold taking t (flat_map (λ piece. piece) q.pieces)) p.behind ∙ sym (fold-append taking a (flat_map (λ piece. piece) p.pieces) (flat_map (λ piece. piece) q.pieces)) ∙ ap (fold taking a) (sym (flat_map-append (λ piece. piece) p.pieces q.pieces));
+  following = q.following ∙ ap (λ t. fold taking t (flat_map (λ piece. piece) q.pieces)) p.following ∙ sym (fold-append taking a (flat_map (λ piece. piece) p.pieces) (flat_map (λ piece. piece) q.pieces)) ∙ ap (fold taking a) (sym (flat_map-append (λ piece. piece) p.pieces q.pieces));
 }
 
 -- the piece of one part more
@@ -93,4 +93,4 @@ piece_more taking set from to parts i p start taken now within is so_far one =
 
 -- one piece
 pub one_piece : {T : Type 0} (taking : T → LabelSet × Line → T) (set : LabelSet) (from to : ℕ) (p : PartView) (piece : List (LabelSet × Line)) (old new : T) → IsPiece set from to p piece → new ≡ fold taking old piece → IsHandedOut taking set from to (p ∷ []) old new
-one_piece taking set from to p piece old new is behind = record { pieces = piece ∷ []; each = (is, tt); behind = behind ∙ ap (fold taking old) (sym (append-nil piece)) }
+one_piece taking set from to p piece old new is following = record { pieces = piece ∷ []; each = (is, tt); following = following ∙ ap (fold taking old) (sym (append-nil piece)) }

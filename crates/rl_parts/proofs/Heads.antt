@@ -17,9 +17,9 @@ use Rattle.rl_parts.proofs.InOrder.{insert_in_order, nothing_in_order}
 use Rattle.rl_parts.proofs.Times.{up_to_last}
 
 -- a list by recursion with one more
-pub one_behind : {A : Type 0} (P : A → Type 0) (xs : List A) (x : A) → AllByRecursion P xs → P x → AllByRecursion P (xs ++ x ∷ [])
-one_behind P [] x h p = (p, tt)
-one_behind P (y ∷ ys) x h p = (h.0, one_behind P ys x h.1 p)
+pub one_after : {A : Type 0} (P : A → Type 0) (xs : List A) (x : A) → AllByRecursion P xs → P x → AllByRecursion P (xs ++ x ∷ [])
+one_after P [] x h p = (p, tt)
+one_after P (y ∷ ys) x h p = (h.0, one_after P ys x h.1 p)
 
 -- a run with an entry put in
 pub run_put : (set : LabelSet) (old : List Entry) (entry : Entry) (new : List Entry) → IsRun set old → entry.labels ≡ set → IsPut old entry new → IsRun set new
@@ -51,10 +51,10 @@ entries_sealed parts head = append-nil _ ∙ flat_map-append (λ (part : PartVie
 
 -- one part is sealed, or none
 pub one_sealed : (parts : List PartView) (head : List Entry) → AreSealed parts (parts ++ unwritten head ∷ [])
-one_sealed parts head = record { fresh = unwritten head ∷ []; behind = refl; unwritten = refl }
+one_sealed parts head = record { fresh = unwritten head ∷ []; following = refl; unwritten = refl }
 
 pub none_sealed : (parts : List PartView) → AreSealed parts parts
-none_sealed parts = record { fresh = []; behind = sym (append-nil parts); unwritten = refl }
+none_sealed parts = record { fresh = []; following = sym (append-nil parts); unwritten = refl }
 
 -- no sealed entry is newer than a later timestamp either
 up_to_later : (old new : Option ℕ) (parts : List PartView) → unwrap_or old 0 ≤ unwrap_or new 0 → AreSealedUpTo old parts → AreSealedUpTo new parts
@@ -67,8 +67,8 @@ pub in_order_sealed : (set : LabelSet) (parts : List PartView) (head : List Entr
 in_order_sealed set parts head newest old new are up_to run some few is =
     let ends : All (λ e. e.timestamp ≤ unwrap_or new 0) head = All-weaker (λ e. e.timestamp ≤ timestamp_at head (length head - 1)) (λ e. e.timestamp ≤ unwrap_or new 0) (λ e k. omega arith) head (up_to_last set head run) in
     record {
-      parts = record { sealed = one_behind (IsPart set) parts (unwritten head) are (record { run = run; some = some; few = few }); growing = run_none set; few = lit< tt };
-      up_to = one_behind (λ part. All (λ e. e.timestamp ≤ unwrap_or new 0) part.entries) parts (unwritten head) (up_to_later old new parts (omega arith) up_to) ends;
+      parts = record { sealed = one_after (IsPart set) parts (unwritten head) are (record { run = run; some = some; few = few }); growing = run_none set; few = lit< tt };
+      up_to = one_after (λ part. All (λ e. e.timestamp ≤ unwrap_or new 0) part.entries) parts (unwritten head) (up_to_later old new parts (omega arith) up_to) ends;
     }
 
 -- and so is one of a single entry

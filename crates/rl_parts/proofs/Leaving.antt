@@ -72,9 +72,9 @@ pub all_front : {A : Type 0} (P : A → Type 0) (xs ys : List A) → AllByRecurs
 all_front P [] ys h = tt
 all_front P (x ∷ xs) ys h = (h.0, all_front P xs ys h.1)
 
-pub all_behind : {A : Type 0} (P : A → Type 0) (xs ys : List A) → AllByRecursion P (xs ++ ys) → AllByRecursion P ys
-all_behind P [] ys h = h
-all_behind P (x ∷ xs) ys h = all_behind P xs ys h.1
+pub all_after : {A : Type 0} (P : A → Type 0) (xs ys : List A) → AllByRecursion P (xs ++ ys) → AllByRecursion P ys
+all_after P [] ys h = h
+all_after P (x ∷ xs) ys h = all_after P xs ys h.1
 
 -- what is left of a run is one
 pub run_left : (covers : Entry → Bool) (set : LabelSet) (entries : List Entry) → IsRun set entries → IsRun set (uncovered covers entries)
@@ -177,7 +177,7 @@ left_then covers set xs ys us vs p q = record {
 pub rewritten_then : (covers : Entry → Bool) (set : LabelSet) (xs : List PartView) (first : ℕ) (start : Seen) (us : List PartView) (gone : List ℕ) (mid : ℕ) (seen : Seen) (ys vs : List PartView) (away : List ℕ) (next : ℕ) (after : Seen)
     → AreRewritten covers set xs first start us gone mid seen → Grown start first seen → AreRewritten covers set ys mid seen vs away next after → Grown seen mid after → AreRewritten covers set (xs ++ ys) first start (us ++ vs) (gone ++ away) next after
 rewritten_then covers set xs first start us gone mid seen ys vs away next after p grown q more =
-    let later = λ (h : AllByRecursion (IsKept start first set) (xs ++ ys)). each_part (IsKept start first set) (IsKept seen mid set) (IsKept-grown start seen first mid set grown p.numbers.up) ys (all_behind (IsKept start first set) xs ys h) in
+    let later = λ (h : AllByRecursion (IsKept start first set) (xs ++ ys)). each_part (IsKept start first set) (IsKept seen mid set) (IsKept-grown start seen first mid set grown p.numbers.up) ys (all_after (IsKept start first set) xs ys h) in
     record {
       numbers = subst (λ ns. AreRenumbered ns first next (note_numbers (us ++ vs)) (gone ++ away)) (sym (numbers-append xs ys))
           (subst (λ ns. AreRenumbered (note_numbers xs ++ note_numbers ys) first next ns (gone ++ away)) (sym (numbers-append us vs))
@@ -185,7 +185,7 @@ rewritten_then covers set xs first start us gone mid seen ys vs away next after 
       left = left_then covers set xs ys us vs p.left q.left;
       sealed = all_both (IsPart set) us vs p.sealed q.sealed;
       fewer = omega (arith, p.fewer, q.fewer, ap length (entries_in-append us vs), ap length (entries_in-append xs ys), length-append (entries_in us) (entries_in vs), length-append (entries_in xs) (entries_in ys));
-      up_to = λ top h. all_both (λ part. All (λ entry. entry.timestamp ≤ unwrap_or top 0) part.entries) us vs (p.up_to top (all_front (λ part. All (λ entry. entry.timestamp ≤ unwrap_or top 0) part.entries) xs ys h)) (q.up_to top (all_behind (λ part. All (λ entry. entry.timestamp ≤ unwrap_or top 0) part.entries) xs ys h));
+      up_to = λ top h. all_both (λ part. All (λ entry. entry.timestamp ≤ unwrap_or top 0) part.entries) us vs (p.up_to top (all_front (λ part. All (λ entry. entry.timestamp ≤ unwrap_or top 0) part.entries) xs ys h)) (q.up_to top (all_after (λ part. All (λ entry. entry.timestamp ≤ unwrap_or top 0) part.entries) xs ys h));
       kept = λ h. all_both (IsKept after next set) us vs
           (each_part (IsKept seen mid set) (IsKept after next set) (IsKept-grown seen after mid next set more q.numbers.up) us (p.kept (all_front (IsKept start first set) xs ys h)))
           (q.kept (later h));
@@ -209,10 +209,10 @@ pub planned_more : (covers : Entry → Bool) (set : LabelSet) (parts : List Part
     → AreRewritten covers set (take (i + 1) parts) first start (carried (take (i + 1) parts) now) away next after
 planned_more covers set parts i p first start changes gone mid seen next after now away within is many so_far grown one more =
     let front : take (i + 1) parts ≡ take i parts ++ p ∷ [] = take_more parts i p within ∙ ap (λ x. take i parts ++ x ∷ []) (sym is) in
-    let all : carried (take i parts ++ p ∷ []) now ≡ carried (take i parts) changes ++ left_by p one.change = ap (carried (take i parts ++ p ∷ [])) one.behind ∙ carried_more (take i parts) changes p one.change (omega (arith, length-take i parts, many, within)) in
+    let all : carried (take i parts ++ p ∷ []) now ≡ carried (take i parts) changes ++ left_by p one.change = ap (carried (take i parts ++ p ∷ [])) one.following ∙ carried_more (take i parts) changes p one.change (omega (arith, length-take i parts, many, within)) in
     subst (λ (ps : List PartView). AreRewritten covers set ps first start (carried ps now) away next after) (sym front)
     (subst (λ (us : List PartView). AreRewritten covers set (take i parts ++ p ∷ []) first start us away next after) (sym all)
-    (subst (λ ns. AreRewritten covers set (take i parts ++ p ∷ []) first start (carried (take i parts) changes ++ left_by p one.change) ns next after) (sym one.gone_behind)
+    (subst (λ ns. AreRewritten covers set (take i parts ++ p ∷ []) first start (carried (take i parts) changes ++ left_by p one.change) ns next after) (sym one.gone_after)
     (rewritten_then covers set (take i parts) first start (carried (take i parts) changes) gone mid seen (p ∷ []) (left_by p one.change) (gone_by p one.change) next after so_far grown one.rewritten more)))
 
 -- the entries of a part and of those before it are no more than all

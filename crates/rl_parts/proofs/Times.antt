@@ -80,8 +80,8 @@ reaches (x ∷ xs) first last from to range some low high (inl before) =
     let end = timestamp_is es (length es - 1) x (omega arith) in
     let lt : (get_or es (length es - 1) x).timestamp < from = before (length es - 1) x (omega arith) in
     omega (arith, range.end)
-reaches (x ∷ xs) first last from to range some low high (inr behind) =
-    let lt : to < x.timestamp = behind 0 x (omega arith) in
+reaches (x ∷ xs) first last from to range some low high (inr following) =
+    let lt : to < x.timestamp = following 0 x (omega arith) in
     omega (arith, range.start)
 
 -- entries whose range of time is outside are apart from it

@@ -14,7 +14,7 @@ pub record IsInserted (old : List Entry) (entry : Entry) (new : List Entry) : Ty
 -- parts that no store has may have come after the old ones
 pub record AreSealed (old new : List PartView) : Type 0 where
   pub fresh : List PartView
-  pub behind : new ≡ old ++ fresh
+  pub following : new ≡ old ++ fresh
   pub unwritten : notes_of fresh ≡ []
 
 -- the parts of a stream whose head, if it has an entry, becomes one
@@ -39,15 +39,15 @@ own_or_next None [] = None
 own_or_next None (note ∷ notes) = Some note
 
 -- the notes that are left for the parts after it
-abbrev pub behind_next : Option Note → List Note → List Note
-behind_next (Some own) notes = notes
-behind_next None [] = []
-behind_next None (note ∷ notes) = notes
+abbrev pub after_next : Option Note → List Note → List Note
+after_next (Some own) notes = notes
+after_next None [] = []
+after_next None (note ∷ notes) = notes
 
 -- the parts that have no note get these in turn
 abbrev pub with_notes : List PartView → List Note → List PartView
 with_notes [] notes = []
-with_notes (part ∷ parts) notes = record { entries = part.entries; note = own_or_next part.note notes } ∷ with_notes parts (behind_next part.note notes)
+with_notes (part ∷ parts) notes = record { entries = part.entries; note = own_or_next part.note notes } ∷ with_notes parts (after_next part.note notes)
 
 -- parts without a note were given one, in turn and without a gap, with the numbers from the first up to the next
 pub record AreNoted (old : List PartView) (first : ℕ) (new : List PartView) (next : ℕ) : Type 0 where

@@ -71,4 +71,4 @@ IsPiece labels from to part piece = MatchOption part.note (piece ≡ told_in_ran
 pub record IsHandedOut {T : Type 0} (taking : T → LabelSet × Line → T) (labels : LabelSet) (from to : ℕ) (parts : List PartView) (old new : T) : Type 0 where
   pub pieces : List (List (LabelSet × Line))
   pub each : AllZip (IsPiece labels from to) parts pieces
-  pub behind : new ≡ fold taking old (flat_map (λ piece. piece) pieces)
+  pub following : new ≡ fold taking old (flat_map (λ piece. piece) pieces)

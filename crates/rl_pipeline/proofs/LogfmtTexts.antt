@@ -31,10 +31,10 @@ unescaped_run (b ∷ bytes) =
     ] refl
 
 -- what no backslash stands in is itself
-pub all_plain : (content behind : List ℕ) → behind ≡ drop (prefix_len is_plain content) content → (length behind == 0) ≡ true → Some content ≡ unescaped 0 content
-all_plain content behind behind_is ends =
+pub all_plain : (content following : List ℕ) → following ≡ drop (prefix_len is_plain content) content → (length following == 0) ≡ true → Some content ≡ unescaped 0 content
+all_plain content following behind_is ends =
     let n = prefix_len is_plain content in
-    let nothing : drop n content ≡ [] = sym behind_is ∙ none_left behind ends in
+    let nothing : drop n content ≡ [] = sym behind_is ∙ none_left following ends in
     sym (
     unescaped_run content ∙ ap (λ t. onto (take n content) (unescaped 0 t)) nothing
     ∙ ap (λ t. Some (take n content ++ t)) (sym nothing) ∙ ap Some (take-append-drop n content))
@@ -60,36 +60,36 @@ plain_is : (b : ℕ) → is_plain b ≡ false → b ≡ 92
 plain_is b h = grind (arith, nat_tests)
 
 -- One turn of the loop: what was read so far, the run at the front of what is left, and what begins after the run.
-pub record Turn (whole : Option (List ℕ)) (so_far rest pushed front behind : List ℕ) : Type 0 where
+pub record Turn (whole : Option (List ℕ)) (so_far rest pushed front following : List ℕ) : Type 0 where
   pub read : onto so_far (unescaped 0 rest) ≡ whole
   pub front_is : front ≡ take (prefix_len is_plain rest) rest
-  pub behind_is : behind ≡ drop (prefix_len is_plain rest) rest
+  pub behind_is : following ≡ drop (prefix_len is_plain rest) rest
   pub pushed_is : pushed ≡ so_far ++ front
 
-pub turn_of : {whole : Option (List ℕ)} {so_far pushed front behind : List ℕ} (rest : List ℕ) → onto so_far (unescaped 0 rest) ≡ whole → front ≡ take (prefix_len is_plain rest) rest → behind ≡ drop (prefix_len is_plain rest) rest → pushed ≡ so_far ++ front → Turn whole so_far rest pushed front behind
+pub turn_of : {whole : Option (List ℕ)} {so_far pushed front following : List ℕ} (rest : List ℕ) → onto so_far (unescaped 0 rest) ≡ whole → front ≡ take (prefix_len is_plain rest) rest → following ≡ drop (prefix_len is_plain rest) rest → pushed ≡ so_far ++ front → Turn whole so_far rest pushed front following
 turn_of rest read front_is behind_is pushed_is = record { read = read; front_is = front_is; behind_is = behind_is; pushed_is = pushed_is }
 
 -- what is pushed stands before what is read after the run
-turn_behind : {whole : Option (List ℕ)} {so_far rest pushed front behind : List ℕ} → Turn whole so_far rest pushed front behind → onto pushed (unescaped 0 behind) ≡ whole
-turn_behind {so_far = so_far} {rest = rest} turn =
+turn_after : {whole : Option (List ℕ)} {so_far rest pushed front following : List ℕ} → Turn whole so_far rest pushed front following → onto pushed (unescaped 0 following) ≡ whole
+turn_after {so_far = so_far} {rest = rest} turn =
     (λ i. onto ((turn.pushed_is ∙ ap (λ t. so_far ++ t) turn.front_is) i) (unescaped 0 (turn.behind_is i)))
     ∙ sym (onto-onto so_far (take (prefix_len is_plain rest) rest) _)
     ∙ sym (ap (onto so_far) (unescaped_run rest))
     ∙ turn.read
 
-pub turn_end : {whole : Option (List ℕ)} {so_far rest pushed front behind : List ℕ} → Turn whole so_far rest pushed front behind → (length behind == 0) ≡ true → Some pushed ≡ whole
-turn_end {pushed = pushed} {behind = behind} turn ends =
-    sym (ap Some (append-nil pushed)) ∙ sym (ap (λ t. onto pushed (unescaped 0 t)) (none_left behind ends)) ∙ turn_behind turn
+pub turn_end : {whole : Option (List ℕ)} {so_far rest pushed front following : List ℕ} → Turn whole so_far rest pushed front following → (length following == 0) ≡ true → Some pushed ≡ whole
+turn_end {pushed = pushed} {following = following} turn ends =
+    sym (ap Some (append-nil pushed)) ∙ sym (ap (λ t. onto pushed (unescaped 0 t)) (none_left following ends)) ∙ turn_after turn
 
-turn_stop : {whole : Option (List ℕ)} {so_far rest pushed front behind : List ℕ} → Turn whole so_far rest pushed front behind → (length behind == 0) ≡ false → is_plain (get_or behind 0 0) ≡ false
-turn_stop {rest = rest} {behind = behind} turn more = stops is_plain rest _ _ (sym turn.behind_is ∙ first_of behind more)
+turn_stop : {whole : Option (List ℕ)} {so_far rest pushed front following : List ℕ} → Turn whole so_far rest pushed front following → (length following == 0) ≡ false → is_plain (get_or following 0 0) ≡ false
+turn_stop {rest = rest} {following = following} turn more = stops is_plain rest _ _ (sym turn.behind_is ∙ first_of following more)
 
-pub turn_ascii : {whole : Option (List ℕ)} {so_far rest pushed front behind : List ℕ} → Turn whole so_far rest pushed front behind → (length behind == 0) ≡ false → get_or behind 0 0 < 128
+pub turn_ascii : {whole : Option (List ℕ)} {so_far rest pushed front following : List ℕ} → Turn whole so_far rest pushed front following → (length following == 0) ≡ false → get_or following 0 0 < 128
 turn_ascii turn more = plain_stop _ (turn_stop turn more)
 
-pub turn_escape : {whole : Option (List ℕ)} {so_far rest pushed front behind : List ℕ} → Turn whole so_far rest pushed front behind → (length behind == 0) ≡ false → (after : List ℕ) → after ≡ drop 1 behind → onto pushed (escape_read after) ≡ whole
-turn_escape {pushed = pushed} {behind = behind} turn more after after_is =
+pub turn_escape : {whole : Option (List ℕ)} {so_far rest pushed front following : List ℕ} → Turn whole so_far rest pushed front following → (length following == 0) ≡ false → (after : List ℕ) → after ≡ drop 1 following → onto pushed (escape_read after) ≡ whole
+turn_escape {pushed = pushed} {following = following} turn more after after_is =
     ap (λ t. onto pushed (escape_read t)) after_is
-    ∙ ap (onto pushed) (sym (unescaped_escape (drop 1 behind)))
-    ∙ ap (λ t. onto pushed (unescaped 0 t)) (sym (first_of behind more ∙ ap (λ b. b ∷ drop 1 behind) (plain_is _ (turn_stop turn more))))
-    ∙ turn_behind turn
+    ∙ ap (onto pushed) (sym (unescaped_escape (drop 1 following)))
+    ∙ ap (λ t. onto pushed (unescaped 0 t)) (sym (first_of following more ∙ ap (λ b. b ∷ drop 1 following) (plain_is _ (turn_stop turn more))))
+    ∙ turn_after turn

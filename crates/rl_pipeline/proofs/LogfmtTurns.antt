@@ -22,17 +22,17 @@ ended stream labels whole total turns rest start inside is none so_far =
     sym (ap (with_pairs stream labels) (left total turns rest start inside is ∙ cond-true (is_empty start) _ _ none)) ∙ so_far
 
 -- what stands at the front is a pair, or none
-pub turned : (stream labels next whole : LabelSet) (total turns : ℕ) (rest start behind : List ℕ) (pair : Option Pair) → turns < total → start ≡ (run_at is_blank rest).1 → is_empty start ≡ false
-    → ◌≡◌ {A = Option Pair × List ℕ} (pair, behind) (pair_at start) → next ≡ option_map_or (with_pair stream labels) pair labels
-    → with_pairs stream labels (pairs_in (total - turns) rest) ≡ whole → with_pairs stream next (pairs_in (total - (turns + 1)) behind) ≡ whole
-turned stream labels next whole total turns rest start behind pair inside is some read next_is so_far =
+pub turned : (stream labels next whole : LabelSet) (total turns : ℕ) (rest start following : List ℕ) (pair : Option Pair) → turns < total → start ≡ (run_at is_blank rest).1 → is_empty start ≡ false
+    → ◌≡◌ {A = Option Pair × List ℕ} (pair, following) (pair_at start) → next ≡ option_map_or (with_pair stream labels) pair labels
+    → with_pairs stream labels (pairs_in (total - turns) rest) ≡ whole → with_pairs stream next (pairs_in (total - (turns + 1)) following) ≡ whole
+turned stream labels next whole total turns rest start following pair inside is some read next_is so_far =
     let most = total - (turns + 1) in
-    ap (λ l. with_pairs stream l (pairs_in most behind)) next_is
+    ap (λ l. with_pairs stream l (pairs_in most following)) next_is
     ∙ by_pair pair most
     ∙ ap (λ (x : Option Pair × List ℕ). with_pairs stream labels (option_map_or (λ p. p ∷ pairs_in most x.1) x.0 (pairs_in most x.1))) read
     ∙ sym (ap (with_pairs stream labels) (left total turns rest start inside is ∙ cond-false (is_empty start) _ _ some))
     ∙ so_far
   where
-    by_pair : (o : Option Pair) (most : ℕ) → with_pairs stream (option_map_or (with_pair stream labels) o labels) (pairs_in most behind) ≡ with_pairs stream labels (option_map_or (λ p. p ∷ pairs_in most behind) o (pairs_in most behind))
+    by_pair : (o : Option Pair) (most : ℕ) → with_pairs stream (option_map_or (with_pair stream labels) o labels) (pairs_in most following) ≡ with_pairs stream labels (option_map_or (λ p. p ∷ pairs_in most following) o (pairs_in most following))
     by_pair None most = refl
     by_pair (Some p) most = refl

@@ -32,8 +32,8 @@ is_in_run runs.Pair = is_of_pair
 is_in_run runs.Plain = is_plain
 
 -- what follows the rest of a pair
-abbrev pub behind_pair : List ℕ → List ℕ
-behind_pair bytes = (run_at is_of_pair bytes).1
+abbrev pub after_pair : List ℕ → List ℕ
+after_pair bytes = (run_at is_of_pair bytes).1
 
 -- what stands between quotes, up to the first quote with no backslash before it, and what follows that quote
 abbrev pub closed_at : (escaped : Bool) → List ℕ → Option (List ℕ × List ℕ)
@@ -97,7 +97,7 @@ goes_on (byte ∷ bytes) = is_of_pair byte
 -- a value in quotes, after the first of them; where none closes it the rest of the line is no pair
 abbrev pub quoted_pair : (key : List ℕ) → Option (List ℕ × List ℕ) → Option Pair × List ℕ
 quoted_pair key None = (None, [])
-quoted_pair key (Some found) = (if goes_on found.1 then None else option_map (λ value. (key, value)) (unescaped 0 found.0), behind_pair found.1)
+quoted_pair key (Some found) = (if goes_on found.1 then None else option_map (λ value. (key, value)) (unescaped 0 found.0), after_pair found.1)
 
 -- a value without quotes has no sign of a pair in it
 abbrev pub plain_pair : (key : List ℕ) → List ℕ × List ℕ → Option Pair × List ℕ
@@ -109,13 +109,13 @@ value_at key [] = plain_pair key ([], [])
 value_at key (byte ∷ bytes) = if byte == 34 then quoted_pair key (closed_at false bytes) else plain_pair key (run_at is_of_pair (byte ∷ bytes))
 
 -- after a key: `=` and a value, or no pair
-unfoldable pub behind_key : (key : List ℕ) → List ℕ → Option Pair × List ℕ
-behind_key key [] = (None, [])
-behind_key key (byte ∷ bytes) = if byte == 61 && not (is_empty key) then value_at key bytes else (None, behind_pair (byte ∷ bytes))
+unfoldable pub after_key : (key : List ℕ) → List ℕ → Option Pair × List ℕ
+after_key key [] = (None, [])
+after_key key (byte ∷ bytes) = if byte == 61 && not (is_empty key) then value_at key bytes else (None, after_pair (byte ∷ bytes))
 
 -- what stands at the front, if it is a pair, and what follows it
 abbrev pub pair_at : List ℕ → Option Pair × List ℕ
-pair_at bytes = let key = run_at is_of_key bytes in behind_key key.0 key.1
+pair_at bytes = let key = run_at is_of_key bytes in after_key key.0 key.1
 
 -- the pairs among the first things that stand between blanks, up to a limit
 abbrev pub pairs_in : ℕ → List ℕ → List Pair

@@ -38,9 +38,9 @@ abbrev pub kept_run : Stage → (line : List ℕ) → LabelSet → Option LabelS
 kept_run (Filter filter) line labels = Some labels
 kept_run stage line labels = stage_run stage line labels
 
-abbrev pub labels_behind : List Stage → (line : List ℕ) → LabelSet → Option LabelSet
-labels_behind [] line labels = Some labels
-labels_behind (stage ∷ stages) line labels = option_and_then (labels_behind stages line) (kept_run stage line labels)
+abbrev pub labels_after : List Stage → (line : List ℕ) → LabelSet → Option LabelSet
+labels_after [] line labels = Some labels
+labels_after (stage ∷ stages) line labels = option_and_then (labels_after stages line) (kept_run stage line labels)
 
 -- the stage is a line filter
 abbrev pub is_filter : Stage → Bool

@@ -90,7 +90,7 @@ impl<'a> Draft<'a> {
         ensures same { parser.new ≡ parser.old }
     {
         let labels = self.labels()?;
-        let own = parser.labels_behind(alloc, &labels, line)?;
+        let own = parser.labels_after(alloc, &labels, line)?;
         self.form = Form::Own(own);
         Ok(())
     }

@@ -5,13 +5,13 @@ ghost use Rattle.std.specs.List.{list_any};
 ghost use Rattle.rl_pipeline.specs.Extracting.{with_pair, with_pairs};
 ghost use Rattle.rl_pipeline.specs.Parsed.{logfmt_labels};
 ghost use Rattle.rl_plain.specs.Runs.{run_at};
-ghost use Rattle.rl_pipeline.specs.LogfmtPairs.{is_blank, is_of_pair, is_in_run, behind_pair, closed_at, unit_at, is_high, is_low, low_at, character_at, escape_at, escape_front, unescaped, goes_on, quoted_pair, plain_pair, value_at, behind_key, pair_at, logfmt_pairs};
+ghost use Rattle.rl_pipeline.specs.LogfmtPairs.{is_blank, is_of_pair, is_in_run, after_pair, closed_at, unit_at, is_high, is_low, low_at, character_at, escape_at, escape_front, unescaped, goes_on, quoted_pair, plain_pair, value_at, after_key, pair_at, logfmt_pairs};
 ghost use Rattle.rl_pipeline.specs.laws.Runs.{run_ends};
 
 use crate::extracting::add_pair;
 use crate::lent::LentText;
 use rl_labels::{Labels, LabelsBuilder};
-use rl_plain::{ByteClass, PlainText, behind_first, hex_number, run_front, unescape};
+use rl_plain::{ByteClass, PlainText, after_first, hex_number, run_front, unescape};
 use std::alloc::{AllocError, Global};
 
 // The escapes of one byte. 8 is a backspace, 12 a form feed.
@@ -50,13 +50,13 @@ fn add_pairs(
 {
     let mut rest = line;
     for _turn in 0..line.len() {
-        let start = behind_blanks(rest);
+        let start = after_blanks(rest);
         if start.is_empty() {
             return Ok(());
         }
-        let (pair, behind) = pair_at(alloc, start)?;
+        let (pair, following) = pair_at(alloc, start)?;
         add_found(alloc, stream, labels, pair)?;
-        rest = behind;
+        rest = following;
     }
     Ok(())
 }
@@ -84,11 +84,11 @@ fn pair_at<'a>(
     ensures { IfOk result (λ x. (option_map (λ p. (p.0.now, p.1)) x.0, x.1.now) ≡ pair_at text.now) }
 {
     let (key, rest) = run_front(&Run::Key, text);
-    behind_key(alloc, key, rest)
+    after_key(alloc, key, rest)
 }
 
 // What stands after the blanks at the front.
-fn behind_blanks(text: &str) -> &str
+fn after_blanks(text: &str) -> &str
     ensures { result.now ≡ (run_at is_blank text.now).1 }
 {
     let (_, rest) = run_front(&Run::Blank, text);
@@ -96,23 +96,23 @@ fn behind_blanks(text: &str) -> &str
 }
 
 // After a key: the sign and a value, or no pair.
-#[tactic(auto, unfolding(crate::specs::LogfmtPairs::behind_key))]
-fn behind_key<'a>(
+#[tactic(auto, unfolding(crate::specs::LogfmtPairs::after_key))]
+fn after_key<'a>(
     alloc: Global,
     key: &'a str,
     text: &'a str,
 ) -> Result<(Option<(&'a str, LentText<'a>)>, &'a str), AllocError>
-    ensures { IfOk result (λ x. (option_map (λ p. (p.0.now, p.1)) x.0, x.1.now) ≡ behind_key key.now text.now) }
+    ensures { IfOk result (λ x. (option_map (λ p. (p.0.now, p.1)) x.0, x.1.now) ≡ after_key key.now text.now) }
 {
     let bytes = text.as_bytes();
     if bytes.is_empty() {
         return Ok((None, text));
     }
     if bytes[0] == b'=' && !key.is_empty() {
-        let behind = behind_first(text);
-        return value_at(alloc, key, behind);
+        let following = after_first(text);
+        return value_at(alloc, key, following);
     }
-    Ok((None, behind_pair(text)))
+    Ok((None, after_pair(text)))
 }
 
 // The value after the sign.
@@ -129,8 +129,8 @@ fn value_at<'a>(
         return Ok(plain_pair(key, text));
     }
     if bytes[0] == b'"' {
-        let behind = behind_first(text);
-        return quoted_pair(alloc, key, behind);
+        let following = after_first(text);
+        return quoted_pair(alloc, key, following);
     }
     Ok(plain_pair(key, text))
 }
@@ -143,11 +143,11 @@ fn quoted_pair<'a>(
 ) -> Result<(Option<(&'a str, LentText<'a>)>, &'a str), AllocError>
     ensures { IfOk result (λ x. (option_map (λ p. (p.0.now, p.1)) x.0, x.1.now) ≡ quoted_pair key.now (closed_at false text.now)) }
 {
-    let Some((content, behind)) = closed_at(text) else {
+    let Some((content, following)) = closed_at(text) else {
         return Ok((None, ""));
     };
-    let rest = behind_pair(behind);
-    if goes_on(behind.as_bytes()) {
+    let rest = after_pair(following);
+    if goes_on(following.as_bytes()) {
         return Ok((None, rest));
     }
     match read_content(alloc, content)? {
@@ -161,8 +161,8 @@ fn quoted_pair<'a>(
 fn read_content<'a>(alloc: Global, content: &'a str) -> Result<Option<LentText<'a>>, AllocError>
     ensures { IfOk result (λ value. value ≡ unescaped 0 content.now) }
 {
-    let (_, behind) = run_front(&Run::Plain, content);
-    if behind.is_empty() {
+    let (_, following) = run_front(&Run::Plain, content);
+    if following.is_empty() {
         return Ok(Some(LentText::lent(content)));
     }
     match unescaped(alloc, content)? {
@@ -200,8 +200,8 @@ fn goes_on(bytes: &[u8]) -> bool
 }
 
 // What follows the rest of a pair.
-fn behind_pair(text: &str) -> &str
-    ensures { result.now ≡ behind_pair text.now }
+fn after_pair(text: &str) -> &str
+    ensures { result.now ≡ after_pair text.now }
 {
     let (_, rest) = run_front(&Run::Pair, text);
     rest
@@ -240,8 +240,8 @@ fn closed_at(text: &str) -> Option<(&str, &str)>
     ensures { option_map (λ x. (x.0.now, x.1.now)) result ≡ closed_at false text.now }
 {
     let index = quote_at(text.as_bytes())?;
-    let (content, behind) = (&text[..index], &text[index + 1..]);
-    Some((content, behind))
+    let (content, following) = (&text[..index], &text[index + 1..]);
+    Some((content, following))
 }
 
 // Where the quote that closes stands: the first with no backslash before it.
@@ -266,12 +266,12 @@ fn unescaped(alloc: Global, content: &str) -> Result<Option<PlainText>, AllocErr
     let mut value = String::new(alloc);
     let mut rest = content;
     loop {
-        let (plain, behind) = run_front(&Run::Plain, rest);
+        let (plain, following) = run_front(&Run::Plain, rest);
         value.push_str(plain)?;
-        if behind.is_empty() {
+        if following.is_empty() {
             return Ok(Some(PlainText::from_string(value)));
         }
-        let after = behind_first(behind);
+        let after = after_first(following);
         let Some((c, left)) = escape_front(after) else {
             return Ok(None);
         };

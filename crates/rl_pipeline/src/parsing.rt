@@ -20,7 +20,7 @@ pub fn parsed(
     ensures { IfOk result (λ all. all ≡ parsed parser labels.now line.now) }
 {
     let mut running = ParserRunning::new(alloc, parser)?;
-    running.labels_behind(alloc, labels, line)?.build()
+    running.labels_after(alloc, labels, line)?.build()
 }
 
 /// A parser that reads many lines, with what reading needs kept from line to line. Contracts see the parser.
@@ -69,7 +69,7 @@ impl ParserRunning {
     }
 
     // The labels that a line of a stream has, without their text.
-    pub(crate) fn labels_behind(
+    pub(crate) fn labels_after(
         &mut self,
         alloc: Global,
         labels: &Labels,

@@ -3,7 +3,7 @@ ghost use Rattle.std.specs.Prelude.{◌≡◌, ◌≤◌, ℕ, List, true, false
 ghost use Rattle.std.specs.List.{list_all};
 ghost use Rattle.rl_labels.specs.LabelSet.{LabelSet};
 ghost use Rattle.rl_pipeline.specs.Metering.{with_run};
-ghost use Rattle.rl_pipeline.specs.Running.{where_true, run, keeps, lets_pass, kept_run, labels_behind, is_filter, IsPlain};
+ghost use Rattle.rl_pipeline.specs.Running.{where_true, run, keeps, lets_pass, kept_run, labels_after, is_filter, IsPlain};
 ghost use Rattle.rl_pipeline.specs.Steps.{code_stage, step_stage};
 
 use crate::draft::Draft;
@@ -184,22 +184,22 @@ fn send(
     steps: &mut [Step<'_>],
     line: &mut Line<'_>,
 ) -> Result<Option<Labels>, AllocError>
-    ensures sent { IfOk result (λ found. found ≡ labels_behind (map step_stage steps.old) line.old.text line.old.labels) }
+    ensures sent { IfOk result (λ found. found ≡ labels_after (map step_stage steps.old) line.old.text line.old.labels) }
     ensures same { steps.new ≡ steps.old }
     ensures line { line.new ≡ line.old }
 {
     let place = filters_in_front(steps);
-    send_behind(alloc, steps, place, line)
+    send_after(alloc, steps, place, line)
 }
 
 // The labels that such a line has after the stages that follow the line filters in front, if it stays.
-fn send_behind(
+fn send_after(
     alloc: Global,
     steps: &mut [Step<'_>],
     place: usize,
     line: &mut Line<'_>,
 ) -> Result<Option<Labels>, AllocError>
-    ensures sent { IfOk result (λ found. found ≡ labels_behind (map step_stage (drop place steps.old)) line.old.text line.old.labels) }
+    ensures sent { IfOk result (λ found. found ≡ labels_after (map step_stage (drop place steps.old)) line.old.text line.old.labels) }
     ensures same { steps.new ≡ steps.old }
     ensures line { line.new ≡ line.old }
 {
@@ -224,7 +224,7 @@ fn read_by(alloc: Global, step: &mut Step<'_>, line: &mut Line<'_>) -> Result<()
     };
     let parser = reading.parser();
     if line.found(parser).is_none() {
-        let found = reading.labels_behind(alloc, line.labels(), line.text())?;
+        let found = reading.labels_after(alloc, line.labels(), line.text())?;
         line.keep(parser, found);
     }
     Ok(())
@@ -243,7 +243,7 @@ fn found_by<'l>(step: &Step<'_>, line: &'l Line<'_>) -> Option<&'l LabelsBuilder
 // How many line filters stand in front. They have let the line pass, so the stages after them are left.
 fn filters_in_front(steps: &[Step<'_>]) -> usize
     ensures within { result ≤ length steps.now }
-    ensures left { (line : List ℕ) (labels : LabelSet) → labels_behind (map step_stage steps.now) line labels ≡ labels_behind (map step_stage (drop result steps.now)) line labels }
+    ensures left { (line : List ℕ) (labels : LabelSet) → labels_after (map step_stage steps.now) line labels ≡ labels_after (map step_stage (drop result steps.now)) line labels }
 {
     for (place, step) in steps.iter().enumerate() {
         if !is_filter(step) {
@@ -261,7 +261,7 @@ fn send_from(
     draft: Draft<'_>,
     line: &str,
 ) -> Result<Option<Labels>, AllocError>
-    ensures sent { IfOk result (λ found. found ≡ labels_behind (map step_stage (drop place steps.old)) line.now draft.entry) }
+    ensures sent { IfOk result (λ found. found ≡ labels_after (map step_stage (drop place steps.old)) line.now draft.entry) }
     ensures same { steps.new ≡ steps.old }
 {
     let mut draft = draft;

@@ -26,4 +26,4 @@ are_ascii = list_all (λ entry. nat_lt entry.0 128 && nat_lt entry.1 128)
 
 -- a text is what stands before its first escape, the backslash with its letter, and what is written after them
 abbrev pub IsCutAt : Escapes → List ℕ → List ℕ → ℕ → List ℕ → Type 0
-IsCutAt table value plain letter behind = (escaped table value ≡ plain ++ 92 ∷ letter ∷ escaped table behind) × (length behind < length value) × (letter < 128)
+IsCutAt table value plain letter following = (escaped table value ≡ plain ++ 92 ∷ letter ∷ escaped table following) × (length following < length value) × (letter < 128)

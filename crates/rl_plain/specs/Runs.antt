@@ -13,5 +13,5 @@ abbrev pub onto : List ℕ → Option (List ℕ × List ℕ) → Option (List �
 onto front read = option_map (λ x. (front ++ x.0, x.1)) read
 
 -- any text may be cut after the longest front whose bytes pass
-abbrev pub IsCutBehind : (ℕ → Bool) → Type 0
-IsCutBehind passes = (text : List ℕ) → IsUtf8 text → IsCharBoundary text (prefix_len passes text)
+abbrev pub IsCutAfter : (ℕ → Bool) → Type 0
+IsCutAfter passes = (text : List ℕ) → IsUtf8 text → IsCharBoundary text (prefix_len passes text)

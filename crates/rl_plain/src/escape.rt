@@ -11,11 +11,11 @@ pub fn push_escaped(text: &mut String, table: &[(u8, u8)], value: &str) -> Resul
     ensures { OnOk result (string_bytes text.new ≡ string_bytes text.old ++ escaped table.now value.now) }
 {
     let mut rest = value;
-    while let Some((plain, letter, behind)) = cut(table, rest) {
+    while let Some((plain, letter, following)) = cut(table, rest) {
         text.push_str(plain)?;
         text.push('\\')?;
         text.push(letter)?;
-        rest = behind;
+        rest = following;
     }
     text.push_str(rest)
 }
@@ -52,8 +52,8 @@ fn cut<'a>(table: &[(u8, u8)], value: &'a str) -> Option<(&'a str, char, &'a str
 {
     for (index, byte) in value.as_bytes().iter().enumerate() {
         if let Some(letter) = letter_of(table, *byte) {
-            let (plain, behind) = (&value[..index], &value[index + 1..]);
-            return Some((plain, char::from(letter), behind));
+            let (plain, following) = (&value[..index], &value[index + 1..]);
+            return Some((plain, char::from(letter), following));
         }
     }
     None

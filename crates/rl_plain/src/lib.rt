@@ -29,7 +29,7 @@ pub use escape::{count_escapes, push_escaped, unescape};
 pub use hexadecimal::hex_number;
 pub use list::PlainList;
 pub use refusal::OrMemory;
-pub use run::{ByteClass, behind_first, run_front};
+pub use run::{ByteClass, after_first, run_front};
 pub use sameness::Same;
 pub use shared::Shared;
 pub use text::PlainText;

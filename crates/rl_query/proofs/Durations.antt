@@ -4,7 +4,7 @@ use Rattle.std.specs.Option.{option_map, option_and_then}
 use Rattle.std.specs.Char.{is_ascii_digit}
 use Rattle.std.proofs.Math.Nat.{mul-le-mul_left}
 use Rattle.std.proofs.lemmas.Bool.{cases_lt, cond-true, cond-false, lt-ltb}
-use Rattle.rl_query.specs.Durations.{digit_behind, part_of, duration_from, duration_of}
+use Rattle.rl_query.specs.Durations.{digit_after, part_of, duration_from, duration_of}
 use Rattle.rl_query.specs.Limits.{capped, longest_range}
 use Rattle.rl_query.specs.Tables.{unit_of}
 
@@ -49,14 +49,14 @@ same_capped seconds rank n m (b ∷ rest) same =
     by_unit (Some unit) = by_rank unit (nat_lt rank unit.1)
 
 -- a digit more
-pub digit_turn : (bytes rest : List ℕ) (seconds rank b : ℕ) (digits : Option ℕ) → is_ascii_digit b ≡ true → Left bytes (b ∷ rest) seconds rank digits → Left bytes rest seconds rank (Some (capped (digit_behind digits b)))
+pub digit_turn : (bytes rest : List ℕ) (seconds rank b : ℕ) (digits : Option ℕ) → is_ascii_digit b ≡ true → Left bytes (b ∷ rest) seconds rank digits → Left bytes rest seconds rank (Some (capped (digit_after digits b)))
 digit_turn bytes rest seconds rank b digits digit left = record {
-  read = same_capped seconds rank (capped (digit_behind digits b)) (digit_behind digits b) rest (omega arith) ∙ sym (step digits) ∙ left.read;
+  read = same_capped seconds rank (capped (digit_after digits b)) (digit_after digits b) rest (omega arith) ∙ sym (step digits) ∙ left.read;
   seconds_fit = left.seconds_fit;
   digits_fit = omega arith;
 }
   where
-    step : (digits : Option ℕ) → option_map (λ others. capped (seconds + others)) (duration_from rank digits (b ∷ rest)) ≡ option_map (λ others. capped (seconds + others)) (duration_from rank (Some (digit_behind digits b)) rest)
+    step : (digits : Option ℕ) → option_map (λ others. capped (seconds + others)) (duration_from rank digits (b ∷ rest)) ≡ option_map (λ others. capped (seconds + others)) (duration_from rank (Some (digit_after digits b)) rest)
     step None = ap (option_map (λ others. capped (seconds + others))) (cond-true (is_ascii_digit b) _ _ digit)
     step (Some n) = ap (option_map (λ others. capped (seconds + others))) (cond-true (is_ascii_digit b) _ _ digit)
 

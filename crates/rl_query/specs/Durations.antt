@@ -5,9 +5,9 @@ use Rattle.std.specs.Char.{is_ascii_digit}
 use Rattle.rl_query.specs.Tables.{unit_of}
 
 -- a number with a digit more
-abbrev pub digit_behind : Option ℕ → ℕ → ℕ
-digit_behind None byte = byte - 48
-digit_behind (Some n) byte = 10 * n + (byte - 48)
+abbrev pub digit_after : Option ℕ → ℕ → ℕ
+digit_after None byte = byte - 48
+digit_after (Some n) byte = 10 * n + (byte - 48)
 
 -- the seconds of a number and a unit, whose rank is above the last one's
 abbrev pub part_of : ℕ → Option ℕ → Option (ℕ × ℕ) → Option (ℕ × ℕ)
@@ -19,7 +19,7 @@ abbrev pub duration_from : ℕ → Option ℕ → List ℕ → Option ℕ
 duration_from rank None [] = Some 0
 duration_from rank (Some n) [] = None
 duration_from rank number (byte ∷ bytes) =
-    if is_ascii_digit byte then duration_from rank (Some (digit_behind number byte)) bytes
+    if is_ascii_digit byte then duration_from rank (Some (digit_after number byte)) bytes
     else option_and_then (λ (part : ℕ × ℕ). option_map (λ others. part.0 + others) (duration_from part.1 None bytes)) (part_of rank number (unit_of byte))
 
 -- parts of digits and a unit, each unit once, in the order `w d h m s`

@@ -2,7 +2,7 @@
 ghost use Rattle.std.specs.Prelude.{◌≡◌, ◌+◌, ◌≤◌, IfSome, IsTrue};
 ghost use Rattle.std.specs.Option.{option_map};
 ghost use Rattle.std.specs.Char.{is_ascii_digit};
-ghost use Rattle.rl_query.specs.Durations.{digit_behind, duration_of};
+ghost use Rattle.rl_query.specs.Durations.{digit_after, duration_of};
 ghost use Rattle.rl_query.specs.Limits.{capped, longest_range};
 ghost use Rattle.rl_query.specs.Tables.{unit_of};
 
@@ -33,7 +33,7 @@ pub fn duration_of(bytes: &[u8]) -> Option<u64>
     let mut digits = None;
     for byte in bytes {
         if byte.is_ascii_digit() {
-            digits = Some(digit_behind(digits, *byte));
+            digits = Some(digit_after(digits, *byte));
         } else {
             let number = digits?;
             let (unit, next) = unit_of(*byte)?;
@@ -51,10 +51,10 @@ pub fn duration_of(bytes: &[u8]) -> Option<u64>
     }
 }
 
-fn digit_behind(digits: Option<u64>, byte: u8) -> u64
+fn digit_after(digits: Option<u64>, byte: u8) -> u64
     requires digit { IsTrue (is_ascii_digit byte) }
     requires capped { IfSome digits (λ n. n ≤ longest_range + 1) }
-    ensures value { result ≡ capped (digit_behind digits byte) }
+    ensures value { result ≡ capped (digit_after digits byte) }
     ensures fits { result ≤ longest_range + 1 }
 {
     let digit = u64::from(byte - b'0');

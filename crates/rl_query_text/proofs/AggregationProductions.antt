@@ -75,22 +75,22 @@ in_is (name ∷ names) lexemes rest are =
 abbrev AreGrouped : (word : List ℕ) → List (List ℕ) → List Lexeme → List Lexeme → Type 0
 AreGrouped word names lexemes rest = Stand (tokens.Word word ∷ tokens.Sign signs.OpenParenthesis ∷ names_tokens names) lexemes rest × (list_all is_name names ≡ true)
 
-grouped_read : (room : Room) (word : List ℕ) (lexemes behind : List Lexeme) → Stand (tokens.Word word ∷ []) lexemes behind → Finds (λ x. AreGrouped word x.0 lexemes x.1) (grouped_at room behind)
+grouped_read : (room : Room) (word : List ℕ) (lexemes following : List Lexeme) → Stand (tokens.Word word ∷ []) lexemes following → Finds (λ x. AreGrouped word x.0 lexemes x.1) (grouped_at room following)
 unfolding grouped_at
-grouped_read room word lexemes behind stand =
-    then _ (opened_read positions.Elsewhere room behind) (λ opened is. record {
+grouped_read room word lexemes following stand =
+    then _ (opened_read positions.Elsewhere room following) (λ opened is. record {
       is = λ x h.
           let inside = (in_read opened.1).is x h in
-          (stand_then (tokens.Word word ∷ []) (tokens.Sign signs.OpenParenthesis ∷ names_tokens x.0) lexemes behind x.1 stand (stand_then (tokens.Sign signs.OpenParenthesis ∷ []) (names_tokens x.0) behind opened.1 x.1 is.stand inside.0), inside.1);
+          (stand_then (tokens.Word word ∷ []) (tokens.Sign signs.OpenParenthesis ∷ names_tokens x.0) lexemes following x.1 stand (stand_then (tokens.Sign signs.OpenParenthesis ∷ []) (names_tokens x.0) following opened.1 x.1 is.stand inside.0), inside.1);
     })
 
 -- after the word
-grouped_is : (room : Room) (depth : ℕ) (word : List ℕ) (names : List (List ℕ)) (lexemes rest : List Lexeme) → room.depth ≡ suc depth → AreGrouped word names lexemes rest → (place : ℕ) × (behind : List Lexeme) × (next lexemes ≡ Ok (record { token = tokens.Word word; place = place }, behind)) × (grouped_at room behind ≡ Ok (names, rest))
+grouped_is : (room : Room) (depth : ℕ) (word : List ℕ) (names : List (List ℕ)) (lexemes rest : List Lexeme) → room.depth ≡ suc depth → AreGrouped word names lexemes rest → (place : ℕ) × (following : List Lexeme) × (next lexemes ≡ Ok (record { token = tokens.Word word; place = place }, following)) × (grouped_at room following ≡ Ok (names, rest))
 unfolding grouped_at
 grouped_is room depth word names lexemes rest deep are =
     let first = next_is (tokens.Word word) (tokens.Sign signs.OpenParenthesis ∷ names_tokens names) lexemes rest are.0 in
-    let split = stand_split (tokens.Sign signs.OpenParenthesis ∷ []) (names_tokens names) first.behind rest first.more in
-    (first.place, first.behind, first.is, rw (opened_is positions.Elsewhere room depth first.behind split.0 deep split.1, in_is names split.0 rest (split.2, are.1)) refl)
+    let split = stand_split (tokens.Sign signs.OpenParenthesis ∷ []) (names_tokens names) first.following rest first.more in
+    (first.place, first.following, first.is, rw (opened_is positions.Elsewhere room depth first.following split.0 deep split.1, in_is names split.0 rest (split.2, are.1)) refl)
 
 pub grouping_read : (room : Room) (lexemes : List Lexeme) → Finds (λ x. IsGrouping x.0 lexemes x.1) (grouping_at room lexemes)
 unfolding grouping_at
@@ -135,8 +135,8 @@ operator_found word lexemes is = of_option _ (plain_operator word)
     (λ none. let topk : is_text word (codes "topk") ≡ true = sym (ap (λ (o : Option VectorOperator). is_some o || is_text word (codes "topk")) none) ∙ is in
     then _ (next_found lexemes) (λ first stand.
     then _ (top_at_found first.0.place first.0.token) (λ top number.
-    then _ (expected_found signs.Comma positions.Elsewhere first.1) (λ behind comma.
-    let there = stand_then (tokens.Number number.0 ∷ []) (tokens.Sign signs.Comma ∷ []) lexemes first.1 behind (told_by lexemes first.1 number.1 stand) comma in
+    then _ (expected_found signs.Comma positions.Elsewhere first.1) (λ following comma.
+    let there = stand_then (tokens.Number number.0 ∷ []) (tokens.Sign signs.Comma ∷ []) lexemes first.1 following (told_by lexemes first.1 number.1 stand) comma in
     found (same_text word (codes "topk") topk, (number.0, there, number.2))))))
 
 operator_is : (operator : VectorOperator) (lexemes rest : List Lexeme) → IsParameter operator lexemes rest → operator_at (operator_word operator) lexemes ≡ Ok (operator, rest)
@@ -151,13 +151,13 @@ word_of_operator _ = refl
 -- What stands in front of a term and after it.
 
 pub record IsFront (word : List ℕ) (nest : ℕ) (room : Room) (front : Front) (lexemes rest : List Lexeme) : Type 0 where
-  pub behind_grouping : List Lexeme
-  pub behind_parenthesis : List Lexeme
+  pub after_grouping : List Lexeme
+  pub after_parenthesis : List Lexeme
   pub fewer : nest ≡ suc front.nest
-  pub grouped : IsGrouping front.grouping lexemes behind_grouping
-  pub opened : IsOpened room front.room behind_grouping behind_parenthesis
+  pub grouped : IsGrouping front.grouping lexemes after_grouping
+  pub opened : IsOpened room front.room after_grouping after_parenthesis
   pub word_is : word ≡ operator_word front.operator
-  pub parameter : IsParameter front.operator behind_parenthesis rest
+  pub parameter : IsParameter front.operator after_parenthesis rest
 
 nested_found : (place nest : ℕ) → Finds (λ fewer. nest ≡ suc fewer) (nested place nest)
 nested_found place zero = fault
@@ -168,9 +168,9 @@ unfolding front_at
 front_found word nest room lexemes is =
     then _ (nested_found (place_of lexemes) nest) (λ inner fewer.
     then _ (grouping_read room lexemes) (λ grouping grouped.
-    then _ (opened_read positions.Elsewhere room grouping.1) (λ behind opened.
-    then _ (operator_found word behind.1 is) (λ operator known.
-    found (record { behind_grouping = grouping.1; behind_parenthesis = behind.1; fewer = fewer; grouped = grouped; opened = opened; word_is = known.0; parameter = known.1 })))))
+    then _ (opened_read positions.Elsewhere room grouping.1) (λ following opened.
+    then _ (operator_found word following.1 is) (λ operator known.
+    found (record { after_grouping = grouping.1; after_parenthesis = following.1; fewer = fewer; grouped = grouped; opened = opened; word_is = known.0; parameter = known.1 })))))
 
 -- the grouping after a term
 back_found : (front : Grouping) (room : Room) (lexemes : List Lexeme) → Finds (λ x. (back : Grouping) × IsGrouping back lexemes x.1 × OneSide front back x.0) (back_at front room lexemes)
@@ -178,28 +178,28 @@ back_found groupings.All room lexemes = record { is = λ x h. (x.0, (grouping_re
 back_found _ room lexemes = found (groupings.All, (refl, refl), inl (refl, refl))
 
 pub record IsEnded (front : Front) (aggregation : AggregationForm) (lexemes rest : List Lexeme) : Type 0 where
-  pub behind : List Lexeme
-  pub closed : Stand (tokens.Sign signs.CloseParenthesis ∷ []) lexemes behind
+  pub following : List Lexeme
+  pub closed : Stand (tokens.Sign signs.CloseParenthesis ∷ []) lexemes following
   pub operator : front.operator ≡ aggregation.operator
-  pub back : (back : Grouping) × IsGrouping back behind rest × OneSide front.grouping back aggregation.grouping
+  pub back : (back : Grouping) × IsGrouping back following rest × OneSide front.grouping back aggregation.grouping
 
 pub ended_found : (front : Front) (room : Room) (lexemes : List Lexeme) → Finds (λ x. IsEnded front x.0 lexemes x.1) (ended_at front room lexemes)
 unfolding ended_at
 ended_found front room lexemes =
-    then _ (expected_found signs.CloseParenthesis positions.BehindTerm lexemes) (λ behind closed.
-    then _ (back_found front.grouping room behind) (λ grouping back.
-    found (record { behind = behind; closed = closed; operator = refl; back = back })))
+    then _ (expected_found signs.CloseParenthesis positions.AfterTerm lexemes) (λ following closed.
+    then _ (back_found front.grouping room following) (λ grouping back.
+    found (record { following = following; closed = closed; operator = refl; back = back })))
 
 -- what stands in front of a term
 abbrev pub front_of : VectorOperator → Grouping → (fewer : ℕ) → Room → Front
 front_of operator grouping fewer room = record { operator = operator; grouping = grouping; nest = fewer; room = room }
 
-pub front_is : (operator : VectorOperator) (grouping : Grouping) (fewer : ℕ) (room : Room) (depth : ℕ) (lexemes behind_grouping behind_parenthesis rest : List Lexeme) → room.depth ≡ suc depth → IsGrouping grouping lexemes behind_grouping → Stand (tokens.Sign signs.OpenParenthesis ∷ []) behind_grouping behind_parenthesis
-    → IsParameter operator behind_parenthesis rest → front_at (operator_word operator) (suc fewer) room lexemes ≡ Ok (front_of operator grouping fewer (inside_room room depth), rest)
+pub front_is : (operator : VectorOperator) (grouping : Grouping) (fewer : ℕ) (room : Room) (depth : ℕ) (lexemes after_grouping after_parenthesis rest : List Lexeme) → room.depth ≡ suc depth → IsGrouping grouping lexemes after_grouping → Stand (tokens.Sign signs.OpenParenthesis ∷ []) after_grouping after_parenthesis
+    → IsParameter operator after_parenthesis rest → front_at (operator_word operator) (suc fewer) room lexemes ≡ Ok (front_of operator grouping fewer (inside_room room depth), rest)
 unfolding front_at
-front_is operator grouping fewer room depth lexemes behind_grouping behind_parenthesis rest deep grouped opened parameter =
-    let ends = first_at (tokens.Sign signs.OpenParenthesis) [] behind_grouping behind_parenthesis opened (refl, refl, refl) in
-    rw (grouping_is room depth grouping lexemes behind_grouping deep grouped ends, opened_is positions.Elsewhere room depth behind_grouping behind_parenthesis deep opened, operator_is operator behind_parenthesis rest parameter) refl
+front_is operator grouping fewer room depth lexemes after_grouping after_parenthesis rest deep grouped opened parameter =
+    let ends = first_at (tokens.Sign signs.OpenParenthesis) [] after_grouping after_parenthesis opened (refl, refl, refl) in
+    rw (grouping_is room depth grouping lexemes after_grouping deep grouped ends, opened_is positions.Elsewhere room depth after_grouping after_parenthesis deep opened, operator_is operator after_parenthesis rest parameter) refl
 
 back_is : (room : Room) (depth : ℕ) (front back grouping : Grouping) (lexemes rest : List Lexeme) → room.depth ≡ suc depth → OneSide front back grouping → IsGrouping back lexemes rest → EndsTerm rest → back_at front room lexemes ≡ Ok (grouping, rest)
 back_is room depth front back grouping lexemes rest deep (inr sides) is ends =
@@ -207,8 +207,8 @@ back_is room depth front back grouping lexemes rest deep (inr sides) is ends =
 back_is room depth groupings.All back grouping lexemes rest deep (inl sides) is ends = grouping_is room depth grouping lexemes rest deep (subst (λ g. IsGrouping g lexemes rest) (sides.1 ∙ sides.0) is) ends
 back_is room depth front back grouping lexemes rest deep (inl sides) is ends = let none = subst (λ g. IsGrouping g lexemes rest) sides.1 is in λ i. Ok (sides.0 i, none.0 i)
 
-pub ended_is : (front : Front) (room : Room) (depth : ℕ) (back : Grouping) (aggregation : AggregationForm) (lexemes behind rest : List Lexeme) → room.depth ≡ suc depth → front.operator ≡ aggregation.operator → Stand (tokens.Sign signs.CloseParenthesis ∷ []) lexemes behind
-    → OneSide front.grouping back aggregation.grouping → IsGrouping back behind rest → EndsTerm rest → ended_at front room lexemes ≡ Ok (aggregation, rest)
+pub ended_is : (front : Front) (room : Room) (depth : ℕ) (back : Grouping) (aggregation : AggregationForm) (lexemes following rest : List Lexeme) → room.depth ≡ suc depth → front.operator ≡ aggregation.operator → Stand (tokens.Sign signs.CloseParenthesis ∷ []) lexemes following
+    → OneSide front.grouping back aggregation.grouping → IsGrouping back following rest → EndsTerm rest → ended_at front room lexemes ≡ Ok (aggregation, rest)
 unfolding ended_at
-ended_is front room depth back aggregation lexemes behind rest deep same closed sides is ends =
-    rw (expected_is signs.CloseParenthesis positions.BehindTerm lexemes behind closed, back_is room depth front.grouping back aggregation.grouping behind rest deep sides is ends) (ap (λ o. Ok (record { operator = o; grouping = aggregation.grouping }, rest)) same)
+ended_is front room depth back aggregation lexemes following rest deep same closed sides is ends =
+    rw (expected_is signs.CloseParenthesis positions.AfterTerm lexemes following closed, back_is room depth front.grouping back aggregation.grouping following rest deep sides is ends) (ap (λ o. Ok (record { operator = o; grouping = aggregation.grouping }, rest)) same)

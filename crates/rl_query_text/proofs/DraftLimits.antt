@@ -38,9 +38,9 @@ term_range : (most depth : ℕ) → depth ≤ most → (aggregations : List Aggr
 term_range most zero le aggregations function range lexemes rest is = absurd is
 term_range most (suc depth) le [] function range lexemes rest (inl is) = record { deep = depth; lexemes = is.0; rest = rest; is = is.2; within = omega (arith, le) }
 term_range most (suc depth) le (aggregation ∷ aggregations) function range lexemes rest (inl is) =
-    let inner = term_range depth depth (omega arith) aggregations function range is.behind_parameter is.end is.inside in
+    let inner = term_range depth depth (omega arith) aggregations function range is.after_parameter is.end is.inside in
     record { deep = inner.deep; lexemes = inner.lexemes; rest = inner.rest; is = inner.is; within = omega (arith, inner.within, le) }
-term_range most (suc depth) le aggregations function range lexemes rest (inr p) = term_range most depth (omega (arith, le)) aggregations function range p.behind p.end p.inside
+term_range most (suc depth) le aggregations function range lexemes rest (inr p) = term_range most depth (omega (arith, le)) aggregations function range p.following p.end p.inside
 
 lone_range : (most depth : ℕ) → depth ≤ most → (left : TermForm) (lexemes rest : List Lexeme) → IsQuotient depth left None lexemes rest → HasRange most left
 lone_range most depth le left lexemes rest is = term_range most depth le left.aggregations left.function left.range lexemes rest (quotient_term depth left lexemes rest is)
@@ -53,13 +53,13 @@ quotient_ranges : (most depth : ℕ) → depth ≤ most → (left : TermForm) (o
 quotient_ranges most depth le left None lexemes rest is = (lone_range most depth le left lexemes rest is, tt)
 quotient_ranges most zero le left (Some over) lexemes rest is = absurd is
 quotient_ranges most (suc depth) le left (Some over) lexemes rest (inl is) =
-    (lone_range most (suc depth) le left lexemes is.middle is.dividend, lone_range most (suc depth) le over is.behind rest is.divisor)
-quotient_ranges most (suc depth) le left (Some over) lexemes rest (inr p) = quotient_ranges most depth (omega (arith, le)) left (Some over) p.behind p.end p.inside
+    (lone_range most (suc depth) le left lexemes is.middle is.dividend, lone_range most (suc depth) le over is.following rest is.divisor)
+quotient_ranges most (suc depth) le left (Some over) lexemes rest (inr p) = quotient_ranges most depth (omega (arith, le)) left (Some over) p.following p.end p.inside
 
 query_ranges : (most depth : ℕ) → depth ≤ most → (query : QueryForm) (lexemes rest : List Lexeme) → IsQuery depth query lexemes rest → HaveRanges most query.left query.over
 query_ranges most zero le query lexemes rest is = absurd is
 query_ranges most (suc depth) le query lexemes rest (inl tested) = quotient_ranges most (suc depth) le query.left query.over lexemes tested.0 tested.1
-query_ranges most (suc depth) le query lexemes rest (inr p) = query_ranges most depth (omega (arith, le)) query p.behind p.end p.inside
+query_ranges most (suc depth) le query lexemes rest (inr p) = query_ranges most depth (omega (arith, le)) query p.following p.end p.inside
 
 -- what is shallow is so where more parentheses may be open
 more_shallow : (few more : ℕ) (stages : List Stage) → few ≤ more → are_shallow few stages ≡ true → are_shallow more stages ≡ true
@@ -72,7 +72,7 @@ more_shallow few more (_ ∷ stages) le h = more_shallow few more stages le h
 -- the stages of a range, where they stand, and its seconds
 timed : (depth : ℕ) (range : RangeForm) (lexemes rest : List Lexeme) → IsRange depth range lexemes rest
     → (start : List Lexeme) × (end : List Lexeme) × AreStages depth range.stages start end × ((1 ≤ range.seconds) × (range.seconds ≤ longest_range))
-timed depth range lexemes rest is = ⊎_elim (λ before. (is.behind_selector, before.0, before.1, before.2.in_range)) (λ after. (after.0, is.behind_duration, after.2, after.1.in_range)) is.timed
+timed depth range lexemes rest is = ⊎_elim (λ before. (is.after_selector, before.0, before.1, before.2.in_range)) (λ after. (after.0, is.after_duration, after.2, after.1.in_range)) is.timed
 
 term_keeps : (term : DraftTerm) → HasRange most_parentheses (term_draft term) → is_nested (term_draft term) ≡ true → stages_read term ≤ most_stages → tests_read term ≤ most_tests → KeepsTerm term
 term_keeps term has nested few few_tests =

@@ -40,8 +40,8 @@ parameter_meets : (operator : VectorOperator) {lexemes rest : List Lexeme} → I
 parameter_meets (aggregations.Topk k) is = stands (_ ∷ _ ∷ []) (refl, refl) is.1
 parameter_meets _ same = stands [] (refl, refl) same
 
-parentheses_meet : {p : Bool} {Inside : List Lexeme → List Lexeme → Type 0} {lexemes rest : List Lexeme} → ((behind end : List Lexeme) → Inside behind end → Meets p behind end) → InParentheses Inside lexemes rest → Meets p lexemes rest
-parentheses_meet inside is = then (stands (_ ∷ []) (refl, refl) is.opened) (then_none (inside is.behind is.end is.inside) (stands (_ ∷ []) (refl, refl) is.closed))
+parentheses_meet : {p : Bool} {Inside : List Lexeme → List Lexeme → Type 0} {lexemes rest : List Lexeme} → ((following end : List Lexeme) → Inside following end → Meets p following end) → InParentheses Inside lexemes rest → Meets p lexemes rest
+parentheses_meet inside is = then (stands (_ ∷ []) (refl, refl) is.opened) (then_none (inside is.following is.end is.inside) (stands (_ ∷ []) (refl, refl) is.closed))
 
 term_meets : (depth : ℕ) (aggregations : List AggregationForm) (function : RangeFunction) (range : RangeForm) (lexemes rest : List Lexeme) → IsTerm depth (record { aggregations = aggregations; function = function; range = range }) lexemes rest → Meets (range_has_pattern range) lexemes rest
 term_meets zero aggregations function range lexemes rest is = absurd is
@@ -50,7 +50,7 @@ term_meets (suc depth) [] function range lexemes rest (inl is) =
     (then_none (timed_meets depth range.stages range.seconds is.2.timed) (stands (_ ∷ []) (refl, refl) is.2.closed))))
 term_meets (suc depth) (aggregation ∷ aggregations) function range lexemes rest (inl is) =
     then (stands (_ ∷ []) (refl, refl) is.word) (then (grouping_meets is.front is.grouped) (then (stands (_ ∷ []) (refl, refl) is.opened) (then (parameter_meets aggregation.operator is.parameter)
-    (then_none (term_meets depth aggregations function range is.behind_parameter is.end is.inside) (then (stands (_ ∷ []) (refl, refl) is.closed) (grouping_meets is.back is.grouped_behind))))))
+    (then_none (term_meets depth aggregations function range is.after_parameter is.end is.inside) (then (stands (_ ∷ []) (refl, refl) is.closed) (grouping_meets is.back is.grouped_after))))))
 term_meets (suc depth) aggregations function range lexemes rest (inr is) = parentheses_meet (term_meets depth aggregations function range) is
 
 abbrev patterned : TermForm → Option TermForm → Bool
@@ -62,9 +62,9 @@ quotient_meets depth left None lexemes rest is =
 quotient_meets zero left (Some over) lexemes rest is = absurd is
 quotient_meets (suc depth) left (Some over) lexemes rest (inl is) =
     let dividend = quotient_term (suc depth) left lexemes is.middle is.dividend in
-    let divisor = quotient_term (suc depth) over is.behind rest is.divisor in
+    let divisor = quotient_term (suc depth) over is.following rest is.divisor in
     then (term_meets (suc depth) left.aggregations left.function left.range lexemes is.middle dividend)
-    (then (stands (_ ∷ []) (refl, refl) is.slash) (term_meets (suc depth) over.aggregations over.function over.range is.behind rest divisor))
+    (then (stands (_ ∷ []) (refl, refl) is.slash) (term_meets (suc depth) over.aggregations over.function over.range is.following rest divisor))
 quotient_meets (suc depth) left (Some over) lexemes rest (inr is) = parentheses_meet (quotient_meets depth left (Some over)) is
 
 threshold_meets : (test : Option ThresholdForm) {lexemes rest : List Lexeme} → IsThreshold test lexemes rest → Meets false lexemes rest
@@ -77,4 +77,4 @@ query_meets (suc depth) query lexemes rest (inl is) = then_none (quotient_meets 
 query_meets (suc depth) query lexemes rest (inr is) = parentheses_meet (query_meets depth query) is
 
 pub query_patterns : (text : List ℕ) (query : QueryForm) → Derives text query → has_pattern_token false (lexemes_of text) ≡ query_has_pattern query
-query_patterns text query derived = all_met text _ derived.behind derived.rest (query_meets most_parentheses query (lexemes_of text) derived.behind derived.is) derived.end
+query_patterns text query derived = all_met text _ derived.following derived.rest (query_meets most_parentheses query (lexemes_of text) derived.following derived.is) derived.end

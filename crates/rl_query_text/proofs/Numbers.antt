@@ -42,22 +42,22 @@ parts_alike text (Some parts) few = rw (number_alike parts.0 few) refl
 decimal_alike : (text : List ℕ) → front_len text ≤ 9 → decimal_of 9 text ≡ decimal_of 15 text
 decimal_alike text few = parts_alike text (cut_at_point text) (omega (arith, few, front_short text))
 
-stops_at : (digits behind : List ℕ) → front_len behind ≡ 0 → front_len (digits ++ behind) ≤ length digits
-stops_at digits behind none = grind (arith, nat_tests, prefix_len-append (λ b. not (b == 46)) digits behind, prefix_len-le-length (λ b. not (b == 46)) digits)
+stops_at : (digits following : List ℕ) → front_len following ≡ 0 → front_len (digits ++ following) ≤ length digits
+stops_at digits following none = grind (arith, nat_tests, prefix_len-append (λ b. not (b == 46)) digits following, prefix_len-le-length (λ b. not (b == 46)) digits)
 
 whole_short : (d : DecimalForm) → d.whole < 10 ^ 9 → front_len (decimal_text d) ≤ 9
 whole_short d below =
     let few = length-decimal-le 9 d.whole (omega arith) below (omega (arith, below)) in
-    let none = cond_both (d.digits == 0) [] (46 ∷ digits_text d.digits d.fraction) (λ behind. front_len behind ≡ 0) (λ _. refl) (λ _. refl) in
+    let none = cond_both (d.digits == 0) [] (46 ∷ digits_text d.digits d.fraction) (λ following. front_len following ≡ 0) (λ _. refl) (λ _. refl) in
     omega (arith, few, stops_at (decimal d.whole) (cond (d.digits == 0) [] (46 ∷ digits_text d.digits d.fraction)) none)
 
 -- a threshold is read from its canonical text
 pub threshold_again : (d : DecimalForm) → is_threshold d ≡ true → threshold_of (decimal_text d) ≡ Some d
 threshold_again d h =
     let parts = and_parts (is_decimal d) _ h in
-    let behind = and_parts (nat_lt d.whole (10 ^ 9)) _ parts.1 in
-    ap (option_and_then (λ value. cond (nat_le value.digits 6) (Some value) None)) (decimal_alike (decimal_text d) (whole_short d (ltb-true _ _ behind.0)) ∙ decimal_again d parts.0)
-    ∙ cond-true (nat_le d.digits 6) _ _ behind.1
+    let following = and_parts (nat_lt d.whole (10 ^ 9)) _ parts.1 in
+    ap (option_and_then (λ value. cond (nat_le value.digits 6) (Some value) None)) (decimal_alike (decimal_text d) (whole_short d (ltb-true _ _ following.0)) ∙ decimal_again d parts.0)
+    ∙ cond-true (nat_le d.digits 6) _ _ following.1
 
 top_proper : (k : ℕ) → is_top k ≡ true → k < 10 ^ 15
 top_proper k h = let most = leb-true k 65535 (and_parts (nat_le 1 k) (nat_le k 65535) h).1 in omega (arith, most)

@@ -28,7 +28,7 @@ front_depth word nest room lexemes front opened h =
 
 -- what stands in parentheses, after the first
 pub opened_reads : {A : Type 0} (reader : ℕ → Reader A) (position : Position) (room inside : Room) (lexemes opened : List Lexeme) → opened_at position room lexemes ≡ Ok (inside, opened)
-    → in_parentheses position (reader room.depth) room lexemes ≡ (reader (suc inside.depth) inside opened >>= λ read. expected signs.CloseParenthesis positions.BehindTerm read.1 >>= λ closed. Ok (read.0, closed))
+    → in_parentheses position (reader room.depth) room lexemes ≡ (reader (suc inside.depth) inside opened >>= λ read. expected signs.CloseParenthesis positions.AfterTerm read.1 >>= λ closed. Ok (read.0, closed))
 unfolding in_parentheses
 opened_reads reader position room inside lexemes opened parenthesis =
     rw (parenthesis, ap (λ (r : Room). r.depth) ((opened_read position room lexemes).is (inside, opened) parenthesis).around) refl

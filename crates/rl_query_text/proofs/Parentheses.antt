@@ -22,8 +22,8 @@ abbrev pub outside : Room → Room
 outside inside = record { depth = suc inside.depth; stages = inside.stages; tests = inside.tests }
 
 -- a parenthesis that was opened
-pub record IsOpened (room inside : Room) (lexemes behind : List Lexeme) : Type 0 where
-  pub stand : Stand (tokens.Sign signs.OpenParenthesis ∷ []) lexemes behind
+pub record IsOpened (room inside : Room) (lexemes following : List Lexeme) : Type 0 where
+  pub stand : Stand (tokens.Sign signs.OpenParenthesis ∷ []) lexemes following
   pub around : room ≡ outside inside
 
 deeper_found : (place depth : ℕ) (room : Room) → Finds (λ inside. inside_room room depth ≡ outside inside) (deeper place depth room)
@@ -33,16 +33,16 @@ deeper_found place (suc depth) room = found refl
 pub opened_read : (position : Position) (room : Room) (lexemes : List Lexeme) → Finds (λ x. IsOpened room x.0 lexemes x.1) (opened_at position room lexemes)
 unfolding opened_at
 opened_read position room lexemes =
-    then _ (expected_found signs.OpenParenthesis position lexemes) (λ behind stand. then _ (deeper_found (place_of lexemes) room.depth room) (λ inside is. found (record { stand = stand; around = is })))
+    then _ (expected_found signs.OpenParenthesis position lexemes) (λ following stand. then _ (deeper_found (place_of lexemes) room.depth room) (λ inside is. found (record { stand = stand; around = is })))
 
-pub opened_is : (position : Position) (room : Room) (depth : ℕ) (lexemes behind : List Lexeme) → room.depth ≡ suc depth → Stand (tokens.Sign signs.OpenParenthesis ∷ []) lexemes behind → opened_at position room lexemes ≡ Ok (inside_room room depth, behind)
+pub opened_is : (position : Position) (room : Room) (depth : ℕ) (lexemes following : List Lexeme) → room.depth ≡ suc depth → Stand (tokens.Sign signs.OpenParenthesis ∷ []) lexemes following → opened_at position room lexemes ≡ Ok (inside_room room depth, following)
 unfolding opened_at
-opened_is position room depth lexemes behind is stand = rw (expected_is signs.OpenParenthesis position lexemes behind stand, is) refl
+opened_is position room depth lexemes following is stand = rw (expected_is signs.OpenParenthesis position lexemes following stand, is) refl
 
 -- what stands in parentheses, by another rule
-pub inside_told : {Inside Told : Rule} {lexemes rest : List Lexeme} → ((behind end : List Lexeme) → Inside behind end → Told behind end) → InParentheses Inside lexemes rest
+pub inside_told : {Inside Told : Rule} {lexemes rest : List Lexeme} → ((following end : List Lexeme) → Inside following end → Told following end) → InParentheses Inside lexemes rest
     → InParentheses Told lexemes rest
-inside_told told p = record { behind = p.behind; end = p.end; opened = p.opened; inside = told p.behind p.end p.inside; closed = p.closed }
+inside_told told p = record { following = p.following; end = p.end; opened = p.opened; inside = told p.following p.end p.inside; closed = p.closed }
 
 -- what is read in parentheses
 pub parentheses_read : {A : Type 0} (Inside : Room → A → Rule) (position : Position) (inside : Reader A) (room : Room) (lexemes : List Lexeme) → ((room : Room) (lexemes : List Lexeme) → Finds (λ x. Inside room x.0 lexemes x.1) (inside room lexemes))
@@ -51,11 +51,11 @@ unfolding in_parentheses
 parentheses_read Inside position inside room lexemes sound =
     then _ (opened_read position room lexemes) (λ opened is.
     then _ (sound opened.0 opened.1) (λ read inner.
-    then _ (expected_found signs.CloseParenthesis positions.BehindTerm read.1) (λ rest closed.
-    found (opened.0, is.around, record { behind = opened.1; end = read.1; opened = is.stand; inside = inner; closed = closed }))))
+    then _ (expected_found signs.CloseParenthesis positions.AfterTerm read.1) (λ rest closed.
+    found (opened.0, is.around, record { following = opened.1; end = read.1; opened = is.stand; inside = inner; closed = closed }))))
 
-pub parentheses_are : {A : Type 0} (position : Position) (inside : Reader A) (room : Room) (depth : ℕ) (x : A) (lexemes behind end rest : List Lexeme) → room.depth ≡ suc depth → Stand (tokens.Sign signs.OpenParenthesis ∷ []) lexemes behind
-    → Stand (tokens.Sign signs.CloseParenthesis ∷ []) end rest → inside (inside_room room depth) behind ≡ Ok (x, end) → in_parentheses position inside room lexemes ≡ Ok (x, rest)
+pub parentheses_are : {A : Type 0} (position : Position) (inside : Reader A) (room : Room) (depth : ℕ) (x : A) (lexemes following end rest : List Lexeme) → room.depth ≡ suc depth → Stand (tokens.Sign signs.OpenParenthesis ∷ []) lexemes following
+    → Stand (tokens.Sign signs.CloseParenthesis ∷ []) end rest → inside (inside_room room depth) following ≡ Ok (x, end) → in_parentheses position inside room lexemes ≡ Ok (x, rest)
 unfolding in_parentheses
-parentheses_are position inside room depth x lexemes behind end rest is opened closed read =
-    rw (opened_is position room depth lexemes behind is opened, read, expected_is signs.CloseParenthesis positions.BehindTerm end rest closed) refl
+parentheses_are position inside room depth x lexemes following end rest is opened closed read =
+    rw (opened_is position room depth lexemes following is opened, read, expected_is signs.CloseParenthesis positions.AfterTerm end rest closed) refl

@@ -32,7 +32,7 @@ quotient_prints : (left : TermForm) (over : Option TermForm) (rest : List ℕ) �
 quotient_prints left None rest keeps none = prints_as (term_prints left rest keeps) (λ a b is. inl is)
 quotient_prints left (Some over) rest keeps kept =
     prints_as (then_prints (term_prints left _ keeps) (then_prints (spaced (token_then (tokens.Sign signs.Slash) _ refl done)) (spaced (term_prints over rest kept))))
-    (λ a b is. inl (record { middle = is.0; behind = is.2.0; dividend = inl is.1; slash = is.2.1; divisor = inl is.2.2 }))
+    (λ a b is. inl (record { middle = is.0; following = is.2.0; dividend = inl is.1; slash = is.2.1; divisor = inl is.2.2 }))
 
 -- a comparison and a number, up to the end
 threshold_prints : (test : Option ThresholdForm) → IfSome test (λ threshold. is_threshold threshold.value ≡ true) → Prints (IsThreshold test) (threshold_text test ++ []) []
@@ -51,4 +51,4 @@ query_printed query keeps =
     let prints = then_prints (quotient_prints query.left query.over (test ++ []) keeps.left keeps.over) (threshold_prints query.test keeps.test) in
     let is = prints_all (query_text query) (regrouped (term_text query.left ++ over_text query.over) test [] (regrouped (term_text query.left) (over_text query.over) (test ++ []) prints)) in
     let over = (elim query.over as (λ o. IfSome o KeepsTerm → option_map_or is_nested o true ≡ true) [ None ↦ λ _. refl | Some term ↦ λ kept. kept.nested ]) keeps.over in
-    record { behind = ended (query_text query); rest = []; is = inl is; end = (refl, refl); few = keeps.few; few_tests = keeps.few_tests; nested = and_from (is_nested query.left) _ keeps.left.nested over }
+    record { following = ended (query_text query); rest = []; is = inl is; end = (refl, refl); few = keeps.few; few_tests = keeps.few_tests; nested = and_from (is_nested query.left) _ keeps.left.nested over }

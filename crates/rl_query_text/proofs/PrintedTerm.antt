@@ -77,14 +77,14 @@ aggregation_prints aggregation inside rest proper prints =
     let stops = elim aggregation.grouping as (λ g. Stops (grouping_text g ++ 40 ∷ (parameter_text aggregation.operator ++ inside))) [ groupings.All ↦ refl | _ ↦ refl ] in
     let opened = then_prints (opens _) (then_prints (parameter_prints aggregation.operator inside parts.0) (then_prints prints (closes rest))) in
     simp append_assoc (prints_as (then_prints (token_then (tokens.Word (operator_word aggregation.operator)) _ (named, stops) done) (then_prints (grouping_prints aggregation.grouping _ parts.1) opened))
-    (λ a b is. record { behind_word = is.0; behind_grouping = is.2.0; behind_parenthesis = is.2.2.0; behind_parameter = is.2.2.2.0; end = is.2.2.2.2.0; behind_end = b; front = aggregation.grouping; back = groupings.All; word = is.1; grouped = is.2.1; opened = is.2.2.1; parameter = is.2.2.2.1; inside = is.2.2.2.2.1; closed = is.2.2.2.2.2; grouped_behind = (refl, refl); one_side = inl (refl, refl) }))
+    (λ a b is. record { after_word = is.0; after_grouping = is.2.0; after_parenthesis = is.2.2.0; after_parameter = is.2.2.2.0; end = is.2.2.2.2.0; after_end = b; front = aggregation.grouping; back = groupings.All; word = is.1; grouped = is.2.1; opened = is.2.2.1; parameter = is.2.2.2.1; inside = is.2.2.2.2.1; closed = is.2.2.2.2.2; grouped_after = (refl, refl); one_side = inl (refl, refl) }))
 
 -- a range in its parentheses
 range_prints : (depth : ℕ) (range : RangeForm) (rest : List ℕ) → KeepsRange depth range → Prints (IsRange depth range) (40 ∷ (range_text range ++ 41 ∷ rest)) rest
 range_prints depth range rest keeps =
     let timed = then_prints (stages_print depth range.stages _ keeps.stages refl) (duration_prints range.seconds (41 ∷ rest) keeps.in_range) in
     simp append_assoc (prints_as (then_prints (opens _) (then_prints (selector_prints range.matchers _ keeps.matchers keeps.real) (then_prints timed (closes rest))))
-    (λ a b is. record { behind_parenthesis = is.0; behind_selector = is.2.0; behind_duration = is.2.2.0; opened = is.1; selector = is.2.1; timed = inl (is.2.2.1.0, record { chained = is.2.2.1.1; one_parser = keeps.one_parser }, is.2.2.1.2); closed = is.2.2.2 }))
+    (λ a b is. record { after_parenthesis = is.0; after_selector = is.2.0; after_duration = is.2.2.0; opened = is.1; selector = is.2.1; timed = inl (is.2.2.1.0, record { chained = is.2.2.1.1; one_parser = keeps.one_parser }, is.2.2.1.2); closed = is.2.2.2 }))
 
 -- a term of these aggregations around a range aggregation
 abbrev around : List AggregationForm → RangeFunction → RangeForm → TermForm

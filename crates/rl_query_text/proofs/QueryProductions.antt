@@ -14,7 +14,7 @@ use Rattle.rl_query.specs.Form.{TermForm, ThresholdForm, QueryForm, all_stages, 
 use Rattle.rl_selector_text.specs.Fronts.{is_sign, next}
 use Rattle.rl_selector_text.specs.Lexing.{lexemes_of}
 use Rattle.rl_query.specs.Limits.{most_aggregations, most_parentheses}
-use Rattle.rl_query_text.specs.QueryReading.{Reader, room_behind, over_at, divided_at, compared_at, with_test, lone_at, operand_at, behind_at, query_by, query_within, ends, whole_room, whole_at, query_in, query_reading}
+use Rattle.rl_query_text.specs.QueryReading.{Reader, room_after, over_at, divided_at, compared_at, with_test, lone_at, operand_at, after_at, query_by, query_within, ends, whole_room, whole_at, query_in, query_reading}
 use Rattle.rl_selector_text.specs.Standing.{Stand}
 use Rattle.rl_query.specs.Tables.{comparison_sign}
 use Rattle.rl_query_text.specs.TermGrammar.{IsTerm, IsQuotient, IsThreshold, IsQuery, Derives}
@@ -53,10 +53,10 @@ term_quotient zero left lexemes rest is = absurd is
 term_quotient (suc depth) left lexemes rest is = inl is
 
 -- a quotient of two terms
-divided_query : (depth : ℕ) (left over : TermForm) (lexemes middle behind rest : List Lexeme) → IsQuotient depth left None lexemes middle → Stand (tokens.Sign signs.Slash ∷ []) middle behind → IsTerm depth over behind rest → IsQuery depth (parts_of_query left (Some over) None) lexemes rest
-divided_query zero left over lexemes middle behind rest dividend slash divisor = absurd divisor
-divided_query (suc depth) left over lexemes middle behind rest dividend slash divisor =
-    inl (rest, inl (record { middle = middle; behind = behind; dividend = dividend; slash = slash; divisor = inl divisor }), refl)
+divided_query : (depth : ℕ) (left over : TermForm) (lexemes middle following rest : List Lexeme) → IsQuotient depth left None lexemes middle → Stand (tokens.Sign signs.Slash ∷ []) middle following → IsTerm depth over following rest → IsQuery depth (parts_of_query left (Some over) None) lexemes rest
+divided_query zero left over lexemes middle following rest dividend slash divisor = absurd divisor
+divided_query (suc depth) left over lexemes middle following rest dividend slash divisor =
+    inl (rest, inl (record { middle = middle; following = following; dividend = dividend; slash = slash; divisor = inl divisor }), refl)
 
 -- a quotient and a threshold
 tested_query : (depth : ℕ) (left : TermForm) (over : Option TermForm) (test : ThresholdForm) (lexemes middle rest : List Lexeme) → IsQuotient depth left over lexemes middle → IsThreshold (Some test) middle rest → IsQuery depth (parts_of_query left over (Some test)) lexemes rest
@@ -87,7 +87,7 @@ divided_sound : (room : Room) (left : TermForm) (over : Option TermForm) (test :
     → Finding room lexemes (divided_at (parts_of_query left over test) room middle)
 unfolding divided_at over_at
 divided_sound room left None None lexemes middle before = then _ (next_found middle) (λ first stand. by_test (is_sign signs.Slash first.0.token)
-    (λ slash. then _ (term_derived positions.Divisor (room_behind left room) first.1) (λ x over.
+    (λ slash. then _ (term_derived positions.Divisor (room_after left room) first.1) (λ x over.
     let dividend = query_quotient room.depth left None lexemes middle before.is in
     let nested = and_from (is_nested left) (is_nested x.0) (and_parts (is_nested left) true before.fits.2).0 (le-leb (length x.0.aggregations) most_aggregations over.fits.0) in
     found (record {
@@ -136,7 +136,7 @@ operand_sound inside sound room lexemes = then _ (itself (next lexemes)) (λ fir
     (λ _. lone_sound room lexemes))
 
 within_sound : (turns : ℕ) → IsSound (query_within turns)
-unfolding query_by behind_at
+unfolding query_by after_at
 within_sound zero room lexemes = fault
 within_sound (suc turns) room lexemes =
     then _ (operand_sound (query_within turns) (within_sound turns) room lexemes) (λ operand is.
@@ -158,4 +158,4 @@ query_derived text =
     then _ (whole_derived (lexemes_of text)) (λ query roomy.
     then _ (next_found query.1) (λ last stand.
     then _ (end_found last.0.place last.0.token) (λ _ is.
-    found (record { behind = query.1; rest = last.1; is = roomy.is; end = told_by query.1 last.1 is stand; few = roomy.fits.0; few_tests = roomy.fits.1; nested = roomy.fits.2 }))))
+    found (record { following = query.1; rest = last.1; is = roomy.is; end = told_by query.1 last.1 is stand; few = roomy.fits.0; few_tests = roomy.fits.1; nested = roomy.fits.2 }))))

@@ -16,7 +16,7 @@ use Rattle.rl_query.specs.Durations.{duration_of}
 use Rattle.rl_selector_text.specs.Standing.{Stand}
 use Rattle.rl_selector_text.specs.Fronts.{expected}
 use Rattle.rl_query_text.specs.RangeReading.{looks_like_duration, seconds_of, range_of, seconds_at, closing_at, range_at, closed_at, timed_at}
-use Rattle.rl_selector_text.specs.Parsing.{behind_stages}
+use Rattle.rl_selector_text.specs.Parsing.{after_stages}
 use Rattle.rl_selector_text.proofs.Finding.{Finds, found, fault, then, by_test, next_found, told_by}
 use Rattle.rl_selector_text.proofs.Productions.{stand_then, stood, expected_found, expected_is, selector_found, selector_is}
 use Rattle.rl_selector_text.proofs.StageProductions.{AreRoomy, stages_derived, stages_are_read}
@@ -50,53 +50,53 @@ seconds_are position seconds lexemes rest is =
     let checked : nat_le 1 seconds && nat_le seconds longest_range ≡ true = and_from _ _ (le-leb 1 seconds is.in_range.0) (le-leb seconds longest_range is.in_range.1) in
     rw (stood (tokens.Sign signs.OpenBracket ∷ tokens.Number is.duration ∷ tokens.Sign signs.CloseBracket ∷ []) lexemes rest is.stand, is.read, checked) refl
 
-closed_behind : (room : Room) (stages : List StageForm) (lexemes behind rest : List Lexeme) → AreRoomy room stages lexemes behind → Stand (tokens.Sign signs.CloseParenthesis ∷ []) behind rest → closed_at room [] lexemes ≡ Ok (stages, rest)
+closed_after : (room : Room) (stages : List StageForm) (lexemes following rest : List Lexeme) → AreRoomy room stages lexemes following → Stand (tokens.Sign signs.CloseParenthesis ∷ []) following rest → closed_at room [] lexemes ≡ Ok (stages, rest)
 unfolding closed_at
-closed_behind room stages lexemes behind rest are closed =
-    rw (stages_are_read room stages lexemes behind are (ends_at (tokens.Sign signs.CloseParenthesis) [] behind rest closed refl refl (λ _. refl) refl), expected_is signs.CloseParenthesis (behind_stages positions.BehindRange stages) behind rest closed) refl
+closed_after room stages lexemes following rest are closed =
+    rw (stages_are_read room stages lexemes following are (ends_at (tokens.Sign signs.CloseParenthesis) [] following rest closed refl refl (λ _. refl) refl), expected_is signs.CloseParenthesis (after_stages positions.AfterRange stages) following rest closed) refl
 
 no_stages : (room : Room) (lexemes : List Lexeme) → AreRoomy room [] lexemes lexemes
 no_stages room lexemes = record { are = record { chained = refl; one_parser = omega arith }; few = omega arith; few_tests = omega arith }
 
 closed_before : (room : Room) (stages : List StageForm) (lexemes rest : List Lexeme) → Stand (tokens.Sign signs.CloseParenthesis ∷ []) lexemes rest → closed_at room stages lexemes ≡ Ok (stages, rest)
 unfolding closed_at
-closed_before room [] lexemes rest closed = closed_behind room [] lexemes lexemes rest (no_stages room lexemes) closed
-closed_before room (s ∷ stages) lexemes rest closed = rw (expected_is signs.CloseParenthesis positions.BehindFilteredRange lexemes rest closed) refl
+closed_before room [] lexemes rest closed = closed_after room [] lexemes lexemes rest (no_stages room lexemes) closed
+closed_before room (s ∷ stages) lexemes rest closed = rw (expected_is signs.CloseParenthesis positions.AfterFilteredRange lexemes rest closed) refl
 
 -- stages and a duration, and the parenthesis after them
 record IsClosing (room : Room) (stages : List StageForm) (seconds : ℕ) (lexemes rest : List Lexeme) : Type 0 where
-  pub behind : List Lexeme
-  pub timed : IsTimed room.depth stages seconds lexemes behind
+  pub following : List Lexeme
+  pub timed : IsTimed room.depth stages seconds lexemes following
   pub few : length stages ≤ room.stages
   pub few_tests : label_tests stages ≤ room.tests
-  pub closed : Stand (tokens.Sign signs.CloseParenthesis ∷ []) behind rest
+  pub closed : Stand (tokens.Sign signs.CloseParenthesis ∷ []) following rest
 
 closing_read : (room : Room) (lexemes : List Lexeme) → Finds (λ x. IsClosing room x.0 x.1 lexemes x.2) (closing_at room lexemes)
 unfolding closing_at timed_at closed_at
 closing_read room lexemes =
     then _ (stages_derived room lexemes) (λ front roomy.
-    then _ (seconds_read (behind_stages positions.BehindSelector front.0) front.1) (λ seconds duration.
+    then _ (seconds_read (after_stages positions.AfterSelector front.0) front.1) (λ seconds duration.
     then _ (by_front front.0 front.1 seconds.0 seconds.1 roomy duration) (λ all closing. found closing)))
   where
     by_front : (front : List StageForm) (middle : List Lexeme) (n : ℕ) (after : List Lexeme) → AreRoomy room front lexemes middle → IsDuration n middle after → Finds (λ x. IsClosing room x.0 n lexemes x.1) (closed_at room front after)
     by_front [] middle n after roomy duration =
         then _ (stages_derived room after) (λ stages are.
-        then _ (expected_found signs.CloseParenthesis (behind_stages positions.BehindRange stages.0) stages.1) (λ rest closed.
-        found (record { behind = stages.1; timed = inr (after, subst (λ ls. IsDuration n ls after) (sym roomy.are.chained) duration, are.are); few = are.few; few_tests = are.few_tests; closed = closed })))
+        then _ (expected_found signs.CloseParenthesis (after_stages positions.AfterRange stages.0) stages.1) (λ rest closed.
+        found (record { following = stages.1; timed = inr (after, subst (λ ls. IsDuration n ls after) (sym roomy.are.chained) duration, are.are); few = are.few; few_tests = are.few_tests; closed = closed })))
     by_front (s ∷ front) middle n after roomy duration =
-        then _ (expected_found signs.CloseParenthesis positions.BehindFilteredRange after) (λ rest closed.
-        found (record { behind = after; timed = inl (middle, roomy.are, duration); few = roomy.few; few_tests = roomy.few_tests; closed = closed }))
+        then _ (expected_found signs.CloseParenthesis positions.AfterFilteredRange after) (λ rest closed.
+        found (record { following = after; timed = inl (middle, roomy.are, duration); few = roomy.few; few_tests = roomy.few_tests; closed = closed }))
 
 bracket_stops : (n : ℕ) (ls end : List Lexeme) → IsDuration n ls end → Ends ls
 bracket_stops n ls end duration = ends_at (tokens.Sign signs.OpenBracket) (tokens.Number duration.duration ∷ tokens.Sign signs.CloseBracket ∷ []) ls end duration.stand refl refl (λ _. refl) refl
 
-closing_is : (room : Room) (stages : List StageForm) (seconds : ℕ) (lexemes rest behind : List Lexeme) → length stages ≤ room.stages → label_tests stages ≤ room.tests → IsTimed room.depth stages seconds lexemes behind → Stand (tokens.Sign signs.CloseParenthesis ∷ []) behind rest
+closing_is : (room : Room) (stages : List StageForm) (seconds : ℕ) (lexemes rest following : List Lexeme) → length stages ≤ room.stages → label_tests stages ≤ room.tests → IsTimed room.depth stages seconds lexemes following → Stand (tokens.Sign signs.CloseParenthesis ∷ []) following rest
     → closing_at room lexemes ≡ Ok (stages, seconds, rest)
 unfolding closing_at timed_at
-closing_is room stages seconds lexemes rest behind few few_tests (inl before) closed =
-    rw (stages_are_read room stages lexemes before.0 (record { are = before.1; few = few; few_tests = few_tests }) (bracket_stops seconds before.0 behind before.2), seconds_are (behind_stages positions.BehindSelector stages) seconds before.0 behind before.2, closed_before room stages behind rest closed) refl
-closing_is room stages seconds lexemes rest behind few few_tests (inr after) closed =
-    rw (stages_are_read room [] lexemes lexemes (no_stages room lexemes) (bracket_stops seconds lexemes after.0 after.1), seconds_are positions.BehindSelector seconds lexemes after.0 after.1, closed_behind room stages after.0 behind rest (record { are = after.2; few = few; few_tests = few_tests }) closed) refl
+closing_is room stages seconds lexemes rest following few few_tests (inl before) closed =
+    rw (stages_are_read room stages lexemes before.0 (record { are = before.1; few = few; few_tests = few_tests }) (bracket_stops seconds before.0 following before.2), seconds_are (after_stages positions.AfterSelector stages) seconds before.0 following before.2, closed_before room stages following rest closed) refl
+closing_is room stages seconds lexemes rest following few few_tests (inr after) closed =
+    rw (stages_are_read room [] lexemes lexemes (no_stages room lexemes) (bracket_stops seconds lexemes after.0 after.1), seconds_are positions.AfterSelector seconds lexemes after.0 after.1, closed_after room stages after.0 following rest (record { are = after.2; few = few; few_tests = few_tests }) closed) refl
 
 -- a range, and room for what it has
 pub record IsRoomyRange (room : Room) (range : RangeForm) (lexemes rest : List Lexeme) : Type 0 where
@@ -116,7 +116,7 @@ range_derived room lexemes =
     found (record {
       inside = inside.0.depth;
       depth = ap (λ (r : Room). r.depth) opened.around;
-      is = record { behind_parenthesis = inside.1; behind_selector = matchers.1; behind_duration = closing.behind; opened = opened.stand; selector = selector; timed = closing.timed; closed = closing.closed };
+      is = record { after_parenthesis = inside.1; after_selector = matchers.1; after_duration = closing.following; opened = opened.stand; selector = selector; timed = closing.timed; closed = closing.closed };
       few = subst (λ (r : Room). length range.0 ≤ r.stages) (sym opened.around) closing.few;
       few_tests = subst (λ (r : Room). label_tests range.0 ≤ r.tests) (sym opened.around) closing.few_tests;
     })))))
@@ -125,6 +125,6 @@ pub range_is : (room : Room) (range : RangeForm) (lexemes rest : List Lexeme) �
 unfolding range_at
 range_is room range lexemes rest roomy =
     let is = roomy.is in
-    let selector = selector_is range.matchers is.behind_parenthesis is.behind_selector is.selector in
-    let closing = closing_is (inside_room room roomy.inside) range.stages range.seconds is.behind_selector rest is.behind_duration roomy.few roomy.few_tests is.timed is.closed in
-    rw (opened_is positions.Elsewhere room roomy.inside lexemes is.behind_parenthesis roomy.depth is.opened, selector.1, selector.2, closing) refl
+    let selector = selector_is range.matchers is.after_parenthesis is.after_selector is.selector in
+    let closing = closing_is (inside_room room roomy.inside) range.stages range.seconds is.after_selector rest is.after_duration roomy.few roomy.few_tests is.timed is.closed in
+    rw (opened_is positions.Elsewhere room roomy.inside lexemes is.after_parenthesis roomy.depth is.opened, selector.1, selector.2, closing) refl

@@ -11,7 +11,7 @@ use Rattle.std.specs.Option.{IfSome, option_map}
 use Rattle.rl_query.specs.declared.query.Query.{Query}
 use Rattle.rl_query.specs.declared.query.Term.{Term}
 use Rattle.rl_query.specs.Printing.{term_text, query_text}
-use Rattle.rl_selector_text.proofs.Elements.{real_forms}
+use Rattle.rl_selector_text.proofs.Items.{real_forms}
 use Rattle.rl_selector_text.proofs.PrintedStages.{is_stage}
 use Rattle.rl_query_text.proofs.PrintedTerm.{is_aggregation, KeepsRange, KeepsTerm}
 use Rattle.rl_query_text.proofs.PrintedQuery.{Keeps}

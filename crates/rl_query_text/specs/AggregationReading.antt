@@ -43,9 +43,9 @@ unfoldable pub named_at : List Lexeme → Result (List ℕ × Bool × List Lexem
 named_at lexemes = do
   first ← next lexemes
   name ← label_name first.0.place first.0.token
-  behind ← next first.1
-  more ← name_follows behind.0.place behind.0.token
-  Ok (name, more, behind.1)
+  following ← next first.1
+  more ← name_follows following.0.place following.0.token
+  Ok (name, more, following.1)
 
 -- names joined by commas up to the closing parenthesis, or none
 unfoldable pub names_in : List Lexeme → Result (List (List ℕ) × List Lexeme) Stop
@@ -80,8 +80,8 @@ unfoldable pub topk_at : List Lexeme → Result (VectorOperator × List Lexeme) 
 topk_at lexemes = do
   number ← next lexemes
   top ← top_at number.0.place number.0.token
-  behind ← expected signs.Comma positions.Elsewhere number.1
-  Ok (operators.Topk top, behind)
+  following ← expected signs.Comma positions.Elsewhere number.1
+  Ok (operators.Topk top, following)
 
 -- an operator of the word, and the number that topk has after the parenthesis
 abbrev pub operator_at : List ℕ → List Lexeme → Result (VectorOperator × List Lexeme) Stop
@@ -113,7 +113,7 @@ back_at grouping room lexemes = Ok (grouping, lexemes)
 -- the parenthesis after the term, and the grouping
 unfoldable pub ended_at : Front → Room → List Lexeme → Result (AggregationForm × List Lexeme) Stop
 ended_at front room lexemes = do
-  closed ← expected signs.CloseParenthesis positions.BehindTerm lexemes
+  closed ← expected signs.CloseParenthesis positions.AfterTerm lexemes
   grouping ← back_at front.grouping room closed
   Ok (record { operator = front.operator; grouping = grouping.0 }, grouping.1)
 

@@ -33,7 +33,7 @@ unfoldable pub in_parentheses : {A : Type 0} → Position → Reader A → Reade
 in_parentheses position inside room lexemes = do
   opened ← opened_at position room lexemes
   read ← inside opened.0 opened.1
-  closed ← expected signs.CloseParenthesis positions.BehindTerm read.1
+  closed ← expected signs.CloseParenthesis positions.AfterTerm read.1
   Ok (read.0, closed)
 
 -- what reads a term, at a position and where `nest` vector aggregations may come
@@ -64,9 +64,9 @@ worded_at inside position place word nest room lexemes =
     else option_map_or (λ function. ranged_at function room lexemes) (function_with_text word) (Err (refusal position place (tokens.Word word)))
 
 -- a term that begins with the token; the others follow it
-abbrev pub begun_at : TermReader → Position → (place : ℕ) → Token → (nest : ℕ) → Room → (all behind : List Lexeme) → Result (TermForm × List Lexeme) Stop
-begun_at inside position place (tokens.Word word) nest room all behind = worded_at inside position place word nest room behind
-begun_at inside position place token nest room all behind = if is_sign signs.OpenParenthesis token then in_parentheses positions.InTerm (inside positions.InTerm nest) room all else Err (refusal position place token)
+abbrev pub begun_at : TermReader → Position → (place : ℕ) → Token → (nest : ℕ) → Room → (all following : List Lexeme) → Result (TermForm × List Lexeme) Stop
+begun_at inside position place (tokens.Word word) nest room all following = worded_at inside position place word nest room following
+begun_at inside position place token nest room all following = if is_sign signs.OpenParenthesis token then in_parentheses positions.InTerm (inside positions.InTerm nest) room all else Err (refusal position place token)
 
 -- a term whose inside is read so
 unfoldable pub term_by : TermReader → TermReader
@@ -87,8 +87,8 @@ abbrev pub alone : TermForm → QueryForm
 alone term = record { left = term; over = None; test = None }
 
 -- what a text may still have after a term
-abbrev pub room_behind : TermForm → Room → Room
-room_behind term room = record { depth = room.depth; stages = room.stages - length term.range.stages; tests = room.tests - label_tests term.range.stages }
+abbrev pub room_after : TermForm → Room → Room
+room_after term room = record { depth = room.depth; stages = room.stages - length term.range.stages; tests = room.tests - label_tests term.range.stages }
 
 -- a term that is not divided or compared
 abbrev pub is_term : QueryForm → Bool
@@ -97,7 +97,7 @@ is_term query = not (is_some query.over) && not (is_some query.test)
 -- the divisor after a term
 unfoldable pub over_at : TermForm → Reader QueryForm
 over_at left room lexemes = do
-  over ← term_at positions.Divisor (room_behind left room) lexemes
+  over ← term_at positions.Divisor (room_after left room) lexemes
   Ok (record { left = left; over = Some over.0; test = None }, over.1)
 
 -- the divisor, where a slash comes
@@ -134,8 +134,8 @@ operand_at inside room lexemes = do
   if is_sign signs.OpenParenthesis first.0.token then in_parentheses positions.Start inside room lexemes else lone_at room lexemes
 
 -- what an operand is divided by and compared with
-unfoldable pub behind_at : QueryForm → Reader QueryForm
-behind_at operand room lexemes = do
+unfoldable pub after_at : QueryForm → Reader QueryForm
+after_at operand room lexemes = do
   divided ← divided_at operand room lexemes
   compared ← compared_at divided.0 divided.1
   Ok (with_test divided.0 compared.0, compared.1)
@@ -144,7 +144,7 @@ behind_at operand room lexemes = do
 unfoldable pub query_by : (inside : Reader QueryForm) → Reader QueryForm
 query_by inside room lexemes = do
   operand ← operand_at inside room lexemes
-  behind_at operand.0 room operand.1
+  after_at operand.0 room operand.1
 
 -- a query in which queries stand within one another at most `turns` deep
 abbrev pub query_within : (turns : ℕ) → Reader QueryForm
@@ -154,7 +154,7 @@ query_within (suc turns) room lexemes = query_by (query_within turns) room lexem
 -- nothing follows a query
 abbrev pub ends : ℕ → Token → Result (Unit {0}) Stop
 ends place tokens.End = Ok tt
-ends place token = Err (refusal positions.BehindTerm place token)
+ends place token = Err (refusal positions.AfterTerm place token)
 
 -- all that a text may have
 abbrev pub whole_room : Room

@@ -18,14 +18,14 @@ pub record IsDuration (seconds : ℕ) (lexemes rest : List Lexeme) : Type 0 wher
 
 -- stages [duration], or [duration] stages
 abbrev pub IsTimed : (depth : ℕ) → List StageForm → ℕ → List Lexeme → List Lexeme → Type 0
-IsTimed depth stages seconds lexemes rest = ((behind : List Lexeme) × AreStages depth stages lexemes behind × IsDuration seconds behind rest) ⊎ ((behind : List Lexeme) × IsDuration seconds lexemes behind × AreStages depth stages behind rest)
+IsTimed depth stages seconds lexemes rest = ((following : List Lexeme) × AreStages depth stages lexemes following × IsDuration seconds following rest) ⊎ ((following : List Lexeme) × IsDuration seconds lexemes following × AreStages depth stages following rest)
 
 -- ({matchers} stages [duration]), or the stages after the duration; inside, `depth` parentheses may be open at once
 pub record IsRange (depth : ℕ) (range : RangeForm) (lexemes rest : List Lexeme) : Type 0 where
-  pub behind_parenthesis : List Lexeme
-  pub behind_selector : List Lexeme
-  pub behind_duration : List Lexeme
-  pub opened : Stand (tokens.Sign signs.OpenParenthesis ∷ []) lexemes behind_parenthesis
-  pub selector : IsSelector range.matchers behind_parenthesis behind_selector
-  pub timed : IsTimed depth range.stages range.seconds behind_selector behind_duration
-  pub closed : Stand (tokens.Sign signs.CloseParenthesis ∷ []) behind_duration rest
+  pub after_parenthesis : List Lexeme
+  pub after_selector : List Lexeme
+  pub after_duration : List Lexeme
+  pub opened : Stand (tokens.Sign signs.OpenParenthesis ∷ []) lexemes after_parenthesis
+  pub selector : IsSelector range.matchers after_parenthesis after_selector
+  pub timed : IsTimed depth range.stages range.seconds after_selector after_duration
+  pub closed : Stand (tokens.Sign signs.CloseParenthesis ∷ []) after_duration rest

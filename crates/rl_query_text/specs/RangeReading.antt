@@ -19,7 +19,7 @@ use Rattle.rl_query.specs.declared.token.Token.TheVariants as tokens
 use Rattle.rl_query.specs.Durations.{duration_of}
 use Rattle.rl_labels.specs.Quantities.{duration_of as label_duration_of}
 use Rattle.rl_plain.specs.Answers.{◌>>=◌}
-use Rattle.rl_selector_text.specs.Parsing.{behind_stages, selector_at, stages_in}
+use Rattle.rl_selector_text.specs.Parsing.{after_stages, selector_at, stages_in}
 
 -- the letters of units
 abbrev pub is_unit_letter : ℕ → Bool
@@ -58,16 +58,16 @@ seconds_at position lexemes = do
 unfoldable pub closed_at : Room → List StageForm → List Lexeme → Result (List StageForm × List Lexeme) Stop
 closed_at room [] lexemes = do
   stages ← stages_in room lexemes
-  closed ← expected signs.CloseParenthesis (behind_stages positions.BehindRange stages.0) stages.1
+  closed ← expected signs.CloseParenthesis (after_stages positions.AfterRange stages.0) stages.1
   Ok (stages.0, closed)
 closed_at room (stage ∷ stages) lexemes = do
-  closed ← expected signs.CloseParenthesis positions.BehindFilteredRange lexemes
+  closed ← expected signs.CloseParenthesis positions.AfterFilteredRange lexemes
   Ok (stage ∷ stages, closed)
 
 -- a range in brackets after stages or none, and what closes it
 unfoldable pub timed_at : Room → List StageForm → List Lexeme → Result (List StageForm × ℕ × List Lexeme) Stop
 timed_at room front lexemes = do
-  seconds ← seconds_at (behind_stages positions.BehindSelector front) lexemes
+  seconds ← seconds_at (after_stages positions.AfterSelector front) lexemes
   closed ← closed_at room front seconds.1
   Ok (closed.0, seconds.0, closed.1)
 
@@ -85,9 +85,9 @@ deeper place (suc depth) room = Ok (record { depth = depth; stages = room.stages
 -- an opening parenthesis, and the room inside it
 unfoldable pub opened_at : Position → Room → List Lexeme → Result (Room × List Lexeme) Stop
 opened_at position room lexemes = do
-  behind ← expected signs.OpenParenthesis position lexemes
+  following ← expected signs.OpenParenthesis position lexemes
   inside ← deeper (place_of lexemes) room.depth room
-  Ok (inside, behind)
+  Ok (inside, following)
 
 -- a selector, stages and a range in parentheses
 unfoldable pub range_at : Room → List Lexeme → Result (RangeForm × List Lexeme) Stop

@@ -19,10 +19,10 @@ use Rattle.rl_query.specs.Tables.{comparison_sign, function_text, operator_word}
 
 -- "(" what is inside ")"
 pub record InParentheses (Inside : Rule) (lexemes rest : List Lexeme) : Type 0 where
-  pub behind : List Lexeme
+  pub following : List Lexeme
   pub end : List Lexeme
-  pub opened : Stand (tokens.Sign signs.OpenParenthesis ∷ []) lexemes behind
-  pub inside : Inside behind end
+  pub opened : Stand (tokens.Sign signs.OpenParenthesis ∷ []) lexemes following
+  pub inside : Inside following end
   pub closed : Stand (tokens.Sign signs.CloseParenthesis ∷ []) end rest
 
 -- names joined by commas, or none, up to the closing parenthesis
@@ -46,26 +46,26 @@ IsParameter (operators.Topk k) lexemes rest = (number : List ℕ) × Stand (toke
 IsParameter _ lexemes rest = lexemes ≡ rest
 
 -- the grouping stands before the parentheses or after them
-abbrev pub OneSide : (before behind grouping : Grouping) → Type 0
-OneSide before behind grouping = ((before ≡ grouping) × (behind ≡ groupings.All)) ⊎ ((before ≡ groupings.All) × (behind ≡ grouping))
+abbrev pub OneSide : (before following grouping : Grouping) → Type 0
+OneSide before following grouping = ((before ≡ grouping) × (following ≡ groupings.All)) ⊎ ((before ≡ groupings.All) × (following ≡ grouping))
 
 -- operator [grouping] "(" [number ","] what is inside ")" [grouping]
 pub record IsAggregation (Inside : Rule) (aggregation : AggregationForm) (lexemes rest : List Lexeme) : Type 0 where
-  pub behind_word : List Lexeme
-  pub behind_grouping : List Lexeme
-  pub behind_parenthesis : List Lexeme
-  pub behind_parameter : List Lexeme
+  pub after_word : List Lexeme
+  pub after_grouping : List Lexeme
+  pub after_parenthesis : List Lexeme
+  pub after_parameter : List Lexeme
   pub end : List Lexeme
-  pub behind_end : List Lexeme
+  pub after_end : List Lexeme
   pub front : Grouping
   pub back : Grouping
-  pub word : Stand (tokens.Word (operator_word aggregation.operator) ∷ []) lexemes behind_word
-  pub grouped : IsGrouping front behind_word behind_grouping
-  pub opened : Stand (tokens.Sign signs.OpenParenthesis ∷ []) behind_grouping behind_parenthesis
-  pub parameter : IsParameter aggregation.operator behind_parenthesis behind_parameter
-  pub inside : Inside behind_parameter end
-  pub closed : Stand (tokens.Sign signs.CloseParenthesis ∷ []) end behind_end
-  pub grouped_behind : IsGrouping back behind_end rest
+  pub word : Stand (tokens.Word (operator_word aggregation.operator) ∷ []) lexemes after_word
+  pub grouped : IsGrouping front after_word after_grouping
+  pub opened : Stand (tokens.Sign signs.OpenParenthesis ∷ []) after_grouping after_parenthesis
+  pub parameter : IsParameter aggregation.operator after_parenthesis after_parameter
+  pub inside : Inside after_parameter end
+  pub closed : Stand (tokens.Sign signs.CloseParenthesis ∷ []) end after_end
+  pub grouped_after : IsGrouping back after_end rest
   pub one_side : OneSide front back aggregation.grouping
 
 abbrev pub TermRule : Type 1
@@ -73,7 +73,7 @@ TermRule = TermForm → Rule
 
 -- function range, or a vector aggregation of a term
 abbrev pub IsBare : (depth : ℕ) (Inside : TermRule) → List AggregationForm → RangeFunction → RangeForm → Rule
-IsBare depth Inside [] function range lexemes rest = (behind : List Lexeme) × Stand (tokens.Word (function_text function) ∷ []) lexemes behind × IsRange depth range behind rest
+IsBare depth Inside [] function range lexemes rest = (following : List Lexeme) × Stand (tokens.Word (function_text function) ∷ []) lexemes following × IsRange depth range following rest
 IsBare depth Inside (aggregation ∷ aggregations) function range lexemes rest = IsAggregation (Inside (record { aggregations = aggregations; function = function; range = range })) aggregation lexemes rest
 
 -- such a term, or a term in parentheses
@@ -93,10 +93,10 @@ IsOperand depth Inside left (Some over) lexemes rest = InParentheses (Inside lef
 -- operand "/" operand, neither of which is divided
 pub record IsDivided (depth : ℕ) (Inside : QuotientRule) (left over : TermForm) (lexemes rest : List Lexeme) : Type 0 where
   pub middle : List Lexeme
-  pub behind : List Lexeme
+  pub following : List Lexeme
   pub dividend : IsOperand depth Inside left None lexemes middle
-  pub slash : Stand (tokens.Sign signs.Slash ∷ []) middle behind
-  pub divisor : IsOperand depth Inside over None behind rest
+  pub slash : Stand (tokens.Sign signs.Slash ∷ []) middle following
+  pub divisor : IsOperand depth Inside over None following rest
 
 -- an operand, or two
 abbrev pub IsQuotientIn : (depth : ℕ) (Inside : QuotientRule) → QuotientRule
@@ -114,7 +114,7 @@ IsThreshold (Some threshold) lexemes rest = (number : List ℕ) × Stand (tokens
 
 -- a quotient and its threshold
 abbrev pub IsTested : (depth : ℕ) → QueryForm → Rule
-IsTested depth query lexemes rest = (behind : List Lexeme) × IsQuotient depth query.left query.over lexemes behind × IsThreshold query.test behind rest
+IsTested depth query lexemes rest = (following : List Lexeme) × IsQuotient depth query.left query.over lexemes following × IsThreshold query.test following rest
 
 -- or a query in parentheses
 abbrev pub IsQuery : (depth : ℕ) → QueryForm → Rule
@@ -123,10 +123,10 @@ IsQuery (suc depth) query lexemes rest = IsTested (suc depth) query lexemes rest
 
 -- a query and nothing after it, with no more stages, label tests and vector aggregations than there may be
 pub record Derives (text : List ℕ) (query : QueryForm) : Type 0 where
-  pub behind : List Lexeme
+  pub following : List Lexeme
   pub rest : List Lexeme
-  pub is : IsQuery most_parentheses query (lexemes_of text) behind
-  pub end : Stand (tokens.End ∷ []) behind rest
+  pub is : IsQuery most_parentheses query (lexemes_of text) following
+  pub end : Stand (tokens.End ∷ []) following rest
   pub few : all_stages query ≤ most_stages
   pub few_tests : all_label_tests query ≤ most_tests
   pub nested : are_nested query ≡ true

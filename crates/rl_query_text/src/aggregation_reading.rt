@@ -81,12 +81,12 @@ fn names_at(alloc: Global, lexemes: &[Lexeme]) -> Result<(Vec<PlainText>, &[Lexe
     let mut names = Vec::new(alloc);
     let mut rest = lexemes;
     for _turn in 0..lexemes.len() {
-        let (name, more, behind) = named_at(rest)?;
+        let (name, more, following) = named_at(rest)?;
         names.push(name)?;
         if !more {
-            return Ok((names, behind));
+            return Ok((names, following));
         }
-        rest = behind;
+        rest = following;
     }
     Err(Stopped::Fault(Stop::syntax(0)))
 }
@@ -301,7 +301,7 @@ pub(crate) fn ended_at(
     requires named { IsTrue (is_grouping front.grouping) }
     ensures { Gives (λ x. (aggregation_form x.0, x.1.now)) result (ended_at front room lexemes.now) }
 {
-    let rest = expected(Sign::CloseParenthesis, Position::BehindTerm, lexemes)?;
+    let rest = expected(Sign::CloseParenthesis, Position::AfterTerm, lexemes)?;
     let operator = front.operator;
     let (grouping, rest) = back_at(alloc, front.grouping, room, rest)?;
     Ok((Aggregation { operator, grouping }, rest))

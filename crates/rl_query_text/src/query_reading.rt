@@ -4,7 +4,7 @@ ghost use Rattle.rl_plain.specs.Answers.{Gives, Answers};
 ghost use Rattle.rl_query_text.specs.Drafts.{term_draft, query_draft, KeepsQuery};
 ghost use Rattle.rl_query.specs.Form.{stage_form, tests_of, label_tests, query_form, threshold_form};
 ghost use Rattle.rl_query.specs.TestTree.{count_tests};
-ghost use Rattle.rl_query_text.specs.QueryReading.{in_parentheses, room_behind, is_term, over_at, divided_at, comes_to_test, compared_at, with_test, lone_at, operand_at, behind_at, query_within, ends, whole_room, whole_at, query_in};
+ghost use Rattle.rl_query_text.specs.QueryReading.{in_parentheses, room_after, is_term, over_at, divided_at, comes_to_test, compared_at, with_test, lone_at, operand_at, after_at, query_within, ends, whole_room, whole_at, query_in};
 ghost use Rattle.rl_selector_text.specs.declared.front.Position.TheVariants as positions;
 
 use crate::aggregation_reading::{compared_by, threshold_at};
@@ -30,41 +30,41 @@ const MOST_PARENTHESES: usize = 64;
 const MOST_TESTS: usize = 256;
 
 // How many label tests may still come after some.
-fn left_behind_tests(tests: &LabelTests, left: usize) -> usize
+fn left_after_tests(tests: &LabelTests, left: usize) -> usize
     ensures { result ≡ left - count_tests tests.now }
 {
     match tests.parts() {
         TestParts::One(_) => left.saturating_sub(1),
-        TestParts::Joined(_, one, other) => left_behind_tests(other, left_behind_tests(one, left)),
+        TestParts::Joined(_, one, other) => left_after_tests(other, left_after_tests(one, left)),
     }
 }
 
-fn left_behind_stage(stage: &Stage, left: usize) -> usize
+fn left_after_stage(stage: &Stage, left: usize) -> usize
     ensures { result ≡ left - tests_of (stage_form stage.now) }
 {
     match stage {
         Stage::Filter(_) | Stage::Parser(_) => left,
-        Stage::Tests(tests) => left_behind_tests(tests, left),
+        Stage::Tests(tests) => left_after_tests(tests, left),
     }
 }
 
-fn left_behind_stages(stages: &[Stage], left: usize) -> usize
+fn left_after_stages(stages: &[Stage], left: usize) -> usize
     ensures { result ≡ left - label_tests (map stage_form stages.now) }
 {
     match stages {
         [] => left,
-        [first, rest @ ..] => left_behind_stages(rest, left_behind_stage(first, left)),
+        [first, rest @ ..] => left_after_stages(rest, left_after_stage(first, left)),
     }
 }
 
 // What a text may still have after a term.
-fn room_behind(term: &DraftTerm, room: Room) -> Room
-    ensures { result ≡ room_behind (term_draft term.now) room }
+fn room_after(term: &DraftTerm, room: Room) -> Room
+    ensures { result ≡ room_after (term_draft term.now) room }
 {
     Room {
         depth: room.depth,
         stages: room.stages.saturating_sub(term.range.stages.len()),
-        tests: left_behind_stages(&term.range.stages, room.tests),
+        tests: left_after_stages(&term.range.stages, room.tests),
     }
 }
 
@@ -85,7 +85,7 @@ fn over_at(
 ) -> Result<(DraftQuery, &[Lexeme]), Stopped>
     ensures { Gives (λ x. (query_draft x.0, x.1.now)) result (over_at (term_draft left) room lexemes.now) }
 {
-    let room = room_behind(&left, room);
+    let room = room_after(&left, room);
     let (over, rest) = term_at(alloc, Position::Divisor, room, lexemes)?;
     let query = DraftQuery {
         left,
@@ -155,14 +155,14 @@ fn with_test(query: DraftQuery, test: Option<Threshold>) -> DraftQuery
 }
 
 // What an operand is divided by and compared with.
-#[tactic(auto, unfolding(crate::specs::QueryReading::behind_at))]
-fn behind_at(
+#[tactic(auto, unfolding(crate::specs::QueryReading::after_at))]
+fn after_at(
     alloc: Global,
     operand: DraftQuery,
     room: Room,
     lexemes: &[Lexeme],
 ) -> Result<(DraftQuery, &[Lexeme]), Stopped>
-    ensures { Gives (λ x. (query_draft x.0, x.1.now)) result (behind_at (query_draft operand) room lexemes.now) }
+    ensures { Gives (λ x. (query_draft x.0, x.1.now)) result (after_at (query_draft operand) room lexemes.now) }
 {
     let (query, rest) = divided_at(alloc, operand, room, lexemes)?;
     match compared_at(&query, rest) {
@@ -201,7 +201,7 @@ fn inner_at(
 {
     let (inside, rest) = opened_at(Position::Start, room, lexemes)?;
     let (query, rest) = query_at(alloc, inside, rest)?;
-    let rest = expected(Sign::CloseParenthesis, Position::BehindTerm, rest)?;
+    let rest = expected(Sign::CloseParenthesis, Position::AfterTerm, rest)?;
     Ok((query, rest))
 }
 
@@ -233,7 +233,7 @@ fn query_at(
     ensures { Gives (λ x. (query_draft x.0, x.1.now)) result (query_within (suc room.depth) room lexemes.now) }
 {
     let (operand, rest) = operand_at(alloc, room, lexemes)?;
-    let (query, rest) = behind_at(alloc, operand, room, rest)?;
+    let (query, rest) = after_at(alloc, operand, room, rest)?;
     Ok((query, rest))
 }
 
@@ -243,7 +243,7 @@ fn ends(lexeme: &Lexeme) -> Result<(), Stop>
 {
     match &lexeme.token {
         Token::End => Ok(()),
-        token => Err(refusal(Position::BehindTerm, lexeme.place, token)),
+        token => Err(refusal(Position::AfterTerm, lexeme.place, token)),
     }
 }
 

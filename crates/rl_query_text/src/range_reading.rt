@@ -20,7 +20,7 @@ use rl_query::token::{Lexeme, Sign, Token};
 use rl_selector_text::front::{Position, expected, next, refusal};
 use rl_selector_text::room::Room;
 use rl_selector_text::selector::selector_at;
-use rl_selector_text::stage::{behind_stages, stages_at};
+use rl_selector_text::stage::{after_stages, stages_at};
 use rl_selector_text::stop::{Stop, Stopped, place_of};
 use std::alloc::Global;
 
@@ -127,7 +127,7 @@ fn closed_at(
     }
     let rest = expected(
         Sign::CloseParenthesis,
-        Position::BehindFilteredRange,
+        Position::AfterFilteredRange,
         lexemes,
     )?;
     Ok((front, rest))
@@ -143,7 +143,7 @@ fn staged_at(
     ensures { Gives (λ x. (map stage_form x.0.items, x.1.now)) result (closed_at room [] lexemes.now) }
 {
     let (stages, rest) = stages_at(alloc, room, lexemes)?;
-    let position = behind_stages(Position::BehindRange, &stages);
+    let position = after_stages(Position::AfterRange, &stages);
     let rest = expected(Sign::CloseParenthesis, position, rest)?;
     Ok((stages, rest))
 }
@@ -158,7 +158,7 @@ fn timed_at(
 ) -> Result<(Vec<Stage>, u64, &[Lexeme]), Stopped>
     ensures { Gives (λ x. (map stage_form x.0.items, x.1, x.2.now)) result (timed_at room (map stage_form front.items) lexemes.now) }
 {
-    let position = behind_stages(Position::BehindSelector, &front);
+    let position = after_stages(Position::AfterSelector, &front);
     let (seconds, rest) = seconds_at(position, lexemes)?;
     let (stages, rest) = closed_at(alloc, room, front, rest)?;
     Ok((stages, seconds, rest))
@@ -200,9 +200,9 @@ pub(crate) fn opened_at(
 ) -> Result<(Room, &[Lexeme]), Stop>
     ensures { Answers (λ x. (x.0, x.1.now)) result (opened_at position room lexemes.now) }
 {
-    let behind = expected(Sign::OpenParenthesis, position, lexemes)?;
+    let following = expected(Sign::OpenParenthesis, position, lexemes)?;
     let inside = deeper(place_of(lexemes), room)?;
-    Ok((inside, behind))
+    Ok((inside, following))
 }
 
 // The selector, the stages and the range in parentheses, after the name of the aggregation.

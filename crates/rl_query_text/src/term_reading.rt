@@ -85,7 +85,7 @@ fn enclosed_at(
 {
     let (inside, rest) = opened_at(Position::InTerm, room, lexemes)?;
     let (term, rest) = term_in(alloc, Position::InTerm, nest, inside, rest)?;
-    let rest = expected(Sign::CloseParenthesis, Position::BehindTerm, rest)?;
+    let rest = expected(Sign::CloseParenthesis, Position::AfterTerm, rest)?;
     Ok((term, rest))
 }
 

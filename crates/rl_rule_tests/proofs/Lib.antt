@@ -1,4 +1,4 @@
-pub mod Behind
+pub mod After
 pub mod Chains
 pub mod Expansions
 pub mod Handed

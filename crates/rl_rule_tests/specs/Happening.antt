@@ -57,13 +57,13 @@ abbrev pub later : Option ℕ → ℕ → ℕ
 later None at = at
 later (Some last) at = max last at
 
-abbrev pub last_behind : Option ℕ → List Check → Option ℕ
-last_behind last [] = last
-last_behind last (check ∷ checks) = last_behind (Some (later last check.at)) checks
+abbrev pub last_after : Option ℕ → List Check → Option ℕ
+last_after last [] = last
+last_after last (check ∷ checks) = last_after (Some (later last check.at)) checks
 
 -- the last moment at which something is wanted
 abbrev pub last_check : List Check → Option ℕ
-last_check checks = last_behind None checks
+last_check checks = last_after None checks
 
 -- how often the second goes into the first, not at all where it is 0
 abbrev pub quotient : ℕ → ℕ → ℕ

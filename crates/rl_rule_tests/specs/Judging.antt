@@ -62,13 +62,13 @@ failure_after failed (made.Samples samples) = failed
 failure_after failed (made.Alerts alerts) = failed
 failure_after failed (made.Failed cause) = Some cause
 
-abbrev pub failure_behind : Option Cause → List RuleResult → Option Cause
-failure_behind failed [] = failed
-failure_behind failed (result ∷ results) = failure_behind (failure_after failed result.outcome) results
+abbrev pub failure_of_rest : Option Cause → List RuleResult → Option Cause
+failure_of_rest failed [] = failed
+failure_of_rest failed (result ∷ results) = failure_of_rest (failure_after failed result.outcome) results
 
 -- why the last of rules that failed did
 abbrev pub failure_of : List RuleResult → Option Cause
-failure_of results = failure_behind None results
+failure_of results = failure_of_rest None results
 
 -- WHICH RULES
 

@@ -86,27 +86,27 @@ flips : (s t : LabelSet) → ties s t ≡ ties t s
 flips = (eq_by_cmp_equiv label_set_cmp_total).symm
 
 -- no two samples have one label set where the sets differ
-none_behind : (s : LabelSet) (es : List Element) → AllByRecursion (λ t. ties s t ≡ false) (keys_of es) → list_any (λ other. label_set_eq s other.0) es ≡ false
-none_behind s [] h = refl
-none_behind s (e ∷ es) h = or_from _ _ (same-ties s e.0 ∙ h.0) (none_behind s es h.1)
+none_after : (s : LabelSet) (es : List Element) → AllByRecursion (λ t. ties s t ≡ false) (keys_of es) → list_any (λ other. label_set_eq s other.0) es ≡ false
+none_after s [] h = refl
+none_after s (e ∷ es) h = or_from _ _ (same-ties s e.0 ∙ h.0) (none_after s es h.1)
 
-all_behind : (s : LabelSet) (es : List Element) → list_any (λ other. label_set_eq s other.0) es ≡ false → AllByRecursion (λ t. ties s t ≡ false) (keys_of es)
-all_behind s [] h = tt
-all_behind s (e ∷ es) h =
+all_after : (s : LabelSet) (es : List Element) → list_any (λ other. label_set_eq s other.0) es ≡ false → AllByRecursion (λ t. ties s t ≡ false) (keys_of es)
+all_after s [] h = tt
+all_after s (e ∷ es) h =
     let parts = or_parts (label_set_eq s e.0) (list_any (λ other. label_set_eq s other.0) es) h in
-    (sym (same-ties s e.0) ∙ parts.0, all_behind s es parts.1)
+    (sym (same-ties s e.0) ∙ parts.0, all_after s es parts.1)
 
 none_same : (es : List Element) → IsDistinct ties (keys_of es) → has_same_labels es ≡ false
 unfolding IsDistinct
 none_same [] h = refl
-none_same (e ∷ es) h = or_from _ _ (none_behind e.0 es h.0) (none_same es h.1)
+none_same (e ∷ es) h = or_from _ _ (none_after e.0 es h.0) (none_same es h.1)
 
 all_differ : (es : List Element) → has_same_labels es ≡ false → IsDistinct ties (keys_of es)
 unfolding IsDistinct
 all_differ [] h = tt
 all_differ (e ∷ es) h =
     let parts = or_parts (list_any (λ other. label_set_eq e.0 other.0) es) (has_same_labels es) h in
-    (all_behind e.0 es parts.0, all_differ es parts.1)
+    (all_after e.0 es parts.0, all_differ es parts.1)
 
 -- neighbours have different label sets where all have
 apart : (samples : List Sample) → IsDistinct ties (keys_of (pairs samples)) → has_same_neighbours samples ≡ false

@@ -30,9 +30,9 @@ tables_next vs i v within is =
 
 module _ {A X : Type 0} (read : ℕ → Members → Result A RulesFault) (form : X → A) where
   -- tables that follow others are read after them
-  each_behind : (n m : ℕ) (ts us : List Members) → m ≡ n + length ts → each_from read n (ts ++ us) ≡ both (each_from read n ts) (each_from read m us)
-  each_behind n m [] us place = sym (with_nothing (each_from read n us)) ∙ ap (λ k. both (Ok []) (each_from read k us)) (omega (arith, place))
-  each_behind n m (t ∷ ts) us place = ap (first_then (read n t)) (each_behind (n + 1) m ts us (omega (arith, place))) ∙ regroup (read n t) (each_from read (n + 1) ts) (each_from read m us)
+  each_after : (n m : ℕ) (ts us : List Members) → m ≡ n + length ts → each_from read n (ts ++ us) ≡ both (each_from read n ts) (each_from read m us)
+  each_after n m [] us place = sym (with_nothing (each_from read n us)) ∙ ap (λ k. both (Ok []) (each_from read k us)) (omega (arith, place))
+  each_after n m (t ∷ ts) us place = ap (first_then (read n t)) (each_after (n + 1) m ts us (omega (arith, place))) ∙ regroup (read n t) (each_from read (n + 1) ts) (each_from read m us)
     where
       regroup : (first : Result A RulesFault) (others rest : Result (List A) RulesFault) → first_then first (both others rest) ≡ both (first_then first others) rest
       regroup (Ok x) (Ok xs) (Ok ys) = refl
@@ -51,7 +51,7 @@ module _ {A X : Type 0} (read : ℕ → Members → Result A RulesFault) (form :
   pub one_more_read : (old new : List X) (x : X) (i : ℕ) (vs : List Value) (v : Value) (t : Members) → i < length vs → v ≡ get_or vs i v → Some t ≡ as_table (view v) → read (length old) t ≡ Ok (form x) → new ≡ old ++ x ∷ [] → AreRead old i vs → AreRead new (i + 1) vs
   one_more_read old new x i vs v t within is table here grows so_far =
       let next : tables_from i vs ≡ t ∷ tables_from (i + 1) vs = tables_next vs i v within is ∙ ap (λ o. option_map_or (λ m. m ∷ tables_from (i + 1) vs) o (tables_from (i + 1) vs)) (sym table) in
-      let read_now = each_behind 0 (length old) so_far.before (t ∷ []) (omega (arith, so_far.count)) ∙ ap (λ r. both r (first_then (read (length old) t) (Ok []))) so_far.are_read ∙ ap (λ r. both (Ok (map form old)) (first_then r (Ok []))) here in
+      let read_now = each_after 0 (length old) so_far.before (t ∷ []) (omega (arith, so_far.count)) ∙ ap (λ r. both r (first_then (read (length old) t) (Ok []))) so_far.are_read ∙ ap (λ r. both (Ok (map form old)) (first_then r (Ok []))) here in
       record {
         before = so_far.before ++ t ∷ [];
         are = so_far.are ∙ ap (λ ts. so_far.before ++ ts) next ∙ sym (append_assoc so_far.before (t ∷ []) (tables_from (i + 1) vs));
@@ -71,8 +71,8 @@ module _ {A X : Type 0} (read : ℕ → Members → Result A RulesFault) (form :
   refused Lacks e old i n vs v t within is table count here so_far =
       let next : tables_from i vs ≡ t ∷ tables_from (i + 1) vs = tables_next vs i v within is ∙ ap (λ o. option_map_or (λ m. m ∷ tables_from (i + 1) vs) o (tables_from (i + 1) vs)) (sym table) in
       let all : tables_of (items_view vs) ≡ so_far.before ++ t ∷ tables_from (i + 1) vs = so_far.are ∙ ap (λ ts. so_far.before ++ ts) next in
-      let behind = each_from read (n + 1) (tables_from (i + 1) vs) in
+      let following = each_from read (n + 1) (tables_from (i + 1) vs) in
       refused_with e (read n t) _ (Lacks n t) _
-      (λ fault fails. rw all (each_behind 0 n so_far.before (t ∷ tables_from (i + 1) vs) (omega (arith, count, so_far.count)) ∙ ap (λ r. both r (first_then (read n t) behind)) so_far.are_read ∙ ap (λ r. both (Ok (map form old)) (first_then r behind)) fails))
-      (λ fault lacks. record { before = so_far.before; table = t; behind = tables_from (i + 1) vs; are = all; are_read = ap is_ok so_far.are_read; lacks = subst (λ k. Lacks k t fault) (count ∙ so_far.count) lacks })
+      (λ fault fails. rw all (each_after 0 n so_far.before (t ∷ tables_from (i + 1) vs) (omega (arith, count, so_far.count)) ∙ ap (λ r. both r (first_then (read n t) following)) so_far.are_read ∙ ap (λ r. both (Ok (map form old)) (first_then r following)) fails))
+      (λ fault lacks. record { before = so_far.before; table = t; following = tables_from (i + 1) vs; are = all; are_read = ap is_ok so_far.are_read; lacks = subst (λ k. Lacks k t fault) (count ∙ so_far.count) lacks })
       here

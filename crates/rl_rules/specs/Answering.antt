@@ -23,8 +23,8 @@ RuleLacksRoom group rule table = QueryLacksRoom group rule (text_at (codes "expr
 pub record OneLacksRoom {A : Type 0} (read : ℕ → Members → Result A RulesFault) (LacksRoom : ℕ → Members → RulesFault → Type 0) (tables : List Members) (fault : RulesFault) : Type 0 where
   pub before : List Members
   pub table : Members
-  pub behind : List Members
-  pub are : tables ≡ before ++ table ∷ behind
+  pub following : List Members
+  pub are : tables ≡ before ++ table ∷ following
   pub are_read : IsOk (each_from read 0 before)
   pub lacks : LacksRoom (length before) table fault
 

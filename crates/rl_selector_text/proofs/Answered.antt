@@ -5,7 +5,7 @@ use Rattle.rl_query.specs.Limits.{most_stages}
 use Rattle.rl_query.specs.declared.fault.QueryFault.{QueryFault}
 use Rattle.rl_query.specs.declared.filter.LineFilter.{LineFilter}
 use Rattle.rl_query.specs.declared.filter.Sieve.{Sieve}
-use Rattle.rl_selector_text.proofs.Elements.{real_forms}
+use Rattle.rl_selector_text.proofs.Items.{real_forms}
 use Rattle.rl_selector_text.proofs.Finding.{Finds, same_ok}
 use Rattle.rl_selector_text.proofs.Meetings.{read_of, refused_read}
 use Rattle.rl_selector_text.proofs.MetPatterns.{sieve_patterns}

@@ -4,7 +4,7 @@ use Rattle.std.specs.Str.{IsUtf8, IsCharBoundary}
 use Rattle.std.proofs.lemmas.Bool.Decides.{nat_tests}
 use Rattle.std.proofs.lemmas.Bool.{eqb-true, cases_lt, cond_both}
 use Rattle.std.proofs.lemmas.Str.{IsCharBoundary-end}
-use Rattle.rl_plain.specs.laws.Cuts.{behind_ascii}
+use Rattle.rl_plain.specs.laws.Cuts.{rest_ascii}
 use Rattle.rl_selector_text.specs.Lexing.{is_space, gap_len}
 
 -- a gap does not end past the text, and where it ends inside it, it ends after an ASCII byte
@@ -35,6 +35,6 @@ pub gap_boundary : (bytes : List ℕ) → IsUtf8 bytes → IsCharBoundary bytes 
 gap_boundary bytes utf8 =
     let ends = gap_ends false bytes in
     elim (cases_lt (gap_len false bytes) (length bytes)) [
-      | inl inside ↦ behind_ascii bytes (gap_len false bytes) utf8 ends.0 (λ some. ends.1 some inside)
+      | inl inside ↦ rest_ascii bytes (gap_len false bytes) utf8 ends.0 (λ some. ends.1 some inside)
       | inr past ↦ let whole : length bytes ≡ gap_len false bytes = omega (arith, ends.0) in subst (IsCharBoundary bytes) whole (IsCharBoundary-end bytes)
     ]

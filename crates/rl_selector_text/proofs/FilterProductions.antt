@@ -34,13 +34,13 @@ text_read place (tokens.Text text) = found refl
 text_read place _ = fault
 
 -- a line filter that was read stood there after its sign
-pub filter_read : (lexemes behind : List Lexeme) (op : LineOp) → Stand (tokens.Sign (filter_sign op) ∷ []) lexemes behind → Finds (λ x. Stand (filter_tokens x.0) lexemes x.1 × (is_filter x.0.op x.0.text ≡ true)) (filter_at op behind)
+pub filter_read : (lexemes following : List Lexeme) (op : LineOp) → Stand (tokens.Sign (filter_sign op) ∷ []) lexemes following → Finds (λ x. Stand (filter_tokens x.0) lexemes x.1 × (is_filter x.0.op x.0.text ≡ true)) (filter_at op following)
 unfolding filter_at
-filter_read lexemes behind op sign =
-    then _ (next_found behind) (λ text stand.
+filter_read lexemes following op sign =
+    then _ (next_found following) (λ text stand.
     then _ (text_read text.0.place text.0.token) (λ value is.
     then _ (checked (is_filter op value) (record { op = op; text = value }) (stop faults.BadRegex text.0.place)) (λ filter proper.
-    found (subst (λ (f : FilterForm). Stand (filter_tokens f) lexemes text.1 × (is_filter f.op f.text ≡ true)) proper.1 (stand_then (tokens.Sign (filter_sign op) ∷ []) (tokens.Text value ∷ []) lexemes behind text.1 sign (told_by behind text.1 is stand), proper.0)))))
+    found (subst (λ (f : FilterForm). Stand (filter_tokens f) lexemes text.1 × (is_filter f.op f.text ≡ true)) proper.1 (stand_then (tokens.Sign (filter_sign op) ∷ []) (tokens.Text value ∷ []) lexemes following text.1 sign (told_by following text.1 is stand), proper.0)))))
 
 -- one turn of reading them
 pub filters_turn : (most : ℕ) (lexemes : List Lexeme) → filters_at (suc most) lexemes ≡ (next lexemes >>= λ first. option_map_or (λ op. filter_at op first.1 >>= λ filter. filters_at most filter.1 >>= λ others. Ok (filter.0 ∷ others.0, others.1)) (filter_op first.0.token) (Ok ([], lexemes)))

@@ -33,8 +33,8 @@ fault {A} {P} {e} = record { is = λ y h. absurd (no_err e y h) }
 pub itself : {A : Type 0} (read : Result A Stop) → Finds (λ x. read ≡ Ok x) read
 itself read = record { is = λ x h. h }
 
-pub then : {A B : Type 0} {P : A → Type 0} {Q : B → Type 0} {first : Result A Stop} (behind : A → Result B Stop) → Finds P first → ((x : A) → P x → Finds Q (behind x)) → Finds Q (first >>= behind)
-then {A} {B} {P} {Q} {first} behind finds others = record { is = λ y h. let a = bind_ok first behind y h in (others a.0 (finds.is a.0 a.1)).is y a.2 }
+pub then : {A B : Type 0} {P : A → Type 0} {Q : B → Type 0} {first : Result A Stop} (following : A → Result B Stop) → Finds P first → ((x : A) → P x → Finds Q (following x)) → Finds Q (first >>= following)
+then {A} {B} {P} {Q} {first} following finds others = record { is = λ y h. let a = bind_ok first following y h in (others a.0 (finds.is a.0 a.1)).is y a.2 }
 
 pub by_test : {A : Type 0} {P : A → Type 0} {x y : Result A Stop} (b : Bool) → (b ≡ true → Finds P x) → (b ≡ false → Finds P y) → Finds P (cond b x y)
 by_test true first second = first refl
@@ -63,9 +63,9 @@ pub told_by : {t u : Token} (lexemes rest : List Lexeme) → t ≡ u → Stand (
 told_by {t} {u} lexemes rest same stand = subst (λ t. Stand (t ∷ []) lexemes rest) same stand
 
 -- what stops the first stops what follows it too
-pub first_stops : {A B : Type 0} (e : OrMemory Stop) (first : Result A Stop) (behind : A → Result B Stop) → Fails e first → Fails e (first >>= behind)
-first_stops errors.Memory first behind h = tt
-first_stops (errors.Fault stop) first behind h = ap (λ r. r >>= behind) h
+pub first_stops : {A B : Type 0} (e : OrMemory Stop) (first : Result A Stop) (following : A → Result B Stop) → Fails e first → Fails e (first >>= following)
+first_stops errors.Memory first following h = tt
+first_stops (errors.Fault stop) first following h = ap (λ r. r >>= following) h
 
 -- what a `?` returns is the fault of the reading
 pub fails_on : {X Y : Type 0} (view : X → Y) (e : OrMemory Stop) (result : Result X (OrMemory Stop)) (read : Result Y Stop) → IsErrAnd result (λ y. y ≡ e) → Fails e read → Gives view result read

@@ -11,21 +11,21 @@ pub record Left (text rest : List ℕ) (turns : ℕ) (so_far : List Lexeme) : Ty
   pub read : so_far ++ lexemes_in (length text - turns) (length text) rest ≡ lexemes_of text
 
 -- the tokens that are left, from what follows the gap
-abbrev behind_gap : ℕ → ℕ → List ℕ → List Lexeme
-behind_gap most total start = cond (length start == 0) (record { token = tokens.End; place = total } ∷ []) (record { token = (token_at start).0; place = total - length start } ∷ lexemes_in most total (token_at start).1)
+abbrev past_gap : ℕ → ℕ → List ℕ → List Lexeme
+past_gap most total start = cond (length start == 0) (record { token = tokens.End; place = total } ∷ []) (record { token = (token_at start).0; place = total - length start } ∷ lexemes_in most total (token_at start).1)
 
-after_gap : (text rest start : List ℕ) (turns : ℕ) (so_far : List Lexeme) → Left text rest turns so_far → turns < length text → start ≡ drop (gap_len false rest) rest → so_far ++ behind_gap (length text - (turns + 1)) (length text) start ≡ lexemes_of text
+after_gap : (text rest start : List ℕ) (turns : ℕ) (so_far : List Lexeme) → Left text rest turns so_far → turns < length text → start ≡ drop (gap_len false rest) rest → so_far ++ past_gap (length text - (turns + 1)) (length text) start ≡ lexemes_of text
 unfolding lexemes_in
 after_gap text rest start turns so_far left inside start_is =
     let more : suc (length text - (turns + 1)) ≡ length text - turns = omega (arith, inside) in
-    ap (λ s. so_far ++ behind_gap (length text - (turns + 1)) (length text) s) start_is ∙ ap (λ n. so_far ++ lexemes_in n (length text) rest) more ∙ left.read
+    ap (λ s. so_far ++ past_gap (length text - (turns + 1)) (length text) s) start_is ∙ ap (λ n. so_far ++ lexemes_in n (length text) rest) more ∙ left.read
 
-pub turn : (text rest start behind : List ℕ) (turns : ℕ) (token : Token) (so_far grown : List Lexeme) → Left text rest turns so_far → turns < length text → start ≡ drop (gap_len false rest) rest → (length start == 0) ≡ false → (token, behind) ≡ token_at start
-    → grown ≡ so_far ++ record { token = token; place = length text - length start } ∷ [] → Left text behind (turns + 1) grown
-turn text rest start behind turns token so_far grown left inside start_is some is grows =
+pub turn : (text rest start following : List ℕ) (turns : ℕ) (token : Token) (so_far grown : List Lexeme) → Left text rest turns so_far → turns < length text → start ≡ drop (gap_len false rest) rest → (length start == 0) ≡ false → (token, following) ≡ token_at start
+    → grown ≡ so_far ++ record { token = token; place = length text - length start } ∷ [] → Left text following (turns + 1) grown
+turn text rest start following turns token so_far grown left inside start_is some is grows =
     let others = lexemes_in (length text - (turns + 1)) (length text) in
     let first = ap (λ (x : Token × List ℕ). record { token = x.0; place = length text - length start } ∷ others x.1) is ∙ sym (cond-false (length start == 0) _ _ some) in
-    record { read = ap (λ ls. ls ++ others behind) grows ∙ append_assoc so_far (record { token = token; place = length text - length start } ∷ []) (others behind) ∙ ap (λ ls. so_far ++ ls) first ∙ after_gap text rest start turns so_far left inside start_is }
+    record { read = ap (λ ls. ls ++ others following) grows ∙ append_assoc so_far (record { token = token; place = length text - length start } ∷ []) (others following) ∙ ap (λ ls. so_far ++ ls) first ∙ after_gap text rest start turns so_far left inside start_is }
 
 pub ended : (text rest start : List ℕ) (turns : ℕ) (so_far : List Lexeme) → Left text rest turns so_far → turns < length text → start ≡ drop (gap_len false rest) rest → (length start == 0) ≡ true → so_far ++ record { token = tokens.End; place = length text } ∷ [] ≡ lexemes_of text
 ended text rest start turns so_far left inside start_is none = ap (λ ls. so_far ++ ls) (sym (cond-true (length start == 0) _ _ none)) ∙ after_gap text rest start turns so_far left inside start_is

@@ -1,6 +1,6 @@
 pub mod Answered
 pub mod Cuts
-pub mod Elements
+pub mod Items
 mod Examples
 pub mod FilterProductions
 pub mod Finding

@@ -31,10 +31,10 @@ stop_told view lexemes reading (errors.Fault stop) error fails (inl is) = rw (is
 stop_told view lexemes reading (errors.Fault stop) error fails (inr room) = rw fails (for_room view (Err stop.fault) (has_pattern_token false (tokens_before stop.place lexemes)) error room)
 
 -- a text after a sign of patterns, at an index among tokens
-pub pattern_found : (behind_sign : Bool) (lexemes : List Lexeme) (i : ℕ) (text : Lexeme) → i < length lexemes → text ≡ get_or lexemes i text → is_content text.token ≡ true → ends_before_pattern behind_sign (take i lexemes) ≡ true → has_pattern_token behind_sign lexemes ≡ true
-pattern_found behind_sign [] i text within is content sign = absurd (omega (arith, within))
-pattern_found behind_sign (l ∷ ls) zero text within is content sign = rw (sign, sym is, content) refl
-pattern_found behind_sign (l ∷ ls) (suc i) text within is content sign = ap (λ b. behind_sign && is_content l.token || b) (pattern_found (precedes_pattern l.token) ls i text (omega (arith, within)) is content sign) ∙ or-true _
+pub pattern_found : (after_sign : Bool) (lexemes : List Lexeme) (i : ℕ) (text : Lexeme) → i < length lexemes → text ≡ get_or lexemes i text → is_content text.token ≡ true → ends_before_pattern after_sign (take i lexemes) ≡ true → has_pattern_token after_sign lexemes ≡ true
+pattern_found after_sign [] i text within is content sign = absurd (omega (arith, within))
+pattern_found after_sign (l ∷ ls) zero text within is content sign = rw (sign, sym is, content) refl
+pattern_found after_sign (l ∷ ls) (suc i) text within is content sign = ap (λ b. after_sign && is_content l.token || b) (pattern_found (precedes_pattern l.token) ls i text (omega (arith, within)) is content sign) ∙ or-true _
 
 -- it has no room, so that a pattern of the tokens has none
 pub pattern_room : (lexemes : List Lexeme) (i : ℕ) (text : Lexeme) (content : List ℕ) (error : OrMemory QueryFault) → i < length lexemes → text ≡ get_or lexemes i text → text.token ≡ tokens.Text content → IsForRoom (ends_before_pattern false (take i lexemes)) error → IsForRoom (has_pattern_token false lexemes) error
@@ -43,12 +43,12 @@ pattern_room lexemes i text content (errors.Fault faults.BadRegex) within is tok
 pattern_room lexemes i text content (errors.Fault _) within is token h = absurd h
 
 -- the sign at the end of tokens
-pub ends_with : (behind_sign : Bool) (lexemes : List Lexeme) (last : ℕ) (sign : Lexeme) → suc last ≡ length lexemes → sign ≡ slice_index_or lexemes last sign → ends_before_pattern behind_sign lexemes ≡ precedes_pattern sign.token
-ends_with behind_sign [] last sign many is = cc
-ends_with behind_sign (l ∷ []) zero sign many is = ap (λ (s : Lexeme). precedes_pattern s.token) (sym is)
-ends_with behind_sign (l ∷ []) (suc last) sign many is = absurd (omega (arith, many))
-ends_with behind_sign (l ∷ m ∷ ms) zero sign many is = absurd (omega (arith, many))
-ends_with behind_sign (l ∷ m ∷ ms) (suc last) sign many is = ends_with (precedes_pattern l.token) (m ∷ ms) last sign (omega (arith, many)) is
+pub ends_with : (after_sign : Bool) (lexemes : List Lexeme) (last : ℕ) (sign : Lexeme) → suc last ≡ length lexemes → sign ≡ slice_index_or lexemes last sign → ends_before_pattern after_sign lexemes ≡ precedes_pattern sign.token
+ends_with after_sign [] last sign many is = cc
+ends_with after_sign (l ∷ []) zero sign many is = ap (λ (s : Lexeme). precedes_pattern s.token) (sym is)
+ends_with after_sign (l ∷ []) (suc last) sign many is = absurd (omega (arith, many))
+ends_with after_sign (l ∷ m ∷ ms) zero sign many is = absurd (omega (arith, many))
+ends_with after_sign (l ∷ m ∷ ms) (suc last) sign many is = ends_with (precedes_pattern l.token) (m ∷ ms) last sign (omega (arith, many)) is
 
 -- a value that is answered was read
 pub read_of : {A : Type 0} (reading : Result A Stop) (x : A) → fault_of reading ≡ Ok x → reading ≡ Ok x

@@ -59,24 +59,24 @@ pub record Meets (patterned : Bool) (lexemes rest : List Lexeme) : Type 0 where
   pub patterns : has_pattern_token false lexemes ≡ (patterned || has_pattern_token false rest)
   pub ended : IsEnded lexemes → IsEnded rest
 
-pub then : {p q : Bool} {lexemes behind rest : List Lexeme} → Meets p lexemes behind → Meets q behind rest → Meets (p || q) lexemes rest
-then {p} {q} {lexemes} {behind} {rest} first second = record { patterns = rw (first.patterns, second.patterns) (sym (or_assoc p q _)); ended = λ e. second.ended (first.ended e) }
+pub then : {p q : Bool} {lexemes following rest : List Lexeme} → Meets p lexemes following → Meets q following rest → Meets (p || q) lexemes rest
+then {p} {q} {lexemes} {following} {rest} first second = record { patterns = rw (first.patterns, second.patterns) (sym (or_assoc p q _)); ended = λ e. second.ended (first.ended e) }
 
 -- something without a pattern follows it
-pub then_none : {p : Bool} {lexemes behind rest : List Lexeme} → Meets p lexemes behind → Meets false behind rest → Meets p lexemes rest
-then_none {p} {lexemes} {behind} {rest} first second = subst (λ b. Meets b lexemes rest) (or-false p) (then first second)
+pub then_none : {p : Bool} {lexemes following rest : List Lexeme} → Meets p lexemes following → Meets false following rest → Meets p lexemes rest
+then_none {p} {lexemes} {following} {rest} first second = subst (λ b. Meets b lexemes rest) (or-false p) (then first second)
 
 -- tokens have a pattern, or none, and no sign of patterns stands at their end
 abbrev pub Have : List Token → Bool → Type 0
 Have ts patterned = (has_pattern_token false (placed ts [] []) ≡ patterned) × (ends_before_pattern false (placed ts [] []) ≡ false)
 
-stand_has : (behind : Bool) (ts : List Token) (lexemes rest : List Lexeme) → Stand ts lexemes rest
-    → (has_pattern_token behind lexemes ≡ (has_pattern_token behind (placed ts [] []) || has_pattern_token (ends_before_pattern behind (placed ts [] [])) rest)) × (IsEnded lexemes → IsEnded rest)
-stand_has behind [] lexemes rest same = (ap (has_pattern_token behind) same, subst IsEnded same)
-stand_has behind (t ∷ ts) [] rest stand = absurd stand
-stand_has behind (t ∷ ts) (l ∷ ls) rest stand =
+stand_has : (following : Bool) (ts : List Token) (lexemes rest : List Lexeme) → Stand ts lexemes rest
+    → (has_pattern_token following lexemes ≡ (has_pattern_token following (placed ts [] []) || has_pattern_token (ends_before_pattern following (placed ts [] [])) rest)) × (IsEnded lexemes → IsEnded rest)
+stand_has following [] lexemes rest same = (ap (has_pattern_token following) same, subst IsEnded same)
+stand_has following (t ∷ ts) [] rest stand = absurd stand
+stand_has following (t ∷ ts) (l ∷ ls) rest stand =
     let others = stand_has (precedes_pattern t) ts ls rest stand.1 in
-    (rw (stand.0, others.0) (sym (or_assoc (behind && is_content t) _ _)), λ e. others.1 e.1)
+    (rw (stand.0, others.0) (sym (or_assoc (following && is_content t) _ _)), λ e. others.1 e.1)
 
 pub stands : (ts : List Token) {p : Bool} {lexemes rest : List Lexeme} → Have ts p → Stand ts lexemes rest → Meets p lexemes rest
 stands ts {p} {lexemes} {rest} have stand = let s = stand_has false ts lexemes rest stand in record { patterns = rw (have.0, have.1) at s.0; ended = s.1 }
@@ -111,8 +111,8 @@ TestsMeet Rule = (tests : TestTree TestForm) (lexemes rest : List Lexeme) → Ru
 
 one_meets : {Inside : Rule} → TestsMeet Inside → TestsMeet (IsOne Inside)
 one_meets inside _ _ _ (alone test lexemes rest is) = stands (_ ∷ _ ∷ _ ∷ []) (compared test (test_name test) is.sign is.value is.compares) is.stand
-one_meets inside _ _ _ (in_parentheses tests lexemes behind end rest opened is closed) =
-    then (stands (_ ∷ []) (refl, refl) opened) (then_none (inside tests behind end is) (stands (_ ∷ []) (refl, refl) closed))
+one_meets inside _ _ _ (in_parentheses tests lexemes following end rest opened is closed) =
+    then (stands (_ ∷ []) (refl, refl) opened) (then_none (inside tests following end is) (stands (_ ∷ []) (refl, refl) closed))
 
 joins_meet : (join : Join) {lexemes rest : List Lexeme} → Joins join lexemes rest → Meets false lexemes rest
 joins_meet And (inl word) = stands (_ ∷ []) (refl, refl) word
@@ -122,8 +122,8 @@ joins_meet Or word = stands (_ ∷ []) (refl, refl) word
 
 joined_meet : (join : Join) {Part : Rule} → TestsMeet Part → TestsMeet (AreJoined join Part)
 joined_meet join parts _ _ _ (part tests lexemes rest is) = parts tests lexemes rest is
-joined_meet join parts _ _ _ (more left right lexemes middle behind rest are joins is) =
-    then (joined_meet join parts left lexemes middle are) (then (joins_meet join joins) (parts right behind rest is))
+joined_meet join parts _ _ _ (more left right lexemes middle following rest are joins is) =
+    then (joined_meet join parts left lexemes middle are) (then (joins_meet join joins) (parts right following rest is))
 
 inside_meet : (depth : ℕ) → TestsMeet (AreInside depth)
 inside_meet zero = λ tests lexemes rest is. absurd is
@@ -141,14 +141,14 @@ stages_meet depth [] same = stands [] (refl, refl) same
 stages_meet depth (stage ∷ stages) are = then (stage_meets depth stage are.1) (stages_meet depth stages are.2)
 
 -- nothing follows the end
-at_end : (behind rest : List Lexeme) → IsEnded behind → Stand (tokens.End ∷ []) behind rest → has_pattern_token false behind ≡ false
+at_end : (following rest : List Lexeme) → IsEnded following → Stand (tokens.End ∷ []) following rest → has_pattern_token false following ≡ false
 at_end [] rest ended stand = refl
 at_end (l ∷ ls) rest ended stand = rw (ended.0 stand.0) refl
 
-pub all_met : (text : List ℕ) (p : Bool) (behind rest : List Lexeme) → Meets p (lexemes_of text) behind → Stand (tokens.End ∷ []) behind rest → has_pattern_token false (lexemes_of text) ≡ p
-all_met text p behind rest meets end = rw (meets.patterns, at_end behind rest (meets.ended (ended_in (length text) (length text) text)) end) (or-false p)
+pub all_met : (text : List ℕ) (p : Bool) (following rest : List Lexeme) → Meets p (lexemes_of text) following → Stand (tokens.End ∷ []) following rest → has_pattern_token false (lexemes_of text) ≡ p
+all_met text p following rest meets end = rw (meets.patterns, at_end following rest (meets.ended (ended_in (length text) (length text) text)) end) (or-false p)
 
 pub sieve_patterns : (text : List ℕ) (sieve : SieveForm) → DerivesSieve text sieve → has_pattern_token false (lexemes_of text) ≡ sieve_has_pattern sieve
 sieve_patterns text sieve derived =
     let selector = stands (_ ∷ matchers_tokens sieve.matchers) (matchers_have sieve.matchers) derived.selector.stand in
-    all_met text _ derived.behind_filters derived.rest (then selector (stands (filters_tokens sieve.filters) (filters_have sieve.filters) derived.filters.stand)) derived.end
+    all_met text _ derived.after_filters derived.rest (then selector (stands (filters_tokens sieve.filters) (filters_have sieve.filters) derived.filters.stand)) derived.end

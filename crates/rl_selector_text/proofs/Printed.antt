@@ -43,9 +43,9 @@ prints_none text none = record { reads = λ total most few. (most, few, none _) 
 
 -- one thing, and then another
 abbrev pub Then : Rule → Rule → Rule
-Then R S lexemes rest = (behind : List Lexeme) × R lexemes behind × S behind rest
+Then R S lexemes rest = (following : List Lexeme) × R lexemes following × S following rest
 
-pub then_prints : {R S : Rule} {text behind rest : List ℕ} → Prints R text behind → Prints S behind rest → Prints (Then R S) text rest
+pub then_prints : {R S : Rule} {text following rest : List ℕ} → Prints R text following → Prints S following rest → Prints (Then R S) text rest
 then_prints first second = record { reads = λ total most few. let a = first.reads total most few in let b = second.reads total a.0 a.1 in (b.0, b.1, (_, a.2, b.2)) }
 
 -- a space is passed over
@@ -63,19 +63,19 @@ pub before_space : {R : Rule} {text : List ℕ} (rest : List ℕ) → Prints R t
 before_space rest prints = record { reads = λ total most few. let is = prints.reads total most few in (is.0, omega (arith, is.1), rw (space_passed is.0 total rest) is.2) }
 
 -- a token, and what R says of those after it
-abbrev pub Behind : Token → Rule → Rule
-Behind token R [] last = ⊥
-Behind token R (lexeme ∷ lexemes) last = (lexeme.token ≡ token) × R lexemes last
+abbrev pub After : Token → Rule → Rule
+After token R [] last = ⊥
+After token R (lexeme ∷ lexemes) last = (lexeme.token ≡ token) × R lexemes last
 
 -- a token at the front, with no gap before it, and what follows it
 token_lexes : {R : Rule} {last : List ℕ} (token : Token) (b : ℕ) (bytes rest : List ℕ) → gap_len false (b ∷ bytes) ≡ 0 → token_at (b ∷ bytes) ≡ (token, rest) → length rest ≤ length bytes
-    → Prints R rest last → Prints (Behind token R) (b ∷ bytes) last
+    → Prints R rest last → Prints (After token R) (b ∷ bytes) last
 unfolding lexemes_in
 token_lexes {R} {last} token b bytes rest no_gap is shorter then = record { reads = by_most }
   where
-    by_most : (total most : ℕ) → length (b ∷ bytes) ≤ most → (left : ℕ) × (length last ≤ left) × Behind token R (lexemes_in most total (b ∷ bytes)) (lexemes_in left total last)
+    by_most : (total most : ℕ) → length (b ∷ bytes) ≤ most → (left : ℕ) × (length last ≤ left) × After token R (lexemes_in most total (b ∷ bytes)) (lexemes_in left total last)
     by_most total zero few = absurd (omega arith)
-    by_most total (suc most) few = let behind = then.reads total most (omega (arith, shorter)) in (behind.0, behind.1, rw (no_gap, ne_eqb (length (b ∷ bytes)) 0 (λ e. omega (arith, e)), is) (refl, behind.2))
+    by_most total (suc most) few = let following = then.reads total most (omega (arith, shorter)) in (following.0, following.1, rw (no_gap, ne_eqb (length (b ∷ bytes)) 0 (λ e. omega (arith, e)), is) (refl, following.2))
 
 run_len : (p : ℕ → Bool) (run rest : List ℕ) → list_all p run ≡ true → prefix_len p rest ≡ 0 → prefix_len p (run ++ rest) ≡ length run
 run_len p [] rest all stop = stop
@@ -83,7 +83,7 @@ run_len p (x ∷ run) rest all stop = let parts = and_parts (p x) (list_all p ru
 
 -- a run of bytes is read as one token
 run_then : {R : Rule} {last : List ℕ} (p : ℕ → Bool) (token : List ℕ → Token) (b : ℕ) (run rest : List ℕ) → is_number_byte b ≡ true → list_all p (b ∷ run) ≡ true → prefix_len p rest ≡ 0
-    → token_at (b ∷ run ++ rest) ≡ (token (run_at p (b ∷ run ++ rest)).0, (run_at p (b ∷ run ++ rest)).1) → Prints R rest last → Prints (Behind (token (b ∷ run)) R) (b ∷ run ++ rest) last
+    → token_at (b ∷ run ++ rest) ≡ (token (run_at p (b ∷ run ++ rest)).0, (run_at p (b ∷ run ++ rest)).1) → Prints R rest last → Prints (After (token (b ∷ run)) R) (b ∷ run ++ rest) last
 run_then p token b run rest is all stop read then =
     token_lexes _ b (run ++ rest) rest (grind (arith, nat_tests))
     (read ∙ rw (run_len p (b ∷ run) rest all stop, take-append_seam (b ∷ run) rest, drop-append_seam (b ∷ run) rest) refl) (omega (arith, length-append run rest)) then
@@ -136,7 +136,7 @@ Fits (tokens.Text value) rest = Unit {0}
 Fits _ rest = ⊥
 
 -- a token, and what is printed after it
-pub token_then : {R : Rule} {last : List ℕ} (token : Token) (rest : List ℕ) → Fits token rest → Prints R rest last → Prints (Behind token R) (written token rest) last
+pub token_then : {R : Rule} {last : List ℕ} (token : Token) (rest : List ℕ) → Fits token rest → Prints R rest last → Prints (After token R) (written token rest) last
 unfolding token_at
 token_then (tokens.Word []) rest fits then = absurd (true≢false (sym fits.0))
 token_then (tokens.Word (b ∷ word)) rest fits then =
@@ -164,8 +164,8 @@ pub closes : (rest : List ℕ) → Prints (Stand (tokens.Sign signs.CloseParenth
 closes rest = token_then (tokens.Sign signs.CloseParenthesis) rest (lone 41 _ refl (λ _. refl) rest) done
 
 -- the parts of a text may be grouped either way
-pub regrouped : {R : Rule} {rest : List ℕ} (front middle behind : List ℕ) → Prints R (front ++ (middle ++ behind)) rest → Prints R ((front ++ middle) ++ behind) rest
-regrouped front middle behind prints = rw (append_assoc front middle behind) prints
+pub regrouped : {R : Rule} {rest : List ℕ} (front middle following : List ℕ) → Prints R (front ++ (middle ++ following)) rest → Prints R ((front ++ middle) ++ following) rest
+regrouped front middle following prints = rw (append_assoc front middle following) prints
 
 -- words and numbers end before a sign
 pub sign_stops : (sign : Sign) (rest : List ℕ) → Stops (sign_text sign ++ rest)
@@ -178,7 +178,7 @@ operator_is operators.Equal rest = (refl, refl)
 operator_is _ rest = (refl, refl)
 
 pub matcher_then : {R : Rule} {last : List ℕ} (m : MatcherForm) (rest : List ℕ) → is_matcher m ≡ true → Prints R rest last
-    → Prints (Behind (tokens.Word m.name) (Behind (tokens.Sign (operator_sign m.op)) (Behind (tokens.Text m.value) R))) (matcher_text m ++ rest) last
+    → Prints (After (tokens.Word m.name) (After (tokens.Sign (operator_sign m.op)) (After (tokens.Text m.value) R))) (matcher_text m ++ rest) last
 matcher_then m rest proper then = simp (append_assoc, (operator_is m.op rest).0)
     (token_then (tokens.Word m.name) _ ((and_parts (is_name m.name) _ proper).0, sign_stops (operator_sign m.op) _)
     (token_then (tokens.Sign (operator_sign m.op)) _ (operator_is m.op _).1 (token_then (tokens.Text m.value) rest tt then)))
@@ -211,7 +211,7 @@ filter_is lines.Contains rest = (refl, refl)
 filter_is _ rest = (refl, refl)
 
 pub filter_then : {R : Rule} {last : List ℕ} (filter : FilterForm) (rest : List ℕ) → Prints R rest last
-    → Prints (Behind (tokens.Sign (filter_sign filter.op)) (Behind (tokens.Text filter.text) R)) (filter_print filter ++ rest) last
+    → Prints (After (tokens.Sign (filter_sign filter.op)) (After (tokens.Text filter.text) R)) (filter_print filter ++ rest) last
 filter_then filter rest then = simp (append_assoc, (filter_is filter.op rest).0)
     (token_then (tokens.Sign (filter_sign filter.op)) _ (filter_is filter.op _).1 (spaced (token_then (tokens.Text filter.text) rest tt then)))
 

@@ -22,4 +22,4 @@ sieve_printed sieve keeps =
     let filters = filters_text sieve.filters in
     let front = 123 ∷ matchers_text sieve.matchers in
     let is = prints_all (sieve_text sieve) (regrouped (front ++ 125 ∷ []) filters [] (regrouped front (125 ∷ []) (filters ++ []) (then_prints (selector_prints sieve.matchers (filters ++ []) keeps.matchers keeps.real) (filters_print sieve.filters [])))) in
-    record { behind_selector = is.0; behind_filters = ended (sieve_text sieve); rest = []; selector = is.1; filters = record { stand = is.2; proper = keeps.proper; few = keeps.few }; end = (refl, refl) }
+    record { after_selector = is.0; after_filters = ended (sieve_text sieve); rest = []; selector = is.1; filters = record { stand = is.2; proper = keeps.proper; few = keeps.few }; end = (refl, refl) }

@@ -29,7 +29,7 @@ stage_prints depth (by_parser parser) rest proper stop =
 stage_prints depth (by_tests tests) rest proper stop =
     let parts = and_parts (all_tests is_test tests) (nat_le (text_depth tests) depth) proper in
     let are = prints_at tests parts.0 levels.Tests depth rest (leb-true (text_depth tests) depth parts.1) stop in
-    prints_as (then_prints (token_then (tokens.Sign signs.Pipe) _ refl done) (spaced are)) (λ a b is. record { behind = is.0; pipe = is.1; are = is.2 })
+    prints_as (then_prints (token_then (tokens.Sign signs.Pipe) _ refl done) (spaced are)) (λ a b is. record { following = is.0; pipe = is.1; are = is.2 })
 
 pub stages_print : (depth : ℕ) (stages : List StageForm) (rest : List ℕ) → list_all (is_stage depth) stages ≡ true → Stops rest → Prints (AreChained depth stages) (stages_text stages ++ rest) rest
 stages_print depth [] rest proper stop = prints_none rest (λ _. refl)

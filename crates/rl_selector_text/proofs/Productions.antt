@@ -38,10 +38,10 @@ text_found text word (y ∷ ys) x is =
     ⊎_elim (λ yes. same_text word (text y) yes.0 ∙ ap text (same_Some y x yes.1)) (λ other. text_found text word ys x other.1) (chosen (is_text word (text y)) _ _ _ is)
 
 -- tokens that stand at the front, and others after them
-pub stand_then : (front others : List Token) (lexemes behind rest : List Lexeme) → Stand front lexemes behind → Stand others behind rest → Stand (front ++ others) lexemes rest
-stand_then [] others lexemes behind rest first second = subst (λ ls. Stand others ls rest) (sym first) second
-stand_then (t ∷ front) others [] behind rest first second = absurd first
-stand_then (t ∷ front) others (l ∷ lexemes) behind rest first second = (first.0, stand_then front others lexemes behind rest first.1 second)
+pub stand_then : (front others : List Token) (lexemes following rest : List Lexeme) → Stand front lexemes following → Stand others following rest → Stand (front ++ others) lexemes rest
+stand_then [] others lexemes following rest first second = subst (λ ls. Stand others ls rest) (sym first) second
+stand_then (t ∷ front) others [] following rest first second = absurd first
+stand_then (t ∷ front) others (l ∷ lexemes) following rest first second = (first.0, stand_then front others lexemes following rest first.1 second)
 
 -- tokens that stand one after the other
 pub stand_split : (front others : List Token) (lexemes rest : List Lexeme) → Stand (front ++ others) lexemes rest → (middle : List Lexeme) × Stand front lexemes middle × Stand others middle rest
@@ -57,26 +57,26 @@ stand_length (t ∷ ts) (l ∷ lexemes) rest stand = omega (arith, stand_length 
 -- the token at the front, and those after it
 pub record Next (token : Token) (others : List Token) (lexemes rest : List Lexeme) : Type 0 where
   pub place : ℕ
-  pub behind : List Lexeme
-  pub is : next lexemes ≡ Ok (record { token = token; place = place }, behind)
-  pub more : Stand others behind rest
+  pub following : List Lexeme
+  pub is : next lexemes ≡ Ok (record { token = token; place = place }, following)
+  pub more : Stand others following rest
 
 pub next_is : (token : Token) (others : List Token) (lexemes rest : List Lexeme) → Stand (token ∷ others) lexemes rest → Next token others lexemes rest
 next_is token others [] rest stand = absurd stand
-next_is token others (l ∷ lexemes) rest stand = record { place = l.place; behind = lexemes; is = ap (λ t. Ok (record { token = t; place = l.place }, lexemes)) stand.0; more = stand.1 }
+next_is token others (l ∷ lexemes) rest stand = record { place = l.place; following = lexemes; is = ap (λ t. Ok (record { token = t; place = l.place }, lexemes)) stand.0; more = stand.1 }
 
 -- the token at the front passes a test
 pub record First (Passes : Token → Type 0) (lexemes : List Lexeme) : Type 0 where
   pub first : Lexeme
-  pub behind : List Lexeme
-  pub is : next lexemes ≡ Ok (first, behind)
+  pub following : List Lexeme
+  pub is : next lexemes ≡ Ok (first, following)
   pub passes : Passes first.token
 
 pub first_at : {Passes : Token → Type 0} (token : Token) (others : List Token) (lexemes rest : List Lexeme) → Stand (token ∷ others) lexemes rest → Passes token → First Passes lexemes
-first_at token others lexemes rest stand passes = let n = next_is token others lexemes rest stand in record { first = record { token = token; place = n.place }; behind = n.behind; is = n.is; passes = passes }
+first_at token others lexemes rest stand passes = let n = next_is token others lexemes rest stand in record { first = record { token = token; place = n.place }; following = n.following; is = n.is; passes = passes }
 
 pub first_half : {Passes Others : Token → Type 0} {lexemes : List Lexeme} → First (λ token. Passes token × Others token) lexemes → First Passes lexemes
-first_half first = record { first = first.first; behind = first.behind; is = first.is; passes = first.passes.0 }
+first_half first = record { first = first.first; following = first.following; is = first.is; passes = first.passes.0 }
 
 -- signs, by what they are written as
 sign_read : (s : Sign) → sign_at (sign_text s) ≡ Some (s, [])
@@ -190,10 +190,10 @@ AreListed all proper xs lexemes rest = Stand (all xs) lexemes rest × (list_all 
 -- the sign that closes the list stands after those of the last
 module _ {A : Type 0} (of_one : A → List Token) (proper : A → Bool) (close : Sign) (element : List Lexeme → Result (A × Bool × List Lexeme) Stop) (all : List A → List Token)
     (last : (x : A) → all (x ∷ []) ≡ of_one x ++ follows close false ∷ []) (more : (x y : A) (ys : List A) → all (x ∷ y ∷ ys) ≡ of_one x ++ follows close true ∷ all (y ∷ ys)) where
-  join : (x : A) (others : List A) (lexemes behind rest : List Lexeme) → Stand (of_one x ++ follows close true ∷ []) lexemes behind → proper x ≡ true → AreListed all proper others behind rest → AreListed all proper (x ∷ others) lexemes rest
-  join x [] lexemes behind rest stand is others = absurd (omega (arith, others.2))
-  join x (y ∷ ys) lexemes behind rest stand is others =
-      let both = stand_then (of_one x ++ follows close true ∷ []) (all (y ∷ ys)) lexemes behind rest stand others.0 in
+  join : (x : A) (others : List A) (lexemes following rest : List Lexeme) → Stand (of_one x ++ follows close true ∷ []) lexemes following → proper x ≡ true → AreListed all proper others following rest → AreListed all proper (x ∷ others) lexemes rest
+  join x [] lexemes following rest stand is others = absurd (omega (arith, others.2))
+  join x (y ∷ ys) lexemes following rest stand is others =
+      let both = stand_then (of_one x ++ follows close true ∷ []) (all (y ∷ ys)) lexemes following rest stand others.0 in
       (subst (λ ts. Stand ts lexemes rest) (append_assoc (of_one x) (follows close true ∷ []) _ ∙ sym (more x y ys)) both, and_from (proper x) _ is others.1, omega arith)
 
   pub listed_found : IsSoundElement of_one proper close element → (most : ℕ) (lexemes : List Lexeme) → Finds (λ x. AreListed all proper x.0 lexemes x.1) (listed_at element most lexemes)

@@ -36,6 +36,6 @@ shallow_proper depth (kinds.Tests t) = λ i. tests_kept t i && nat_le (depth_for
 pub shallow_forms : (depth : ℕ) (ss : List Stage) (lexemes rest : List Lexeme) → AreChained depth (map stage_form ss) lexemes rest → are_shallow depth ss ≡ true
 shallow_forms depth [] lexemes rest are = refl
 shallow_forms depth (kinds.Tests t ∷ ss) lexemes rest are =
-    let deep = tests_shallow depth (tests_form t) are.1.behind are.0 are.1.are in
+    let deep = tests_shallow depth (tests_form t) are.1.following are.0 are.1.are in
     and_from (nat_le (text_depth t) depth) _ (le-leb (text_depth t) depth (omega (arith, deep, depth_forms t))) (shallow_forms depth ss are.0 rest are.2)
 shallow_forms depth (_ ∷ ss) lexemes rest are = shallow_forms depth ss are.0 rest are.2

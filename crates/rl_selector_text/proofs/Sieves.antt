@@ -11,7 +11,7 @@ use Rattle.rl_selector_text.specs.Standing.{Stand}
 use Rattle.rl_selector_text.specs.Grammar.{DerivesSieve, AreFilters}
 use Rattle.rl_query.specs.Limits.{most_stages}
 use Rattle.rl_selector_text.specs.Lexing.{lexemes_of}
-use Rattle.rl_selector_text.specs.Sieving.{behind_filters, sieve_ends, rest_at, sieve_in}
+use Rattle.rl_selector_text.specs.Sieving.{after_filters, sieve_ends, rest_at, sieve_in}
 use Rattle.rl_selector_text.proofs.Productions.{next_is, expected_found, selector_found, selector_is}
 use Rattle.rl_selector_text.proofs.Finding.{Finds, found, fault, then, next_found, told_by}
 use Rattle.rl_selector_text.proofs.FilterProductions.{stops_at, filters_read, filters_are}
@@ -22,24 +22,24 @@ end_read position place _ = fault
 
 -- the line filters of a sieve, and then the end
 record IsRest (filters : List FilterForm) (lexemes : List Lexeme) : Type 0 where
-  pub behind : List Lexeme
+  pub following : List Lexeme
   pub rest : List Lexeme
-  pub are : AreFilters most_stages filters lexemes behind
-  pub end : Stand (tokens.End ∷ []) behind rest
+  pub are : AreFilters most_stages filters lexemes following
+  pub end : Stand (tokens.End ∷ []) following rest
 
 rest_read : (lexemes : List Lexeme) → Finds (λ filters. IsRest filters lexemes) (rest_at lexemes)
 unfolding rest_at
 rest_read lexemes =
     then _ (filters_read most_stages lexemes) (λ filters are.
     then _ (next_found filters.1) (λ last stand.
-    then _ (end_read (behind_filters filters.0) last.0.place last.0.token) (λ _ is.
-    found (record { behind = filters.1; rest = last.1; are = are; end = told_by filters.1 last.1 is stand }))))
+    then _ (end_read (after_filters filters.0) last.0.place last.0.token) (λ _ is.
+    found (record { following = filters.1; rest = last.1; are = are; end = told_by filters.1 last.1 is stand }))))
 
-rest_is : (filters : List FilterForm) (lexemes behind rest : List Lexeme) → AreFilters most_stages filters lexemes behind → Stand (tokens.End ∷ []) behind rest → rest_at lexemes ≡ Ok filters
+rest_is : (filters : List FilterForm) (lexemes following rest : List Lexeme) → AreFilters most_stages filters lexemes following → Stand (tokens.End ∷ []) following rest → rest_at lexemes ≡ Ok filters
 unfolding rest_at
-rest_is filters lexemes behind rest are stand =
-    let end = next_is tokens.End [] behind rest stand in
-    rw (filters_are most_stages filters lexemes behind are (stops_at tokens.End [] behind rest stand refl), end.is) refl
+rest_is filters lexemes following rest are stand =
+    let end = next_is tokens.End [] following rest stand in
+    rw (filters_are most_stages filters lexemes following are (stops_at tokens.End [] following rest stand refl), end.is) refl
 
 -- what is read is derived
 pub sieve_derived : (text : List ℕ) → Finds (DerivesSieve text) (sieve_in (lexemes_of text))
@@ -48,11 +48,11 @@ sieve_derived text =
     then _ (expected_found signs.OpenBrace positions.Elsewhere (lexemes_of text)) (λ braced opened.
     then _ (selector_found (lexemes_of text) braced opened) (λ matchers selector.
     then _ (rest_read matchers.1) (λ filters rest.
-    found (record { behind_selector = matchers.1; behind_filters = rest.behind; rest = rest.rest; selector = selector; filters = rest.are; end = rest.end }))))
+    found (record { after_selector = matchers.1; after_filters = rest.following; rest = rest.rest; selector = selector; filters = rest.are; end = rest.end }))))
 
 -- what is derived is read
 pub sieve_is_read : (text : List ℕ) (sieve : SieveForm) → DerivesSieve text sieve → sieve_in (lexemes_of text) ≡ Ok sieve
 unfolding sieve_in
 sieve_is_read text sieve derived =
-    let a = selector_is sieve.matchers (lexemes_of text) derived.behind_selector derived.selector in
-    rw (a.1, a.2, rest_is sieve.filters derived.behind_selector derived.behind_filters derived.rest derived.filters derived.end) refl
+    let a = selector_is sieve.matchers (lexemes_of text) derived.after_selector derived.selector in
+    rw (a.1, a.2, rest_is sieve.filters derived.after_selector derived.after_filters derived.rest derived.filters derived.end) refl

@@ -50,17 +50,17 @@ record IsNext (parsed : Bool) (depth left : ℕ) (lexemes : List Lexeme) (read :
   pub only : parsed && parses read.0 ≡ false
   pub counts : tests_of read.0 + read.1 ≡ left
 
-piped_found : (parsed : Bool) (depth left : ℕ) (lexemes behind : List Lexeme) → Stand (tokens.Sign signs.Pipe ∷ []) lexemes behind → Finds (IsNext parsed depth left lexemes) (piped_at parsed depth left behind)
+piped_found : (parsed : Bool) (depth left : ℕ) (lexemes following : List Lexeme) → Stand (tokens.Sign signs.Pipe ∷ []) lexemes following → Finds (IsNext parsed depth left lexemes) (piped_at parsed depth left following)
 unfolding piped_at tested_at
-piped_found parsed depth left lexemes behind pipe = then _ (next_found behind) (λ first stand.
+piped_found parsed depth left lexemes following pipe = then _ (next_found following) (λ first stand.
     let there : (word : List ℕ) → first.0.token ≡ tokens.Word word → Stand (tokens.Sign signs.Pipe ∷ tokens.Word word ∷ []) lexemes first.1 =
-    λ word told. stand_then (tokens.Sign signs.Pipe ∷ []) (tokens.Word word ∷ []) lexemes behind first.1 pipe (told_by behind first.1 told stand) in
+    λ word told. stand_then (tokens.Sign signs.Pipe ∷ []) (tokens.Word word ∷ []) lexemes following first.1 pipe (told_by following first.1 told stand) in
     of_option _ (parser_of first.0.token)
     (λ named is. then _ (only_found first.0.place parsed named) (λ parser only.
     let told = parser_read first.0.token named is ∙ ap (λ p. tokens.Word (parser_text p)) only.1 in
     found (record { is = there (parser_text parser) told; only = ap (λ b. b && true) only.0; counts = omega arith })))
-    (λ _. then _ (itself (next behind)) (λ first _. then _ (itself (tests_begin first.0.place first.0.token first.1)) (λ _ _. then _ (tests_found depth left behind) (λ tests are.
-    found (record { is = record { behind = behind; pipe = pipe; are = are.0 }; only = and-false parsed; counts = are.1 }))))))
+    (λ _. then _ (itself (next following)) (λ first _. then _ (itself (tests_begin first.0.place first.0.token first.1)) (λ _ _. then _ (tests_found depth left following) (λ tests are.
+    found (record { is = record { following = following; pipe = pipe; are = are.0 }; only = and-false parsed; counts = are.1 }))))))
 
 stage_found : (parsed : Bool) (depth left : ℕ) (lexemes : List Lexeme) → stage_comes lexemes ≡ Ok true → Finds (IsNext parsed depth left lexemes) (stage_at parsed depth left lexemes)
 unfolding stage_at
@@ -95,9 +95,9 @@ stage_is true depth left (by_parser parser) fewer lexemes rest is end only count
 stage_is false depth left (by_parser parser) fewer lexemes rest is end only counts =
     word_is false depth left (by_parser parser) (parser_text parser) fewer lexemes rest is counts (λ _. rw (parser_is parser) refl)
 stage_is parsed depth left (by_tests tests) fewer lexemes rest is end only counts =
-    let a = next_is (tokens.Sign signs.Pipe) [] lexemes is.behind is.pipe in
-    let starts = tests_start depth tests is.behind rest is.are in
-    record { comes = rw a.is refl; read = rw (a.is, a.more, starts.is, no_parser starts.first.token starts.free, starts.begin, tests_are_read depth left is.behind tests fewer rest is.are end counts) refl }
+    let a = next_is (tokens.Sign signs.Pipe) [] lexemes is.following is.pipe in
+    let starts = tests_start depth tests is.following rest is.are in
+    record { comes = rw a.is refl; read = rw (a.is, a.more, starts.is, no_parser starts.first.token starts.free, starts.begin, tests_are_read depth left is.following tests fewer rest is.are end counts) refl }
 
 -- at most `most` stages, and a parser only where none was read before
 record AreUpTo (parsed : Bool) (depth left most : ℕ) (stages : List StageForm) (lexemes rest : List Lexeme) : Type 0 where

@@ -21,7 +21,7 @@ use Rattle.rl_selector_text.specs.Grammar.{filter_sign, IsStage, AreChained}
 use Rattle.rl_selector_text.specs.Parsing.{begins_stage, stage_comes, tests_begin}
 use Rattle.rl_selector_text.specs.Standing.{Stand, operator_sign}
 use Rattle.rl_selector_text.specs.TestGrammar.{Rule, test_name, Compares, IsLabelTest, IsOne, alone, in_parentheses, AreJoined, part, more, AreInside, AreTests}
-use Rattle.rl_selector_text.specs.Testing.{IsEnd, is_word, is_and, begins, compares, behind_and}
+use Rattle.rl_selector_text.specs.Testing.{IsEnd, is_word, is_and, begins, compares, after_and}
 use Rattle.rl_query.specs.TestTree.{TestTree}
 use Rattle.rl_selector_text.proofs.Productions.{placed, stood}
 use Rattle.rl_selector_text.specs.Stops.{place_of}
@@ -29,11 +29,11 @@ use Rattle.rl_selector_text.specs.Stops.{place_of}
 -- label tests begin there, whatever stands before them, and with no word of the grammar
 pub record Starts (lexemes : List Lexeme) : Type 0 where
   pub first : Lexeme
-  pub behind : List Lexeme
-  pub is : next lexemes ≡ Ok (first, behind)
-  pub goes_on : behind_and lexemes ≡ Some lexemes
+  pub following : List Lexeme
+  pub is : next lexemes ≡ Ok (first, following)
+  pub goes_on : after_and lexemes ≡ Some lexemes
   pub free : (word : List ℕ) → is_taken word ≡ true → is_word word first.token ≡ false
-  pub begin : tests_begin first.place first.token behind ≡ Ok tt
+  pub begin : tests_begin first.place first.token following ≡ Ok tt
 
 is_operator : (op : MatchOp) → is_match (tokens.Sign (operator_sign op)) ≡ true
 is_operator operators.Equal = refl
@@ -54,7 +54,7 @@ test_starts test lexemes rest is =
     λ word taken. false_from_ne_true _ (λ same. true≢false (sym taken ∙ ap is_taken (sym (same_text name word same)) ∙ is.free)) in
     record {
       first = record { token = tokens.Word name; place = place_of lexemes };
-      behind = placed others (drop 1 lexemes) rest;
+      following = placed others (drop 1 lexemes) rest;
       is = rw stands refl;
       goes_on = rw (stands, free (codes "and") refl, free (codes "or") refl, comes, or-true) refl;
       free = free;
@@ -63,20 +63,20 @@ test_starts test lexemes rest is =
 
 pub one_starts : (Inside : Rule) (tests : TestTree TestForm) (lexemes rest : List Lexeme) → IsOne Inside tests lexemes rest → Starts lexemes
 one_starts Inside _ _ _ (alone test lexemes rest is) = test_starts test lexemes rest is
-one_starts Inside _ _ _ (in_parentheses tests lexemes behind end rest opened is closed) =
-    let stands = stood (tokens.Sign signs.OpenParenthesis ∷ []) lexemes behind opened in
-    record { first = record { token = tokens.Sign signs.OpenParenthesis; place = place_of lexemes }; behind = behind; is = rw stands refl; goes_on = rw stands refl; free = λ _ _. refl; begin = refl }
+one_starts Inside _ _ _ (in_parentheses tests lexemes following end rest opened is closed) =
+    let stands = stood (tokens.Sign signs.OpenParenthesis ∷ []) lexemes following opened in
+    record { first = record { token = tokens.Sign signs.OpenParenthesis; place = place_of lexemes }; following = following; is = rw stands refl; goes_on = rw stands refl; free = λ _ _. refl; begin = refl }
 
 joined_starts : (join : Join) (Part : Rule) → ((tests : TestTree TestForm) (lexemes rest : List Lexeme) → Part tests lexemes rest → Starts lexemes) → (tests : TestTree TestForm) (lexemes rest : List Lexeme) → AreJoined join Part tests lexemes rest → Starts lexemes
 joined_starts join Part starts _ _ _ (part tests lexemes rest is) = starts tests lexemes rest is
-joined_starts join Part starts _ _ _ (more l r lexemes middle behind rest are joins is) = joined_starts join Part starts l lexemes middle are
+joined_starts join Part starts _ _ _ (more l r lexemes middle following rest are joins is) = joined_starts join Part starts l lexemes middle are
 
 pub tests_start : (depth : ℕ) (tests : TestTree TestForm) (lexemes rest : List Lexeme) → AreTests depth tests lexemes rest → Starts lexemes
 tests_start depth tests lexemes rest are =
     joined_starts _ _ (joined_starts _ _ (one_starts (AreInside depth))) tests lexemes rest are
 
 -- no test goes on with a token
-pub no_more : (token : Token) (others : List Token) (lexemes rest : List Lexeme) → Stand (token ∷ others) lexemes rest → is_and token ≡ false → ((behind : List Lexeme) → begins token behind ≡ false) → is_word (codes "or") token ≡ false → IsEnd lexemes
+pub no_more : (token : Token) (others : List Token) (lexemes rest : List Lexeme) → Stand (token ∷ others) lexemes rest → is_and token ≡ false → ((following : List Lexeme) → begins token following ≡ false) → is_word (codes "or") token ≡ false → IsEnd lexemes
 no_more token others lexemes rest stand a b o = rw (stood (token ∷ others) lexemes rest stand, a, b, o) (refl, refl)
 
 filter_ends : (op : LineOp) (others : List Token) (lexemes rest : List Lexeme) → Stand (tokens.Sign (filter_sign op) ∷ others) lexemes rest → IsEnd lexemes
@@ -85,7 +85,7 @@ filter_ends op others lexemes rest stand = no_more (tokens.Sign (filter_sign op)
 
 stage_ends : (depth : ℕ) (stage : StageForm) (lexemes rest : List Lexeme) → IsStage depth stage lexemes rest → IsEnd lexemes
 stage_ends depth (by_filter f) lexemes rest is = filter_ends f.op (tokens.Text f.text ∷ []) lexemes rest is.0
-stage_ends depth (by_tests t) lexemes rest is = no_more (tokens.Sign signs.Pipe) [] lexemes is.behind is.pipe refl (λ _. refl) refl
+stage_ends depth (by_tests t) lexemes rest is = no_more (tokens.Sign signs.Pipe) [] lexemes is.following is.pipe refl (λ _. refl) refl
 stage_ends depth _ lexemes rest is = no_more (tokens.Sign signs.Pipe) (_ ∷ []) lexemes rest is refl (λ _. refl) refl
 
 -- tests end where stages begin
@@ -98,6 +98,6 @@ pub record Ends (lexemes : List Lexeme) : Type 0 where
   pub comes : stage_comes lexemes ≡ Ok false
   pub end : IsEnd lexemes
 
-pub ends_at : (token : Token) (others : List Token) (lexemes rest : List Lexeme) → Stand (token ∷ others) lexemes rest → begins_stage token ≡ false → is_and token ≡ false → ((behind : List Lexeme) → begins token behind ≡ false) → is_word (codes "or") token ≡ false → Ends lexemes
+pub ends_at : (token : Token) (others : List Token) (lexemes rest : List Lexeme) → Stand (token ∷ others) lexemes rest → begins_stage token ≡ false → is_and token ≡ false → ((following : List Lexeme) → begins token following ≡ false) → is_word (codes "or") token ≡ false → Ends lexemes
 ends_at token others lexemes rest stand s a b o =
     record { comes = rw (stood (token ∷ others) lexemes rest stand, s) refl; end = no_more token others lexemes rest stand a b o }

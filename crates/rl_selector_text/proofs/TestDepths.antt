@@ -24,12 +24,12 @@ looser _ _ depth = omega arith
 
 one_shallow : (Inside : Rule) (depth : ℕ) → IsShallow Inside depth → (tests : TestTree TestForm) (lexemes rest : List Lexeme) → IsOne Inside tests lexemes rest → deepened (needs levels.One tests) (text_depth tests) ≤ depth
 one_shallow Inside depth shallow _ _ _ (alone test lexemes rest is) = omega arith
-one_shallow Inside depth shallow _ _ _ (in_parentheses tests lexemes behind end rest opened is closed) = omega (arith, shallow tests behind end is, no_more (needs levels.One tests) (text_depth tests))
+one_shallow Inside depth shallow _ _ _ (in_parentheses tests lexemes following end rest opened is closed) = omega (arith, shallow tests following end is, no_more (needs levels.One tests) (text_depth tests))
 
 joined_shallow : (join : Join) (Part : Rule) (depth : ℕ) → ((tests : TestTree TestForm) (lexemes rest : List Lexeme) → Part tests lexemes rest → deepened (needs (right_level join) tests) (text_depth tests) ≤ depth) → (tests : TestTree TestForm) (lexemes rest : List Lexeme) → AreJoined join Part tests lexemes rest → deepened (needs (left_level join) tests) (text_depth tests) ≤ depth
 joined_shallow join Part depth shallow _ _ _ (part tests lexemes rest is) = omega (arith, shallow tests lexemes rest is, looser join tests (text_depth tests))
-joined_shallow And Part depth shallow _ _ _ (more left right lexemes middle behind rest are joins is) = omega (arith, joined_shallow And Part depth shallow left lexemes middle are, shallow right behind rest is)
-joined_shallow Or Part depth shallow _ _ _ (more left right lexemes middle behind rest are joins is) = omega (arith, joined_shallow Or Part depth shallow left lexemes middle are, shallow right behind rest is)
+joined_shallow And Part depth shallow _ _ _ (more left right lexemes middle following rest are joins is) = omega (arith, joined_shallow And Part depth shallow left lexemes middle are, shallow right following rest is)
+joined_shallow Or Part depth shallow _ _ _ (more left right lexemes middle following rest are joins is) = omega (arith, joined_shallow Or Part depth shallow left lexemes middle are, shallow right following rest is)
 
 inside_shallow : (depth : ℕ) → IsShallow (AreInside depth) depth
 inside_shallow zero tests lexemes rest is = absurd is

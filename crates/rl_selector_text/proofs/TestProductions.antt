@@ -13,7 +13,7 @@ use Rattle.rl_query.specs.declared.token.Token.TheVariants as tokens
 use Rattle.rl_selector_text.specs.Fronts.{next, is_sign}
 use Rattle.rl_query.specs.Form.{TestForm}
 use Rattle.rl_selector_text.specs.TestGrammar.{Rule, IsOne, alone, in_parentheses, Joins, AreJoined, part, more, AreInside, AreTests}
-use Rattle.rl_selector_text.specs.Testing.{Read, Reader, is_word, label_at, one_fewer, test_at, enclosed_at, one_at, is_and, begins, behind_join, others_at, joined_at, inside_at, tests_at}
+use Rattle.rl_selector_text.specs.Testing.{Read, Reader, is_word, label_at, one_fewer, test_at, enclosed_at, one_at, is_and, begins, after_join, others_at, joined_at, inside_at, tests_at}
 use Rattle.rl_query.specs.TestTree.{TestTree, joined, count_tests}
 use Rattle.rl_selector_text.proofs.FreeNames.{label_first}
 use Rattle.rl_selector_text.proofs.Finding.{Finds, found, fault, itself, then, by_test, of_option, next_found, told_by}
@@ -49,25 +49,25 @@ one_sound : (inside : Reader) (Inside : Rule) → IsSound inside Inside → IsSo
 unfolding one_at enclosed_at
 one_sound inside Inside sound left lexemes = then _ (next_found lexemes) (λ first stand. by_test (is_sign signs.OpenParenthesis first.0.token)
     (λ opens. then _ (sound left first.1) (λ tests are.
-    then _ (expected_found signs.CloseParenthesis positions.BehindInnerTests tests.2) (λ rest closed.
+    then _ (expected_found signs.CloseParenthesis positions.AfterInnerTests tests.2) (λ rest closed.
     found (in_parentheses tests.0 lexemes first.1 tests.2 rest (told_by lexemes first.1 (only_sign signs.OpenParenthesis first.0.token opens) stand) are.0 closed, are.1))))
     (λ _. test_sound Inside left lexemes))
 
-joins_read : (join : Join) (lexemes behind : List Lexeme) → behind_join join lexemes ≡ Some behind → Joins join lexemes behind
-joins_read And [] behind h = absurd (none-some behind h)
-joins_read Or [] behind h = absurd (none-some behind h)
-joins_read And (l ∷ lexemes) behind h =
+joins_read : (join : Join) (lexemes following : List Lexeme) → after_join join lexemes ≡ Some following → Joins join lexemes following
+joins_read And [] following h = absurd (none-some following h)
+joins_read Or [] following h = absurd (none-some following h)
+joins_read And (l ∷ lexemes) following h =
     ⊎_elim
     (λ by_and. ⊎_elim (λ word. inl (only_word (codes "and") l.token word, same_Some _ _ by_and.1)) (λ comma. inr (inl (only_sign signs.Comma l.token comma, same_Some _ _ by_and.1))) (or_cases _ _ by_and.0))
-    (λ other. inr (inr (cond_some (begins l.token lexemes) _ behind other.1).1))
-    (chosen (is_and l.token) _ _ (Some behind) h)
-joins_read Or (l ∷ lexemes) behind h = let found = cond_some (is_word (codes "or") l.token) lexemes behind h in (only_word (codes "or") l.token found.0, found.1)
+    (λ other. inr (inr (cond_some (begins l.token lexemes) _ following other.1).1))
+    (chosen (is_and l.token) _ _ (Some following) h)
+joins_read Or (l ∷ lexemes) following h = let found = cond_some (is_word (codes "or") l.token) lexemes following h in (only_word (codes "or") l.token found.0, found.1)
 
 others_sound : (join : Join) (reader : Reader) (Part : Rule) → IsSound reader Part → (most : ℕ) (tests : TestTree TestForm) (left all : ℕ) (start lexemes : List Lexeme) → AreJoined join Part tests start lexemes → count_tests tests + left ≡ all → Finds (IsRead (AreJoined join Part) all start) (others_at join reader most tests left lexemes)
 unfolding others_at
 others_sound join reader Part sound zero tests left all start lexemes are count = found (are, count)
-others_sound join reader Part sound (suc most) tests left all start lexemes are count = of_option _ (behind_join join lexemes)
-    (λ behind joins. then _ (sound left behind) (λ other is. others_sound join reader Part sound most (joined join tests other.0) other.1 all start other.2 (more tests other.0 start lexemes behind other.2 are (joins_read join lexemes behind joins) is.0) (omega (arith, is.1, count))))
+others_sound join reader Part sound (suc most) tests left all start lexemes are count = of_option _ (after_join join lexemes)
+    (λ following joins. then _ (sound left following) (λ other is. others_sound join reader Part sound most (joined join tests other.0) other.1 all start other.2 (more tests other.0 start lexemes following other.2 are (joins_read join lexemes following joins) is.0) (omega (arith, is.1, count))))
     (λ _. found (are, count))
 
 joined_sound : (join : Join) (reader : Reader) (Part : Rule) → IsSound reader Part → IsSound (joined_at join reader) (AreJoined join Part)

@@ -10,7 +10,7 @@ use Rattle.std.proofs.Math.Utf8.{encode}
 use Rattle.rl_plain.specs.Escapes.{Escapes, are_ascii, unescape}
 use Rattle.rl_plain.specs.Hexadecimal.{hex_digit, hex_number}
 use Rattle.rl_plain.specs.Runs.{onto}
-use Rattle.rl_plain.specs.laws.Cuts.{behind_ascii, stops, first_of, none_left}
+use Rattle.rl_plain.specs.laws.Cuts.{rest_ascii, stops, first_of, none_left}
 use Rattle.rl_query.specs.Tables.{escapes}
 use Rattle.rl_selector_text.specs.Lexing.{is_plain, is_raw, character, unicode_at, escape_at, escape_front, quoted, backquoted}
 use Rattle.std.proofs.lemmas.Option.{some_pair_parts}
@@ -72,19 +72,19 @@ escape_ascii (b ∷ bytes) = cond_both (b == 117) _ _ (EndsAscii (b ∷ bytes)) 
 pub escape_boundary : (bytes : List ℕ) (c n : ℕ) → IsUtf8 bytes → ◌≡◌ {A = Option (ℕ × ℕ)} (Some (c, n)) (escape_at bytes) → IsCharBoundary bytes n
 escape_boundary bytes c n utf8 is =
     let ends : EndsAscii bytes (Some (c, n)) = subst (EndsAscii bytes) (sym is) (escape_ascii bytes) in
-    behind_ascii bytes n utf8 ends.1 (λ _. ends.2)
+    rest_ascii bytes n utf8 ends.1 (λ _. ends.2)
 
 -- the byte after a run
-pub stop_first : (p : ℕ → Bool) (rest behind : List ℕ) → behind ≡ drop (prefix_len p rest) rest → (length behind == 0) ≡ false → p (get_or behind 0 0) ≡ false
-stop_first p rest behind is more = stops p rest _ _ (sym is ∙ first_of behind more)
+pub stop_first : (p : ℕ → Bool) (rest following : List ℕ) → following ≡ drop (prefix_len p rest) rest → (length following == 0) ≡ false → p (get_or following 0 0) ≡ false
+stop_first p rest following is more = stops p rest _ _ (sym is ∙ first_of following more)
 
 -- a text between backquotes is the run, if a backquote follows it
 pub raw_read : (bytes : List ℕ) → backquoted bytes ≡ cond (length (drop (prefix_len is_raw bytes) bytes) == 0) None (Some (take (prefix_len is_raw bytes) bytes, drop 1 (drop (prefix_len is_raw bytes) bytes)))
-raw_read bytes = raw_run bytes ∙ by_behind (drop (prefix_len is_raw bytes) bytes) refl
+raw_read bytes = raw_run bytes ∙ by_after (drop (prefix_len is_raw bytes) bytes) refl
   where
-    by_behind : (behind : List ℕ) → drop (prefix_len is_raw bytes) bytes ≡ behind → onto (take (prefix_len is_raw bytes) bytes) (backquoted behind) ≡ cond (length behind == 0) None (Some (take (prefix_len is_raw bytes) bytes, drop 1 behind))
-    by_behind [] is = refl
-    by_behind (b ∷ rest) is = ap (onto (take (prefix_len is_raw bytes) bytes)) (cond-true (b == 96) _ _ (not-false (b == 96) (stops is_raw bytes b rest is))) ∙ ap (λ t. Some (t, rest)) (append-nil (take (prefix_len is_raw bytes) bytes)) ∙ sym (cond-false (length (b ∷ rest) == 0) _ _ (ne_eqb (length (b ∷ rest)) 0 (λ e. omega (arith, e))))
+    by_after : (following : List ℕ) → drop (prefix_len is_raw bytes) bytes ≡ following → onto (take (prefix_len is_raw bytes) bytes) (backquoted following) ≡ cond (length following == 0) None (Some (take (prefix_len is_raw bytes) bytes, drop 1 following))
+    by_after [] is = refl
+    by_after (b ∷ rest) is = ap (onto (take (prefix_len is_raw bytes) bytes)) (cond-true (b == 96) _ _ (not-false (b == 96) (stops is_raw bytes b rest is))) ∙ ap (λ t. Some (t, rest)) (append-nil (take (prefix_len is_raw bytes) bytes)) ∙ sym (cond-false (length (b ∷ rest) == 0) _ _ (ne_eqb (length (b ∷ rest)) 0 (λ e. omega (arith, e))))
 
 -- what an escape is followed by
 escape_left : (bytes : List ℕ) (e : Option (ℕ × ℕ)) (c : ℕ) (rest : List ℕ) → ◌≡◌ {A = Option (ℕ × List ℕ)} (Some (c, rest)) (option_map (λ (x : ℕ × ℕ). (x.0, drop x.1 bytes)) e)
@@ -99,35 +99,35 @@ pub escape_shorter : (bytes : List ℕ) (c : ℕ) (rest : List ℕ) → ◌≡�
 escape_shorter bytes c rest is = let left = escape_left bytes (escape_at bytes) c rest is in omega (arith, ap length left.2, length-drop left.0 bytes)
 
 -- what is left to read after the run at the front
-pub record Left (whole : Option (List ℕ × List ℕ)) (so_far behind : List ℕ) : Type 0 where
-  pub read : onto so_far (quoted 0 behind) ≡ whole
-  pub stop : (length behind == 0) ≡ false → is_plain (get_or behind 0 0) ≡ false
+pub record Left (whole : Option (List ℕ × List ℕ)) (so_far following : List ℕ) : Type 0 where
+  pub read : onto so_far (quoted 0 following) ≡ whole
+  pub stop : (length following == 0) ≡ false → is_plain (get_or following 0 0) ≡ false
 
-pub left_of : {whole : Option (List ℕ × List ℕ)} (so_far rest : List ℕ) {front behind pushed : List ℕ} → onto so_far (quoted 0 rest) ≡ whole → front ≡ take (prefix_len is_plain rest) rest → behind ≡ drop (prefix_len is_plain rest) rest
-    → pushed ≡ so_far ++ front → Left whole pushed behind
-left_of so_far rest {front} {behind} read front_is behind_is pushed_is = record {
-  read = ap (λ t. onto t (quoted 0 behind)) pushed_is ∙ sym (onto-onto so_far front (quoted 0 behind)) ∙ (λ i. onto so_far (onto (front_is i) (quoted 0 (behind_is i)))) ∙ sym (ap (onto so_far) (plain_run rest)) ∙ read;
-  stop = stop_first is_plain rest behind behind_is;
+pub left_of : {whole : Option (List ℕ × List ℕ)} (so_far rest : List ℕ) {front following pushed : List ℕ} → onto so_far (quoted 0 rest) ≡ whole → front ≡ take (prefix_len is_plain rest) rest → following ≡ drop (prefix_len is_plain rest) rest
+    → pushed ≡ so_far ++ front → Left whole pushed following
+left_of so_far rest {front} {following} read front_is behind_is pushed_is = record {
+  read = ap (λ t. onto t (quoted 0 following)) pushed_is ∙ sym (onto-onto so_far front (quoted 0 following)) ∙ (λ i. onto so_far (onto (front_is i) (quoted 0 (behind_is i)))) ∙ sym (ap (onto so_far) (plain_run rest)) ∙ read;
+  stop = stop_first is_plain rest following behind_is;
 }
 
 -- it is empty, begins with a quote, or begins with an escape
-pub left_none : {whole : Option (List ℕ × List ℕ)} {so_far behind : List ℕ} → Left whole so_far behind → (length behind == 0) ≡ true → None ≡ whole
-left_none {so_far = so_far} {behind = behind} left ends = ap (λ t. onto so_far (quoted 0 t)) (sym (none_left behind ends)) ∙ left.read
+pub left_none : {whole : Option (List ℕ × List ℕ)} {so_far following : List ℕ} → Left whole so_far following → (length following == 0) ≡ true → None ≡ whole
+left_none {so_far = so_far} {following = following} left ends = ap (λ t. onto so_far (quoted 0 t)) (sym (none_left following ends)) ∙ left.read
 
-pub left_end : {whole : Option (List ℕ × List ℕ)} {so_far behind : List ℕ} → Left whole so_far behind → (length behind == 0) ≡ false → get_or behind 0 0 ≡ 34 → ◌≡◌ {A = Option (List ℕ × List ℕ)} (Some (so_far, drop 1 behind)) whole
-left_end {so_far = so_far} {behind = behind} left more quote = ap (λ t. Some (t, drop 1 behind)) (sym (append-nil so_far)) ∙ ap (λ t. onto so_far (quoted 0 t)) (sym (first_of behind more ∙ ap (λ b. b ∷ drop 1 behind) quote)) ∙ left.read
+pub left_end : {whole : Option (List ℕ × List ℕ)} {so_far following : List ℕ} → Left whole so_far following → (length following == 0) ≡ false → get_or following 0 0 ≡ 34 → ◌≡◌ {A = Option (List ℕ × List ℕ)} (Some (so_far, drop 1 following)) whole
+left_end {so_far = so_far} {following = following} left more quote = ap (λ t. Some (t, drop 1 following)) (sym (append-nil so_far)) ∙ ap (λ t. onto so_far (quoted 0 t)) (sym (first_of following more ∙ ap (λ b. b ∷ drop 1 following) quote)) ∙ left.read
 
 -- an escape, and the text after it
 abbrev pub onto_escape : List ℕ → Option (ℕ × List ℕ) → Option (List ℕ × List ℕ)
 onto_escape so_far = λ e. onto so_far (option_and_then (λ (c : ℕ × List ℕ). onto (encode c.0) (quoted 0 c.1)) e)
 
-pub left_escape : {whole : Option (List ℕ × List ℕ)} {so_far behind : List ℕ} → Left whole so_far behind → (length behind == 0) ≡ false → (get_or behind 0 0 ≡ 34 → ⊥) → onto_escape so_far (escape_front (drop 1 behind)) ≡ whole
-left_escape {so_far = so_far} {behind = behind} left more other =
-    let backslash : get_or behind 0 0 ≡ 92 = let stop = left.stop more in grind (arith, nat_tests) in
-    let skipped = elim (escape_at (drop 1 behind)) as (λ e. option_and_then (λ (c : ℕ × List ℕ). onto (encode c.0) (quoted 0 c.1)) (option_map (λ (x : ℕ × ℕ). (x.0, drop x.1 (drop 1 behind))) e)
-    ≡ option_and_then (λ (c : ℕ × ℕ). onto (encode c.0) (quoted c.1 (drop 1 behind))) e)
-    [ None ↦ refl | Some e ↦ ap (onto (encode e.0)) (sym (quoted_skip e.1 (drop 1 behind))) ] in
-    ap (onto so_far) skipped ∙ ap (λ t. onto so_far (quoted 0 t)) (sym (first_of behind more ∙ ap (λ b. b ∷ drop 1 behind) backslash)) ∙ left.read
+pub left_escape : {whole : Option (List ℕ × List ℕ)} {so_far following : List ℕ} → Left whole so_far following → (length following == 0) ≡ false → (get_or following 0 0 ≡ 34 → ⊥) → onto_escape so_far (escape_front (drop 1 following)) ≡ whole
+left_escape {so_far = so_far} {following = following} left more other =
+    let backslash : get_or following 0 0 ≡ 92 = let stop = left.stop more in grind (arith, nat_tests) in
+    let skipped = elim (escape_at (drop 1 following)) as (λ e. option_and_then (λ (c : ℕ × List ℕ). onto (encode c.0) (quoted 0 c.1)) (option_map (λ (x : ℕ × ℕ). (x.0, drop x.1 (drop 1 following))) e)
+    ≡ option_and_then (λ (c : ℕ × ℕ). onto (encode c.0) (quoted c.1 (drop 1 following))) e)
+    [ None ↦ refl | Some e ↦ ap (onto (encode e.0)) (sym (quoted_skip e.1 (drop 1 following))) ] in
+    ap (onto so_far) skipped ∙ ap (λ t. onto so_far (quoted 0 t)) (sym (first_of following more ∙ ap (λ b. b ∷ drop 1 following) backslash)) ∙ left.read
 
 pub escape_onto : (so_far next left : List ℕ) (c : ℕ) → next ≡ so_far ++ encode c → onto next (quoted 0 left) ≡ onto_escape so_far (Some (c, left))
 escape_onto so_far next left c is = ap (λ t. onto t (quoted 0 left)) is ∙ sym (onto-onto so_far (encode c) (quoted 0 left))

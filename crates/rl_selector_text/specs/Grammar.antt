@@ -56,9 +56,9 @@ parser_tokens parser = tokens.Sign signs.Pipe ∷ tokens.Word (parser_text parse
 
 -- | tests, with at most `depth` parentheses open at once
 pub record AreTestsPiped (depth : ℕ) (tests : TestTree TestForm) (lexemes rest : List Lexeme) : Type 0 where
-  pub behind : List Lexeme
-  pub pipe : Stand (tokens.Sign signs.Pipe ∷ []) lexemes behind
-  pub are : AreTests depth tests behind rest
+  pub following : List Lexeme
+  pub pipe : Stand (tokens.Sign signs.Pipe ∷ []) lexemes following
+  pub are : AreTests depth tests following rest
 
 -- a line filter whose pattern is one, a parser or label tests
 abbrev pub IsStage : (depth : ℕ) → StageForm → List Lexeme → List Lexeme → Type 0
@@ -69,7 +69,7 @@ IsStage depth (by_tests tests) lexemes rest = AreTestsPiped depth tests lexemes 
 -- stages one after the other
 abbrev pub AreChained : (depth : ℕ) → List StageForm → List Lexeme → List Lexeme → Type 0
 AreChained depth [] lexemes rest = lexemes ≡ rest
-AreChained depth (stage ∷ stages) lexemes rest = (behind : List Lexeme) × IsStage depth stage lexemes behind × AreChained depth stages behind rest
+AreChained depth (stage ∷ stages) lexemes rest = (following : List Lexeme) × IsStage depth stage lexemes following × AreChained depth stages following rest
 
 -- stages of which one at most is a parser
 pub record AreStages (depth : ℕ) (stages : List StageForm) (lexemes rest : List Lexeme) : Type 0 where
@@ -78,9 +78,9 @@ pub record AreStages (depth : ℕ) (stages : List StageForm) (lexemes rest : Lis
 
 -- {matchers} line filters, and nothing after them
 pub record DerivesSieve (text : List ℕ) (sieve : SieveForm) : Type 0 where
-  pub behind_selector : List Lexeme
-  pub behind_filters : List Lexeme
+  pub after_selector : List Lexeme
+  pub after_filters : List Lexeme
   pub rest : List Lexeme
-  pub selector : IsSelector sieve.matchers (lexemes_of text) behind_selector
-  pub filters : AreFilters most_stages sieve.filters behind_selector behind_filters
-  pub end : Stand (tokens.End ∷ []) behind_filters rest
+  pub selector : IsSelector sieve.matchers (lexemes_of text) after_selector
+  pub filters : AreFilters most_stages sieve.filters after_selector after_filters
+  pub end : Stand (tokens.End ∷ []) after_filters rest

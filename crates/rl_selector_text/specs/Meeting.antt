@@ -20,9 +20,9 @@ precedes_pattern (tokens.Sign signs.ContainsMatch) = true
 precedes_pattern _ = false
 
 -- a pattern is among tokens, before which such a sign stands or does not: a text after such a sign
-abbrev pub has_pattern_token : (behind_sign : Bool) → List Lexeme → Bool
-has_pattern_token behind_sign [] = false
-has_pattern_token behind_sign (lexeme ∷ lexemes) = (behind_sign && is_content lexeme.token) || has_pattern_token (precedes_pattern lexeme.token) lexemes
+abbrev pub has_pattern_token : (after_sign : Bool) → List Lexeme → Bool
+has_pattern_token after_sign [] = false
+has_pattern_token after_sign (lexeme ∷ lexemes) = (after_sign && is_content lexeme.token) || has_pattern_token (precedes_pattern lexeme.token) lexemes
 
 -- the tokens before an offset
 abbrev pub tokens_before : ℕ → List Lexeme → List Lexeme
@@ -37,9 +37,9 @@ abbrev pub meets_pattern : {A : Type 0} → Result A Stop → List Lexeme → Bo
 meets_pattern reading lexemes = has_pattern_token false (tokens_met reading lexemes)
 
 -- a sign before a pattern stands at the end of tokens, before which such a sign stands or does not
-abbrev pub ends_before_pattern : (behind_sign : Bool) → List Lexeme → Bool
-ends_before_pattern behind_sign [] = behind_sign
-ends_before_pattern behind_sign (lexeme ∷ lexemes) = ends_before_pattern (precedes_pattern lexeme.token) lexemes
+abbrev pub ends_before_pattern : (after_sign : Bool) → List Lexeme → Bool
+ends_before_pattern after_sign [] = after_sign
+ends_before_pattern after_sign (lexeme ∷ lexemes) = ends_before_pattern (precedes_pattern lexeme.token) lexemes
 
 -- why a text is refused at which reading stopped: for its fault, or for room where a pattern stands before that
 abbrev pub IsTold : List Lexeme → OrMemory Stop → OrMemory QueryFault → Type 0

@@ -175,12 +175,12 @@ stages_at parsed depth left (suc most) lexemes = do
 abbrev pub stages_in : Room → List Lexeme → Result (List StageForm × List Lexeme) Stop
 stages_in room lexemes = stages_at false room.depth room.tests room.stages lexemes
 
-abbrev pub behind_stage : StageForm → Position
-behind_stage (by_filter filter) = positions.BehindFilter
-behind_stage (by_parser parser) = positions.BehindParser
-behind_stage (by_tests tests) = positions.BehindTests
+abbrev pub after_stage : StageForm → Position
+after_stage (by_filter filter) = positions.AfterFilter
+after_stage (by_parser parser) = positions.AfterParser
+after_stage (by_tests tests) = positions.AfterTests
 
 -- the position after the last stage, or where there is none that before the stages
-abbrev pub behind_stages : Position → List StageForm → Position
-behind_stages position [] = position
-behind_stages position (stage ∷ stages) = behind_stages (behind_stage stage) stages
+abbrev pub after_stages : Position → List StageForm → Position
+after_stages position [] = position
+after_stages position (stage ∷ stages) = after_stages (after_stage stage) stages

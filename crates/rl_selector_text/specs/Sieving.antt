@@ -18,9 +18,9 @@ use Rattle.rl_selector_text.specs.Fronts.{next, expected, refusal}
 use Rattle.rl_selector_text.specs.Parsing.{selector_at, filters_at}
 
 -- the position after a selector and line filters
-abbrev pub behind_filters : List FilterForm → Position
-behind_filters [] = positions.BehindSieveSelector
-behind_filters (filter ∷ filters) = positions.BehindSieveFilter
+abbrev pub after_filters : List FilterForm → Position
+after_filters [] = positions.AfterSieveSelector
+after_filters (filter ∷ filters) = positions.AfterSieveFilter
 
 -- nothing follows a sieve
 abbrev pub sieve_ends : Position → ℕ → Token → Result (Unit {0}) Stop
@@ -32,7 +32,7 @@ unfoldable pub rest_at : List Lexeme → Result (List FilterForm) Stop
 rest_at lexemes = do
   filters ← filters_at most_stages lexemes
   last ← next filters.1
-  nothing ← sieve_ends (behind_filters filters.0) last.0.place last.0.token
+  nothing ← sieve_ends (after_filters filters.0) last.0.place last.0.token
   Ok filters.0
 
 -- a sieve is all of its tokens

@@ -41,7 +41,7 @@ pub record IsLabelTest (test : TestForm) (lexemes rest : List Lexeme) : Type 0 w
 -- the test of a label, or "(" tests ")"
 pub data IsOne (Inside : Rule) : TestTree TestForm → List Lexeme → List Lexeme → Type 0 where
   alone : (test : TestForm) (lexemes rest : List Lexeme) → IsLabelTest test lexemes rest → IsOne Inside (one test) lexemes rest
-  in_parentheses : (tests : TestTree TestForm) (lexemes behind end rest : List Lexeme) → Stand (tokens.Sign signs.OpenParenthesis ∷ []) lexemes behind → Inside tests behind end → Stand (tokens.Sign signs.CloseParenthesis ∷ []) end rest → IsOne Inside tests lexemes rest
+  in_parentheses : (tests : TestTree TestForm) (lexemes following end rest : List Lexeme) → Stand (tokens.Sign signs.OpenParenthesis ∷ []) lexemes following → Inside tests following end → Stand (tokens.Sign signs.CloseParenthesis ∷ []) end rest → IsOne Inside tests lexemes rest
 
 -- what stands between two tests: "and", a comma or nothing, and "or"
 abbrev pub Joins : Join → List Lexeme → List Lexeme → Type 0
@@ -51,7 +51,7 @@ Joins Or lexemes rest = Stand (tokens.Word (codes "or") ∷ []) lexemes rest
 -- a part, or parts and what joins one part more to them
 pub data AreJoined (join : Join) (Part : Rule) : TestTree TestForm → List Lexeme → List Lexeme → Type 0 where
   part : (tests : TestTree TestForm) (lexemes rest : List Lexeme) → Part tests lexemes rest → AreJoined join Part tests lexemes rest
-  more : (left right : TestTree TestForm) (lexemes middle behind rest : List Lexeme) → AreJoined join Part left lexemes middle → Joins join middle behind → Part right behind rest → AreJoined join Part (joined join left right) lexemes rest
+  more : (left right : TestTree TestForm) (lexemes middle following rest : List Lexeme) → AreJoined join Part left lexemes middle → Joins join middle following → Part right following rest → AreJoined join Part (joined join left right) lexemes rest
 
 -- what `or` joins is what `and` joins
 abbrev pub AreTestsIn : (Inside : Rule) → Rule

@@ -109,7 +109,7 @@ test_at left lexemes = do
 unfoldable pub enclosed_at : (inside : Reader) → Reader
 enclosed_at inside left lexemes = do
   tests ← inside left lexemes
-  closed ← expected signs.CloseParenthesis positions.BehindInnerTests tests.2
+  closed ← expected signs.CloseParenthesis positions.AfterInnerTests tests.2
   Ok (tests.0, tests.1, closed)
 
 -- "(" tests ")", or the test of a label
@@ -128,33 +128,33 @@ operator_comes [] = false
 operator_comes (lexeme ∷ lexemes) = is_match lexeme.token || compares lexeme.token
 
 -- a token stands where a test begins; a word that joins tests in another case names a label only before an operator
-abbrev pub begins : Token → (behind : List Lexeme) → Bool
-begins (tokens.Word word) behind = not (is_text word (codes "or")) && (not (is_joining_word word) || operator_comes behind)
-begins token behind = is_sign signs.OpenParenthesis token
+abbrev pub begins : Token → (following : List Lexeme) → Bool
+begins (tokens.Word word) following = not (is_text word (codes "or")) && (not (is_joining_word word) || operator_comes following)
+begins token following = is_sign signs.OpenParenthesis token
 
 -- the tokens of what `and` joins, if it joins more: after the word or a comma, or at once
-abbrev pub behind_and : List Lexeme → Option (List Lexeme)
-behind_and [] = None
-behind_and (lexeme ∷ lexemes) = if is_and lexeme.token then Some lexemes else (if begins lexeme.token lexemes then Some (lexeme ∷ lexemes) else None)
+abbrev pub after_and : List Lexeme → Option (List Lexeme)
+after_and [] = None
+after_and (lexeme ∷ lexemes) = if is_and lexeme.token then Some lexemes else (if begins lexeme.token lexemes then Some (lexeme ∷ lexemes) else None)
 
 -- the tokens of what `or` joins, if it joins more
-abbrev pub behind_or : List Lexeme → Option (List Lexeme)
-behind_or [] = None
-behind_or (lexeme ∷ lexemes) = if is_word (codes "or") lexeme.token then Some lexemes else None
+abbrev pub after_or : List Lexeme → Option (List Lexeme)
+after_or [] = None
+after_or (lexeme ∷ lexemes) = if is_word (codes "or") lexeme.token then Some lexemes else None
 
 -- what follows tests, and joins nothing to them
 abbrev pub IsEnd : List Lexeme → Type 0
-IsEnd lexemes = (behind_and lexemes ≡ None) × (behind_or lexemes ≡ None)
+IsEnd lexemes = (after_and lexemes ≡ None) × (after_or lexemes ≡ None)
 
-abbrev pub behind_join : Join → List Lexeme → Option (List Lexeme)
-behind_join And = behind_and
-behind_join Or = behind_or
+abbrev pub after_join : Join → List Lexeme → Option (List Lexeme)
+after_join And = after_and
+after_join Or = after_or
 
 -- what is joined to the tests that were read, at most `most` times
 unfoldable pub others_at : Join → (part : Reader) → (most : ℕ) → TestTree TestForm → Reader
 others_at join part zero tests left lexemes = Ok (tests, left, lexemes)
 others_at join part (suc most) tests left lexemes =
-    option_map_or (λ behind. part left behind >>= λ other. others_at join part most (joined join tests other.0) other.1 other.2) (behind_join join lexemes) (Ok (tests, left, lexemes))
+    option_map_or (λ following. part left following >>= λ other. others_at join part most (joined join tests other.0) other.1 other.2) (after_join join lexemes) (Ok (tests, left, lexemes))
 
 -- parts joined in one way. Each has a test at least, so there are no more of them than tests that may come
 unfoldable pub joined_at : Join → (part : Reader) → Reader

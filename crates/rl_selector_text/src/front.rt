@@ -59,31 +59,31 @@ pub enum Position {
     /// After the parenthesis of `topk`.
     InParameter,
     /// After the selector of a range.
-    BehindSelector,
+    AfterSelector,
     /// After the sign of a line filter.
     InFilter,
     /// After a line filter of a range.
-    BehindFilter,
+    AfterFilter,
     /// After a parser.
-    BehindParser,
+    AfterParser,
     /// After the comparison of a label test.
     InTest,
     /// After label tests.
-    BehindTests,
+    AfterTests,
     /// After label tests in parentheses.
-    BehindInnerTests,
+    AfterInnerTests,
     /// After the selector of a sieve.
-    BehindSieveSelector,
+    AfterSieveSelector,
     /// After a line filter of a sieve.
-    BehindSieveFilter,
+    AfterSieveFilter,
     /// After the duration.
     InRange,
     /// After the bracket that closes a range.
-    BehindRange,
+    AfterRange,
     /// After that bracket, where stages stand before the duration.
-    BehindFilteredRange,
+    AfterFilteredRange,
     /// After a term or a threshold.
-    BehindTerm,
+    AfterTerm,
     Elsewhere,
 }
 
@@ -126,14 +126,14 @@ fn is_unsupported_word(position: Position, word: &str) -> bool
     match position {
         Position::Start | Position::InTerm => is_later_word(word),
         Position::Divisor | Position::InThreshold => is_later_word(word) || is_matching_word(word),
-        Position::BehindRange | Position::BehindFilteredRange => {
+        Position::AfterRange | Position::AfterFilteredRange => {
             word.eq_ignore_ascii_case("offset")
         }
-        Position::BehindTests | Position::BehindInnerTests => is_joining_word(word),
-        Position::BehindTerm => is_joining_word(word) || word.eq_ignore_ascii_case("unless"),
-        Position::InFilter | Position::BehindParser => true,
+        Position::AfterTests | Position::AfterInnerTests => is_joining_word(word),
+        Position::AfterTerm => is_joining_word(word) || word.eq_ignore_ascii_case("unless"),
+        Position::InFilter | Position::AfterParser => true,
         Position::InTest => word.eq_ignore_ascii_case("ip"),
-        Position::BehindFilter | Position::BehindSieveFilter => word.eq_ignore_ascii_case("or"),
+        Position::AfterFilter | Position::AfterSieveFilter => word.eq_ignore_ascii_case("or"),
         _ => false,
     }
 }
@@ -184,19 +184,19 @@ fn is_unsupported_sign(position: Position, sign: Sign) -> bool
         Position::Start => matches!(sign, Sign::OpenBrace | Sign::Minus | Sign::Plus),
         Position::Divisor => matches!(sign, Sign::Minus),
         Position::InThreshold => matches!(sign, Sign::Minus | Sign::OpenParenthesis),
-        Position::BehindSelector | Position::BehindFilter | Position::BehindTests => {
+        Position::AfterSelector | Position::AfterFilter | Position::AfterTests => {
             is_later_stage(sign)
         }
-        Position::BehindSieveSelector | Position::BehindSieveFilter => {
+        Position::AfterSieveSelector | Position::AfterSieveFilter => {
             is_later_stage(sign) || matches!(sign, Sign::Pipe)
         }
-        Position::BehindParser => is_later_stage(sign) || matches!(sign, Sign::Minus),
+        Position::AfterParser => is_later_stage(sign) || matches!(sign, Sign::Minus),
         Position::InTest | Position::InParameter => matches!(sign, Sign::Minus),
         Position::InRange => matches!(sign, Sign::Colon),
-        Position::BehindRange => is_later_stage(sign) || matches!(sign, Sign::At),
-        Position::BehindFilteredRange => matches!(sign, Sign::At),
-        Position::BehindTerm => is_operator(sign),
-        Position::InTerm | Position::InFilter | Position::BehindInnerTests | Position::Elsewhere =>
+        Position::AfterRange => is_later_stage(sign) || matches!(sign, Sign::At),
+        Position::AfterFilteredRange => matches!(sign, Sign::At),
+        Position::AfterTerm => is_operator(sign),
+        Position::InTerm | Position::InFilter | Position::AfterInnerTests | Position::Elsewhere =>
             false,
     }
 }
@@ -307,7 +307,7 @@ fn operator_of(lexeme: &Lexeme) -> Result<MatchOp, Stop>
 }
 
 // The matcher of its parts, where its name is one, and its pattern.
-#[tactic(auto, using(crate::proofs::Elements::unread))]
+#[tactic(auto, using(crate::proofs::Items::unread))]
 fn checked_matcher(
     place: usize,
     name: &PlainText,

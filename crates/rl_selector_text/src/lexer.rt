@@ -7,7 +7,7 @@ ghost use Rattle.rl_selector_text.specs.laws.Runs.{run_ends};
 ghost use Rattle.rl_query.specs.Tables.{two_bytes, one_byte};
 ghost use Rattle.rl_query.specs.declared.token.Token.TheVariants as tokens;
 
-use rl_plain::{ByteClass, PlainText, behind_first, hex_number, run_front, unescape};
+use rl_plain::{ByteClass, PlainText, after_first, hex_number, run_front, unescape};
 use rl_query::token::{ESCAPES, Lexeme, Sign, Token};
 use std::alloc::{AllocError, Global};
 
@@ -18,14 +18,14 @@ pub fn lexemes_of(alloc: Global, text: &str) -> Result<Vec<Lexeme>, AllocError>
     let mut lexemes = Vec::new(alloc);
     let mut rest = text;
     for _turn in 0..text.len() {
-        let start = behind_gap(rest);
+        let start = past_gap(rest);
         if start.is_empty() {
             return with_end(lexemes, text.len());
         }
         let place = text.len().saturating_sub(start.len());
-        let (token, behind) = token_at(alloc, start)?;
+        let (token, following) = token_at(alloc, start)?;
         lexemes.push(Lexeme { token, place })?;
-        rest = behind;
+        rest = following;
     }
     with_end(lexemes, text.len())
 }
@@ -44,7 +44,7 @@ fn with_end(lexemes: Vec<Lexeme>, place: usize) -> Result<Vec<Lexeme>, AllocErro
 
 // What follows spaces and comments.
 #[tactic(auto, using(crate::proofs::Cuts::gap_boundary))]
-fn behind_gap(text: &str) -> &str
+fn past_gap(text: &str) -> &str
     ensures { result.now ≡ drop (gap_len false text.now) text.now }
 {
     let (_, rest) = text.split_at(gap_len(text.as_bytes()));
@@ -92,12 +92,12 @@ fn token_at(alloc: Global, text: &str) -> Result<(Token, &str), AllocError>
         return Ok((Token::Number(PlainText::from_str(alloc, number)?), rest));
     }
     if first == b'"' {
-        let behind = behind_first(text);
-        return Ok(text_or_bad(quoted(alloc, behind)?));
+        let following = after_first(text);
+        return Ok(text_or_bad(quoted(alloc, following)?));
     }
     if first == b'`' {
-        let behind = behind_first(text);
-        return Ok(text_or_bad(backquoted(alloc, behind)?));
+        let following = after_first(text);
+        return Ok(text_or_bad(backquoted(alloc, following)?));
     }
     Ok(sign_or_bad(text))
 }
@@ -129,7 +129,7 @@ impl ByteClass for Run {
 }
 
 // The longest sign at the front, and what follows it.
-#[tactic(auto, using(rl_plain::specs::laws::Cuts::behind_ascii))]
+#[tactic(auto, using(rl_plain::specs::laws::Cuts::rest_ascii))]
 fn sign_front(text: &str) -> Option<(Sign, &str)>
     ensures { option_map (λ x. (x.0, x.1.now)) result ≡ sign_at text.now }
 {
@@ -173,11 +173,11 @@ fn escape_front(text: &str) -> Option<(char, &str)>
 fn backquoted(alloc: Global, text: &str) -> Result<Option<(PlainText, &str)>, AllocError>
     ensures { IfOk result (λ found. option_map (λ x. (x.0, x.1.now)) found ≡ backquoted text.now) }
 {
-    let (raw, behind) = run_front(&Run::Raw, text);
-    if behind.is_empty() {
+    let (raw, following) = run_front(&Run::Raw, text);
+    if following.is_empty() {
         return Ok(None);
     }
-    let rest = behind_first(behind);
+    let rest = after_first(following);
     Ok(Some((PlainText::from_str(alloc, raw)?, rest)))
 }
 
@@ -189,13 +189,13 @@ fn quoted(alloc: Global, text: &str) -> Result<Option<(PlainText, &str)>, AllocE
     let mut content = String::new(alloc);
     let mut rest = text;
     loop {
-        let (plain, behind) = run_front(&Run::Plain, rest);
+        let (plain, following) = run_front(&Run::Plain, rest);
         content.push_str(plain)?;
-        if behind.is_empty() {
+        if following.is_empty() {
             return Ok(None);
         }
-        let after = behind_first(behind);
-        if behind.as_bytes()[0] == b'"' {
+        let after = after_first(following);
+        if following.as_bytes()[0] == b'"' {
             return Ok(Some((PlainText::from_string(content), after)));
         }
         let Some((c, left)) = escape_front(after) else {

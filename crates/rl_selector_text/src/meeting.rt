@@ -80,7 +80,7 @@ fn text_has_room(
     ensures { IfErr result (IsForRoom (ends_before_pattern false before.now)) }
 {
     match before {
-        [.., name, sign] => match matched_behind(name, sign, in_selector) {
+        [.., name, sign] => match matched_after(name, sign, in_selector) {
             Some(matched) => has_room(alloc, matched, text),
             None => Ok(()),
         },
@@ -89,7 +89,7 @@ fn text_has_room(
 }
 
 // What the text after a sign is matched with, if it is a pattern. A label stands before `!~` in a selector and in a label test.
-fn matched_behind(name: &Lexeme, sign: &Lexeme, in_selector: bool) -> Option<Matched>
+fn matched_after(name: &Lexeme, sign: &Lexeme, in_selector: bool) -> Option<Matched>
     ensures { IfSome result (λ _. IsTrue (precedes_pattern sign.now.token)) }
 {
     match &sign.token {

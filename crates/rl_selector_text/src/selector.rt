@@ -46,12 +46,12 @@ fn matchers_at(alloc: Global, lexemes: &[Lexeme]) -> Result<(Vec<Matcher>, &[Lex
     let mut matchers = Vec::new(alloc);
     let mut rest = lexemes;
     for _turn in 0..lexemes.len() {
-        let (matcher, more, behind) = element_at(rest)?;
+        let (matcher, more, following) = element_at(rest)?;
         matchers.push(matcher)?;
         if !more {
-            return Ok((matchers, behind));
+            return Ok((matchers, following));
         }
-        rest = behind;
+        rest = following;
     }
     Err(Stopped::Fault(Stop::syntax(0)))
 }
@@ -79,7 +79,7 @@ fn some_matcher(lexeme: &Lexeme) -> Result<(), Stop>
 }
 
 // The selector of matchers of which one at least refuses a stream without its label.
-#[tactic(auto, using(crate::proofs::Elements::real_forms))]
+#[tactic(auto, using(crate::proofs::Items::real_forms))]
 fn real_selector(place: usize, matchers: Vec<Matcher>) -> Result<Selector, Stopped>
     ensures { Gives (λ selector. map matcher_form selector.matchers) result (real_matchers place (map matcher_form matchers.items)) }
 {

@@ -6,7 +6,7 @@ ghost use Rattle.rl_query.specs.Form.{SieveForm, filter_form, sieve_form, sieve_
 ghost use Rattle.rl_selector_text.specs.Grammar.{DerivesSieve};
 ghost use Rattle.rl_query.specs.Limits.{most_stages};
 ghost use Rattle.rl_query.specs.Printing.{sieve_text};
-ghost use Rattle.rl_selector_text.specs.Sieving.{behind_filters, sieve_ends, rest_at, sieve_in, sieve_of, sieve_meets_pattern};
+ghost use Rattle.rl_selector_text.specs.Sieving.{after_filters, sieve_ends, rest_at, sieve_in, sieve_of, sieve_meets_pattern};
 ghost use Rattle.rl_query.specs.declared.filter.Sieve.{Sieve};
 
 use crate::front::{Position, expected, next, refusal};
@@ -55,12 +55,12 @@ pub fn print_sieve(alloc: Global, sieve: &Sieve) -> Result<String, AllocError>
     Ok(text)
 }
 
-fn behind_filters(filters: &[LineFilter]) -> Position
-    ensures { result ≡ behind_filters (map filter_form filters.now) }
+fn after_filters(filters: &[LineFilter]) -> Position
+    ensures { result ≡ after_filters (map filter_form filters.now) }
 {
     match filters {
-        [] => Position::BehindSieveSelector,
-        _ => Position::BehindSieveFilter,
+        [] => Position::AfterSieveSelector,
+        _ => Position::AfterSieveFilter,
     }
 }
 
@@ -81,7 +81,7 @@ fn rest_at(alloc: Global, lexemes: &[Lexeme]) -> Result<Vec<LineFilter>, Stopped
 {
     let (filters, rest) = filters_at(alloc, lexemes)?;
     let (last, _) = next(rest)?;
-    sieve_ends(behind_filters(&filters), last)?;
+    sieve_ends(after_filters(&filters), last)?;
     Ok(filters)
 }
 

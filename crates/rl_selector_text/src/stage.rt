@@ -6,7 +6,7 @@ ghost use Rattle.rl_query.specs.TestTree.{any_test};
 ghost use Rattle.rl_query.specs.Form.{test_form, tests_form, test_has_pattern, filter_form, filters_have_pattern, stage_form, stage_has_pattern, stages_have_pattern, parses};
 ghost use Rattle.rl_query.specs.Limits.{is_line_pattern, most_stages};
 ghost use Rattle.rl_selector_text.specs.Testing.{operator_comes};
-ghost use Rattle.rl_selector_text.specs.Parsing.{filter_op, filter_text, checked_filter, filter_at, filters_at, begins_stage, stage_comes, named_parser, parser_of, only_parser, is_later_stage_word, word_begins, parenthesis_begins, tests_begin, tested_at, piped_at, stage_at, stages_at, stages_in, behind_stage, behind_stages};
+ghost use Rattle.rl_selector_text.specs.Parsing.{filter_op, filter_text, checked_filter, filter_at, filters_at, begins_stage, stage_comes, named_parser, parser_of, only_parser, is_later_stage_word, word_begins, parenthesis_begins, tests_begin, tested_at, piped_at, stage_at, stages_at, stages_in, after_stage, after_stages};
 
 use crate::front::{Position, is_one_of, is_sign, next, refusal};
 use crate::room::Room;
@@ -101,13 +101,13 @@ pub(crate) fn filters_at(
     let mut filters = Vec::new(alloc);
     let mut rest = lexemes;
     for _turn in 0..MOST_STAGES {
-        let (first, behind) = next(rest)?;
+        let (first, following) = next(rest)?;
         let Some(op) = filter_op(&first.token) else {
             return Ok((filters, rest));
         };
-        let (filter, behind) = filter_at(op, behind)?;
+        let (filter, following) = filter_at(op, following)?;
         filters.push(filter)?;
-        rest = behind;
+        rest = following;
     }
     no_filter(rest)?;
     Ok((filters, rest))
@@ -283,11 +283,11 @@ pub fn stages_at(
         if !stage_comes(rest)? {
             return Ok((stages, rest));
         }
-        let (stage, fewer, behind) = stage_at(alloc, parsed, room.depth, left, rest)?;
+        let (stage, fewer, following) = stage_at(alloc, parsed, room.depth, left, rest)?;
         parsed = is_parsed(parsed, &stage);
         left = fewer;
         stages.push(stage)?;
-        rest = behind;
+        rest = following;
     }
     no_stage(rest)?;
     Ok((stages, rest))
@@ -304,22 +304,22 @@ fn no_stage(lexemes: &[Lexeme]) -> Result<(), Stop>
     Ok(())
 }
 
-fn behind_stage(stage: &Stage) -> Position
-    ensures { result ≡ behind_stage (stage_form stage.now) }
+fn after_stage(stage: &Stage) -> Position
+    ensures { result ≡ after_stage (stage_form stage.now) }
 {
     match stage {
-        Stage::Filter(_) => Position::BehindFilter,
-        Stage::Parser(_) => Position::BehindParser,
-        Stage::Tests(_) => Position::BehindTests,
+        Stage::Filter(_) => Position::AfterFilter,
+        Stage::Parser(_) => Position::AfterParser,
+        Stage::Tests(_) => Position::AfterTests,
     }
 }
 
 /// The position after the last stage, or where there is none that before the stages.
-pub fn behind_stages(position: Position, stages: &[Stage]) -> Position
-    ensures { result ≡ behind_stages position (map stage_form stages.now) }
+pub fn after_stages(position: Position, stages: &[Stage]) -> Position
+    ensures { result ≡ after_stages position (map stage_form stages.now) }
 {
     match stages {
         [] => position,
-        [first, rest @ ..] => behind_stages(behind_stage(first), rest),
+        [first, rest @ ..] => after_stages(after_stage(first), rest),
     }
 }

@@ -8,7 +8,7 @@ ghost use Rattle.rl_query.specs.Quantities.{has_unit, quantity_of, is_quantity};
 ghost use Rattle.rl_query.specs.Tables.{comparison_of};
 ghost use Rattle.rl_selector_text.specs.TestGrammar.{AreTests};
 ghost use Rattle.rl_query.specs.TestTree.{count_tests};
-ghost use Rattle.rl_selector_text.specs.Testing.{IsEnd, Read, is_word, is_label, label_at, label_comes, one_fewer, comparison_at, quantity_at, named_test, quantity_test_at, compares, is_content, quantity_comes, label_test_at, test_at, is_and, operator_comes, begins, behind_and, behind_or, behind_join, enclosed_at, one_at, joined_at, part_at, inside_at, tests_at};
+ghost use Rattle.rl_selector_text.specs.Testing.{IsEnd, Read, is_word, is_label, label_at, label_comes, one_fewer, comparison_at, quantity_at, named_test, quantity_test_at, compares, is_content, quantity_comes, label_test_at, test_at, is_and, operator_comes, begins, after_and, after_or, after_join, enclosed_at, one_at, joined_at, part_at, inside_at, tests_at};
 
 use crate::front::{
     Position, expected, is_joining_word, is_match, is_sign, matcher_at, name_of, next, refusal,
@@ -248,20 +248,20 @@ pub(crate) fn operator_comes(lexemes: &[Lexeme]) -> bool
 }
 
 // A token that stands where a test begins. A word that joins tests in another case names a label only before an operator.
-fn begins(token: &Token, behind: &[Lexeme]) -> bool
-    ensures { result ≡ begins token.now behind.now }
+fn begins(token: &Token, following: &[Lexeme]) -> bool
+    ensures { result ≡ begins token.now following.now }
 {
     match token {
         Token::Word(word) => {
-            word.as_str() != "or" && (!is_joining_word(word.as_str()) || operator_comes(behind))
+            word.as_str() != "or" && (!is_joining_word(word.as_str()) || operator_comes(following))
         }
         token => is_sign(Sign::OpenParenthesis, token),
     }
 }
 
 // The tokens of what `and` joins, if it joins more.
-fn behind_and(lexemes: &[Lexeme]) -> Option<&[Lexeme]>
-    ensures { option_map (λ rest. rest.now) result ≡ behind_and lexemes.now }
+fn after_and(lexemes: &[Lexeme]) -> Option<&[Lexeme]>
+    ensures { option_map (λ rest. rest.now) result ≡ after_and lexemes.now }
 {
     match lexemes {
         [first, rest @ ..] if is_and(&first.token) => Some(rest),
@@ -271,8 +271,8 @@ fn behind_and(lexemes: &[Lexeme]) -> Option<&[Lexeme]>
 }
 
 // The tokens of what `or` joins, if it joins more.
-fn behind_or(lexemes: &[Lexeme]) -> Option<&[Lexeme]>
-    ensures { option_map (λ rest. rest.now) result ≡ behind_or lexemes.now }
+fn after_or(lexemes: &[Lexeme]) -> Option<&[Lexeme]>
+    ensures { option_map (λ rest. rest.now) result ≡ after_or lexemes.now }
 {
     match lexemes {
         [first, rest @ ..] if is_word("or", &first.token) => Some(rest),
@@ -280,12 +280,12 @@ fn behind_or(lexemes: &[Lexeme]) -> Option<&[Lexeme]>
     }
 }
 
-fn behind_join(join: Join, lexemes: &[Lexeme]) -> Option<&[Lexeme]>
-    ensures { option_map (λ rest. rest.now) result ≡ behind_join join lexemes.now }
+fn after_join(join: Join, lexemes: &[Lexeme]) -> Option<&[Lexeme]>
+    ensures { option_map (λ rest. rest.now) result ≡ after_join join lexemes.now }
 {
     match join {
-        Join::And => behind_and(lexemes),
-        Join::Or => behind_or(lexemes),
+        Join::And => after_and(lexemes),
+        Join::Or => after_or(lexemes),
     }
 }
 
@@ -302,7 +302,7 @@ fn enclosed_at(
 {
     let fewer = one_fewer(place_of(lexemes), depth)?;
     let (tests, left, rest) = joined_at(alloc, Join::Or, fewer, left, lexemes)?;
-    let rest = expected(Sign::CloseParenthesis, Position::BehindInnerTests, rest)?;
+    let rest = expected(Sign::CloseParenthesis, Position::AfterInnerTests, rest)?;
     Ok((tests, left, rest))
 }
 
@@ -354,10 +354,10 @@ fn joined_at(
 {
     let (mut tests, mut fewer, mut rest) = part_at(alloc, join, depth, left, lexemes)?;
     for _turn in 0..left {
-        let Some(behind) = behind_join(join, rest) else {
+        let Some(following) = after_join(join, rest) else {
             return Ok((tests, fewer, rest));
         };
-        let (other, still, after) = part_at(alloc, join, depth, fewer, behind)?;
+        let (other, still, after) = part_at(alloc, join, depth, fewer, following)?;
         tests = LabelTests::joined(alloc, join, tests, other)?;
         fewer = still;
         rest = after;

@@ -30,7 +30,7 @@ front_in-parts bytes whole document commands groups utf8 same is (inr lacks) =
     inr ((document, commands), is_utf8-from_IsUtf8 bytes utf8, ap front_of (sym same) ∙ sym is, (lacks.0, ap (with_commands commands) lacks.1, lacks.2))
 
 pub front_in-groups : (bytes whole document commands rest : List ℕ) (groups : List GroupForm) → IsUtf8 bytes → whole ≡ bytes → Some (document, commands) ≡ front_of whole → HasGroups document (Ok groups) → rest ≡ commands → Says bytes (Ok (record { groups = groups; commands = rest }))
-front_in-groups bytes whole document commands rest groups utf8 same is read behind = rw behind (front_in-parts bytes whole document commands (Ok groups) utf8 same is read)
+front_in-groups bytes whole document commands rest groups utf8 same is read following = rw following (front_in-parts bytes whole document commands (Ok groups) utf8 same is read)
 
 -- the fault of the document
 pub front_in-fault : {X Z : Type 0} (view : X → List GroupForm) (form : Z → FrontForm) (bytes whole document commands : List ℕ) (error : OrMemory FrontFault) → IsUtf8 bytes → whole ≡ bytes → Some (document, commands) ≡ front_of whole → GivesOne view (HasGroups document) (Err error) → GivesOne form (Says bytes) (Err error)

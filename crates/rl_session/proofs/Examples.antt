@@ -57,5 +57,5 @@ module _ {E : Type 0} (calls : Calls E) where
   tick_that_goes_on old mid new first full second wanted =
       (true, first, (Err refusals.JournalFull, mid, Err refusals.Memory ∷ [], (full, tt), refl, (true, second, (Err refusals.Memory, new, [], (wanted, tt), refl, (refl, refl)))))
 
-  nothing_told_behind_an_end : (engine : E) → AreLinesTold calls engine (codes "end" ∷ codes "nonsense" ∷ []) [] false engine
-  nothing_told_behind_an_end engine = ([], Ended, engine, (refl, refl, refl), (refl, refl, refl))
+  nothing_told_after_an_end : (engine : E) → AreLinesTold calls engine (codes "end" ∷ codes "nonsense" ∷ []) [] false engine
+  nothing_told_after_an_end engine = ([], Ended, engine, (refl, refl, refl), (refl, refl, refl))

@@ -7,7 +7,7 @@ use Rattle.std.proofs.lemmas.List.{append-nil, get_or_default, get_or-take, leng
 use Rattle.std.proofs.lemmas.Bool.{eqb-true, ne_eqb}
 use Rattle.std.proofs.Math.Seq.{take-append_seam}
 use Rattle.std.proofs.lemmas.List.Splits.{slice_split_at, slice_split_none, join_with_byte-slice_split}
-use Rattle.rl_session.specs.Front.{lines_of, IsFirstLine, is_mark, behind_line, front_of_lines, front_of}
+use Rattle.rl_session.specs.Front.{lines_of, IsFirstLine, is_mark, after_line, front_of_lines, front_of}
 
 -- no byte is a line feed
 no_feeds : (text : List ℕ) → ((i : ℕ) → i < length text → get_or text i 0 ≢ 10) → All (λ byte. (byte == 10) ≡ false) text
@@ -18,12 +18,12 @@ lines_of-one : (text : List ℕ) → ((i : ℕ) → i < length text → get_or t
 lines_of-one text none = slice_split_none (λ byte. byte == 10) text (no_feeds text none)
 
 -- a line, and the lines after its line feed
-pub lines_of-next : (line behind : List ℕ) → ((i : ℕ) → i < length line → get_or line i 0 ≢ 10) → lines_of (line ++ 10 ∷ behind) ≡ line ∷ lines_of behind
-lines_of-next line behind none = slice_split_at (λ byte. byte == 10) line 10 behind (no_feeds line none) refl
+pub lines_of-next : (line following : List ℕ) → ((i : ℕ) → i < length line → get_or line i 0 ≢ 10) → lines_of (line ++ 10 ∷ following) ≡ line ∷ lines_of following
+lines_of-next line following none = slice_split_at (λ byte. byte == 10) line 10 following (no_feeds line none) refl
 
 -- the first line of a text with a line feed
-IsFirstLine-next : (text line behind : List ℕ) → (text ≡ line ++ 10 ∷ behind) × ((i : ℕ) → i < length line → get_or line i 0 ≢ 10) → IsFirstLine text line (Some behind)
-IsFirstLine-next text line behind parts = (ap lines_of parts.0 ∙ lines_of-next line behind parts.1, parts.0)
+IsFirstLine-next : (text line following : List ℕ) → (text ≡ line ++ 10 ∷ following) × ((i : ℕ) → i < length line → get_or line i 0 ≢ 10) → IsFirstLine text line (Some following)
+IsFirstLine-next text line following parts = (ap lines_of parts.0 ∙ lines_of-next line following parts.1, parts.0)
 
 -- a search for a line feed that finds none
 pub lines_of-none : (text : List ℕ) → IsFirstByte (is_byte 10) text None → lines_of text ≡ text ∷ []
@@ -55,23 +55,23 @@ pub record Seen (text rest : List ℕ) : Type 0 where
   pub seam : text ≡ seen ++ rest
   pub front : front_of text ≡ option_map (in_front seen) (front_of rest)
 
-in_front-line : (seen line : List ℕ) (found : Option (List ℕ × List ℕ)) → option_map (in_front seen) (option_map (behind_line line) found) ≡ option_map (in_front (seen ++ (line ++ 10 ∷ []))) found
+in_front-line : (seen line : List ℕ) (found : Option (List ℕ × List ℕ)) → option_map (in_front seen) (option_map (after_line line) found) ≡ option_map (in_front (seen ++ (line ++ 10 ∷ []))) found
 in_front-line seen line None = refl
 in_front-line seen line (Some parts) = ap (λ document. Some (document, parts.1)) (ap (λ l. seen ++ l) (sym (append_assoc line (10 ∷ []) parts.0)) ∙ sym (append_assoc seen (line ++ 10 ∷ []) parts.0))
 
 -- the front of lines, the first of which is the mark or not
 front_of-mark : (text line : List ℕ) (lines : List (List ℕ)) → lines_of text ≡ line ∷ lines → is_mark line ≡ true → front_of text ≡ Some ([], join_with_byte 10 lines)
-front_of-mark text line lines split mark = ap front_of_lines split ∙ ap (λ b. cond b (Some ([], join_with_byte 10 lines)) (option_map (behind_line line) (front_of_lines lines))) mark
+front_of-mark text line lines split mark = ap front_of_lines split ∙ ap (λ b. cond b (Some ([], join_with_byte 10 lines)) (option_map (after_line line) (front_of_lines lines))) mark
 
-front_of-other : (text line : List ℕ) (lines : List (List ℕ)) → lines_of text ≡ line ∷ lines → is_mark line ≡ false → front_of text ≡ option_map (behind_line line) (front_of_lines lines)
-front_of-other text line lines split mark = ap front_of_lines split ∙ ap (λ b. cond b (Some ([], join_with_byte 10 lines)) (option_map (behind_line line) (front_of_lines lines))) mark
+front_of-other : (text line : List ℕ) (lines : List (List ℕ)) → lines_of text ≡ line ∷ lines → is_mark line ≡ false → front_of text ≡ option_map (after_line line) (front_of_lines lines)
+front_of-other text line lines split mark = ap front_of_lines split ∙ ap (λ b. cond b (Some ([], join_with_byte 10 lines)) (option_map (after_line line) (front_of_lines lines))) mark
 
 -- one line more
-pub Seen-line : (text rest line behind : List ℕ) → Seen text rest → lines_of rest ≡ line ∷ lines_of behind → rest ≡ line ++ 10 ∷ behind → is_mark line ≡ false → Seen text behind
-Seen-line text rest line behind s split parts other = record {
+pub Seen-line : (text rest line following : List ℕ) → Seen text rest → lines_of rest ≡ line ∷ lines_of following → rest ≡ line ++ 10 ∷ following → is_mark line ≡ false → Seen text following
+Seen-line text rest line following s split parts other = record {
   seen = s.seen ++ (line ++ 10 ∷ []);
-  seam = s.seam ∙ ap (λ l. s.seen ++ l) (parts ∙ sym (append_assoc line (10 ∷ []) behind)) ∙ sym (append_assoc s.seen (line ++ 10 ∷ []) behind);
-  front = s.front ∙ ap (option_map (in_front s.seen)) (front_of-other rest line (lines_of behind) split other) ∙ in_front-line s.seen line (front_of behind);
+  seam = s.seam ∙ ap (λ l. s.seen ++ l) (parts ∙ sym (append_assoc line (10 ∷ []) following)) ∙ sym (append_assoc s.seen (line ++ 10 ∷ []) following);
+  front = s.front ∙ ap (option_map (in_front s.seen)) (front_of-other rest line (lines_of following) split other) ∙ in_front-line s.seen line (front_of following);
 }
 
 -- how much was seen
@@ -83,13 +83,13 @@ seen_is text rest s =
     append-nil s.seen ∙ sym (take-append_seam s.seen rest) ∙ ap (take (length s.seen)) (sym s.seam) ∙ ap (λ n. take n text) (sym (seen_len text rest s))
 
 -- the rest, where its first line is the mark
-lines_behind : (rest line : List ℕ) (behind : Option (Bor (List ℕ))) (none : Bor (List ℕ)) → none.now ≡ [] → IsFirstLine rest line (option_copied behind) → is_mark line ≡ true → front_of rest ≡ Some ([], (unwrap_or behind none).now)
-lines_behind rest line None none nothing first mark = front_of-mark rest line [] first mark ∙ ap (λ commands. Some ([], commands)) (sym nothing)
-lines_behind rest line (Some more) none nothing first mark = front_of-mark rest line (lines_of more.now) first.0 mark ∙ ap (λ commands. Some ([], commands)) (join_with_byte-slice_split 10 more.now)
+lines_after : (rest line : List ℕ) (following : Option (Bor (List ℕ))) (none : Bor (List ℕ)) → none.now ≡ [] → IsFirstLine rest line (option_copied following) → is_mark line ≡ true → front_of rest ≡ Some ([], (unwrap_or following none).now)
+lines_after rest line None none nothing first mark = front_of-mark rest line [] first mark ∙ ap (λ commands. Some ([], commands)) (sym nothing)
+lines_after rest line (Some more) none nothing first mark = front_of-mark rest line (lines_of more.now) first.0 mark ∙ ap (λ commands. Some ([], commands)) (join_with_byte-slice_split 10 more.now)
 
 -- the mark is here
-pub front_of-here : (text rest line document : List ℕ) (behind : Option (Bor (List ℕ))) (commands none : Bor (List ℕ)) → Seen text rest → IsFirstLine rest line (option_copied behind) → is_mark line ≡ true
-    → document ≡ take (length text - length rest) text → commands ≡ unwrap_or behind none → none.now ≡ [] → Some (document, commands.now) ≡ front_of text
-front_of-here text rest line document behind commands none s first mark before after nothing =
-    let here : front_of rest ≡ Some ([], (unwrap_or behind none).now) = lines_behind rest line behind none nothing first mark in
-    sym (s.front ∙ ap (option_map (in_front s.seen)) here ∙ ap (λ front. Some (front, (unwrap_or behind none).now)) (seen_is text rest s ∙ sym before) ∙ ap (λ b. Some (document, b.now)) (sym after))
+pub front_of-here : (text rest line document : List ℕ) (following : Option (Bor (List ℕ))) (commands none : Bor (List ℕ)) → Seen text rest → IsFirstLine rest line (option_copied following) → is_mark line ≡ true
+    → document ≡ take (length text - length rest) text → commands ≡ unwrap_or following none → none.now ≡ [] → Some (document, commands.now) ≡ front_of text
+front_of-here text rest line document following commands none s first mark before after nothing =
+    let here : front_of rest ≡ Some ([], (unwrap_or following none).now) = lines_after rest line following none nothing first mark in
+    sym (s.front ∙ ap (option_map (in_front s.seen)) here ∙ ap (λ front. Some (front, (unwrap_or following none).now)) (seen_is text rest s ∙ sym before) ∙ ap (λ b. Some (document, b.now)) (sym after))

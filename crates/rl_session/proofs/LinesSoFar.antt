@@ -29,15 +29,15 @@ pub record ToldSoFar {E : Type 0} (calls : Calls E) (start : E) (commands rest :
 
 module _ {E : Type 0} (calls : Calls E) (start : E) where
   -- a line that is not the last, and no end
-  pub told_line : (commands rest line behind : List ℕ) (refused : Bool) (here : Answer) (before mid after : Option (List ℕ)) (old new : E) → is_end here ≡ false → IsFirstLine rest line (Some behind) → TellsLine calls old line mid (Ok here) after new
-      → ToldSoFar calls start commands rest refused before mid old → ToldSoFar calls start commands behind (refused || is_refusal here) before after new
-  told_line commands rest line behind refused here before mid after old new goes first told so_far = record {
+  pub told_line : (commands rest line following : List ℕ) (refused : Bool) (here : Answer) (before mid after : Option (List ℕ)) (old new : E) → is_end here ≡ false → IsFirstLine rest line (Some following) → TellsLine calls old line mid (Ok here) after new
+      → ToldSoFar calls start commands rest refused before mid old → ToldSoFar calls start commands following (refused || is_refusal here) before after new
+  told_line commands rest line following refused here before mid after old new goes first told so_far = record {
     written = so_far.written ++ told.0;
     whole = λ text later last others.
         subst (λ t. AreLinesTold calls start (lines_of commands) t ((refused || is_refusal here) || later) last) (sym (append_assoc so_far.written told.0 text))
         (subst (λ r. AreLinesTold calls start (lines_of commands) (so_far.written ++ (told.0 ++ text)) r last) (sym (or_assoc refused (is_refusal here) later))
         (so_far.whole (told.0 ++ text) (is_refusal here || later) last (subst (λ lines. AreLinesTold calls old lines (told.0 ++ text) (is_refusal here || later) last) (sym first.0)
-        (told.0, here, new, told.1, rest_told new here told.0 (AreLinesTold calls new (lines_of behind)) text later last goes others))));
+        (told.0, here, new, told.1, rest_told new here told.0 (AreLinesTold calls new (lines_of following)) text later last goes others))));
     appended = Appends-trans before mid after so_far.written told.0 so_far.appended told.2;
   }
 
@@ -59,9 +59,9 @@ module _ {E : Type 0} (calls : Calls E) (start : E) where
       (subst (λ t. IsRestTold new here text (AreLinesTold calls new []) t (is_refusal here || false) new) (append-nil text) (rest_told new here text (AreLinesTold calls new []) [] false new goes (refl, refl, refl)))) so_far
 
   -- an end, and nothing after it
-  pub told_end : (commands rest line : List ℕ) (behind : Option (List ℕ)) (refused : Bool) (here : Answer) (before mid after : Option (List ℕ)) (old new : E) → is_end here ≡ true → IsFirstLine rest line behind → TellsLine calls old line mid (Ok here) after new
+  pub told_end : (commands rest line : List ℕ) (following : Option (List ℕ)) (refused : Bool) (here : Answer) (before mid after : Option (List ℕ)) (old new : E) → is_end here ≡ true → IsFirstLine rest line following → TellsLine calls old line mid (Ok here) after new
       → ToldSoFar calls start commands rest refused before mid old → TellsText calls start commands before (Ok refused) after new
   told_end commands rest line None refused here before mid after old new is first told so_far =
       subst (λ r. TellsText calls start commands before (Ok r) after new) (or-false refused) (told_last commands rest line [] refused false here before mid after old new first told (λ text. end_told new here text (AreLinesTold calls new []) is) so_far)
-  told_end commands rest line (Some behind) refused here before mid after old new is first told so_far =
-      subst (λ r. TellsText calls start commands before (Ok r) after new) (or-false refused) (told_last commands rest line (lines_of behind) refused false here before mid after old new first.0 told (λ text. end_told new here text (AreLinesTold calls new (lines_of behind)) is) so_far)
+  told_end commands rest line (Some following) refused here before mid after old new is first told so_far =
+      subst (λ r. TellsText calls start commands before (Ok r) after new) (or-false refused) (told_last commands rest line (lines_of following) refused false here before mid after old new first.0 told (λ text. end_told new here text (AreLinesTold calls new (lines_of following)) is) so_far)

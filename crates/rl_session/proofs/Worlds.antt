@@ -56,9 +56,9 @@ decided_more old step from at [] mid reply new place decided next =
 decided_more old step from at (first ∷ replies) mid reply new place decided next =
     (decided.0, decided.1, decided_more decided.0 step (suc from) at replies mid reply new (omega (arith, place)) decided.2 next)
 
-none_behind : (refused : Option ShardReply) → or_else refused None ≡ refused
-none_behind None = refl
-none_behind (Some reply) = refl
+none_after : (refused : Option ShardReply) → or_else refused None ≡ refused
+none_after None = refl
+none_after (Some reply) = refl
 
 or_else_in_turn : (a b c : Option ShardReply) → or_else a (or_else b c) ≡ or_else (or_else a b) c
 or_else_in_turn None b c = refl
@@ -66,7 +66,7 @@ or_else_in_turn (Some reply) b c = refl
 
 -- the first refusal, with one reply more
 pub first_more : (replies : List ShardReply) (reply : ShardReply) → first_refused (replies ++ reply ∷ []) ≡ or_else (first_refused replies) (refusing reply)
-first_more [] reply = none_behind (refusing reply)
+first_more [] reply = none_after (refusing reply)
 first_more (first ∷ replies) reply = ap (or_else (refusing first)) (first_more replies reply) ∙ or_else_in_turn (refusing first) (first_refused replies) (refusing reply)
 
 none_some : {X : Type 0} (x : X) → None ≡ Some x → ⊥

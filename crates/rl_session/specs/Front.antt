@@ -20,20 +20,20 @@ lines_of text = slice_split (λ byte. byte == 10) text
 -- the first line of a text, and what follows its line feed, if it has one
 abbrev pub IsFirstLine : List ℕ → List ℕ → Option (List ℕ) → Type 0
 IsFirstLine text line None = lines_of text ≡ line ∷ []
-IsFirstLine text line (Some behind) = (lines_of text ≡ line ∷ lines_of behind) × (text ≡ line ++ 10 ∷ behind)
+IsFirstLine text line (Some following) = (lines_of text ≡ line ∷ lines_of following) × (text ≡ line ++ 10 ∷ following)
 
 -- a line is the mark: two percent signs, and nothing else
 abbrev pub is_mark : List ℕ → Bool
 is_mark line = is_text line (codes "%%")
 
 -- a line more, with its line feed, in front of a document
-abbrev pub behind_line : List ℕ → List ℕ × List ℕ → List ℕ × List ℕ
-behind_line line parts = (line ++ 10 ∷ parts.0, parts.1)
+abbrev pub after_line : List ℕ → List ℕ × List ℕ → List ℕ × List ℕ
+after_line line parts = (line ++ 10 ∷ parts.0, parts.1)
 
 -- the lines before the first mark as a document, and those after it as commands
 abbrev pub front_of_lines : List (List ℕ) → Option (List ℕ × List ℕ)
 front_of_lines [] = None
-front_of_lines (line ∷ lines) = if is_mark line then Some ([], join_with_byte 10 lines) else option_map (behind_line line) (front_of_lines lines)
+front_of_lines (line ∷ lines) = if is_mark line then Some ([], join_with_byte 10 lines) else option_map (after_line line) (front_of_lines lines)
 
 -- the document and the commands of a text
 abbrev pub front_of : List ℕ → Option (List ℕ × List ℕ)

@@ -57,9 +57,9 @@ IsAskedFor old step number (Ok reply) new = (place : ℕ) × Turned old (steps.S
 IsAskedFor old step number (Err partly) new = (partly.done ≡ number) × IsStopped old step number partly.refusal new
 
 -- after a step that was refused nothing is done
-abbrev pub IsBehind : {A F : Type 0} → Result ⊤ F → WorldBooks → (Result A F → WorldBooks → Type 0) → Result A F → WorldBooks → Type 0
-IsBehind (Ok done) mid Next answer new = Next answer new
-IsBehind (Err refusal) mid Next answer new = (answer ≡ Err refusal) × (new ≡ mid)
+abbrev pub IsAfter : {A F : Type 0} → Result ⊤ F → WorldBooks → (Result A F → WorldBooks → Type 0) → Result A F → WorldBooks → Type 0
+IsAfter (Ok done) mid Next answer new = Next answer new
+IsAfter (Err refusal) mid Next answer new = (answer ≡ Err refusal) × (new ≡ mid)
 
 -- shards from one on decide a step in their order, with these replies
 abbrev pub AreDecided : WorldBooks → ShardStep → ℕ → List ShardReply → WorldBooks → Type 0
@@ -108,11 +108,11 @@ IsCommitted old group (Err refusal) new = Turned old (steps.Commit group) (repli
 -- a number of shards are asked in their order, from one on, up to the first refusal
 abbrev pub AreGathered : WorldBooks → ℕ → ℕ → ℕ → Result ⊤ Refusal → WorldBooks → Type 0
 AreGathered old group number zero answer new = (answer ≡ Ok tt) × (new ≡ old)
-AreGathered old group number (suc left) answer new = (first : Result ⊤ Refusal) × (mid : WorldBooks) × IsGathered old group number first mid × IsBehind first mid (AreGathered mid group (suc number) left) answer new
+AreGathered old group number (suc left) answer new = (first : Result ⊤ Refusal) × (mid : WorldBooks) × IsGathered old group number first mid × IsAfter first mid (AreGathered mid group (suc number) left) answer new
 
 -- all shards are, and then it is committed
 abbrev pub IsFinished : WorldBooks → ℕ → Result Committed Refusal → WorldBooks → Type 0
-IsFinished old group answer new = (all : Result ⊤ Refusal) × (mid : WorldBooks) × AreGathered old group 0 (length old.shards) all mid × IsBehind all mid (IsCommitted mid group) answer new
+IsFinished old group answer new = (all : Result ⊤ Refusal) × (mid : WorldBooks) × AreGathered old group 0 (length old.shards) all mid × IsAfter all mid (IsCommitted mid group) answer new
 
 -- an evaluation that was not committed is abandoned
 abbrev pub IsLeft : WorldBooks → ℕ → Result Committed Refusal → WorldBooks → Type 0
@@ -127,7 +127,7 @@ pub record IsEvaluated (old : WorldBooks) (group t : ℕ) (answer : Result Commi
   pub begun : Result ⊤ Refusal
   pub mid : WorldBooks
   pub begins : IsBegun old group t begun mid
-  pub behind : IsBehind begun mid (IsClosedOff mid group) answer new
+  pub behind : IsAfter begun mid (IsClosedOff mid group) answer new
   pub of_group : IfOk answer (λ committed. name_at old group ≡ Some committed.evaluation.group)
 
 -- a catch-up is a step

@@ -128,12 +128,12 @@ pub fn split_front(text: &str) -> Option<(&str, &str)>
 {
     let mut rest = text;
     loop {
-        let (line, behind) = first_line(rest);
+        let (line, rest_after) = first_line(rest);
         if line == MARK {
             let (document, _) = text.split_at(text.len() - rest.len());
-            return Some((document, behind.unwrap_or("")));
+            return Some((document, rest_after.unwrap_or("")));
         }
-        rest = behind?;
+        rest = rest_after?;
     }
 }
 

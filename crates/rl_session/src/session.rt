@@ -120,14 +120,14 @@ fn answer_lines<E: Engine, W: Write>(
     let mut refused = false;
     let mut rest = commands;
     loop {
-        let (line, behind) = first_line(rest);
+        let (line, following) = first_line(rest);
         let answer = answer_line(alloc, &mut reader, engine, line, out)?;
         if is_end(answer) {
             return Ok(refused);
         }
         refused |= is_refusal(answer);
-        rest = match behind {
-            Some(behind) => behind,
+        rest = match following {
+            Some(following) => following,
             None => return Ok(refused),
         };
     }

@@ -248,7 +248,7 @@ fn tell_committed<W: Write>(committed: &Committed, out: &mut W) -> io::Result<()
     ensures { OnOk result (Appends (W.contents out.old) (W.contents out.new) (committed_text committed.now)) }
 {
     write_tail(out, committed.evaluation.get())?;
-    tell_behind(committed.behind.as_slice(), out)
+    write_behind(committed.behind.as_slice(), out)
 }
 
 // Prints which sinks are behind, or that none is.
@@ -257,13 +257,13 @@ fn tell_caught_up<W: Write>(caught: &Result<PlainList<u64>, Refusal>, out: &mut 
 {
     match caught {
         Ok(behind) if behind.is_empty() => out.write_all(b"ok\n"),
-        Ok(behind) => tell_behind(behind.as_slice(), out),
+        Ok(behind) => write_behind(behind.as_slice(), out),
         Err(refusal) => refuse(out, refusal_name(*refusal)),
     }
 }
 
 // Prints the numbers of the sinks that are behind, if some are.
-fn tell_behind<W: Write>(behind: &[u64], out: &mut W) -> io::Result<()>
+fn write_behind<W: Write>(behind: &[u64], out: &mut W) -> io::Result<()>
     ensures { OnOk result (Appends (W.contents out.old) (W.contents out.new) (behind_line behind.now)) }
 {
     if behind.is_empty() {

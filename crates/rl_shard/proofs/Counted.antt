@@ -207,25 +207,25 @@ tallies_line tally line = with_line line.0 line.1.text tally
 
 module _ (counter : CounterView) (line : LabelSet × Line) where
   -- a counter after a line that it may not count, and after one that it may
-  abbrev behind : Bool → CounterView
-  behind over = cond over (record { most = counter.most; left = counter.left; is_over = true; tallies = counter.tallies }) (record { most = counter.most; left = counter.left - 1; is_over = counter.is_over; tallies = map (with_line line.0 line.1.text) counter.tallies })
+  abbrev following : Bool → CounterView
+  following over = cond over (record { most = counter.most; left = counter.left; is_over = true; tallies = counter.tallies }) (record { most = counter.most; left = counter.left - 1; is_over = counter.is_over; tallies = map (with_line line.0 line.1.text) counter.tallies })
 
-  most_behind : (over : Bool) → (behind over).most ≡ counter.most
-  most_behind true = refl
-  most_behind false = refl
+  most_after : (over : Bool) → (following over).most ≡ counter.most
+  most_after true = refl
+  most_after false = refl
 
-  over_behind : (over : Bool) → counter.is_over ≡ true → (behind over).is_over ≡ true
-  over_behind true is = refl
-  over_behind false is = is
+  over_after : (over : Bool) → counter.is_over ≡ true → (following over).is_over ≡ true
+  over_after true is = refl
+  over_after false is = is
 
 -- one to which a line came that it may not count is so for ever
 stays_over : (counter : CounterView) (lines : List (LabelSet × Line)) → counter.is_over ≡ true → (fold counts_any counter lines).is_over ≡ true
 stays_over counter [] is = is
-stays_over counter (line ∷ lines) is = stays_over (counted_line line.0 line.1.text counter) lines (over_behind counter line (counter.left == 0 || nat_lt longest_line (length line.1.text)) is)
+stays_over counter (line ∷ lines) is = stays_over (counted_line line.0 line.1.text counter) lines (over_after counter line (counter.left == 0 || nat_lt longest_line (length line.1.text)) is)
 
 most_stays : (counter : CounterView) (lines : List (LabelSet × Line)) → (fold counts_any counter lines).most ≡ counter.most
 most_stays counter [] = refl
-most_stays counter (line ∷ lines) = most_stays (counted_line line.0 line.1.text counter) lines ∙ most_behind counter line (counter.left == 0 || nat_lt longest_line (length line.1.text))
+most_stays counter (line ∷ lines) = most_stays (counted_line line.0 line.1.text counter) lines ∙ most_after counter line (counter.left == 0 || nat_lt longest_line (length line.1.text))
 
 same_tallies : (tallies : List TallyView) → tallies ≡ map (λ tally. tally) tallies
 same_tallies [] = refl
@@ -235,13 +235,13 @@ same_tallies (tally ∷ tallies) = ap (λ rest. tally ∷ rest) (same_tallies ta
 pub all_counted : (counter : CounterView) (lines : List (LabelSet × Line)) → (fold counts_any counter lines).is_over ≡ false
     → (fold counts_any counter lines).tallies ≡ map (λ tally. fold tallies_line tally lines) counter.tallies
 all_counted counter [] not_over = same_tallies counter.tallies
-all_counted counter (line ∷ lines) not_over = by (all_counted (behind counter line false) lines) (counter.left == 0 || nat_lt longest_line (length line.1.text)) not_over
+all_counted counter (line ∷ lines) not_over = by (all_counted (following counter line false) lines) (counter.left == 0 || nat_lt longest_line (length line.1.text)) not_over
   where
-    by : ((fold counts_any (behind counter line false) lines).is_over ≡ false
-        → (fold counts_any (behind counter line false) lines).tallies ≡ map (λ tally. fold tallies_line tally lines) (behind counter line false).tallies)
-        → (over : Bool) → (fold counts_any (behind counter line over) lines).is_over ≡ false
-        → (fold counts_any (behind counter line over) lines).tallies ≡ map (λ tally. fold tallies_line tally (line ∷ lines)) counter.tallies
-    by others true none = absurd (true≢false (sym (stays_over (behind counter line true) lines refl) ∙ none))
+    by : ((fold counts_any (following counter line false) lines).is_over ≡ false
+        → (fold counts_any (following counter line false) lines).tallies ≡ map (λ tally. fold tallies_line tally lines) (following counter line false).tallies)
+        → (over : Bool) → (fold counts_any (following counter line over) lines).is_over ≡ false
+        → (fold counts_any (following counter line over) lines).tallies ≡ map (λ tally. fold tallies_line tally (line ∷ lines)) counter.tallies
+    by others true none = absurd (true≢false (sym (stays_over (following counter line true) lines refl) ∙ none))
     by others false none = others none ∙ map-map (λ tally. fold tallies_line tally lines) (with_line line.0 line.1.text) counter.tallies
 
 -- a tally has what its stages make of the lines

@@ -76,7 +76,7 @@ module _ (from to low high : ℕ) (above : from ≤ low) (below : high ≤ to) w
   narrow_apart : (entries : List Entry) → IsApart from to entries → IsApart low high entries
   narrow_apart entries apart = ⊎_elim
       (λ before. inl (All-weaker (λ (e : Entry). e.timestamp < from) (λ (e : Entry). e.timestamp < low) (λ e is. omega (arith, is, above)) entries before))
-      (λ behind. inr (All-weaker (λ (e : Entry). to < e.timestamp) (λ (e : Entry). high < e.timestamp) (λ e is. omega (arith, is, below)) entries behind))
+      (λ following. inr (All-weaker (λ (e : Entry). to < e.timestamp) (λ (e : Entry). high < e.timestamp) (λ e is. omega (arith, is, below)) entries following))
       apart
 
   narrow_piece : (labels : LabelSet) (part : PartView) (piece : List (LabelSet × Line)) → IsPiece labels from to part piece → IsPiece labels low high part (filter (is_between low high) piece)

@@ -55,8 +55,8 @@ pub(crate) fn collect<S: Store>(
 {
     let mut partials = Vec::with_capacity(alloc, terms.len())?;
     for (index, term) in terms.iter().enumerate() {
-        let behind = &terms[index + 1..];
-        let partial = next_partial(alloc, streams, requests, kept, term, behind, t)?;
+        let following = &terms[index + 1..];
+        let partial = next_partial(alloc, streams, requests, kept, term, following, t)?;
         partials.push(partial)?;
     }
     Ok(PlainList::from_vec(partials))
@@ -70,7 +70,7 @@ fn next_partial<S: Store>(
     requests: &Requests,
     kept: &mut KeptRanges,
     term: &Term,
-    behind: &[Term],
+    following: &[Term],
     t: Ns,
 ) -> Result<Shared<Partial>, ShardFault>
     requires kept { AreKept streams.old requests.now kept.old }
@@ -83,7 +83,7 @@ fn next_partial<S: Store>(
     if let Some(partial) = kept.partial_of(&term.range, t)? {
         return Ok(partial);
     }
-    let terms = alike(alloc, term, behind)?;
+    let terms = alike(alloc, term, following)?;
     let counted = add_up(alloc, streams, requests, term, &terms, t, kept.reach(t))?;
     let partials = shared(alloc, counted.partials)?;
     keep_all(kept, &terms, t, counted.lasts, &partials)?;
@@ -167,13 +167,13 @@ fn start_of(seconds: u64, t: Ns) -> Ns
 }
 
 // A term, and some later ones that read the same lines; each range once.
-fn alike<'a>(alloc: Global, term: &'a Term, behind: &'a [Term]) -> Result<Vec<&'a Term>, AllocError>
+fn alike<'a>(alloc: Global, term: &'a Term, following: &'a [Term]) -> Result<Vec<&'a Term>, AllocError>
     ensures alike { IfOk result (λ terms. AllByRecursion (λ other. IsAlike term.now other.now) terms.items) }
     ensures first { IfOk result (λ terms. option_map (λ one. one.now.range) (slice_get terms.items 0) ≡ Some term.now.range) }
 {
     let mut terms = Vec::new(alloc);
     terms.push(term)?;
-    for other in behind {
+    for other in following {
         if may_join(&terms, term, other) {
             terms.push(other)?;
         }

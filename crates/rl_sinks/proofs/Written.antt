@@ -31,12 +31,12 @@ pub Writes-trans : (o m n : Option (List ℕ)) (a b c : List ℕ) → Writes o m
 Writes-trans o m n a b c v w = (v.0 ++ w.0, v.1 ∙ ap (λ l. v.0 ++ l) w.1 ∙ sym (append_assoc v.0 w.0 c), Appends-trans o m n v.0 w.0 v.2 w.2)
 
 -- with more to write after it
-pub Writes-behind : (o n : Option (List ℕ)) (a b more : List ℕ) → Writes o n a b → Writes o n (a ++ more) (b ++ more)
-Writes-behind o n a b more w = (w.0, ap (λ l. l ++ more) w.1 ∙ append_assoc w.0 b more, w.2)
+pub Writes-following : (o n : Option (List ℕ)) (a b more : List ℕ) → Writes o n a b → Writes o n (a ++ more) (b ++ more)
+Writes-following o n a b more w = (w.0, ap (λ l. l ++ more) w.1 ∙ append_assoc w.0 b more, w.2)
 
 -- all that follows some bytes
-pub behind : (n : ℕ) (bytes : List ℕ) → take (length bytes - n) (drop n bytes) ≡ drop n bytes
-behind n bytes = take_all (length bytes - n) (drop n bytes) (omega (arith, length-drop n bytes))
+pub following : (n : ℕ) (bytes : List ℕ) → take (length bytes - n) (drop n bytes) ≡ drop n bytes
+following n bytes = take_all (length bytes - n) (drop n bytes) (omega (arith, length-drop n bytes))
 
 -- what is left: the rest of the next piece, and those after it
 pub rest_of-next : (all : List (List ℕ)) (next part : ℕ) → next < length all → part ≤ length (get_or all next []) → rest_of all next part ≡ drop part (get_or all next []) ++ rest_of all (next + 1) 0
@@ -47,14 +47,14 @@ rest_of-next all next part within fits =
 -- a piece was written to its end
 piece_done : (o n : Option (List ℕ)) (all : List (List ℕ)) (next part : ℕ) → next < length all → part ≤ length (get_or all next []) → Writes o n (drop part (get_or all next [])) [] → Writes o n (rest_of all next part) (rest_of all (next + 1) 0)
 piece_done o n all next part within fits w =
-    subst (λ left. Writes o n left (rest_of all (next + 1) 0)) (sym (rest_of-next all next part within fits)) (Writes-behind o n (drop part (get_or all next [])) [] (rest_of all (next + 1) 0) w)
+    subst (λ left. Writes o n left (rest_of all (next + 1) 0)) (sym (rest_of-next all next part within fits)) (Writes-following o n (drop part (get_or all next [])) [] (rest_of all (next + 1) 0) w)
 
 -- a piece was written up to a byte
 piece_begun : (o n : Option (List ℕ)) (all : List (List ℕ)) (next part new : ℕ) → next < length all → part ≤ length (get_or all next []) → new ≤ length (get_or all next []) → Writes o n (drop part (get_or all next [])) (drop new (get_or all next [])) → Writes o n (rest_of all next part) (rest_of all next new)
 piece_begun o n all next part new within fits room w =
     subst (λ left. Writes o n left (rest_of all next new)) (sym (rest_of-next all next part within fits))
     (subst (λ left. Writes o n (drop part (get_or all next []) ++ rest_of all (next + 1) 0) left) (sym (rest_of-next all next new within room))
-    (Writes-behind o n (drop part (get_or all next [])) (drop new (get_or all next [])) (rest_of all (next + 1) 0) w))
+    (Writes-following o n (drop part (get_or all next [])) (drop new (get_or all next [])) (rest_of all (next + 1) 0) w))
 
 -- a piece was written, in whole or in part
 piece_written : {A E : Type 0} (r : Result A E) (o n : Option (List ℕ)) (all : List (List ℕ)) (next part next_after part_after : ℕ) (piece : List ℕ) → next < length all → part ≤ length (get_or all next []) → piece ≡ get_or all next []
@@ -108,11 +108,11 @@ pub piece_within : (ended : Bool) (texts : List (List ℕ)) (count i : ℕ) → 
 piece_within false texts count i within = omega (arith, within, length-append texts (end_pieces count))
 piece_within true texts count i within = within
 
-fits_behind : (xs ys : List (List ℕ)) (n p : ℕ) → p ≤ length (slice_index_or xs n []) → p ≤ length (slice_index_or (xs ++ ys) n [])
-fits_behind [] ys n p f = omega (arith, f)
-fits_behind (x ∷ xs) ys zero p f = f
-fits_behind (x ∷ xs) ys (suc n) p f = fits_behind xs ys n p f
+fits_after : (xs ys : List (List ℕ)) (n p : ℕ) → p ≤ length (slice_index_or xs n []) → p ≤ length (slice_index_or (xs ++ ys) n [])
+fits_after [] ys n p f = omega (arith, f)
+fits_after (x ∷ xs) ys zero p f = f
+fits_after (x ∷ xs) ys (suc n) p f = fits_after xs ys n p f
 
 -- a position among pieces is one with more after them
-pub place_behind : (xs ys : List (List ℕ)) (n p : ℕ) → IsPlace xs n p → IsPlace (xs ++ ys) n p
-place_behind xs ys n p is = record { within = let within = is.within in omega (arith, within, length-append xs ys); fits = fits_behind xs ys n p is.fits }
+pub place_after : (xs ys : List (List ℕ)) (n p : ℕ) → IsPlace xs n p → IsPlace (xs ++ ys) n p
+place_after xs ys n p is = record { within = let within = is.within in omega (arith, within, length-append xs ys); fits = fits_after xs ys n p is.fits }

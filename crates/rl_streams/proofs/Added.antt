@@ -66,8 +66,8 @@ added_at rows i entry stream new apart at gains = record {
 }
 
 -- a new stream of the entry
-pub added_behind : (rows : List Row) (entry : Entry) (stream : StreamView) → AreOthers entry.labels rows → stream.labels ≡ entry.labels → stream.newest ≡ entry.timestamp → entries_of stream ≡ entry ∷ [] → notes_of stream.parts ≡ [] → AreAdded rows entry (rows ++ (entry.labels, stream) ∷ [])
-added_behind rows entry stream others labels newest entries notes = record {
+pub added_after : (rows : List Row) (entry : Entry) (stream : StreamView) → AreOthers entry.labels rows → stream.labels ≡ entry.labels → stream.newest ≡ entry.timestamp → entries_of stream ≡ entry ∷ [] → notes_of stream.parts ≡ [] → AreAdded rows entry (rows ++ (entry.labels, stream) ∷ [])
+added_after rows entry stream others labels newest entries notes = record {
   entries = subst (λ l. IsPermutation (l ++ joined rows) (joined (rows ++ (entry.labels, stream) ∷ []))) entries (push_more entries_of rows (entry.labels, stream));
   newest =
       one_set label_set_cmp_total label_set_cmp-IsAntisymmetric (newest_in rows) (newest_in (rows ++ (entry.labels, stream) ∷ [])) entry.labels stream.newest (λ q. lookup_push label_set_cmp_total label_set_cmp-IsAntisymmetric label_set_eq label_set_eq_itself newest_by rows entry.labels stream q others)
@@ -80,10 +80,10 @@ added_behind rows entry stream others labels newest entries notes = record {
     raised_from_0 = omega arith
 
 -- a new key comes last
-pub inserted_behind : (rows : List Row) (labels : LabelSet) (stream : StreamView) → AreOthers labels rows → insert_entry label_set_eq rows labels stream ≡ rows ++ (labels, stream) ∷ []
-inserted_behind [] labels stream others = refl
-inserted_behind (row ∷ rows) labels stream others =
-    ap (λ b. cond b ((row.0, stream) ∷ rows) (row ∷ insert_entry label_set_eq rows labels stream)) others.0 ∙ ap (λ l. row ∷ l) (inserted_behind rows labels stream others.1)
+pub inserted_after : (rows : List Row) (labels : LabelSet) (stream : StreamView) → AreOthers labels rows → insert_entry label_set_eq rows labels stream ≡ rows ++ (labels, stream) ∷ []
+inserted_after [] labels stream others = refl
+inserted_after (row ∷ rows) labels stream others =
+    ap (λ b. cond b ((row.0, stream) ∷ rows) (row ∷ insert_entry label_set_eq rows labels stream)) others.0 ∙ ap (λ l. row ∷ l) (inserted_after rows labels stream others.1)
 
 -- where a search for the labels ends
 row_in : (rows : List Row) (i : ℕ) (d : LabelSet) → i < length (keys_of rows) → (stream : StreamView) × (slice_get rows i ≡ Some (get_or (keys_of rows) i d, stream))
@@ -113,11 +113,11 @@ not_before a b h = let le = ge_from_not_lt a b h in grind (arith, nat_tests, le)
 -- why an entry that is not older than the horizon is refused for its age, by the newest timestamp of its stream
 pub age_by : (limits : Limits) (rows : List Row) (horizon : ℕ) (entry : Entry) (newest : ℕ) (far : Bool) → newest_at (newest_map (newest_in rows)) entry.labels ≡ newest → nat_lt entry.timestamp horizon ≡ false → is_far_behind limits entry newest ≡ far
     → age_refusal limits (newest_map (newest_in rows)) horizon entry ≡ (if far then Some (TooFarBehind newest) else None)
-age_by limits rows horizon entry newest far is late behind =
+age_by limits rows horizon entry newest far is late following =
     let kept = newest_at (newest_map (newest_in rows)) entry.labels in
     ap (λ b. if b then Some (Expired horizon) else (if is_far_behind limits entry kept then Some (TooFarBehind kept) else None)) late
     ∙ ap (λ n. if is_far_behind limits entry n then Some (TooFarBehind n) else None) is
-    ∙ ap (λ b. if b then Some (TooFarBehind newest) else None) behind
+    ∙ ap (λ b. if b then Some (TooFarBehind newest) else None) following
 
 -- an entry of a new stream is not too far behind
 pub age_of_new : (limits : Limits) (rows : List Row) (horizon : ℕ) (entry : Entry) → AreOthers entry.labels rows → nat_lt entry.timestamp horizon ≡ false → None ≡ age_refusal limits (newest_map (newest_in rows)) horizon entry
@@ -129,9 +129,9 @@ age_of_new limits rows horizon entry others late = sym (age_by limits rows horiz
 -- an entry of a stream that is there
 pub age_at : (limits : Limits) (rows : List Row) (i : ℕ) (horizon : ℕ) (entry : Entry) (stream : StreamView) (far : Bool) → IsDistinct label_set_eq (keys_of rows) → IsPlaceOf rows entry.labels (Some i) → slice_get (values_of rows) i ≡ Some stream → nat_lt entry.timestamp horizon ≡ false → is_far_behind limits entry stream.newest ≡ far
     → (if far then Some (TooFarBehind stream.newest) else None) ≡ age_refusal limits (newest_map (newest_in rows)) horizon entry
-age_at limits rows i horizon entry stream far apart place at late behind =
+age_at limits rows i horizon entry stream far apart place at late following =
     let same : place.0 ≡ stream = same_some place.0 stream (sym (value_at rows i entry.labels place.0 place.1) ∙ at) in
-    sym (age_by limits rows horizon entry stream.newest far (newest_found rows i entry.labels place.0 apart place.1 ∙ ap (λ (s : StreamView). s.newest) same) late behind)
+    sym (age_by limits rows horizon entry stream.newest far (newest_found rows i entry.labels place.0 apart place.1 ∙ ap (λ (s : StreamView). s.newest) same) late following)
 
 -- the row at an index that was found
 pub row_of_place : (rows : List Row) (i : ℕ) (labels : LabelSet) (stream : StreamView) → IsPlaceOf rows labels (Some i) → slice_get (values_of rows) i ≡ Some stream → slice_get rows i ≡ Some (labels, stream)

@@ -16,7 +16,7 @@ use Rattle.rl_parts.specs.declared.fault.RewriteFault.{RewriteFault}
 use Rattle.rl_parts.specs.laws.RewriteLaws.{AreRenumbered-none, AreRenumbered-then}
 use Rattle.rl_parts.specs.laws.UseLaws.{AreKept-grown}
 use Rattle.rl_streams.specs.StreamRows.{Row, joined, newest_in, numbers_in, IsOwn}
-use Rattle.rl_streams.specs.Rewritten.{AreLeftIn, AreOf, ArePlanned, IsLeftIn, IsSound, numbers_before, numbers_behind, numbers_gone, rewritten}
+use Rattle.rl_streams.specs.Rewritten.{AreLeftIn, AreOf, ArePlanned, IsLeftIn, IsSound, numbers_before, numbers_after, numbers_gone, rewritten}
 use Rattle.rl_streams.proofs.Kept.{all_append}
 use Rattle.rl_streams.proofs.RowChanges.{not_none, same_some, with_key, within}
 
@@ -24,9 +24,9 @@ pub all_front : {A : Type 0} (P : A → Type 0) (xs ys : List A) → AllByRecurs
 all_front P [] ys h = tt
 all_front P (x ∷ xs) ys h = (h.0, all_front P xs ys h.1)
 
-pub all_behind : {A : Type 0} (P : A → Type 0) (xs ys : List A) → AllByRecursion P (xs ++ ys) → AllByRecursion P ys
-all_behind P [] ys h = h
-all_behind P (x ∷ xs) ys h = all_behind P xs ys h.1
+pub all_after : {A : Type 0} (P : A → Type 0) (xs ys : List A) → AllByRecursion P (xs ++ ys) → AllByRecursion P ys
+all_after P [] ys h = h
+all_after P (x ∷ xs) ys h = all_after P xs ys h.1
 
 pub all_weaker : {A : Type 0} (P Q : A → Type 0) → ((x : A) → P x → Q x) → (xs : List A) → AllByRecursion P xs → AllByRecursion Q xs
 all_weaker P Q f [] h = tt
@@ -41,14 +41,14 @@ pub planned_then : (covers : Entry → Bool) (first : ℕ) (before : Seen) (plan
     → ArePlanned covers first before plans mid seen → Grown before first seen → ArePlanned covers mid seen others next after → Grown seen mid after → ArePlanned covers first before (plans ++ others) next after
 planned_then covers first before plans mid seen others next after p grown q more =
     let kept_before = λ (plan : PlanView). AreKept before first plan.of in
-    let later = λ (h : AllByRecursion kept_before (plans ++ others)). all_weaker kept_before (λ plan. AreKept seen mid plan.of) (λ plan. AreKept-grown before seen first mid plan.of grown p.numbers.up) others (all_behind kept_before plans others h) in
+    let later = λ (h : AllByRecursion kept_before (plans ++ others)). all_weaker kept_before (λ plan. AreKept seen mid plan.of) (λ plan. AreKept-grown before seen first mid plan.of grown p.numbers.up) others (all_after kept_before plans others h) in
     record {
       sound = all_append IsSound plans others p.sound q.sound;
       told = all_append (λ plan. IsLeftIn covers plan.of plan.becomes) plans others p.told q.told;
-      numbers = subst (λ ns. AreRenumbered ns first next (numbers_behind (plans ++ others)) (numbers_gone (plans ++ others))) (sym (flat_map-append (λ (plan : PlanView). note_numbers plan.of.parts) plans others))
+      numbers = subst (λ ns. AreRenumbered ns first next (numbers_after (plans ++ others)) (numbers_gone (plans ++ others))) (sym (flat_map-append (λ (plan : PlanView). note_numbers plan.of.parts) plans others))
           (subst (λ ns. AreRenumbered (numbers_before plans ++ numbers_before others) first next ns (numbers_gone (plans ++ others))) (sym (flat_map-append (λ (plan : PlanView). note_numbers plan.becomes.parts) plans others))
-          (subst (λ ns. AreRenumbered (numbers_before plans ++ numbers_before others) first next (numbers_behind plans ++ numbers_behind others) ns) (sym (flat_map-append (λ (plan : PlanView). plan.gone) plans others))
-          (AreRenumbered-then (numbers_before plans) (numbers_behind plans) (numbers_gone plans) first mid (numbers_before others) (numbers_behind others) (numbers_gone others) next p.numbers q.numbers)));
+          (subst (λ ns. AreRenumbered (numbers_before plans ++ numbers_before others) first next (numbers_after plans ++ numbers_after others) ns) (sym (flat_map-append (λ (plan : PlanView). plan.gone) plans others))
+          (AreRenumbered-then (numbers_before plans) (numbers_after plans) (numbers_gone plans) first mid (numbers_before others) (numbers_after others) (numbers_gone others) next p.numbers q.numbers)));
       kept = λ h. all_append (λ plan. AreKept after next plan.becomes) plans others
           (all_weaker (λ plan. AreKept seen mid plan.becomes) (λ plan. AreKept after next plan.becomes) (λ plan. AreKept-grown seen after mid next plan.becomes more q.numbers.up) plans (p.kept (all_front kept_before plans others h)))
           (q.kept (later h));
@@ -103,7 +103,7 @@ numbers_of_rows [] (plan ∷ plans) of = absurd (no_row plan plans of)
 numbers_of_rows (row ∷ rows) [] of = absurd (no_plan row rows of)
 numbers_of_rows (row ∷ rows) (plan ∷ plans) of = λ i. note_numbers (sym (first_of row rows plan plans of) i).parts ++ numbers_of_rows rows plans (others_of row rows plan plans of) i
 
-pub numbers_rewritten : (rows : List Row) (plans : List PlanView) → AreOf rows plans → numbers_in (rewritten rows plans) ≡ numbers_behind plans
+pub numbers_rewritten : (rows : List Row) (plans : List PlanView) → AreOf rows plans → numbers_in (rewritten rows plans) ≡ numbers_after plans
 numbers_rewritten [] [] of = refl
 numbers_rewritten [] (plan ∷ plans) of = absurd (no_row plan plans of)
 numbers_rewritten (row ∷ rows) [] of = absurd (no_plan row rows of)

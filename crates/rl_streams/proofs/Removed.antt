@@ -20,9 +20,9 @@ use Rattle.rl_parts.specs.StoreUse.{AreKept, FaultsRise, IsKept, IsNoteOf}
 use Rattle.rl_parts.specs.Rewriting.{PlanView, note_numbers, uncovered}
 use Rattle.rl_parts.specs.laws.RewriteLaws.{AreRenumbered-both}
 use Rattle.rl_streams.specs.StreamRows.{AreStreams, Row, joined, numbers_in}
-use Rattle.rl_streams.specs.Rewritten.{AreOf, ArePlanned, AreRemoved, numbers_before, numbers_behind, numbers_gone, rewritten}
+use Rattle.rl_streams.specs.Rewritten.{AreOf, ArePlanned, AreRemoved, numbers_before, numbers_after, numbers_gone, rewritten}
 use Rattle.rl_streams.proofs.Numbers.{all_below, row_apart}
-use Rattle.rl_streams.proofs.Plans.{all_behind, all_front, joined_rewritten, keys_rewritten, numbers_of_rows, numbers_rewritten, of_rows, own_rewritten, to_rows}
+use Rattle.rl_streams.proofs.Plans.{all_after, all_front, joined_rewritten, keys_rewritten, numbers_of_rows, numbers_rewritten, of_rows, own_rewritten, to_rows}
 
 -- a number is none of these
 abbrev IsApart : List ℕ → ℕ → Type 0
@@ -36,7 +36,7 @@ distinct_front (x ∷ xs) ys h =
 
 all_apart : (xs ys : List ℕ) → IsDistinct nat_eq (xs ++ ys) → AllByRecursion (IsApart ys) xs
 all_apart [] ys h = tt
-all_apart (x ∷ xs) ys h = (all_behind (λ y. nat_eq x y ≡ false) xs ys (IsDistinct-head nat_eq x (xs ++ ys) h), all_apart xs ys (IsDistinct-tail nat_eq x (xs ++ ys) h))
+all_apart (x ∷ xs) ys h = (all_after (λ y. nat_eq x y ≡ false) xs ys (IsDistinct-head nat_eq x (xs ++ ys) h), all_apart xs ys (IsDistinct-tail nat_eq x (xs ++ ys) h))
 
 all_left : {A : Type 0} (P : A → Type 0) (p : A → Bool) (xs : List A) → AllByRecursion P xs → AllByRecursion P (filter p xs)
 all_left P p [] h = tt
@@ -67,7 +67,7 @@ removed_then a xs b ys c p q =
     record {
       honest = q.honest ∙ p.honest;
       faults = omega arith;
-      others = λ number apart. q.others number (all_behind (λ other. nat_eq number other ≡ false) xs ys apart) ∙ p.others number (all_front (λ other. nat_eq number other ≡ false) xs ys apart);
+      others = λ number apart. q.others number (all_after (λ other. nat_eq number other ≡ false) xs ys apart) ∙ p.others number (all_front (λ other. nat_eq number other ≡ false) xs ys apart);
     }
 
 -- parts whose numbers are not removed are kept
@@ -80,11 +80,11 @@ parts_removed old new gone next labels (part ∷ parts) removed apart kept = by 
     by others None away is = (tt, others away)
     by others (Some note) away is = (record { given = is.given; digest = is.digest; read = is.read; kept = λ honest. removed.others note.number away.0 ∙ is.kept (sym removed.honest ∙ honest) }, others away.1)
 
-all_removed : (old new : Seen) (gone : List ℕ) (next : ℕ) (plans : List PlanView) → AreRemoved old gone new → AllByRecursion (IsApart gone) (numbers_behind plans) → AllByRecursion (λ plan. AreKept old next plan.becomes) plans → AllByRecursion (λ plan. AreKept new next plan.becomes) plans
+all_removed : (old new : Seen) (gone : List ℕ) (next : ℕ) (plans : List PlanView) → AreRemoved old gone new → AllByRecursion (IsApart gone) (numbers_after plans) → AllByRecursion (λ plan. AreKept old next plan.becomes) plans → AllByRecursion (λ plan. AreKept new next plan.becomes) plans
 all_removed old new gone next [] removed apart kept = tt
 all_removed old new gone next (plan ∷ plans) removed apart kept = (
-  parts_removed old new gone next plan.becomes.labels plan.becomes.parts removed (all_front (IsApart gone) (note_numbers plan.becomes.parts) (numbers_behind plans) apart) kept.0,
-  all_removed old new gone next plans removed (all_behind (IsApart gone) (note_numbers plan.becomes.parts) (numbers_behind plans) apart) kept.1,
+  parts_removed old new gone next plan.becomes.labels plan.becomes.parts removed (all_front (IsApart gone) (note_numbers plan.becomes.parts) (numbers_after plans) apart) kept.0,
+  all_removed old new gone next plans removed (all_after (IsApart gone) (note_numbers plan.becomes.parts) (numbers_after plans) apart) kept.1,
 )
 
 -- what is always true of streams is true of them without their covered entries
@@ -93,10 +93,10 @@ module _ (covers : Entry → Bool) (rows : List Row) (first : ℕ) (before : See
   kept_before : AllByRecursion (λ plan. AreKept before first plan.of) plans
   kept_before = of_rows (AreKept before first) rows plans of are.kept
 
-  all_distinct : IsDistinct nat_eq (numbers_behind plans ++ numbers_gone plans)
+  all_distinct : IsDistinct nat_eq (numbers_after plans ++ numbers_gone plans)
   all_distinct =
       let old = numbers_before plans in
-      IsDistinct-IsPermutation nat_eq nat_eq_equiv.symm (range_with_len first (next - first) ++ old) (numbers_behind plans ++ numbers_gone plans) (AreRenumbered-both old first next (numbers_behind plans) (numbers_gone plans) planned.numbers)
+      IsDistinct-IsPermutation nat_eq nat_eq_equiv.symm (range_with_len first (next - first) ++ old) (numbers_after plans ++ numbers_gone plans) (AreRenumbered-both old first next (numbers_after plans) (numbers_gone plans) planned.numbers)
       (subst (λ ns. IsDistinct nat_eq (range_with_len first (next - first) ++ ns)) (numbers_of_rows rows plans of) (row_apart first first (next - first) (numbers_in rows) (omega arith) (all_below before first rows are.kept) are.numbers))
 
   pub joined_left : before.honest ≡ true → joined (rewritten rows plans) ≡ uncovered covers (joined rows)
@@ -106,8 +106,8 @@ module _ (covers : Entry → Bool) (rows : List Row) (first : ℕ) (before : See
   streams_rewritten = record {
     own = own_rewritten rows plans of planned.sound are.own;
     apart = subst (IsDistinct label_set_eq) (sym (keys_rewritten rows plans of)) are.apart;
-    kept = to_rows (AreKept after next) rows plans of (all_removed seen after (numbers_gone plans) next plans removed (all_apart (numbers_behind plans) (numbers_gone plans) all_distinct) (planned.kept kept_before));
-    numbers = subst (IsDistinct nat_eq) (sym (numbers_rewritten rows plans of)) (distinct_front (numbers_behind plans) (numbers_gone plans) all_distinct);
+    kept = to_rows (AreKept after next) rows plans of (all_removed seen after (numbers_gone plans) next plans removed (all_apart (numbers_after plans) (numbers_gone plans) all_distinct) (planned.kept kept_before));
+    numbers = subst (IsDistinct nat_eq) (sym (numbers_rewritten rows plans of)) (distinct_front (numbers_after plans) (numbers_gone plans) all_distinct);
     once = λ honest.
         let was : before.honest ≡ true = sym honest_same ∙ sym removed.honest ∙ honest in
         subst (IsDistinct (eq_by_cmp entry_cmp)) (sym (joined_left was)) (distinct_left (eq_by_cmp entry_cmp) (λ entry. not (covers entry)) (joined rows) (are.once was));

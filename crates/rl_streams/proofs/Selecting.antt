@@ -73,8 +73,8 @@ selections_newest old new kept same are = subst (λ labels. AreSelections labels
 pub selections_same : (old new : List Row) (kept : List SelectionView) → new ≡ old → AreSelections (keys_of old) kept → AreSelections (keys_of new) kept
 selections_same old new kept same are = subst (λ rows. AreSelections (keys_of rows) kept) (sym same) are
 
-pub selections_behind : (old new : List Row) (kept : List SelectionView) → (more : List LabelSet) × (keys_of new ≡ keys_of old ++ more) → AreSelections (keys_of old) kept → AreSelections (keys_of new) kept
-selections_behind old new kept (more, same) are = subst (λ labels. AreSelections labels kept) (sym same) (selections_more (keys_of old) more kept are)
+pub selections_after : (old new : List Row) (kept : List SelectionView) → (more : List LabelSet) × (keys_of new ≡ keys_of old ++ more) → AreSelections (keys_of old) kept → AreSelections (keys_of new) kept
+selections_after old new kept (more, same) are = subst (λ labels. AreSelections labels kept) (sym same) (selections_more (keys_of old) more kept are)
 
 -- a selected stream stands at the index
 abbrev pub IsSelectedAt : List Matcher → List Row → ℕ → Type 0
@@ -84,14 +84,14 @@ all_selected : (selector : List Matcher) (rows : List Row) → AllByRecursion (I
 all_selected selector [] = tt
 all_selected selector (row ∷ rows) = by (selects selector row.0) refl (all_selected selector rows)
   where
-    behind : (places : List ℕ) → AllByRecursion (IsSelectedAt selector rows) places → AllByRecursion (IsSelectedAt selector (row ∷ rows)) (map suc places)
-    behind [] h = tt
-    behind (place ∷ places) h = (h.0, behind places h.1)
+    following : (places : List ℕ) → AllByRecursion (IsSelectedAt selector rows) places → AllByRecursion (IsSelectedAt selector (row ∷ rows)) (map suc places)
+    following [] h = tt
+    following (place ∷ places) h = (h.0, following places h.1)
 
     by : (b : Bool) → selects selector row.0 ≡ b → AllByRecursion (IsSelectedAt selector rows) (selected selector (keys_of rows))
         → AllByRecursion (IsSelectedAt selector (row ∷ rows)) (if b then 0 ∷ map suc (selected selector (keys_of rows)) else map suc (selected selector (keys_of rows)))
-    by true e others = ((row, refl, e), behind (selected selector (keys_of rows)) others)
-    by false e others = behind (selected selector (keys_of rows)) others
+    by true e others = ((row, refl, e), following (selected selector (keys_of rows)) others)
+    by false e others = following (selected selector (keys_of rows)) others
 
 one_of : {A : Type 0} (P : A → Type 0) (xs : List A) (i : ℕ) (d : A) → AllByRecursion P xs → i < length xs → P (get_or xs i d)
 one_of P [] i d h lt = absurd (omega (arith, lt))
@@ -141,11 +141,11 @@ module _ (R : Row → List (LabelSet × Line) → Type 0) (selector : List Match
   abbrev pub Spread : List Row → List (List (LabelSet × Line)) → Type 0
   Spread rows lines = (all : List (List (LabelSet × Line))) × AllZip R rows all × (flat_map (λ l. l) all ≡ flat_map (λ l. l) lines)
 
-  behind : (row : Row) (rows : List Row) (places : List ℕ) (lines : List (List (LabelSet × Line))) → AllZip (IsAt R (row ∷ rows)) (map suc places) lines → AllZip (IsAt R rows) places lines
-  behind row rows [] [] h = tt
-  behind row rows [] (l ∷ lines) h = absurd h
-  behind row rows (place ∷ places) [] h = absurd h
-  behind row rows (place ∷ places) (l ∷ lines) h = (h.0, behind row rows places lines h.1)
+  following : (row : Row) (rows : List Row) (places : List ℕ) (lines : List (List (LabelSet × Line))) → AllZip (IsAt R (row ∷ rows)) (map suc places) lines → AllZip (IsAt R rows) places lines
+  following row rows [] [] h = tt
+  following row rows [] (l ∷ lines) h = absurd h
+  following row rows (place ∷ places) [] h = absurd h
+  following row rows (place ∷ places) (l ∷ lines) h = (h.0, following row rows places lines h.1)
 
   pub spread : (rows : List Row) (lines : List (List (LabelSet × Line))) → AllZip (IsAt R rows) (selected selector (keys_of rows)) lines → Spread rows lines
   spread [] [] each = ([], tt, refl)
@@ -162,10 +162,10 @@ module _ (R : Row → List (LabelSet × Line) → Type 0) (selector : List Match
           → ((lines : List (List (LabelSet × Line))) → AllZip (IsAt R rows) places lines → Spread rows lines) → Spread (row ∷ rows) lines
       by true e [] each more = absurd each
       by true e (l ∷ lines) each more =
-          let others = more lines (behind row rows places lines each.1) in
+          let others = more lines (following row rows places lines each.1) in
           (l ∷ others.0, (subst (λ r. R r l) (sym (same each.0.0 each.0.1)) each.0.2, others.1), ap (λ ls. l ++ ls) others.2)
       by false e lines each more =
-          let others = more lines (behind row rows places lines each) in
+          let others = more lines (following row rows places lines each) in
           ([] ∷ others.0, (none row e, others.1), others.2)
 
 -- the labels of the stream at an index

@@ -115,13 +115,13 @@ of_row selector from to stream taking before after selected (Ok _) (mid, handed,
     let lines = sealed ++ told_in_range from to stream.head in (
       lines,
       subst (λ b. MatchBool b (AreOfParts from to stream lines) (lines ≡ [])) (sym selected) (record { pieces = handed.pieces; each = handed.each; all = refl }),
-      head ∙ ap (λ t. fold taking t (told_in_range from to stream.head)) handed.behind ∙ sym (fold-append taking before sealed (told_in_range from to stream.head)),
+      head ∙ ap (λ t. fold taking t (told_in_range from to stream.head)) handed.following ∙ sym (fold-append taking before sealed (told_in_range from to stream.head)),
     )
 of_row selector from to stream taking before after selected (Err fault) handed = tt
 
 -- a stream that is there has a newest timestamp
-behind_another : (row : Row) (rows : List Row) (labels : LabelSet) → is_some (lookup (is_at (label_set_cmp labels)) (newest_in rows)) ≡ true → is_some (lookup (is_at (label_set_cmp labels)) (newest_in (row ∷ rows))) ≡ true
-behind_another row rows labels there = by (is_at (label_set_cmp labels) row.0)
+after_another : (row : Row) (rows : List Row) (labels : LabelSet) → is_some (lookup (is_at (label_set_cmp labels)) (newest_in rows)) ≡ true → is_some (lookup (is_at (label_set_cmp labels)) (newest_in (row ∷ rows))) ≡ true
+after_another row rows labels there = by (is_at (label_set_cmp labels) row.0)
   where
     by : (b : Bool) → is_some (cond b (Some row.1.newest) (lookup (is_at (label_set_cmp labels)) (newest_in rows))) ≡ true
     by true = refl
@@ -135,7 +135,7 @@ have_newest : (rows : List Row) → AllByRecursion (λ row. is_some (lookup (is_
 have_newest [] = tt
 have_newest (row ∷ rows) = (
   ap (λ b. is_some (cond b (Some row.1.newest) (lookup (is_at (label_set_cmp row.0)) (newest_in rows)))) (ap is_eq (tied_itself label_set_cmp_total row.0)),
-  all_mapped (λ other. is_some (lookup (is_at (label_set_cmp other.0)) (newest_in rows)) ≡ true) (λ other. is_some (lookup (is_at (label_set_cmp other.0)) (newest_in (row ∷ rows))) ≡ true) (λ other. behind_another row rows other.0) rows (have_newest rows),
+  all_mapped (λ other. is_some (lookup (is_at (label_set_cmp other.0)) (newest_in rows)) ≡ true) (λ other. is_some (lookup (is_at (label_set_cmp other.0)) (newest_in (row ∷ rows))) ≡ true) (λ other. after_another row rows other.0) rows (have_newest rows),
 )
 
 -- so where none is selected, no row is

@@ -56,8 +56,8 @@ AreLeftIn covers old new = AllZip (λ row now. (now.0 ≡ row.0) × IsLeftIn cov
 abbrev pub numbers_before : List PlanView → List ℕ
 numbers_before plans = flat_map (λ plan. note_numbers plan.of.parts) plans
 
-abbrev pub numbers_behind : List PlanView → List ℕ
-numbers_behind plans = flat_map (λ plan. note_numbers plan.becomes.parts) plans
+abbrev pub numbers_after : List PlanView → List ℕ
+numbers_after plans = flat_map (λ plan. note_numbers plan.becomes.parts) plans
 
 abbrev pub numbers_gone : List PlanView → List ℕ
 numbers_gone plans = flat_map (λ plan. plan.gone) plans
@@ -66,7 +66,7 @@ numbers_gone plans = flat_map (λ plan. plan.gone) plans
 pub record ArePlanned (covers : Entry → Bool) (first : ℕ) (before : Seen) (plans : List PlanView) (next : ℕ) (seen : Seen) : Type 0 where
   pub sound : AllByRecursion IsSound plans
   pub told : AllByRecursion (λ plan. IsLeftIn covers plan.of plan.becomes) plans
-  pub numbers : AreRenumbered (numbers_before plans) first next (numbers_behind plans) (numbers_gone plans)
+  pub numbers : AreRenumbered (numbers_before plans) first next (numbers_after plans) (numbers_gone plans)
   pub kept : AllByRecursion (λ plan. AreKept before first plan.of) plans → AllByRecursion (λ plan. AreKept seen next plan.becomes) plans
   pub right : before.honest ≡ true → AllByRecursion (λ plan. AreKept before first plan.of) plans → AllByRecursion (λ plan. entries_of plan.becomes ≡ uncovered covers (entries_of plan.of)) plans
 

@@ -41,7 +41,7 @@ pub one_more : {X : Type 0} (before now : List X) (x : X) → now ≡ before ++ 
 one_more before now x is = omega (arith, ap length {x = now} {y = before ++ x ∷ []} is, length-append before (x ∷ []))
 
 -- of what is not there anything holds
-pub holds_of_none : {X : Type 0} (P : X → Type 0) (slot : Option X) → slot ≡ None → IfSome slot P
+pub holds_of_none : {X : Type 0} (P : X → Type 0) (maybe : Option X) → maybe ≡ None → IfSome maybe P
 holds_of_none P None none = tt
 holds_of_none P (Some x) none = absurd (some_none x none)
   where
@@ -49,7 +49,7 @@ holds_of_none P (Some x) none = absurd (some_none x none)
     some_none x h = cc
 
 -- what is not there is nothing
-pub none_there : {X : Type 0} (slot : Option X) → is_some slot ≡ false → slot ≡ None
+pub none_there : {X : Type 0} (maybe : Option X) → is_some maybe ≡ false → maybe ≡ None
 none_there None none = refl
 none_there (Some x) none = cc
 
@@ -76,12 +76,12 @@ each_took_offered evaluations [] (new ∷ news) offered = absurd offered
 each_took_offered evaluations (old ∷ olds) [] offered = absurd offered
 
 -- an evaluation that can be committed is open
-record OpenWith (P : OpenEvaluation (List Partial) → Type 0) (slot : Option (OpenEvaluation (List Partial))) : Type 0 where
+record OpenWith (P : OpenEvaluation (List Partial) → Type 0) (maybe : Option (OpenEvaluation (List Partial))) : Type 0 where
   pub opened : OpenEvaluation (List Partial)
-  pub is : slot ≡ Some opened
+  pub is : maybe ≡ Some opened
   pub holds : P opened
 
-open_with : (P : OpenEvaluation (List Partial) → Type 0) (slot : Option (OpenEvaluation (List Partial))) (full : Bool) → closing_fault slot full ≡ None → IfSome slot P → OpenWith P slot
+open_with : (P : OpenEvaluation (List Partial) → Type 0) (maybe : Option (OpenEvaluation (List Partial))) (full : Bool) → closing_fault maybe full ≡ None → IfSome maybe P → OpenWith P maybe
 open_with P None full free holds = absurd (some_none free)
   where
     some_none : {X : Type 0} {x : X} → Some x ≡ None → ⊥

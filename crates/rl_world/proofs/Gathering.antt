@@ -30,9 +30,9 @@ use Rattle.rl_world.specs.declared.step.Reply.TheVariants as replies
 use Rattle.rl_world.proofs.Turning.{each_set, history_at, shard_at, shard_kept}
 
 -- the evaluation that is open, by its moment
-record OpenAt {X : Type 0} (slot : Option (OpenEvaluation X)) (t : ℕ) : Type 0 where
+record OpenAt {X : Type 0} (maybe : Option (OpenEvaluation X)) (t : ℕ) : Type 0 where
   pub opened : OpenEvaluation X
-  pub is : slot ≡ Some opened
+  pub is : maybe ≡ Some opened
   pub moment : opened.t ≡ t
 
 some_is : {X : Type 0} (a b : X) → Some a ≡ Some b → a ≡ b
@@ -41,7 +41,7 @@ some_is a b h = cc
 none_some : {X : Type 0} (x : X) → None ≡ Some x → ⊥
 none_some x h = cc
 
-open_at : {X : Type 0} (slot : Option (OpenEvaluation X)) (t : ℕ) → option_map (λ (o : OpenEvaluation X). o.t) slot ≡ Some t → OpenAt slot t
+open_at : {X : Type 0} (maybe : Option (OpenEvaluation X)) (t : ℕ) → option_map (λ (o : OpenEvaluation X). o.t) maybe ≡ Some t → OpenAt maybe t
 open_at None t h = absurd (none_some t h)
 open_at (Some opened) t h = record { opened = opened; is = refl; moment = some_is opened.t t h }
 

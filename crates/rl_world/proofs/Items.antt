@@ -3,17 +3,17 @@ use Rattle.std.proofs.Common.{◌≡◌, ℕ, zero, suc, ◌+◌, ◌<◌, ◌�
 use Rattle.rl_rules.specs.declared.alert.Alert.{Alert}
 use Rattle.rl_rules.specs.declared.rule.Group.{Group}
 use Rattle.rl_rules.specs.declared.evaluation.Evaluation.{Evaluation}
-use Rattle.rl_world.specs.History.{alerts_then, alerts_edited, alerts_behind, group_behind, evaluations_in}
+use Rattle.rl_world.specs.History.{alerts_then, alerts_edited, alerts_after, group_after, evaluations_in}
 use Rattle.rl_world.specs.declared.item.Item.{Item}
 use Rattle.rl_world.specs.declared.item.Item.TheVariants as kinds
 
 module _ (evaluation : Evaluation) where
-  pub alerts-evaluated : (group : Group) (alerts : List (List Alert)) (items : List Item) → alerts_behind group alerts (items ++ kinds.Evaluated evaluation ∷ []) ≡ alerts_then (alerts_behind group alerts items) evaluation.outcomes
+  pub alerts-evaluated : (group : Group) (alerts : List (List Alert)) (items : List Item) → alerts_after group alerts (items ++ kinds.Evaluated evaluation ∷ []) ≡ alerts_then (alerts_after group alerts items) evaluation.outcomes
   alerts-evaluated group alerts [] = refl
   alerts-evaluated group alerts (kinds.Edited next ∷ items) = alerts-evaluated next (alerts_edited group alerts next) items
   alerts-evaluated group alerts (kinds.Evaluated first ∷ items) = alerts-evaluated group (alerts_then alerts first.outcomes) items
 
-  pub group-evaluated : (group : Group) (items : List Item) → group_behind group (items ++ kinds.Evaluated evaluation ∷ []) ≡ group_behind group items
+  pub group-evaluated : (group : Group) (items : List Item) → group_after group (items ++ kinds.Evaluated evaluation ∷ []) ≡ group_after group items
   group-evaluated group [] = refl
   group-evaluated group (kinds.Edited next ∷ items) = group-evaluated next items
   group-evaluated group (kinds.Evaluated first ∷ items) = group-evaluated group items
@@ -24,12 +24,12 @@ module _ (evaluation : Evaluation) where
   evaluations-evaluated (kinds.Evaluated first ∷ items) = ap (λ (rest : List Evaluation). first ∷ rest) (evaluations-evaluated items)
 
 module _ (to : Group) where
-  pub alerts-edited : (group : Group) (alerts : List (List Alert)) (items : List Item) → alerts_behind group alerts (items ++ kinds.Edited to ∷ []) ≡ alerts_edited (group_behind group items) (alerts_behind group alerts items) to
+  pub alerts-edited : (group : Group) (alerts : List (List Alert)) (items : List Item) → alerts_after group alerts (items ++ kinds.Edited to ∷ []) ≡ alerts_edited (group_after group items) (alerts_after group alerts items) to
   alerts-edited group alerts [] = refl
   alerts-edited group alerts (kinds.Edited next ∷ items) = alerts-edited next (alerts_edited group alerts next) items
   alerts-edited group alerts (kinds.Evaluated first ∷ items) = alerts-edited group (alerts_then alerts first.outcomes) items
 
-  pub group-edited : (group : Group) (items : List Item) → group_behind group (items ++ kinds.Edited to ∷ []) ≡ to
+  pub group-edited : (group : Group) (items : List Item) → group_after group (items ++ kinds.Edited to ∷ []) ≡ to
   group-edited group [] = refl
   group-edited group (kinds.Edited next ∷ items) = group-edited next items
   group-edited group (kinds.Evaluated first ∷ items) = group-edited group items

@@ -37,16 +37,16 @@ abbrev pub alerts_edited : Group → List (List Alert) → Group → List (List 
 alerts_edited old alerts new = handed_on new.rules (zip old.rules alerts)
 
 -- the alerts after one item and the next, from a group and what its rules have
-abbrev pub alerts_behind : Group → List (List Alert) → List Item → List (List Alert)
-alerts_behind group alerts [] = alerts
-alerts_behind group alerts (kinds.Edited next ∷ items) = alerts_behind next (alerts_edited group alerts next) items
-alerts_behind group alerts (kinds.Evaluated evaluation ∷ items) = alerts_behind group (alerts_then alerts evaluation.outcomes) items
+abbrev pub alerts_after : Group → List (List Alert) → List Item → List (List Alert)
+alerts_after group alerts [] = alerts
+alerts_after group alerts (kinds.Edited next ∷ items) = alerts_after next (alerts_edited group alerts next) items
+alerts_after group alerts (kinds.Evaluated evaluation ∷ items) = alerts_after group (alerts_then alerts evaluation.outcomes) items
 
 -- the group after them
-abbrev pub group_behind : Group → List Item → Group
-group_behind group [] = group
-group_behind group (kinds.Edited next ∷ items) = group_behind next items
-group_behind group (kinds.Evaluated evaluation ∷ items) = group_behind group items
+abbrev pub group_after : Group → List Item → Group
+group_after group [] = group
+group_after group (kinds.Edited next ∷ items) = group_after next items
+group_after group (kinds.Evaluated evaluation ∷ items) = group_after group items
 
 -- the evaluations among them
 abbrev pub evaluations_in : List Item → List Evaluation
@@ -67,7 +67,7 @@ not_later (Some last) t = if nat_le t last then Some (faults.MomentNotLater last
 module _ {X : Type 0} where
   -- the alerts that the rules have now: at first they had none
   abbrev pub alerts_of : History X → List (List Alert)
-  alerts_of history = alerts_behind history.first [] history.items
+  alerts_of history = alerts_after history.first [] history.items
 
   -- the moment of the last evaluation that was committed
   abbrev pub last_moment : History X → Option ℕ

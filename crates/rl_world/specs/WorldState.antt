@@ -9,7 +9,7 @@ use Rattle.rl_rules.specs.declared.alert.Alert.{Alert}
 use Rattle.rl_sinks.specs.SinkState.{SinkState, closed}
 use Rattle.rl_world.specs.Evaluating.{group_terms}
 use Rattle.rl_world.specs.Kept.{partials_of}
-use Rattle.rl_world.specs.History.{History, alerts_of, group_behind, evaluations_in}
+use Rattle.rl_world.specs.History.{History, alerts_of, group_after, evaluations_in}
 use Rattle.rl_world.specs.Offering.{TookPrefix}
 use Rattle.rl_world.specs.Slots.{IsKept, most_shards}
 use Rattle.rl_world.specs.declared.opened.Gathered.{Gathered}
@@ -70,7 +70,7 @@ pub record IsBook (terms : List Term) (alerts : List (List Alert)) (book : BookS
   pub few_shards : book.shards ≤ most_shards
   pub few_records : book.history.records ≤ 1048576
   pub few : length book.history.items ≤ book.history.records
-  pub group_is : book.history.group ≡ group_behind book.history.first book.history.items
+  pub group_is : book.history.group ≡ group_after book.history.first book.history.items
   pub evaluations_are : book.history.evaluations ≡ evaluations_in book.history.items
   pub slots : IfSome book.history.opened (λ opened. (length opened.gathered ≡ book.shards) × AllByRecursion (IsKept (length terms)) opened.gathered)
   pub prefixes : AllByRecursion (TookPrefix book.history.evaluations) book.sinks

@@ -72,7 +72,7 @@ impl<S: Sink> Book<S> {
     ghost use Rattle.rl_world.specs.WorldState.{kept_open};
     ghost use Rattle.rl_world.specs.Evaluating.{group_terms, evaluation_of};
     ghost use Rattle.rl_world.specs.Kept.{evaluation_from};
-    ghost use Rattle.rl_world.specs.History.{alerts_of, alerts_then, group_behind, evaluations_in, is_due, begin_fault, edit_fault, gather_fault, commit_fault, abandon_fault, begun, edited, gathered, committed, abandoned};
+    ghost use Rattle.rl_world.specs.History.{alerts_of, alerts_then, group_after, evaluations_in, is_due, begin_fault, edit_fault, gather_fault, commit_fault, abandon_fault, begun, edited, gathered, committed, abandoned};
     ghost use Rattle.rl_world.specs.Offering.{AllOffered, behind_of};
     ghost use Rattle.rl_world.specs.Slots.{AreOfOneShard, most_shards};
 
@@ -289,7 +289,7 @@ impl<S: Sink> Book<S> {
     /// The group as it is now: that of the last edit, or as it began.
     pub fn group(&self) -> &Group
         ensures now { result.now ≡ self.now.history.group }
-        ensures last { result.now ≡ group_behind self.now.history.first self.now.history.items }
+        ensures last { result.now ≡ group_after self.now.history.first self.now.history.items }
     {
         self.group.get()
     }
@@ -428,7 +428,7 @@ fn complete(
 fn all_asked(slots: &[Slot]) -> bool
     ensures { result ≡ list_all is_some slots.now }
 {
-    slots.iter().all(|slot| slot.is_some())
+    slots.iter().all(|answer| answer.is_some())
 }
 
 // Keeps what a shard showed as its answer.

@@ -190,12 +190,12 @@ fn results(
     fill(alloc, memories, rules.len())?;
     for (index, rule) in rules.iter().enumerate() {
         let (own, others) = rest.split_at(count_terms(&rule.query));
-        let (had, behind) = first_alerts(known, &none);
+        let (had, later) = first_alerts(known, &none);
         let (result, kept) = result_of(alloc, limit, t, rule, had, own, &mut memories[index])?;
         results.push(result)?;
         left.push(kept)?;
         rest = others;
-        known = behind;
+        known = later;
     }
     Ok((results, left))
 }

@@ -32,12 +32,12 @@ pub(crate) fn doubt_of(alloc: Global, stages: &[Stage]) -> Result<Option<Doubt<'
         doubt: None,
     };
     for stage in stages {
-        known = behind_stage(alloc, known, stage)?;
+        known = after_stage(alloc, known, stage)?;
     }
     Ok(known.doubt)
 }
 
-fn behind_stage<'a>(
+fn after_stage<'a>(
     alloc: Global,
     known: Known<'a>,
     stage: &'a Stage,
@@ -47,7 +47,7 @@ fn behind_stage<'a>(
         Stage::Parser(Parser::Logfmt) => (true, known.doubt),
         Stage::Tests(tests) if known.is_parsed => {
             let tests = leaves_of(alloc, tests)?;
-            (true, behind_tests(alloc, known.doubt, tests.as_slice())?)
+            (true, after_tests(alloc, known.doubt, tests.as_slice())?)
         }
         Stage::Tests(_) | Stage::Filter(_) => (known.is_parsed, known.doubt),
     };
@@ -75,7 +75,7 @@ fn leaves_of(alloc: Global, tests: &LabelTests) -> Result<Vec<&LabelTest>, Untol
 }
 
 // What is in doubt after tests: nothing where one asks for errors; such a line still where each test lets it pass.
-fn behind_tests<'a>(
+fn after_tests<'a>(
     alloc: Global,
     doubt: Option<Doubt<'a>>,
     tests: &[&'a LabelTest],

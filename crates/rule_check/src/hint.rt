@@ -119,10 +119,10 @@ fn push_near_unsupported(text: &mut String, front: &str, back: &str) -> Result<(
         return push_known(text, hint_of_sign(back));
     }
     let lower = word.to_ascii_lowercase(*text.allocator())?;
-    if lower.as_str() != word && is_lawful_behind(front, lower.as_str()) {
+    if lower.as_str() != word && is_lawful_after(front, lower.as_str()) {
         return push(text, lower.as_str());
     }
-    if is_join(lower.as_str()) && is_behind_tests(front) {
+    if is_join(lower.as_str()) && is_after_tests(front) {
         return push(text, lower.as_str());
     }
     if lower.as_str() == "or" && ends_text(front) {
@@ -139,7 +139,7 @@ fn push_known(text: &mut String, hint: Option<&'static str>) -> Result<(), Untol
 }
 
 // Whether label tests end there: a stage that is neither a line filter nor a parser, and in which as much is closed as opened.
-fn is_behind_tests(front: &str) -> bool {
+fn is_after_tests(front: &str) -> bool {
     match front.rsplit_once('|') {
         Some((_, stage)) => {
             let is_filter = stage.starts_with('=') || stage.starts_with('~');
@@ -159,7 +159,7 @@ fn begins_with_digit(text: &str) -> bool {
 }
 
 // Whether the word is one of the ruler's at this position. After a comparison none is.
-fn is_lawful_behind(front: &str, word: &str) -> bool {
+fn is_lawful_after(front: &str, word: &str) -> bool {
     if front.ends_with('|') {
         is_parser(word)
     } else if ends_comparison(front) {

@@ -51,12 +51,12 @@ pub(crate) fn push_no_toml(
 fn push_led_line(told: &mut Told, lead: &str, line: Line<'_>) -> Result<(), Untold> {
     let mut before = String::from_str(*told.text.allocator(), lead)?;
     before.push_str(line.before)?;
-    let behind = line.behind.strip_suffix('\r').unwrap_or(line.behind);
+    let following = line.following.strip_suffix('\r').unwrap_or(line.following);
     push_line(
         &mut told.text,
         Line {
             before: before.as_str(),
-            behind,
+            following,
         },
     )
 }
@@ -65,7 +65,7 @@ fn push_led_line(told: &mut Told, lead: &str, line: Line<'_>) -> Result<(), Unto
 fn push_near_text(told: &mut Told, line: Line<'_>) -> Result<(), Untold> {
     let mut word = String::new(*told.text.allocator());
     word.push_str(last_word(line.before))?;
-    word.push_str(first_word(line.behind))?;
+    word.push_str(first_word(line.following))?;
     if is_duration(word.as_str(), 0) {
         writeln!(told.text, "  in its place: a text, \"{word}\"")?;
     }

@@ -85,7 +85,7 @@ fn push_spot(text: &mut String, spot: Spot<'_>) -> Result<(), Untold> {
 #[derive(Clone, Copy)]
 pub(crate) struct Line<'a> {
     pub(crate) before: &'a str,
-    pub(crate) behind: &'a str,
+    pub(crate) following: &'a str,
 }
 
 /// A text cut in two at a byte, where one of its characters begins there.
@@ -104,16 +104,16 @@ pub(crate) fn line_at(text: &str, place: usize) -> Line<'_> {
         Some((_, before)) => before,
         None => front,
     };
-    let behind = match back.split_once('\n') {
-        Some((behind, _)) => behind,
+    let following = match back.split_once('\n') {
+        Some((following, _)) => following,
         None => back,
     };
-    Line { before, behind }
+    Line { before, following }
 }
 
 /// Writes the line after two spaces, and below it a caret under the byte.
 pub(crate) fn push_line(text: &mut String, line: Line<'_>) -> Result<(), Untold> {
-    writeln!(text, "  {}{}", line.before, line.behind)?;
+    writeln!(text, "  {}{}", line.before, line.following)?;
     text.push_str("  ")?;
     for letter in line.before.chars() {
         text.push(if letter == '\t' { '\t' } else { ' ' })?;

@@ -35,9 +35,9 @@ pub(crate) fn meant(alloc: Global, text: &str) -> Result<String, Trouble> {
     let mut pieces = text.split('⟨');
     push_pictures(&mut to, pieces.next().unwrap_or(""))?;
     for piece in pieces {
-        let (row, behind) = piece.split_once('⟩').ok_or(Trouble::BadInput)?;
+        let (row, following) = piece.split_once('⟩').ok_or(Trouble::BadInput)?;
         push_row(&mut to, row)?;
-        push_pictures(&mut to, behind)?;
+        push_pictures(&mut to, following)?;
     }
     Ok(to)
 }

@@ -17,8 +17,8 @@ use std::mem;
 pub(crate) fn answer(told: &mut String, directive: &str, input: &str) -> Result<(), Trouble> {
     let (first, lines) = input.split_once('\n').ok_or(Trouble::BadInput)?;
     match directive {
-        "json" => behind(told, Parser::Json, first, lines),
-        "logfmt" => behind(told, Parser::Logfmt, first, lines),
+        "json" => following(told, Parser::Json, first, lines),
+        "logfmt" => following(told, Parser::Logfmt, first, lines),
         "runs" => runs(told, first, lines),
         "covers" => covers(told, first, lines),
         _ => Err(Trouble::NoSuchDirective),
@@ -26,7 +26,7 @@ pub(crate) fn answer(told: &mut String, directive: &str, input: &str) -> Result<
 }
 
 // The labels that each line of a stream has after the parser, where an error is set before it.
-fn behind(told: &mut String, parser: Parser, labels: &str, lines: &str) -> Result<(), Trouble> {
+fn following(told: &mut String, parser: Parser, labels: &str, lines: &str) -> Result<(), Trouble> {
     let labels = faulty_labels(*told.allocator(), labels)?;
     for line in lines.split('\n') {
         push_parsed(told, parser, &labels, line)?;

@@ -44,12 +44,12 @@ less Less h = refl
 less Equal h = absurd (true≢false (sym h))
 less Greater h = absurd (true≢false (sym h))
 
-behind_below : (labels : LabelSet) (samples : List Sample) → below_all label_set_cmp labels (map (λ s. (s.labels, s.value)) samples) ≡ true → AllByRecursion (λ other. label_set_cmp labels other.labels ≡ Less) samples
-behind_below labels [] below = tt
-behind_below labels (s ∷ ss) below =
+after_below : (labels : LabelSet) (samples : List Sample) → below_all label_set_cmp labels (map (λ s. (s.labels, s.value)) samples) ≡ true → AllByRecursion (λ other. label_set_cmp labels other.labels ≡ Less) samples
+after_below labels [] below = tt
+after_below labels (s ∷ ss) below =
     let parts = and_parts (is_lt (label_set_cmp labels s.labels)) (below_all label_set_cmp labels (map (λ s. (s.labels, s.value)) ss)) below in (
       less _ parts.0,
-      behind_below labels ss parts.1,
+      after_below labels ss parts.1,
     )
 
 -- samples whose label sets rise are in order
@@ -57,7 +57,7 @@ pub order-rises : (samples : List Sample) → rises samples ≡ true → AreInOr
 order-rises [] up = tt
 order-rises (s ∷ ss) up =
     let parts = and_parts (below_all label_set_cmp s.labels (map (λ s. (s.labels, s.value)) ss)) (rises ss) up in (
-      behind_below s.labels ss parts.0,
+      after_below s.labels ss parts.0,
       order-rises ss parts.1,
     )
 

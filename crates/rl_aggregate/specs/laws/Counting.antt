@@ -27,23 +27,23 @@ stayed stages entries = map (element stages) (filter (stays stages) entries)
 -- the first of them
 stayed-cons : (stages : List Stage) (e : Entry) (es : List Entry) → elements_of stages e.labels e.line ++ stayed stages es ≡ stayed stages (e ∷ es)
 stayed-cons stages e es =
-    elim (run stages e.line e.labels) as (λ found. run stages e.line e.labels ≡ found → map (λ (behind : LabelSet). record { labels = behind; bytes = length e.line }) (option_to_list found) ++ stayed stages es ≡ map (element stages) (cond (is_some found) (e ∷ filter (stays stages) es) (filter (stays stages) es))) [
+    elim (run stages e.line e.labels) as (λ found. run stages e.line e.labels ≡ found → map (λ (following : LabelSet). record { labels = following; bytes = length e.line }) (option_to_list found) ++ stayed stages es ≡ map (element stages) (cond (is_some found) (e ∷ filter (stays stages) es) (filter (stays stages) es))) [
       | None ↦ λ _. refl
-      | Some behind ↦ λ is. λ i. record { labels = unwrap_or (sym is i) no_labels; bytes = length e.line } ∷ stayed stages es
+      | Some following ↦ λ is. λ i. record { labels = unwrap_or (sym is i) no_labels; bytes = length e.line } ∷ stayed stages es
     ] refl
 
 -- a tally of some lines, and then of those of entries
-counted_behind : (stages : List Stage) (elements : List Element) (entries : List Entry) → fold with_entry (record { running = stages; found = partial_of elements }) entries ≡ record { running = stages; found = partial_of (elements ++ stayed stages entries) }
-counted_behind stages elements [] = λ i. record { running = stages; found = partial_of (sym (append-nil elements) i) }
-counted_behind stages elements (e ∷ es) =
+counted_after : (stages : List Stage) (elements : List Element) (entries : List Entry) → fold with_entry (record { running = stages; found = partial_of elements }) entries ≡ record { running = stages; found = partial_of (elements ++ stayed stages entries) }
+counted_after stages elements [] = λ i. record { running = stages; found = partial_of (sym (append-nil elements) i) }
+counted_after stages elements (e ∷ es) =
     let one = elements_of stages e.labels e.line in
     (λ i. fold with_entry (record { running = stages; found = sym (partial_of-append elements one) i }) es)
-    ∙ counted_behind stages (elements ++ one) es
+    ∙ counted_after stages (elements ++ one) es
     ∙ (λ i. record { running = stages; found = partial_of ((append_assoc elements one (stayed stages es) ∙ ap (λ rest. elements ++ rest) (stayed-cons stages e es)) i) })
 
 -- a tally of the lines of entries has what those that stay add up to
 pub counted_entries : (stages : List Stage) (entries : List Entry) → fold with_entry (nothing_counted stages) entries ≡ record { running = stages; found = partial_of (stayed stages entries) }
-counted_entries stages entries = counted_behind stages [] entries
+counted_entries stages entries = counted_after stages [] entries
 
 -- a test among those that pass another
 pub filter-both : {X : Type 0} (p q : X → Bool) (xs : List X) → filter q (filter p xs) ≡ filter (λ x. p x && q x) xs

@@ -132,13 +132,13 @@ groups-push operator g samples other = same_map label_set_cmp_total label_set_cm
 
 -- what holds of no groups and stays with one more sample holds of the groups of any
 groups_hold : (operator : VectorOperator) (g : Grouping) (P : List Sample → GroupsMap → Type 0) → P [] empty → ((done : List Sample) (other : Sample) (m : GroupsMap) → P done m → P (done ++ other ∷ []) (insert m (group_of g other.labels) (with_value operator (get m (group_of g other.labels)) other.value))) → (samples : List Sample) → P samples (groups operator g samples)
-groups_hold operator g P start step samples = behind [] samples start
+groups_hold operator g P start step samples = following [] samples start
   where
-    behind : (done rest : List Sample) → P done (groups operator g done) → P (done ++ rest) (groups operator g (done ++ rest))
-    behind done [] held = subst (λ l. P l (groups operator g l)) (sym (append-nil done)) held
-    behind done (other ∷ rest) held =
+    following : (done rest : List Sample) → P done (groups operator g done) → P (done ++ rest) (groups operator g (done ++ rest))
+    following done [] held = subst (λ l. P l (groups operator g l)) (sym (append-nil done)) held
+    following done (other ∷ rest) held =
         subst (λ l. P l (groups operator g l)) (append_assoc done (other ∷ []) rest)
-        (behind (done ++ other ∷ []) rest (subst (P (done ++ other ∷ [])) (sym (groups-push operator g done other)) (step done other (groups operator g done) held)))
+        (following (done ++ other ∷ []) rest (subst (P (done ++ other ∷ [])) (sym (groups-push operator g done other)) (step done other (groups operator g done) held)))
 
 -- ONE ENTRY SET
 

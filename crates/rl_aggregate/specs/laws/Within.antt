@@ -42,11 +42,11 @@ within-partial entries term t = record {
 
 -- a line counts once at most, with its bytes
 abbrev made : List ℕ → Option LabelSet → List Element
-made text found = map (λ behind. record { labels = behind; bytes = length text }) (option_to_list found)
+made text found = map (λ following. record { labels = following; bytes = length text }) (option_to_list found)
 
 few_elements : (text : List ℕ) (found : Option LabelSet) → (length (made text found) ≤ 1) × (sum_by (λ (e : Element). e.bytes) (made text found) ≤ length text)
 few_elements text None = (omega arith, omega arith)
-few_elements text (Some behind) = (omega arith, omega (arith, sum_by-cons (λ (e : Element). e.bytes) (record { labels = behind; bytes = length text }) []))
+few_elements text (Some following) = (omega arith, omega (arith, sum_by-cons (λ (e : Element). e.bytes) (record { labels = following; bytes = length text }) []))
 
 -- one line, if it stays
 within-one : (stages : List Stage) (labels : LabelSet) (text : List ℕ) → length text ≤ longest_line → IsWithin 1 (partial_of (elements_of stages labels text))

@@ -95,13 +95,13 @@ no_cut text are =
     let all : prefix_len (λ b. not (b == 46)) text ≡ length text = subst (λ t. prefix_len (λ b. not (b == 46)) t ≡ length text) (append-nil text) (run (λ b. not (b == 46)) text [] (weaker is_ascii_digit (λ b. not (b == 46)) is_no_point text are) refl) in
     ap (option_map (λ place. (take place text, drop (place + 1) text))) (cond-false (nat_lt (prefix_len (λ b. not (b == 46)) text) (length text)) _ _ (le-ltb _ _ (omega (arith, all))))
 
-cut : (front behind : List ℕ) → list_all is_ascii_digit front ≡ true → cut_at_point (front ++ 46 ∷ behind) ≡ Some (front, behind)
-cut front behind are =
-    let text = front ++ 46 ∷ behind in
-    let at : prefix_len (λ b. not (b == 46)) text ≡ length front = run (λ b. not (b == 46)) front (46 ∷ behind) (weaker is_ascii_digit (λ b. not (b == 46)) is_no_point front are) refl in
-    let inside : prefix_len (λ b. not (b == 46)) text < length text = omega (arith, at, length-append front (46 ∷ behind)) in
+cut : (front following : List ℕ) → list_all is_ascii_digit front ≡ true → cut_at_point (front ++ 46 ∷ following) ≡ Some (front, following)
+cut front following are =
+    let text = front ++ 46 ∷ following in
+    let at : prefix_len (λ b. not (b == 46)) text ≡ length front = run (λ b. not (b == 46)) front (46 ∷ following) (weaker is_ascii_digit (λ b. not (b == 46)) is_no_point front are) refl in
+    let inside : prefix_len (λ b. not (b == 46)) text < length text = omega (arith, at, length-append front (46 ∷ following)) in
     ap (option_map (λ place. (take place text, drop (place + 1) text))) (cond-true (nat_lt (prefix_len (λ b. not (b == 46)) text) (length text)) _ _ (lt-ltb _ _ inside) ∙ ap (λ n. Some n) at)
-    ∙ (λ i. Some (take-append_seam front (46 ∷ behind) i, drop-append-add front (46 ∷ behind) 1 i))
+    ∙ (λ i. Some (take-append_seam front (46 ∷ following) i, drop-append-add front (46 ∷ following) 1 i))
 
 -- Decimals.
 
@@ -115,12 +115,12 @@ again whole fraction zero below fits few =
     ∙ ap (λ n. Some (record { whole = whole; fraction = n; digits = 0 })) none
 again whole fraction (suc k) below fits few =
     let small : whole < 2 ^ 64 = omega (arith, below) in
-    let behind = digits_text (suc k) fraction in
+    let following = digits_text (suc k) fraction in
     let point : (suc k == 0) ≡ false = grind (arith, nat_tests) in
-    ap (λ b. decimal_of 15 (decimal whole ++ cond b [] (46 ∷ behind))) point
-    ∙ ap (decimal_of_parts 15 (decimal whole ++ 46 ∷ behind)) (cut (decimal whole) behind (decimal_digits whole small))
-    ∙ ap (option_and_then (λ n. option_map (λ m. record { whole = n; fraction = m; digits = length behind }) (number_of 9 behind))) (whole_again whole below)
-    ∙ ap (option_map (λ m. record { whole = whole; fraction = m; digits = length behind })) (fraction_again (suc k) fraction (omega arith) few fits)
+    ap (λ b. decimal_of 15 (decimal whole ++ cond b [] (46 ∷ following))) point
+    ∙ ap (decimal_of_parts 15 (decimal whole ++ 46 ∷ following)) (cut (decimal whole) following (decimal_digits whole small))
+    ∙ ap (option_and_then (λ n. option_map (λ m. record { whole = n; fraction = m; digits = length following }) (number_of 9 following))) (whole_again whole below)
+    ∙ ap (option_map (λ m. record { whole = whole; fraction = m; digits = length following })) (fraction_again (suc k) fraction (omega arith) few fits)
     ∙ ap (λ n. Some (record { whole = whole; fraction = fraction; digits = n })) (digits_length (suc k) fraction)
 
 record Limits (d : DecimalForm) : Type 0 where
@@ -131,8 +131,8 @@ record Limits (d : DecimalForm) : Type 0 where
 limits : (d : DecimalForm) → is_decimal d ≡ true → Limits d
 limits d h =
     let parts = and_parts (nat_lt d.whole (10 ^ 15)) (nat_lt d.fraction (10 ^ d.digits) && nat_le d.digits 9) h in
-    let behind = and_parts (nat_lt d.fraction (10 ^ d.digits)) (nat_le d.digits 9) parts.1 in
-    record { whole = ltb-true _ _ parts.0; fraction = ltb-true _ _ behind.0; digits = leb-true _ _ behind.1 }
+    let following = and_parts (nat_lt d.fraction (10 ^ d.digits)) (nat_le d.digits 9) parts.1 in
+    record { whole = ltb-true _ _ parts.0; fraction = ltb-true _ _ following.0; digits = leb-true _ _ following.1 }
 
 -- a decimal is read from its canonical text
 pub decimal_again : (d : DecimalForm) → is_decimal d ≡ true → decimal_of 15 (decimal_text d) ≡ Some d
@@ -150,9 +150,9 @@ row_read most n text = by_test (is_row most text) refl
     by_test false row h = cc
     by_test true row h =
         let parts = and_parts (nat_lt 0 (length text)) (nat_le (length text) most && list_all is_ascii_digit text) row in
-        let behind = and_parts (nat_le (length text) most) (list_all is_ascii_digit text) parts.1 in
+        let following = and_parts (nat_le (length text) most) (list_all is_ascii_digit text) parts.1 in
         let is : digits_value 10 text ≡ n = cc in
-        record { few = leb-true _ _ behind.0; below = λ digits few. subst (λ m. m < 10 ^ digits) is (row-below text digits behind.1 few) }
+        record { few = leb-true _ _ following.0; below = λ digits few. subst (λ m. m < 10 ^ digits) is (row-below text digits following.1 few) }
 
 kept : (d : DecimalForm) → Limits d → is_decimal d ≡ true
 kept d l = and_from (nat_lt d.whole (10 ^ 15)) _ (lt-ltb _ _ l.whole) (and_from (nat_lt d.fraction (10 ^ d.digits)) _ (lt-ltb _ _ l.fraction) (le-leb _ _ l.digits))
@@ -196,23 +196,23 @@ pub record Bytes (text : List ℕ) : Type 0 where
   pub digit : is_ascii_digit first ≡ true
 
 bytes_of : (text rest : List ℕ) → 0 < length text → list_all is_ascii_digit text ≡ true → list_all (is_byte_of true) rest ≡ true → Bytes (text ++ rest)
-bytes_of [] rest full are behind = absurd (omega arith)
-bytes_of (x ∷ xs) rest full are behind = record {
-  bytes = list_all-append (is_byte_of true) (x ∷ xs) rest ∙ and_from (list_all (is_byte_of true) (x ∷ xs)) _ (weaker is_ascii_digit (is_byte_of true) digit_of_number (x ∷ xs) are) behind;
+bytes_of [] rest full are following = absurd (omega arith)
+bytes_of (x ∷ xs) rest full are following = record {
+  bytes = list_all-append (is_byte_of true) (x ∷ xs) rest ∙ and_from (list_all (is_byte_of true) (x ∷ xs)) _ (weaker is_ascii_digit (is_byte_of true) digit_of_number (x ∷ xs) are) following;
   first = x;
   others = xs ++ rest;
   is = refl;
   digit = (and_parts (is_ascii_digit x) (list_all is_ascii_digit xs) are).0;
 }
 
-behind_point : (b : Bool) (k n : ℕ) → list_all (is_byte_of true) (cond b [] (46 ∷ digits_text k n)) ≡ true
-behind_point true k n = refl
-behind_point false k n = weaker is_ascii_digit (is_byte_of true) digit_of_number (digits_text k n) (digits_are k n)
+after_point : (b : Bool) (k n : ℕ) → list_all (is_byte_of true) (cond b [] (46 ∷ digits_text k n)) ≡ true
+after_point true k n = refl
+after_point false k n = weaker is_ascii_digit (is_byte_of true) digit_of_number (digits_text k n) (digits_are k n)
 
 pub decimal_bytes : (d : DecimalForm) → is_decimal d ≡ true → Bytes (decimal_text d)
 decimal_bytes d h =
     let small : d.whole < 2 ^ 64 = let below = (limits d h).whole in omega (arith, below) in
-    bytes_of (decimal d.whole) (cond (d.digits == 0) [] (46 ∷ digits_text d.digits d.fraction)) (decimal_nonempty d.whole small) (decimal_digits d.whole small) (behind_point (d.digits == 0) d.digits d.fraction)
+    bytes_of (decimal d.whole) (cond (d.digits == 0) [] (46 ∷ digits_text d.digits d.fraction)) (decimal_nonempty d.whole small) (decimal_digits d.whole small) (after_point (d.digits == 0) d.digits d.fraction)
 
 front_again : (of_number : Bool) (front rest : List ℕ) → list_all (is_byte_of of_number) front ≡ true → prefix_len (is_byte_of of_number) rest ≡ 0 → front_of of_number (front ++ rest) ≡ (front, rest)
 front_again of_number front rest are stop =
@@ -307,11 +307,11 @@ parts_again (suc most) part (other ∷ others) few h =
     let proper = and_parts (is_decimal part.number) (list_all (λ p. is_decimal p.number) (other ∷ others)) h in
     let rest = flat_map part_text (other ∷ others) in
     let bytes = decimal_bytes other.number (and_parts (is_decimal other.number) (list_all (λ p. is_decimal p.number) others) proper.1).0 in
-    let behind = (bytes.others ++ duration_unit_text other.unit) ++ flat_map part_text others in
-    let is : rest ≡ bytes.first ∷ behind = ap (λ t. (t ++ duration_unit_text other.unit) ++ flat_map part_text others) bytes.is in
-    let stop : prefix_len (is_byte_of false) rest ≡ 0 = ap (prefix_len (is_byte_of false)) is ∙ ap (λ t. cond (not (t || bytes.first == 46)) (1 + prefix_len (is_byte_of false) behind) 0) bytes.digit in
+    let following = (bytes.others ++ duration_unit_text other.unit) ++ flat_map part_text others in
+    let is : rest ≡ bytes.first ∷ following = ap (λ t. (t ++ duration_unit_text other.unit) ++ flat_map part_text others) bytes.is in
+    let stop : prefix_len (is_byte_of false) rest ≡ 0 = ap (prefix_len (is_byte_of false)) is ∙ ap (λ t. cond (not (t || bytes.first == 46)) (1 + prefix_len (is_byte_of false) following) 0) bytes.digit in
     ap (option_and_then (part_then (parts_of most))) (part_again part rest proper.0 stop)
-    ∙ then_more (parts_of most) part bytes.first behind rest is
+    ∙ then_more (parts_of most) part bytes.first following rest is
     ∙ ap (option_map (λ ps. part ∷ ps)) (parts_again most other others (omega (arith, few)) proper.1)
 
 -- a duration is read from its canonical text
@@ -319,8 +319,8 @@ pub duration_again : (parts : List DurationPart) → is_duration parts ≡ true 
 unfolding duration_of
 duration_again [] h = absurd (true≢false (sym h))
 duration_again (part ∷ others) h =
-    let behind = (and_parts (nat_lt 0 (length (part ∷ others))) (nat_le (length (part ∷ others)) 8 && list_all (λ p. is_decimal p.number) (part ∷ others)) h).1 in
-    let both = and_parts (nat_le (length (part ∷ others)) 8) (list_all (λ p. is_decimal p.number) (part ∷ others)) behind in
+    let following = (and_parts (nat_lt 0 (length (part ∷ others))) (nat_le (length (part ∷ others)) 8 && list_all (λ p. is_decimal p.number) (part ∷ others)) h).1 in
+    let both = and_parts (nat_le (length (part ∷ others)) 8) (list_all (λ p. is_decimal p.number) (part ∷ others)) following in
     let few : length (part ∷ others) ≤ 8 = leb-true _ _ both.0 in
     parts_again 8 part others (omega (arith, few)) both.1
 

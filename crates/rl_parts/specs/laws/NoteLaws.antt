@@ -9,24 +9,24 @@ use Rattle.std.proofs.lemmas.List.Elements.{filter-append}
 use Rattle.std.proofs.lemmas.List.Sorted.{IsPermutation-refl, IsPermutation-cons, IsPermutation-trans, IsPermutation-middle, IsPermutation-map}
 use Rattle.rl_labels.specs.declared.entry.Entry.{Entry}
 use Rattle.rl_parts.specs.StreamParts.{Note, PartView, listed, notes_of}
-use Rattle.rl_parts.specs.Changes.{unwritten_count, own_or_next, behind_next, with_notes, AreNoted}
+use Rattle.rl_parts.specs.Changes.{unwritten_count, own_or_next, after_next, with_notes, AreNoted}
 
 -- what is said of entries alone stays
 pub with_notes-keeps : (P : List Entry → Type 0) (parts : List PartView) (notes : List Note) → AllByRecursion (λ part. P part.entries) parts → AllByRecursion (λ part. P part.entries) (with_notes parts notes)
 with_notes-keeps P [] notes h = tt
-with_notes-keeps P (part ∷ parts) notes h = (h.0, with_notes-keeps P parts (behind_next part.note notes) h.1)
+with_notes-keeps P (part ∷ parts) notes h = (h.0, with_notes-keeps P parts (after_next part.note notes) h.1)
 
 -- and so do the entries
 pub entries-with_notes : (parts : List PartView) (notes : List Note) → flat_map (λ part. part.entries) (with_notes parts notes) ≡ flat_map (λ part. part.entries) parts
 entries-with_notes [] notes = refl
-entries-with_notes (part ∷ parts) notes = ap (λ es. part.entries ++ es) (entries-with_notes parts (behind_next part.note notes))
+entries-with_notes (part ∷ parts) notes = ap (λ es. part.entries ++ es) (entries-with_notes parts (after_next part.note notes))
 
 -- a note of its own stays, and so does a part without one where none is left
 own_stays : (note : Option Note) → own_or_next note [] ≡ note
 own_stays None = refl
 own_stays (Some note) = refl
 
-none_left : (note : Option Note) → behind_next note [] ≡ []
+none_left : (note : Option Note) → after_next note [] ≡ []
 none_left None = refl
 none_left (Some note) = refl
 
@@ -55,7 +55,7 @@ with_notes-append (part ∷ parts) others notes more all = at (λ left h. with_n
   where
     at : ((left : List Note) → length left ≡ unwritten_count parts → with_notes (parts ++ others) (left ++ more) ≡ with_notes parts left ++ with_notes others more)
         → (note : Option Note) (notes : List Note) → length notes ≡ count_with note (unwritten_count parts)
-        → record { entries = part.entries; note = own_or_next note (notes ++ more) } ∷ with_notes (parts ++ others) (behind_next note (notes ++ more)) ≡ record { entries = part.entries; note = own_or_next note notes } ∷ (with_notes parts (behind_next note notes) ++ with_notes others more)
+        → record { entries = part.entries; note = own_or_next note (notes ++ more) } ∷ with_notes (parts ++ others) (after_next note (notes ++ more)) ≡ record { entries = part.entries; note = own_or_next note notes } ∷ (with_notes parts (after_next note notes) ++ with_notes others more)
     at others_do (Some own) notes h = ap (λ ps. record { entries = part.entries; note = Some own } ∷ ps) (others_do notes h)
     at others_do None [] h = cc
     at others_do None (note ∷ notes) h = ap (λ ps. record { entries = part.entries; note = Some note } ∷ ps) (others_do notes (omega (arith, h)))
@@ -68,7 +68,7 @@ with_notes-rest (part ∷ parts) others notes few = at (λ left h. with_notes-re
   where
     at : ((left : List Note) → length left ≤ unwritten_count parts → with_notes (parts ++ others) left ≡ with_notes parts left ++ others)
         → (note : Option Note) (notes : List Note) → length notes ≤ count_with note (unwritten_count parts)
-        → record { entries = part.entries; note = own_or_next note notes } ∷ with_notes (parts ++ others) (behind_next note notes) ≡ record { entries = part.entries; note = own_or_next note notes } ∷ (with_notes parts (behind_next note notes) ++ others)
+        → record { entries = part.entries; note = own_or_next note notes } ∷ with_notes (parts ++ others) (after_next note notes) ≡ record { entries = part.entries; note = own_or_next note notes } ∷ (with_notes parts (after_next note notes) ++ others)
     at others_do (Some own) notes h = ap (λ ps. record { entries = part.entries; note = Some own } ∷ ps) (others_do notes h)
     at others_do None [] h = ap (λ ps. record { entries = part.entries; note = None } ∷ ps) (others_do [] (omega arith))
     at others_do None (note ∷ notes) h = ap (λ ps. record { entries = part.entries; note = Some note } ∷ ps) (others_do notes (omega (arith, h)))
@@ -82,7 +82,7 @@ count-with_notes (part ∷ parts) notes few =
   where
     at : ((left : List Note) → length left ≤ unwritten_count parts → unwritten_count (with_notes parts left) + length left ≡ unwritten_count parts)
         → (note : Option Note) (notes : List Note) → length notes ≤ count_with note (unwritten_count parts)
-        → unwritten_count (record { entries = part.entries; note = own_or_next note notes } ∷ with_notes parts (behind_next note notes)) + length notes ≡ count_with note (unwritten_count parts)
+        → unwritten_count (record { entries = part.entries; note = own_or_next note notes } ∷ with_notes parts (after_next note notes)) + length notes ≡ count_with note (unwritten_count parts)
     at others_do (Some own) notes h = others_do notes h
     at others_do None [] h = omega (arith, others_do [] (omega arith))
     at others_do None (note ∷ notes) h = omega (arith, others_do notes (omega (arith, h)))
@@ -139,7 +139,7 @@ notes-with_notes (part ∷ parts) notes few = at (λ left h. notes-with_notes pa
   where
     at : ((left : List Note) → length left ≤ unwritten_count parts → IsPermutation (notes_of parts ++ left) (notes_of (with_notes parts left)))
         → (note : Option Note) (notes : List Note) → length notes ≤ count_with note (unwritten_count parts)
-        → IsPermutation ((listed note ++ notes_of parts) ++ notes) (listed (own_or_next note notes) ++ notes_of (with_notes parts (behind_next note notes)))
+        → IsPermutation ((listed note ++ notes_of parts) ++ notes) (listed (own_or_next note notes) ++ notes_of (with_notes parts (after_next note notes)))
     at others_do (Some own) notes h = IsPermutation-cons own _ _ (others_do notes h)
     at others_do None [] h = others_do [] (omega arith)
     at others_do None (note ∷ notes) h = IsPermutation-trans _ _ _ (IsPermutation-middle (notes_of parts) note notes) (IsPermutation-cons note _ _ (others_do notes (omega (arith, h))))

@@ -5,22 +5,22 @@ use Rattle.std.specs.Str.{IsUtf8, IsCharBoundary}
 use Rattle.std.proofs.lemmas.Bool.{eqb-true, true≢false}
 use Rattle.std.proofs.lemmas.List.Sums.{prefix_len-le-length, prefix_len_passes}
 use Rattle.std.proofs.lemmas.Str.{IsCharBoundary-from_take, IsCharBoundary-after_ascii}
-use Rattle.rl_plain.specs.Runs.{IsCutBehind}
+use Rattle.rl_plain.specs.Runs.{IsCutAfter}
 
 -- a cut after an ASCII byte, or at the front
-pub behind_ascii : (bytes : List ℕ) (n : ℕ) → IsUtf8 bytes → n ≤ length bytes → (0 < n → get_or bytes (n - 1) 0 < 128) → IsCharBoundary bytes n
-behind_ascii bytes zero utf8 fits ascii = IsCharBoundary-from_take bytes 0 utf8 (omega arith) ([], (refl, refl))
-behind_ascii bytes (suc m) utf8 fits ascii =
+pub rest_ascii : (bytes : List ℕ) (n : ℕ) → IsUtf8 bytes → n ≤ length bytes → (0 < n → get_or bytes (n - 1) 0 < 128) → IsCharBoundary bytes n
+rest_ascii bytes zero utf8 fits ascii = IsCharBoundary-from_take bytes 0 utf8 (omega arith) ([], (refl, refl))
+rest_ascii bytes (suc m) utf8 fits ascii =
     let same : suc m - 1 ≡ m = omega arith in
     let next : m + 1 ≡ suc m = omega arith in
     subst (IsCharBoundary bytes) next (IsCharBoundary-after_ascii bytes m utf8 (omega arith) (subst (λ k. get_or bytes k 0 < 128) same (ascii (omega arith))))
 
 -- after a run of ASCII bytes
-pub run_boundary : (p : ℕ → Bool) → ((b : ℕ) → p b ≡ true → b < 128) → IsCutBehind p
-run_boundary p small bytes utf8 = behind_ascii bytes (prefix_len p bytes) utf8 (prefix_len-le-length p bytes) (λ some. small _ (prefix_len_passes p bytes (prefix_len p bytes - 1) 0 (omega arith)))
+pub run_boundary : (p : ℕ → Bool) → ((b : ℕ) → p b ≡ true → b < 128) → IsCutAfter p
+run_boundary p small bytes utf8 = rest_ascii bytes (prefix_len p bytes) utf8 (prefix_len-le-length p bytes) (λ some. small _ (prefix_len_passes p bytes (prefix_len p bytes - 1) 0 (omega arith)))
 
 -- before a byte that ends a run, which is ASCII, or at the end
-pub stop_boundary : (p : ℕ → Bool) → ((b : ℕ) → p b ≡ false → b < 128) → IsCutBehind p
+pub stop_boundary : (p : ℕ → Bool) → ((b : ℕ) → p b ≡ false → b < 128) → IsCutAfter p
 stop_boundary p small bytes utf8 = at_stop bytes
   where
     at_stop : (bytes : List ℕ) → IsCharBoundary bytes (prefix_len p bytes)

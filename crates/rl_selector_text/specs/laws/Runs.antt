@@ -2,7 +2,7 @@
 use Rattle.std.proofs.Common.{◌≡◌, ℕ, ◌<◌, true, false, arith}
 use Rattle.std.proofs.lemmas.Bool.Decides.{nat_tests}
 use Rattle.rl_labels.specs.Name.{is_name_byte}
-use Rattle.rl_plain.specs.Runs.{IsCutBehind}
+use Rattle.rl_plain.specs.Runs.{IsCutAfter}
 use Rattle.rl_plain.specs.laws.Cuts.{run_boundary, stop_boundary}
 use Rattle.rl_selector_text.specs.Lexing.{is_number_byte, is_plain, is_raw, is_in_run}
 use Rattle.rl_selector_text.specs.declared.lexer.Run.{Run}
@@ -21,7 +21,7 @@ pub raw_stop : (b : ℕ) → is_raw b ≡ false → b < 128
 raw_stop b h = grind (arith, nat_tests)
 
 -- a text may be cut after a run
-pub run_ends : (run : Run) → IsCutBehind (is_in_run run)
+pub run_ends : (run : Run) → IsCutAfter (is_in_run run)
 run_ends runs.Word = run_boundary is_name_byte name_byte_small
 run_ends runs.Number = stop_boundary is_number_byte number_stop
 run_ends runs.Plain = stop_boundary is_plain plain_stop

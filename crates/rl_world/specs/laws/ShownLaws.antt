@@ -64,9 +64,9 @@ own_first : (f : Term → Partial) (own others : List Term) → take (length own
 own_first f [] others = refl
 own_first f (term ∷ own) others = ap (λ rest. f term ∷ rest) (own_first f own others)
 
-others_behind : (f : Term → Partial) (own others : List Term) → drop (length own) (map f (own ++ others)) ≡ map f others
-others_behind f [] others = refl
-others_behind f (term ∷ own) others = others_behind f own others
+others_after : (f : Term → Partial) (own others : List Term) → drop (length own) (map f (own ++ others)) ≡ map f others
+others_after f [] others = refl
+others_after f (term ∷ own) others = others_after f own others
 
 -- so each rule is evaluated on the partials of its own terms
 pub results_from-each : (limit t : ℕ) (f : Term → Partial) (rules : List Rule) (alerts : List (List Alert)) → results_from limit t rules alerts (map f (flat_map (λ rule. terms_of rule.query) rules)) ≡ results_of limit t (λ rule. finished rule.query (map f (terms_of rule.query))) rules alerts
@@ -74,7 +74,7 @@ results_from-each limit t f [] alerts = refl
 results_from-each limit t f (rule ∷ rules) alerts =
     let own = terms_of rule.query in
     let others = flat_map (λ other. terms_of other.query) rules in
-    λ k. result_of limit t rule (first_alerts alerts) (finished rule.query (own_first f own others k)) ∷ (ap (results_from limit t rules (drop 1 alerts)) (others_behind f own others) ∙ results_from-each limit t f rules (drop 1 alerts)) k
+    λ k. result_of limit t rule (first_alerts alerts) (finished rule.query (own_first f own others k)) ∷ (ap (results_from limit t rules (drop 1 alerts)) (others_after f own others) ∙ results_from-each limit t f rules (drop 1 alerts)) k
 
 -- the evaluation on kept partials is the one from scratch
 pub kept_evaluation : (group : Group) (alerts : List (List Alert)) (opened : OpenEvaluation (List Entry)) → evaluation_from group alerts (kept_open (group_terms group) opened) ≡ evaluation_of group alerts opened

@@ -15,7 +15,7 @@ returns-in_err-label c =
 pub loop-preserved : goal.loop-preserved
 loop-preserved c =
     let here = ap (λ pairs. label_at (last_of pairs) c.loop.rest.now) (sym c.deref.ensures.value) ∙ c.in_ok-label.ensures in
-    rw c.in_ok-push.ensures.items (goes_on label_at c.loop.pairs.items c.args.count c.loop.counter c.loop.rest.now c.in_ok-label.label c.in_ok-label.behind.now _ c.loop-test.true here c.loop.invariant)
+    rw c.in_ok-push.ensures.items (goes_on label_at c.loop.pairs.items c.args.count c.loop.counter c.loop.rest.now c.in_ok-label.label c.in_ok-label.following.now _ c.loop-test.true here c.loop.invariant)
 
 pub returns : goal.returns
 returns c = is_done label_at c.loop.pairs.items c.args.count c.loop.counter c.loop.rest.now _ c.loop-test.false c.loop.invariant

@@ -4,8 +4,8 @@ use Rattle.std.specs.declared.cmp.Ordering.TheVariants.{Less, Equal, Greater}
 use Rattle.std.specs.FinMap.Entries.{find, is_sorted}
 use Rattle.std.proofs.lemmas.List.{length-take, length-drop}
 use Rattle.rl_labels.specs.Name.{name_cmp}
-use Rattle.rl_labels.proofs.Building.{find_behind}
-use Rattle.rl_labels.proofs.Halves.{sorted_front, sorted_behind, some_left, find_before, find_at}
+use Rattle.rl_labels.proofs.Building.{find_after}
+use Rattle.rl_labels.proofs.Halves.{sorted_front, sorted_after, some_left, find_before, find_at}
 use Rattle.rl_labels.proofs.labels.value_by_halves.Goals as goal
 
 pub loop-rest-preserved-in-Less : goal.loop-rest-preserved-in-Less
@@ -44,6 +44,6 @@ loop-rest-preserved c =
     let left = c.split_at-in-Greater.ensures.back ∙ ap (λ n. drop n rest) next in
     record {
       shorter = omega (arith, ap length left, length-drop (suc i) rest);
-      sorted = ap (is_sorted name_cmp) left ∙ sorted_behind (suc i) rest c.loop-rest.invariant.sorted;
-      same = ap (find name_cmp name) left ∙ sym (find_behind name rest i c.index-rest-middle.result c.loop-rest.invariant.sorted (omega arith) c.index-rest-middle.is above) ∙ c.loop-rest.invariant.same;
+      sorted = ap (is_sorted name_cmp) left ∙ sorted_after (suc i) rest c.loop-rest.invariant.sorted;
+      same = ap (find name_cmp name) left ∙ sym (find_after name rest i c.index-rest-middle.result c.loop-rest.invariant.sorted (omega arith) c.index-rest-middle.is above) ∙ c.loop-rest.invariant.same;
     }

@@ -8,7 +8,7 @@ loop-turn-init c = subst (λ parts. Left c.args.text.now parts 8 c.args.text.now
 
 pub returns-then-is_empty : goal.returns-then-is_empty
 returns-then-is_empty c =
-    last_there c.args.text.now c.loop-turn.parts.items (8 - c.loop-turn._turn) c.loop-turn.rest.now c.in-Some.behind.now c.in-Some.part c.in-Some.ensures (sym c.if-is_empty.ensures) (omega (arith, c.loop-turn-test.true)) c.loop-turn.invariant
+    last_there c.args.text.now c.loop-turn.parts.items (8 - c.loop-turn._turn) c.loop-turn.rest.now c.in-Some.following.now c.in-Some.part c.in-Some.ensures (sym c.if-is_empty.ensures) (omega (arith, c.loop-turn-test.true)) c.loop-turn.invariant
     ∙ ap (λ parts. Some parts) (sym c.push.ensures.items)
 
 pub loop-turn-preserved : goal.loop-turn-preserved
@@ -16,5 +16,5 @@ loop-turn-preserved c =
     let turn = c.loop-turn._turn in
     let one_less : 8 - turn ≡ suc (8 - (turn + 1)) = omega (arith, c.loop-turn-test.true) in
     let so_far = subst (λ left. Left c.args.text.now c.loop-turn.parts.items left c.loop-turn.rest.now) one_less c.loop-turn.invariant in
-    subst (λ parts. Left c.args.text.now parts (8 - (turn + 1)) c.in-Some.behind.now) (sym c.push.ensures.items)
-    (part_there c.args.text.now c.loop-turn.parts.items (8 - (turn + 1)) c.loop-turn.rest.now c.in-Some.behind.now c.in-Some.part c.in-Some.ensures (sym c.if-is_empty.ensures) so_far)
+    subst (λ parts. Left c.args.text.now parts (8 - (turn + 1)) c.in-Some.following.now) (sym c.push.ensures.items)
+    (part_there c.args.text.now c.loop-turn.parts.items (8 - (turn + 1)) c.loop-turn.rest.now c.in-Some.following.now c.in-Some.part c.in-Some.ensures (sym c.if-is_empty.ensures) so_far)

@@ -1,9 +1,9 @@
 -- The stages so far are line filters.
 use Rattle.std.proofs.Common.{◌≡◌, ℕ, List, drop, map}
 use Rattle.rl_labels.specs.LabelSet.{LabelSet}
-use Rattle.rl_pipeline.specs.Running.{labels_behind}
+use Rattle.rl_pipeline.specs.Running.{labels_after}
 use Rattle.rl_pipeline.specs.Steps.{step_stage}
 use Rattle.rl_pipeline.proofs.running.filters_in_front.Given as goal
 
 abbrev pub invariant-loop-place : goal.invariant-loop-place
-invariant-loop-place l = (line : List ℕ) (labels : LabelSet) → labels_behind (map step_stage l.steps) line labels ≡ labels_behind (map step_stage (drop l.place l.steps)) line labels
+invariant-loop-place l = (line : List ℕ) (labels : LabelSet) → labels_after (map step_stage l.steps) line labels ≡ labels_after (map step_stage (drop l.place l.steps)) line labels

@@ -1,11 +1,11 @@
 -- What is left of the stages gives what those from the index on give, and all are as they were.
 use Rattle.std.proofs.Common.{◌≡◌, drop, map}
-use Rattle.rl_pipeline.specs.Running.{labels_behind}
+use Rattle.rl_pipeline.specs.Running.{labels_after}
 use Rattle.rl_pipeline.specs.Steps.{step_stage}
 use Rattle.rl_pipeline.proofs.running.send_from.Given as goal
 
 abbrev pub invariant-loop-index : goal.invariant-loop-index
 invariant-loop-index l = record {
-  sent : labels_behind (map step_stage (drop l.index l.initial.steps)) l.line l.draft ≡ labels_behind (map step_stage (drop l.place l.initial.steps)) l.line l.initial.draft;
+  sent : labels_after (map step_stage (drop l.index l.initial.steps)) l.line l.draft ≡ labels_after (map step_stage (drop l.place l.initial.steps)) l.line l.initial.draft;
   same : l.steps ≡ l.initial.steps;
 }

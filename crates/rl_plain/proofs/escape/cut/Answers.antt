@@ -11,8 +11,8 @@ range-plain-requires-clause-end_boundary c =
     let ascii = escape_ascii c.args.table.now byte c.in-Some.letter c.requires (rw c.as_bytes-byte-items.ensures.value at c.in-Some.ensures) in
     IsCharBoundary-before_ascii c.args.value.now c.loop-index.index (omega arith) ascii.0
 
-pub range_from-behind-requires : goal.range_from-behind-requires
-range_from-behind-requires c = λ _.
+pub range_from-following-requires : goal.range_from-following-requires
+range_from-following-requires c = λ _.
     let byte = get_or c.args.value.now c.loop-index.index 0 in
     let ascii = escape_ascii c.args.table.now byte c.in-Some.letter c.requires (rw c.as_bytes-byte-items.ensures.value at c.in-Some.ensures) in
     IsCharBoundary-after_ascii c.args.value.now c.loop-index.index c.utf8.value (omega arith) ascii.0
@@ -24,7 +24,7 @@ returns-in-Some c =
     let letter_is : escape c.args.table.now (get_or value i 0) ≡ 92 ∷ c.in-Some.letter ∷ [] = rw c.as_bytes-byte-items.ensures.value at c.in-Some.ensures in
     let ascii = escape_ascii c.args.table.now (get_or value i 0) c.in-Some.letter c.requires letter_is in (
       escaped_at c.args.table.now value i c.in-Some.letter (omega arith) c.loop-index.invariant letter_is
-          ∙ rw (c.range-plain.ensures.value, c.range_from-behind.ensures.value, c.from.ensures) (search rules),
+          ∙ rw (c.range-plain.ensures.value, c.range_from-following.ensures.value, c.from.ensures) (search rules),
       omega arith,
       omega (arith, ascii.1),
     )

@@ -11,7 +11,7 @@ loop-byte-preserved c =
     let i = c.loop-byte.byte-index in
     let left = subst (λ rest. Left bytes rest c.loop-byte.seconds c.loop-byte.rank c.loop-byte.digits) (drop_more bytes i 0 c.loop-byte-test.true) c.loop-byte.invariant in
     elim c.if-is_ascii_digit.branch [
-      | then-is_ascii_digit w ↦ rw (w.seconds-is, w.rank-is, w.digits-is, w.digit_behind.ensures.value) (digit_turn bytes (drop (i + 1) bytes) c.loop-byte.seconds c.loop-byte.rank (get_or bytes i 0) c.loop-byte.digits (sym c.is_ascii_digit.ensures.value ∙ w.if-is_ascii_digit.true) left)
+      | then-is_ascii_digit w ↦ rw (w.seconds-is, w.rank-is, w.digits-is, w.digit_after.ensures.value) (digit_turn bytes (drop (i + 1) bytes) c.loop-byte.seconds c.loop-byte.rank (get_or bytes i 0) c.loop-byte.digits (sym c.is_ascii_digit.ensures.value ∙ w.if-is_ascii_digit.true) left)
       | else-is_ascii_digit+in_ok-number+in_ok-unit+else-next-rank w ↦
           rw (w.seconds-is ∙ w.min-seconds.ensures, w.rank-is, w.digits-is) (unit_turn bytes (drop (i + 1) bytes) c.loop-byte.seconds c.loop-byte.rank (get_or bytes i 0) w.in_ok-number.number (w.in_ok-unit.unit, w.in_ok-unit.next)
           (sym c.is_ascii_digit.ensures.value ∙ w.if-is_ascii_digit.false) (sym w.in_ok-unit.ensures.unit) w.if-next-rank.false (subst (Left bytes (get_or bytes i 0 ∷ drop (i + 1) bytes) c.loop-byte.seconds c.loop-byte.rank) w.in_ok-number.was left))

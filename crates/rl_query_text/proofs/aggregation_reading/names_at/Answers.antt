@@ -2,7 +2,7 @@
 use Rattle.std.proofs.Common.{◌-◌, ◌+◌, suc, length, Bool, Ok, refl, sym, ap, ◌∙◌, arith}
 use Rattle.rl_query_text.specs.AggregationReading.{named_at}
 use Rattle.rl_selector_text.specs.Parsing.{listed_at}
-use Rattle.rl_selector_text.proofs.Elements.{none_before, one_more}
+use Rattle.rl_selector_text.proofs.Items.{none_before, one_more}
 use Rattle.rl_selector_text.proofs.Finding.{first_stops, fails_on}
 use Rattle.rl_query_text.proofs.aggregation_reading.names_at.Goals as goal
 
@@ -18,13 +18,13 @@ returns-in_err-name c =
 pub returns-then-not-more : goal.returns-then-not-more
 unfolding listed_at
 returns-then-not-more c =
-    let last = c.in_ok-name.ensures ∙ ap (λ (b : Bool). Ok (c.in_ok-name.name, b, c.in_ok-name.behind.now)) c.if-not-more.true in
+    let last = c.in_ok-name.ensures ∙ ap (λ (b : Bool). Ok (c.in_ok-name.name, b, c.in_ok-name.following.now)) c.if-not-more.true in
     rw c.in_ok-push.ensures.items (sym (c.loop-turn.invariant (suc (length c.args.lexemes.now - (c.loop-turn._turn + 1))) (omega arith)) ∙ rw last refl)
 
 pub loop-turn-preserved : goal.loop-turn-preserved
 unfolding listed_at
 loop-turn-preserved c =
-    let more = c.in_ok-name.ensures ∙ ap (λ (b : Bool). Ok (c.in_ok-name.name, b, c.in_ok-name.behind.now)) c.if-not-more.false in
+    let more = c.in_ok-name.ensures ∙ ap (λ (b : Bool). Ok (c.in_ok-name.name, b, c.in_ok-name.following.now)) c.if-not-more.false in
     λ n many. rw c.in_ok-push.ensures.items (one_more _ (c.in_ok-name.name) _ _ (rw more at (c.loop-turn.invariant (suc n) (omega arith))))
 
 pub returns : goal.returns

@@ -2,7 +2,7 @@
 use Rattle.std.proofs.Common.{◌≡◌, ℕ, ◌+◌, length}
 use Rattle.rl_query_text.specs.AggregationReading.{named_at}
 use Rattle.rl_selector_text.specs.Parsing.{listed_at}
-use Rattle.rl_selector_text.proofs.Elements.{with_front}
+use Rattle.rl_selector_text.proofs.Items.{with_front}
 use Rattle.rl_query_text.proofs.aggregation_reading.names_at.Given as goal
 
 abbrev pub invariant-loop-turn : goal.invariant-loop-turn

@@ -9,7 +9,7 @@ loop-number-preserved c =
     let loop = c.loop-number in
     let repeat = c.args.repeat in
     let rest = lines_from repeat c.args.index (loop.number + 1) (repeat.times - (loop.number + 1)) in
-    let moment = c.saturating_add.ensures ∙ ap (λ behind. sum_up_to repeat.steps.from behind) c.saturating_mul.ensures in
+    let moment = c.saturating_add.ensures ∙ ap (λ following. sum_up_to repeat.steps.from following) c.saturating_mul.ensures in
     let line = line_is repeat c.args.index loop.number _ _ moment c.saturating_add-in-loop-number.ensures in
     ap (λ items. items ++ rest) (c.in_ok-push.ensures.items ∙ ap (λ one. loop.lines.items ++ one ∷ []) line)
     ∙ append_assoc loop.lines.items (line_at repeat c.args.index loop.number ∷ []) rest

@@ -3,7 +3,7 @@ use Rattle.std.proofs.Common.{◌≡◌, ◌++◌, ◌∷◌, [], map, ◌-◌, 
 use Rattle.std.proofs.lemmas.List.{map_push}
 use Rattle.rl_query.specs.Form.{matcher_form}
 use Rattle.rl_selector_text.specs.Parsing.{matchers_at, listed_at}
-use Rattle.rl_selector_text.proofs.Elements.{none_before, one_more}
+use Rattle.rl_selector_text.proofs.Items.{none_before, one_more}
 use Rattle.rl_selector_text.proofs.Finding.{first_stops, fails_on}
 use Rattle.rl_selector_text.proofs.selector.matchers_at.Goals as goal
 
@@ -20,14 +20,14 @@ pub returns-then-not-more : goal.returns-then-not-more
 unfolding listed_at
 returns-then-not-more c =
     let e : map matcher_form c.push.new.self.items ≡ map matcher_form c.loop-turn.matchers.items ++ matcher_form c.in_ok-matcher.matcher ∷ [] = rw c.in_ok-push.ensures.items (map_push _ c.loop-turn.matchers.items c.in_ok-matcher.matcher) in
-    let last = c.in_ok-matcher.ensures ∙ ap (λ (b : Bool). Ok (matcher_form c.in_ok-matcher.matcher, b, c.in_ok-matcher.behind.now)) c.if-not-more.true in
+    let last = c.in_ok-matcher.ensures ∙ ap (λ (b : Bool). Ok (matcher_form c.in_ok-matcher.matcher, b, c.in_ok-matcher.following.now)) c.if-not-more.true in
     rw e (sym (c.loop-turn.invariant (suc (length c.args.lexemes.now - (c.loop-turn._turn + 1))) (omega arith)) ∙ rw last refl)
 
 pub loop-turn-preserved : goal.loop-turn-preserved
 unfolding listed_at
 loop-turn-preserved c =
     let e : map matcher_form c.push.new.self.items ≡ map matcher_form c.loop-turn.matchers.items ++ matcher_form c.in_ok-matcher.matcher ∷ [] = rw c.in_ok-push.ensures.items (map_push _ c.loop-turn.matchers.items c.in_ok-matcher.matcher) in
-    let more = c.in_ok-matcher.ensures ∙ ap (λ (b : Bool). Ok (matcher_form c.in_ok-matcher.matcher, b, c.in_ok-matcher.behind.now)) c.if-not-more.false in
+    let more = c.in_ok-matcher.ensures ∙ ap (λ (b : Bool). Ok (matcher_form c.in_ok-matcher.matcher, b, c.in_ok-matcher.following.now)) c.if-not-more.false in
     λ n many. rw e (one_more _ (matcher_form c.in_ok-matcher.matcher) _ _ (rw more at (c.loop-turn.invariant (suc n) (omega arith))))
 
 pub returns : goal.returns

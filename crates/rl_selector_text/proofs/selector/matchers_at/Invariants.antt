@@ -2,7 +2,7 @@
 use Rattle.std.proofs.Common.{◌≡◌, ℕ, ◌+◌, length, map}
 use Rattle.rl_query.specs.Form.{matcher_form}
 use Rattle.rl_selector_text.specs.Parsing.{matchers_at}
-use Rattle.rl_selector_text.proofs.Elements.{with_front}
+use Rattle.rl_selector_text.proofs.Items.{with_front}
 use Rattle.rl_selector_text.proofs.selector.matchers_at.Given as goal
 
 abbrev pub invariant-loop-turn : goal.invariant-loop-turn

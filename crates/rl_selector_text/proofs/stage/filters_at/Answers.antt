@@ -4,7 +4,7 @@ use Rattle.std.proofs.lemmas.List.{map_push, length_push}
 use Rattle.rl_query.specs.Form.{filter_form}
 use Rattle.rl_query.specs.Limits.{most_stages}
 use Rattle.rl_selector_text.specs.Parsing.{filters_at}
-use Rattle.rl_selector_text.proofs.Elements.{none_before, one_more}
+use Rattle.rl_selector_text.proofs.Items.{none_before, one_more}
 use Rattle.rl_selector_text.proofs.FilterProductions.{filters_turn}
 use Rattle.rl_selector_text.proofs.Finding.{first_stops, fails_on}
 use Rattle.rl_selector_text.proofs.stage.filters_at.Goals as goal

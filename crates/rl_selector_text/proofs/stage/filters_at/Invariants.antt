@@ -3,7 +3,7 @@ use Rattle.std.proofs.Common.{◌≡◌, ℕ, ◌+◌, ◌≤◌, length, map}
 use Rattle.rl_query.specs.Form.{filter_form}
 use Rattle.rl_query.specs.Limits.{most_stages}
 use Rattle.rl_selector_text.specs.Parsing.{filters_at}
-use Rattle.rl_selector_text.proofs.Elements.{with_front}
+use Rattle.rl_selector_text.proofs.Items.{with_front}
 use Rattle.rl_selector_text.proofs.stage.filters_at.Given as goal
 
 abbrev pub invariant-loop-turn : goal.invariant-loop-turn

@@ -3,7 +3,7 @@ use Rattle.std.proofs.Common.{◌≡◌, ◌++◌, ◌∷◌, [], ◌-◌, ◌+�
 use Rattle.std.proofs.lemmas.List.{map_push}
 use Rattle.rl_query.specs.Form.{stage_form}
 use Rattle.rl_selector_text.specs.Parsing.{stages_at}
-use Rattle.rl_selector_text.proofs.Elements.{none_before, one_more}
+use Rattle.rl_selector_text.proofs.Items.{none_before, one_more}
 use Rattle.rl_selector_text.proofs.Finding.{first_stops, fails_on}
 use Rattle.rl_selector_text.proofs.stage.stages_at.Goals as goal
 

@@ -2,7 +2,7 @@
 use Rattle.std.proofs.Common.{◌≡◌, ℕ, ◌+◌, map}
 use Rattle.rl_query.specs.Form.{stage_form}
 use Rattle.rl_selector_text.specs.Parsing.{stages_at, stages_in}
-use Rattle.rl_selector_text.proofs.Elements.{with_front}
+use Rattle.rl_selector_text.proofs.Items.{with_front}
 use Rattle.rl_selector_text.proofs.stage.stages_at.Given as goal
 
 abbrev pub invariant-loop-turn : goal.invariant-loop-turn

@@ -42,4 +42,4 @@ returns c =
     let same : text ≡ c.args.bytes.items = ap (λ (v : Vec ℕ Global). v.items) c.in-Ok.ensures.ok in
     let whole : c.len.result ≡ length text = omega (arith, c.len.ensures, c.in-Ok.text.bytes.ok.0) in
     let begins = Begins-IsCut text c.as_str.result.now c.in-Some.document.now c.in-Some.commands.now c.len.result (IsUtf8-string_bytes c.in-Ok.text) c.as_str.ensures.value whole c.in-Some.ensures.cut in
-    front_in-groups c.args.bytes.items c.as_str.result.now c.in-Some.document.now c.in-Some.commands.now c.new-commands.result (map group_form c.in_ok-groups.groups.items) (subst IsUtf8 same (IsUtf8-string_bytes c.in-Ok.text)) (c.as_str.ensures.value ∙ same) c.in-Some.ensures.front c.in_ok-groups.ensures (c.new-commands.ensures ∙ begins.behind)
+    front_in-groups c.args.bytes.items c.as_str.result.now c.in-Some.document.now c.in-Some.commands.now c.new-commands.result (map group_form c.in_ok-groups.groups.items) (subst IsUtf8 same (IsUtf8-string_bytes c.in-Ok.text)) (c.as_str.ensures.value ∙ same) c.in-Some.ensures.front c.in_ok-groups.ensures (c.new-commands.ensures ∙ begins.following)

@@ -1,6 +1,6 @@
 -- The first line of the rest is the mark, or is one line more that was seen.
 use Rattle.std.proofs.Common.{sym, refl}
-use Rattle.rl_session.proofs.Cut.{IsUtf8-behind, IsCut-front_of}
+use Rattle.rl_session.proofs.Cut.{IsUtf8-following, IsCut-front_of}
 use Rattle.rl_session.proofs.Lines.{Seen-line, front_of-here}
 use Rattle.rl_session.proofs.front.split_front.Goals as goal
 
@@ -16,6 +16,6 @@ pub loop-rest-preserved : goal.loop-rest-preserved
 loop-rest-preserved c =
     let rest = c.loop-rest.rest.now in
     let line = c.first_line.result.0.now in
-    let behind = c.in_ok-rest.rest.now in
+    let following = c.in_ok-rest.rest.now in
     let first = rw c.in_ok-rest.was at c.first_line.ensures in
-    (IsUtf8-behind rest line behind c.loop-rest.invariant.0 first.1, Seen-line c.args.text.now rest line behind c.loop-rest.invariant.1 first.0 first.1 (sym c.if-eq.ensures))
+    (IsUtf8-following rest line following c.loop-rest.invariant.0 first.1, Seen-line c.args.text.now rest line following c.loop-rest.invariant.1 first.0 first.1 (sym c.if-eq.ensures))

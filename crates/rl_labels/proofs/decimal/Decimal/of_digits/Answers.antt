@@ -10,5 +10,5 @@ invariant_of-result c =
 pub invariant_of-result-in-Some : goal.invariant_of-result-in-Some
 invariant_of-result-in-Some c =
     let few = c.in_ok-whole-in-Some.ensures.few in
-    let behind = c.in_ok-fraction-in-Some.ensures.few in
-    (few.1 15 (omega (arith, few.0, c.requires)), (behind.1 _ (omega arith), behind.0))
+    let following = c.in_ok-fraction-in-Some.ensures.few in
+    (few.1 15 (omega (arith, few.0, c.requires)), (following.1 _ (omega arith), following.0))

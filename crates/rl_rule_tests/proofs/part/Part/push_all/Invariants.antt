@@ -2,7 +2,7 @@
 use Rattle.std.proofs.Common.{drop}
 use Rattle.toml.specs.View.{items_view}
 use Rattle.rl_rules.specs.Document.{tables_of}
-use Rattle.rl_rule_tests.proofs.Behind.{SoFar}
+use Rattle.rl_rule_tests.proofs.After.{SoFar}
 use Rattle.rl_rule_tests.proofs.part.Part.push_all.Given as goal
 
 abbrev pub invariant-loop-index : goal.invariant-loop-index

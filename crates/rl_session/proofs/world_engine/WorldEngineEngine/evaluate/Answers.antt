@@ -8,6 +8,6 @@ returns-in-Ok-clause-answer g c = record {
   begun = Ok tt;
   mid = c.begin.new.self;
   begins = c.in_ok-begin.ensures.made;
-  behind = (c.finish.new.self, c.in-Ok.ensures.made, refl);
+  following = (c.finish.new.self, c.in-Ok.ensures.made, refl);
   of_group = sym (names_alike c.args.self.now c.begin.new.self c.args.group c.in_ok-begin.ensures.alike.0) ∙ c.in-Ok.ensures.of_group;
 }

@@ -4,7 +4,7 @@ use Rattle.std.proofs.lemmas.Result.{err_from_is_err_and}
 use Rattle.rl_streams.specs.StreamRows.{joined, is_among}
 use Rattle.rl_streams.specs.RowSteps.{AreOffered, IsOfferedRight}
 use Rattle.rl_streams.specs.StreamsState.{StreamsView, view_of, age_refusal, IsDecided, Takes}
-use Rattle.rl_streams.proofs.Selecting.{selections_behind, selections_same}
+use Rattle.rl_streams.proofs.Selecting.{selections_after, selections_same}
 use Rattle.rl_streams.proofs.Whole.{looked_whole, taken_whole, taken_view, decided_refused, decided_held, decided_taken, taken_new, has_room}
 use Rattle.rl_streams.proofs.streams.Streams.add.Goals as goal
 
@@ -46,7 +46,7 @@ invariant_of-self-2 g c =
       taken_whole s.limits s.streams.entries c.put.new.streams.entries (g.S.Store.seen s.store) (g.S.Store.seen c.put.new.store) s.next s.count c.self.invariant.0 c.put.ensures.looked c.args.entry added
           (λ honest. taken_new (is_among c.args.entry (joined s.streams.entries)) (subst (λ more. IsOfferedRight (Ok more) (is_among c.args.entry (joined s.streams.entries))) c.if-not-branch.false (c.in_ok-put.ensures.right s.next c.self.invariant.0.streams honest)))
           (has_room s.limits s.count (c.in_ok-put.ensures.room c.if-not-branch.false)),
-      selections_behind s.streams.entries c.put.new.streams.entries s.selections added.labels c.self.invariant.1,
+      selections_after s.streams.entries c.put.new.streams.entries s.selections added.labels c.self.invariant.1,
     )
 
 pub returns-clause-taken : goal.returns-clause-taken

@@ -3,7 +3,7 @@ use Rattle.std.proofs.Common.{◌≡◌, ◌<◌, ◌++◌, [], ◌∷◌, Some,
 use Rattle.std.specs.List.{AllByRecursion}
 use Rattle.std.proofs.lemmas.Grind.{common_steps}
 use Rattle.rl_world.specs.Evaluating.{evaluation_of, group_terms}
-use Rattle.rl_world.specs.History.{alerts_behind, alerts_of, group_behind, evaluations_in}
+use Rattle.rl_world.specs.History.{alerts_after, alerts_of, group_after, evaluations_in}
 use Rattle.rl_world.specs.Offering.{TookPrefix}
 use Rattle.rl_world.specs.WorldState.{BookState, kept_open}
 use Rattle.rl_world.specs.declared.item.Item.TheVariants as kinds
@@ -35,11 +35,11 @@ invariant_of-self-2 g c =
       alerts_are =
           c.in_ok-evaluation.ensures.alerts
           ∙ sym (alerts-evaluated evaluation inside.first [] items)
-          ∙ ap (alerts_behind inside.first []) (sym more);
+          ∙ ap (alerts_after inside.first []) (sym more);
       few_shards = c.self.invariant.few_shards;
       few_records = c.self.invariant.few_records;
       few = omega (arith, one_more items c.push_reserved.new.self.items (kinds.Evaluated evaluation) more, room);
-      group_is = c.self.invariant.group_is ∙ sym (group-evaluated evaluation inside.first items) ∙ ap (group_behind inside.first) (sym more);
+      group_is = c.self.invariant.group_is ∙ sym (group-evaluated evaluation inside.first items) ∙ ap (group_after inside.first) (sym more);
       evaluations_are = c.in_ok-push.ensures.items ∙ ap (λ evaluations. evaluations ++ evaluation ∷ []) c.self.invariant.evaluations_are ∙ sym (evaluations-evaluated evaluation items) ∙ ap evaluations_in (sym more);
       slots = holds_of_none _ c.close.new.opened c.close.ensures;
       prefixes = subst (λ sinks. AllByRecursion (TookPrefix c.push.new.self.items) (map state sinks)) (sym same) offered;

@@ -1,7 +1,7 @@
 -- The book has one edit more, and its rules what was handed on.
 use Rattle.std.proofs.Common.{◌≡◌, ◌<◌, ◌++◌, [], ◌∷◌, length, arith, sym, ap, ◌∙◌}
 use Rattle.rl_world.specs.Evaluating.{group_terms}
-use Rattle.rl_world.specs.History.{alerts_behind, alerts_edited, group_behind, evaluations_in}
+use Rattle.rl_world.specs.History.{alerts_after, alerts_edited, group_after, evaluations_in}
 use Rattle.rl_world.specs.declared.item.Item.TheVariants as kinds
 use Rattle.rl_world.proofs.Committing.{holds_of_none, none_there, one_more}
 use Rattle.rl_world.proofs.Items.{alerts-edited, group-edited, evaluations-edited}
@@ -20,11 +20,11 @@ invariant_of-self-2 g c =
           c.in_ok-handed.ensures
           ∙ (λ k. alerts_edited ((c.get.ensures ∙ c.self.invariant.group_is) k) ((c.deref.ensures.value ∙ c.self.invariant.alerts_are) k) to)
           ∙ sym (alerts-edited to inside.first [] items)
-          ∙ ap (alerts_behind inside.first []) (sym more);
+          ∙ ap (alerts_after inside.first []) (sym more);
       few_shards = c.self.invariant.few_shards;
       few_records = c.self.invariant.few_records;
       few = omega (arith, one_more items c.push.new.self.items (kinds.Edited to) more, room);
-      group_is = c.in_ok-group.ensures ∙ sym (group-edited to inside.first items) ∙ ap (group_behind inside.first) (sym more);
+      group_is = c.in_ok-group.ensures ∙ sym (group-edited to inside.first items) ∙ ap (group_after inside.first) (sym more);
       evaluations_are = c.self.invariant.evaluations_are ∙ sym (evaluations-edited to items) ∙ ap evaluations_in (sym more);
       slots = holds_of_none _ inside.opened (none_there inside.opened (sym c.is_some-busy.ensures ∙ c.if-busy.false));
       prefixes = c.self.invariant.prefixes;

@@ -1,7 +1,0 @@
--- The first byte is ASCII.
-use Rattle.std.proofs.Common.{arith}
-use Rattle.rl_plain.specs.laws.Cuts.{behind_ascii}
-use Rattle.rl_plain.proofs.run.behind_first.Goals as goal
-
-pub split_at-requires : goal.split_at-requires
-split_at-requires c = behind_ascii c.args.text.now 1 c.utf8.text (omega arith) (λ _. c.requires.ascii)

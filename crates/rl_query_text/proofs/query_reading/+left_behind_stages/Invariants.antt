@@ -1,6 +1,0 @@
--- Each turn leaves out the first stage.
-use Rattle.std.proofs.Common.{length}
-use Rattle.rl_query_text.proofs.query_reading.+left_behind_stages.Given as goal
-
-abbrev pub decreases-left_behind_stages : goal.decreases-left_behind_stages
-decreases-left_behind_stages l = length l.stages.now
