@@ -5,7 +5,7 @@ use Rattle.std.specs.List.{filter}
 use Rattle.rl_labels.specs.LabelSet.{LabelSet, no_labels, with_label, label_set_of}
 use Rattle.rl_labels.specs.declared.matcher.Matcher.{Matcher}
 use Rattle.rl_query.specs.declared.query.Query.{Query}
-use Rattle.rl_aggregate.specs.Absence.{tells_label}
+use Rattle.rl_aggregate.specs.Absence.{gives_label}
 use Rattle.rl_aggregate.specs.Evaluated.{finished, over_vector, range_value, samples_by, tested_by, terms_of, IsAbsence, IsAbsent}
 use Rattle.rl_aggregate.specs.Grouping.{aggregated_by}
 use Rattle.rl_aggregate.specs.Partials.{partial}
@@ -15,27 +15,27 @@ use Rattle.rl_aggregate.specs.declared.partial.Partial.{Partial}
 use Rattle.rl_aggregate.specs.declared.outcome.Outcome.{Outcome}
 
 -- the labels with that of the matcher, if one follows from it
-abbrev pub told_one : List Matcher → LabelSet → Matcher → LabelSet
-told_one all labels matcher = cond (tells_label all matcher) (with_label labels matcher.name matcher.value) labels
+abbrev pub with_absent_label : List Matcher → LabelSet → Matcher → LabelSet
+with_absent_label all labels matcher = cond (gives_label all matcher) (with_label labels matcher.name matcher.value) labels
 
 -- the labels with those of the matchers, from the last to the first
-abbrev pub told_onto : List Matcher → List Matcher → LabelSet → LabelSet
-told_onto all [] labels = labels
-told_onto all (matcher ∷ matchers) labels = told_one all (told_onto all matchers labels) matcher
+abbrev pub absent_onto : List Matcher → List Matcher → LabelSet → LabelSet
+absent_onto all [] labels = labels
+absent_onto all (matcher ∷ matchers) labels = with_absent_label all (absent_onto all matchers labels) matcher
 
 -- all of them, from no labels on
-pub told-all : (all matchers : List Matcher) → told_onto all matchers no_labels ≡ label_set_of (map (λ matcher. (matcher.name, matcher.value)) (filter (tells_label all) matchers))
-told-all all [] = refl
-told-all all (m ∷ ms) =
-    elim (tells_label all m) as (λ b. cond b (with_label (told_onto all ms no_labels) m.name m.value) (told_onto all ms no_labels) ≡ label_set_of (map (λ matcher. (matcher.name, matcher.value)) (cond b (m ∷ filter (tells_label all) ms) (filter (tells_label all) ms)))) [
-      | true ↦ ap (λ labels. with_label labels m.name m.value) (told-all all ms)
-      | false ↦ told-all all ms
+pub given-all : (all matchers : List Matcher) → absent_onto all matchers no_labels ≡ label_set_of (map (λ matcher. (matcher.name, matcher.value)) (filter (gives_label all) matchers))
+given-all all [] = refl
+given-all all (m ∷ ms) =
+    elim (gives_label all m) as (λ b. cond b (with_label (absent_onto all ms no_labels) m.name m.value) (absent_onto all ms no_labels) ≡ label_set_of (map (λ matcher. (matcher.name, matcher.value)) (cond b (m ∷ filter (gives_label all) ms) (filter (gives_label all) ms)))) [
+      | true ↦ ap (λ labels. with_label labels m.name m.value) (given-all all ms)
+      | false ↦ given-all all ms
     ]
 
 -- the last comes first
-pub told-last : (all matchers : List Matcher) (last : Matcher) (labels : LabelSet) → told_onto all (matchers ++ last ∷ []) labels ≡ told_onto all matchers (told_one all labels last)
-told-last all [] last labels = refl
-told-last all (m ∷ ms) last labels = ap (λ told. told_one all told m) (told-last all ms last labels)
+pub given-last : (all matchers : List Matcher) (last : Matcher) (labels : LabelSet) → absent_onto all (matchers ++ last ∷ []) labels ≡ absent_onto all matchers (with_absent_label all labels last)
+given-last all [] last labels = refl
+given-last all (m ∷ ms) last labels = ap (λ given. with_absent_label all given m) (given-last all ms last labels)
 
 -- absent_over_time alone is its range aggregation
 absence-value : (query : Query) (first : Partial) → IsAbsence query → finished query (first ∷ []) ≡ range_value query.left first

@@ -20,18 +20,18 @@ abbrev pub stands_once : List Matcher → (name : List ℕ) → Bool
 stands_once matchers name = count_by (λ matcher. is_text matcher.name name) matchers == 1
 
 -- a label follows from the matcher: it asks for a text that is not empty, and no other asks for that label
-abbrev pub tells_label : List Matcher → Matcher → Bool
-tells_label matchers matcher = is_equality matcher.op && (not (is_empty matcher.value) && stands_once matchers matcher.name)
+abbrev pub gives_label : List Matcher → Matcher → Bool
+gives_label matchers matcher = is_equality matcher.op && (not (is_empty matcher.value) && stands_once matchers matcher.name)
 
 -- the labels that follow from the matchers of a selector
-abbrev pub told_labels : List Matcher → LabelSet
-told_labels matchers = label_set_of (map (λ matcher. (matcher.name, matcher.value)) (filter (tells_label matchers) matchers))
+abbrev pub absent_labels : List Matcher → LabelSet
+absent_labels matchers = label_set_of (map (λ matcher. (matcher.name, matcher.value)) (filter (gives_label matchers) matchers))
 
 abbrev pub one : Fraction
 one = record { numerator = 1; denominator = 1 }
 
 abbrev pub absent_sample : List Matcher → Sample
-absent_sample matchers = record { labels = told_labels matchers; value = one }
+absent_sample matchers = record { labels = absent_labels matchers; value = one }
 
 -- that sample where there are no totals, and none where there are some
 abbrev pub absence : List Matcher → TotalsMap → List Sample

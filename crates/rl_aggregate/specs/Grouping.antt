@@ -18,14 +18,14 @@ use Rattle.rl_aggregate.specs.declared.outcome.Fraction.{Fraction}
 use Rattle.rl_aggregate.specs.declared.outcome.Sample.{Sample}
 
 -- a label decides the group of its sample
-abbrev pub tells_group : Grouping → (name : List ℕ) → Bool
-tells_group All name = false
-tells_group (By names) name = list_any (is_text name) names
-tells_group (Without names) name = not (list_any (is_text name) names)
+abbrev pub is_grouping_label : Grouping → (name : List ℕ) → Bool
+is_grouping_label All name = false
+is_grouping_label (By names) name = list_any (is_text name) names
+is_grouping_label (Without names) name = not (list_any (is_text name) names)
 
 -- the labels that all samples of a group have
 abbrev pub group_of : Grouping → LabelSet → LabelSet
-group_of grouping labels = label_set_of (filter (λ pair. tells_group grouping pair.0) (labels_of labels))
+group_of grouping labels = label_set_of (filter (λ pair. is_grouping_label grouping pair.0) (labels_of labels))
 
 -- a sample is in the group with these labels
 abbrev pub is_in : Grouping → LabelSet → Sample → Bool

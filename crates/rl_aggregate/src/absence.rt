@@ -1,7 +1,7 @@
 //! What `absent_over_time` gives: where no line is, 1 with the labels that follow from the selector.
 ghost use Rattle.std.specs.Prelude.{◌≡◌, IfOk};
 ghost use Rattle.std.specs.FinMap as map;
-ghost use Rattle.rl_aggregate.specs.Absence.{absence, told_labels, tells_label, stands_once};
+ghost use Rattle.rl_aggregate.specs.Absence.{absence, absent_labels, gives_label, stands_once};
 
 use crate::outcome::{Fraction, Sample};
 use crate::totals::Totals;
@@ -18,7 +18,7 @@ pub(crate) fn absence(
 {
     let mut samples = Vec::new(alloc);
     if totals.is_empty() {
-        let labels = told_labels(alloc, matchers)?;
+        let labels = absent_labels(alloc, matchers)?;
         samples.push(Sample {
             labels,
             value: Fraction::ONE,
@@ -28,13 +28,13 @@ pub(crate) fn absence(
 }
 
 // The labels that follow from the matchers of a selector.
-fn told_labels(alloc: Global, matchers: &[Matcher]) -> Result<Labels, AllocError>
-    ensures { IfOk result (λ labels. labels ≡ told_labels matchers.now) }
+fn absent_labels(alloc: Global, matchers: &[Matcher]) -> Result<Labels, AllocError>
+    ensures { IfOk result (λ labels. labels ≡ absent_labels matchers.now) }
 {
     let mut labels = Labels::empty(alloc)?;
     let mut rest = matchers;
     while let Some((matcher, before)) = rest.split_last() {
-        if tells_label(matchers, matcher) {
+        if gives_label(matchers, matcher) {
             labels = labels.with_label(matcher.name.as_str(), matcher.value.as_str())?;
         }
         rest = before;
@@ -43,8 +43,8 @@ fn told_labels(alloc: Global, matchers: &[Matcher]) -> Result<Labels, AllocError
 }
 
 // Whether the matcher asks for a text that is not empty, and no other asks for that label.
-fn tells_label(matchers: &[Matcher], matcher: &Matcher) -> bool
-    ensures { result ≡ tells_label matchers.now matcher.now }
+fn gives_label(matchers: &[Matcher], matcher: &Matcher) -> bool
+    ensures { result ≡ gives_label matchers.now matcher.now }
 {
     matches!(matcher.op, MatchOp::Equal)
         && !matcher.value.as_str().is_empty()

@@ -3,7 +3,7 @@ ghost use Rattle.std.specs.Prelude.{◌≡◌, true, IfOk};
 ghost use Rattle.std.specs.List.{filter, list_any};
 ghost use Rattle.rl_labels.specs.LabelSet.{no_labels};
 ghost use Rattle.rl_labels.specs.Name.{is_text};
-ghost use Rattle.rl_aggregate.specs.Grouping.{tells_group, group_of};
+ghost use Rattle.rl_aggregate.specs.Grouping.{is_grouping_label, group_of};
 
 use rl_labels::{Labels, LabelsBuilder};
 use rl_plain::{PlainText, TryCopy};
@@ -35,11 +35,11 @@ fn are_of_group(
     group: &[(PlainText, PlainText)],
     labels: &[(PlainText, PlainText)],
 ) -> bool
-    ensures { result ≡ true → group.now ≡ filter (λ pair. tells_group grouping.now pair.0) labels.now }
+    ensures { result ≡ true → group.now ≡ filter (λ pair. is_grouping_label grouping.now pair.0) labels.now }
 {
     let mut rest = group;
     for label in labels {
-        if tells_group(grouping, label.0.as_str()) {
+        if is_grouping_label(grouping, label.0.as_str()) {
             let Some((first, others)) = rest.split_first() else {
                 return false;
             };
@@ -73,7 +73,7 @@ fn kept_labels(
     let mut rest = labels.pairs();
     while let Some((pair, before)) = rest.split_last() {
         let name = pair.0.as_str();
-        if tells_group(grouping, name) {
+        if is_grouping_label(grouping, name) {
             builder.add(name, pair.1.as_str())?;
         }
         rest = before;
@@ -82,8 +82,8 @@ fn kept_labels(
 }
 
 // Whether a label of this name decides the group of its sample.
-fn tells_group(grouping: &Grouping, name: &str) -> bool
-    ensures { result ≡ tells_group grouping.now name.now }
+fn is_grouping_label(grouping: &Grouping, name: &str) -> bool
+    ensures { result ≡ is_grouping_label grouping.now name.now }
 {
     match grouping {
         Grouping::All => false,

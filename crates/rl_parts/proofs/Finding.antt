@@ -148,11 +148,11 @@ line_there entries entry there =
 
 -- an entry that stands neither in the head nor in memory is there just where a store has it
 pub of_rest : (parts : List PartView) (head : List Entry) (q : Entry) → (Contains head q → ⊥) → (Contains (flat_map in_memory parts) q → ⊥) → (found : Bool) → IsTrue found ↔ Contains (flat_map in_store parts) q → IsTrue found ↔ Contains (flat_map (λ part. part.entries) parts ++ head) q
-of_rest parts head q no_head no_memory found told =
+of_rest parts head q no_head no_memory found visited =
     let all : List Entry = flat_map (λ part. part.entries) parts in (
-      λ t. Contains-append_left all head q (of_store parts q (told.0 t)),
+      λ t. Contains-append_left all head q (of_store parts q (visited.0 t)),
       λ there. elim (Contains-append_cases all head q there) [
-        | inl here ↦ elim (of_either parts q here) [ inl memory ↦ absurd (no_memory memory) | inr store ↦ told.1 store ]
+        | inl here ↦ elim (of_either parts q here) [ inl memory ↦ absurd (no_memory memory) | inr store ↦ visited.1 store ]
         | inr late ↦ absurd (no_head late)
       ],
     )

@@ -12,7 +12,7 @@ use Rattle.rl_chunks.specs.EntryLines.{line_of}
 use Rattle.rl_chunks.specs.declared.line.Line.{Line}
 use Rattle.rl_parts.specs.StreamParts.{PartView, IsRun}
 use Rattle.rl_parts.specs.PartState.{timestamp_at, IsRange}
-use Rattle.rl_parts.specs.Reading.{is_in_range, told, told_in_range, lines_in_range, IsPiece, IsHandedOut}
+use Rattle.rl_parts.specs.Reading.{is_in_range, visited, visited_in_range, lines_in_range, IsPiece, IsHandedOut}
 use Rattle.rl_parts.specs.laws.TakerLaws.{AllZip-append}
 use Rattle.rl_parts.proofs.Times.{up_to_last, from_first}
 
@@ -21,8 +21,8 @@ lines-append set from to xs ys =
     ap (map (λ (line : Line). (set, line))) (filter-append (λ (line : Line). leb from line.timestamp && leb line.timestamp to) xs ys)
     ∙ map-append (λ (line : Line). (set, line)) (filter (λ line. leb from line.timestamp && leb line.timestamp to) xs) (filter (λ line. leb from line.timestamp && leb line.timestamp to) ys)
 
-pub told-append : (from to : ℕ) (xs ys : List Entry) → told_in_range from to (xs ++ ys) ≡ told_in_range from to xs ++ told_in_range from to ys
-told-append from to xs ys = ap (map told) (filter-append (is_in_range from to) xs ys) ∙ map-append told (filter (is_in_range from to) xs) (filter (is_in_range from to) ys)
+pub visited-append : (from to : ℕ) (xs ys : List Entry) → visited_in_range from to (xs ++ ys) ≡ visited_in_range from to xs ++ visited_in_range from to ys
+visited-append from to xs ys = ap (map visited) (filter-append (is_in_range from to) xs ys) ∙ map-append visited (filter (is_in_range from to) xs) (filter (is_in_range from to) ys)
 
 -- one line more
 pub line_more : {A T : Type 0} (taking : T → LabelSet × Line → T) (line : A → Line) (set : LabelSet) (from to : ℕ) (xs : List A) (i : ℕ) (x : A) (start taken now : T) → i < length xs → x ≡ get_or xs i x
@@ -35,46 +35,46 @@ line_more taking line set from to xs i x start taken now within is so_far one =
 
 -- one part more
 pub part_more : {T : Type 0} (taking : T → LabelSet × Line → T) (from to : ℕ) (parts : List PartView) (i : ℕ) (p : PartView) (start taken now : T) → i < length parts → p ≡ get_or parts i p
-    → taken ≡ fold taking start (told_in_range from to (flat_map (λ part. part.entries) (take i parts))) → now ≡ fold taking taken (told_in_range from to p.entries) → now ≡ fold taking start (told_in_range from to (flat_map (λ part. part.entries) (take (i + 1) parts)))
+    → taken ≡ fold taking start (visited_in_range from to (flat_map (λ part. part.entries) (take i parts))) → now ≡ fold taking taken (visited_in_range from to p.entries) → now ≡ fold taking start (visited_in_range from to (flat_map (λ part. part.entries) (take (i + 1) parts)))
 part_more taking from to parts i p start taken now within is so_far one =
     let entries = λ (part : PartView). part.entries in
     let front : take (i + 1) parts ≡ take i parts ++ p ∷ [] = take_more parts i p within ∙ ap (λ y. take i parts ++ y ∷ []) (sym is) in
-    let all : told_in_range from to (flat_map entries (take (i + 1) parts)) ≡ told_in_range from to (flat_map entries (take i parts)) ++ told_in_range from to p.entries =
-    ap (λ ps. told_in_range from to (flat_map entries ps)) front ∙ ap (told_in_range from to) (flat_map-append entries (take i parts) (p ∷ []) ∙ ap (λ es. flat_map entries (take i parts) ++ es) (append-nil p.entries)) ∙ told-append from to (flat_map entries (take i parts)) p.entries in
-    one ∙ ap (λ t. fold taking t (told_in_range from to p.entries)) so_far ∙ sym (fold-append taking start (told_in_range from to (flat_map entries (take i parts))) (told_in_range from to p.entries)) ∙ ap (fold taking start) (sym all)
+    let all : visited_in_range from to (flat_map entries (take (i + 1) parts)) ≡ visited_in_range from to (flat_map entries (take i parts)) ++ visited_in_range from to p.entries =
+    ap (λ ps. visited_in_range from to (flat_map entries ps)) front ∙ ap (visited_in_range from to) (flat_map-append entries (take i parts) (p ∷ []) ∙ ap (λ es. flat_map entries (take i parts) ++ es) (append-nil p.entries)) ∙ visited-append from to (flat_map entries (take i parts)) p.entries in
+    one ∙ ap (λ t. fold taking t (visited_in_range from to p.entries)) so_far ∙ sym (fold-append taking start (visited_in_range from to (flat_map entries (take i parts))) (visited_in_range from to p.entries)) ∙ ap (fold taking start) (sym all)
 
 -- lines of entries are visited as the entries are
-same_told : (set : LabelSet) (from to : ℕ) (entries : List Entry) → AllByRecursion (λ entry. entry.labels ≡ set) entries → lines_in_range set from to (map line_of entries) ≡ told_in_range from to entries
-same_told set from to [] same = refl
-same_told set from to (entry ∷ entries) same = at (is_in_range from to entry) (same_told set from to entries same.1)
+same_visited : (set : LabelSet) (from to : ℕ) (entries : List Entry) → AllByRecursion (λ entry. entry.labels ≡ set) entries → lines_in_range set from to (map line_of entries) ≡ visited_in_range from to entries
+same_visited set from to [] same = refl
+same_visited set from to (entry ∷ entries) same = at (is_in_range from to entry) (same_visited set from to entries same.1)
   where
-    at : (b : Bool) → lines_in_range set from to (map line_of entries) ≡ told_in_range from to entries
+    at : (b : Bool) → lines_in_range set from to (map line_of entries) ≡ visited_in_range from to entries
         → map (λ line. (set, line)) (cond b (line_of entry ∷ filter (λ line. leb from line.timestamp && leb line.timestamp to) (map line_of entries)) (filter (λ line. leb from line.timestamp && leb line.timestamp to) (map line_of entries)))
-        ≡ map told (cond b (entry ∷ filter (is_in_range from to) entries) (filter (is_in_range from to) entries))
+        ≡ map visited (cond b (entry ∷ filter (is_in_range from to) entries) (filter (is_in_range from to) entries))
     at true others = λ i. (sym same.0 i, line_of entry) ∷ others i
     at false others = others
 
-pub lines_told : (set : LabelSet) (from to : ℕ) (entries : List Entry) → All (λ entry. entry.labels ≡ set) entries → lines_in_range set from to (map line_of entries) ≡ told_in_range from to entries
-lines_told set from to entries same = same_told set from to entries (recursion_from_All (λ entry. entry.labels ≡ set) entries same)
+pub lines_visited : (set : LabelSet) (from to : ℕ) (entries : List Entry) → All (λ entry. entry.labels ≡ set) entries → lines_in_range set from to (map line_of entries) ≡ visited_in_range from to entries
+lines_visited set from to entries same = same_visited set from to entries (recursion_from_All (λ entry. entry.labels ≡ set) entries same)
 
-none_told : (from to : ℕ) (entries : List Entry) → AllByRecursion (λ entry. is_in_range from to entry ≡ false) entries → told_in_range from to entries ≡ []
-none_told from to [] out = refl
-none_told from to (entry ∷ entries) out = ap (λ b. map told (cond b (entry ∷ filter (is_in_range from to) entries) (filter (is_in_range from to) entries))) out.0 ∙ none_told from to entries out.1
+none_visited : (from to : ℕ) (entries : List Entry) → AllByRecursion (λ entry. is_in_range from to entry ≡ false) entries → visited_in_range from to entries ≡ []
+none_visited from to [] out = refl
+none_visited from to (entry ∷ entries) out = ap (λ b. map visited (cond b (entry ∷ filter (is_in_range from to) entries) (filter (is_in_range from to) entries))) out.0 ∙ none_visited from to entries out.1
 
 -- of entries whose range of time is outside none is visited
-pub nothing_told : (set : LabelSet) (xs : List Entry) (first last from to : ℕ) → IsRun set xs → IsRange xs first last → (last < from) ⊎ (to < first) → told_in_range from to xs ≡ []
-nothing_told set xs first last from to run range out = none_told from to xs (recursion_from_All (λ entry. is_in_range from to entry ≡ false) xs (λ k d within. at (get_or xs k d) (up_to_last set xs run k d within) (from_first set xs run k d within) out))
+pub nothing_visited : (set : LabelSet) (xs : List Entry) (first last from to : ℕ) → IsRun set xs → IsRange xs first last → (last < from) ⊎ (to < first) → visited_in_range from to xs ≡ []
+nothing_visited set xs first last from to run range out = none_visited from to xs (recursion_from_All (λ entry. is_in_range from to entry ≡ false) xs (λ k d within. at (get_or xs k d) (up_to_last set xs run k d within) (from_first set xs run k d within) out))
   where
     at : (entry : Entry) → entry.timestamp ≤ timestamp_at xs (length xs - 1) → timestamp_at xs 0 ≤ entry.timestamp → (last < from) ⊎ (to < first) → is_in_range from to entry ≡ false
     at entry low high (inl before) = grind (arith, nat_tests, range.start, range.end)
     at entry low high (inr following) = grind (arith, nat_tests, range.start, range.end)
 
 -- parts, and then the head
-pub both_told : {T : Type 0} (taking : T → LabelSet × Line → T) (set : LabelSet) (from to : ℕ) (parts : List PartView) (head : List Entry) (start mid now : T) → All (λ entry. entry.labels ≡ set) head
-    → mid ≡ fold taking start (told_in_range from to (flat_map (λ part. part.entries) parts)) → now ≡ fold taking mid (lines_in_range set from to (map line_of head)) → now ≡ fold taking start (told_in_range from to (flat_map (λ part. part.entries) parts ++ head))
-both_told taking set from to parts head start mid now same first second =
+pub both_visited : {T : Type 0} (taking : T → LabelSet × Line → T) (set : LabelSet) (from to : ℕ) (parts : List PartView) (head : List Entry) (start mid now : T) → All (λ entry. entry.labels ≡ set) head
+    → mid ≡ fold taking start (visited_in_range from to (flat_map (λ part. part.entries) parts)) → now ≡ fold taking mid (lines_in_range set from to (map line_of head)) → now ≡ fold taking start (visited_in_range from to (flat_map (λ part. part.entries) parts ++ head))
+both_visited taking set from to parts head start mid now same first second =
     let all : List Entry = flat_map (λ part. part.entries) parts in
-    second ∙ (λ i. fold taking (first i) (lines_told set from to head same i)) ∙ sym (fold-append taking start (told_in_range from to all) (told_in_range from to head)) ∙ ap (fold taking start) (sym (told-append from to all head))
+    second ∙ (λ i. fold taking (first i) (lines_visited set from to head same i)) ∙ sym (fold-append taking start (visited_in_range from to all) (visited_in_range from to head)) ∙ ap (fold taking start) (sym (visited-append from to all head))
 
 -- pieces of parts, and then of others
 handed_then : {T : Type 0} (taking : T → LabelSet × Line → T) (set : LabelSet) (from to : ℕ) (xs ys : List PartView) (a b c : T) → IsHandedOut taking set from to xs a b → IsHandedOut taking set from to ys b c → IsHandedOut taking set from to (xs ++ ys) a c

@@ -15,7 +15,7 @@ use Rattle.rl_parts.proofs.Finding.{yes, no}
 
 -- a search finds a number just where it is there
 pub found_by_search : (xs : List ℕ) (x : ℕ) (r : Result ℕ ℕ) → IsSorted nat_cmp xs → IsBinarySearchResult (λ y. nat_cmp y x) xs r → IsTrue (is_ok r) ↔ Contains xs x
-found_by_search xs x r sorted told = at r (searched xs x r told (λ i j le lt. IsNonDecreasingBy-from_sort (λ n. n) xs sorted i j 0 le lt))
+found_by_search xs x r sorted visited = at r (searched xs x r visited (λ i j le lt. IsNonDecreasingBy-from_sort (λ n. n) xs sorted i j 0 le lt))
   where
     at : (r : Result ℕ ℕ) → MatchResult r (λ i. (i < length xs) × (get_or xs i 0 ≡ x)) (λ i. (i ≤ length xs) × ((k : ℕ) → k < i → get_or xs k 0 < x) × ((k : ℕ) → i ≤ k → k < length xs → x < get_or xs k 0)) → IsTrue (is_ok r) ↔ Contains xs x
     at (Ok i) h = yes (i, h.0, get_or_default xs i x 0 h.0 ∙ h.1)

@@ -16,12 +16,12 @@ abbrev pub is_in_range : ℕ → ℕ → Entry → Bool
 is_in_range from to entry = nat_le from entry.timestamp && nat_le entry.timestamp to
 
 -- an entry as it is visited
-abbrev pub told : Entry → LabelSet × Line
-told entry = (entry.labels, line_of entry)
+abbrev pub visited : Entry → LabelSet × Line
+visited entry = (entry.labels, line_of entry)
 
 -- the entries of the range, as they are visited
-abbrev pub told_in_range : ℕ → ℕ → List Entry → List (LabelSet × Line)
-told_in_range from to entries = map told (filter (is_in_range from to) entries)
+abbrev pub visited_in_range : ℕ → ℕ → List Entry → List (LabelSet × Line)
+visited_in_range from to entries = map visited (filter (is_in_range from to) entries)
 
 -- lines of the range, as they are visited with labels
 abbrev pub lines_in_range : LabelSet → ℕ → ℕ → List Line → List (LabelSet × Line)
@@ -64,7 +64,7 @@ IsWith entry part = (note : Note) × (part.note ≡ Some note) × ((chunk : Chun
 
 -- what is visited of a part: its own entries of the range, or those lines of a chunk that bytes with the digest are
 abbrev pub IsPiece : LabelSet → ℕ → ℕ → PartView → List (LabelSet × Line) → Type 0
-IsPiece labels from to part piece = MatchOption part.note (piece ≡ told_in_range from to part.entries)
+IsPiece labels from to part piece = MatchOption part.note (piece ≡ visited_in_range from to part.entries)
     (λ note. (IsApart from to part.entries × (piece ≡ [])) ⊎ ((chunk : Chunk) × IsReadAs note.digest chunk × (piece ≡ lines_in_range labels from to chunk.lines)))
 
 -- a piece of each part in turn was visited, and this is what the visitor became by them

@@ -4,7 +4,7 @@ ghost use Rattle.std.specs.List.{AllByRecursion, flat_map, fold};
 ghost use Rattle.rl_parts.specs.StreamParts.{IsPart, unwritten, chunk_of};
 ghost use Rattle.rl_parts.specs.PartState.{IsRange};
 ghost use Rattle.rl_parts.specs.StoreUse.{Looked, IsKept, IsNoteOf, Right, ReadCause};
-ghost use Rattle.rl_parts.specs.Reading.{IsApart, IsOutside, IsReadAs, IsHandedOut, lines_in_range, told_in_range};
+ghost use Rattle.rl_parts.specs.Reading.{IsApart, IsOutside, IsReadAs, IsHandedOut, lines_in_range, visited_in_range};
 ghost use Rattle.rl_labels.specs.LabelSet.{LabelSet};
 ghost use Rattle.rl_chunks.specs.declared.chunk.Chunk.{Chunk};
 ghost use Rattle.rl_chunks.specs.declared.line.Line.{Line};
@@ -73,9 +73,9 @@ pub(crate) fn hand_written<S: Store, T: Taker>(
     ensures looked { Looked (S.seen store.old) (S.seen store.new) }
     ensures cause { IfErr result (ReadCause (S.seen store.old) (S.seen store.new)) }
     ensures unread { IsApart from to written.now.entries.value → S.seen store.new ≡ S.seen store.old }
-    ensures told { IsApart from to written.now.entries.value → OnOk result (taker.new ≡ fold T.taking taker.old (told_in_range from to written.now.entries.value)) }
+    ensures visited { IsApart from to written.now.entries.value → OnOk result (taker.new ≡ fold T.taking taker.old (visited_in_range from to written.now.entries.value)) }
     ensures piece { OnOk result ((piece : List (LabelSet × Line)) × ((IsApart from to written.now.entries.value × (piece ≡ [])) ⊎ ((chunk : Chunk) × IsReadAs written.now.digest chunk × (piece ≡ lines_in_range labels.now from to chunk.lines))) × (taker.new ≡ fold T.taking taker.old piece)) }
-    ensures right { (next : ℕ) → IsNoteOf (S.seen store.old) next (chunk_of labels.now written.now.entries.value) (record { number = written.now.number; digest = written.now.digest }) → (S.seen store.old).honest ≡ true → Right result (λ _. taker.new ≡ fold T.taking taker.old (told_in_range from to written.now.entries.value)) }
+    ensures right { (next : ℕ) → IsNoteOf (S.seen store.old) next (chunk_of labels.now written.now.entries.value) (record { number = written.now.number; digest = written.now.digest }) → (S.seen store.old).honest ≡ true → Right result (λ _. taker.new ≡ fold T.taking taker.old (visited_in_range from to written.now.entries.value)) }
 {
     if is_outside(written, from, to) {
         return Ok(());
@@ -99,9 +99,9 @@ pub(crate) fn hand_parts<S: Store, T: Taker>(
     ensures looked { Looked (S.seen store.old) (S.seen store.new) }
     ensures cause { IfErr result (ReadCause (S.seen store.old) (S.seen store.new)) }
     ensures unread { AllByRecursion (IsOutside from to) parts.now → S.seen store.new ≡ S.seen store.old }
-    ensures told { AllByRecursion (IsOutside from to) parts.now → OnOk result (taker.new ≡ fold T.taking taker.old (told_in_range from to (flat_map (λ part. part.entries) parts.now))) }
+    ensures visited { AllByRecursion (IsOutside from to) parts.now → OnOk result (taker.new ≡ fold T.taking taker.old (visited_in_range from to (flat_map (λ part. part.entries) parts.now))) }
     ensures pieces { OnOk result (IsHandedOut T.taking labels.now from to parts.now taker.old taker.new) }
-    ensures right { (next : ℕ) → AllByRecursion (IsKept (S.seen store.old) next labels.now) parts.now → (S.seen store.old).honest ≡ true → Right result (λ _. taker.new ≡ fold T.taking taker.old (told_in_range from to (flat_map (λ part. part.entries) parts.now))) }
+    ensures right { (next : ℕ) → AllByRecursion (IsKept (S.seen store.old) next labels.now) parts.now → (S.seen store.old).honest ≡ true → Right result (λ _. taker.new ≡ fold T.taking taker.old (visited_in_range from to (flat_map (λ part. part.entries) parts.now))) }
 {
     for part in parts {
         part.hand_out(alloc, store, labels, from, to, taker)?;

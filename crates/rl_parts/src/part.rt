@@ -59,7 +59,7 @@ impl Part {
     ghost use Rattle.std.specs.List.{Contains, fold};
     ghost use Rattle.rl_parts.specs.StreamParts.{IsPart, unwritten};
     ghost use Rattle.rl_parts.specs.StoreUse.{Looked, Grown, IsKept, Right, ReadCause, FlushCause};
-    ghost use Rattle.rl_parts.specs.Reading.{IsOutside, IsWith, IsWithout, IsHandedOut, in_memory, in_store, told_in_range};
+    ghost use Rattle.rl_parts.specs.Reading.{IsOutside, IsWith, IsWithout, IsHandedOut, in_memory, in_store, visited_in_range};
     ghost use Rattle.rl_parts.specs.Changes.{AreNoted};
     ghost use Rattle.rl_parts.specs.Marks.{AreMarks};
     ghost use Rattle.rl_parts.specs.PartState.{IsRange};
@@ -173,9 +173,9 @@ impl Part {
         ensures looked { Looked (S.seen store.old) (S.seen store.new) }
         ensures cause { IfErr result (ReadCause (S.seen store.old) (S.seen store.new)) }
         ensures unread { IsOutside from to self.now → S.seen store.new ≡ S.seen store.old }
-        ensures told { IsOutside from to self.now → OnOk result (taker.new ≡ fold T.taking taker.old (told_in_range from to self.now.entries)) }
+        ensures visited { IsOutside from to self.now → OnOk result (taker.new ≡ fold T.taking taker.old (visited_in_range from to self.now.entries)) }
         ensures piece { OnOk result (IsHandedOut T.taking labels.now from to (self.now ∷ []) taker.old taker.new) }
-        ensures right { (next : ℕ) → IsKept (S.seen store.old) next labels.now self.now → (S.seen store.old).honest ≡ true → Right result (λ _. taker.new ≡ fold T.taking taker.old (told_in_range from to self.now.entries)) }
+        ensures right { (next : ℕ) → IsKept (S.seen store.old) next labels.now self.now → (S.seen store.old).honest ≡ true → Right result (λ _. taker.new ≡ fold T.taking taker.old (visited_in_range from to self.now.entries)) }
     {
         match &self.place {
             Place::Here(entries) => hand_all(labels, entries.as_slice(), from, to, taker)?,

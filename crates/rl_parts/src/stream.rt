@@ -52,7 +52,7 @@ impl Stream {
     ghost use Rattle.std.specs.List.{All, AllByRecursion, Contains, fold};
     ghost use Rattle.rl_parts.specs.StreamParts.{PartView, entries_of, notes_of, most_entries};
     ghost use Rattle.rl_parts.specs.StoreUse.{Looked, Grown, AreKept, Right, ReadCause, FlushCause};
-    ghost use Rattle.rl_parts.specs.Reading.{NoneReaches, IsWith, IsWithout, IsHandedOut, entries_here, told_in_range};
+    ghost use Rattle.rl_parts.specs.Reading.{NoneReaches, IsWith, IsWithout, IsHandedOut, entries_here, visited_in_range};
     ghost use Rattle.rl_parts.specs.Changes.{IsInserted, IsHeld, AreSealed, AreNoted, sealed_parts, unwritten_count};
     ghost use Rattle.rl_parts.specs.Rewriting.{AreLeft, AreRenumbered, RewriteCause, note_numbers, uncovered};
 
@@ -215,10 +215,10 @@ impl Stream {
         ensures looked { Looked (S.seen store.old) (S.seen store.new) }
         ensures cause { IfErr result (ReadCause (S.seen store.old) (S.seen store.new)) }
         ensures unread { NoneReaches from to self.now → S.seen store.new ≡ S.seen store.old }
-        ensures told { NoneReaches from to self.now → OnOk result (taker.new ≡ fold T.taking taker.old (told_in_range from to (entries_of self.now))) }
+        ensures visited { NoneReaches from to self.now → OnOk result (taker.new ≡ fold T.taking taker.old (visited_in_range from to (entries_of self.now))) }
         // What is visited of a part that a store has follows from bytes with the digest, whatever the store does.
-        ensures pieces { OnOk result ((mid : T) × IsHandedOut T.taking self.now.labels from to self.now.parts taker.old mid × (taker.new ≡ fold T.taking mid (told_in_range from to self.now.head))) }
-        ensures right { (next : ℕ) → AreKept (S.seen store.old) next self.now → (S.seen store.old).honest ≡ true → Right result (λ _. taker.new ≡ fold T.taking taker.old (told_in_range from to (entries_of self.now))) }
+        ensures pieces { OnOk result ((mid : T) × IsHandedOut T.taking self.now.labels from to self.now.parts taker.old mid × (taker.new ≡ fold T.taking mid (visited_in_range from to self.now.head))) }
+        ensures right { (next : ℕ) → AreKept (S.seen store.old) next self.now → (S.seen store.old).honest ≡ true → Right result (λ _. taker.new ≡ fold T.taking taker.old (visited_in_range from to (entries_of self.now))) }
     {
         hand_parts(alloc, store, &self.labels, &self.parts, from, to, taker)?;
         hand_all(&self.labels, &self.head, from, to, taker)?;

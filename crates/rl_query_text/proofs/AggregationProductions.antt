@@ -13,7 +13,7 @@ use Rattle.rl_query.specs.declared.token.Sign.TheVariants as signs
 use Rattle.rl_query.specs.declared.token.Token.TheVariants as tokens
 use Rattle.rl_query.specs.declared.token.Token.{Token}
 use Rattle.rl_query_text.proofs.Parentheses.{IsOpened, inside_room, opened_is, opened_read}
-use Rattle.rl_selector_text.proofs.Finding.{Finds, found, fault, then, by_test, of_option, next_found, told_by}
+use Rattle.rl_selector_text.proofs.Finding.{Finds, found, fault, then, by_test, of_option, next_found, stands_as}
 use Rattle.rl_selector_text.proofs.Productions.{First, first_at, text_found, named_found, follows, follows_found, IsSoundElement, IsCompleteElement, listed_found, listed_is, first_listed, stood, stand_split, stand_then, next_is, expected_found, expected_is, only_sign}
 use Rattle.rl_selector_text.proofs.TestProductions.{only_word}
 use Rattle.rl_query_text.specs.AggregationReading.{back_at, ended_at, front_at, grouped_at, groups_loudly, grouping_at, is_operator_word, label_name, named_at, names_in, nested, operator_at, top_at, topk_at}
@@ -35,7 +35,7 @@ abbrev name_tokens : List ℕ → List Token
 name_tokens name = tokens.Word name ∷ []
 
 label_found : (place : ℕ) (token : Token) → Finds (λ name. (token ≡ tokens.Word name) × (is_name name ≡ true)) (label_name place token)
-label_found place token = then _ (named_found place token) (λ name told. by_test (is_name name) (λ is. found (told, is)) (λ _. fault))
+label_found place token = then _ (named_found place token) (λ name shown. by_test (is_name name) (λ is. found (shown, is)) (λ _. fault))
 
 named_read : IsSoundElement name_tokens is_name signs.CloseParenthesis named_at
 unfolding named_at
@@ -43,8 +43,8 @@ named_read lexemes =
     then _ (next_found lexemes) (λ first a.
     then _ (label_found first.0.place first.0.token) (λ name label.
     then _ (next_found first.1) (λ sign b.
-    then _ (follows_found signs.CloseParenthesis sign.0.token _) (λ more told.
-    found (stand_then (name_tokens name) (follows signs.CloseParenthesis more ∷ []) lexemes first.1 sign.1 (told_by lexemes first.1 label.0 a) (told_by first.1 sign.1 told b), label.1)))))
+    then _ (follows_found signs.CloseParenthesis sign.0.token _) (λ more shown.
+    found (stand_then (name_tokens name) (follows signs.CloseParenthesis more ∷ []) lexemes first.1 sign.1 (stands_as lexemes first.1 label.0 a) (stands_as first.1 sign.1 shown b), label.1)))))
 
 named_is : IsCompleteElement name_tokens is_name signs.CloseParenthesis named_at
 unfolding named_at
@@ -58,7 +58,7 @@ AreNames names lexemes rest = Stand (names_tokens names) lexemes rest × (list_a
 in_read : (lexemes : List Lexeme) → Finds (λ x. AreNames x.0 lexemes x.1) (names_in lexemes)
 unfolding names_in
 in_read lexemes = then _ (next_found lexemes) (λ first stand. by_test (is_sign signs.CloseParenthesis first.0.token)
-    (λ none. found (told_by lexemes first.1 (only_sign signs.CloseParenthesis first.0.token none) stand, refl))
+    (λ none. found (stands_as lexemes first.1 (only_sign signs.CloseParenthesis first.0.token none) stand, refl))
     (λ _. record {
       is = λ x h. let are = (listed_found name_tokens is_name signs.CloseParenthesis named_at names_tokens (λ _. refl) (λ _ _ _. refl) named_read (length lexemes) lexemes).is x h in (are.0, are.1);
     }))
@@ -95,9 +95,9 @@ grouped_is room depth word names lexemes rest deep are =
 pub grouping_read : (room : Room) (lexemes : List Lexeme) → Finds (λ x. IsGrouping x.0 lexemes x.1) (grouping_at room lexemes)
 unfolding grouping_at
 grouping_read room lexemes = then _ (next_found lexemes) (λ first stand. by_test (is_word (codes "by") first.0.token)
-    (λ by. then _ (grouped_read room (codes "by") lexemes first.1 (told_by lexemes first.1 (only_word (codes "by") first.0.token by) stand)) (λ names are. found are))
+    (λ by. then _ (grouped_read room (codes "by") lexemes first.1 (stands_as lexemes first.1 (only_word (codes "by") first.0.token by) stand)) (λ names are. found are))
     (λ _. by_test (is_word (codes "without") first.0.token)
-    (λ without. then _ (grouped_read room (codes "without") lexemes first.1 (told_by lexemes first.1 (only_word (codes "without") first.0.token without) stand)) (λ names are. found are))
+    (λ without. then _ (grouped_read room (codes "without") lexemes first.1 (stands_as lexemes first.1 (only_word (codes "without") first.0.token without) stand)) (λ names are. found are))
     (λ _. by_test (groups_loudly first.0.token) (λ _. fault) (λ _. found (refl, refl)))))
 
 -- the names of a grouping that is read are those that labels may have
@@ -136,7 +136,7 @@ operator_found word lexemes is = of_option _ (plain_operator word)
     then _ (next_found lexemes) (λ first stand.
     then _ (top_at_found first.0.place first.0.token) (λ top number.
     then _ (expected_found signs.Comma positions.Elsewhere first.1) (λ following comma.
-    let there = stand_then (tokens.Number number.0 ∷ []) (tokens.Sign signs.Comma ∷ []) lexemes first.1 following (told_by lexemes first.1 number.1 stand) comma in
+    let there = stand_then (tokens.Number number.0 ∷ []) (tokens.Sign signs.Comma ∷ []) lexemes first.1 following (stands_as lexemes first.1 number.1 stand) comma in
     found (same_text word (codes "topk") topk, (number.0, there, number.2))))))
 
 operator_is : (operator : VectorOperator) (lexemes rest : List Lexeme) → IsParameter operator lexemes rest → operator_at (operator_word operator) lexemes ≡ Ok (operator, rest)

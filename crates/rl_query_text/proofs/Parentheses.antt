@@ -40,9 +40,9 @@ unfolding opened_at
 opened_is position room depth lexemes following is stand = rw (expected_is signs.OpenParenthesis position lexemes following stand, is) refl
 
 -- what stands in parentheses, by another rule
-pub inside_told : {Inside Told : Rule} {lexemes rest : List Lexeme} → ((following end : List Lexeme) → Inside following end → Told following end) → InParentheses Inside lexemes rest
-    → InParentheses Told lexemes rest
-inside_told told p = record { following = p.following; end = p.end; opened = p.opened; inside = told p.following p.end p.inside; closed = p.closed }
+pub inside_mapped : {Inside Mapped : Rule} {lexemes rest : List Lexeme} → ((following end : List Lexeme) → Inside following end → Mapped following end) → InParentheses Inside lexemes rest
+    → InParentheses Mapped lexemes rest
+inside_mapped shown p = record { following = p.following; end = p.end; opened = p.opened; inside = shown p.following p.end p.inside; closed = p.closed }
 
 -- what is read in parentheses
 pub parentheses_read : {A : Type 0} (Inside : Room → A → Rule) (position : Position) (inside : Reader A) (room : Room) (lexemes : List Lexeme) → ((room : Room) (lexemes : List Lexeme) → Finds (λ x. Inside room x.0 lexemes x.1) (inside room lexemes))

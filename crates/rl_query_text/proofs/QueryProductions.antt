@@ -18,8 +18,8 @@ use Rattle.rl_query_text.specs.QueryReading.{Reader, room_after, over_at, divide
 use Rattle.rl_selector_text.specs.Standing.{Stand}
 use Rattle.rl_query.specs.Tables.{comparison_sign}
 use Rattle.rl_query_text.specs.TermGrammar.{IsTerm, IsQuotient, IsThreshold, IsQuery, Derives}
-use Rattle.rl_query_text.proofs.Parentheses.{inside_told, parentheses_read}
-use Rattle.rl_selector_text.proofs.Finding.{Finds, found, fault, itself, then, by_test, of_option, next_found, told_by}
+use Rattle.rl_query_text.proofs.Parentheses.{inside_mapped, parentheses_read}
+use Rattle.rl_selector_text.proofs.Finding.{Finds, found, fault, itself, then, by_test, of_option, next_found, stands_as}
 use Rattle.rl_selector_text.specs.declared.stop.Stop.{Stop}
 use Rattle.rl_selector_text.proofs.Productions.{stand_then, only_sign}
 use Rattle.rl_query_text.proofs.TermProductions.{term_derived}
@@ -33,8 +33,8 @@ parts_of_query left over test = record { left = left; over = over; test = test }
 pub query_quotient : (depth : ℕ) (left : TermForm) (over : Option TermForm) (lexemes rest : List Lexeme) → IsQuery depth (parts_of_query left over None) lexemes rest → IsQuotient depth left over lexemes rest
 query_quotient zero left over lexemes rest is = absurd is
 query_quotient (suc depth) left over lexemes rest (inl tested) = subst (λ ls. IsQuotient (suc depth) left over lexemes ls) tested.2 tested.1
-query_quotient (suc depth) left None lexemes rest (inr p) = inr (inside_told (query_quotient depth left None) p)
-query_quotient (suc depth) left (Some over) lexemes rest (inr p) = inr (inside_told (query_quotient depth left (Some over)) p)
+query_quotient (suc depth) left None lexemes rest (inr p) = inr (inside_mapped (query_quotient depth left None) p)
+query_quotient (suc depth) left (Some over) lexemes rest (inr p) = inr (inside_mapped (query_quotient depth left (Some over)) p)
 
 -- and a quotient is a query
 pub quotient_query : (depth : ℕ) (left : TermForm) (over : Option TermForm) (lexemes rest : List Lexeme) → IsQuotient depth left over lexemes rest → IsQuery depth (parts_of_query left over None) lexemes rest
@@ -45,7 +45,7 @@ quotient_query (suc depth) left over lexemes rest is = inl (rest, is, refl)
 pub quotient_term : (depth : ℕ) (left : TermForm) (lexemes rest : List Lexeme) → IsQuotient depth left None lexemes rest → IsTerm depth left lexemes rest
 quotient_term zero left lexemes rest is = absurd is
 quotient_term (suc depth) left lexemes rest (inl term) = term
-quotient_term (suc depth) left lexemes rest (inr p) = inr (inside_told (quotient_term depth left) p)
+quotient_term (suc depth) left lexemes rest (inr p) = inr (inside_mapped (quotient_term depth left) p)
 
 -- and a term is a quotient
 pub term_quotient : (depth : ℕ) (left : TermForm) (lexemes rest : List Lexeme) → IsTerm depth left lexemes rest → IsQuotient depth left None lexemes rest
@@ -91,7 +91,7 @@ divided_sound room left None None lexemes middle before = then _ (next_found mid
     let dividend = query_quotient room.depth left None lexemes middle before.is in
     let nested = and_from (is_nested left) (is_nested x.0) (and_parts (is_nested left) true before.fits.2).0 (le-leb (length x.0.aggregations) most_aggregations over.fits.0) in
     found (record {
-      is = divided_query room.depth left x.0 lexemes middle first.1 x.1 dividend (told_by middle first.1 (only_sign signs.Slash first.0.token slash) stand) over.is;
+      is = divided_query room.depth left x.0 lexemes middle first.1 x.1 dividend (stands_as middle first.1 (only_sign signs.Slash first.0.token slash) stand) over.is;
       fits = (omega (arith, before.fits, over.fits), omega (arith, before.fits, over.fits), nested);
     })))
     (λ _. found before))
@@ -111,14 +111,14 @@ unfolding threshold_at
 threshold_found comparison lexemes middle sign =
     then _ (next_found middle) (λ first stand.
     then _ (number_found first.0.place first.0.token) (λ value number.
-    found (number.0, stand_then (tokens.Sign (comparison_sign comparison) ∷ []) (tokens.Number number.0 ∷ []) lexemes middle first.1 sign (told_by middle first.1 number.1 stand), number.2)))
+    found (number.0, stand_then (tokens.Sign (comparison_sign comparison) ∷ []) (tokens.Number number.0 ∷ []) lexemes middle first.1 sign (stands_as middle first.1 number.1 stand), number.2)))
 
 compared_sound : (room : Room) (left : TermForm) (over : Option TermForm) (test : Option ThresholdForm) (lexemes middle : List Lexeme) → IsRoomyQuery room (parts_of_query left over test) lexemes middle
     → Finds (λ x. IsRoomyQuery room (with_test (parts_of_query left over test) x.0) lexemes x.1) (compared_at (parts_of_query left over test) middle)
 unfolding compared_at
 compared_sound room left over (Some test) lexemes middle before = then _ (next_found middle) (λ _ _. found before)
 compared_sound room left over None lexemes middle before = then _ (next_found middle) (λ first stand. of_option _ (compared_by first.0.token)
-    (λ comparison is. then _ (threshold_found comparison middle first.1 (told_by middle first.1 (compared_read first.0.token comparison is) stand)) (λ test threshold.
+    (λ comparison is. then _ (threshold_found comparison middle first.1 (stands_as middle first.1 (compared_read first.0.token comparison is) stand)) (λ test threshold.
     found (record { is = tested_query room.depth left over test.0 lexemes middle test.1 (query_quotient room.depth left over lexemes middle before.is) threshold; fits = before.fits })))
     (λ _. found before))
 
@@ -131,7 +131,7 @@ operand_sound inside sound room lexemes = then _ (itself (next lexemes)) (λ fir
     (λ _. record {
       is = λ x h.
           let p = (parentheses_read IsRoomyQuery positions.Start inside room lexemes sound).is x h in
-          subst (λ r. IsRoomyQuery r x.0 lexemes x.1) (sym p.1) (record { is = inr (inside_told (λ _ _ inner. inner.is) p.2); fits = p.2.inside.fits });
+          subst (λ r. IsRoomyQuery r x.0 lexemes x.1) (sym p.1) (record { is = inr (inside_mapped (λ _ _ inner. inner.is) p.2); fits = p.2.inside.fits });
     })
     (λ _. lone_sound room lexemes))
 
@@ -158,4 +158,4 @@ query_derived text =
     then _ (whole_derived (lexemes_of text)) (λ query roomy.
     then _ (next_found query.1) (λ last stand.
     then _ (end_found last.0.place last.0.token) (λ _ is.
-    found (record { following = query.1; rest = last.1; is = roomy.is; end = told_by query.1 last.1 is stand; few = roomy.fits.0; few_tests = roomy.fits.1; nested = roomy.fits.2 }))))
+    found (record { following = query.1; rest = last.1; is = roomy.is; end = stands_as query.1 last.1 is stand; few = roomy.fits.0; few_tests = roomy.fits.1; nested = roomy.fits.2 }))))

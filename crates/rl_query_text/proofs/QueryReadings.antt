@@ -21,7 +21,7 @@ use Rattle.rl_selector_text.specs.Standing.{Stand}
 use Rattle.rl_query.specs.Tables.{comparison_sign, function_text, operator_word}
 use Rattle.rl_query_text.specs.TermGrammar.{InParentheses, IsBare, IsTerm, IsQuotient, IsThreshold, IsQuery, Derives}
 use Rattle.rl_query_text.proofs.AggregationProductions.{ends_term, EndsTerm}
-use Rattle.rl_query_text.proofs.Parentheses.{inside_room, inside_told, parentheses_are}
+use Rattle.rl_query_text.proofs.Parentheses.{inside_room, inside_mapped, parentheses_are}
 use Rattle.rl_selector_text.proofs.Productions.{next_is, stood, First, first_at, first_half}
 use Rattle.rl_query_text.proofs.QueryProductions.{parts_of_query, FitsQuery, quotient_query, quotient_term, term_quotient}
 use Rattle.rl_query_text.proofs.TermProductions.{Fits, IsRoomyTerm, term_is}
@@ -104,7 +104,7 @@ module _ (depth : ℕ) (inside : Reader QueryForm) (complete : IsComplete depth 
       let roomy : IsRoomyTerm most_aggregations room term lexemes rest = record { is = subst (λ n. IsTerm n term lexemes rest) (sym deep) is; fits = (nested, omega (arith, fits), omega (arith, fits)) } in
       rw (first.is, term_is positions.Start room lexemes term rest roomy ends) refl
   term_complete lexemes term rest (inr p) fits ends =
-      inner_complete lexemes (alone term) rest (inside_told (λ following end is. quotient_query depth term None following end (term_quotient depth term following end is)) p) fits
+      inner_complete lexemes (alone term) rest (inside_mapped (λ following end is. quotient_query depth term None following end (term_quotient depth term following end is)) p) fits
 
   -- an operand that is not divided, and its threshold
   operand_tested : (lexemes : List Lexeme) (left : TermForm) (over : Option TermForm) (test : Option ThresholdForm) (middle rest : List Lexeme) → operand_at inside room lexemes ≡ Ok (parts_of_query left over None, middle)
@@ -127,7 +127,7 @@ module _ (depth : ℕ) (inside : Reader QueryForm) (complete : IsComplete depth 
       let quotient = divided_is left over room divided.middle divided.following middle divided.slash divisor fit.1 (first_half stops) in
       rw (read, behind_is (alone left) room divided.middle left (Some over) test middle rest quotient threshold ends) refl
   tested_complete lexemes left (Some over) test middle rest (inr p) stops threshold fits ends =
-      let read = inner_complete lexemes (parts_of_query left (Some over) None) middle (inside_told (quotient_query depth left (Some over)) p) fits in
+      let read = inner_complete lexemes (parts_of_query left (Some over) None) middle (inside_mapped (quotient_query depth left (Some over)) p) fits in
       operand_tested lexemes left (Some over) test middle rest read stops threshold ends
 
 -- Queries.

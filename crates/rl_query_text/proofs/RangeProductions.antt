@@ -17,7 +17,7 @@ use Rattle.rl_selector_text.specs.Standing.{Stand}
 use Rattle.rl_selector_text.specs.Fronts.{expected}
 use Rattle.rl_query_text.specs.RangeReading.{looks_like_duration, seconds_of, range_of, seconds_at, closing_at, range_at, closed_at, timed_at}
 use Rattle.rl_selector_text.specs.Parsing.{after_stages}
-use Rattle.rl_selector_text.proofs.Finding.{Finds, found, fault, then, by_test, next_found, told_by}
+use Rattle.rl_selector_text.proofs.Finding.{Finds, found, fault, then, by_test, next_found, stands_as}
 use Rattle.rl_selector_text.proofs.Productions.{stand_then, stood, expected_found, expected_is, selector_found, selector_is}
 use Rattle.rl_selector_text.proofs.StageProductions.{AreRoomy, stages_derived, stages_are_read}
 use Rattle.rl_query_text.proofs.Parentheses.{inside_room, opened_read, opened_is}
@@ -41,7 +41,7 @@ seconds_read position lexemes =
     then _ (next_found bracket) (λ number stand.
     then _ (range_read number.0.place number.0.token) (λ seconds is.
     then _ (expected_found signs.CloseBracket positions.InRange number.1) (λ rest closed.
-    let digits = stand_then (tokens.Number is.0 ∷ []) (tokens.Sign signs.CloseBracket ∷ []) bracket number.1 rest (told_by bracket number.1 is.1 stand) closed in
+    let digits = stand_then (tokens.Number is.0 ∷ []) (tokens.Sign signs.CloseBracket ∷ []) bracket number.1 rest (stands_as bracket number.1 is.1 stand) closed in
     found (record { duration = is.0; stand = stand_then (tokens.Sign signs.OpenBracket ∷ []) (tokens.Number is.0 ∷ tokens.Sign signs.CloseBracket ∷ []) lexemes bracket rest opened digits; read = is.2; in_range = is.3 })))))
 
 seconds_are : (position : Position) (seconds : ℕ) (lexemes rest : List Lexeme) → IsDuration seconds lexemes rest → seconds_at position lexemes ≡ Ok (seconds, rest)

@@ -18,8 +18,8 @@ use Rattle.rl_selector_text.specs.Standing.{Stand}
 use Rattle.rl_query.specs.Tables.{function_text, all_functions, function_with_text, operator_word}
 use Rattle.rl_query_text.specs.TermGrammar.{IsParameter, IsAggregation, IsBare, IsTerm}
 use Rattle.rl_query_text.proofs.AggregationProductions.{front_found, ended_found, EndsTerm, word_of_operator, front_of, front_is, ended_is}
-use Rattle.rl_query_text.proofs.Parentheses.{inside_room, outside, inside_told, parentheses_read, parentheses_are}
-use Rattle.rl_selector_text.proofs.Finding.{Finds, found, fault, then, by_test, of_option, next_found, told_by}
+use Rattle.rl_query_text.proofs.Parentheses.{inside_room, outside, inside_mapped, parentheses_read, parentheses_are}
+use Rattle.rl_selector_text.proofs.Finding.{Finds, found, fault, then, by_test, of_option, next_found, stands_as}
 use Rattle.rl_selector_text.proofs.Productions.{text_found, next_is, stood, first_at}
 use Rattle.rl_query_text.proofs.RangeProductions.{range_derived, range_is}
 
@@ -74,7 +74,7 @@ unfolding ranged_at
 begun_sound inside sound position place (tokens.Word word) nest room all following stand = by_test (is_operator_word word)
     (λ operator. aggregated_sound inside sound word nest room all following operator stand)
     (λ _. of_option _ (function_with_text word) (λ function is. then _ (range_derived room following) (λ x range.
-    let begins = told_by all following (ap tokens.Word (text_found function_text word all_functions function is)) stand in
+    let begins = stands_as all following (ap tokens.Word (text_found function_text word all_functions function is)) stand in
     let made : TermForm = record { aggregations = []; function = function; range = x.0 } in
     let is : IsTerm (suc range.inside) made all x.1 = inl (following, begins, range.is) in
     found (record { is = subst (λ n. IsTerm n made all x.1) (sym range.depth) is; fits = (omega arith, range.few, range.few_tests) })))
@@ -83,7 +83,7 @@ begun_sound inside sound position place (tokens.Sign sign) nest room all followi
     (λ _. record {
       is = λ x h.
           let p = (parentheses_read (IsRoomyTerm nest) positions.InTerm (inside positions.InTerm nest) room all (sound positions.InTerm nest)).is x h in
-          subst (λ r. IsRoomyTerm nest r x.0 all x.1) (sym p.1) (record { is = inr (inside_told (λ _ _ inner. inner.is) p.2); fits = p.2.inside.fits });
+          subst (λ r. IsRoomyTerm nest r x.0 all x.1) (sym p.1) (record { is = inr (inside_mapped (λ _ _ inner. inner.is) p.2); fits = p.2.inside.fits });
     })
     (λ _. fault)
 begun_sound inside sound position place _ nest room all following stand = fault

@@ -24,7 +24,7 @@ pub fn parse(alloc: Global, text: &str) -> Result<Query, QueryError>
     read(alloc, text)
 }
 
-#[tactic(auto, using(rl_selector_text::proofs::Meetings::read_told, rl_selector_text::proofs::Meetings::stop_told))]
+#[tactic(auto, using(rl_selector_text::proofs::Meetings::read_refused, rl_selector_text::proofs::Meetings::stop_refused))]
 fn read(alloc: Global, text: &str) -> Result<Query, QueryError>
     ensures { Reads query_form result (query_of text.now) (query_meets_pattern text.now) }
 {

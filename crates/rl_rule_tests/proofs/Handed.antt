@@ -18,7 +18,7 @@ use Rattle.rl_rule_tests.specs.Playing.{moment_of, IsHanded, IsHandedParts, IsTe
 
 pub parts_handed : {E : Type 0} (ruler : Ruler E) (old new : E) (labels : LabelSet) (moment : ℕ) (text : List ℕ) (entry : Entry) (answer : Result ShardReply Refusal) (refused : Bool)
     → entry_fault labels text ≡ None → entry.labels ≡ labels → entry.timestamp ≡ moment → entry.line ≡ text → ruler.pushes old entry answer new → refused ≡ is_some (push_refusal answer) → IsHandedParts ruler old labels moment text refused new
-parts_handed ruler old new labels moment text entry answer refused fault of_labels at line pushed told = rw fault (entry, of_labels, at, line, answer, pushed, told)
+parts_handed ruler old new labels moment text entry answer refused fault of_labels at line pushed report = rw fault (entry, of_labels, at, line, answer, pushed, report)
 
 pub line_handed : {E : Type 0} (ruler : Ruler E) (old new : E) (stream : Stream) (line : Line) (labels : LabelSet) (moment : ℕ) (text : List ℕ) (refused : Bool)
     → moment_of line.moment line.before ≡ Some moment → IsTextOf line text → labels ≡ stream.labels → IsHandedParts ruler old labels moment text refused new → IsHanded ruler old (stream, line) refused new
@@ -34,9 +34,9 @@ fresh_books records count copies groups sinks books are one same none =
     are ∙ ap (λ n. books_from 0 records n copies sinks) one ∙ ap (λ s. books_from 0 records 1 copies s) none ∙ ap (λ all. books_from 0 records 1 all (map (λ _. []) all)) same
 
 -- a name is given where there is one
-pub some_told : {A B : Type 0} (f : A → B) (o : Option A) (told : Option B) → option_map f o ≡ told → is_some o ≡ is_some told
-some_told f None told same = ap is_some same
-some_told f (Some x) told same = ap is_some same
+pub some_reported : {A B : Type 0} (f : A → B) (o : Option A) (report : Option B) → option_map f o ≡ report → is_some o ≡ is_some report
+some_reported f None report same = ap is_some same
+some_reported f (Some x) report same = ap is_some same
 
 same_more : {A B : Type 0} (b : B) (xs : List A) (i : ℕ) → i < length xs → map (λ _. b) (take (i + 1) xs) ≡ map (λ _. b) (take i xs) ++ b ∷ []
 same_more b [] i below = absurd (omega (arith, below))

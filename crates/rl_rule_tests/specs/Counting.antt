@@ -6,15 +6,15 @@ use Rattle.rl_rules.specs.declared.evaluation.Evaluation.{Evaluation}
 use Rattle.rl_rules.specs.declared.evaluation.RuleResult.{RuleResult}
 use Rattle.rl_rule_tests.specs.declared.document.Check.{Check}
 use Rattle.rl_rule_tests.specs.declared.rows.Outcome.{Outcome}
-use Rattle.rl_rule_tests.specs.declared.told.Told.{Told}
+use Rattle.rl_rule_tests.specs.declared.report.Report.{Report}
 use Rattle.rl_rule_tests.specs.Judging.{agrees, failure_of, form, results_of, rows_of, wanted_row, IsOutcome}
 
 pub record Counts : Type 0 where
   pub passed : ℕ
   pub failed : ℕ
 
-abbrev pub counts_of : Told → Counts
-counts_of told = record { passed = told.passed; failed = told.failed }
+abbrev pub counts_of : Report → Counts
+counts_of report = record { passed = report.passed; failed = report.failed }
 
 abbrev pub no_counts : Counts
 no_counts = record { passed = 0; failed = 0 }

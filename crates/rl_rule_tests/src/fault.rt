@@ -44,8 +44,8 @@ fn place_within(
 }
 
 // The fault with this text.
-pub(crate) fn fault(told: Result<String, AllocError>) -> TestsError {
-    match told {
+pub(crate) fn fault(report: Result<String, AllocError>) -> TestsError {
+    match report {
         Ok(what) => TestsError::Fault(TestsFault {
             place: String::new(*what.allocator()),
             what,

@@ -4,7 +4,7 @@
 //!   `number` for values. `fault`: why a text is no test file.
 //! - `events`: what happens in a test, in its order. `playing`: that, played to a ruler.
 //! - `judging`: whether what rules gave is what is wanted, as `rows`. `differences`: where it is not, as text.
-//! - `told`: what is printed of tests, and the counts.
+//! - `report`: what is printed of tests, and the counts.
 #![tactic(auto)]
 
 mod differences;
@@ -18,10 +18,10 @@ mod part;
 mod playing;
 mod rows;
 mod streams;
-mod told;
+mod report;
 mod wanted;
 
 pub use document::{Document, Edit, Test, read_document, read_table};
 pub use fault::{TestsError, TestsFault};
 pub use playing::play;
-pub use told::Told;
+pub use report::Report;

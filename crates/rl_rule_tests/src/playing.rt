@@ -12,7 +12,7 @@ use crate::events::{Event, What, events_of};
 use crate::judging::{agree, given, is_named, results_of};
 use crate::lines::{Line, Stream};
 use crate::rows::Outcome;
-use crate::told::Told;
+use crate::report::Report;
 use crate::wanted::wanted_of;
 use rl_chunks::MemStore;
 use rl_labels::{DEFAULT_LIMITS, Entry, Labels, Limits, Ns};
@@ -42,34 +42,34 @@ pub fn play(
     alloc: Global,
     groups: &[Group],
     test: &Test<'_>,
-    told: &mut Told,
+    report: &mut Report,
 ) -> Result<(), AllocError>
-    ensures { OnOk result (IsPlayed groups.now test.now (counts_of told.old) (counts_of told.new)) }
+    ensures { OnOk result (IsPlayed groups.now test.now (counts_of report.old) (counts_of report.new)) }
 {
     let events = events_of(alloc, groups, test)?;
     let mut engine = ruler(alloc, groups)?;
-    tell_spans(&engine, test, told)?;
-    play_events(alloc, &mut engine, groups, test, &events, told)?;
+    report_spans(&engine, test, report)?;
+    play_events(alloc, &mut engine, groups, test, &events, report)?;
     Ok(())
 }
 
 // Reports evaluations that are asked for of groups that are not there.
-fn tell_spans<E: Engine>(engine: &E, test: &Test<'_>, told: &mut Told) -> Result<(), AllocError>
-    ensures { OnOk result (Chain (AsksOfNobody (ruler_of E.calls) engine.now) (counts_of told.old) test.now.spans.items (counts_of told.new)) }
+fn report_spans<E: Engine>(engine: &E, test: &Test<'_>, report: &mut Report) -> Result<(), AllocError>
+    ensures { OnOk result (Chain (AsksOfNobody (ruler_of E.calls) engine.now) (counts_of report.old) test.now.spans.items (counts_of report.new)) }
 {
     for span in &test.spans {
-        tell_span(engine, test.name, span, told)?;
+        report_span(engine, test.name, span, report)?;
     }
     Ok(())
 }
 
-fn tell_span<E: Engine>(
+fn report_span<E: Engine>(
     engine: &E,
     test: &str,
     span: &Span<'_>,
-    told: &mut Told,
+    report: &mut Report,
 ) -> Result<(), AllocError>
-    ensures { OnOk result (AsksOfNobody (ruler_of E.calls) engine.now (counts_of told.old) span.now (counts_of told.new)) }
+    ensures { OnOk result (AsksOfNobody (ruler_of E.calls) engine.now (counts_of report.old) span.now (counts_of report.new)) }
 {
     let Some(name) = span.group else {
         return Ok(());
@@ -77,7 +77,7 @@ fn tell_span<E: Engine>(
     if engine.group(name).is_some() {
         return Ok(());
     }
-    told.refuse(test, span.steps.from, "evaluation of", name, "NoSuchGroup")
+    report.refuse(test, span.steps.from, "evaluation of", name, "NoSuchGroup")
 }
 
 // A ruler that holds nothing.
@@ -131,16 +131,16 @@ fn play_events<E: Engine>(
     groups: &[Group],
     test: &Test<'_>,
     events: &[Event],
-    told: &mut Told,
+    report: &mut Report,
 ) -> Result<(), AllocError>
-    ensures { OnOk result (PlaysAll (ruler_of E.calls) groups.now test.now (record { engine = engine.old; counts = counts_of told.old }) events.now (record { engine = engine.new; counts = counts_of told.new })) }
+    ensures { OnOk result (PlaysAll (ruler_of E.calls) groups.now test.now (record { engine = engine.old; counts = counts_of report.old }) events.now (record { engine = engine.new; counts = counts_of report.new })) }
 {
     let mut moment = Moment {
         at: 0,
         given: Vec::new(alloc),
     };
     for event in events {
-        play_event(alloc, engine, groups, test, *event, &mut moment, told)?;
+        play_event(alloc, engine, groups, test, *event, &mut moment, report)?;
     }
     Ok(())
 }
@@ -152,16 +152,16 @@ fn play_event<E: Engine>(
     test: &Test<'_>,
     event: Event,
     moment: &mut Moment,
-    told: &mut Told,
+    report: &mut Report,
 ) -> Result<(), AllocError>
-    ensures { OnOk result (Happens (ruler_of E.calls) groups.now test.now (stage_of engine.old moment.old (counts_of told.old)) event (stage_of engine.new moment.new (counts_of told.new))) }
+    ensures { OnOk result (Happens (ruler_of E.calls) groups.now test.now (stage_of engine.old moment.old (counts_of report.old)) event (stage_of engine.new moment.new (counts_of report.new))) }
 {
     arrive(moment, event.at);
     match event.what {
-        What::Line => play_line(alloc, engine, test, event, told),
-        What::Edit => play_edit(engine, test, event, told),
-        What::Evaluation => play_evaluation(engine, groups, test.name, event, moment, told),
-        What::Check => play_check(alloc, groups, test, event, &moment.given, told),
+        What::Line => play_line(alloc, engine, test, event, report),
+        What::Edit => play_edit(engine, test, event, report),
+        What::Evaluation => play_evaluation(engine, groups, test.name, event, moment, report),
+        What::Check => play_check(alloc, groups, test, event, &moment.given, report),
     }
 }
 
@@ -188,9 +188,9 @@ fn play_line<E: Engine>(
     engine: &mut E,
     test: &Test<'_>,
     event: Event,
-    told: &mut Told,
+    report: &mut Report,
 ) -> Result<(), AllocError>
-    ensures { OnOk result (HandsLine (ruler_of E.calls) (record { engine = engine.old; counts = counts_of told.old }) (line_at test.now event) (record { engine = engine.new; counts = counts_of told.new })) }
+    ensures { OnOk result (HandsLine (ruler_of E.calls) (record { engine = engine.old; counts = counts_of report.old }) (line_at test.now event) (record { engine = engine.new; counts = counts_of report.new })) }
 {
     let Some(stream) = test.streams.get(event.number) else {
         return Ok(());
@@ -201,7 +201,7 @@ fn play_line<E: Engine>(
     match push_line(alloc, engine, stream, *line)? {
         Some(why) => {
             let labels = stream.labels.as_text();
-            told.refuse(test.name, event.at, "line of", labels, why)
+            report.refuse(test.name, event.at, "line of", labels, why)
         }
         None => Ok(()),
     }
@@ -262,14 +262,14 @@ fn play_edit<E: Engine>(
     engine: &mut E,
     test: &Test<'_>,
     event: Event,
-    told: &mut Told,
+    report: &mut Report,
 ) -> Result<(), AllocError>
-    ensures { OnOk result (PutsGroups (ruler_of E.calls) (record { engine = engine.old; counts = counts_of told.old }) (slice_get test.now.edits.items event.number) (record { engine = engine.new; counts = counts_of told.new })) }
+    ensures { OnOk result (PutsGroups (ruler_of E.calls) (record { engine = engine.old; counts = counts_of report.old }) (slice_get test.now.edits.items event.number) (record { engine = engine.new; counts = counts_of report.new })) }
 {
     let Some(edit) = test.edits.get(event.number) else {
         return Ok(());
     };
-    play_groups(engine, test.name, event.at, &edit.groups, told)
+    play_groups(engine, test.name, event.at, &edit.groups, report)
 }
 
 fn play_groups<E: Engine>(
@@ -277,12 +277,12 @@ fn play_groups<E: Engine>(
     test: &str,
     at: u64,
     groups: &[Group],
-    told: &mut Told,
+    report: &mut Report,
 ) -> Result<(), AllocError>
-    ensures { OnOk result (Chain (PutsGroup (ruler_of E.calls)) (record { engine = engine.old; counts = counts_of told.old }) groups.now (record { engine = engine.new; counts = counts_of told.new })) }
+    ensures { OnOk result (Chain (PutsGroup (ruler_of E.calls)) (record { engine = engine.old; counts = counts_of report.old }) groups.now (record { engine = engine.new; counts = counts_of report.new })) }
 {
     for group in groups {
-        play_group(engine, test, at, group, told)?;
+        play_group(engine, test, at, group, report)?;
     }
     Ok(())
 }
@@ -292,12 +292,12 @@ fn play_group<E: Engine>(
     test: &str,
     at: u64,
     group: &Group,
-    told: &mut Told,
+    report: &mut Report,
 ) -> Result<(), AllocError>
-    ensures { OnOk result (PutsGroup (ruler_of E.calls) (record { engine = engine.old; counts = counts_of told.old }) group.now (record { engine = engine.new; counts = counts_of told.new })) }
+    ensures { OnOk result (PutsGroup (ruler_of E.calls) (record { engine = engine.old; counts = counts_of report.old }) group.now (record { engine = engine.new; counts = counts_of report.new })) }
 {
     match put_group(engine, group)? {
-        Some(why) => told.refuse(test, at, "edit of", group.name.as_str(), why),
+        Some(why) => report.refuse(test, at, "edit of", group.name.as_str(), why),
         None => Ok(()),
     }
 }
@@ -323,9 +323,9 @@ fn play_evaluation<E: Engine>(
     test: &str,
     event: Event,
     moment: &mut Moment,
-    told: &mut Told,
+    report: &mut Report,
 ) -> Result<(), AllocError>
-    ensures { OnOk result (Evaluates (ruler_of E.calls) (stage_of engine.old moment.old (counts_of told.old)) event.number (slice_get groups.now event.number) (moment_of event.at 0) (stage_of engine.new moment.new (counts_of told.new))) }
+    ensures { OnOk result (Evaluates (ruler_of E.calls) (stage_of engine.old moment.old (counts_of report.old)) event.number (slice_get groups.now event.number) (moment_of event.at 0) (stage_of engine.new moment.new (counts_of report.new))) }
 {
     let (Some(group), Some(t)) = (groups.get(event.number), moment_of(event.at, 0)) else {
         return Ok(());
@@ -339,7 +339,7 @@ fn play_evaluation<E: Engine>(
             moment.given.push(committed.evaluation)?;
             Ok(())
         }
-        Err(refusal) => told.refuse(test, event.at, "evaluation of", name, refusal_name(refusal)),
+        Err(refusal) => report.refuse(test, event.at, "evaluation of", name, refusal_name(refusal)),
     }
 }
 
@@ -361,14 +361,14 @@ fn play_check(
     test: &Test<'_>,
     event: Event,
     evaluations: &[Shared<Evaluation>],
-    told: &mut Told,
+    report: &mut Report,
 ) -> Result<(), AllocError>
-    ensures { OnOk result (Checks (slice_get test.now.checks.items event.number) evaluations.now (counts_of told.old) (counts_of told.new)) }
+    ensures { OnOk result (Checks (slice_get test.now.checks.items event.number) evaluations.now (counts_of report.old) (counts_of report.new)) }
 {
     let Some(check) = test.checks.get(event.number) else {
         return Ok(());
     };
-    count_check(alloc, groups, test, check, evaluations, told)
+    count_check(alloc, groups, test, check, evaluations, report)
 }
 
 // Counts a check, and reports it where it fails.
@@ -378,15 +378,15 @@ fn count_check(
     test: &Test<'_>,
     check: &Check<'_>,
     evaluations: &[Shared<Evaluation>],
-    told: &mut Told,
+    report: &mut Report,
 ) -> Result<(), AllocError>
-    ensures { OnOk result (IsCounted check.now evaluations.now (counts_of told.old) (counts_of told.new)) }
+    ensures { OnOk result (IsCounted check.now evaluations.now (counts_of report.old) (counts_of report.new)) }
 {
     let results = results_of(alloc, check, evaluations)?;
     let wanted = wanted_of(alloc, check)?;
     let given = given(alloc, &results)?;
     if passes(&results, &wanted, &given) {
-        told.pass();
+        report.pass();
         return Ok(());
     }
     let mut differences = String::new(alloc);
@@ -395,7 +395,7 @@ fn count_check(
     } else {
         push_differences(&mut differences, &wanted, &given)?;
     }
-    told.fail(test.name, check, differences.as_str())?;
+    report.fail(test.name, check, differences.as_str())?;
     Ok(())
 }
 

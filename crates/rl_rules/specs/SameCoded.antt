@@ -51,7 +51,7 @@ module _ {A : Type 0} (coded : Coded A) where
 
   -- any test of whether two values are one is this one
   pub same_answer : (b : Bool) (one other : A) → (IsTrue b ↔ (one ≡ other)) → b ≡ same_coded one other
-  same_answer b one other tells = alike b (same_coded one other) tells (same_coded-true one other)
+  same_answer b one other shows = alike b (same_coded one other) shows (same_coded-true one other)
     where
       alike : {P : Type 0} (a b : Bool) → (IsTrue a ↔ P) → (IsTrue b ↔ P) → a ≡ b
       alike true true x y = refl

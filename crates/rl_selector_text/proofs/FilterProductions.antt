@@ -15,7 +15,7 @@ use Rattle.rl_selector_text.specs.Grammar.{filter_sign, filter_tokens, filters_t
 use Rattle.rl_query.specs.Limits.{is_filter}
 use Rattle.rl_selector_text.specs.Fronts.{next}
 use Rattle.rl_selector_text.specs.Parsing.{filter_op, filter_text, filter_at, filters_at}
-use Rattle.rl_selector_text.proofs.Finding.{Finds, found, fault, then, by_test, of_option, checked, next_found, told_by}
+use Rattle.rl_selector_text.proofs.Finding.{Finds, found, fault, then, by_test, of_option, checked, next_found, stands_as}
 use Rattle.rl_selector_text.specs.Stops.{stop}
 use Rattle.rl_query.specs.declared.fault.QueryFault.TheVariants as faults
 use Rattle.rl_selector_text.proofs.Productions.{stood, stand_split, stand_then, First, first_at}
@@ -40,7 +40,7 @@ filter_read lexemes following op sign =
     then _ (next_found following) (λ text stand.
     then _ (text_read text.0.place text.0.token) (λ value is.
     then _ (checked (is_filter op value) (record { op = op; text = value }) (stop faults.BadRegex text.0.place)) (λ filter proper.
-    found (subst (λ (f : FilterForm). Stand (filter_tokens f) lexemes text.1 × (is_filter f.op f.text ≡ true)) proper.1 (stand_then (tokens.Sign (filter_sign op) ∷ []) (tokens.Text value ∷ []) lexemes following text.1 sign (told_by following text.1 is stand), proper.0)))))
+    found (subst (λ (f : FilterForm). Stand (filter_tokens f) lexemes text.1 × (is_filter f.op f.text ≡ true)) proper.1 (stand_then (tokens.Sign (filter_sign op) ∷ []) (tokens.Text value ∷ []) lexemes following text.1 sign (stands_as following text.1 is stand), proper.0)))))
 
 -- one turn of reading them
 pub filters_turn : (most : ℕ) (lexemes : List Lexeme) → filters_at (suc most) lexemes ≡ (next lexemes >>= λ first. option_map_or (λ op. filter_at op first.1 >>= λ filter. filters_at most filter.1 >>= λ others. Ok (filter.0 ∷ others.0, others.1)) (filter_op first.0.token) (Ok ([], lexemes)))
@@ -55,7 +55,7 @@ unfolding filters_at
 filters_read zero lexemes = then _ (next_found lexemes) (λ first stand. by_test (is_some (filter_op first.0.token)) (λ _. fault) (λ _. found (no_filters zero lexemes)))
 filters_read (suc most) lexemes =
     then _ (next_found lexemes) (λ first stand. of_option _ (filter_op first.0.token)
-    (λ op is. then _ (filter_read lexemes first.1 op (told_by lexemes first.1 (op_read first.0.token op is) stand)) (λ filter one.
+    (λ op is. then _ (filter_read lexemes first.1 op (stands_as lexemes first.1 (op_read first.0.token op is) stand)) (λ filter one.
     then _ (filters_read most filter.1) (λ others more.
     found (record { stand = stand_then (filter_tokens filter.0) (filters_tokens others.0) lexemes filter.1 others.1 one.0 more.stand; proper = and_from (is_filter filter.0.op filter.0.text) _ one.1 more.proper; few = omega (arith, more.few) }))))
     (λ _. found (no_filters (suc most) lexemes)))

@@ -59,8 +59,8 @@ pub next_found : (lexemes : List Lexeme) → Finds (λ x. Stand (x.0.token ∷ [
 next_found lexemes = record { is = λ x h. one_read x.0.token lexemes x.1 x.0 h refl }
 
 -- a token that is another
-pub told_by : {t u : Token} (lexemes rest : List Lexeme) → t ≡ u → Stand (t ∷ []) lexemes rest → Stand (u ∷ []) lexemes rest
-told_by {t} {u} lexemes rest same stand = subst (λ t. Stand (t ∷ []) lexemes rest) same stand
+pub stands_as : {t u : Token} (lexemes rest : List Lexeme) → t ≡ u → Stand (t ∷ []) lexemes rest → Stand (u ∷ []) lexemes rest
+stands_as {t} {u} lexemes rest same stand = subst (λ t. Stand (t ∷ []) lexemes rest) same stand
 
 -- what stops the first stops what follows it too
 pub first_stops : {A B : Type 0} (e : OrMemory Stop) (first : Result A Stop) (following : A → Result B Stop) → Fails e first → Fails e (first >>= following)

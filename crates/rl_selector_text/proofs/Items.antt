@@ -35,10 +35,10 @@ real_forms [] = refl
 real_forms (m ∷ matchers) = ap (λ b. not (passes m.op m.value []) || b) (real_forms matchers)
 
 -- why a matcher is not read, as a fault of the query
-abbrev told : ℕ → MatcherFault → Stop
-told place matchers.BadName = syntax place
-told place matchers.BadRegex = stop faults.BadRegex place
+abbrev stop_of : ℕ → MatcherFault → Stop
+stop_of place matchers.BadName = syntax place
+stop_of place matchers.BadRegex = stop faults.BadRegex place
 
-pub unread : (place : ℕ) (m : MatcherForm) (fault : MatcherFault) → IsUnread m.name m.op m.value (errors.Fault fault) → checked_matcher place m ≡ Err (told place fault)
+pub unread : (place : ℕ) (m : MatcherForm) (fault : MatcherFault) → IsUnread m.name m.op m.value (errors.Fault fault) → checked_matcher place m ≡ Err (stop_of place fault)
 unread place m matchers.BadName h = cond-true (not (is_name m.name)) _ _ (ap not h)
 unread place m matchers.BadRegex h = cond-false (not (is_name m.name)) _ _ (ap not h.0) ∙ cond-false (is_comparable m.op m.value) _ _ h.1

@@ -10,7 +10,7 @@ use Rattle.rl_query.specs.declared.token.Lexeme.{Lexeme}
 use Rattle.rl_query.specs.declared.token.Token.TheVariants as tokens
 use Rattle.rl_selector_text.specs.declared.stop.Stop.{Stop}
 use Rattle.rl_selector_text.specs.Answering.{Reads, IsForRoom}
-use Rattle.rl_selector_text.specs.Meeting.{precedes_pattern, has_pattern_token, tokens_before, meets_pattern, ends_before_pattern, IsTold}
+use Rattle.rl_selector_text.specs.Meeting.{precedes_pattern, has_pattern_token, tokens_before, meets_pattern, ends_before_pattern, IsRefusal}
 use Rattle.rl_selector_text.specs.Stops.{fault_of}
 use Rattle.rl_selector_text.specs.Testing.{is_content}
 
@@ -21,14 +21,14 @@ for_room view read meets (errors.Fault faults.BadRegex) h = inr (refl, h)
 for_room view read meets (errors.Fault _) h = absurd h
 
 -- a text is read, and a pattern of it has no room
-pub read_told : {X Y : Type 0} (view : X → Y) (x : X) (lexemes : List Lexeme) (reading : Result Y Stop) (error : OrMemory QueryFault) → reading ≡ Ok (view x) → IsForRoom (has_pattern_token false lexemes) error → Reads view (Err error) (fault_of reading) (meets_pattern reading lexemes)
-read_told view x lexemes reading error is h = rw is (for_room view (Ok (view x)) (has_pattern_token false lexemes) error h)
+pub read_refused : {X Y : Type 0} (view : X → Y) (x : X) (lexemes : List Lexeme) (reading : Result Y Stop) (error : OrMemory QueryFault) → reading ≡ Ok (view x) → IsForRoom (has_pattern_token false lexemes) error → Reads view (Err error) (fault_of reading) (meets_pattern reading lexemes)
+read_refused view x lexemes reading error is h = rw is (for_room view (Ok (view x)) (has_pattern_token false lexemes) error h)
 
 -- reading stops, or memory runs out
-pub stop_told : {X Y : Type 0} (view : X → Y) (lexemes : List Lexeme) (reading : Result Y Stop) (stopped : OrMemory Stop) (error : OrMemory QueryFault) → Fails stopped reading → IsTold lexemes stopped error → Reads view (Err error) (fault_of reading) (meets_pattern reading lexemes)
-stop_told view lexemes reading errors.Memory error fails told = rw told tt
-stop_told view lexemes reading (errors.Fault stop) error fails (inl is) = rw (is, fails) (inl refl)
-stop_told view lexemes reading (errors.Fault stop) error fails (inr room) = rw fails (for_room view (Err stop.fault) (has_pattern_token false (tokens_before stop.place lexemes)) error room)
+pub stop_refused : {X Y : Type 0} (view : X → Y) (lexemes : List Lexeme) (reading : Result Y Stop) (stopped : OrMemory Stop) (error : OrMemory QueryFault) → Fails stopped reading → IsRefusal lexemes stopped error → Reads view (Err error) (fault_of reading) (meets_pattern reading lexemes)
+stop_refused view lexemes reading errors.Memory error fails shown = rw shown tt
+stop_refused view lexemes reading (errors.Fault stop) error fails (inl is) = rw (is, fails) (inl refl)
+stop_refused view lexemes reading (errors.Fault stop) error fails (inr room) = rw fails (for_room view (Err stop.fault) (has_pattern_token false (tokens_before stop.place lexemes)) error room)
 
 -- a text after a sign of patterns, at an index among tokens
 pub pattern_found : (after_sign : Bool) (lexemes : List Lexeme) (i : ℕ) (text : Lexeme) → i < length lexemes → text ≡ get_or lexemes i text → is_content text.token ≡ true → ends_before_pattern after_sign (take i lexemes) ≡ true → has_pattern_token after_sign lexemes ≡ true

@@ -25,7 +25,7 @@ use Rattle.rl_selector_text.specs.Lexing.{sign_at}
 use Rattle.rl_selector_text.specs.Fronts.{is_sign, next, expected, name_of, content_of, operator_of, checked_matcher, row_at, matcher_at}
 use Rattle.rl_selector_text.specs.Parsing.{element_at, listed_at, some_matcher, selector_at}
 use Rattle.rl_query.specs.Tables.{sign_text}
-use Rattle.rl_selector_text.proofs.Finding.{Finds, found, fault, itself, then, by_test, checked, next_found, told_by}
+use Rattle.rl_selector_text.proofs.Finding.{Finds, found, fault, itself, then, by_test, checked, next_found, stands_as}
 
 pub chosen : {A : Type 0} (b : Bool) (x y z : A) → cond b x y ≡ z → ((b ≡ true) × (x ≡ z)) ⊎ ((b ≡ false) × (y ≡ z))
 chosen true x y z h = inl (refl, h)
@@ -94,7 +94,7 @@ only_sign s _ h = absurd (true≢false (sym h))
 
 pub expected_found : (sign : Sign) (position : Position) (lexemes : List Lexeme) → Finds (λ rest. Stand (tokens.Sign sign ∷ []) lexemes rest) (expected sign position lexemes)
 unfolding expected
-expected_found sign position lexemes = then _ (next_found lexemes) (λ first stand. by_test (is_sign sign first.0.token) (λ is. found (told_by lexemes first.1 (only_sign sign first.0.token is) stand)) (λ _. fault))
+expected_found sign position lexemes = then _ (next_found lexemes) (λ first stand. by_test (is_sign sign first.0.token) (λ is. found (stands_as lexemes first.1 (only_sign sign first.0.token is) stand)) (λ _. fault))
 
 -- tokens, placed at the offsets of others, and what follows them
 abbrev pub placed : List Token → List Lexeme → List Lexeme → List Lexeme
@@ -151,7 +151,7 @@ row_found op_of value_of made lexemes ops values whole =
     then _ (ops second.0.place second.0.token) (λ op d.
     then _ (next_found second.1) (λ third e.
     then _ (values third.0.place third.0.token) (λ value f.
-    then _ (whole first.0.place name second.0.token third.0.token op value third.1 (stand_then (tokens.Word name ∷ []) (second.0.token ∷ third.0.token ∷ []) lexemes first.1 third.1 (told_by lexemes first.1 b a) (stand_then (second.0.token ∷ []) (third.0.token ∷ []) first.1 second.1 third.1 c e)) d f) (λ made is. found is)))))))
+    then _ (whole first.0.place name second.0.token third.0.token op value third.1 (stand_then (tokens.Word name ∷ []) (second.0.token ∷ third.0.token ∷ []) lexemes first.1 third.1 (stands_as lexemes first.1 b a) (stand_then (second.0.token ∷ []) (third.0.token ∷ []) first.1 second.1 third.1 c e)) d f) (λ made is. found is)))))))
 
 pub matcher_found : (lexemes : List Lexeme) → Finds (λ x. IsMatcher x.0 lexemes x.1) (matcher_at lexemes)
 unfolding matcher_at
@@ -232,8 +232,8 @@ unfolding element_at
 element_found lexemes =
     then _ (matcher_found lexemes) (λ matcher is.
     then _ (next_found matcher.1) (λ sign stand.
-    then _ (follows_found signs.CloseBrace sign.0.token _) (λ more told.
-    found (stand_then (matcher_tokens matcher.0) (follows signs.CloseBrace more ∷ []) lexemes matcher.1 sign.1 is.stand (told_by matcher.1 sign.1 told stand), is.proper))))
+    then _ (follows_found signs.CloseBrace sign.0.token _) (λ more shown.
+    found (stand_then (matcher_tokens matcher.0) (follows signs.CloseBrace more ∷ []) lexemes matcher.1 sign.1 is.stand (stands_as matcher.1 sign.1 shown stand), is.proper))))
 
 element_is : IsCompleteElement matcher_tokens is_matcher signs.CloseBrace element_at
 unfolding element_at

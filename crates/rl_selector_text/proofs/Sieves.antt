@@ -13,7 +13,7 @@ use Rattle.rl_query.specs.Limits.{most_stages}
 use Rattle.rl_selector_text.specs.Lexing.{lexemes_of}
 use Rattle.rl_selector_text.specs.Sieving.{after_filters, sieve_ends, rest_at, sieve_in}
 use Rattle.rl_selector_text.proofs.Productions.{next_is, expected_found, selector_found, selector_is}
-use Rattle.rl_selector_text.proofs.Finding.{Finds, found, fault, then, next_found, told_by}
+use Rattle.rl_selector_text.proofs.Finding.{Finds, found, fault, then, next_found, stands_as}
 use Rattle.rl_selector_text.proofs.FilterProductions.{stops_at, filters_read, filters_are}
 
 end_read : (position : Position) (place : ℕ) (t : Token) → Finds (λ _. t ≡ tokens.End) (sieve_ends position place t)
@@ -33,7 +33,7 @@ rest_read lexemes =
     then _ (filters_read most_stages lexemes) (λ filters are.
     then _ (next_found filters.1) (λ last stand.
     then _ (end_read (after_filters filters.0) last.0.place last.0.token) (λ _ is.
-    found (record { following = filters.1; rest = last.1; are = are; end = told_by filters.1 last.1 is stand }))))
+    found (record { following = filters.1; rest = last.1; are = are; end = stands_as filters.1 last.1 is stand }))))
 
 rest_is : (filters : List FilterForm) (lexemes following rest : List Lexeme) → AreFilters most_stages filters lexemes following → Stand (tokens.End ∷ []) following rest → rest_at lexemes ≡ Ok filters
 unfolding rest_at

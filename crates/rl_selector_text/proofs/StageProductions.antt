@@ -24,7 +24,7 @@ use Rattle.rl_query.specs.Limits.{is_taken}
 use Rattle.rl_selector_text.specs.Fronts.{next, is_sign}
 use Rattle.rl_selector_text.specs.Parsing.{filter_op, filter_at, begins_stage, stage_comes, parser_of, only_parser, tests_begin, tested_at, piped_at, stage_at, stages_at, stages_in}
 use Rattle.rl_query.specs.Printing.{parser_text}
-use Rattle.rl_selector_text.proofs.Finding.{Finds, found, fault, itself, then, by_test, of_option, same_ok, one_read, next_found, told_by}
+use Rattle.rl_selector_text.proofs.Finding.{Finds, found, fault, itself, then, by_test, of_option, same_ok, one_read, next_found, stands_as}
 use Rattle.rl_selector_text.proofs.Productions.{text_found, stand_then, stood, next_is, only_sign}
 use Rattle.rl_selector_text.proofs.FilterProductions.{op_read, op_is, filter_read}
 
@@ -54,11 +54,11 @@ piped_found : (parsed : Bool) (depth left : ℕ) (lexemes following : List Lexem
 unfolding piped_at tested_at
 piped_found parsed depth left lexemes following pipe = then _ (next_found following) (λ first stand.
     let there : (word : List ℕ) → first.0.token ≡ tokens.Word word → Stand (tokens.Sign signs.Pipe ∷ tokens.Word word ∷ []) lexemes first.1 =
-    λ word told. stand_then (tokens.Sign signs.Pipe ∷ []) (tokens.Word word ∷ []) lexemes following first.1 pipe (told_by following first.1 told stand) in
+    λ word shown. stand_then (tokens.Sign signs.Pipe ∷ []) (tokens.Word word ∷ []) lexemes following first.1 pipe (stands_as following first.1 shown stand) in
     of_option _ (parser_of first.0.token)
     (λ named is. then _ (only_found first.0.place parsed named) (λ parser only.
-    let told = parser_read first.0.token named is ∙ ap (λ p. tokens.Word (parser_text p)) only.1 in
-    found (record { is = there (parser_text parser) told; only = ap (λ b. b && true) only.0; counts = omega arith })))
+    let shown = parser_read first.0.token named is ∙ ap (λ p. tokens.Word (parser_text p)) only.1 in
+    found (record { is = there (parser_text parser) shown; only = ap (λ b. b && true) only.0; counts = omega arith })))
     (λ _. then _ (itself (next following)) (λ first _. then _ (itself (tests_begin first.0.place first.0.token first.1)) (λ _ _. then _ (tests_found depth left following) (λ tests are.
     found (record { is = record { following = following; pipe = pipe; are = are.0 }; only = and-false parsed; counts = are.1 }))))))
 

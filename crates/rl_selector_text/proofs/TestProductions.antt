@@ -16,7 +16,7 @@ use Rattle.rl_selector_text.specs.TestGrammar.{Rule, IsOne, alone, in_parenthese
 use Rattle.rl_selector_text.specs.Testing.{Read, Reader, is_word, label_at, one_fewer, test_at, enclosed_at, one_at, is_and, begins, after_join, others_at, joined_at, inside_at, tests_at}
 use Rattle.rl_query.specs.TestTree.{TestTree, joined, count_tests}
 use Rattle.rl_selector_text.proofs.FreeNames.{label_first}
-use Rattle.rl_selector_text.proofs.Finding.{Finds, found, fault, itself, then, by_test, of_option, next_found, told_by}
+use Rattle.rl_selector_text.proofs.Finding.{Finds, found, fault, itself, then, by_test, of_option, next_found, stands_as}
 use Rattle.rl_selector_text.proofs.Productions.{chosen, expected_found, only_sign}
 use Rattle.rl_selector_text.proofs.QuantityProductions.{label_test_found}
 
@@ -50,7 +50,7 @@ unfolding one_at enclosed_at
 one_sound inside Inside sound left lexemes = then _ (next_found lexemes) (λ first stand. by_test (is_sign signs.OpenParenthesis first.0.token)
     (λ opens. then _ (sound left first.1) (λ tests are.
     then _ (expected_found signs.CloseParenthesis positions.AfterInnerTests tests.2) (λ rest closed.
-    found (in_parentheses tests.0 lexemes first.1 tests.2 rest (told_by lexemes first.1 (only_sign signs.OpenParenthesis first.0.token opens) stand) are.0 closed, are.1))))
+    found (in_parentheses tests.0 lexemes first.1 tests.2 rest (stands_as lexemes first.1 (only_sign signs.OpenParenthesis first.0.token opens) stand) are.0 closed, are.1))))
     (λ _. test_sound Inside left lexemes))
 
 joins_read : (join : Join) (lexemes following : List Lexeme) → after_join join lexemes ≡ Some following → Joins join lexemes following

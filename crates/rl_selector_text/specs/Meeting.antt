@@ -42,6 +42,6 @@ ends_before_pattern after_sign [] = after_sign
 ends_before_pattern after_sign (lexeme ∷ lexemes) = ends_before_pattern (precedes_pattern lexeme.token) lexemes
 
 -- why a text is refused at which reading stopped: for its fault, or for room where a pattern stands before that
-abbrev pub IsTold : List Lexeme → OrMemory Stop → OrMemory QueryFault → Type 0
-IsTold lexemes Memory error = error ≡ Memory
-IsTold lexemes (Fault stop) error = (error ≡ Fault stop.fault) ⊎ IsForRoom (has_pattern_token false (tokens_before stop.place lexemes)) error
+abbrev pub IsRefusal : List Lexeme → OrMemory Stop → OrMemory QueryFault → Type 0
+IsRefusal lexemes Memory error = error ≡ Memory
+IsRefusal lexemes (Fault stop) error = (error ≡ Fault stop.fault) ⊎ IsForRoom (has_pattern_token false (tokens_before stop.place lexemes)) error

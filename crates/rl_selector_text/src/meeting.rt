@@ -2,7 +2,7 @@
 ghost use Rattle.std.specs.Prelude.{◌≡◌, ◌≤◌, length, nat_lt, IfErr, IfSome, IsTrue, true, false};
 ghost use Rattle.std.specs.List.{prefix_len};
 ghost use Rattle.rl_selector_text.specs.Answering.{IsForRoom};
-ghost use Rattle.rl_selector_text.specs.Meeting.{precedes_pattern, has_pattern_token, tokens_before, ends_before_pattern, IsTold};
+ghost use Rattle.rl_selector_text.specs.Meeting.{precedes_pattern, has_pattern_token, tokens_before, ends_before_pattern, IsRefusal};
 
 use crate::stop::Stopped;
 use crate::testing::is_label;
@@ -22,7 +22,7 @@ enum Matched {
 
 /// Why a text is refused at which reading stopped: for a pattern before that which has no room, else for the fault there.
 pub fn refused(alloc: Global, lexemes: &[Lexeme], stopped: Stopped) -> QueryError
-    ensures { IsTold lexemes.now stopped result }
+    ensures { IsRefusal lexemes.now stopped result }
 {
     match stopped {
         OrMemory::Fault(stop) => match have_room(alloc, before(stop.place, lexemes)) {

@@ -32,7 +32,7 @@ pub fn parse_delete(alloc: Global, text: &str) -> Result<Sieve, QueryError>
     read(alloc, text)
 }
 
-#[tactic(auto, using(crate::proofs::Meetings::read_told, crate::proofs::Meetings::stop_told))]
+#[tactic(auto, using(crate::proofs::Meetings::read_refused, crate::proofs::Meetings::stop_refused))]
 fn read(alloc: Global, text: &str) -> Result<Sieve, QueryError>
     ensures { Reads sieve_form result (sieve_of text.now) (sieve_meets_pattern text.now) }
 {

@@ -9,7 +9,7 @@ use Rattle.rl_plain.specs.declared.refusal.OrMemory.{OrMemory}
 use Rattle.rl_plain.specs.declared.refusal.OrMemory.TheVariants as errors
 use Rattle.rl_rules.specs.Forms.{GroupForm}
 use Rattle.rl_session.specs.Front.{FrontForm, front_of, front_from, front_in, with_commands, HasGroups, Says}
-use Rattle.rl_session.specs.Reading.{GivesOne, Reads, SaysRead, ReadsFront, Tells}
+use Rattle.rl_session.specs.Reading.{GivesOne, Reads, SaysRead, ReadsFront, ReadsAll}
 use Rattle.rl_session.specs.declared.front.fault.FrontFault.{FrontFault}
 use Rattle.rl_session.specs.declared.front.fault.FrontFault.TheVariants as faults
 
@@ -55,27 +55,27 @@ Reads-all most all (Some rest) bytes reads =
     let same : bytes ≡ all = reads.3.0 ∙ sym (reads.2 ∙ ap (λ l. concat reads.0 ++ l) reads.3.2 ∙ append-nil (concat reads.0)) in
     (omega (arith, reads.3.1, ap length same), same)
 
-Tells-all : (most : ℕ) (all : List ℕ) (answer : Result FrontForm FrontFault) → (length all ≤ most) × Says all answer → Tells most all answer
-Tells-all most all (Ok front) told = told
-Tells-all most all (Err faults.ReadFault) told = tt
-Tells-all most all (Err faults.TooLong) told = tt
-Tells-all most all (Err faults.NotText) told = told
-Tells-all most all (Err faults.NoMark) told = told
-Tells-all most all (Err (faults.Rules fault)) told = told
+ReadsAll-all : (most : ℕ) (all : List ℕ) (answer : Result FrontForm FrontFault) → (length all ≤ most) × Says all answer → ReadsAll most all answer
+ReadsAll-all most all (Ok front) said = said
+ReadsAll-all most all (Err faults.ReadFault) said = tt
+ReadsAll-all most all (Err faults.TooLong) said = tt
+ReadsAll-all most all (Err faults.NotText) said = said
+ReadsAll-all most all (Err faults.NoMark) said = said
+ReadsAll-all most all (Err (faults.Rules fault)) said = said
 
-Tells-read : (most : ℕ) (all : List ℕ) (new : Option (List ℕ)) (answer : Result FrontForm FrontFault) (read : Result (List ℕ) FrontFault) → Reads most (Some all) new read → SaysRead read answer → Tells most all answer
-Tells-read most all new answer (Ok bytes) reads says =
+ReadsAll-read : (most : ℕ) (all : List ℕ) (new : Option (List ℕ)) (answer : Result FrontForm FrontFault) (read : Result (List ℕ) FrontFault) → Reads most (Some all) new read → SaysRead read answer → ReadsAll most all answer
+ReadsAll-read most all new answer (Ok bytes) reads says =
     let whole = Reads-all most all new bytes reads in
-    Tells-all most all answer (whole.0, subst (λ known. Says known answer) whole.1 says)
-Tells-read most all new answer (Err faults.ReadFault) reads is = subst (Tells most all) (sym is) tt
-Tells-read most all new answer (Err faults.TooLong) reads is = subst (Tells most all) (sym is) tt
-Tells-read most all new answer (Err faults.NotText) reads is = absurd reads.3
-Tells-read most all new answer (Err faults.NoMark) reads is = absurd reads.3
-Tells-read most all new answer (Err (faults.Rules fault)) reads is = absurd reads.3
+    ReadsAll-all most all answer (whole.0, subst (λ known. Says known answer) whole.1 says)
+ReadsAll-read most all new answer (Err faults.ReadFault) reads is = subst (ReadsAll most all) (sym is) tt
+ReadsAll-read most all new answer (Err faults.TooLong) reads is = subst (ReadsAll most all) (sym is) tt
+ReadsAll-read most all new answer (Err faults.NotText) reads is = absurd reads.3
+ReadsAll-read most all new answer (Err faults.NoMark) reads is = absurd reads.3
+ReadsAll-read most all new answer (Err (faults.Rules fault)) reads is = absurd reads.3
 
 -- what is answered where the reader's bytes are known
-pub Tells-ReadsFront : {Z : Type 0} (form : Z → FrontForm) (most : ℕ) (old new : Option (List ℕ)) (result : Result Z (OrMemory FrontFault)) → GivesOne form (ReadsFront most old new) result → IfSome old (λ all. GivesOne form (Tells most all) result)
-Tells-ReadsFront form most None new result reads = tt
-Tells-ReadsFront form most (Some all) new (Ok front) reads = Tells-read most all new (Ok (form front)) reads.0 reads.1 reads.2
-Tells-ReadsFront form most (Some all) new (Err (errors.Fault fault)) reads = Tells-read most all new (Err fault) reads.0 reads.1 reads.2
-Tells-ReadsFront form most (Some all) new (Err errors.Memory) reads = tt
+pub ReadsAll-ReadsFront : {Z : Type 0} (form : Z → FrontForm) (most : ℕ) (old new : Option (List ℕ)) (result : Result Z (OrMemory FrontFault)) → GivesOne form (ReadsFront most old new) result → IfSome old (λ all. GivesOne form (ReadsAll most all) result)
+ReadsAll-ReadsFront form most None new result reads = tt
+ReadsAll-ReadsFront form most (Some all) new (Ok front) reads = ReadsAll-read most all new (Ok (form front)) reads.0 reads.1 reads.2
+ReadsAll-ReadsFront form most (Some all) new (Err (errors.Fault fault)) reads = ReadsAll-read most all new (Err fault) reads.0 reads.1 reads.2
+ReadsAll-ReadsFront form most (Some all) new (Err errors.Memory) reads = tt

@@ -12,10 +12,10 @@ use Rattle.rl_session.specs.Names.{refusal_name}
 use Rattle.rl_session.specs.Printed.{pushed_text, asked_text}
 use Rattle.rl_session.specs.PushBody.{entries_of}
 use Rattle.rl_session.specs.PushForms.{EntryForm}
-use Rattle.rl_session.specs.Reading.{Reads, Tells}
-use Rattle.rl_session.specs.Session.{IsTold, AreLinesTold}
-use Rattle.rl_session.specs.declared.telling.Answer.TheVariants.{Refused, Ended}
-use Rattle.rl_session.specs.declared.telling.Got.TheVariants as gots
+use Rattle.rl_session.specs.Reading.{Reads, ReadsAll}
+use Rattle.rl_session.specs.Session.{IsExecuted, AreLinesExecuted}
+use Rattle.rl_session.specs.declared.output.Answer.TheVariants.{Refused, Ended}
+use Rattle.rl_session.specs.declared.output.Got.TheVariants as gots
 use Rattle.rl_session.specs.declared.front.fault.FrontFault.TheVariants as fronts
 
 cut_round_a_mark : IsCut (codes "d\n%%\nc") (codes "d\n", codes "c")
@@ -30,8 +30,8 @@ not_read_past_the_longest reads = absurd (omega (arith, reads.3.1))
 reading_never_tells_of_the_mark : Reads 2 (Some []) (Some []) (Err fronts.NoMark) → ⊥
 reading_never_tells_of_the_mark reads = reads.3
 
-not_told_past_the_longest : Tells 4 (codes "abcde") (Err fronts.NoMark) → ⊥
-not_told_past_the_longest told = absurd (omega (arith, told.0))
+not_told_past_the_longest : ReadsAll 4 (codes "abcde") (Err fronts.NoMark) → ⊥
+not_told_past_the_longest said = absurd (omega (arith, said.0))
 
 name_of_a_busy_book : refusal_name (refusals.Book books.Busy) ≡ codes "Busy"
 name_of_a_busy_book = refl
@@ -45,11 +45,11 @@ unfolding digits
 refused_by_the_second_shard = refl
 
 module _ {E : Type 0} (calls : Calls E) where
-  push_without_memory : (engine : E) (json : List ℕ) (form : EntryForm) → entries_of json ≡ Ok (form ∷ []) → IsTold calls engine (Some (pushes json)) (codes "accepted 0 refused 1\n  0 Memory\n") Refused engine
+  push_without_memory : (engine : E) (json : List ℕ) (form : EntryForm) → entries_of json ≡ Ok (form ∷ []) → IsExecuted calls engine (Some (pushes json)) (codes "accepted 0 refused 1\n  0 Memory\n") Refused engine
   unfolding digits
   push_without_memory engine json form read = (gots.Unpushed 1, subst (λ read. IsForPush calls engine read (gots.Unpushed 1) engine) (sym read) (refl, refl), (refl, refl))
 
-  evaluation_refused : (old new : E) (group : List ℕ) → number_named group (calls.groups old) ≡ Some 0 → calls.evaluates old 0 5 (Err refusals.Memory) new → IsTold calls old (Some (evaluates 5 group)) (codes "refused Memory\n") Refused new
+  evaluation_refused : (old new : E) (group : List ℕ) → number_named group (calls.groups old) ≡ Some 0 → calls.evaluates old 0 5 (Err refusals.Memory) new → IsExecuted calls old (Some (evaluates 5 group)) (codes "refused Memory\n") Refused new
   evaluation_refused old new group named evaluated = (gots.Evaluated (Err refusals.Memory), subst (λ number. IsForEvaluation calls old 5 number (gots.Evaluated (Err refusals.Memory)) new) (sym named) (evaluated, tt), (refl, refl))
 
   tick_that_goes_on : (old mid new : E) → calls.is_due old 0 9 true → calls.evaluates old 0 9 (Err refusals.JournalFull) mid → calls.is_due mid 1 9 true → calls.evaluates mid 1 9 (Err refusals.Memory) new
@@ -57,5 +57,5 @@ module _ {E : Type 0} (calls : Calls E) where
   tick_that_goes_on old mid new first full second wanted =
       (true, first, (Err refusals.JournalFull, mid, Err refusals.Memory ∷ [], (full, tt), refl, (true, second, (Err refusals.Memory, new, [], (wanted, tt), refl, (refl, refl)))))
 
-  nothing_told_after_an_end : (engine : E) → AreLinesTold calls engine (codes "end" ∷ codes "nonsense" ∷ []) [] false engine
+  nothing_told_after_an_end : (engine : E) → AreLinesExecuted calls engine (codes "end" ∷ codes "nonsense" ∷ []) [] false engine
   nothing_told_after_an_end engine = ([], Ended, engine, (refl, refl, refl), (refl, refl, refl))

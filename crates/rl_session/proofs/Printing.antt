@@ -25,8 +25,8 @@ entry_lines_more answers i answer below is =
     sym (ap (entry_lines 0) (take_more answers i answer below ∙ ap (λ r. take i answers ++ r ∷ []) (sym is)) ∙ entry_lines-push 0 (take i answers) answer ∙ ap (λ n. entry_lines 0 (take i answers) ++ entry_line n (push_refusal answer)) place)
 
 -- an answer more, which is a refusal of this name or none
-pub answers_told : (old mid new : Option (List ℕ)) (answers : List (Result ShardReply Refusal)) (i : ℕ) (answer : Result ShardReply Refusal) (refusal : Option (List ℕ)) → i < length answers → answer ≡ get_or answers i answer → push_refusal answer ≡ refusal → Appends old mid (entry_lines 0 (take i answers)) → Appends mid new (entry_line i refusal) → Appends old new (entry_lines 0 (take (i + 1) answers))
-answers_told old mid new answers i answer refusal below is refused before more =
+pub answers_written : (old mid new : Option (List ℕ)) (answers : List (Result ShardReply Refusal)) (i : ℕ) (answer : Result ShardReply Refusal) (refusal : Option (List ℕ)) → i < length answers → answer ≡ get_or answers i answer → push_refusal answer ≡ refusal → Appends old mid (entry_lines 0 (take i answers)) → Appends mid new (entry_line i refusal) → Appends old new (entry_lines 0 (take (i + 1) answers))
+answers_written old mid new answers i answer refusal below is refused before more =
     appends_more old mid new _ _ _ before more (ap (λ r. entry_lines 0 (take i answers) ++ entry_line i r) (sym refused) ∙ entry_lines_more answers i answer below is)
 
 -- an answer more, where each one is this answer

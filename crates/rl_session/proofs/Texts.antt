@@ -17,6 +17,6 @@ texts_more texts i text is =
     ∙ ap (λ t. concat (take i texts) ++ t) (append-nil text))
 
 -- a text more of a sink, if there is one
-pub texts_told : (sink : Option SinkState) (old mid new : Option (List ℕ)) (i : ℕ) (text : List ℕ) → Some text ≡ option_and_then (λ sink. slice_get sink.kept i) sink → IfSome sink (λ sink. Appends old mid (concat (take i sink.kept))) → Appends mid new text → IfSome sink (λ sink. Appends old new (concat (take (i + 1) sink.kept)))
-texts_told None old mid new i text is before more = tt
-texts_told (Some sink) old mid new i text is before more = appends_more old mid new _ _ _ before more (texts_more sink.kept i text (sym is))
+pub texts_written : (sink : Option SinkState) (old mid new : Option (List ℕ)) (i : ℕ) (text : List ℕ) → Some text ≡ option_and_then (λ sink. slice_get sink.kept i) sink → IfSome sink (λ sink. Appends old mid (concat (take i sink.kept))) → Appends mid new text → IfSome sink (λ sink. Appends old new (concat (take (i + 1) sink.kept)))
+texts_written None old mid new i text is before more = tt
+texts_written (Some sink) old mid new i text is before more = appends_more old mid new _ _ _ before more (texts_more sink.kept i text (sym is))

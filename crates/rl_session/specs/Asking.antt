@@ -21,13 +21,13 @@ use Rattle.rl_session.specs.PushForms.{EntryForm, entry_form}
 use Rattle.rl_session.specs.declared.edit.EditRefusal.{EditRefusal}
 use Rattle.rl_session.specs.declared.edit.EditRefusal.TheVariants as causes
 use Rattle.rl_session.specs.declared.push.PushFault.{PushFault}
-use Rattle.rl_session.specs.declared.telling.Got.{Got}
-use Rattle.rl_session.specs.declared.telling.Got.TheVariants as gots
+use Rattle.rl_session.specs.declared.output.Got.{Got}
+use Rattle.rl_session.specs.declared.output.Got.TheVariants as gots
 
 -- an edit that was refused by the engine
-abbrev pub told_of_edit : Result ⊤ Refusal → Result ⊤ EditRefusal
-told_of_edit (Ok done) = Ok done
-told_of_edit (Err refusal) = Err (causes.Engine refusal)
+abbrev pub refusal_of_edit : Result ⊤ Refusal → Result ⊤ EditRefusal
+refusal_of_edit (Ok done) = Ok done
+refusal_of_edit (Err refusal) = Err (causes.Engine refusal)
 
 -- the selector with line filters that a text is, or why it is none
 abbrev pub SelectsIn : List ℕ → Result Sieve (OrMemory QueryFault) → Type 0
@@ -97,7 +97,7 @@ module _ {E : Type 0} (calls : Calls E) where
 
   -- the group at the number is edited, if there is one
   abbrev pub PutsAt : E → Option ℕ → Group → Result ⊤ EditRefusal → E → Type 0
-  PutsAt old (Some group) to result new = (answer : Result ⊤ Refusal) × calls.edits old group to answer new × (result ≡ told_of_edit answer)
+  PutsAt old (Some group) to result new = (answer : Result ⊤ Refusal) × calls.edits old group to answer new × (result ≡ refusal_of_edit answer)
   PutsAt old None to result new = (result ≡ Err causes.NoSuchGroup) × (new ≡ old)
 
   abbrev pub PutsGroup : E → Group → Result ⊤ EditRefusal → E → Type 0

@@ -11,10 +11,10 @@ use Rattle.rl_session.specs.Names.{push_error_name, push_refusal, query_error_na
 use Rattle.rl_session.specs.declared.edit.EditRefusal.{EditRefusal}
 use Rattle.rl_session.specs.declared.engine.Partly.{Partly}
 use Rattle.rl_session.specs.Engine.{Shown, kept_text}
-use Rattle.rl_session.specs.declared.telling.Answer.{Answer}
-use Rattle.rl_session.specs.declared.telling.Answer.TheVariants.{Taken, Refused}
-use Rattle.rl_session.specs.declared.telling.Got.{Got}
-use Rattle.rl_session.specs.declared.telling.Got.TheVariants as gots
+use Rattle.rl_session.specs.declared.output.Answer.{Answer}
+use Rattle.rl_session.specs.declared.output.Answer.TheVariants.{Taken, Refused}
+use Rattle.rl_session.specs.declared.output.Got.{Got}
+use Rattle.rl_session.specs.declared.output.Got.TheVariants as gots
 
 -- the line of a refusal
 abbrev pub refusal_line : List ℕ → List ℕ

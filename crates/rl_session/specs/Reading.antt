@@ -29,10 +29,10 @@ abbrev pub ReadsFront : ℕ → Option (List ℕ) → Option (List ℕ) → Resu
 ReadsFront most old new answer = (read : Result (List ℕ) FrontFault) × Reads most old new read × SaysRead read answer
 
 -- what is answered where all bytes of the reader are known: what they say, unless reading them failed
-abbrev pub Tells : ℕ → List ℕ → Result FrontForm FrontFault → Type 0
-Tells most all (Err faults.ReadFault) = Unit {0}
-Tells most all (Err faults.TooLong) = Unit {0}
-Tells most all answer = (length all ≤ most) × Says all answer
+abbrev pub ReadsAll : ℕ → List ℕ → Result FrontForm FrontFault → Type 0
+ReadsAll most all (Err faults.ReadFault) = Unit {0}
+ReadsAll most all (Err faults.TooLong) = Unit {0}
+ReadsAll most all answer = (length all ≤ most) × Says all answer
 
 -- what a function returned, seen by view, is an answer of this kind, unless memory ran out
 abbrev pub GivesOne : {X Y : Type 0} → (X → Y) → (Result Y FrontFault → Type 0) → Result X (OrMemory FrontFault) → Type 0

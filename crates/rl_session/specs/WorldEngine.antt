@@ -162,22 +162,22 @@ abbrev pub IsAlike : WorldBooks → WorldBooks → Type 0
 IsAlike old new = (map listed new.books ≡ map listed old.books) × (length new.shards ≡ length old.shards)
 
 -- what a reply says of the moments of open evaluations before and after, and of the names of groups; other replies never come
-abbrev pub TellsOf : (ℕ → Option ℕ) → (ℕ → Option ℕ) → (ℕ → Option (List ℕ)) → Step → Reply → Type 0
-TellsOf before after name (steps.Shard number step) (replies.Decided place reply) = Unit {0}
-TellsOf before after name (steps.Shard number step) (replies.Refused refusal) = Unit {0}
-TellsOf before after name (steps.Edit group to) (replies.Edited place) = Unit {0}
-TellsOf before after name (steps.Edit group to) (replies.Refused refusal) = Unit {0}
-TellsOf before after name (steps.Begin group t) replies.Begun = after group ≡ Some t
-TellsOf before after name (steps.Begin group t) (replies.Refused refusal) = Unit {0}
-TellsOf before after name (steps.Gather group number) (replies.Gathered place) = after group ≡ before group
-TellsOf before after name (steps.Gather group number) (replies.Refused refusal) = after group ≡ before group
-TellsOf before after name (steps.Commit group) (replies.Committed committed) = (before group ≡ Some committed.evaluation.t) × (name group ≡ Some committed.evaluation.group)
-TellsOf before after name (steps.Commit group) (replies.Refused refusal) = after group ≡ before group
-TellsOf before after name (steps.Abandon group) replies.Abandoned = Unit {0}
-TellsOf before after name (steps.Abandon group) (replies.Refused refusal) = before group ≡ None
-TellsOf before after name (steps.CatchUp group) (replies.CaughtUp behind) = Unit {0}
-TellsOf before after name (steps.CatchUp group) (replies.Refused refusal) = Unit {0}
-TellsOf before after name step reply = ⊥
+abbrev pub ReplySaysOf : (ℕ → Option ℕ) → (ℕ → Option ℕ) → (ℕ → Option (List ℕ)) → Step → Reply → Type 0
+ReplySaysOf before after name (steps.Shard number step) (replies.Decided place reply) = Unit {0}
+ReplySaysOf before after name (steps.Shard number step) (replies.Refused refusal) = Unit {0}
+ReplySaysOf before after name (steps.Edit group to) (replies.Edited place) = Unit {0}
+ReplySaysOf before after name (steps.Edit group to) (replies.Refused refusal) = Unit {0}
+ReplySaysOf before after name (steps.Begin group t) replies.Begun = after group ≡ Some t
+ReplySaysOf before after name (steps.Begin group t) (replies.Refused refusal) = Unit {0}
+ReplySaysOf before after name (steps.Gather group number) (replies.Gathered place) = after group ≡ before group
+ReplySaysOf before after name (steps.Gather group number) (replies.Refused refusal) = after group ≡ before group
+ReplySaysOf before after name (steps.Commit group) (replies.Committed committed) = (before group ≡ Some committed.evaluation.t) × (name group ≡ Some committed.evaluation.group)
+ReplySaysOf before after name (steps.Commit group) (replies.Refused refusal) = after group ≡ before group
+ReplySaysOf before after name (steps.Abandon group) replies.Abandoned = Unit {0}
+ReplySaysOf before after name (steps.Abandon group) (replies.Refused refusal) = before group ≡ None
+ReplySaysOf before after name (steps.CatchUp group) (replies.CaughtUp behind) = Unit {0}
+ReplySaysOf before after name (steps.CatchUp group) (replies.Refused refusal) = Unit {0}
+ReplySaysOf before after name step reply = ⊥
 
-abbrev pub Tells : WorldBooks → Step → Reply → WorldBooks → Type 0
-Tells old step reply new = TellsOf (open_moment old) (open_moment new) (name_at old) step reply
+abbrev pub ReplySays : WorldBooks → Step → Reply → WorldBooks → Type 0
+ReplySays old step reply new = ReplySaysOf (open_moment old) (open_moment new) (name_at old) step reply

@@ -7,7 +7,7 @@ ghost use Rattle.rl_session.specs.PushBody.{entries_of};
 use crate::edit::{EditRefusal, read_group};
 use crate::engine::Engine;
 use crate::push::PushReader;
-use crate::telling::Got;
+use crate::output::Got;
 use rl_labels::{Entry, Ns};
 use rl_plain::Shared;
 use rl_query::{QueryError, Sieve};

@@ -5,7 +5,7 @@ ghost use Rattle.std.specs.Io.KnownBytes.{Consumes, Keeps, IsAtEnd};
 ghost use Rattle.rl_plain.specs.declared.refusal.OrMemory.TheVariants.{Fault, Memory};
 ghost use Rattle.rl_rules.specs.Forms.{group_form};
 ghost use Rattle.rl_session.specs.Front.{IsFirstLine, front_of, IsCut, front_form, HasGroups, Says};
-ghost use Rattle.rl_session.specs.Reading.{GivesOne, Reads, ReadsFront, Tells};
+ghost use Rattle.rl_session.specs.Reading.{GivesOne, Reads, ReadsFront, ReadsAll};
 ghost use Rattle.rl_session.specs.declared.front.fault.FrontFault.TheVariants as faults;
 
 mod commands;
@@ -37,7 +37,7 @@ pub struct Front {
 /// The groups and the commands of all that a reader gives, or the lowest fault that it has.
 pub fn read_front<R: Read>(alloc: Global, reader: &mut R) -> Result<Front, FrontError>
     ensures answers { GivesOne front_form (ReadsFront 67_108_864 (R.remaining reader.old) (R.remaining reader.new)) result }
-    ensures known { IfSome (R.remaining reader.old) (λ all. GivesOne front_form (Tells 67_108_864 all) result) }
+    ensures known { IfSome (R.remaining reader.old) (λ all. GivesOne front_form (ReadsAll 67_108_864 all) result) }
 {
     let bytes = read_all(alloc, reader, MAX_INPUT_LEN)?;
     front_in(alloc, bytes)

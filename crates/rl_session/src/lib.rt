@@ -3,7 +3,7 @@
 //! - `front`: `read_front`, what stands before the mark and after it. `push`: `PushReader` and `read_push`, entries from JSON.
 //! - `engine`: `Engine`, what evaluates the groups. `world_engine`: `WorldEngine`, a world on one thread.
 //! - `command`: `Command`, one line. `edit`: the group of an edit. `asking`: what commands ask of an engine, and their results.
-//! - `telling`: what is printed of that. `session`: `Session`, many lines.
+//! - `output`: what is printed of that. `session`: `Session`, many lines.
 //! - `names`: the names of faults and refusals.
 #![tactic(auto)]
 
@@ -15,7 +15,7 @@ pub mod front;
 pub mod names;
 pub mod push;
 pub mod session;
-mod telling;
+mod output;
 pub mod world_engine;
 
 pub use command::{Command, is_blank, read_command};

@@ -2,7 +2,7 @@
 ghost use Rattle.std.specs.Prelude.{◌≡◌, Some};
 ghost use Rattle.rl_session.specs.Command.{asked, command_of};
 ghost use Rattle.rl_session.specs.Engine.{number_named};
-ghost use Rattle.rl_session.specs.Session.{Tells, TellsLine, TellsText, TellsSession, ShowsTo, is_end, is_refusal, ended_by};
+ghost use Rattle.rl_session.specs.Session.{Executes, ExecutesLine, ExecutesText, ExecutesSession, ShowsTo, is_end, is_refusal, ended_by};
 ghost use Rattle.rl_session.specs.declared.session.RunError.TheVariants.{WriteFault, Memory};
 
 use crate::asking::{ask_all, catch_up, delete, edit, eval, push, tick};
@@ -10,7 +10,7 @@ use crate::command::{Command, is_blank, read_command};
 use crate::engine::Engine;
 use crate::front::first_line;
 use crate::push::PushReader;
-use crate::telling::{Answer, Got, tell, tell_closed};
+use crate::output::{Answer, Got, write_result, write_closed};
 use rl_shard::ShardStep;
 use rl_world::Refusal;
 use std::alloc::{AllocError, AllocFailed, Global};
@@ -85,12 +85,12 @@ impl<E: Engine> Session<E> {
         commands: &str,
         out: &mut W,
     ) -> Result<Status, RunError>
-        ensures { TellsSession E.calls self.old.engine commands.now (W.contents out.old) result (W.contents out.new) self.new.engine }
+        ensures { ExecutesSession E.calls self.old.engine commands.now (W.contents out.old) result (W.contents out.new) self.new.engine }
     {
         let refused = answer_lines(self.alloc, &mut self.engine, commands, out);
         let closed = self.engine.close();
         let refused = refused?;
-        tell_closed(&closed, out)?;
+        write_closed(&closed, out)?;
         out.flush()?;
         Ok(status_of(closed, refused))
     }
@@ -114,7 +114,7 @@ fn answer_lines<E: Engine, W: Write>(
     commands: &str,
     out: &mut W,
 ) -> io::Result<bool>
-    ensures { TellsText E.calls engine.old commands.now (W.contents out.old) result (W.contents out.new) engine.new }
+    ensures { ExecutesText E.calls engine.old commands.now (W.contents out.old) result (W.contents out.new) engine.new }
 {
     let mut reader = PushReader::new(alloc);
     let mut refused = false;
@@ -153,7 +153,7 @@ fn answer_line<E: Engine, W: Write>(
     line: &str,
     out: &mut W,
 ) -> io::Result<Answer>
-    ensures { TellsLine E.calls engine.old line.now (W.contents out.old) result (W.contents out.new) engine.new }
+    ensures { ExecutesLine E.calls engine.old line.now (W.contents out.old) result (W.contents out.new) engine.new }
 {
     if is_blank(line) {
         return Ok(Answer::Taken);
@@ -171,11 +171,11 @@ fn answer_command<E: Engine, W: Write>(
     line: &str,
     out: &mut W,
 ) -> io::Result<Answer>
-    ensures { Tells E.calls engine.old (command_of line.now) (W.contents out.old) result (W.contents out.new) engine.new }
+    ensures { Executes E.calls engine.old (command_of line.now) (W.contents out.old) result (W.contents out.new) engine.new }
 {
     match read_command(line) {
         Some(command) => obey(alloc, reader, engine, command, out),
-        None => tell(&Got::Refused, out),
+        None => write_result(&Got::Refused, out),
     }
 }
 
@@ -186,12 +186,12 @@ fn obey<E: Engine, W: Write>(
     command: Command<'_>,
     out: &mut W,
 ) -> io::Result<Answer>
-    ensures { Tells E.calls engine.old (Some (asked command.entry)) (W.contents out.old) result (W.contents out.new) engine.new }
+    ensures { Executes E.calls engine.old (Some (asked command.entry)) (W.contents out.old) result (W.contents out.new) engine.new }
 {
     match command {
-        Command::Push(json) => tell(&push(alloc, reader, engine, json), out),
-        Command::Cut => tell(&ask_all(engine, ShardStep::Cut), out),
-        Command::Flush => tell(&ask_all(engine, ShardStep::Flush), out),
+        Command::Push(json) => write_result(&push(alloc, reader, engine, json), out),
+        Command::Cut => write_result(&ask_all(engine, ShardStep::Cut), out),
+        Command::Flush => write_result(&ask_all(engine, ShardStep::Flush), out),
         Command::Delete {
             id,
             start,
@@ -200,17 +200,17 @@ fn obey<E: Engine, W: Write>(
             selector,
         } => {
             let got = delete(alloc, engine, id, start, end, created, selector);
-            tell(&got, out)
+            write_result(&got, out)
         }
-        Command::Cancel { id } => tell(&ask_all(engine, ShardStep::Cancel { id }), out),
+        Command::Cancel { id } => write_result(&ask_all(engine, ShardStep::Cancel { id }), out),
         Command::Process { id, now } => {
-            tell(&ask_all(engine, ShardStep::Process { id, now }), out)
+            write_result(&ask_all(engine, ShardStep::Process { id, now }), out)
         }
-        Command::Retain { now } => tell(&ask_all(engine, ShardStep::Retain { now }), out),
-        Command::Edit(document) => tell(&edit(alloc, engine, document), out),
-        Command::Eval { t, group } => tell(&eval(engine, t, group), out),
-        Command::Tick { now } => tell(&tick(alloc, engine, now), out),
-        Command::Pump(group) => tell(&catch_up(engine, group), out),
+        Command::Retain { now } => write_result(&ask_all(engine, ShardStep::Retain { now }), out),
+        Command::Edit(document) => write_result(&edit(alloc, engine, document), out),
+        Command::Eval { t, group } => write_result(&eval(engine, t, group), out),
+        Command::Tick { now } => write_result(&tick(alloc, engine, now), out),
+        Command::Pump(group) => write_result(&catch_up(engine, group), out),
         Command::Show { sink, group } => show(engine, sink, group, out),
         Command::End => Ok(Answer::Ended),
     }
@@ -222,7 +222,7 @@ fn show<E: Engine, W: Write>(engine: &E, sink: usize, name: &str, out: &mut W) -
 {
     match engine.group(name) {
         Some(group) => show_of(engine, group, sink, out),
-        None => tell(&Got::Refused, out),
+        None => write_result(&Got::Refused, out),
     }
 }
 
@@ -238,6 +238,6 @@ fn show_of<E: Engine, W: Write>(
     if engine.show(group, sink, out)? {
         Ok(Answer::Taken)
     } else {
-        tell(&Got::Refused, out)
+        write_result(&Got::Refused, out)
     }
 }

@@ -25,15 +25,15 @@ use Rattle.rl_aggregate.specs.declared.partial.Partial.{Partial}
 use Rattle.rl_aggregate.specs.laws.Counting.{filter-both, new_counter_counts, stayed}
 use Rattle.rl_aggregate.specs.laws.Totals.{kept-permuted}
 use Rattle.rl_deletes.specs.Deletes.{RequestsView, covered, covered_line}
-use Rattle.rl_parts.specs.Reading.{told}
+use Rattle.rl_parts.specs.Reading.{answered}
 use Rattle.rl_parts.specs.StoreUse.{ReadCause, Right}
 use Rattle.rl_parts.specs.declared.fault.ReadFault.{ReadFault}
 use Rattle.rl_parts.specs.declared.fault.ReadFault.TheVariants as reads
-use Rattle.rl_streams.specs.Asking.{asked, is_asked, AreOfRow, AreTold, AreToldOnce}
+use Rattle.rl_streams.specs.Asking.{asked, is_asked, AreOfRow, AreVisited, AreVisitedOnce}
 use Rattle.rl_streams.specs.StreamRows.{Row}
 use Rattle.rl_streams.specs.StreamsState.{StreamsView}
 use Rattle.rl_shard.specs.Collecting.{counting, counting_shown, shown, IsOfReading, IsRead, IsStartOf}
-use Rattle.rl_shard.specs.ShardFault.{HasCause, told_of_read}
+use Rattle.rl_shard.specs.ShardFault.{HasCause, fault_of_read}
 use Rattle.rl_shard.specs.declared.lines.Lines.{Lines}
 use Rattle.rl_shard.proofs.Windows.{and_true, both_true, filter_flat, filter_map, filter_same, is_between, narrow_rows, start_at, starts_at, starts_before}
 
@@ -172,9 +172,9 @@ module _ (requests : Bor RequestsView) (range t : ℕ) where
     same_all [] all = tt
     same_all (line ∷ lines) all = (same_at line all.0, same_all lines all.1)
 
-    pub same_of_entries : (order : List Entry) → AllByRecursion (Noticed lasts) (map told order) → AllByRecursion (λ (e : Entry). is_counted (told e) ≡ (is_in e.timestamp && not (covered requests.now e))) order
+    pub same_of_entries : (order : List Entry) → AllByRecursion (Noticed lasts) (map answered order) → AllByRecursion (λ (e : Entry). is_counted (answered e) ≡ (is_in e.timestamp && not (covered requests.now e))) order
     same_of_entries [] all = tt
-    same_of_entries (e ∷ es) all = (sym (same_at (told e) all.0), same_of_entries es all.1)
+    same_of_entries (e ∷ es) all = (sym (same_at (answered e) all.0), same_of_entries es all.1)
 
 -- and a partial of the lines that are shown is made by these
 found_shown : (requests : RequestsView) (stages : List Stage) (found : Partial) (lines : List (LabelSet × Line)) → fold (counting_shown requests stages) found lines ≡ fold (counting stages) found (filter (is_shown requests) lines)
@@ -186,17 +186,17 @@ found_shown requests stages found (line ∷ lines) =
     ]
 
 -- a counter, by the lines of entries
-pub counted_all : (counter : CounterView) (order : List Entry) → fold counts_any counter (map told order) ≡ fold counted_entry counter order
+pub counted_all : (counter : CounterView) (order : List Entry) → fold counts_any counter (map answered order) ≡ fold counted_entry counter order
 counted_all counter [] = refl
 counted_all counter (e ∷ es) = counted_all (counted_entry counter e) es
 
 -- why reading was refused
-pub cause_of : (old new : StreamsView) (P : Unit {0} → Type 0) (fault : ReadFault) → ReadCause old.seen new.seen fault → (old.seen.honest ≡ true → Right {A = Unit {0}} (Err fault) P) → HasCause old (told_of_read fault) new
+pub cause_of : (old new : StreamsView) (P : Unit {0} → Type 0) (fault : ReadFault) → ReadCause old.seen new.seen fault → (old.seen.honest ≡ true → Right {A = Unit {0}} (Err fault) P) → HasCause old (fault_of_read fault) new
 cause_of old new P reads.Fault came right = came
 cause_of old new P reads.Damaged came right = not_true old.seen.honest right
 cause_of old new P reads.Memory came right = tt
 
-pub of_reading : (fault : ReadFault) → IsOfReading (told_of_read fault)
+pub of_reading : (fault : ReadFault) → IsOfReading (fault_of_read fault)
 of_reading reads.Fault = tt
 of_reading reads.Damaged = tt
 of_reading reads.Memory = tt
@@ -257,10 +257,10 @@ read_all first (term ∷ terms) rows requests t lines alike each = (
   record {
     start = start_at first.range.seconds t;
     starts = subst (λ seconds. IsStartOf seconds t (start_at first.range.seconds t)) (sym alike.0.0) (starts_at first.range.seconds t);
-    told = record {
+    answered = record {
       lines = lines;
       each = subst (λ (selector : Selector). AllZip (AreOfRow selector.matchers (start_at first.range.seconds t) t) rows lines) (sym alike.0.1) each;
-      told =
+      answered =
           tallied term.range.stages (partial_of []) (filter (is_shown requests) (flat_map (λ of_row. of_row) lines))
           ∙ sym (found_shown requests term.range.stages (partial_of []) (flat_map (λ of_row. of_row) lines));
     };
@@ -298,21 +298,21 @@ module _ (first : Term) (terms : List Term) (streams : StreamsView) (requests : 
   abbrev none : Lines
   none = taker requests range t (none_counted streams.limits.entries pipelines) (to - t)
 
-  module _ (few : length (keys streams.held) ≤ streams.limits.entries) (once : AreToldOnce first.range.selector.matchers start to streams.held counts none after) where
+  module _ (few : length (keys streams.held) ≤ streams.limits.entries) (once : AreVisitedOnce first.range.selector.matchers start to streams.held counts none after) where
     abbrev passes : Entry → Bool
-    passes e = is_counted requests range t (told e)
+    passes e = is_counted requests range t (answered e)
 
     -- the entries that were counted
     abbrev pub order : List Entry
     order = filter passes once.order
 
-    ended : Ends requests range t none.counter (to - t) (map told once.order) after
-    ended = subst (Ends requests range t none.counter (to - t) (map told once.order)) (sym once.told) (ends requests range t none.counter (to - t) (map told once.order))
+    ended : Ends requests range t none.counter (to - t) (map answered once.order) after
+    ended = subst (Ends requests range t none.counter (to - t) (map answered once.order)) (sym once.answered) (ends requests range t none.counter (to - t) (map answered once.order))
 
     counted_once : after.counter ≡ record { most = streams.limits.entries; left = streams.limits.entries - length order; is_over = false; tallies = map (λ stages. record { running = stages; found = partial_of (stayed stages order) }) pipelines }
     counted_once =
         ended.counted
-        ∙ ap (fold counts_any none.counter) (filter_map (is_counted requests range t) told once.order)
+        ∙ ap (fold counts_any none.counter) (filter_map (is_counted requests range t) answered once.order)
         ∙ counted_all none.counter order
         ∙ new_counter_counts streams.limits.entries pipelines order (few_asked passes first.range.selector.matchers start to streams.limits.entries (keys streams.held) once.order once.once few)
 
@@ -360,30 +360,30 @@ module _ (first : Term) (terms : List Term) (streams : StreamsView) (requests : 
           ∙ map-map (λ stages. partial_of (stayed stages order)) (λ (term : Term). term.range.stages) terms
           ∙ found_all terms alike
 
-  module _ (handed : AreTold counts first.range.selector.matchers start to streams.rows none after) where
+  module _ (handed : AreVisited counts first.range.selector.matchers start to streams.rows none after) where
     abbrev all : List (LabelSet × Line)
     all = flat_map (λ of_row. of_row) handed.lines
 
-    ended_told : Ends requests range t none.counter (to - t) all after
-    ended_told = subst (Ends requests range t none.counter (to - t) all) (sym handed.told) (ends requests range t none.counter (to - t) all)
+    ended_counted : Ends requests range t none.counter (to - t) all after
+    ended_counted = subst (Ends requests range t none.counter (to - t) all) (sym handed.answered) (ends requests range t none.counter (to - t) all)
 
     -- over any store the limit of lines that may be counted is as before
     pub most_is : after.counter.most ≡ streams.limits.entries
-    most_is = ap (λ (counter : CounterView). counter.most) ended_told.counted ∙ most_stays none.counter (filter (is_counted requests range t) all)
+    most_is = ap (λ (counter : CounterView). counter.most) ended_counted.counted ∙ most_stays none.counter (filter (is_counted requests range t) all)
 
     -- over any store each was read, where no line came that may not be counted
     pub read_each : (u : ℕ) → IsStartOf first.range.seconds t start → 0 < range → t ≤ u → u ≤ t + after.lasts → t ≤ to → after.counter.is_over ≡ false → AllZip (λ (term : Term) found. IsRead streams.rows requests.now term.range u found) terms (map (λ (tally : TallyView). tally.found) after.counter.tallies)
     read_each u starts some later within short not_over =
         let low = start_at first.range.seconds u in
-        let fewer = ended_told.fewer in
+        let fewer = ended_counted.fewer in
         let lines = map (filter (is_between low u)) handed.lines in
         let each = narrow_rows start to low u (starts_before first.range.seconds t start u starts some later) (omega (arith, within, fewer, short)) first.range.selector.matchers streams.rows handed.lines handed.each in
         let same : filter (is_shown requests.now) (flat_map (λ of_row. of_row) lines) ≡ filter (is_counted requests range t) all =
         ap (filter (is_shown requests.now)) (sym (filter_flat (is_between low u) handed.lines))
         ∙ filter-both (is_between low u) (is_shown requests.now) all
         ∙ (λ i. filter (λ (line : LabelSet × Line). sym (starts_at first.range.seconds u line.1.timestamp) i && is_shown requests.now line) all)
-        ∙ filter_same (λ (line : LabelSet × Line). in_window first.range.seconds u line.1.timestamp && is_shown requests.now line) (is_counted requests range t) all (same_all requests range t after.lasts u later within all ended_told.noticed) in
-        let tallies = ap (λ (counter : CounterView). counter.tallies) ended_told.counted ∙ all_counted none.counter (filter (is_counted requests range t) all) (ap (λ (counter : CounterView). counter.is_over) (sym ended_told.counted) ∙ not_over) in
+        ∙ filter_same (λ (line : LabelSet × Line). in_window first.range.seconds u line.1.timestamp && is_shown requests.now line) (is_counted requests range t) all (same_all requests range t after.lasts u later within all ended_counted.noticed) in
+        let tallies = ap (λ (counter : CounterView). counter.tallies) ended_counted.counted ∙ all_counted none.counter (filter (is_counted requests range t) all) (ap (λ (counter : CounterView). counter.is_over) (sym ended_counted.counted) ∙ not_over) in
         subst (λ tallies. AllZip (λ (term : Term) found. IsRead streams.rows requests.now term.range u found) terms (map (λ (tally : TallyView). tally.found) tallies))
         (ap (λ lines. map (λ tally. fold tallies_line tally lines) (map nothing_counted pipelines)) same ∙ sym tallies)
         (read_all first terms streams.rows requests.now u lines alike each)

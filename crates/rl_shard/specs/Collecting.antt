@@ -15,7 +15,7 @@ use Rattle.rl_aggregate.specs.Tallies.{elements_of}
 use Rattle.rl_aggregate.specs.declared.partial.Partial.{Partial}
 use Rattle.rl_deletes.specs.Deletes.{RequestsView, covered, covered_line}
 use Rattle.rl_parts.specs.Rewriting.{uncovered}
-use Rattle.rl_streams.specs.Asking.{AreTold}
+use Rattle.rl_streams.specs.Asking.{AreVisited}
 use Rattle.rl_streams.specs.StreamRows.{Row}
 use Rattle.rl_streams.specs.StreamsState.{StreamsView}
 use Rattle.rl_shard.specs.declared.step.ShardStep.{ShardStep}
@@ -41,7 +41,7 @@ counting_shown requests stages found line = if covered_line requests line.0 line
 pub record IsRead (rows : List Row) (requests : RequestsView) (range : LogRange) (t : ℕ) (found : Partial) : Type 0 where
   pub start : ℕ
   pub starts : IsStartOf range.seconds t start
-  pub told : AreTold (counting_shown requests range.stages) range.selector.matchers start t rows (partial_of []) found
+  pub answered : AreVisited (counting_shown requests range.stages) range.selector.matchers start t rows (partial_of []) found
 
 -- the entries of streams that no received request covers
 abbrev pub shown : StreamsView → RequestsView → List Entry

@@ -24,28 +24,28 @@ use Rattle.rl_shard.specs.declared.step.ShardFault.{ShardFault}
 use Rattle.rl_shard.specs.declared.step.ShardFault.TheVariants as faults
 
 -- how a shard reports why streams were not read, or not written
-abbrev pub told_of_read : ReadFault → ShardFault
-told_of_read reads.Fault = faults.Fault
-told_of_read reads.Damaged = faults.Damaged
-told_of_read reads.Memory = faults.Memory
+abbrev pub fault_of_read : ReadFault → ShardFault
+fault_of_read reads.Fault = faults.Fault
+fault_of_read reads.Damaged = faults.Damaged
+fault_of_read reads.Memory = faults.Memory
 
-abbrev pub told_of_flush : FlushFault → ShardFault
-told_of_flush flushes.Fault = faults.Fault
-told_of_flush flushes.NumbersSpent = faults.NumbersSpent
-told_of_flush flushes.Memory = faults.Memory
+abbrev pub fault_of_flush : FlushFault → ShardFault
+fault_of_flush flushes.Fault = faults.Fault
+fault_of_flush flushes.NumbersSpent = faults.NumbersSpent
+fault_of_flush flushes.Memory = faults.Memory
 
-abbrev pub told_of_rewrite : RewriteFault → ShardFault
-told_of_rewrite rewrites.Fault = faults.Fault
-told_of_rewrite rewrites.Damaged = faults.Damaged
-told_of_rewrite rewrites.NumbersSpent = faults.NumbersSpent
-told_of_rewrite rewrites.Memory = faults.Memory
+abbrev pub fault_of_rewrite : RewriteFault → ShardFault
+fault_of_rewrite rewrites.Fault = faults.Fault
+fault_of_rewrite rewrites.Damaged = faults.Damaged
+fault_of_rewrite rewrites.NumbersSpent = faults.NumbersSpent
+fault_of_rewrite rewrites.Memory = faults.Memory
 
 -- what becomes of an entry that streams refused
 abbrev pub refused : AddRefusal → Result ShardReply ShardFault
 refused (adding.Expired horizon) = Ok (replies.Expired horizon)
 refused (adding.TooFarBehind newest) = Ok (replies.TooFarBehind newest)
 refused adding.Full = Ok replies.Full
-refused (adding.Read fault) = Err (told_of_read fault)
+refused (adding.Read fault) = Err (fault_of_read fault)
 
 -- whether a step may meet a fault: one that reads meets the store's and damage, one that writes meets the store's and that the
 -- numbers are spent, one that removes entries does both, and each meets a full journal and a lack of memory

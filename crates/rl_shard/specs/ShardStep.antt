@@ -76,27 +76,27 @@ pushed limits shard entry = if is_taken limits shard entry then with_entry shard
 -- REQUESTS AND RETENTION
 
 -- what becomes of a request is answered so
-abbrev pub told_of_receive : Option ReceiveFault → ShardReply
-told_of_receive None = replies.Done
-told_of_receive (Some receiving.IdTaken) = replies.IdTaken
-told_of_receive (Some receiving.Full) = replies.RequestsFull
+abbrev pub reply_to_receive : Option ReceiveFault → ShardReply
+reply_to_receive None = replies.Done
+reply_to_receive (Some receiving.IdTaken) = replies.IdTaken
+reply_to_receive (Some receiving.Full) = replies.RequestsFull
 
-abbrev pub told_of_cancel : Option CancelFault → ShardReply
-told_of_cancel None = replies.Done
-told_of_cancel (Some cancelling.NoSuchRequest) = replies.NoSuchRequest
-told_of_cancel (Some cancelling.AlreadyProcessed) = replies.AlreadyProcessed
+abbrev pub reply_to_cancel : Option CancelFault → ShardReply
+reply_to_cancel None = replies.Done
+reply_to_cancel (Some cancelling.NoSuchRequest) = replies.NoSuchRequest
+reply_to_cancel (Some cancelling.AlreadyProcessed) = replies.AlreadyProcessed
 
-abbrev pub told_of_process : Option ProcessFault → ShardReply
-told_of_process None = replies.Done
-told_of_process (Some processing.NoSuchRequest) = replies.NoSuchRequest
-told_of_process (Some processing.WasCancelled) = replies.WasCancelled
-told_of_process (Some processing.TooEarly) = replies.TooEarly
+abbrev pub reply_to_process : Option ProcessFault → ShardReply
+reply_to_process None = replies.Done
+reply_to_process (Some processing.NoSuchRequest) = replies.NoSuchRequest
+reply_to_process (Some processing.WasCancelled) = replies.WasCancelled
+reply_to_process (Some processing.TooEarly) = replies.TooEarly
 
 -- the reply to a delete, as receiving its request is answered
 pub record IsDeleteReply (requests : RequestsView) (id : ℕ) (request : Request) (reply : ShardReply) : Type 0 where
   pub fault : Option ReceiveFault
   pub is : IsReceiveFault requests id request fault
-  pub told : reply ≡ told_of_receive fault
+  pub answered : reply ≡ reply_to_receive fault
 
 -- the requests after a delete: one more where its number is new and there is room
 abbrev pub deleted : RequestsView → ℕ → Request → RequestsView
@@ -147,8 +147,8 @@ IsReply limits shard (steps.Push entry) reply = reply ≡ push_reply limits shar
 IsReply limits shard steps.Cut reply = reply ≡ replies.Done
 IsReply limits shard steps.Flush reply = reply ≡ replies.Done
 IsReply limits shard (steps.Delete id sieve start end created) reply = IsDeleteReply shard.requests id (asked sieve start end created) reply
-IsReply limits shard (steps.Cancel id) reply = reply ≡ told_of_cancel (cancel_fault shard.requests id)
-IsReply limits shard (steps.Process id now) reply = reply ≡ told_of_process (process_fault shard.requests id now)
+IsReply limits shard (steps.Cancel id) reply = reply ≡ reply_to_cancel (cancel_fault shard.requests id)
+IsReply limits shard (steps.Process id now) reply = reply ≡ reply_to_process (process_fault shard.requests id now)
 IsReply limits shard (steps.Retain now) reply = reply ≡ replies.Done
 IsReply limits shard (steps.Collect slot terms t) reply = reply ≡ replies.Collected (map (λ term. partial (visible shard) term t) terms)
 

@@ -6,7 +6,7 @@ ghost use Rattle.rl_deletes.specs.Deletes.{asked, cancel_fault, cancelled, proce
 ghost use Rattle.rl_deletes.specs.Horizons.{advanced};
 ghost use Rattle.rl_parts.specs.StoreUse.{Grown};
 ghost use Rattle.rl_shard.specs.ShardFault.{HasCause, IsOfRemoving, Stored};
-ghost use Rattle.rl_shard.specs.ShardStep.{deleted, left_of, processed_if, removed_by, removed_if, told_of_cancel, told_of_process, IsDeleteReply};
+ghost use Rattle.rl_shard.specs.ShardStep.{deleted, left_of, processed_if, removed_by, removed_if, reply_to_cancel, reply_to_process, IsDeleteReply};
 ghost use Rattle.rl_shard.specs.declared.step.ShardFault.TheVariants as faults;
 ghost use Rattle.rl_shard.specs.declared.step.ShardReply.TheVariants as replies;
 ghost use Rattle.rl_streams.specs.Rewritten.{AreLeftIn};
@@ -43,7 +43,7 @@ pub(crate) fn delete(
 
 // Cancels a request.
 pub(crate) fn cancel(requests: &mut Requests, id: u64) -> ShardReply
-    ensures reply { result ≡ told_of_cancel (cancel_fault requests.old id) }
+    ensures reply { result ≡ reply_to_cancel (cancel_fault requests.old id) }
     ensures cancelled { requests.new ≡ cancelled requests.old id }
 {
     match requests.cancel(id) {
@@ -69,7 +69,7 @@ pub(crate) fn process<S: Store>(
     ensures stored { Stored streams.old streams.new }
     ensures grown { OnErr result (Grown streams.old.seen streams.old.next streams.new.seen) }
     ensures kept { OnErr result ((streams.new.held ≡ streams.old.held) × (requests.new ≡ requests.old)) }
-    ensures reply { IfOk result (λ reply. reply ≡ told_of_process (process_fault requests.old id now)) }
+    ensures reply { IfOk result (λ reply. reply ≡ reply_to_process (process_fault requests.old id now)) }
     ensures requests { OnOk result (requests.new ≡ processed_if (process_fault requests.old id now) requests.old id) }
     ensures unless { OnOk result (removed_if (process_fault requests.old id now) requests.old id ≡ None → streams.new.held ≡ streams.old.held) }
     ensures left { OnOk result (MatchOption (removed_if (process_fault requests.old id now) requests.old id) (Grown streams.old.seen streams.old.next streams.new.seen) (λ covers. AreLeftIn covers streams.old.rows streams.new.rows)) }
@@ -88,7 +88,7 @@ pub(crate) fn process<S: Store>(
 
 // Why a request was not processed.
 fn not_processed(fault: ProcessFault) -> ShardReply
-    ensures { result ≡ told_of_process (Some fault) }
+    ensures { result ≡ reply_to_process (Some fault) }
 {
     match fault {
         ProcessFault::NoSuchRequest => ShardReply::NoSuchRequest,

@@ -3,7 +3,7 @@ ghost use Rattle.std.specs.Prelude.{◌≡◌};
 ghost use Rattle.rl_parts.specs.declared.fault.ReadFault.{ReadFault};
 ghost use Rattle.rl_parts.specs.declared.fault.FlushFault.{FlushFault};
 ghost use Rattle.rl_parts.specs.declared.fault.RewriteFault.{RewriteFault};
-ghost use Rattle.rl_shard.specs.ShardFault.{told_of_flush, told_of_read, told_of_rewrite};
+ghost use Rattle.rl_shard.specs.ShardFault.{fault_of_flush, fault_of_read, fault_of_rewrite};
 ghost use Rattle.rl_shard.specs.declared.step.ShardFault.TheVariants.{Memory};
 
 use rl_aggregate::Partial;
@@ -244,7 +244,7 @@ impl<T: Drop> From<AllocFailed<T>> for ShardFault {
 }
 
 impl From<ReadFault> for ShardFault {
-    ghost from_gives = { λ fault e. e ≡ told_of_read fault };
+    ghost from_gives = { λ fault e. e ≡ fault_of_read fault };
 
     fn from(fault: ReadFault) -> Self {
         match fault {
@@ -256,7 +256,7 @@ impl From<ReadFault> for ShardFault {
 }
 
 impl From<FlushFault> for ShardFault {
-    ghost from_gives = { λ fault e. e ≡ told_of_flush fault };
+    ghost from_gives = { λ fault e. e ≡ fault_of_flush fault };
 
     fn from(fault: FlushFault) -> Self {
         match fault {
@@ -268,7 +268,7 @@ impl From<FlushFault> for ShardFault {
 }
 
 impl From<RewriteFault> for ShardFault {
-    ghost from_gives = { λ fault e. e ≡ told_of_rewrite fault };
+    ghost from_gives = { λ fault e. e ≡ fault_of_rewrite fault };
 
     fn from(fault: RewriteFault) -> Self {
         match fault {

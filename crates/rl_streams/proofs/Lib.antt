@@ -11,6 +11,6 @@ pub mod RowChanges
 pub mod Sealed
 pub mod Selecting
 pub mod Steps
-pub mod Told
+pub mod Visited
 pub mod Whole
 pub mod Written

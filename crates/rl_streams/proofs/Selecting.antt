@@ -12,9 +12,9 @@ use Rattle.rl_labels.specs.Selects.{selects}
 use Rattle.rl_labels.specs.declared.matcher.Matcher.{Matcher}
 use Rattle.rl_chunks.specs.declared.line.Line.{Line}
 use Rattle.rl_parts.specs.laws.TakerLaws.{AllZip-append}
-use Rattle.rl_parts.specs.Reading.{told_in_range}
+use Rattle.rl_parts.specs.Reading.{visited_in_range}
 use Rattle.rl_parts.specs.StreamParts.{StreamView, entries_of}
-use Rattle.rl_streams.specs.Asking.{told_of, told_by, AreOfParts, AreOfRow, AreTold}
+use Rattle.rl_streams.specs.Asking.{visited_of, visited_by, AreOfParts, AreOfRow, AreVisited}
 use Rattle.rl_streams.specs.Selected.{SelectionView, asked_next, selected, AreSelections, IsSelection}
 use Rattle.rl_streams.specs.StreamRows.{Row, newest_in, IsOwn}
 use Rattle.rl_streams.proofs.Plans.{all_weaker}
@@ -119,11 +119,11 @@ IsAt R rows place lines = (row : Row) × (slice_get rows place ≡ Some row) × 
 pub record AreFrom {T : Type 0} (R : Row → List (LabelSet × Line) → Type 0) (taking : T → LabelSet × Line → T) (rows : List Row) (places : List ℕ) (before after : T) : Type 0 where
   pub lines : List (List (LabelSet × Line))
   pub each : AllZip (IsAt R rows) places lines
-  pub told : after ≡ fold taking before (flat_map (λ of_row. of_row) lines)
+  pub visited : after ≡ fold taking before (flat_map (λ of_row. of_row) lines)
 
 module _ {T : Type 0} (R : Row → List (LabelSet × Line) → Type 0) (taking : T → LabelSet × Line → T) (rows : List Row) where
   pub from_none : (before : T) → AreFrom R taking rows [] before before
-  from_none before = record { lines = []; each = tt; told = refl }
+  from_none before = record { lines = []; each = tt; visited = refl }
 
   -- one index more
   pub from_more : (places : List ℕ) (i d : ℕ) (before taken now : T) → i < length places → AreFrom R taking rows (take i places) before taken → (lines : List (LabelSet × Line)) × IsAt R rows (get_or places i d) lines × (now ≡ fold taking taken lines)
@@ -132,7 +132,7 @@ module _ {T : Type 0} (R : Row → List (LabelSet × Line) → Type 0) (taking :
       subst (λ ps. AreFrom R taking rows ps before now) (sym (take_more places i d lt)) (record {
         lines = was.lines ++ lines ∷ [];
         each = AllZip-append (IsAt R rows) (take i places) was.lines (get_or places i d ∷ []) (lines ∷ []) was.each (at, tt);
-        told = is ∙ ap (λ t. fold taking t lines) was.told ∙ sym (fold-append taking before (flat_map (λ l. l) was.lines) lines)
+        visited = is ∙ ap (λ t. fold taking t lines) was.visited ∙ sym (fold-append taking before (flat_map (λ l. l) was.lines) lines)
             ∙ ap (fold taking before) (ap (λ l. flat_map (λ l. l) was.lines ++ l) (sym (append-nil lines)) ∙ sym (flat_map-append (λ l. l) was.lines (lines ∷ [])));
       })
 
@@ -189,25 +189,25 @@ none_of_row selector from to row e = let none : List (LabelSet × Line) = [] in 
 
 module _ {T : Type 0} (selector : List Matcher) (from to : ℕ) (taking : T → LabelSet × Line → T) (rows : List Row) (places : List ℕ) (before after : T) (are : places ≡ selected selector (keys_of rows)) where
   -- over any store
-  pub told_at_all : AreFrom (AreOfRow selector from to) taking rows places before after → AreTold taking selector from to rows before after
-  told_at_all handed =
+  pub visited_at_all : AreFrom (AreOfRow selector from to) taking rows places before after → AreVisited taking selector from to rows before after
+  visited_at_all handed =
       let all = spread (AreOfRow selector from to) selector (none_of_row selector from to) rows handed.lines (subst (λ ps. AllZip (IsAt (AreOfRow selector from to) rows) ps handed.lines) are handed.each) in
-      record { lines = all.0; each = all.1; told = handed.told ∙ ap (fold taking before) (sym all.2) }
+      record { lines = all.0; each = all.1; visited = handed.visited ∙ ap (fold taking before) (sym all.2) }
 
   -- over an honest one
-  abbrev IsToldOf : Row → List (LabelSet × Line) → Type 0
-  IsToldOf row lines = lines ≡ told_of selector from to row.0 row.1
+  abbrev IsVisitedOf : Row → List (LabelSet × Line) → Type 0
+  IsVisitedOf row lines = lines ≡ visited_of selector from to row.0 row.1
 
-  joined_told : (rows : List Row) (all : List (List (LabelSet × Line))) → AllZip IsToldOf rows all → flat_map (λ l. l) all ≡ told_by selector from to rows
-  joined_told [] [] h = refl
-  joined_told [] (l ∷ all) h = absurd h
-  joined_told (row ∷ rows) [] h = absurd h
-  joined_told (row ∷ rows) (l ∷ all) h = ap (λ ls. ls ++ flat_map (λ l. l) all) h.0 ∙ ap (λ ls. told_of selector from to row.0 row.1 ++ ls) (joined_told rows all h.1)
+  joined_visited : (rows : List Row) (all : List (List (LabelSet × Line))) → AllZip IsVisitedOf rows all → flat_map (λ l. l) all ≡ visited_by selector from to rows
+  joined_visited [] [] h = refl
+  joined_visited [] (l ∷ all) h = absurd h
+  joined_visited (row ∷ rows) [] h = absurd h
+  joined_visited (row ∷ rows) (l ∷ all) h = ap (λ ls. ls ++ flat_map (λ l. l) all) h.0 ∙ ap (λ ls. visited_of selector from to row.0 row.1 ++ ls) (joined_visited rows all h.1)
 
-  pub right_at_all : AreFrom IsToldOf taking rows places before after → after ≡ fold taking before (told_by selector from to rows)
+  pub right_at_all : AreFrom IsVisitedOf taking rows places before after → after ≡ fold taking before (visited_by selector from to rows)
   right_at_all handed =
-      let all = spread IsToldOf selector (λ row e. ap (λ b. if b then told_in_range from to (entries_of row.1) else []) (sym e)) rows handed.lines (subst (λ ps. AllZip (IsAt IsToldOf rows) ps handed.lines) are handed.each) in
-      handed.told ∙ ap (fold taking before) (sym all.2 ∙ joined_told rows all.0 all.1)
+      let all = spread IsVisitedOf selector (λ row e. ap (λ b. if b then visited_in_range from to (entries_of row.1) else []) (sym e)) rows handed.lines (subst (λ ps. AllZip (IsAt IsVisitedOf rows) ps handed.lines) are handed.each) in
+      handed.visited ∙ ap (fold taking before) (sym all.2 ∙ joined_visited rows all.0 all.1)
 
 -- what is kept at an index, and what it is of
 pub found_there : {A B : Type 0} (f : A → B) (xs : List A) (i : ℕ) (y : B) → option_map f (slice_get xs i) ≡ Some y → i < length xs

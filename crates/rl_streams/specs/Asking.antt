@@ -11,7 +11,7 @@ use Rattle.rl_labels.specs.declared.entry.Entry.{Entry}
 use Rattle.rl_labels.specs.declared.matcher.Matcher.{Matcher}
 use Rattle.rl_chunks.specs.declared.line.Line.{Line}
 use Rattle.rl_parts.specs.StreamParts.{StreamView, entries_of}
-use Rattle.rl_parts.specs.Reading.{is_in_range, told, told_in_range, IsPiece}
+use Rattle.rl_parts.specs.Reading.{is_in_range, visited, visited_in_range, IsPiece}
 use Rattle.rl_streams.specs.StreamRows.{Row}
 
 abbrev pub is_asked : List Matcher → ℕ → ℕ → Entry → Bool
@@ -22,43 +22,43 @@ abbrev pub asked : List Matcher → ℕ → ℕ → List Entry → List Entry
 asked selector from to entries = filter (is_asked selector from to) entries
 
 -- what is visited of a stream: nothing where it is not selected
-abbrev pub told_of : List Matcher → ℕ → ℕ → LabelSet → StreamView → List (LabelSet × Line)
-told_of selector from to labels stream = if selects selector labels then told_in_range from to (entries_of stream) else []
+abbrev pub visited_of : List Matcher → ℕ → ℕ → LabelSet → StreamView → List (LabelSet × Line)
+visited_of selector from to labels stream = if selects selector labels then visited_in_range from to (entries_of stream) else []
 
 -- what is visited of all streams
-abbrev pub told_by : List Matcher → ℕ → ℕ → List Row → List (LabelSet × Line)
-told_by selector from to rows = flat_map (λ row. told_of selector from to row.0 row.1) rows
+abbrev pub visited_by : List Matcher → ℕ → ℕ → List Row → List (LabelSet × Line)
+visited_by selector from to rows = flat_map (λ row. visited_of selector from to row.0 row.1) rows
 
 -- no stream is selected
 abbrev pub NoneSelected : List Matcher → FinMap label_set_cmp ℕ → Type 0
 NoneSelected selector newest = (labels : LabelSet) → selects selector labels ≡ true → get newest labels ≡ None
 
 -- the held entries that are asked for were visited, each once, in some order
-pub record AreToldOnce {T : Type 0} (selector : List Matcher) (from to : ℕ) (held : EntrySet) (taking : T → LabelSet × Line → T) (before after : T) : Type 0 where
+pub record AreVisitedOnce {T : Type 0} (selector : List Matcher) (from to : ℕ) (held : EntrySet) (taking : T → LabelSet × Line → T) (before after : T) : Type 0 where
   pub order : List Entry
   pub once : IsPermutation (asked selector from to (keys held)) order
-  pub told : after ≡ fold taking before (map told order)
+  pub visited : after ≡ fold taking before (map visited order)
 
 -- lines of a stream over any store: a piece of each part, and what its head has in the range
 pub record AreOfParts (from to : ℕ) (stream : StreamView) (lines : List (LabelSet × Line)) : Type 0 where
   pub pieces : List (List (LabelSet × Line))
   pub each : AllZip (IsPiece stream.labels from to) stream.parts pieces
-  pub all : lines ≡ flat_map (λ piece. piece) pieces ++ told_in_range from to stream.head
+  pub all : lines ≡ flat_map (λ piece. piece) pieces ++ visited_in_range from to stream.head
 
 -- they are those of a stream that is selected, and none of another
 abbrev pub AreOfRow : List Matcher → ℕ → ℕ → Row → List (LabelSet × Line) → Type 0
 AreOfRow selector from to row lines = MatchBool (selects selector row.0) (AreOfParts from to row.1 lines) (lines ≡ [])
 
 -- such lines of each stream in turn were visited, and this is what the visitor became by them
-pub record AreTold {T : Type 0} (taking : T → LabelSet × Line → T) (selector : List Matcher) (from to : ℕ) (rows : List Row) (before after : T) : Type 0 where
+pub record AreVisited {T : Type 0} (taking : T → LabelSet × Line → T) (selector : List Matcher) (from to : ℕ) (rows : List Row) (before after : T) : Type 0 where
   pub lines : List (List (LabelSet × Line))
   pub each : AllZip (AreOfRow selector from to) rows lines
-  pub told : after ≡ fold taking before (flat_map (λ of_row. of_row) lines)
+  pub visited : after ≡ fold taking before (flat_map (λ of_row. of_row) lines)
 
 -- what is visited of one stream of all
-abbrev pub told_at : List Matcher → ℕ → ℕ → List (List Entry) → ℕ → List (LabelSet × Line)
-told_at selector from to order place = map told (asked selector from to (get_or order place []))
+abbrev pub visited_at : List Matcher → ℕ → ℕ → List (List Entry) → ℕ → List (LabelSet × Line)
+visited_at selector from to order place = map visited (asked selector from to (get_or order place []))
 
 -- what a cursor has still to give: the lines that wait, and what is asked of the streams from an index on
 abbrev pub left : List Matcher → ℕ → ℕ → List (List Entry) → ℕ → List (LabelSet × Line) → List (LabelSet × Line)
-left selector from to order place lines = lines ++ map told (asked selector from to (flat_map (λ entries. entries) (drop place order)))
+left selector from to order place lines = lines ++ map visited (asked selector from to (flat_map (λ entries. entries) (drop place order)))

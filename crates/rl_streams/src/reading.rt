@@ -6,7 +6,7 @@ ghost use Rattle.rl_labels.specs.LabelSet.{LabelSet};
 ghost use Rattle.rl_labels.specs.Selects.{selects};
 ghost use Rattle.rl_chunks.specs.declared.line.Line.{Line};
 ghost use Rattle.rl_parts.specs.StoreUse.{Looked, AreKept, ReadCause, Right};
-ghost use Rattle.rl_streams.specs.Asking.{told_of, told_by, AreOfRow, AreTold};
+ghost use Rattle.rl_streams.specs.Asking.{visited_of, visited_by, AreOfRow, AreVisited};
 ghost use Rattle.rl_streams.specs.RowSteps.{AreOthers};
 ghost use Rattle.rl_streams.specs.Selected.{selected};
 ghost use Rattle.rl_streams.specs.StreamRows.{joined, is_among, IsOwn, AreStreams};
@@ -50,7 +50,7 @@ pub(crate) fn each_selected<S: Store, T: Taker>(
 ) -> Result<(), ReadFault>
     ensures looked { Looked (S.seen store.old) (S.seen store.new) }
     ensures cause { IfErr result (ReadCause (S.seen store.old) (S.seen store.new)) }
-    ensures right { (next : ℕ) → AreKept (S.seen store.old) next stream.now → (S.seen store.old).honest ≡ true → Right result (λ _. taker.new ≡ fold T.taking taker.old (told_of selector.now from to stream.now.labels stream.now)) }
+    ensures right { (next : ℕ) → AreKept (S.seen store.old) next stream.now → (S.seen store.old).honest ≡ true → Right result (λ _. taker.new ≡ fold T.taking taker.old (visited_of selector.now from to stream.now.labels stream.now)) }
 {
     if !selector.accepts(stream.labels())? {
         return Ok(());
@@ -73,8 +73,8 @@ pub(crate) fn each<S: Store, T: Taker>(
     ensures looked { Looked (S.seen store.old) (S.seen store.new) }
     ensures cause { IfErr result (ReadCause (S.seen store.old) (S.seen store.new)) }
     ensures unread { AllByRecursion (λ row. selects selection.now.selector row.0 ≡ false) streams.now.entries → S.seen store.new ≡ S.seen store.old }
-    ensures told { OnOk result (AreTold T.taking selection.now.selector from to streams.now.entries taker.old taker.new) }
-    ensures right { (next : ℕ) → AreStreams streams.now.entries (S.seen store.old) next → (S.seen store.old).honest ≡ true → Right result (λ _. taker.new ≡ fold T.taking taker.old (told_by selection.now.selector from to streams.now.entries)) }
+    ensures visited { OnOk result (AreVisited T.taking selection.now.selector from to streams.now.entries taker.old taker.new) }
+    ensures right { (next : ℕ) → AreStreams streams.now.entries (S.seen store.old) next → (S.seen store.old).honest ≡ true → Right result (λ _. taker.new ≡ fold T.taking taker.old (visited_by selection.now.selector from to streams.now.entries)) }
 {
     for place in selection.places() {
         streams[*place].each(alloc, store, from, to, taker)?;

@@ -50,7 +50,7 @@ impl<S: Store> Streams<S> {
     ghost use Rattle.rl_parts.specs.StoreUse.{FlushCause, ReadCause, Right};
     ghost use Rattle.rl_parts.specs.Rewriting.{RewriteCause};
     ghost use Rattle.rl_streams.specs.Rewritten.{AreLeftIn, Rewrites, Stays, without};
-    ghost use Rattle.rl_streams.specs.Asking.{AreTold, AreToldOnce, NoneSelected, told_at};
+    ghost use Rattle.rl_streams.specs.Asking.{AreVisited, AreVisitedOnce, NoneSelected, visited_at};
     ghost use Rattle.rl_streams.specs.CursorState.{left_in};
     ghost use Rattle.rl_streams.specs.StreamsState.{no_streams, age_refusal, order_of, AddCause, Cuts, Flushes, IsDecided, IsNoAge, Looks, Takes};
 
@@ -150,7 +150,7 @@ impl<S: Store> Streams<S> {
         ensures refused { OnErr result (Stays self.old self.new) }
         ensures rewritten { OnOk result (Rewrites self.old self.new) }
         // What is left of a part that the store has follows from bytes with its digest, over any store.
-        ensures told { OnOk result (AreLeftIn (C.covers covered.now) self.old.rows self.new.rows) }
+        ensures visited { OnOk result (AreLeftIn (C.covers covered.now) self.old.rows self.new.rows) }
         ensures right { self.old.seen.honest ≡ true → OnOk result (self.new.held ≡ without (C.covers covered.now) self.old.held) }
         ensures undamaged { self.old.seen.honest ≡ true → IsErrOf result RewriteFault.Damaged → ⊥ }
         ensures cause { IfErr result (RewriteCause self.old.seen self.new.seen self.new.next) }
@@ -190,8 +190,8 @@ impl<S: Store> Streams<S> {
         ensures cause { IfErr result (ReadCause self.old.seen self.new.seen) }
         ensures unread { NoneSelected selector.now self.old.newest → self.new ≡ self.old }
         // What is visited of a part that the store has follows from bytes with its digest, over any store.
-        ensures told { OnOk result (AreTold T.taking selector.now from to self.old.rows taker.old taker.new) }
-        ensures right { self.old.seen.honest ≡ true → Right result (λ _. AreToldOnce selector.now from to self.old.held T.taking taker.old taker.new) }
+        ensures visited { OnOk result (AreVisited T.taking selector.now from to self.old.rows taker.old taker.new) }
+        ensures right { self.old.seen.honest ≡ true → Right result (λ _. AreVisitedOnce selector.now from to self.old.held T.taking taker.old taker.new) }
     {
         let (store, streams) = (&mut self.store, &self.streams);
         let place = self.selections.select(self.alloc, streams, selector)?;
@@ -205,7 +205,7 @@ impl<S: Store> Streams<S> {
         ensures same_reference { result.streams.ghost_name ≡ self.entry.ghost_name }
         ensures streams { result.streams.now ≡ self.old }
         ensures asks { (result.selector.now ≡ selector.now) × (result.from ≡ from) × (result.to ≡ to) }
-        ensures left { self.old.seen.honest ≡ true → AreToldOnce selector.now from to self.old.held (λ lines line. lines ++ line ∷ []) [] (left_in result) }
+        ensures left { self.old.seen.honest ≡ true → AreVisitedOnce selector.now from to self.old.held (λ lines line. lines ++ line ∷ []) [] (left_in result) }
     {
         let lines = Lines::new(self.alloc);
         Cursor::new(self, selector, from, to, lines)
@@ -230,7 +230,7 @@ impl<S: Store> Streams<S> {
         requires { place < length (order_of self.old) }
         ensures same { Looks self.old self.new }
         ensures cause { IfErr result (ReadCause self.old.seen self.new.seen) }
-        ensures right { self.old.seen.honest ≡ true → Right result (λ _. lines.new ≡ lines.old ++ told_at selector.now from to (order_of self.old) place) }
+        ensures right { self.old.seen.honest ≡ true → Right result (λ _. lines.new ≡ lines.old ++ visited_at selector.now from to (order_of self.old) place) }
     {
         let (store, stream) = (&mut self.store, &self.streams[place]);
         reading::each_selected(self.alloc, store, stream, selector, from, to, lines)

@@ -14,7 +14,7 @@ use Rattle.rl_world.specs.Offering.{TookPrefix, Offered, AllOffered, texts_of}
 use Rattle.rl_world.specs.WorldState.{BookState, IsBookOf, kept_open, world_of}
 use Rattle.rl_labels.specs.declared.entry.Entry.{Entry}
 use Rattle.rl_world.specs.laws.ShownLaws.{kept_evaluation}
-use Rattle.rl_world.specs.WorldStep.{WorldStep, partials, told_of_book}
+use Rattle.rl_world.specs.WorldStep.{WorldStep, partials, refusal_of_book}
 use Rattle.rl_plain.specs.declared.refusal.OrMemory.{OrMemory}
 use Rattle.rl_world.specs.declared.fault.BookFault.{BookFault}
 use Rattle.rl_world.specs.declared.fault.Refusal.{Refusal}
@@ -120,6 +120,6 @@ module _ (shards : List ShardView) (books : List BookState) (group : ℕ) (book 
         },
       )
 
-  pub commit_refused : (error : OrMemory BookFault) (refusal : Refusal) → Answers {A = Committed} (commit_fault book.history) (Err error) → refusal ≡ told_of_book error → after ≡ book
+  pub commit_refused : (error : OrMemory BookFault) (refusal : Refusal) → Answers {A = Committed} (commit_fault book.history) (Err error) → refusal ≡ refusal_of_book error → after ≡ book
       → WorldStep partials (world_of shards books) (steps.Commit group) (replies.Refused refusal) (world_of shards (slice_set books group after))
   commit_refused error refusal answer refusal_is after_is = book_refused shards books Committed group (steps.Commit group) (commit_fault book.history) error refusal book after there (commit_refusal shards books group book there) refl answer refusal_is after_is

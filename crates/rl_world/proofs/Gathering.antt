@@ -20,7 +20,7 @@ use Rattle.rl_world.specs.History.{gather_fault, gathered}
 use Rattle.rl_world.specs.ShardsTurn.{Decides, ShardsTurn}
 use Rattle.rl_world.specs.WorldRun.{IsShown}
 use Rattle.rl_world.specs.WorldState.{BookState, IsBookOf, world_of}
-use Rattle.rl_world.specs.WorldStep.{WorldStep, IsRefused, MayRefuse, partials, known, or_else, journal_refusal, refusal_of, told_of_shard}
+use Rattle.rl_world.specs.WorldStep.{WorldStep, IsRefused, MayRefuse, partials, known, or_else, journal_refusal, refusal_of, refusal_of_shard}
 use Rattle.rl_world.specs.declared.fault.BookFault.{BookFault}
 use Rattle.rl_world.specs.declared.fault.Refusal.{Refusal}
 use Rattle.rl_world.specs.declared.fault.Refusal.TheVariants as refusals
@@ -79,13 +79,13 @@ module _ (shards : List ShardView) (books : List BookState) (group number : ℕ)
 
   -- the shard refused
   pub gather_refused : (after : ShardView) (slot t : ℕ) (terms : List Term) (fault : ShardFault) (refusal : Refusal) → gather_fault book.history number ≡ None → is_journal_full (journalled shard) ≡ false → MayCome shard (shard_steps.Collect slot terms t) fault after
-      → journalled after ≡ journalled shard → refusal ≡ told_of_shard fault → IsRefused (world_of shards books) (steps.Gather group number) refusal (world_of (slice_set shards number after) books)
+      → journalled after ≡ journalled shard → refusal ≡ refusal_of_shard fault → IsRefused (world_of shards books) (steps.Gather group number) refusal (world_of (slice_set shards number after) books)
   gather_refused after slot t terms fault refusal free room came kept refusal_is = (
     subst (λ r. MayRefuse (world_of shards books) (steps.Gather group number) r) (sym refusal_is) (may fault came),
     shard_kept shards books number shard after shard_there kept,
   )
     where
-      may : (fault : ShardFault) → MayCome shard (shard_steps.Collect slot terms t) fault after → MayRefuse (world_of shards books) (steps.Gather group number) (told_of_shard fault)
+      may : (fault : ShardFault) → MayCome shard (shard_steps.Collect slot terms t) fault after → MayRefuse (world_of shards books) (steps.Gather group number) (refusal_of_shard fault)
       may shard_faults.JournalFull came = inl (gather_full free (came.1 refl))
       may shard_faults.Fault came = inr (gather_free free room, refl)
       may shard_faults.Damaged came = inr (gather_free free room, refl)
@@ -106,15 +106,15 @@ module _ (shards : List ShardView) (books : List BookState) (group number : ℕ)
   }
 
   pub stores_not_gathered : (after : ShardView) (t : ℕ) (terms : List Term) (fault : ShardFault) (refusal : Refusal) → Stored shard.streams after.streams → after.streams.next ≤ greatest → MayCome shard (shard_steps.Collect group terms t) fault after
-      → Grown shard.streams.seen shard.streams.next after.streams.seen → journalled after ≡ journalled shard → refusal ≡ told_of_shard fault → ShardsTurn shards (steps.Gather group number) (replies.Refused refusal) (slice_set shards number after)
-  stores_not_gathered after t terms fault refusal stored numbers came grown kept told = inr (record {
+      → Grown shard.streams.seen shard.streams.next after.streams.seen → journalled after ≡ journalled shard → refusal ≡ refusal_of_shard fault → ShardsTurn shards (steps.Gather group number) (replies.Refused refusal) (slice_set shards number after)
+  stores_not_gathered after t terms fault refusal stored numbers came grown kept offers = inr (record {
     before = shard;
     there = shard_there;
     after = after;
     now = refl;
     stored = stored;
     numbers = numbers;
-    as_said = record { terms = terms; t = t; faults = record { kept = kept; fault = fault; told = told; cause = came; grown = grown } };
+    as_said = record { terms = terms; t = t; faults = record { kept = kept; fault = fault; offers = offers; cause = came; grown = grown } };
   })
 
   -- what became of the book

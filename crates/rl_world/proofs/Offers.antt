@@ -76,14 +76,14 @@ pub rest-next : {S : Type 0} (state : S → SinkState) (olds nows : List S) (i :
 rest-next state olds nows i new rest = ap (drop (i + 1)) (map-set state nows i new) ∙ drop-rest (map state olds) (map state nows) i (state new) rest
 
 -- its number was listed if it is behind
-pub behind-next : {S : Type 0} (state : S → SinkState) (evaluations : List Evaluation) (nows : List S) (i : ℕ) (new : S) (told : Bool) (before numbers more : List ℕ) → i < length nows → told ≡ is_behind evaluations (state new)
-    → numbers ≡ before ++ behind_of evaluations (take i (map state nows)) → more ≡ numbers ++ cond told (i ∷ []) [] → more ≡ before ++ behind_of evaluations (take (i + 1) (map state (set nows i new)))
-behind-next state evaluations nows i new told before numbers more within is_told so_far one =
+pub behind-next : {S : Type 0} (state : S → SinkState) (evaluations : List Evaluation) (nows : List S) (i : ℕ) (new : S) (listed : Bool) (before numbers more : List ℕ) → i < length nows → listed ≡ is_behind evaluations (state new)
+    → numbers ≡ before ++ behind_of evaluations (take i (map state nows)) → more ≡ numbers ++ cond listed (i ∷ []) [] → more ≡ before ++ behind_of evaluations (take (i + 1) (map state (set nows i new)))
+behind-next state evaluations nows i new listed before numbers more within is_listed so_far one =
     let first : List ℕ = behind_of evaluations (take i (map state nows)) in
     one
-    ∙ ap (λ (l : List ℕ). l ++ cond told (i ∷ []) []) so_far
-    ∙ append_assoc before first (cond told (i ∷ []) [])
-    ∙ ap (λ (b : Bool). before ++ (first ++ cond b (i ∷ []) [])) is_told
+    ∙ ap (λ (l : List ℕ). l ++ cond listed (i ∷ []) []) so_far
+    ∙ append_assoc before first (cond listed (i ∷ []) [])
+    ∙ ap (λ (b : Bool). before ++ (first ++ cond b (i ∷ []) [])) is_listed
     ∙ ap (λ (l : List ℕ). before ++ l) (sym (ap (λ (sinks : List SinkState). behind_of evaluations (take (i + 1) sinks)) (map-set state nows i new) ∙ behind_of-more evaluations (map state nows) i (state new) (omega (arith, length-map nows state))))
 
 -- one sink more is closed

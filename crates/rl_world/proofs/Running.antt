@@ -35,22 +35,22 @@ run_more old (first ∷ steps) [] mid step reply new run turn = absurd run
 -- a run so far, whose replies were added to a list
 pub record RunSoFar (old : WorldBooks) (before : List Reply) (steps : List Step) (now : WorldBooks) (out : List Reply) : Type 0 where
   pub replies : List Reply
-  pub told_so : out ≡ before ++ replies
+  pub answered_so : out ≡ before ++ replies
   pub run : Ran old steps replies now
 
 pub run_none : (old : WorldBooks) (before out : List Reply) → out ≡ before → RunSoFar old before [] old out
-run_none old before out same = record { replies = []; told_so = same ∙ sym (append-nil before); run = refl }
+run_none old before out same = record { replies = []; answered_so = same ∙ sym (append-nil before); run = refl }
 
 pub run_next : (old : WorldBooks) (before : List Reply) (steps : List Step) (mid : WorldBooks) (out : List Reply) (step : Step) (reply : Reply) (new : WorldBooks) (now : List Reply) → RunSoFar old before steps mid out → Turned mid step reply new → now ≡ out ++ reply ∷ [] → RunSoFar old before (steps ++ step ∷ []) new now
 run_next old before steps mid out step reply new now so_far turn more = record {
   replies = so_far.replies ++ reply ∷ [];
-  told_so = more ∙ ap (λ l. l ++ reply ∷ []) so_far.told_so ∙ append_assoc before so_far.replies (reply ∷ []);
+  answered_so = more ∙ ap (λ l. l ++ reply ∷ []) so_far.answered_so ∙ append_assoc before so_far.replies (reply ∷ []);
   run = run_more old steps so_far.replies mid step reply new so_far.run turn;
 }
 
 -- what a list gained is what was added to it
 pub run_done : (old : WorldBooks) (before : List Reply) (steps : List Step) (now : WorldBooks) (out : List Reply) → RunSoFar old before steps now out → Ran old steps (gained before out) now
-run_done old before steps now out so_far = subst (λ replies. Ran old steps replies now) (sym (ap (drop (length before)) so_far.told_so ∙ drop-append_seam before so_far.replies)) so_far.run
+run_done old before steps now out so_far = subst (λ replies. Ran old steps replies now) (sym (ap (drop (length before)) so_far.answered_so ∙ drop-append_seam before so_far.replies)) so_far.run
 
 -- the sinks of each book of a world took prefixes
 pub each_prefix : (n : ℕ) (books : List BookState) → AllByRecursion (IsBookOf n) books → AllByRecursion (λ (book : BookState). AllByRecursion (TookPrefix book.history.evaluations) book.sinks) books

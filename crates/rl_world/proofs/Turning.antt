@@ -20,9 +20,9 @@ use Rattle.rl_shard.specs.declared.step.ShardFault.TheVariants as shard_faults
 use Rattle.rl_world.specs.BookCalls.{Answers, Refuses, with_history}
 use Rattle.rl_world.specs.History.{begin_fault, commit_fault, abandon_fault, edit_fault, begun, abandoned, edited}
 use Rattle.rl_world.specs.ShardsTurn.{ShardsTurn}
-use Rattle.rl_world.specs.WorldRun.{told}
+use Rattle.rl_world.specs.WorldRun.{offers}
 use Rattle.rl_world.specs.WorldState.{BookState, world_of}
-use Rattle.rl_world.specs.WorldStep.{WorldStep, IsRefused, MayRefuse, may_fail, partials, known, edit_refusal, journal_refusal, refusal_of, may_want, told_of_shard, told_of_book}
+use Rattle.rl_world.specs.WorldStep.{WorldStep, IsRefused, MayRefuse, may_fail, partials, known, edit_refusal, journal_refusal, refusal_of, may_want, refusal_of_shard, refusal_of_book}
 use Rattle.rl_world.specs.declared.fault.BookFault.{BookFault}
 use Rattle.rl_plain.specs.declared.refusal.OrMemory.{OrMemory}
 use Rattle.rl_plain.specs.declared.refusal.OrMemory.TheVariants as errors
@@ -66,9 +66,9 @@ pub err_is : {A E : Type 0} (e f : E) → ◌≡◌ {A = Result A E} (Err e) (Er
 err_is e f h = cc
 
 -- what a call of a book that took memory was refused for
-answered_err : (A : Type 0) (fault : Option BookFault) (error : OrMemory BookFault) → Answers {A = A} fault (Err error) → (option_map refusals.Book fault ≡ Some (told_of_book error)) ⊎ ((told_of_book error ≡ refusals.Memory) × (fault ≡ None))
-answered_err A (Some f) error h = inl (ap (λ e. Some (told_of_book e)) (sym (err_is error (errors.Fault f) h)))
-answered_err A None error h = inr (ap told_of_book h, refl)
+answered_err : (A : Type 0) (fault : Option BookFault) (error : OrMemory BookFault) → Answers {A = A} fault (Err error) → (option_map refusals.Book fault ≡ Some (refusal_of_book error)) ⊎ ((refusal_of_book error ≡ refusals.Memory) × (fault ≡ None))
+answered_err A (Some f) error h = inl (ap (λ e. Some (refusal_of_book e)) (sym (err_is error (errors.Fault f) h)))
+answered_err A None error h = inr (ap refusal_of_book h, refl)
 
 pub answered_ok : {A : Type 0} (fault : Option BookFault) (x : A) → Answers fault (Ok x) → fault ≡ None
 answered_ok (Some f) x h = absurd (ok_apart x (errors.Fault f) h)
@@ -98,15 +98,15 @@ stores_decided shards number place step reply shard after there stored numbers p
 }
 
 pub stores_faulted : (shards : List ShardView) (number : ℕ) (step : ShardStep) (shard after : ShardView) (fault : ShardFault) (refusal : Refusal) → slice_get shards number ≡ Some shard → Stored shard.streams after.streams → after.streams.next ≤ greatest
-    → MayCome shard step fault after → Grown shard.streams.seen shard.streams.next after.streams.seen → journalled after ≡ journalled shard → refusal ≡ told_of_shard fault → ShardsTurn shards (steps.Shard number step) (replies.Refused refusal) (slice_set shards number after)
-stores_faulted shards number step shard after fault refusal there stored numbers came grown kept told = inr (record {
+    → MayCome shard step fault after → Grown shard.streams.seen shard.streams.next after.streams.seen → journalled after ≡ journalled shard → refusal ≡ refusal_of_shard fault → ShardsTurn shards (steps.Shard number step) (replies.Refused refusal) (slice_set shards number after)
+stores_faulted shards number step shard after fault refusal there stored numbers came grown kept offers = inr (record {
   before = shard;
   there = there;
   after = after;
   now = refl;
   stored = stored;
   numbers = numbers;
-  as_said = record { kept = kept; fault = fault; told = told; cause = came; grown = grown };
+  as_said = record { kept = kept; fault = fault; offers = offers; cause = came; grown = grown };
 })
 
 -- of the faults of a shard one is its journal's
@@ -152,7 +152,7 @@ module _ (shards : List ShardView) (books : List BookState) where
   )
 
   pub shard_refused : (number : ℕ) (step : ShardStep) (shard after : ShardView) (fault : ShardFault) (refusal : Refusal) → slice_get shards number ≡ Some shard
-      → MayCome shard step fault after → (is_journal_full (journalled shard) ≡ true → fault ≡ shard_faults.JournalFull) → journalled after ≡ journalled shard → refusal ≡ told_of_shard fault
+      → MayCome shard step fault after → (is_journal_full (journalled shard) ≡ true → fault ≡ shard_faults.JournalFull) → journalled after ≡ journalled shard → refusal ≡ refusal_of_shard fault
       → IsRefused (world_of shards books) (steps.Shard number step) refusal (world_of (slice_set shards number after) books)
   shard_refused number step shard after fault refusal there came first kept refusal_is = (
     subst (λ r. MayRefuse (world_of shards books) (steps.Shard number step) r) (sym refusal_is) (may fault came first),
@@ -164,7 +164,7 @@ module _ (shards : List ShardView) (books : List BookState) where
           ap (λ s. known s journal_refusal) (shard_at number shard there)
           ∙ ap (λ b. cond b (Some refusals.JournalFull) None) (not_true (is_journal_full (journalled shard)) (λ full. true≢false (sym (ap is_for_journal (first full)) ∙ other)))
 
-      may : (fault : ShardFault) → MayCome shard step fault after → (is_journal_full (journalled shard) ≡ true → fault ≡ shard_faults.JournalFull) → MayRefuse (world_of shards books) (steps.Shard number step) (told_of_shard fault)
+      may : (fault : ShardFault) → MayCome shard step fault after → (is_journal_full (journalled shard) ≡ true → fault ≡ shard_faults.JournalFull) → MayRefuse (world_of shards books) (steps.Shard number step) (refusal_of_shard fault)
       may shard_faults.JournalFull came first = inl (ap (λ s. known s journal_refusal) (shard_at number shard there) ∙ ap (λ b. cond b (Some refusals.JournalFull) None) (came.1 refl))
       may shard_faults.Fault came first = inr (free shard_faults.Fault refl first, refl)
       may shard_faults.Damaged came first = inr (free shard_faults.Damaged refl first, refl)
@@ -177,14 +177,14 @@ module _ (shards : List ShardView) (books : List BookState) where
 
   -- a call of a book that takes memory was refused
   pub book_refused : (A : Type 0) (group : ℕ) (step : Step) (fault : Option BookFault) (error : OrMemory BookFault) (refusal : Refusal) (book after : BookState) → slice_get books group ≡ Some book
-      → refusal_of (world_of shards books) step ≡ option_map refusals.Book fault → may_want step ≡ true → Answers {A = A} fault (Err error) → refusal ≡ told_of_book error → after ≡ book
+      → refusal_of (world_of shards books) step ≡ option_map refusals.Book fault → may_want step ≡ true → Answers {A = A} fault (Err error) → refusal ≡ refusal_of_book error → after ≡ book
       → WorldStep partials (world_of shards books) step (replies.Refused refusal) (world_of shards (slice_set books group after))
   book_refused A group step fault error refusal book after there first takes answer refusal_is after_is = (
     subst (λ r. MayRefuse (world_of shards books) step r) (sym refusal_is) (may (answered_err A fault error answer)),
     book_kept group book after there after_is,
   )
     where
-      may : (option_map refusals.Book fault ≡ Some (told_of_book error)) ⊎ ((told_of_book error ≡ refusals.Memory) × (fault ≡ None)) → MayRefuse (world_of shards books) step (told_of_book error)
+      may : (option_map refusals.Book fault ≡ Some (refusal_of_book error)) ⊎ ((refusal_of_book error ≡ refusals.Memory) × (fault ≡ None)) → MayRefuse (world_of shards books) step (refusal_of_book error)
       may (inl is) = inl (first ∙ is)
       may (inr memory) = inr (first ∙ ap (option_map refusals.Book) memory.1, ap (may_fail step) memory.0 ∙ takes)
 
@@ -213,15 +213,15 @@ module _ (shards : List ShardView) (books : List BookState) where
       now = ap (λ (b : BookState). b.history) after_is ∙ ap (λ n. begun n book.history t) (many ∙ sym (length-map shards journalled))
 
   pub begin_refused : (group t : ℕ) (book after : BookState) (error : OrMemory BookFault) (refusal : Refusal) → slice_get books group ≡ Some book
-      → Answers {A = Unit {0}} (begin_fault book.history t) (Err error) → refusal ≡ told_of_book error → after ≡ book
+      → Answers {A = Unit {0}} (begin_fault book.history t) (Err error) → refusal ≡ refusal_of_book error → after ≡ book
       → WorldStep partials (world_of shards books) (steps.Begin group t) (replies.Refused refusal) (world_of shards (slice_set books group after))
   begin_refused group t book after error refusal there answer refusal_is after_is = book_refused (Unit {0}) group (steps.Begin group t) (begin_fault book.history t) error refusal book after there (begin_refusal group t book there) refl answer refusal_is after_is
 
-  edit_told : (group : ℕ) (to : Group) (book : BookState) → slice_get books group ≡ Some book → refusal_of (world_of shards books) (steps.Edit group to) ≡ edit_refusal to book.history
-  edit_told group to book there = ap (λ h. known h (edit_refusal to)) (history_at group book there)
+  edit_answered : (group : ℕ) (to : Group) (book : BookState) → slice_get books group ≡ Some book → refusal_of (world_of shards books) (steps.Edit group to) ≡ edit_refusal to book.history
+  edit_answered group to book there = ap (λ h. known h (edit_refusal to)) (history_at group book there)
 
   edit_named : (group : ℕ) (to : Group) (book : BookState) → slice_get books group ≡ Some book → is_text to.name book.history.group.name ≡ true → refusal_of (world_of shards books) (steps.Edit group to) ≡ option_map refusals.Book (edit_fault book.history)
-  edit_named group to book there named = edit_told group to book there ∙ ap (λ b. cond b (option_map refusals.Book (edit_fault book.history)) (Some refusals.NoSuch)) named
+  edit_named group to book there named = edit_answered group to book there ∙ ap (λ b. cond b (option_map refusals.Book (edit_fault book.history)) (Some refusals.NoSuch)) named
 
   pub edit_turn : (group place : ℕ) (to : Group) (book after : BookState) → slice_get books group ≡ Some book → is_text to.name book.history.group.name ≡ true
       → Answers (edit_fault book.history) (Ok place) → place ≡ length book.history.items → after ≡ with_history book (edited book.history to)
@@ -237,7 +237,7 @@ module _ (shards : List ShardView) (books : List BookState) where
   )
 
   pub edit_refused : (group : ℕ) (to : Group) (book after : BookState) (error : OrMemory BookFault) (refusal : Refusal) → slice_get books group ≡ Some book → is_text to.name book.history.group.name ≡ true
-      → Answers {A = ℕ} (edit_fault book.history) (Err error) → refusal ≡ told_of_book error → after ≡ book
+      → Answers {A = ℕ} (edit_fault book.history) (Err error) → refusal ≡ refusal_of_book error → after ≡ book
       → WorldStep partials (world_of shards books) (steps.Edit group to) (replies.Refused refusal) (world_of shards (slice_set books group after))
   edit_refused group to book after error refusal there named answer refusal_is after_is = book_refused ℕ group (steps.Edit group to) (edit_fault book.history) error refusal book after there (edit_named group to book there named) refl answer refusal_is after_is
 
@@ -278,5 +278,5 @@ module _ (shards : List ShardView) (books : List BookState) where
   catch_up_refused group book after there after_is = (inr (catch_up_refusal group book there, refl), book_kept group book after there after_is)
 
   -- a call that touches no sink and adds no evaluation
-  pub told_same : (group : ℕ) (book after : BookState) → slice_get books group ≡ Some book → told after ≡ told book → map told (slice_set books group after) ≡ map told books
-  told_same group book after there same = map-set_same told books group after book (same ∙ ap told (sym (get_or_from_slice_get books group book book there)))
+  pub offers_same : (group : ℕ) (book after : BookState) → slice_get books group ≡ Some book → offers after ≡ offers book → map offers (slice_set books group after) ≡ map offers books
+  offers_same group book after there same = map-set_same offers books group after book (same ∙ ap offers (sym (get_or_from_slice_get books group book book there)))

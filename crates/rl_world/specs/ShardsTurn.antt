@@ -12,7 +12,7 @@ use Rattle.rl_shard.specs.declared.step.ShardFault.{ShardFault}
 use Rattle.rl_shard.specs.declared.step.ShardReply.{ShardReply}
 use Rattle.rl_shard.specs.declared.step.ShardStep.{ShardStep}
 use Rattle.rl_shard.specs.declared.step.ShardStep.TheVariants as shard_steps
-use Rattle.rl_world.specs.WorldStep.{is_store_refusal, told_of_shard}
+use Rattle.rl_world.specs.WorldStep.{is_store_refusal, refusal_of_shard}
 use Rattle.rl_world.specs.declared.fault.Refusal.{Refusal}
 use Rattle.rl_world.specs.declared.step.Step.{Step}
 use Rattle.rl_world.specs.declared.step.Step.TheVariants as steps
@@ -46,7 +46,7 @@ pub record Decides (place : ℕ) (step : ShardStep) (reply : ShardReply) (before
 pub record Faults (step : ShardStep) (refusal : Refusal) (before after : ShardView) : Type 0 where
   pub kept : journalled after ≡ journalled before
   pub fault : ShardFault
-  pub told : refusal ≡ told_of_shard fault
+  pub offers : refusal ≡ refusal_of_shard fault
   pub cause : MayCome before step fault after
   pub grown : Grown before.streams.seen before.streams.next after.streams.seen
 

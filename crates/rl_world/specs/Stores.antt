@@ -18,25 +18,25 @@ asks number (steps.Gather group shard) = shard == number
 asks number step = false
 
 -- whether a reply says that the device failed, that a chunk was damaged, or that no number is left
-abbrev pub tells_fault : Reply → Bool
-tells_fault (replies.Refused refusals.Fault) = true
-tells_fault reply = false
+abbrev pub is_fault_reply : Reply → Bool
+is_fault_reply (replies.Refused refusals.Fault) = true
+is_fault_reply reply = false
 
-abbrev pub tells_damage : Reply → Bool
-tells_damage (replies.Refused refusals.Damaged) = true
-tells_damage reply = false
+abbrev pub is_damage_reply : Reply → Bool
+is_damage_reply (replies.Refused refusals.Damaged) = true
+is_damage_reply reply = false
 
-abbrev pub tells_spent : Reply → Bool
-tells_spent (replies.Refused refusals.NumbersSpent) = true
-tells_spent reply = false
+abbrev pub is_spent_reply : Reply → Bool
+is_spent_reply (replies.Refused refusals.NumbersSpent) = true
+is_spent_reply reply = false
 
 -- whether a reply to a step that asks the shard says so
-abbrev pub is_told : ℕ → (Reply → Bool) → Step × Reply → Bool
-is_told number tells turn = asks number turn.0 && tells turn.1
+abbrev pub is_answered_so : ℕ → (Reply → Bool) → Step × Reply → Bool
+is_answered_so number reports turn = asks number turn.0 && reports turn.1
 
 -- whether one of them does
-abbrev pub was_told : ℕ → (Reply → Bool) → List (Step × Reply) → Bool
-was_told number tells turns = list_any (λ turn. is_told number tells turn) turns
+abbrev pub was_answered : ℕ → (Reply → Bool) → List (Step × Reply) → Bool
+was_answered number reports turns = list_any (λ turn. is_answered_so number reports turn) turns
 
 -- what a run says of the store of a shard: it is as honest as before, and its faults never go down; where none was counted and
 -- more can be, no reply reports one; where one says that the numbers are spent, only the greatest is left; and over an honest
@@ -44,9 +44,9 @@ was_told number tells turns = list_any (λ turn. is_told number tells turn) turn
 pub record StoreFollows (number : ℕ) (turns : List (Step × Reply)) (before after : ShardView) : Type 0 where
   pub honest : after.streams.seen.honest ≡ before.streams.seen.honest
   pub faults : FaultsRise before.streams.seen.faults after.streams.seen.faults
-  pub no_fault : after.streams.seen.faults ≡ before.streams.seen.faults → before.streams.seen.faults < greatest → was_told number tells_fault turns ≡ false
-  pub spent : was_told number tells_spent turns ≡ true → after.streams.next ≡ greatest
-  pub undamaged : IsHonest before → was_told number tells_damage turns ≡ false
+  pub no_fault : after.streams.seen.faults ≡ before.streams.seen.faults → before.streams.seen.faults < greatest → was_answered number is_fault_reply turns ≡ false
+  pub spent : was_answered number is_spent_reply turns ≡ true → after.streams.next ≡ greatest
+  pub undamaged : IsHonest before → was_answered number is_damage_reply turns ≡ false
 
 -- the shard is still there, and its store follows
 pub record StoreFollowsIn (number : ℕ) (turns : List (Step × Reply)) (before : ShardView) (shards : List ShardView) : Type 0 where

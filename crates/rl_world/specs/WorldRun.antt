@@ -29,20 +29,20 @@ pub record SinksOffered (old : List BookState) (group : ℕ) (behind : List ℕ)
   pub behind_is : behind ≡ behind_of after.history.evaluations after.sinks
 
 -- what sinks are offered, the sinks, how many shards a book asks, and under which number
-pub record BookTold : Type 0 where
+pub record BookOffers : Type 0 where
   pub evaluations : List Evaluation
   pub sinks : List SinkState
   pub shards : ℕ
   pub slot : ℕ
 
-abbrev pub told : BookState → BookTold
-told book = record { evaluations = book.history.evaluations; sinks = book.sinks; shards = book.shards; slot = book.slot }
+abbrev pub offers : BookState → BookOffers
+offers book = record { evaluations = book.history.evaluations; sinks = book.sinks; shards = book.shards; slot = book.slot }
 
 -- what a step makes of the sinks: only a commit adds an evaluation, and only it and a catch-up touch them
 abbrev pub SinkStep : List BookState → Step → Reply → List BookState → Type 0
 SinkStep old (steps.Commit group) (replies.Committed answer) new = SinksOffered old group answer.behind new
 SinkStep old (steps.CatchUp group) (replies.CaughtUp behind) new = SinksOffered old group behind new
-SinkStep old step reply new = map told new ≡ map told old
+SinkStep old step reply new = map offers new ≡ map offers old
 
 -- a shard was asked for the open evaluation of a group, which keeps what the shard showed
 pub record IsShown (old : List BookState) (group number place : ℕ) (new : List BookState) : Type 0 where

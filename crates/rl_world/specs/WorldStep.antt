@@ -56,16 +56,16 @@ abbrev pub journal_refusal : Journalled → Option Refusal
 journal_refusal shard = if is_journal_full shard then Some refusals.JournalFull else None
 
 -- how a world reports what a shard or a book refused
-abbrev pub told_of_shard : ShardFault → Refusal
-told_of_shard shard_faults.JournalFull = refusals.JournalFull
-told_of_shard shard_faults.Fault = refusals.Fault
-told_of_shard shard_faults.Damaged = refusals.Damaged
-told_of_shard shard_faults.NumbersSpent = refusals.NumbersSpent
-told_of_shard shard_faults.Memory = refusals.Memory
+abbrev pub refusal_of_shard : ShardFault → Refusal
+refusal_of_shard shard_faults.JournalFull = refusals.JournalFull
+refusal_of_shard shard_faults.Fault = refusals.Fault
+refusal_of_shard shard_faults.Damaged = refusals.Damaged
+refusal_of_shard shard_faults.NumbersSpent = refusals.NumbersSpent
+refusal_of_shard shard_faults.Memory = refusals.Memory
 
-abbrev pub told_of_book : OrMemory BookFault → Refusal
-told_of_book (errors.Fault fault) = refusals.Book fault
-told_of_book errors.Memory = refusals.Memory
+abbrev pub refusal_of_book : OrMemory BookFault → Refusal
+refusal_of_book (errors.Fault fault) = refusals.Book fault
+refusal_of_book errors.Memory = refusals.Memory
 
 -- whether a step may lack memory: each but Abandon
 abbrev pub may_want : Step → Bool

@@ -206,7 +206,7 @@ impl<S: Sink> Book<S> {
         let mut memories = mem::replace(&mut self.memories, Vec::new(self.alloc));
         let evaluated = self.evaluated(&mut memories);
         self.memories = memories;
-        let (evaluation, told, alerts) = evaluated?;
+        let (evaluation, offers, alerts) = evaluated?;
         let item = Item::Evaluated(evaluation.try_copy()?);
         let mut behind = Vec::with_capacity(self.alloc, self.sinks.len())?;
         self.items.reserve(1)?;
@@ -217,7 +217,7 @@ impl<S: Sink> Book<S> {
         offer_all(&mut self.sinks, &self.evaluations, &mut behind);
         Ok(Committed {
             number,
-            evaluation: told,
+            evaluation: offers,
             behind: PlainList::from_vec(behind),
         })
     }
@@ -255,8 +255,8 @@ impl<S: Sink> Book<S> {
             opened,
             memories,
         )?;
-        let told = evaluation.try_copy()?;
-        Ok((evaluation, told, alerts))
+        let offers = evaluation.try_copy()?;
+        Ok((evaluation, offers, alerts))
     }
 
     /// Closes the open evaluation, of which nothing is left.

@@ -13,7 +13,7 @@ ghost use Rattle.rl_world.specs.ShardsTurn.{AreHonest, Decides, ShardsTurn};
 ghost use Rattle.rl_world.specs.Slots.{AreOfOneShard};
 ghost use Rattle.rl_world.specs.WorldRun.{HistoriesTurn, SinkStep};
 ghost use Rattle.rl_world.specs.WorldState.{world_of};
-ghost use Rattle.rl_world.specs.WorldStep.{WorldStep, IfRefused, IsRefused, partials, told_of_shard, told_of_book};
+ghost use Rattle.rl_world.specs.WorldStep.{WorldStep, IfRefused, IsRefused, partials, refusal_of_shard, refusal_of_book};
 ghost use Rattle.rl_world.specs.declared.step.Step.TheVariants as steps;
 
 use crate::fault::{BookError, Refusal};
@@ -197,7 +197,7 @@ fn is_same_name(one: &Group, other: &Group) -> bool
 
 // A fault of a shard, as a world reports it.
 fn refusal_of_shard(fault: ShardFault) -> Refusal
-    ensures { result ≡ told_of_shard fault }
+    ensures { result ≡ refusal_of_shard fault }
 {
     match fault {
         ShardFault::JournalFull => Refusal::JournalFull,
@@ -210,7 +210,7 @@ fn refusal_of_shard(fault: ShardFault) -> Refusal
 
 // A refusal of a book, as a world reports it.
 fn refusal_of_book(error: BookError) -> Refusal
-    ensures { result ≡ told_of_book error }
+    ensures { result ≡ refusal_of_book error }
 {
     match error {
         BookError::Fault(fault) => Refusal::Book(fault),

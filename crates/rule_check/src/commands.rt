@@ -5,7 +5,7 @@ use crate::no_toml::Standing;
 use crate::place::Place;
 use crate::queries::push_query_fault;
 use crate::report::push_refusal;
-use crate::told::{Told, Untold};
+use crate::findings::{Findings, OutOfMemory};
 use crate::values::push_name;
 use rl_query::QueryError;
 use rl_rules::{Group, RulesError, read_rules};
@@ -52,100 +52,100 @@ pub(crate) struct Known<'a> {
 
 /// The faults of a line that is not blank, and whether it ends the session.
 pub(crate) fn push_command(
-    told: &mut Told,
+    findings: &mut Findings,
     known: &mut Known<'_>,
     number: usize,
     line: &str,
-) -> Result<bool, Untold> {
-    let before = told.count;
+) -> Result<bool, OutOfMemory> {
+    let before = findings.count;
     let place = Place::whole(Some(number));
     let ends = match read_command(line) {
         Some(Command::End) => true,
         Some(command) => {
-            push_asked(told, known, &place, number, command)?;
+            push_asked(findings, known, &place, number, command)?;
             false
         }
         None => {
-            push_no_command(told, &place, line)?;
+            push_no_command(findings, &place, line)?;
             false
         }
     };
-    if told.count > before && line.ends_with('\r') {
-        told.text.push_str("  in its place: the line without the carriage return at its end\n")?;
+    if findings.count > before && line.ends_with('\r') {
+        findings.text.push_str("  in its place: the line without the carriage return at its end\n")?;
     }
     Ok(ends)
 }
 
 // The faults of what a command asks for.
 fn push_asked(
-    told: &mut Told,
+    findings: &mut Findings,
     known: &mut Known<'_>,
     place: &Place<'_>,
     number: usize,
     command: Command<'_>,
-) -> Result<(), Untold> {
+) -> Result<(), OutOfMemory> {
     match command {
-        Command::Push(body) => push_body(told, known, place, body),
-        Command::Edit(document) => push_edit(told, known, place, number, document),
-        Command::Delete { selector, .. } => push_selector(told, place, selector),
-        Command::Eval { group, .. } => push_unnamed(told, known, place, group),
-        Command::Pump(group) => push_unnamed(told, known, place, group),
+        Command::Push(body) => push_body(findings, known, place, body),
+        Command::Edit(document) => push_edit(findings, known, place, number, document),
+        Command::Delete { selector, .. } => push_selector(findings, place, selector),
+        Command::Eval { group, .. } => push_unnamed(findings, known, place, group),
+        Command::Pump(group) => push_unnamed(findings, known, place, group),
         Command::Show { sink, group } => {
             if sink > LAST_SINK {
-                told.begin(place)?;
-                told.text
+                findings.begin(place)?;
+                findings.text
                     .push_str("a group has sink 0, and with --sinks all 1 and 2\n")?;
             }
-            push_unnamed(told, known, place, group)
+            push_unnamed(findings, known, place, group)
         }
         _ => Ok(()),
     }
 }
 
 fn push_body(
-    told: &mut Told,
+    findings: &mut Findings,
     known: &mut Known<'_>,
     place: &Place<'_>,
     body: &str,
-) -> Result<(), Untold> {
+) -> Result<(), OutOfMemory> {
     match known.reader.read(body.as_bytes()) {
         Ok(_) => Ok(()),
-        Err(PushError::Memory) => Err(Untold),
+        Err(PushError::Memory) => Err(OutOfMemory),
         Err(error) => {
-            told.begin(place)?;
-            writeln!(told.text, "the body: {}", push_error_name(error))?;
+            findings.begin(place)?;
+            writeln!(findings.text, "the body: {}", push_error_name(error))?;
             Ok(())
         }
     }
 }
 
-fn push_selector(told: &mut Told, place: &Place<'_>, selector: &str) -> Result<(), Untold> {
-    match parse_delete(*told.text.allocator(), selector) {
+fn push_selector(findings: &mut Findings, place: &Place<'_>, selector: &str) -> Result<(), OutOfMemory> {
+    match parse_delete(*findings.text.allocator(), selector) {
         Ok(_) => Ok(()),
-        Err(QueryError::Memory) => Err(Untold),
+        Err(QueryError::Memory) => Err(OutOfMemory),
         Err(QueryError::Fault(fault)) => {
-            told.begin(place)?;
-            told.text.push_str("the selector: ")?;
-            push_query_fault(&mut told.text, selector, fault)
+            findings.begin(place)?;
+            findings.text.push_str("the selector: ")?;
+            push_query_fault(&mut findings.text, selector, fault)
         }
     }
 }
 
 // The faults of the rule file of an edit, which has one group with the name of another.
 fn push_edit(
-    told: &mut Told,
+    findings: &mut Findings,
     known: &Known<'_>,
     place: &Place<'_>,
     number: usize,
     document: &str,
-) -> Result<(), Untold> {
-    match read_rules(*told.text.allocator(), document) {
+) -> Result<(), OutOfMemory> {
+    match read_rules(*findings.text.allocator(), document) {
         Ok(groups) => match groups.as_slice() {
-            [group] => push_unnamed(told, known, place, group.name.as_str()),
+            [group] => push_unnamed(findings, known, place, group.name.as_str()),
             groups => {
-                told.begin(place)?;
+                findings.begin(place)?;
                 let count = groups.len();
-                writeln!(told.text, "{count} groups, where an edit has one")?;
+                writeln!(findings.text, "{count} groups, where an edit has one")?;
                 Ok(())
             }
         },
@@ -154,33 +154,33 @@ fn push_edit(
                 first_line: number,
                 lead: "edit ",
             };
-            push_refusal(told, place, standing, document, fault)
+            push_refusal(findings, place, standing, document, fault)
         }
-        Err(RulesError::Memory) => Err(Untold),
+        Err(RulesError::Memory) => Err(OutOfMemory),
     }
 }
 
 // That no group has the name, where the groups are known.
 fn push_unnamed(
-    told: &mut Told,
+    findings: &mut Findings,
     known: &Known<'_>,
     place: &Place<'_>,
     name: &str,
-) -> Result<(), Untold> {
+) -> Result<(), OutOfMemory> {
     let Some(groups) = known.groups else {
         return Ok(());
     };
     if groups.iter().any(|group| group.name.as_str() == name) {
         return Ok(());
     }
-    told.begin(place)?;
-    told.text.push_str("no group is named ")?;
-    push_word(&mut told.text, name)?;
-    told.text.push('\n')?;
+    findings.begin(place)?;
+    findings.text.push_str("no group is named ")?;
+    push_word(&mut findings.text, name)?;
+    findings.text.push('\n')?;
     for group in groups {
         let near = group.name.as_str();
         if is_meant(near, name) {
-            writeln!(told.text, "  in its place: {near}")?;
+            writeln!(findings.text, "  in its place: {near}")?;
             return Ok(());
         }
     }
@@ -188,22 +188,22 @@ fn push_unnamed(
 }
 
 // Why a line is no command.
-fn push_no_command(told: &mut Told, place: &Place<'_>, line: &str) -> Result<(), Untold> {
+fn push_no_command(findings: &mut Findings, place: &Place<'_>, line: &str) -> Result<(), OutOfMemory> {
     let word = match line.split_once(' ') {
         Some((word, _)) => word,
         None => line,
     };
-    told.begin(place)?;
+    findings.begin(place)?;
     if word.is_empty() {
-        told.text.push_str("no command begins with a space\n")?;
+        findings.text.push_str("no command begins with a space\n")?;
         return Ok(());
     }
     match wanted_of(word) {
         Some(wanted) => {
-            writeln!(told.text, "{word} {wanted}")?;
+            writeln!(findings.text, "{word} {wanted}")?;
             Ok(())
         }
-        None => push_no_word(&mut told.text, word),
+        None => push_no_word(&mut findings.text, word),
     }
 }
 
@@ -218,7 +218,7 @@ fn wanted_of(word: &str) -> Option<&'static str> {
 }
 
 // A word that begins no command, and one that is near it.
-fn push_no_word(text: &mut String, word: &str) -> Result<(), Untold> {
+fn push_no_word(text: &mut String, word: &str) -> Result<(), OutOfMemory> {
     text.push_str("no command begins with ")?;
     push_word(text, word)?;
     text.push('\n')?;
@@ -243,7 +243,7 @@ fn is_meant(word: &str, written: &str) -> bool {
 }
 
 // Writes a word as a key, or how long it is.
-fn push_word(text: &mut String, word: &str) -> Result<(), Untold> {
+fn push_word(text: &mut String, word: &str) -> Result<(), OutOfMemory> {
     if word.len() > LONGEST_WORD {
         write!(text, "a text of {} bytes", word.len())?;
         return Ok(());

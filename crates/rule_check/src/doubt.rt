@@ -1,6 +1,6 @@
 //! Lines that would be errors of a range: a rule that meets one fails.
 
-use crate::told::Untold;
+use crate::findings::OutOfMemory;
 use rl_labels::{Labels, Matcher};
 use rl_plain::OrMemory;
 use rl_query::{LabelTest, LabelTests, Parser, Quantity, Stage, TestParts};
@@ -26,7 +26,7 @@ struct Known<'a> {
 }
 
 /// The line that would be an error and stay, after a parser, if there is one.
-pub(crate) fn doubt_of(alloc: Global, stages: &[Stage]) -> Result<Option<Doubt<'_>>, Untold> {
+pub(crate) fn doubt_of(alloc: Global, stages: &[Stage]) -> Result<Option<Doubt<'_>>, OutOfMemory> {
     let mut known = Known {
         is_parsed: false,
         doubt: None,
@@ -41,7 +41,7 @@ fn after_stage<'a>(
     alloc: Global,
     known: Known<'a>,
     stage: &'a Stage,
-) -> Result<Known<'a>, Untold> {
+) -> Result<Known<'a>, OutOfMemory> {
     let (is_parsed, doubt) = match stage {
         Stage::Parser(Parser::Json) => (true, Some(Doubt::Unread)),
         Stage::Parser(Parser::Logfmt) => (true, known.doubt),
@@ -55,7 +55,7 @@ fn after_stage<'a>(
 }
 
 // The tests that are joined, from left to right.
-fn leaves_of(alloc: Global, tests: &LabelTests) -> Result<Vec<&LabelTest>, Untold> {
+fn leaves_of(alloc: Global, tests: &LabelTests) -> Result<Vec<&LabelTest>, OutOfMemory> {
     let mut leaves = Vec::new(alloc);
     let mut waiting = Vec::new(alloc);
     waiting.push(tests)?;
@@ -79,7 +79,7 @@ fn after_tests<'a>(
     alloc: Global,
     doubt: Option<Doubt<'a>>,
     tests: &[&'a LabelTest],
-) -> Result<Option<Doubt<'a>>, Untold> {
+) -> Result<Option<Doubt<'a>>, OutOfMemory> {
     if tests.iter().any(|test| asks_for_errors(*test)) {
         return Ok(None);
     }
@@ -98,7 +98,7 @@ fn asks_for_errors(test: &LabelTest) -> bool {
 }
 
 // Whether each test lets a line pass that has an error and no label.
-fn passes_all(alloc: Global, tests: &[&LabelTest]) -> Result<bool, Untold> {
+fn passes_all(alloc: Global, tests: &[&LabelTest]) -> Result<bool, OutOfMemory> {
     for test in tests {
         if let LabelTest::Text(test) = *test {
             if !accepts_none(alloc, &test.matcher)? {
@@ -109,11 +109,11 @@ fn passes_all(alloc: Global, tests: &[&LabelTest]) -> Result<bool, Untold> {
     Ok(true)
 }
 
-fn accepts_none(alloc: Global, matcher: &Matcher) -> Result<bool, Untold> {
+fn accepts_none(alloc: Global, matcher: &Matcher) -> Result<bool, OutOfMemory> {
     match matcher.build() {
         Ok(code) => Ok(code.accepts(&Labels::empty(alloc)?)?),
         Err(OrMemory::Fault(_)) => Ok(false),
-        Err(OrMemory::Memory) => Err(Untold),
+        Err(OrMemory::Memory) => Err(OutOfMemory),
     }
 }
 

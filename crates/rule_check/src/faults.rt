@@ -4,7 +4,7 @@ use crate::keys::{Key, Owner};
 use crate::names::{push_labels, push_name_fault, push_rule_name_fault, spot_of};
 use crate::place::Place;
 use crate::queries::push_query;
-use crate::told::{Told, Untold};
+use crate::findings::{Findings, OutOfMemory};
 use crate::values::{items_at, push_name, push_value, text_at};
 use rl_rules::reading::{MOST_GROUPS, MOST_RULES};
 use std::collections::BTreeSet;
@@ -14,22 +14,22 @@ use toml::Table;
 /// The faults of a document: its own, and those of each group and of each rule. Those of one table come by its known keys, by
 /// its unknown ones in their order, and by those that are missing.
 pub(crate) fn push_faults(
-    told: &mut Told,
+    findings: &mut Findings,
     place: &Place<'_>,
     document: &Table,
-) -> Result<(), Untold> {
-    push_keys(told, place, Owner::File, document)?;
+) -> Result<(), OutOfMemory> {
+    push_keys(findings, place, Owner::File, document)?;
     let items = items_at(document, "groups");
     if items.len() > MOST_GROUPS {
         let count = items.len();
-        told.begin(place)?;
-        writeln!(told.text, "{count} groups, where {MOST_GROUPS} are allowed")?;
+        findings.begin(place)?;
+        writeln!(findings.text, "{count} groups, where {MOST_GROUPS} are allowed")?;
     }
-    let mut names = BTreeSet::new(*told.text.allocator());
+    let mut names = BTreeSet::new(*findings.text.allocator());
     for (number, item) in items.iter().enumerate() {
         if let Some(group) = item.as_table() {
             let place = place.of_group(spot_of(group, "name", number));
-            push_group(told, &place, group, &mut names)?;
+            push_group(findings, &place, group, &mut names)?;
         }
     }
     Ok(())
@@ -37,111 +37,111 @@ pub(crate) fn push_faults(
 
 // The faults of a group after others, whose names are known.
 fn push_group(
-    told: &mut Told,
+    findings: &mut Findings,
     place: &Place<'_>,
     group: &Table,
     names: &mut BTreeSet<String>,
-) -> Result<(), Untold> {
-    push_keys(told, place, Owner::Group, group)?;
-    push_name_fault(told, place, group, "name")?;
-    push_same_name(told, place, group, names)?;
+) -> Result<(), OutOfMemory> {
+    push_keys(findings, place, Owner::Group, group)?;
+    push_name_fault(findings, place, group, "name")?;
+    push_same_name(findings, place, group, names)?;
     let items = items_at(group, "rules");
     if items.len() > MOST_RULES {
         let count = items.len();
-        told.begin(place)?;
-        writeln!(told.text, "{count} rules, where {MOST_RULES} are allowed")?;
+        findings.begin(place)?;
+        writeln!(findings.text, "{count} rules, where {MOST_RULES} are allowed")?;
     }
     for (number, item) in items.iter().enumerate() {
         if let Some(rule) = item.as_table() {
-            push_rule(told, place, number, rule)?;
+            push_rule(findings, place, number, rule)?;
         }
     }
     Ok(())
 }
 
 fn push_same_name(
-    told: &mut Told,
+    findings: &mut Findings,
     place: &Place<'_>,
     group: &Table,
     names: &mut BTreeSet<String>,
-) -> Result<(), Untold> {
+) -> Result<(), OutOfMemory> {
     let Some(name) = text_at(group, "name") else {
         return Ok(());
     };
-    if !names.insert(String::from_str(*told.text.allocator(), name)?)? {
-        told.begin(place)?;
-        told.text.push_str("two groups have this name\n")?;
+    if !names.insert(String::from_str(*findings.text.allocator(), name)?)? {
+        findings.begin(place)?;
+        findings.text.push_str("two groups have this name\n")?;
     }
     Ok(())
 }
 
 fn push_rule(
-    told: &mut Told,
+    findings: &mut Findings,
     place: &Place<'_>,
     number: usize,
     rule: &Table,
-) -> Result<(), Untold> {
+) -> Result<(), OutOfMemory> {
     let (owner, key) = if rule.get("record").is_some() {
         (Owner::Recording, "record")
     } else {
         (Owner::Alerting, "alert")
     };
     let place = place.of_rule(spot_of(rule, key, number));
-    push_keys(told, &place, owner, rule)?;
-    push_rule_name_fault(told, &place, owner, rule)?;
-    push_labels(told, &place, rule, "labels", "label")?;
+    push_keys(findings, &place, owner, rule)?;
+    push_rule_name_fault(findings, &place, owner, rule)?;
+    push_labels(findings, &place, rule, "labels", "label")?;
     if owner.has("annotations") {
-        push_labels(told, &place, rule, "annotations", "annotation")?;
+        push_labels(findings, &place, rule, "annotations", "annotation")?;
     }
     match text_at(rule, "expr") {
-        Some(query) => push_query(told, &place, query),
+        Some(query) => push_query(findings, &place, query),
         None => Ok(()),
     }
 }
 
 // The faults of a table by its keys.
 fn push_keys(
-    told: &mut Told,
+    findings: &mut Findings,
     place: &Place<'_>,
     owner: Owner,
     table: &Table,
-) -> Result<(), Untold> {
+) -> Result<(), OutOfMemory> {
     for key in owner.keys() {
         if let Some(value) = table.get(key.name) {
-            push_value(told, place, key, value)?;
+            push_value(findings, place, key, value)?;
         }
     }
     for name in table.keys() {
         if !owner.has(name.as_str()) {
-            push_unknown(told, place, owner, name.as_str())?;
+            push_unknown(findings, place, owner, name.as_str())?;
         }
     }
     for key in owner.keys() {
         if key.is_needed && table.get(key.name).is_none() {
-            push_missing(told, place, owner, key)?;
+            push_missing(findings, place, owner, key)?;
         }
     }
     Ok(())
 }
 
 fn push_unknown(
-    told: &mut Told,
+    findings: &mut Findings,
     place: &Place<'_>,
     owner: Owner,
     name: &str,
-) -> Result<(), Untold> {
-    told.begin(place)?;
-    write!(told.text, "{} has no key ", owner.as_str())?;
-    push_name(&mut told.text, name)?;
-    told.text.push('\n')?;
+) -> Result<(), OutOfMemory> {
+    findings.begin(place)?;
+    write!(findings.text, "{} has no key ", owner.as_str())?;
+    push_name(&mut findings.text, name)?;
+    findings.text.push('\n')?;
     if let Some(hint) = owner.near(name) {
-        writeln!(told.text, "  in its place: {hint}")?;
+        writeln!(findings.text, "  in its place: {hint}")?;
     }
     Ok(())
 }
 
-fn push_missing(told: &mut Told, place: &Place<'_>, owner: Owner, key: &Key) -> Result<(), Untold> {
-    told.begin(place)?;
-    writeln!(told.text, "the key {} is missing", owner.missing(key))?;
+fn push_missing(findings: &mut Findings, place: &Place<'_>, owner: Owner, key: &Key) -> Result<(), OutOfMemory> {
+    findings.begin(place)?;
+    writeln!(findings.text, "the key {} is missing", owner.missing(key))?;
     Ok(())
 }

@@ -2,7 +2,7 @@
 
 use crate::no_toml::{first_word, last_word};
 use crate::place::cut_at;
-use crate::told::Untold;
+use crate::findings::OutOfMemory;
 use rl_query::{QueryFault, RangeFunction};
 use std::fmt::Write;
 
@@ -10,7 +10,7 @@ use std::fmt::Write;
 const SECONDS: &str = "whole seconds, as [5m]";
 
 /// Writes what a ruler has near the fault of a query, if it has something.
-pub(crate) fn push_hint(text: &mut String, query: &str, fault: QueryFault) -> Result<(), Untold> {
+pub(crate) fn push_hint(text: &mut String, query: &str, fault: QueryFault) -> Result<(), OutOfMemory> {
     match fault {
         QueryFault::Syntax(place) => {
             let (front, back) = cut_at(query, place);
@@ -30,13 +30,13 @@ pub(crate) fn push_hint(text: &mut String, query: &str, fault: QueryFault) -> Re
     }
 }
 
-fn push(text: &mut String, hint: &str) -> Result<(), Untold> {
+fn push(text: &mut String, hint: &str) -> Result<(), OutOfMemory> {
     writeln!(text, "  in its place: {hint}")?;
     Ok(())
 }
 
 // Near what no query has where it stands.
-fn push_near_syntax(text: &mut String, front: &str, back: &str) -> Result<(), Untold> {
+fn push_near_syntax(text: &mut String, front: &str, back: &str) -> Result<(), OutOfMemory> {
     let (before, word) = (last_word(front), first_word(back));
     if is_grouping(before) && !word.is_empty() {
         writeln!(text, "  in its place: {before} ({word})")?;
@@ -110,7 +110,7 @@ fn is_term_word(word: &str) -> bool {
 }
 
 // Near what LogQL has where it stands.
-fn push_near_unsupported(text: &mut String, front: &str, back: &str) -> Result<(), Untold> {
+fn push_near_unsupported(text: &mut String, front: &str, back: &str) -> Result<(), OutOfMemory> {
     if begins_with_digit(back) {
         return push(text, number_near(front));
     }
@@ -131,7 +131,7 @@ fn push_near_unsupported(text: &mut String, front: &str, back: &str) -> Result<(
     push_known(text, hint_of_word(lower.as_str()))
 }
 
-fn push_known(text: &mut String, hint: Option<&'static str>) -> Result<(), Untold> {
+fn push_known(text: &mut String, hint: Option<&'static str>) -> Result<(), OutOfMemory> {
     match hint {
         Some(hint) => push(text, hint),
         None => Ok(()),

@@ -2,7 +2,7 @@
 
 use crate::doubt::{Doubt, doubt_of};
 use crate::place::{Place, Spot, push_names, push_place};
-use crate::told::Untold;
+use crate::findings::OutOfMemory;
 use rl_plain::{PlainText, Same};
 use rl_query::{Query, RangeFunction, Term};
 use rl_rules::naming::{ALERT_LABEL, NAME_LABEL};
@@ -10,7 +10,7 @@ use rl_rules::{Group, Rule, RuleKind};
 use std::fmt::Write;
 
 /// A line for each such thing of each rule, in their order.
-pub(crate) fn push_lints(text: &mut String, groups: &[Group]) -> Result<(), Untold> {
+pub(crate) fn push_lints(text: &mut String, groups: &[Group]) -> Result<(), OutOfMemory> {
     for (number, group) in groups.iter().enumerate() {
         let place = Place::whole(None).of_group(spot_of(&group.name, number));
         let rules = group.rules.as_slice();
@@ -31,7 +31,7 @@ fn spot_of(name: &PlainText, number: usize) -> Spot<'_> {
 }
 
 // Begins a line.
-fn begin(text: &mut String, place: &Place<'_>) -> Result<(), Untold> {
+fn begin(text: &mut String, place: &Place<'_>) -> Result<(), OutOfMemory> {
     text.push_str("lint: ")?;
     push_place(text, place)
 }
@@ -43,7 +43,7 @@ fn push_twin(
     rules: &[Rule],
     number: usize,
     rule: &Rule,
-) -> Result<(), Untold> {
+) -> Result<(), OutOfMemory> {
     let Some(first) = rules.iter().take(number).position(|one| one.is_same(rule)) else {
         return Ok(());
     };
@@ -59,7 +59,7 @@ fn push_rule(
     place: &Place<'_>,
     interval: u64,
     rule: &Rule,
-) -> Result<(), Untold> {
+) -> Result<(), OutOfMemory> {
     if matches!(rule.kind, RuleKind::Alerting) && compares_nothing(&rule.query) {
         begin(text, place)?;
         text.push_str("no comparison, so each element is an alert\n")?;
@@ -82,7 +82,7 @@ fn compares_nothing(query: &Query) -> bool {
     query.test.is_none() && !(is_absence && query.over.is_none())
 }
 
-fn push_doubts(text: &mut String, place: &Place<'_>, query: &Query) -> Result<(), Untold> {
+fn push_doubts(text: &mut String, place: &Place<'_>, query: &Query) -> Result<(), OutOfMemory> {
     push_doubt(text, place, &query.left)?;
     match &query.over {
         Some(over) => push_doubt(text, place, over),
@@ -91,7 +91,7 @@ fn push_doubts(text: &mut String, place: &Place<'_>, query: &Query) -> Result<()
 }
 
 // A line that would fail the rule.
-fn push_doubt(text: &mut String, place: &Place<'_>, term: &Term) -> Result<(), Untold> {
+fn push_doubt(text: &mut String, place: &Place<'_>, term: &Term) -> Result<(), OutOfMemory> {
     let Some(doubt) = doubt_of(*text.allocator(), term.range.stages.as_slice())? else {
         return Ok(());
     };
@@ -109,7 +109,7 @@ fn push_doubt(text: &mut String, place: &Place<'_>, term: &Term) -> Result<(), U
 }
 
 // A label over which the rule's name stands.
-fn push_overwritten(text: &mut String, place: &Place<'_>, rule: &Rule) -> Result<(), Untold> {
+fn push_overwritten(text: &mut String, place: &Place<'_>, rule: &Rule) -> Result<(), OutOfMemory> {
     let own = match rule.kind {
         RuleKind::Recording => NAME_LABEL,
         RuleKind::Alerting => ALERT_LABEL,
@@ -129,7 +129,7 @@ fn push_templates(
     place: &Place<'_>,
     word: &str,
     pairs: &[(PlainText, PlainText)],
-) -> Result<(), Untold> {
+) -> Result<(), OutOfMemory> {
     for (name, value) in pairs {
         if value.as_str().contains("{{") {
             begin(text, place)?;

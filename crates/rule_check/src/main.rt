@@ -6,7 +6,7 @@
 //! - `session`: what is reported of the input of a session. `commands`: its command lines. `near`: words that are nearly equal.
 //! - `hint`: what a ruler has near a query that it refuses. `lint`: what is taken and looks like a mistake.
 //!   `doubt`: lines that would fail a rule.
-//! - `place`: where a fault is. `told`: what is reported so far.
+//! - `place`: where a fault is. `findings`: what is reported so far.
 #![tactic(auto)]
 
 mod commands;
@@ -24,7 +24,7 @@ mod print;
 mod queries;
 mod report;
 mod session;
-mod told;
+mod findings;
 mod values;
 
 use options::{HELP, Input, Options, Stop, read_options};
@@ -33,7 +33,7 @@ use session::session_report;
 use std::io::ErrorKind;
 use std::process::ExitCode;
 use std::{fs, io};
-use told::{Report, Untold};
+use findings::{Report, OutOfMemory};
 
 fn main(rt: HostRuntime) -> ExitCode {
     match read_options(&rt) {
@@ -76,14 +76,14 @@ fn run(rt: &HostRuntime, options: Options) -> io::Result<bool> {
     match input {
         Input::Standard => {
             let read = io::read_to_string(rt.alloc(), rt.reader());
-            tell_rules(rt, "the file", read, prints)
+            print_rules(rt, "the file", read, prints)
         }
         Input::File(path) => {
             let read = fs::read_to_string(rt, path.as_str());
-            tell_rules(rt, path.as_str(), read, prints)
+            print_rules(rt, path.as_str(), read, prints)
         }
         Input::Session(path) => match fs::read(rt, path.as_str()) {
-            Ok(bytes) => tell(rt, session_report(rt.alloc(), bytes, prints)),
+            Ok(bytes) => print_report(rt, session_report(rt.alloc(), bytes, prints)),
             Err(_) => {
                 eprintln!(rt; "rule_check: {path} cannot be read", path = path.as_str())?;
                 Ok(false)
@@ -93,14 +93,14 @@ fn run(rt: &HostRuntime, options: Options) -> io::Result<bool> {
 }
 
 // Reports what a ruler would do with a rule file that was read. What cannot be read is reported on standard error.
-fn tell_rules(
+fn print_rules(
     rt: &HostRuntime,
     name: &str,
     read: io::Result<String>,
     prints: bool,
 ) -> io::Result<bool> {
     match read {
-        Ok(file) => tell(rt, report_of(rt.alloc(), file.as_str(), prints)),
+        Ok(file) => print_report(rt, report_of(rt.alloc(), file.as_str(), prints)),
         Err(error) if error.kind() == ErrorKind::InvalidData => {
             eprintln!(rt; "rule_check: {name} is no UTF-8 text")?;
             Ok(false)
@@ -113,7 +113,7 @@ fn tell_rules(
 }
 
 // Prints a report, if there is one.
-fn tell(rt: &HostRuntime, report: Result<Report, Untold>) -> io::Result<bool> {
+fn print_report(rt: &HostRuntime, report: Result<Report, OutOfMemory>) -> io::Result<bool> {
     match report {
         Ok(report) => {
             let Report { text, is_taken } = report;

@@ -2,7 +2,7 @@
 
 use crate::keys::Owner;
 use crate::place::{Place, Spot};
-use crate::told::{Told, Untold};
+use crate::findings::{Findings, OutOfMemory};
 use crate::values::{push_quoted, text_at};
 use rl_labels::Labels;
 use rl_labels::labels::is_label_name;
@@ -34,55 +34,55 @@ fn has_control(name: &str) -> bool {
 
 /// The fault of the name of a group or of alerts, if it is a text with one.
 pub(crate) fn push_name_fault(
-    told: &mut Told,
+    findings: &mut Findings,
     place: &Place<'_>,
     table: &Table,
     key: &str,
-) -> Result<(), Untold> {
+) -> Result<(), OutOfMemory> {
     let Some(name) = text_at(table, key) else {
         return Ok(());
     };
     if is_name(name) {
         return Ok(());
     }
-    told.begin(place)?;
+    findings.begin(place)?;
     if name.is_empty() {
-        writeln!(told.text, "{key} is empty")?;
+        writeln!(findings.text, "{key} is empty")?;
     } else if name.len() > LONGEST_NAME {
         let len = name.len();
         writeln!(
-            told.text,
+            findings.text,
             "{key} has {len} bytes, where {LONGEST_NAME} are allowed"
         )?;
     } else {
-        writeln!(told.text, "{key} has a control character")?;
+        writeln!(findings.text, "{key} has a control character")?;
     }
     Ok(())
 }
 
 /// The fault of the name of a rule, if it is a text with one.
 pub(crate) fn push_rule_name_fault(
-    told: &mut Told,
+    findings: &mut Findings,
     place: &Place<'_>,
     owner: Owner,
     rule: &Table,
-) -> Result<(), Untold> {
+) -> Result<(), OutOfMemory> {
     match owner {
-        Owner::Recording => push_metric_fault(told, place, rule),
-        _ => push_name_fault(told, place, rule, "alert"),
+        Owner::Recording => push_metric_fault(findings, place, rule),
+        _ => push_name_fault(findings, place, rule, "alert"),
     }
 }
 
-fn push_metric_fault(told: &mut Told, place: &Place<'_>, rule: &Table) -> Result<(), Untold> {
+fn push_metric_fault(findings: &mut Findings, place: &Place<'_>, rule: &Table) -> Result<(), OutOfMemory> {
     let Some(name) = text_at(rule, "record") else {
         return Ok(());
     };
     if is_metric_name(name) {
         return Ok(());
     }
-    told.begin(place)?;
-    push_quoted(&mut told.text, name)?;
-    told.text.push_str(
+    findings.begin(place)?;
+    push_quoted(&mut findings.text, name)?;
+    findings.text.push_str(
         " is no name of a metric, which has letters, digits, _ and :, and no digit first\n",
     )?;
     Ok(())
@@ -101,47 +101,47 @@ fn is_metric_byte(byte: u8) -> bool {
 
 /// The faults of the labels or the annotations at a key, by the word for one of them.
 pub(crate) fn push_labels(
-    told: &mut Told,
+    findings: &mut Findings,
     place: &Place<'_>,
     rule: &Table,
     key: &str,
     word: &str,
-) -> Result<(), Untold> {
+) -> Result<(), OutOfMemory> {
     let Some(table) = rule.get(key).and_then(|value| value.as_table()) else {
         return Ok(());
     };
-    let before = told.count;
+    let before = findings.count;
     for name in table.keys() {
-        push_label_name(told, place, word, name.as_str())?;
+        push_label_name(findings, place, word, name.as_str())?;
     }
-    let alloc = *told.text.allocator();
-    if told.count == before && !make_labels(alloc, table)? {
-        told.begin(place)?;
-        writeln!(told.text, "{key} have more than 4096 bytes as a label text")?;
+    let alloc = *findings.text.allocator();
+    if findings.count == before && !make_labels(alloc, table)? {
+        findings.begin(place)?;
+        writeln!(findings.text, "{key} have more than 4096 bytes as a label text")?;
     }
     Ok(())
 }
 
 fn push_label_name(
-    told: &mut Told,
+    findings: &mut Findings,
     place: &Place<'_>,
     word: &str,
     name: &str,
-) -> Result<(), Untold> {
+) -> Result<(), OutOfMemory> {
     if name == "__error__" {
-        told.begin(place)?;
-        writeln!(told.text, "{word} __error__ is one that no stream has")?;
+        findings.begin(place)?;
+        writeln!(findings.text, "{word} __error__ is one that no stream has")?;
     } else if !is_label_name(name) {
-        told.begin(place)?;
-        write!(told.text, "{word} ")?;
-        push_quoted(&mut told.text, name)?;
-        told.text.push_str(" is no label name\n")?;
+        findings.begin(place)?;
+        write!(findings.text, "{word} ")?;
+        push_quoted(&mut findings.text, name)?;
+        findings.text.push_str(" is no label name\n")?;
     }
     Ok(())
 }
 
 // Whether the texts of a table make a label set.
-fn make_labels(alloc: Global, table: &Table) -> Result<bool, Untold> {
+fn make_labels(alloc: Global, table: &Table) -> Result<bool, OutOfMemory> {
     let mut pairs = Vec::with_capacity(alloc, table.len())?;
     for (name, value) in table.iter() {
         let name = PlainText::from_str(alloc, name.as_str())?;
@@ -151,6 +151,6 @@ fn make_labels(alloc: Global, table: &Table) -> Result<bool, Untold> {
     match Labels::from_pairs(alloc, pairs) {
         Ok(_) => Ok(true),
         Err(OrMemory::Fault(_)) => Ok(false),
-        Err(OrMemory::Memory) => Err(Untold),
+        Err(OrMemory::Memory) => Err(OutOfMemory),
     }
 }

@@ -1,7 +1,7 @@
 //! A text that is no TOML document.
 
 use crate::place::{Line, cut_at, line_at, push_line};
-use crate::told::{Told, Untold};
+use crate::findings::{Findings, OutOfMemory};
 use crate::values::is_duration;
 use std::fmt::Write;
 use toml::de::Error;
@@ -22,11 +22,11 @@ pub(crate) const ALONE: Standing<'static> = Standing {
 /// Why a document is none: the line and the column, counted from 1, what the reader says, the line with a caret under the byte,
 /// and what is lawful there, where that is a duration in quotes.
 pub(crate) fn push_no_toml(
-    told: &mut Told,
+    findings: &mut Findings,
     standing: Standing<'_>,
     document: &str,
     error: &Error,
-) -> Result<(), Untold> {
+) -> Result<(), OutOfMemory> {
     let place = match error.span() {
         Some(span) => span.start,
         None => 0,
@@ -35,25 +35,25 @@ pub(crate) fn push_no_toml(
     let feeds = front.bytes().filter(|byte| *byte == b'\n').count();
     let lead = if feeds == 0 { standing.lead } else { "" };
     let line = line_at(document, place);
-    told.count = told.count.saturating_add(1);
+    findings.count = findings.count.saturating_add(1);
     let number = standing.first_line.saturating_add(feeds);
     let before = lead
         .chars()
         .count()
         .saturating_add(line.before.chars().count());
     let (column, message) = (before.saturating_add(1), error.message());
-    writeln!(told.text, "line {number}, column {column}: {message}")?;
-    push_led_line(told, lead, line)?;
-    push_near_text(told, line)
+    writeln!(findings.text, "line {number}, column {column}: {message}")?;
+    push_led_line(findings, lead, line)?;
+    push_near_text(findings, line)
 }
 
 // The line after its lead.
-fn push_led_line(told: &mut Told, lead: &str, line: Line<'_>) -> Result<(), Untold> {
-    let mut before = String::from_str(*told.text.allocator(), lead)?;
+fn push_led_line(findings: &mut Findings, lead: &str, line: Line<'_>) -> Result<(), OutOfMemory> {
+    let mut before = String::from_str(*findings.text.allocator(), lead)?;
     before.push_str(line.before)?;
     let following = line.following.strip_suffix('\r').unwrap_or(line.following);
     push_line(
-        &mut told.text,
+        &mut findings.text,
         Line {
             before: before.as_str(),
             following,
@@ -62,12 +62,12 @@ fn push_led_line(told: &mut Told, lead: &str, line: Line<'_>) -> Result<(), Unto
 }
 
 // The word that the byte is in as a text, if it is a duration.
-fn push_near_text(told: &mut Told, line: Line<'_>) -> Result<(), Untold> {
-    let mut word = String::new(*told.text.allocator());
+fn push_near_text(findings: &mut Findings, line: Line<'_>) -> Result<(), OutOfMemory> {
+    let mut word = String::new(*findings.text.allocator());
     word.push_str(last_word(line.before))?;
     word.push_str(first_word(line.following))?;
     if is_duration(word.as_str(), 0) {
-        writeln!(told.text, "  in its place: a text, \"{word}\"")?;
+        writeln!(findings.text, "  in its place: a text, \"{word}\"")?;
     }
     Ok(())
 }

@@ -1,6 +1,6 @@
 //! Where a fault is: a line of a session, a group, a rule, and a byte of a text.
 
-use crate::told::Untold;
+use crate::findings::OutOfMemory;
 use std::fmt::Write;
 
 /// The line of a session, the group and the rule that a fault is in, as far as it is in one.
@@ -48,7 +48,7 @@ impl<'a> Place<'a> {
 }
 
 /// Writes the position as `line 7: group shop, rule Errors: `, as much as there is of it.
-pub(crate) fn push_place(text: &mut String, place: &Place<'_>) -> Result<(), Untold> {
+pub(crate) fn push_place(text: &mut String, place: &Place<'_>) -> Result<(), OutOfMemory> {
     if let Some(line) = place.line {
         write!(text, "line {line}: ")?;
     }
@@ -60,7 +60,7 @@ pub(crate) fn push_place(text: &mut String, place: &Place<'_>) -> Result<(), Unt
 }
 
 /// Writes the group and the rule as `group shop, rule Errors`.
-pub(crate) fn push_names(text: &mut String, place: &Place<'_>) -> Result<(), Untold> {
+pub(crate) fn push_names(text: &mut String, place: &Place<'_>) -> Result<(), OutOfMemory> {
     if let Some(group) = place.group {
         text.push_str("group ")?;
         push_spot(text, group)?;
@@ -73,7 +73,7 @@ pub(crate) fn push_names(text: &mut String, place: &Place<'_>) -> Result<(), Unt
 }
 
 // Writes the name, or the number from 1.
-fn push_spot(text: &mut String, spot: Spot<'_>) -> Result<(), Untold> {
+fn push_spot(text: &mut String, spot: Spot<'_>) -> Result<(), OutOfMemory> {
     match spot.name {
         Some(name) => text.push_str(name)?,
         None => write!(text, "number {}", spot.number.saturating_add(1))?,
@@ -112,7 +112,7 @@ pub(crate) fn line_at(text: &str, place: usize) -> Line<'_> {
 }
 
 /// Writes the line after two spaces, and below it a caret under the byte.
-pub(crate) fn push_line(text: &mut String, line: Line<'_>) -> Result<(), Untold> {
+pub(crate) fn push_line(text: &mut String, line: Line<'_>) -> Result<(), OutOfMemory> {
     writeln!(text, "  {}{}", line.before, line.following)?;
     text.push_str("  ")?;
     for letter in line.before.chars() {

@@ -1,5 +1,5 @@
 //! Groups and rules as a ruler reads them, a line each.
-use crate::told::Untold;
+use crate::findings::OutOfMemory;
 use rl_plain::{PlainText, push_escaped};
 use rl_query::print;
 use rl_rules::{Group, Rule, RuleKind};
@@ -8,7 +8,7 @@ use rl_rules::{Group, Rule, RuleKind};
 const ESCAPES: [(u8, u8); 3] = [(b'\\', b'\\'), (b'"', b'"'), (b'\n', b'n')];
 
 /// Each group with its interval and its limit, and below it its rules.
-pub(crate) fn push_groups(text: &mut String, groups: &[Group]) -> Result<(), Untold> {
+pub(crate) fn push_groups(text: &mut String, groups: &[Group]) -> Result<(), OutOfMemory> {
     for group in groups {
         let (name, interval, limit) = (&group.name, group.interval, group.limit);
         writeln!(text, "group {name}, interval {interval}s, limit {limit}")?;
@@ -20,7 +20,7 @@ pub(crate) fn push_groups(text: &mut String, groups: &[Group]) -> Result<(), Unt
 }
 
 // A rule with its query in canonical form, and below it its labels and its annotations, where it has some.
-fn push_rule(text: &mut String, rule: &Rule) -> Result<(), Untold> {
+fn push_rule(text: &mut String, rule: &Rule) -> Result<(), OutOfMemory> {
     push_query(text, rule)?;
     let labels = rule.labels.as_slice();
     if !labels.is_empty() {
@@ -35,7 +35,7 @@ fn push_rule(text: &mut String, rule: &Rule) -> Result<(), Untold> {
     Ok(())
 }
 
-fn push_query(text: &mut String, rule: &Rule) -> Result<(), Untold> {
+fn push_query(text: &mut String, rule: &Rule) -> Result<(), OutOfMemory> {
     let query = print(*text.allocator(), &rule.query)?;
     let (name, hold) = (&rule.name, rule.hold);
     match rule.kind {
@@ -46,7 +46,7 @@ fn push_query(text: &mut String, rule: &Rule) -> Result<(), Untold> {
 }
 
 // Labels as in a label text, those without a value too.
-fn push_labels(text: &mut String, labels: &[(PlainText, PlainText)]) -> Result<(), Untold> {
+fn push_labels(text: &mut String, labels: &[(PlainText, PlainText)]) -> Result<(), OutOfMemory> {
     let mut between = "";
     for (name, value) in labels {
         write!(text, "{between}{name}=\"")?;

@@ -2,19 +2,19 @@
 
 use crate::hint::push_hint;
 use crate::place::{Place, line_at, push_line};
-use crate::told::{Told, Untold};
+use crate::findings::{Findings, OutOfMemory};
 use rl_query::{QueryError, QueryFault};
 use rl_query_text::parse;
 use std::fmt::Write;
 
 /// The fault of a query, if it has one: the line in which it is, a caret under the byte, and what a ruler has near it.
-pub(crate) fn push_query(told: &mut Told, place: &Place<'_>, query: &str) -> Result<(), Untold> {
-    match parse(*told.text.allocator(), query) {
+pub(crate) fn push_query(findings: &mut Findings, place: &Place<'_>, query: &str) -> Result<(), OutOfMemory> {
+    match parse(*findings.text.allocator(), query) {
         Ok(_) => Ok(()),
-        Err(QueryError::Memory) => Err(Untold),
+        Err(QueryError::Memory) => Err(OutOfMemory),
         Err(QueryError::Fault(fault)) => {
-            told.begin(place)?;
-            push_query_fault(&mut told.text, query, fault)
+            findings.begin(place)?;
+            push_query_fault(&mut findings.text, query, fault)
         }
     }
 }
@@ -24,7 +24,7 @@ pub(crate) fn push_query_fault(
     text: &mut String,
     query: &str,
     fault: QueryFault,
-) -> Result<(), Untold> {
+) -> Result<(), OutOfMemory> {
     writeln!(text, "{fault}")?;
     match fault {
         QueryFault::Syntax(place) | QueryFault::Unsupported(place) => {

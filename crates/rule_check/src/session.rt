@@ -3,7 +3,7 @@
 use crate::commands::{Known, push_command};
 use crate::place::Place;
 use crate::report::{ending, push_counts, push_rules};
-use crate::told::{Report, Told, Untold};
+use crate::findings::{Report, Findings, OutOfMemory};
 use rl_rules::Group;
 use rl_session::front::{MAX_INPUT_LEN, split_front};
 use rl_session::{FrontFault, PushReader, is_blank};
@@ -15,13 +15,13 @@ pub(crate) fn session_report(
     alloc: Global,
     bytes: Vec<u8>,
     prints: bool,
-) -> Result<Report, Untold> {
-    let mut told = Told::new(alloc);
+) -> Result<Report, OutOfMemory> {
+    let mut findings = Findings::new(alloc);
     match text_of(bytes) {
-        Ok(text) => push_text(alloc, &mut told, text.as_str(), prints)?,
-        Err(fault) => push_front_fault(&mut told, fault)?,
+        Ok(text) => push_text(alloc, &mut findings, text.as_str(), prints)?,
+        Err(fault) => push_front_fault(&mut findings, fault)?,
     }
-    let Told { text, count } = told;
+    let Findings { text, count } = findings;
     Ok(Report {
         text,
         is_taken: count == 0,
@@ -39,24 +39,24 @@ fn text_of(bytes: Vec<u8>) -> Result<String, FrontFault> {
     }
 }
 
-fn push_front_fault(told: &mut Told, fault: FrontFault) -> Result<(), Untold> {
-    told.begin(&Place::whole(None))?;
-    writeln!(told.text, "{fault}")?;
+fn push_front_fault(findings: &mut Findings, fault: FrontFault) -> Result<(), OutOfMemory> {
+    findings.begin(&Place::whole(None))?;
+    writeln!(findings.text, "{fault}")?;
     Ok(())
 }
 
-fn push_text(alloc: Global, told: &mut Told, text: &str, prints: bool) -> Result<(), Untold> {
+fn push_text(alloc: Global, findings: &mut Findings, text: &str, prints: bool) -> Result<(), OutOfMemory> {
     let Some((document, commands)) = split_front(text) else {
-        return push_front_fault(told, FrontFault::NoMark);
+        return push_front_fault(findings, FrontFault::NoMark);
     };
-    let groups = push_rules(alloc, told, document, prints)?;
+    let groups = push_rules(alloc, findings, document, prints)?;
     let feeds = document.bytes().filter(|byte| *byte == b'\n').count();
     let first = feeds.saturating_add(2);
-    let count = push_commands(alloc, told, groups.as_deref(), first, commands)?;
+    let count = push_commands(alloc, findings, groups.as_deref(), first, commands)?;
     if let Some(groups) = &groups {
-        if told.count == 0 {
-            push_counts(&mut told.text, groups)?;
-            writeln!(told.text, ", {count} command{}", ending(count))?;
+        if findings.count == 0 {
+            push_counts(&mut findings.text, groups)?;
+            writeln!(findings.text, ", {count} command{}", ending(count))?;
         }
     }
     Ok(())
@@ -65,11 +65,11 @@ fn push_text(alloc: Global, told: &mut Told, text: &str, prints: bool) -> Result
 // The faults of the commands, and how many lines are not blank, up to `end`.
 fn push_commands(
     alloc: Global,
-    told: &mut Told,
+    findings: &mut Findings,
     groups: Option<&[Group]>,
     first: usize,
     commands: &str,
-) -> Result<usize, Untold> {
+) -> Result<usize, OutOfMemory> {
     let mut known = Known {
         groups,
         reader: PushReader::new(alloc),
@@ -79,7 +79,7 @@ fn push_commands(
     for line in commands.split('\n') {
         if !is_blank(line) {
             count = count.saturating_add(1);
-            if push_command(told, &mut known, number, line)? {
+            if push_command(findings, &mut known, number, line)? {
                 break;
             }
         }

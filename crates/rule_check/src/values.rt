@@ -2,7 +2,7 @@
 
 use crate::keys::{Key, Kind};
 use crate::place::Place;
-use crate::told::{Told, Untold};
+use crate::findings::{Findings, OutOfMemory};
 use rl_query::duration::{LONGEST_RANGE, duration_of};
 use std::fmt::Write;
 use toml::{Table, Value};
@@ -31,50 +31,50 @@ pub(crate) fn text_at<'a>(table: &'a Table, key: &str) -> Option<&'a str> {
 
 /// The faults of what stands at a key.
 pub(crate) fn push_value(
-    told: &mut Told,
+    findings: &mut Findings,
     place: &Place<'_>,
     key: &Key,
     value: &Value,
-) -> Result<(), Untold> {
+) -> Result<(), OutOfMemory> {
     match key.kind {
-        Kind::Text => push_text(told, place, key.name, value),
-        Kind::Tables(head) => push_tables(told, place, key.name, head, value),
-        Kind::Seconds(least) => push_seconds(told, place, key.name, least, value),
-        Kind::Number(most) => push_number(told, place, key.name, most, value),
-        Kind::Texts => push_texts(told, place, key.name, value),
+        Kind::Text => push_text(findings, place, key.name, value),
+        Kind::Tables(head) => push_tables(findings, place, key.name, head, value),
+        Kind::Seconds(least) => push_seconds(findings, place, key.name, least, value),
+        Kind::Number(most) => push_number(findings, place, key.name, most, value),
+        Kind::Texts => push_texts(findings, place, key.name, value),
     }
 }
 
-fn push_text(told: &mut Told, place: &Place<'_>, name: &str, value: &Value) -> Result<(), Untold> {
+fn push_text(findings: &mut Findings, place: &Place<'_>, name: &str, value: &Value) -> Result<(), OutOfMemory> {
     if value.is_str() {
         return Ok(());
     }
-    push_misfit(told, place, name, value)?;
-    told.text.push_str("a text is wanted\n")?;
+    push_misfit(findings, place, name, value)?;
+    findings.text.push_str("a text is wanted\n")?;
     Ok(())
 }
 
 fn push_tables(
-    told: &mut Told,
+    findings: &mut Findings,
     place: &Place<'_>,
     name: &str,
     head: &str,
     value: &Value,
-) -> Result<(), Untold> {
+) -> Result<(), OutOfMemory> {
     let Some(items) = value.as_array() else {
-        push_misfit(told, place, name, value)?;
-        told.text.push_str("an array of tables is wanted\n")?;
+        push_misfit(findings, place, name, value)?;
+        findings.text.push_str("an array of tables is wanted\n")?;
         if value.is_table() {
-            writeln!(told.text, "  in its place: {head}")?;
+            writeln!(findings.text, "  in its place: {head}")?;
         }
         return Ok(());
     };
     for (index, item) in items.iter().enumerate() {
         if !item.is_table() {
-            told.begin(place)?;
+            findings.begin(place)?;
             let (number, kind) = (index.saturating_add(1), kind_of(item));
             writeln!(
-                told.text,
+                findings.text,
                 "number {number} of {name} is {kind}, where a table is wanted"
             )?;
         }
@@ -83,38 +83,38 @@ fn push_tables(
 }
 
 fn push_seconds(
-    told: &mut Told,
+    findings: &mut Findings,
     place: &Place<'_>,
     name: &str,
     least: u64,
     value: &Value,
-) -> Result<(), Untold> {
+) -> Result<(), OutOfMemory> {
     let text = value.as_str();
     if text.is_some_and(|text| is_duration(text, least)) {
         return Ok(());
     }
-    push_misfit(told, place, name, value)?;
+    push_misfit(findings, place, name, value)?;
     let from = if least == 0 { "0" } else { "1s" };
     writeln!(
-        told.text,
+        findings.text,
         "a duration from {from} to 30d is wanted, as \"5m\""
     )?;
     match text {
-        Some(text) => push_near_duration(told, text, least),
+        Some(text) => push_near_duration(findings, text, least),
         None => Ok(()),
     }
 }
 
 // The duration that a text is without its blanks and in lower case, if it is one.
-fn push_near_duration(told: &mut Told, text: &str, least: u64) -> Result<(), Untold> {
-    let mut plain = String::new(*told.text.allocator());
+fn push_near_duration(findings: &mut Findings, text: &str, least: u64) -> Result<(), OutOfMemory> {
+    let mut plain = String::new(*findings.text.allocator());
     for letter in text.chars() {
         if !letter.is_ascii_whitespace() {
             plain.push(letter.to_ascii_lowercase())?;
         }
     }
     if is_duration(plain.as_str(), least) {
-        writeln!(told.text, "  in its place: \"{plain}\"")?;
+        writeln!(findings.text, "  in its place: \"{plain}\"")?;
     }
     Ok(())
 }
@@ -131,47 +131,47 @@ pub(crate) fn is_duration(text: &str, least: u64) -> bool {
 }
 
 fn push_number(
-    told: &mut Told,
+    findings: &mut Findings,
     place: &Place<'_>,
     name: &str,
     most: u64,
     value: &Value,
-) -> Result<(), Untold> {
+) -> Result<(), OutOfMemory> {
     match value.as_integer() {
         Some(number) if number >= 0 && number.unsigned_abs() <= most => return Ok(()),
         _ => {}
     }
-    push_misfit(told, place, name, value)?;
-    writeln!(told.text, "a whole number from 0 to {most} is wanted")?;
+    push_misfit(findings, place, name, value)?;
+    writeln!(findings.text, "a whole number from 0 to {most} is wanted")?;
     match value.as_str() {
-        Some(text) => push_near_number(told, text, most),
+        Some(text) => push_near_number(findings, text, most),
         None => Ok(()),
     }
 }
 
 // The number that a text is, if it is one.
-fn push_near_number(told: &mut Told, text: &str, most: u64) -> Result<(), Untold> {
+fn push_near_number(findings: &mut Findings, text: &str, most: u64) -> Result<(), OutOfMemory> {
     match text.trim().parse::<u64>() {
         Ok(number) if number <= most => {
-            writeln!(told.text, "  in its place: {number}")?;
+            writeln!(findings.text, "  in its place: {number}")?;
             Ok(())
         }
         _ => Ok(()),
     }
 }
 
-fn push_texts(told: &mut Told, place: &Place<'_>, name: &str, value: &Value) -> Result<(), Untold> {
+fn push_texts(findings: &mut Findings, place: &Place<'_>, name: &str, value: &Value) -> Result<(), OutOfMemory> {
     let Some(table) = value.as_table() else {
-        push_misfit(told, place, name, value)?;
-        told.text.push_str("a table of texts is wanted\n")?;
+        push_misfit(findings, place, name, value)?;
+        findings.text.push_str("a table of texts is wanted\n")?;
         return Ok(());
     };
     for (key, item) in table.iter() {
         if !item.is_str() {
-            let mut path = String::new(*told.text.allocator());
+            let mut path = String::new(*findings.text.allocator());
             write!(path, "{name}.")?;
             push_name(&mut path, key.as_str())?;
-            push_text(told, place, path.as_str(), item)?;
+            push_text(findings, place, path.as_str(), item)?;
         }
     }
     Ok(())
@@ -179,19 +179,19 @@ fn push_texts(told: &mut Told, place: &Place<'_>, name: &str, value: &Value) -> 
 
 // The position and the value that does not fit; what is wanted follows.
 fn push_misfit(
-    told: &mut Told,
+    findings: &mut Findings,
     place: &Place<'_>,
     name: &str,
     value: &Value,
-) -> Result<(), Untold> {
-    told.begin(place)?;
-    push_shown(&mut told.text, name, value)?;
-    told.text.push_str(", where ")?;
+) -> Result<(), OutOfMemory> {
+    findings.begin(place)?;
+    push_shown(&mut findings.text, name, value)?;
+    findings.text.push_str(", where ")?;
     Ok(())
 }
 
 // A key and its value as TOML writes it, or what it is where that is long.
-fn push_shown(shown: &mut String, name: &str, value: &Value) -> Result<(), Untold> {
+fn push_shown(shown: &mut String, name: &str, value: &Value) -> Result<(), OutOfMemory> {
     match value {
         Value::String(text) if text.len() > LONGEST_SHOWN => {
             write!(shown, "{name} is a text of {} bytes", text.len())?;
@@ -226,7 +226,7 @@ fn kind_of(value: &Value) -> &'static str {
 }
 
 /// Writes a key as a document has it: alone where TOML lets it, else in quotes.
-pub(crate) fn push_name(text: &mut String, name: &str) -> Result<(), Untold> {
+pub(crate) fn push_name(text: &mut String, name: &str) -> Result<(), OutOfMemory> {
     let is_bare = name.bytes().all(|byte| {
         byte.is_ascii_alphanumeric() || byte == b'_' || byte == b'-'
     });
@@ -238,7 +238,7 @@ pub(crate) fn push_name(text: &mut String, name: &str) -> Result<(), Untold> {
 }
 
 /// Writes a text in quotes, on one line, with the escapes of TOML.
-pub(crate) fn push_quoted(text: &mut String, value: &str) -> Result<(), Untold> {
+pub(crate) fn push_quoted(text: &mut String, value: &str) -> Result<(), OutOfMemory> {
     text.push('"')?;
     for letter in value.chars() {
         match letter {

@@ -62,13 +62,13 @@ impl<T: Drop> From<AllocFailed<T>> for Stop {
 fn main(rt: HostRuntime) -> ExitCode {
     let ended = run(&rt);
     if let Err(stop) = ended {
-        tell_stop(&rt, stop);
+        report_stop(&rt, stop);
     }
     exit_code(ended)
 }
 
 // Reports what was wrong with the options or the input, if the program stopped for that.
-fn tell_stop(rt: &HostRuntime, stop: Stop) {
+fn report_stop(rt: &HostRuntime, stop: Stop) {
     let _ = match stop {
         Stop::BadOptions => eprintln!(rt; "rule_shell: bad options"),
         Stop::BadInput(fault) => {

@@ -9,7 +9,7 @@ mod options;
 
 use files::{read_edits, read_file, read_groups};
 use options::read_options;
-use rl_rule_tests::{TestsError, Told, play, read_document, read_table};
+use rl_rule_tests::{TestsError, Report, play, read_document, read_table};
 use std::alloc::{AllocError, AllocFailed};
 use std::process::ExitCode;
 
@@ -55,13 +55,13 @@ fn main(rt: HostRuntime) -> ExitCode {
     match run(&rt) {
         Ok(true) => ExitCode::from(0),
         Ok(false) => ExitCode::from(1),
-        Err(stop) => tell_stop(&rt, stop),
+        Err(stop) => report_stop(&rt, stop),
     }
 }
 
 // Reports why nothing is played, and gives the status of the process.
-fn tell_stop(rt: &HostRuntime, stop: Stop) -> ExitCode {
-    let (told, status) = match &stop {
+fn report_stop(rt: &HostRuntime, stop: Stop) -> ExitCode {
+    let (report, status) = match &stop {
         Stop::Help(text) => (print!(rt; "{text}"), 0),
         Stop::BadOptions => (eprintln!(rt; "rule_test: bad options"), 2),
         Stop::Fault { place, what } if place.is_empty() => (eprintln!(rt; "rule_test: {what}"), 2),
@@ -70,7 +70,7 @@ fn tell_stop(rt: &HostRuntime, stop: Stop) -> ExitCode {
         Stop::Memory => (eprintln!(rt; "rule_test: out of memory"), 3),
         Stop::Unwritten => (Ok(()), 3),
     };
-    match told {
+    match report {
         Ok(()) => ExitCode::from(status),
         Err(_) => ExitCode::from(3),
     }
@@ -85,13 +85,13 @@ fn run(rt: &HostRuntime) -> Result<bool, Stop> {
     let mut document = read_document(alloc, &table)?;
     read_edits(rt, &file, &mut document.tests)?;
     let groups = read_groups(rt, &file, document.rules)?;
-    let mut told = Told::new(alloc);
+    let mut report = Report::new(alloc);
     for test in &document.tests {
-        play(alloc, &groups, test, &mut told)?;
+        play(alloc, &groups, test, &mut report)?;
     }
-    told.finish()?;
-    match print!(rt; "{}", told.text) {
-        Ok(()) => Ok(told.failed == 0),
+    report.finish()?;
+    match print!(rt; "{}", report.text) {
+        Ok(()) => Ok(report.failed == 0),
         Err(_) => Err(Stop::Unwritten),
     }
 }

@@ -3,7 +3,7 @@ ghost use Rattle.std.specs.Prelude.{◌≤◌, length, IfOk};
 
 use crate::given::{labels_in, list_in, moment_in, number_in, words_of};
 use crate::query::query_in;
-use crate::told::tell;
+use crate::output::push_value;
 use crate::trouble::Trouble;
 use rl_aggregate::{Fraction, Outcome, Partial, Sample, Total, Totals, finish, merge, scratch};
 use rl_labels::{Entry, Labels, Ns};
@@ -15,29 +15,29 @@ use std::mem;
 // The total of no entry.
 const NOTHING: Total = Total { count: 0, bytes: 0 };
 
-pub(crate) fn answer(told: &mut String, directive: &str, input: &str) -> Result<(), Trouble> {
+pub(crate) fn answer(output: &mut String, directive: &str, input: &str) -> Result<(), Trouble> {
     let (query, rest) = input.split_once('\n').ok_or(Trouble::BadInput)?;
-    let query = query_in(*told.allocator(), query)?;
-    let ended = of_query(told, directive, &query, rest);
+    let query = query_in(*output.allocator(), query)?;
+    let ended = of_query(output, directive, &query, rest);
     mem::forget(query);
     ended
 }
 
-fn of_query(told: &mut String, directive: &str, query: &Query, rest: &str) -> Result<(), Trouble> {
+fn of_query(output: &mut String, directive: &str, query: &Query, rest: &str) -> Result<(), Trouble> {
     match directive {
-        "range" => push_range(told, query, rest),
-        "partial" => push_steps(told, query, rest),
+        "range" => push_range(output, query, rest),
+        "partial" => push_steps(output, query, rest),
         _ => Err(Trouble::NoSuchDirective),
     }
 }
 
 // Writes what the entries of two lists add up to, and what the query gives of both together.
-fn push_range(told: &mut String, query: &Query, input: &str) -> Result<(), Trouble> {
+fn push_range(output: &mut String, query: &Query, input: &str) -> Result<(), Trouble> {
     let (moment, entries) = input.split_once('\n').ok_or(Trouble::BadInput)?;
     let (first, second) = entries.split_once("\n--\n").unwrap_or((entries, ""));
     let moment = moment_in(moment)?;
-    let partial = merged(*told.allocator(), first, second, &query.left, moment)?;
-    push_partial(told, query, &partial)
+    let partial = merged(*output.allocator(), first, second, &query.left, moment)?;
+    push_partial(output, query, &partial)
 }
 
 // What two lists of entries add up to.
@@ -67,33 +67,33 @@ fn entries_in(alloc: Global, text: &str) -> Result<Vec<Shared<Entry>>, Trouble>
 }
 
 // Writes what a partial has, and what its query gives.
-fn push_partial(told: &mut String, query: &Query, partial: &Partial) -> Result<(), Trouble> {
+fn push_partial(output: &mut String, query: &Query, partial: &Partial) -> Result<(), Trouble> {
     let (errors, many) = (partial.errors, partial.totals.len());
-    writeln!(told, "{errors} errors, {many} label sets")?;
-    let outcome = finished(*told.allocator(), query, partial)?;
-    push_outcome(told, &outcome, &partial.totals)
+    writeln!(output, "{errors} errors, {many} label sets")?;
+    let outcome = finished(*output.allocator(), query, partial)?;
+    push_outcome(output, &outcome, &partial.totals)
 }
 
-fn push_outcome(told: &mut String, outcome: &Outcome, totals: &Totals) -> Result<(), Trouble> {
+fn push_outcome(output: &mut String, outcome: &Outcome, totals: &Totals) -> Result<(), Trouble> {
     match outcome {
-        Outcome::Failed => tell(told, &"failed"),
-        Outcome::Vector(samples) => push_samples(told, samples.as_slice(), totals),
+        Outcome::Failed => push_value(output, &"failed"),
+        Outcome::Vector(samples) => push_samples(output, samples.as_slice(), totals),
     }
 }
 
-fn push_samples(told: &mut String, samples: &[Sample], totals: &Totals) -> Result<(), Trouble> {
+fn push_samples(output: &mut String, samples: &[Sample], totals: &Totals) -> Result<(), Trouble> {
     for sample in samples {
-        push_sample(told, sample, totals.get(&sample.labels))?;
+        push_sample(output, sample, totals.get(&sample.labels))?;
     }
     Ok(())
 }
 
-fn push_sample(told: &mut String, sample: &Sample, total: Option<Total>) -> Result<(), Trouble> {
+fn push_sample(output: &mut String, sample: &Sample, total: Option<Total>) -> Result<(), Trouble> {
     let (labels, value) = (&sample.labels, sample.value);
     let (numerator, denominator) = (value.numerator, value.denominator);
     let Total { count, bytes } = total.unwrap_or(NOTHING);
-    write!(told, "{labels} {numerator}/{denominator}")?;
-    writeln!(told, ", {count} entries of {bytes} bytes")?;
+    write!(output, "{labels} {numerator}/{denominator}")?;
+    writeln!(output, ", {count} entries of {bytes} bytes")?;
     Ok(())
 }
 
@@ -107,15 +107,15 @@ fn finished(alloc: Global, query: &Query, partial: &Partial) -> Result<Outcome, 
 }
 
 // Writes what steps give on a partial that has nothing at first, and on a copy of it, of which the query is asked.
-fn push_steps(told: &mut String, query: &Query, steps: &str) -> Result<(), Trouble> {
-    let alloc = *told.allocator();
+fn push_steps(output: &mut String, query: &Query, steps: &str) -> Result<(), Trouble> {
+    let alloc = *output.allocator();
     let mut here = Partial::empty(alloc);
     let mut copy = Partial::empty(alloc);
-    push_each(told, query, &mut here, &mut copy, steps)
+    push_each(output, query, &mut here, &mut copy, steps)
 }
 
 fn push_each(
-    told: &mut String,
+    output: &mut String,
     query: &Query,
     here: &mut Partial,
     copy: &mut Partial,
@@ -123,8 +123,8 @@ fn push_each(
 ) -> Result<(), Trouble> {
     for line in steps.split('\n') {
         let (word, rest) = words_of(line);
-        if !has_changed(*told.allocator(), here, copy, word, rest)? {
-            push_step(told, query, here, copy, word, rest)?;
+        if !has_changed(*output.allocator(), here, copy, word, rest)? {
+            push_step(output, query, here, copy, word, rest)?;
         }
     }
     Ok(())
@@ -150,7 +150,7 @@ fn has_changed(
 
 // Writes what a step that changes nothing gives.
 fn push_step(
-    told: &mut String,
+    output: &mut String,
     query: &Query,
     here: &Partial,
     copy: &Partial,
@@ -158,22 +158,22 @@ fn push_step(
     rest: &str,
 ) -> Result<(), Trouble> {
     match word {
-        "empty" => tell(told, &here.totals.is_empty()),
-        "get" => push_got(told, &here.totals, &copy.totals, rest),
-        "same" => push_same(told, query, here, copy),
-        "show" => push_partial(told, query, here),
+        "empty" => push_value(output, &here.totals.is_empty()),
+        "get" => push_got(output, &here.totals, &copy.totals, rest),
+        "same" => push_same(output, query, here, copy),
+        "show" => push_partial(output, query, here),
         _ => Err(Trouble::BadInput),
     }
 }
 
 // Writes the totals at a label set, and whether they and their values are the copy's.
-fn push_got(told: &mut String, here: &Totals, copy: &Totals, labels: &str) -> Result<(), Trouble> {
-    let (here, copy) = both_at(*told.allocator(), here, copy, labels)?;
-    push_total(told, here)?;
-    push_total(told, copy)?;
+fn push_got(output: &mut String, here: &Totals, copy: &Totals, labels: &str) -> Result<(), Trouble> {
+    let (here, copy) = both_at(*output.allocator(), here, copy, labels)?;
+    push_total(output, here)?;
+    push_total(output, copy)?;
     let totals = compared(&here, &copy)?;
     let values = compared(&value_of(here), &value_of(copy))?;
-    writeln!(told, "{totals}, values {values}")?;
+    writeln!(output, "{totals}, values {values}")?;
     Ok(())
 }
 
@@ -189,21 +189,21 @@ fn both_at(
 
 // Writes whether the query gives the same value of both.
 fn push_same(
-    told: &mut String,
+    output: &mut String,
     query: &Query,
     here: &Partial,
     copy: &Partial,
 ) -> Result<(), Trouble> {
-    let alloc = *told.allocator();
+    let alloc = *output.allocator();
     let here = finished(alloc, query, here)?;
     let copy = finished(alloc, query, copy)?;
-    tell(told, &compared(&here, &copy)?)
+    push_value(output, &compared(&here, &copy)?)
 }
 
-fn push_total(told: &mut String, total: Option<Total>) -> Result<(), Trouble> {
+fn push_total(output: &mut String, total: Option<Total>) -> Result<(), Trouble> {
     match total {
-        Some(Total { count, bytes }) => write!(told, "{count} of {bytes} bytes; ")?,
-        None => write!(told, "none; ")?,
+        Some(Total { count, bytes }) => write!(output, "{count} of {bytes} bytes; ")?,
+        None => write!(output, "none; ")?,
     }
     Ok(())
 }

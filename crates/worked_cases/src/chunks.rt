@@ -4,25 +4,25 @@
 ghost use Rattle.std.specs.Prelude.{◌≤◌};
 
 use crate::given::number_in;
-use crate::told::{tell, tell_refused};
+use crate::output::{push_value, push_refused};
 use crate::trouble::Trouble;
 use rl_chunks::{Chunk, decode, encode};
 use rl_plain::OrMemory;
 use std::alloc::{AllocError, Global};
 
-pub(crate) fn answer(told: &mut String, directive: &str, input: &str) -> Result<(), Trouble> {
+pub(crate) fn answer(output: &mut String, directive: &str, input: &str) -> Result<(), Trouble> {
     if directive == "random" {
-        return random(told, number_in(input)?);
+        return random(output, number_in(input)?);
     }
-    let bytes = bytes_in(*told.allocator(), input)?;
-    of_bytes(told, directive, &bytes)
+    let bytes = bytes_in(*output.allocator(), input)?;
+    of_bytes(output, directive, &bytes)
 }
 
-fn of_bytes(told: &mut String, directive: &str, bytes: &[u8]) -> Result<(), Trouble> {
+fn of_bytes(output: &mut String, directive: &str, bytes: &[u8]) -> Result<(), Trouble> {
     match directive {
-        "decode" => decoded(told, bytes),
-        "encode" => encoded(told, bytes),
-        "cut" => cut(told, bytes),
+        "decode" => decoded(output, bytes),
+        "encode" => encoded(output, bytes),
+        "cut" => cut(output, bytes),
         _ => Err(Trouble::NoSuchDirective),
     }
 }
@@ -53,30 +53,30 @@ fn digit_of(c: char) -> Option<u8> {
 }
 
 // The bytes of the chunk that the bytes are, in hexadecimal.
-fn encoded(told: &mut String, bytes: &[u8]) -> Result<(), Trouble> {
-    let bytes = again(*told.allocator(), bytes)?;
-    push_bytes(told, &bytes)
+fn encoded(output: &mut String, bytes: &[u8]) -> Result<(), Trouble> {
+    let bytes = again(*output.allocator(), bytes)?;
+    push_bytes(output, &bytes)
 }
 
-fn push_bytes(told: &mut String, bytes: &[u8]) -> Result<(), Trouble> {
+fn push_bytes(output: &mut String, bytes: &[u8]) -> Result<(), Trouble> {
     for byte in bytes {
-        write!(told, "{byte:02x}")?;
+        write!(output, "{byte:02x}")?;
     }
     Ok(())
 }
 
 // The labels of a chunk and its lines, each with its timestamp; or the fault.
-fn decoded(told: &mut String, bytes: &[u8]) -> Result<(), Trouble> {
-    match decode(*told.allocator(), bytes) {
-        Ok(chunk) => push_chunk(told, &chunk),
-        Err(refused) => tell_refused(told, &refused),
+fn decoded(output: &mut String, bytes: &[u8]) -> Result<(), Trouble> {
+    match decode(*output.allocator(), bytes) {
+        Ok(chunk) => push_chunk(output, &chunk),
+        Err(refused) => push_refused(output, &refused),
     }
 }
 
-fn push_chunk(told: &mut String, chunk: &Chunk) -> Result<(), Trouble> {
-    tell(told, &chunk.labels)?;
+fn push_chunk(output: &mut String, chunk: &Chunk) -> Result<(), Trouble> {
+    push_value(output, &chunk.labels)?;
     for line in chunk.lines.as_slice() {
-        writeln!(told, "{} {}", line.timestamp.get(), line.text)?;
+        writeln!(output, "{} {}", line.timestamp.get(), line.text)?;
     }
     Ok(())
 }
@@ -91,20 +91,20 @@ fn again(alloc: Global, bytes: &[u8]) -> Result<Vec<u8>, Trouble> {
 }
 
 // What the first bytes are read as, from each length on at which that changes.
-fn cut(told: &mut String, bytes: &[u8]) -> Result<(), Trouble> {
-    let mut last = String::new(*told.allocator());
+fn cut(output: &mut String, bytes: &[u8]) -> Result<(), Trouble> {
+    let mut last = String::new(*output.allocator());
     for len in 0..=bytes.len() {
         let (front, _) = bytes.split_at(len);
-        push_front(told, &mut last, front)?;
+        push_front(output, &mut last, front)?;
     }
     Ok(())
 }
 
 // Writes what a front is read as, if it is not what the last one was.
-fn push_front(told: &mut String, last: &mut String, front: &[u8]) -> Result<(), Trouble> {
-    let now = read_as(*told.allocator(), front)?;
+fn push_front(output: &mut String, last: &mut String, front: &[u8]) -> Result<(), Trouble> {
+    let now = read_as(*output.allocator(), front)?;
     if now != *last {
-        writeln!(told, "{} {now}", front.len())?;
+        writeln!(output, "{} {now}", front.len())?;
         *last = now;
     }
     Ok(())
@@ -136,15 +136,15 @@ impl Draws {
 }
 
 // How many chunks of such bytes are read as one whose bytes are these.
-fn random(told: &mut String, count: u64) -> Result<(), Trouble> {
+fn random(output: &mut String, count: u64) -> Result<(), Trouble> {
     let mut draws = Draws { state: 1 };
     let mut same = 0u64;
     for _ in 0..count {
-        if is_again(*told.allocator(), &mut draws)? {
+        if is_again(*output.allocator(), &mut draws)? {
             same = same.saturating_add(1);
         }
     }
-    writeln!(told, "{same} of {count}")?;
+    writeln!(output, "{same} of {count}")?;
     Ok(())
 }
 

@@ -10,39 +10,39 @@ pub(crate) fn halves(input: &str) -> Result<(&str, &str), Trouble> {
 }
 
 /// How a copy of the left value stands to the right one: by its signs, by `cmp`, and whether they are the same.
-pub(crate) fn compared<T>(told: &mut String, input: &str) -> Result<(), Trouble>
+pub(crate) fn compared<T>(output: &mut String, input: &str) -> Result<(), Trouble>
 where
     T: Read + Ord + Hash + Same + TryCopy,
 {
-    let alloc = *told.allocator();
+    let alloc = *output.allocator();
     let (left, right) = halves(input)?;
     let left = T::read(alloc, left)?;
-    push_order(told, &left, &T::read(alloc, right)?)
+    push_order(output, &left, &T::read(alloc, right)?)
 }
 
-fn push_order<T>(told: &mut String, left: &T, right: &T) -> Result<(), Trouble>
+fn push_order<T>(output: &mut String, left: &T, right: &T) -> Result<(), Trouble>
 where
     T: Ord + Hash + Same + TryCopy,
 {
     let copy = left.try_copy()?;
     let (sign, order) = (sign_of(&copy, right), left.cmp(right));
     let word = word_of(&copy, right);
-    writeln!(told, "{sign} {order:?} {word}")?;
+    writeln!(output, "{sign} {order:?} {word}")?;
     Ok(())
 }
 
 /// Whether a copy of the left value is equal to the right one and the same, neither, or one alone.
-pub(crate) fn matched<T>(told: &mut String, input: &str) -> Result<(), Trouble>
+pub(crate) fn matched<T>(output: &mut String, input: &str) -> Result<(), Trouble>
 where
     T: Read + PartialEq + Same + TryCopy,
 {
-    let alloc = *told.allocator();
+    let alloc = *output.allocator();
     let (left, right) = halves(input)?;
     let left = T::read(alloc, left)?;
-    push_likeness(told, &left, &T::read(alloc, right)?)
+    push_likeness(output, &left, &T::read(alloc, right)?)
 }
 
-fn push_likeness<T>(told: &mut String, left: &T, right: &T) -> Result<(), Trouble>
+fn push_likeness<T>(output: &mut String, left: &T, right: &T) -> Result<(), Trouble>
 where
     T: PartialEq + Same + TryCopy,
 {
@@ -52,7 +52,7 @@ where
         (false, false) => "other",
         _ => "unlike",
     };
-    writeln!(told, "{word}")?;
+    writeln!(output, "{word}")?;
     Ok(())
 }
 

@@ -4,7 +4,7 @@
 //! the label `a`, whatever signs the value has.
 use crate::compared::compared;
 use crate::given::{Read, labels_in, list_in, moment_in, number_in, raw_limits_in, words_of};
-use crate::told::{tell, tell_debug, tell_fault, tell_refused};
+use crate::output::{push_value, push_debug, push_fault_text, push_refused};
 use crate::trouble::Trouble;
 use rl_labels::entry::MAX_LINE_LEN;
 use rl_labels::labels::{ERROR_LABEL, MAX_TEXT_LEN, is_label_name};
@@ -16,33 +16,33 @@ use rl_patterns::PatternCode;
 use rl_plain::{OrMemory, PlainText};
 use std::alloc::Global;
 
-pub(crate) fn answer(told: &mut String, directive: &str, input: &str) -> Result<(), Trouble> {
+pub(crate) fn answer(output: &mut String, directive: &str, input: &str) -> Result<(), Trouble> {
     match directive {
-        "constants" => constants(told),
-        "name" => tell(told, &is_label_name(input)),
-        "set" => set(told, input),
-        "value" => value(told, input),
-        "read" => read(told, input),
-        "with" => with(told, input),
-        "number" => number(told, input),
-        "duration" => duration(told, input),
-        "moment" => tell_debug(told, &Ns::new(number_in(input)?)),
-        "entry" => entry(told, input),
-        "matcher" => matcher(told, input),
-        "limits" => limits(told, input),
-        "others" => others(told),
-        _ => comparison(told, directive, input),
+        "constants" => constants(output),
+        "name" => push_value(output, &is_label_name(input)),
+        "set" => set(output, input),
+        "value" => value(output, input),
+        "read" => read(output, input),
+        "with" => with(output, input),
+        "number" => number(output, input),
+        "duration" => duration(output, input),
+        "moment" => push_debug(output, &Ns::new(number_in(input)?)),
+        "entry" => entry(output, input),
+        "matcher" => matcher(output, input),
+        "limits" => limits(output, input),
+        "others" => others(output),
+        _ => comparison(output, directive, input),
     }
 }
 
 // How two values stand to each other.
-fn comparison(told: &mut String, directive: &str, input: &str) -> Result<(), Trouble> {
+fn comparison(output: &mut String, directive: &str, input: &str) -> Result<(), Trouble> {
     match directive {
-        "sets" => compared::<Labels>(told, input),
-        "moments" => compared::<Ns>(told, input),
-        "entries" => compared::<Entry>(told, input),
-        "matchers" => compared::<Matcher>(told, input),
-        "operators" => compared::<MatchOp>(told, input),
+        "sets" => compared::<Labels>(output, input),
+        "moments" => compared::<Ns>(output, input),
+        "entries" => compared::<Entry>(output, input),
+        "matchers" => compared::<Matcher>(output, input),
+        "operators" => compared::<MatchOp>(output, input),
         _ => Err(Trouble::NoSuchDirective),
     }
 }
@@ -68,31 +68,31 @@ impl Read for Matcher {
     }
 }
 
-fn constants(told: &mut String) -> Result<(), Trouble> {
-    writeln!(told, "{ERROR_LABEL} {MAX_TEXT_LEN} {MAX_LINE_LEN}")?;
+fn constants(output: &mut String) -> Result<(), Trouble> {
+    writeln!(output, "{ERROR_LABEL} {MAX_TEXT_LEN} {MAX_LINE_LEN}")?;
     Ok(())
 }
 
 // The set of pairs, shown, and the length of its text.
-fn set(told: &mut String, input: &str) -> Result<(), Trouble> {
-    let alloc = *told.allocator();
+fn set(output: &mut String, input: &str) -> Result<(), Trouble> {
+    let alloc = *output.allocator();
     match Labels::from_pairs(alloc, list_in(alloc, input, ",")?) {
-        Ok(labels) => push_set(told, &labels),
-        Err(refused) => tell_refused(told, &refused),
+        Ok(labels) => push_set(output, &labels),
+        Err(refused) => push_refused(output, &refused),
     }
 }
 
-fn push_set(told: &mut String, labels: &Labels) -> Result<(), Trouble> {
+fn push_set(output: &mut String, labels: &Labels) -> Result<(), Trouble> {
     let len = labels.as_text().len();
-    writeln!(told, "{labels} {len}")?;
+    writeln!(output, "{labels} {len}")?;
     Ok(())
 }
 
 // The text of the set that has the value under the label `a`.
-fn value(told: &mut String, input: &str) -> Result<(), Trouble> {
-    let labels = of_value(*told.allocator(), input)?;
+fn value(output: &mut String, input: &str) -> Result<(), Trouble> {
+    let labels = of_value(*output.allocator(), input)?;
     let text = labels.text()?;
-    tell(told, &text)
+    push_value(output, &text)
 }
 
 // The set that has the value under the label `a`.
@@ -101,86 +101,86 @@ fn of_value(alloc: Global, value: &str) -> Result<Labels, Trouble> {
 }
 
 // The labels of the first line's set, and the values that it has under the names of the other lines.
-fn read(told: &mut String, input: &str) -> Result<(), Trouble> {
+fn read(output: &mut String, input: &str) -> Result<(), Trouble> {
     let (first, names) = input.split_once('\n').ok_or(Trouble::BadInput)?;
-    let labels = labels_in(*told.allocator(), first)?;
-    push_pairs(told, &labels, names)
+    let labels = labels_in(*output.allocator(), first)?;
+    push_pairs(output, &labels, names)
 }
 
-fn push_pairs(told: &mut String, labels: &Labels, names: &str) -> Result<(), Trouble> {
+fn push_pairs(output: &mut String, labels: &Labels, names: &str) -> Result<(), Trouble> {
     for (name, value) in labels.pairs() {
-        writeln!(told, "{name}: {value}")?;
+        writeln!(output, "{name}: {value}")?;
     }
     for name in names.split('\n') {
         let value = labels.get(name);
-        writeln!(told, "{name} {value:?}")?;
+        writeln!(output, "{name} {value:?}")?;
     }
     Ok(())
 }
 
 // The first line's set with each other line's label set in it, and the set itself after these.
-fn with(told: &mut String, input: &str) -> Result<(), Trouble> {
+fn with(output: &mut String, input: &str) -> Result<(), Trouble> {
     let (first, changes) = input.split_once('\n').ok_or(Trouble::BadInput)?;
-    let labels = labels_in(*told.allocator(), first)?;
-    push_changes(told, &labels, changes)
+    let labels = labels_in(*output.allocator(), first)?;
+    push_changes(output, &labels, changes)
 }
 
-fn push_changes(told: &mut String, labels: &Labels, changes: &str) -> Result<(), Trouble> {
+fn push_changes(output: &mut String, labels: &Labels, changes: &str) -> Result<(), Trouble> {
     for change in changes.split('\n') {
-        push_changed(told, labels, change)?;
+        push_changed(output, labels, change)?;
     }
-    tell(told, &labels.as_text())
+    push_value(output, &labels.as_text())
 }
 
-fn push_changed(told: &mut String, labels: &Labels, change: &str) -> Result<(), Trouble> {
+fn push_changed(output: &mut String, labels: &Labels, change: &str) -> Result<(), Trouble> {
     let (name, value) = change.split_once('=').ok_or(Trouble::BadInput)?;
     if !is_label_name(name) {
         return Err(Trouble::BadInput);
     }
     let changed = labels.with_label(name, value)?;
-    tell(told, &changed)
+    push_value(output, &changed)
 }
 
 // The number that a label's value is, in billionths.
-fn number(told: &mut String, input: &str) -> Result<(), Trouble> {
+fn number(output: &mut String, input: &str) -> Result<(), Trouble> {
     match Signed::<Decimal>::read(input) {
-        Ok(number) => tell(told, &number.value()),
-        Err(fault) => tell_debug(told, &fault),
+        Ok(number) => push_value(output, &number.value()),
+        Err(fault) => push_debug(output, &fault),
     }
 }
 
 // The duration that a label's value is, in billionths of a nanosecond.
-fn duration(told: &mut String, input: &str) -> Result<(), Trouble> {
+fn duration(output: &mut String, input: &str) -> Result<(), Trouble> {
     match Signed::<Duration>::read(input) {
-        Ok(duration) => tell(told, &duration.value()),
-        Err(fault) => tell_debug(told, &fault),
+        Ok(duration) => push_value(output, &duration.value()),
+        Err(fault) => push_debug(output, &fault),
     }
 }
 
 // The parts of an entry, and its fault where it is refused.
-fn entry(told: &mut String, input: &str) -> Result<(), Trouble> {
-    let alloc = *told.allocator();
+fn entry(output: &mut String, input: &str) -> Result<(), Trouble> {
+    let alloc = *output.allocator();
     let (moment, rest) = words_of(input);
     let (labels, line) = words_of(rest);
     let moment = moment_in(moment)?;
     let line = PlainText::from_str(alloc, line)?;
     match Entry::new(labels_in(alloc, labels)?, moment, line) {
-        Ok(made) => push_entry(told, &made.labels, made.timestamp, &made.line),
+        Ok(made) => push_entry(output, &made.labels, made.timestamp, &made.line),
         Err(refused) => {
-            tell_fault(told, &refused.fault)?;
-            push_entry(told, &refused.labels, refused.timestamp, &refused.line)
+            push_fault_text(output, &refused.fault)?;
+            push_entry(output, &refused.labels, refused.timestamp, &refused.line)
         }
     }
 }
 
 fn push_entry(
-    told: &mut String,
+    output: &mut String,
     labels: &Labels,
     timestamp: Ns,
     line: &PlainText,
 ) -> Result<(), Trouble> {
     let moment = timestamp.get();
-    writeln!(told, "{moment} {labels} {line}")?;
+    writeln!(output, "{moment} {labels} {line}")?;
     Ok(())
 }
 
@@ -205,34 +205,34 @@ fn matcher_of(alloc: Global, text: &str) -> Result<Matcher, MatcherError> {
     Matcher::new(name, op, PlainText::from_str(alloc, value)?)
 }
 
-fn matcher(told: &mut String, input: &str) -> Result<(), Trouble> {
-    match matcher_of(*told.allocator(), input) {
-        Ok(made) => push_matcher(told, &made),
-        Err(refused) => tell_refused(told, &refused),
+fn matcher(output: &mut String, input: &str) -> Result<(), Trouble> {
+    match matcher_of(*output.allocator(), input) {
+        Ok(made) => push_matcher(output, &made),
+        Err(refused) => push_refused(output, &refused),
     }
 }
 
-fn push_matcher(told: &mut String, made: &Matcher) -> Result<(), Trouble> {
+fn push_matcher(output: &mut String, made: &Matcher) -> Result<(), Trouble> {
     let (name, op, value) = (&made.name, made.op, &made.value);
-    writeln!(told, "{name} {op:?} {value}")?;
+    writeln!(output, "{name} {op:?} {value}")?;
     Ok(())
 }
 
 // Limits that hold, or the first that is out of its range.
-fn limits(told: &mut String, input: &str) -> Result<(), Trouble> {
+fn limits(output: &mut String, input: &str) -> Result<(), Trouble> {
     match Limits::check(raw_limits_in(input)?) {
-        Ok(limits) => push_limits(told, limits),
-        Err(bad) => push_bad(told, bad),
+        Ok(limits) => push_limits(output, limits),
+        Err(bad) => push_bad(output, bad),
     }
 }
 
-fn push_bad(told: &mut String, bad: BadLimit) -> Result<(), Trouble> {
+fn push_bad(output: &mut String, bad: BadLimit) -> Result<(), Trouble> {
     let field = bad.field;
-    writeln!(told, "{field:?}: {bad}")?;
+    writeln!(output, "{field:?}: {bad}")?;
     Ok(())
 }
 
-fn push_limits(told: &mut String, limits: Limits) -> Result<(), Trouble> {
+fn push_limits(output: &mut String, limits: Limits) -> Result<(), Trouble> {
     for (name, limit) in [
         ("entries", limits.entries),
         ("chunk_entries", limits.chunk_entries),
@@ -243,17 +243,17 @@ fn push_limits(told: &mut String, limits: Limits) -> Result<(), Trouble> {
         ("records", limits.records),
         ("first_blob", limits.first_blob),
     ] {
-        writeln!(told, "{name}={limit}")?;
+        writeln!(output, "{name}={limit}")?;
     }
     Ok(())
 }
 
 // The texts of the faults that no input has, and that of a pattern of ten million letters.
-fn others(told: &mut String) -> Result<(), Trouble> {
+fn others(output: &mut String) -> Result<(), Trouble> {
     let memory: LabelsError = OrMemory::Memory;
-    tell_fault(told, &memory)?;
+    push_fault_text(output, &memory)?;
     let field = LimitField::FirstBlob;
-    push_bad(told, BadLimit { field })?;
-    let big = PatternCode::build(*told.allocator(), "a{1000}{1000}{10}").err();
-    tell_debug(told, &big)
+    push_bad(output, BadLimit { field })?;
+    let big = PatternCode::build(*output.allocator(), "a{1000}{1000}{10}").err();
+    push_debug(output, &big)
 }

@@ -20,7 +20,7 @@ mod shard;
 mod sinks;
 mod streams;
 mod streams_random;
-mod told;
+mod output;
 mod trouble;
 mod world;
 mod world_steps;
@@ -75,17 +75,17 @@ fn has_its_answer(rt: &HostRuntime, name: &str, part: &str) -> Result<bool, Trou
     let case = case_in(part)?;
     let input = meant(rt.alloc(), case.input)?;
     let want = meant(rt.alloc(), case.want)?;
-    let mut told = String::new(rt.alloc());
-    let ended = answer(&mut told, family_of(name), case.directive, input.as_str());
-    let (told, want) = (
-        told.as_str().trim_end_matches('\n'),
+    let mut output = String::new(rt.alloc());
+    let ended = answer(&mut output, family_of(name), case.directive, input.as_str());
+    let (output, want) = (
+        output.as_str().trim_end_matches('\n'),
         want.as_str().trim_end_matches('\n'),
     );
-    if ended.is_ok() && told == want {
+    if ended.is_ok() && output == want {
         return Ok(true);
     }
     println!(rt;
-        "{name}: {}: wanted\n{want}\nand not\n{told}\n{ended:?}",
+        "{name}: {}: wanted\n{want}\nand not\n{output}\n{ended:?}",
         case.title
     )?;
     Ok(false)
@@ -100,35 +100,35 @@ fn family_of(path: &str) -> &str {
 }
 
 // Writes what a directive gives for its input, or for each line of it.
-fn answer(told: &mut String, family: &str, directive: &str, input: &str) -> Result<(), Trouble> {
+fn answer(output: &mut String, family: &str, directive: &str, input: &str) -> Result<(), Trouble> {
     let Some(directive) = directive.strip_suffix("..") else {
-        return push_answer(told, family, directive, input);
+        return push_answer(output, family, directive, input);
     };
     for line in input.split('\n') {
-        push_answer(told, family, directive, line)?;
+        push_answer(output, family, directive, line)?;
     }
     Ok(())
 }
 
 fn push_answer(
-    told: &mut String,
+    output: &mut String,
     family: &str,
     directive: &str,
     input: &str,
 ) -> Result<(), Trouble> {
     match family {
-        "aggregate" => aggregate::answer(told, directive, input),
-        "chunks" => chunks::answer(told, directive, input),
-        "labels" => labels::answer(told, directive, input),
-        "pipeline" => pipeline::answer(told, directive, input),
-        "plain" => plain::answer(told, directive, input),
-        "query" => query::answer(told, directive, input),
-        "rules" => rules::answer(told, directive, input),
-        "session" => session::answer(told, directive, input),
-        "sinks" => sinks::answer(told, directive, input),
-        "shard" => shard::answer(told, directive, input),
-        "streams" => streams::answer(told, directive, input),
-        "world" => world::answer(told, directive, input),
+        "aggregate" => aggregate::answer(output, directive, input),
+        "chunks" => chunks::answer(output, directive, input),
+        "labels" => labels::answer(output, directive, input),
+        "pipeline" => pipeline::answer(output, directive, input),
+        "plain" => plain::answer(output, directive, input),
+        "query" => query::answer(output, directive, input),
+        "rules" => rules::answer(output, directive, input),
+        "session" => session::answer(output, directive, input),
+        "sinks" => sinks::answer(output, directive, input),
+        "shard" => shard::answer(output, directive, input),
+        "streams" => streams::answer(output, directive, input),
+        "world" => world::answer(output, directive, input),
         _ => Err(Trouble::NoSuchDirective),
     }
 }

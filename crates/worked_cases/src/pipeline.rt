@@ -5,7 +5,7 @@
 //! `covers` has a delete selector, and an entry in each other line.
 use crate::given::{Read, entry_in, labels_in};
 use crate::query::query_in;
-use crate::told::tell;
+use crate::output::push_value;
 use crate::trouble::Trouble;
 use rl_labels::labels::{ERROR_LABEL, is_label_name};
 use rl_labels::{Covers, Labels};
@@ -14,22 +14,22 @@ use rl_query::{Parser, Sieve};
 use std::alloc::Global;
 use std::mem;
 
-pub(crate) fn answer(told: &mut String, directive: &str, input: &str) -> Result<(), Trouble> {
+pub(crate) fn answer(output: &mut String, directive: &str, input: &str) -> Result<(), Trouble> {
     let (first, lines) = input.split_once('\n').ok_or(Trouble::BadInput)?;
     match directive {
-        "json" => following(told, Parser::Json, first, lines),
-        "logfmt" => following(told, Parser::Logfmt, first, lines),
-        "runs" => runs(told, first, lines),
-        "covers" => covers(told, first, lines),
+        "json" => following(output, Parser::Json, first, lines),
+        "logfmt" => following(output, Parser::Logfmt, first, lines),
+        "runs" => runs(output, first, lines),
+        "covers" => covers(output, first, lines),
         _ => Err(Trouble::NoSuchDirective),
     }
 }
 
 // The labels that each line of a stream has after the parser, where an error is set before it.
-fn following(told: &mut String, parser: Parser, labels: &str, lines: &str) -> Result<(), Trouble> {
-    let labels = faulty_labels(*told.allocator(), labels)?;
+fn following(output: &mut String, parser: Parser, labels: &str, lines: &str) -> Result<(), Trouble> {
+    let labels = faulty_labels(*output.allocator(), labels)?;
     for line in lines.split('\n') {
-        push_parsed(told, parser, &labels, line)?;
+        push_parsed(output, parser, &labels, line)?;
     }
     Ok(())
 }
@@ -44,21 +44,21 @@ fn faulty_labels(alloc: Global, labels: &str) -> Result<Labels, Trouble> {
 }
 
 fn push_parsed(
-    told: &mut String,
+    output: &mut String,
     parser: Parser,
     labels: &Labels,
     line: &str,
 ) -> Result<(), Trouble> {
-    let labels = parsed(*told.allocator(), parser, labels, line)?;
-    tell(told, &labels)
+    let labels = parsed(*output.allocator(), parser, labels, line)?;
+    push_value(output, &labels)
 }
 
 // The labels that each line has after all stages, and what was counted.
-fn runs(told: &mut String, query: &str, rest: &str) -> Result<(), Trouble> {
+fn runs(output: &mut String, query: &str, rest: &str) -> Result<(), Trouble> {
     let (labels, lines) = rest.split_once('\n').ok_or(Trouble::BadInput)?;
-    let labels = labels_in(*told.allocator(), labels)?;
-    let pipeline = pipeline_in(*told.allocator(), query)?;
-    let ended = push_runs(told, &pipeline, &labels, lines);
+    let labels = labels_in(*output.allocator(), labels)?;
+    let pipeline = pipeline_in(*output.allocator(), query)?;
+    let ended = push_runs(output, &pipeline, &labels, lines);
     mem::forget(pipeline);
     ended
 }
@@ -72,54 +72,54 @@ fn pipeline_in(alloc: Global, query: &str) -> Result<Pipeline, Trouble> {
 }
 
 fn push_runs(
-    told: &mut String,
+    output: &mut String,
     pipeline: &Pipeline,
     labels: &Labels,
     lines: &str,
 ) -> Result<(), Trouble> {
     let mut running = pipeline.running()?;
     let mut meter = Meter::new();
-    let ended = push_lines(told, &mut running, &mut meter, labels, lines);
+    let ended = push_lines(output, &mut running, &mut meter, labels, lines);
     let is_plain = running.is_plain();
     mem::forget(running);
     ended?;
     meter.count_visits(u64::MAX - 1);
     meter.count_visits(meter.runs());
     let (runs, visits) = (meter.runs(), meter.visits());
-    writeln!(told, "{runs} runs, {visits} visits, plain {is_plain}")?;
+    writeln!(output, "{runs} runs, {visits} visits, plain {is_plain}")?;
     Ok(())
 }
 
 fn push_lines(
-    told: &mut String,
+    output: &mut String,
     running: &mut Running<'_>,
     meter: &mut Meter,
     labels: &Labels,
     lines: &str,
 ) -> Result<(), Trouble> {
     for line in lines.split('\n') {
-        push_run(told, running, meter, labels, line)?;
+        push_run(output, running, meter, labels, line)?;
     }
     Ok(())
 }
 
 fn push_run(
-    told: &mut String,
+    output: &mut String,
     running: &mut Running<'_>,
     meter: &mut Meter,
     labels: &Labels,
     line: &str,
 ) -> Result<(), Trouble> {
     match running.run(meter, labels, line)? {
-        Some(labels) => tell(told, &labels),
-        None => tell(told, &"left out"),
+        Some(labels) => push_value(output, &labels),
+        None => push_value(output, &"left out"),
     }
 }
 
 // Whether a sieve covers each entry.
-fn covers(told: &mut String, selector: &str, entries: &str) -> Result<(), Trouble> {
-    let code = code_in(*told.allocator(), selector)?;
-    let ended = push_covered(told, &code, entries);
+fn covers(output: &mut String, selector: &str, entries: &str) -> Result<(), Trouble> {
+    let code = code_in(*output.allocator(), selector)?;
+    let ended = push_covered(output, &code, entries);
     mem::forget(code);
     ended
 }
@@ -129,10 +129,10 @@ fn code_in(alloc: Global, selector: &str) -> Result<SieveCode, Trouble> {
     SieveCode::build(alloc, &sieve).or(Err(Trouble::BadInput))
 }
 
-fn push_covered(told: &mut String, code: &SieveCode, entries: &str) -> Result<(), Trouble> {
+fn push_covered(output: &mut String, code: &SieveCode, entries: &str) -> Result<(), Trouble> {
     for entry in entries.split('\n') {
-        let is_covered = is_covered(*told.allocator(), code, entry)?;
-        tell(told, &is_covered)?;
+        let is_covered = is_covered(*output.allocator(), code, entry)?;
+        push_value(output, &is_covered)?;
     }
     Ok(())
 }

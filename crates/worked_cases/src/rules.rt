@@ -1,28 +1,28 @@
 //! Rule files: what is printed of those that are refused, and groups beside one another.
 use crate::compared::matched;
 use crate::given::Read;
-use crate::told::tell;
+use crate::output::push_value;
 use crate::trouble::Trouble;
 use rl_rules::{Group, RulesError, read_rules};
 use std::alloc::{AllocError, AllocFailed, Global};
 use std::mem;
 
-pub(crate) fn answer(told: &mut String, directive: &str, input: &str) -> Result<(), Trouble> {
+pub(crate) fn answer(output: &mut String, directive: &str, input: &str) -> Result<(), Trouble> {
     match directive {
-        "fault" => fault(told, input),
-        "groups" => matched::<Group>(told, input),
+        "fault" => fault(output, input),
+        "groups" => matched::<Group>(output, input),
         _ => Err(Trouble::NoSuchDirective),
     }
 }
 
 // What is printed of the fault of a rule file, or of the lack of memory that is named.
-fn fault(told: &mut String, input: &str) -> Result<(), Trouble> {
+fn fault(output: &mut String, input: &str) -> Result<(), Trouble> {
     let error = match input {
         "AllocError" => RulesError::from(AllocError),
         "AllocFailed" => RulesError::from(AllocFailed { value: 0u8 }),
-        _ => error_of(*told.allocator(), input)?,
+        _ => error_of(*output.allocator(), input)?,
     };
-    tell(told, &error)
+    push_value(output, &error)
 }
 
 fn error_of(alloc: Global, file: &str) -> Result<RulesError, Trouble> {

@@ -8,7 +8,7 @@ ghost use Rattle.std.specs.List.{AllByRecursion};
 ghost use Rattle.rl_world.specs.BookCalls.{IsFresh};
 
 use crate::given::{limits_in, number_in};
-use crate::told::{tell, tell_fault};
+use crate::output::{push_value, push_fault_text};
 use crate::trouble::Trouble;
 use crate::world::{Kept, stores_of};
 use rl_labels::{Entry, Limits};
@@ -22,21 +22,21 @@ use rl_sinks::{Recorder, Sink};
 use std::alloc::{AllocError, Global};
 use std::mem;
 
-pub(crate) fn answer(told: &mut String, directive: &str, input: &str) -> Result<(), Trouble> {
+pub(crate) fn answer(output: &mut String, directive: &str, input: &str) -> Result<(), Trouble> {
     match directive {
-        "run" => run(told, input),
-        "push" => push(told, input),
-        "others" => others(told),
+        "run" => run(output, input),
+        "push" => push(output, input),
+        "others" => others(output),
         _ => Err(Trouble::NoSuchDirective),
     }
 }
 
 // How many entries a body has, or its fault by its name and as an operator reads it.
-fn push(told: &mut String, input: &str) -> Result<(), Trouble> {
-    let body = body_in(*told.allocator(), input)?;
-    match read_push(*told.allocator(), &body) {
-        Ok(entries) => push_count(told, &entries),
-        Err(error) => push_error(told, error),
+fn push(output: &mut String, input: &str) -> Result<(), Trouble> {
+    let body = body_in(*output.allocator(), input)?;
+    match read_push(*output.allocator(), &body) {
+        Ok(entries) => push_count(output, &entries),
+        Err(error) => push_error(output, error),
     }
 }
 
@@ -51,23 +51,23 @@ fn body_in(alloc: Global, input: &str) -> Result<Vec<u8>, Trouble> {
     Ok(body)
 }
 
-fn push_count(told: &mut String, entries: &[Entry]) -> Result<(), Trouble> {
-    writeln!(told, "{} entries", entries.len())?;
+fn push_count(output: &mut String, entries: &[Entry]) -> Result<(), Trouble> {
+    writeln!(output, "{} entries", entries.len())?;
     Ok(())
 }
 
-fn push_error(told: &mut String, error: PushError) -> Result<(), Trouble> {
+fn push_error(output: &mut String, error: PushError) -> Result<(), Trouble> {
     let name = push_error_name(error);
-    writeln!(told, "{name}: {error}")?;
+    writeln!(output, "{name}: {error}")?;
     Ok(())
 }
 
-fn run(told: &mut String, input: &str) -> Result<(), Trouble> {
+fn run(output: &mut String, input: &str) -> Result<(), Trouble> {
     let (words, rest) = input.split_once('\n').ok_or(Trouble::BadInput)?;
     let (limits, cap) = words.split_once("cap=").unwrap_or((words, "1024"));
     let (limits, cap) = (limits_in(limits)?, number_in(cap)? as usize);
-    match read_front(*told.allocator(), &mut rest.as_bytes()) {
-        Ok(front) => play(told, limits, cap, front),
+    match read_front(*output.allocator(), &mut rest.as_bytes()) {
+        Ok(front) => play(output, limits, cap, front),
         Err(_) => Err(Trouble::BadInput),
     }
 }
@@ -81,8 +81,8 @@ struct Written {
 }
 
 // What the session prints, what each recorder writes, and how it ends.
-fn play(told: &mut String, limits: Limits, cap: usize, front: Front) -> Result<(), Trouble> {
-    let alloc = *told.allocator();
+fn play(output: &mut String, limits: Limits, cap: usize, front: Front) -> Result<(), Trouble> {
+    let alloc = *output.allocator();
     let (printed, first, second) = (Vec::new(alloc), Vec::new(alloc), Vec::new(alloc));
     let mut written = Written {
         printed,
@@ -90,18 +90,18 @@ fn play(told: &mut String, limits: Limits, cap: usize, front: Front) -> Result<(
         second,
     };
     let ended = run_session(alloc, limits, cap, front, &mut written)?;
-    push_written(told, &written, ended)
+    push_written(output, &written, ended)
 }
 
 fn push_written(
-    told: &mut String,
+    output: &mut String,
     written: &Written,
     ended: Result<Status, RunError>,
 ) -> Result<(), Trouble> {
     let (printed, first) = (text_of(&written.printed)?, text_of(&written.first)?);
     let second = text_of(&written.second)?;
     writeln!(
-        told,
+        output,
         "{printed}recorded\n{first}recorded\n{second}{ended:?}"
     )?;
     Ok(())
@@ -171,21 +171,21 @@ fn of_one_group<S: Sink>(alloc: Global, first: S, second: S) -> Result<Vec<Vec<S
 }
 
 // The faults that no input has, and those of an input as an operator reads them; and that a line feed is no blank line.
-fn others(told: &mut String) -> Result<(), Trouble> {
-    push_error(told, PushError::Memory)?;
-    push_fault(told, FrontFault::ReadFault)?;
-    push_fault(told, FrontFault::TooLong)?;
-    push_fault(told, FrontFault::NotText)?;
-    push_fault(told, FrontFault::NoMark)?;
-    push_fault(told, FrontFault::Rules(RulesFault::MissingKey))?;
-    tell(told, &FrontError::Memory)?;
-    tell_fault(told, &RunError::WriteFault)?;
-    tell_fault(told, &RunError::Memory)?;
-    tell(told, &is_blank("\n"))
+fn others(output: &mut String) -> Result<(), Trouble> {
+    push_error(output, PushError::Memory)?;
+    push_fault(output, FrontFault::ReadFault)?;
+    push_fault(output, FrontFault::TooLong)?;
+    push_fault(output, FrontFault::NotText)?;
+    push_fault(output, FrontFault::NoMark)?;
+    push_fault(output, FrontFault::Rules(RulesFault::MissingKey))?;
+    push_value(output, &FrontError::Memory)?;
+    push_fault_text(output, &RunError::WriteFault)?;
+    push_fault_text(output, &RunError::Memory)?;
+    push_value(output, &is_blank("\n"))
 }
 
-fn push_fault(told: &mut String, fault: FrontFault) -> Result<(), Trouble> {
+fn push_fault(output: &mut String, fault: FrontFault) -> Result<(), Trouble> {
     let name = front_fault_name(fault);
-    writeln!(told, "{name}: {fault}")?;
+    writeln!(output, "{name}: {fault}")?;
     Ok(())
 }

@@ -15,20 +15,20 @@ use std::alloc::Global;
 use std::mem;
 
 /// What a directive gives for its input.
-pub(crate) fn answer(told: &mut String, directive: &str, input: &str) -> Result<(), Trouble> {
+pub(crate) fn answer(output: &mut String, directive: &str, input: &str) -> Result<(), Trouble> {
     match directive {
-        "steps" => steps(told, input),
+        "steps" => steps(output, input),
         _ => Err(Trouble::NoSuchDirective),
     }
 }
 
 // How a copy of the left step stands to the right one, and a copy of the left reply to the right one.
-fn steps(told: &mut String, input: &str) -> Result<(), Trouble> {
-    let alloc = *told.allocator();
+fn steps(output: &mut String, input: &str) -> Result<(), Trouble> {
+    let alloc = *output.allocator();
     let (left, right) = halves(input)?;
     let steps = likeness::<ShardStep>(alloc, left, right)?;
     let replies = likeness::<ShardReply>(alloc, left, right)?;
-    writeln!(told, "{steps} steps, {replies} replies")?;
+    writeln!(output, "{steps} steps, {replies} replies")?;
     Ok(())
 }
 

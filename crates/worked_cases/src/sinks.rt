@@ -4,7 +4,7 @@
 //! outcome is samples, or the cause of its failure.
 use crate::compared::matched;
 use crate::given::{Read, labels_in, list_in, moment_in, number_in, words_of};
-use crate::told::{tell_debug, tell_fault};
+use crate::output::{push_debug, push_fault_text};
 use crate::trouble::Trouble;
 use rl_aggregate::{Fraction, Sample};
 use rl_plain::{PlainList, PlainText};
@@ -12,103 +12,103 @@ use rl_rules::{Alert, Cause, Evaluation, Phase, RuleKind, RuleOutcome, RuleResul
 use rl_sinks::{Notifier, Recorder, Sink, SinkFault, SinkKind, Tail, evaluation_text};
 use std::alloc::{AllocError, AllocFailed, Global};
 
-pub(crate) fn answer(told: &mut String, directive: &str, input: &str) -> Result<(), Trouble> {
+pub(crate) fn answer(output: &mut String, directive: &str, input: &str) -> Result<(), Trouble> {
     match directive {
-        "evaluations" => matched::<Evaluation>(told, input),
-        "text" => text(told, input),
-        "recorder" | "notifier" | "tail" => sink(told, directive, input),
-        "boxed" => boxed(told, input),
-        "fault" => fault(told),
+        "evaluations" => matched::<Evaluation>(output, input),
+        "text" => text(output, input),
+        "recorder" | "notifier" | "tail" => sink(output, directive, input),
+        "boxed" => boxed(output, input),
+        "fault" => fault(output),
         _ => Err(Trouble::NoSuchDirective),
     }
 }
 
 // What each kind of sink writes of an evaluation.
-fn text(told: &mut String, input: &str) -> Result<(), Trouble> {
-    let evaluation = Evaluation::read(*told.allocator(), input)?;
-    push_text(told, SinkKind::Recorder, &evaluation)?;
-    push_text(told, SinkKind::Tail, &evaluation)?;
-    push_text(told, SinkKind::Notifier, &evaluation)
+fn text(output: &mut String, input: &str) -> Result<(), Trouble> {
+    let evaluation = Evaluation::read(*output.allocator(), input)?;
+    push_text(output, SinkKind::Recorder, &evaluation)?;
+    push_text(output, SinkKind::Tail, &evaluation)?;
+    push_text(output, SinkKind::Notifier, &evaluation)
 }
 
-fn push_text(told: &mut String, kind: SinkKind, evaluation: &Evaluation) -> Result<(), Trouble> {
-    let text = evaluation_text(*told.allocator(), kind, evaluation)?;
-    write!(told, "{kind:?}:\n{text}")?;
+fn push_text(output: &mut String, kind: SinkKind, evaluation: &Evaluation) -> Result<(), Trouble> {
+    let text = evaluation_text(*output.allocator(), kind, evaluation)?;
+    write!(output, "{kind:?}:\n{text}")?;
     Ok(())
 }
 
 // How many texts a sink of the kind has room for, or keeps, and in each line `pump`, `close`, or an evaluation that it takes;
 // and what was written when the sink is gone.
-fn sink(told: &mut String, kind: &str, input: &str) -> Result<(), Trouble> {
-    let alloc = *told.allocator();
+fn sink(output: &mut String, kind: &str, input: &str) -> Result<(), Trouble> {
+    let alloc = *output.allocator();
     let (room, lines) = input.split_once('\n').unwrap_or((input, ""));
     let room = number_in(room)? as usize;
     let mut written = Vec::new(alloc);
     match kind {
-        "recorder" => push_answers(told, Recorder::new(alloc, &mut written, room), lines)?,
-        "notifier" => push_answers(told, Notifier::new(alloc, &mut written, room), lines)?,
-        _ => push_answers(told, Tail::new(alloc, &mut written, room)?, lines)?,
+        "recorder" => push_answers(output, Recorder::new(alloc, &mut written, room), lines)?,
+        "notifier" => push_answers(output, Notifier::new(alloc, &mut written, room), lines)?,
+        _ => push_answers(output, Tail::new(alloc, &mut written, room)?, lines)?,
     }
-    push_written(told, &written)
+    push_written(output, &written)
 }
 
-fn push_written(told: &mut String, written: &[u8]) -> Result<(), Trouble> {
+fn push_written(output: &mut String, written: &[u8]) -> Result<(), Trouble> {
     let written = str::from_utf8(written).or(Err(Trouble::BadInput))?;
-    write!(told, "written:\n{written}")?;
+    write!(output, "written:\n{written}")?;
     Ok(())
 }
 
 // A recorder with room for one text, in a box.
-fn boxed(told: &mut String, input: &str) -> Result<(), Trouble> {
-    let alloc = *told.allocator();
+fn boxed(output: &mut String, input: &str) -> Result<(), Trouble> {
+    let alloc = *output.allocator();
     let recorder = Recorder::new(alloc, Vec::new(alloc), 1);
     let sink: Box<dyn Sink + Send> = Box::new(alloc, recorder)?;
-    push_answers(told, sink, input)
+    push_answers(output, sink, input)
 }
 
 // What a sink answers to each line, up to ten texts, and then what it is and keeps. The sink is gone then.
-fn push_answers<S: Sink>(told: &mut String, mut sink: S, lines: &str) -> Result<(), Trouble> {
+fn push_answers<S: Sink>(output: &mut String, mut sink: S, lines: &str) -> Result<(), Trouble> {
     for line in lines.split_terminator('\n') {
-        push_answer(told, &mut sink, line)?;
+        push_answer(output, &mut sink, line)?;
     }
-    push_kept(told, &sink)
+    push_kept(output, &sink)
 }
 
-fn push_answer<S: Sink>(told: &mut String, sink: &mut S, line: &str) -> Result<(), Trouble> {
+fn push_answer<S: Sink>(output: &mut String, sink: &mut S, line: &str) -> Result<(), Trouble> {
     match line {
-        "pump" => tell_debug(told, &sink.pump()),
-        "close" => tell_debug(told, &sink.close()),
-        _ => push_taken(told, sink, line),
+        "pump" => push_debug(output, &sink.pump()),
+        "close" => push_debug(output, &sink.close()),
+        _ => push_taken(output, sink, line),
     }
 }
 
-fn push_taken<S: Sink>(told: &mut String, sink: &mut S, line: &str) -> Result<(), Trouble> {
-    let evaluation = Evaluation::read(*told.allocator(), line)?;
+fn push_taken<S: Sink>(output: &mut String, sink: &mut S, line: &str) -> Result<(), Trouble> {
+    let evaluation = Evaluation::read(*output.allocator(), line)?;
     if sink.count() > 9 {
         return Err(Trouble::BadInput);
     }
-    tell_debug(told, &sink.take(&evaluation))
+    push_debug(output, &sink.take(&evaluation))
 }
 
 // Its kind, its limit and its count, and the texts that it keeps, up to one past the last.
-fn push_kept<S: Sink>(told: &mut String, sink: &S) -> Result<(), Trouble> {
+fn push_kept<S: Sink>(output: &mut String, sink: &S) -> Result<(), Trouble> {
     let (kind, limit, count) = (sink.kind(), sink.limit(), sink.count());
-    writeln!(told, "{kind:?}, limit {limit:?}, count {count}")?;
+    writeln!(output, "{kind:?}, limit {limit:?}, count {count}")?;
     for index in 0..=count {
         let kept = sink.kept(index);
-        writeln!(told, "{index}: {kept:?}")?;
+        writeln!(output, "{index}: {kept:?}")?;
     }
     Ok(())
 }
 
 // What is printed of each fault.
-fn fault(told: &mut String) -> Result<(), Trouble> {
-    tell_fault(told, &SinkFault::Full)?;
-    tell_fault(told, &SinkFault::Refused(1))?;
-    tell_fault(told, &SinkFault::Refused(2))?;
-    tell_fault(told, &SinkFault::WriteFault)?;
-    tell_fault(told, &SinkFault::from(AllocError))?;
-    tell_fault(told, &SinkFault::from(AllocFailed { value: 1 }))
+fn fault(output: &mut String) -> Result<(), Trouble> {
+    push_fault_text(output, &SinkFault::Full)?;
+    push_fault_text(output, &SinkFault::Refused(1))?;
+    push_fault_text(output, &SinkFault::Refused(2))?;
+    push_fault_text(output, &SinkFault::WriteFault)?;
+    push_fault_text(output, &SinkFault::from(AllocError))?;
+    push_fault_text(output, &SinkFault::from(AllocFailed { value: 1 }))
 }
 
 impl Read for Evaluation {

@@ -5,7 +5,7 @@
 //! moment, `cut`, `flush`, `len`, `reads`, `chunks`, `each` with labels and two moments, `walk` with labels, by a cursor.
 use crate::given::{Read, entry_in, limits_in, list_in, moment_in, number_in, words_of};
 use crate::streams_random::random;
-use crate::told::tell;
+use crate::output::push_value;
 use crate::trouble::Trouble;
 use rl_chunks::{MemStore, Spoil, SpoilStore};
 use rl_labels::{Labels, MatchOp, Matcher, Ns, SelectorCode};
@@ -18,10 +18,10 @@ use std::marker::Model;
 use std::mem;
 
 /// What a directive gives for its input.
-pub(crate) fn answer(told: &mut String, directive: &str, input: &str) -> Result<(), Trouble> {
+pub(crate) fn answer(output: &mut String, directive: &str, input: &str) -> Result<(), Trouble> {
     match directive {
-        "run" => run(told, input),
-        "random" => random(told, number_in(input)?),
+        "run" => run(output, input),
+        "random" => random(output, number_in(input)?),
         _ => Err(Trouble::NoSuchDirective),
     }
 }
@@ -30,11 +30,11 @@ pub(crate) fn answer(told: &mut String, directive: &str, input: &str) -> Result<
 pub(crate) type Asked = Streams<SpoilStore<MemStore>>;
 
 // What streams answer to each line.
-fn run(told: &mut String, input: &str) -> Result<(), Trouble> {
+fn run(output: &mut String, input: &str) -> Result<(), Trouble> {
     let (settings, lines) = input.split_once('\n').unwrap_or((input, ""));
     let (limits, spoils) = settings.split_once('|').unwrap_or((settings, ""));
-    let mut streams = opened(*told.allocator(), limits, spoils)?;
-    let ended = push_calls(told, &mut streams, lines);
+    let mut streams = opened(*output.allocator(), limits, spoils)?;
+    let ended = push_calls(output, &mut streams, lines);
     mem::forget(streams);
     ended
 }
@@ -47,14 +47,14 @@ pub(crate) fn opened(alloc: Global, limits: &str, spoils: &str) -> Result<Asked,
     Ok(Streams::new(alloc, store, limits))
 }
 
-fn push_calls(told: &mut String, streams: &mut Asked, lines: &str) -> Result<(), Trouble> {
+fn push_calls(output: &mut String, streams: &mut Asked, lines: &str) -> Result<(), Trouble> {
     let mut horizon = moment_in("0")?;
     for line in lines.split('\n') {
         let (word, rest) = words_of(line);
         if word == "horizon" {
             horizon = moment_in(rest)?;
         } else {
-            call(told, streams, horizon, word, rest)?;
+            call(output, streams, horizon, word, rest)?;
         }
     }
     Ok(())
@@ -81,44 +81,44 @@ impl Read for Spoil {
 
 // Writes what one call answers.
 fn call(
-    told: &mut String,
+    output: &mut String,
     streams: &mut Asked,
     horizon: Ns,
     word: &str,
     rest: &str,
 ) -> Result<(), Trouble> {
     match word {
-        "push" => push(told, streams, horizon, rest),
-        "holds" => holds(told, streams, rest),
+        "push" => push(output, streams, horizon, rest),
+        "holds" => holds(output, streams, rest),
         "cut" => Ok(streams.cut()?),
-        "flush" => push_ended(told, &streams.flush()),
-        "len" => tell(told, &streams.len()),
-        "chunks" => tell(told, &streams.store().inner().len()),
-        "reads" => tell(told, &streams.store().inner().reads()),
-        "each" => each(told, streams, rest),
-        "walk" => walk(told, streams, rest),
+        "flush" => push_ended(output, &streams.flush()),
+        "len" => push_value(output, &streams.len()),
+        "chunks" => push_value(output, &streams.store().inner().len()),
+        "reads" => push_value(output, &streams.store().inner().reads()),
+        "each" => each(output, streams, rest),
+        "walk" => walk(output, streams, rest),
         _ => Err(Trouble::BadInput),
     }
 }
 
-fn push(told: &mut String, streams: &mut Asked, horizon: Ns, entry: &str) -> Result<(), Trouble> {
-    let alloc = *told.allocator();
+fn push(output: &mut String, streams: &mut Asked, horizon: Ns, entry: &str) -> Result<(), Trouble> {
+    let alloc = *output.allocator();
     let entry = entry_in(alloc, entry)?;
-    push_ended(told, &streams.add(Shared::new(alloc, entry)?, horizon))
+    push_ended(output, &streams.add(Shared::new(alloc, entry)?, horizon))
 }
 
-fn holds(told: &mut String, streams: &mut Asked, entry: &str) -> Result<(), Trouble> {
-    let entry = entry_in(*told.allocator(), entry)?;
+fn holds(output: &mut String, streams: &mut Asked, entry: &str) -> Result<(), Trouble> {
+    let entry = entry_in(*output.allocator(), entry)?;
     match streams.holds(&entry) {
-        Ok(held) => tell(told, &held),
-        Err(fault) => tell(told, &fault),
+        Ok(held) => push_value(output, &held),
+        Err(fault) => push_value(output, &fault),
     }
 }
 
-fn push_ended<F: Display>(told: &mut String, ended: &Result<(), F>) -> Result<(), Trouble> {
+fn push_ended<F: Display>(output: &mut String, ended: &Result<(), F>) -> Result<(), Trouble> {
     match ended {
-        Ok(()) => tell(told, &"ok"),
-        Err(fault) => tell(told, fault),
+        Ok(()) => push_value(output, &"ok"),
+        Err(fault) => push_value(output, fault),
     }
 }
 
@@ -134,11 +134,11 @@ pub(crate) fn selector_in(alloc: Global, text: &str) -> Result<PlainList<Matcher
 
 // Lines that were visited, with their labels, as text. Contracts see nothing of it.
 #[derive(Drop)]
-pub(crate) struct Told {
+pub(crate) struct Visited {
     pub(crate) text: String,
 }
 
-impl Model for Told {
+impl Model for Visited {
     ghost use Rattle.std.specs.Prelude.{ℕ};
 
     ghost Value = { ℕ };
@@ -146,8 +146,8 @@ impl Model for Told {
     ghost view = { λ _. 0 };
 }
 
-impl Taker for Told {
-    ghost taking = { λ told _. told };
+impl Taker for Visited {
+    ghost taking = { λ output _. output };
 
     fn take(&mut self, labels: &Labels, timestamp: Ns, text: &str) -> Result<(), AllocError> {
         push_line(&mut self.text, labels, timestamp, text)
@@ -155,30 +155,30 @@ impl Taker for Told {
 }
 
 fn push_line(
-    told: &mut String,
+    output: &mut String,
     labels: &Labels,
     timestamp: Ns,
     text: &str,
 ) -> Result<(), AllocError> {
     let timestamp = timestamp.get();
-    writeln!(told, "{labels} {timestamp} {text}")
+    writeln!(output, "{labels} {timestamp} {text}")
 }
 
 // The lines that are visited from one moment to another, or the fault after those that were visited until then.
-fn each(told: &mut String, streams: &mut Asked, rest: &str) -> Result<(), Trouble> {
+fn each(output: &mut String, streams: &mut Asked, rest: &str) -> Result<(), Trouble> {
     let (labels, range) = words_of(rest);
     let (from, to) = words_of(range);
     let (from, to) = (moment_in(from)?, moment_in(to)?);
-    let mut handed = Told {
-        text: String::new(*told.allocator()),
+    let mut handed = Visited {
+        text: String::new(*output.allocator()),
     };
     let ended = hand_out(&mut handed, streams, labels, from, to);
-    told.push_str(handed.text.as_str())?;
+    output.push_str(handed.text.as_str())?;
     ended
 }
 
 fn hand_out(
-    handed: &mut Told,
+    handed: &mut Visited,
     streams: &mut Asked,
     labels: &str,
     from: Ns,
@@ -187,22 +187,22 @@ fn hand_out(
     let selector = selector_in(*handed.text.allocator(), labels)?;
     match streams.each(&selector, from, to, handed) {
         Ok(()) => Ok(()),
-        Err(fault) => tell(&mut handed.text, &fault),
+        Err(fault) => push_value(&mut handed.text, &fault),
     }
 }
 
 // The lines that a cursor gives, one by one. After a fault it is asked again, at most a hundred times in all.
-fn walk(told: &mut String, streams: &mut Asked, rest: &str) -> Result<(), Trouble> {
-    let alloc = *told.allocator();
+fn walk(output: &mut String, streams: &mut Asked, rest: &str) -> Result<(), Trouble> {
+    let alloc = *output.allocator();
     let selector = selector_in(alloc, rest)?;
     let selector = SelectorCode::build(alloc, selector.as_slice()).or(Err(Trouble::BadInput))?;
     let (from, to) = (moment_in("0")?, moment_in("9000000000s")?);
-    push_walk(told, &mut streams.cursor(&selector, from, to))
+    push_walk(output, &mut streams.cursor(&selector, from, to))
 }
 
-fn push_walk(told: &mut String, cursor: &mut Walker<'_>) -> Result<(), Trouble> {
+fn push_walk(output: &mut String, cursor: &mut Walker<'_>) -> Result<(), Trouble> {
     for _ in 0..100 {
-        if !push_next(told, cursor)? {
+        if !push_next(output, cursor)? {
             return Ok(());
         }
     }
@@ -212,13 +212,13 @@ fn push_walk(told: &mut String, cursor: &mut Walker<'_>) -> Result<(), Trouble> 
 type Walker<'a> = Cursor<'a, SpoilStore<MemStore>>;
 
 // Writes what a cursor gives next. Whether there was something.
-fn push_next(told: &mut String, cursor: &mut Walker<'_>) -> Result<bool, Trouble> {
+fn push_next(output: &mut String, cursor: &mut Walker<'_>) -> Result<bool, Trouble> {
     match cursor.next() {
         Ok(Some((labels, line))) => {
-            push_line(told, labels.get(), line.timestamp, line.text.as_str())?;
+            push_line(output, labels.get(), line.timestamp, line.text.as_str())?;
         }
         Ok(None) => return Ok(false),
-        Err(fault) => tell(told, &fault)?,
+        Err(fault) => push_value(output, &fault)?,
     }
     Ok(true)
 }

@@ -1,7 +1,7 @@
 //! Streams, and one plain list that is asked the same questions.
 use crate::chunks::Draws;
 use crate::given::{entry_in, moment_in};
-use crate::streams::{Asked, Told, opened, selector_in};
+use crate::streams::{Asked, Visited, opened, selector_in};
 use crate::trouble::Trouble;
 use rl_labels::Entry;
 use rl_plain::Shared;
@@ -14,17 +14,17 @@ type Drawn = (u32, u64, u32);
 
 /// In how many of `count` turns streams answer as the plain list, and whether both hold the same at the end. A turn may cut or
 /// flush, asks whether an entry is held, and pushes it.
-pub(crate) fn random(told: &mut String, count: u64) -> Result<(), Trouble> {
-    let alloc = *told.allocator();
+pub(crate) fn random(output: &mut String, count: u64) -> Result<(), Trouble> {
+    let alloc = *output.allocator();
     let limits = "entries=600 chunk_entries=4 chunk_age=10 first_blob=3";
     let mut streams = opened(alloc, limits, "")?;
-    let ended = push_turns(told, &mut streams, &mut Vec::new(alloc), count);
+    let ended = push_turns(output, &mut streams, &mut Vec::new(alloc), count);
     mem::forget(streams);
     ended
 }
 
 fn push_turns(
-    told: &mut String,
+    output: &mut String,
     streams: &mut Asked,
     held: &mut Vec<Drawn>,
     count: u64,
@@ -32,14 +32,14 @@ fn push_turns(
     let mut draws = Draws { state: 7 };
     let mut same = 0u64;
     for turn in 0..count {
-        if is_right(*told.allocator(), streams, held, &mut draws, turn)? {
+        if is_right(*output.allocator(), streams, held, &mut draws, turn)? {
             same = same.saturating_add(1);
         }
     }
-    let is_same = hold_the_same(*told.allocator(), streams, held)?;
+    let is_same = hold_the_same(*output.allocator(), streams, held)?;
     let is_flushed = streams.store().inner().len() > 0;
-    write!(told, "{same} of {count}; the same is held: {is_same}; ")?;
-    writeln!(told, "some of it in chunks: {is_flushed}")?;
+    write!(output, "{same} of {count}; the same is held: {is_same}; ")?;
+    writeln!(output, "some of it in chunks: {is_flushed}")?;
     Ok(())
 }
 
@@ -113,8 +113,8 @@ fn plain(held: &mut Vec<Drawn>, drawn: Drawn) -> Result<&'static str, AllocError
 
 // Whether streams have the number of lines that the plain list has, and each of its lines, of which no two are equal.
 fn hold_the_same(alloc: Global, streams: &mut Asked, held: &[Drawn]) -> Result<bool, Trouble> {
-    let told = told_by(alloc, streams)?;
-    let lines = told.text.as_str();
+    let output = visited_by(alloc, streams)?;
+    let lines = output.text.as_str();
     let count = held.len();
     if lines.split_terminator('\n').count() != count || streams.len() != count as u64 {
         return Ok(false);
@@ -123,14 +123,14 @@ fn hold_the_same(alloc: Global, streams: &mut Asked, held: &[Drawn]) -> Result<b
 }
 
 // All lines of streams.
-fn told_by(alloc: Global, streams: &mut Asked) -> Result<Told, Trouble> {
+fn visited_by(alloc: Global, streams: &mut Asked) -> Result<Visited, Trouble> {
     let selector = selector_in(alloc, "-")?;
     let (from, to) = (moment_in("0")?, moment_in("9000000000s")?);
     let text = String::new(alloc);
-    let mut told = Told { text };
-    let ended = streams.each(&selector, from, to, &mut told);
+    let mut output = Visited { text };
+    let ended = streams.each(&selector, from, to, &mut output);
     ended.ok().ok_or(Trouble::BadInput)?;
-    Ok(told)
+    Ok(output)
 }
 
 fn have_all(alloc: Global, lines: &str, held: &[Drawn]) -> Result<bool, Trouble> {

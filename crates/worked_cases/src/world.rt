@@ -13,7 +13,7 @@ ghost use Rattle.rl_world.specs.Slots.{most_shards};
 
 use crate::given::{Read, limits_in, number_in, words_of};
 use crate::streams::plan_in;
-use crate::told::tell;
+use crate::output::push_value;
 use crate::trouble::Trouble;
 use crate::world_steps::{Asking, push_lines};
 use rl_chunks::{MemStore, SpoilStore};
@@ -32,45 +32,45 @@ pub(crate) type Sunk = Recorder<Vec<u8>>;
 pub(crate) type Kept = SpoilStore<MemStore>;
 
 /// What a directive gives for its input.
-pub(crate) fn answer(told: &mut String, directive: &str, input: &str) -> Result<(), Trouble> {
+pub(crate) fn answer(output: &mut String, directive: &str, input: &str) -> Result<(), Trouble> {
     match directive {
-        "run" => run(told, input),
-        "book" => book(told, input),
-        "others" => others(told),
+        "run" => run(output, input),
+        "book" => book(output, input),
+        "others" => others(output),
         _ => Err(Trouble::NoSuchDirective),
     }
 }
 
 // What a world answers to each line.
-fn run(told: &mut String, input: &str) -> Result<(), Trouble> {
+fn run(output: &mut String, input: &str) -> Result<(), Trouble> {
     let (settings, file, lines) = parts_of(input)?;
-    let mut world = opened(*told.allocator(), settings, file)?;
-    let ended = push_lines(told, &mut world, lines);
+    let mut world = opened(*output.allocator(), settings, file)?;
+    let ended = push_lines(output, &mut world, lines);
     mem::forget(world);
     ended
 }
 
 // What a book on its own answers to each line.
-fn book(told: &mut String, input: &str) -> Result<(), Trouble> {
+fn book(output: &mut String, input: &str) -> Result<(), Trouble> {
     let (settings, file, lines) = parts_of(input)?;
-    let mut asking = opened_book(*told.allocator(), settings, file)?;
-    let ended = asking.push_calls(told, lines);
+    let mut asking = opened_book(*output.allocator(), settings, file)?;
+    let ended = asking.push_calls(output, lines);
     mem::forget(asking);
     ended
 }
 
 // What is printed of the faults that no step has.
-fn others(told: &mut String) -> Result<(), Trouble> {
-    tell(told, &BookError::Memory)?;
-    tell(told, &Refusal::Memory)?;
-    tell(told, &ShardFault::JournalFull)?;
-    tell(told, &ShardFault::from(AllocError))?;
-    tell(told, &ShardFault::Fault)?;
-    tell(told, &Refusal::Fault)?;
-    tell(told, &ShardFault::Damaged)?;
-    tell(told, &Refusal::Damaged)?;
-    tell(told, &ShardFault::NumbersSpent)?;
-    tell(told, &Refusal::NumbersSpent)
+fn others(output: &mut String) -> Result<(), Trouble> {
+    push_value(output, &BookError::Memory)?;
+    push_value(output, &Refusal::Memory)?;
+    push_value(output, &ShardFault::JournalFull)?;
+    push_value(output, &ShardFault::from(AllocError))?;
+    push_value(output, &ShardFault::Fault)?;
+    push_value(output, &Refusal::Fault)?;
+    push_value(output, &ShardFault::Damaged)?;
+    push_value(output, &Refusal::Damaged)?;
+    push_value(output, &ShardFault::NumbersSpent)?;
+    push_value(output, &Refusal::NumbersSpent)
 }
 
 // What the first line of an input says.

@@ -3,7 +3,7 @@ ghost use Rattle.std.specs.Prelude.{◌≡◌};
 
 use crate::given::{Read, moment_in, number_in, words_of};
 use crate::shard;
-use crate::told::tell;
+use crate::output::push_value;
 use crate::trouble::Trouble;
 use crate::world::{Kept, Sunk};
 use rl_plain::{PlainList, Same};
@@ -18,30 +18,30 @@ use std::mem;
 
 /// Writes what a world answers to each line. It is asked all steps up to a look-up at once.
 pub(crate) fn push_lines(
-    told: &mut String,
+    output: &mut String,
     world: &mut World<Kept, Sunk>,
     lines: &str,
 ) -> Result<(), Trouble> {
-    let mut steps = Vec::new(*told.allocator());
+    let mut steps = Vec::new(*output.allocator());
     for line in lines.split('\n') {
-        push_line(told, world, &mut steps, line)?;
+        push_line(output, world, &mut steps, line)?;
     }
-    ask(told, world, &mut steps)
+    ask(output, world, &mut steps)
 }
 
 // Adds a step to those that are to be asked, or asks them and looks something up.
 fn push_line(
-    told: &mut String,
+    output: &mut String,
     world: &mut World<Kept, Sunk>,
     steps: &mut Vec<Step>,
     line: &str,
 ) -> Result<(), Trouble> {
     let (word, rest) = words_of(line);
     if is_look_up(word) {
-        ask(told, world, steps)?;
-        return look_at(told, world, word, rest);
+        ask(output, world, steps)?;
+        return look_at(output, world, word, rest);
     }
-    steps.push(step_in(*told.allocator(), word, rest)?)?;
+    steps.push(step_in(*output.allocator(), word, rest)?)?;
     Ok(())
 }
 
@@ -55,14 +55,14 @@ fn is_look_up(word: &str) -> bool {
 
 // Asks the world the steps, which are gone then, and writes what it answers.
 fn ask(
-    told: &mut String,
+    output: &mut String,
     world: &mut World<Kept, Sunk>,
     steps: &mut Vec<Step>,
 ) -> Result<(), Trouble> {
-    let asked = mem::replace(steps, Vec::new(*told.allocator()));
-    let mut replies = Vec::new(*told.allocator());
+    let asked = mem::replace(steps, Vec::new(*output.allocator()));
+    let mut replies = Vec::new(*output.allocator());
     let ran = world.run(asked, &mut replies);
-    let ended = push_replies(told, replies.as_slice());
+    let ended = push_replies(output, replies.as_slice());
     mem::forget(replies);
     ran?;
     ended
@@ -102,34 +102,34 @@ fn evaluation_step(word: &str, group: usize, rest: &str) -> Result<Step, Trouble
     })
 }
 
-fn push_replies(told: &mut String, replies: &[Reply]) -> Result<(), Trouble> {
+fn push_replies(output: &mut String, replies: &[Reply]) -> Result<(), Trouble> {
     for reply in replies {
-        push_reply(told, reply)?;
+        push_reply(output, reply)?;
     }
     Ok(())
 }
 
-fn push_reply(told: &mut String, reply: &Reply) -> Result<(), Trouble> {
+fn push_reply(output: &mut String, reply: &Reply) -> Result<(), Trouble> {
     match reply {
-        Reply::Decided { place, reply } => push_decision(told, *place, reply),
-        Reply::Edited { place } => Ok(writeln!(told, "{place} edited")?),
-        Reply::Begun => tell(told, &"begun"),
-        Reply::Gathered { place } => Ok(writeln!(told, "{place} gathered")?),
-        Reply::Committed(answer) => push_commit(told, answer),
-        Reply::Abandoned => tell(told, &"abandoned"),
-        Reply::CaughtUp { behind } => push_caught_up(told, behind.as_slice()),
-        Reply::Refused(refusal) => push_refusal(told, refusal),
+        Reply::Decided { place, reply } => push_decision(output, *place, reply),
+        Reply::Edited { place } => Ok(writeln!(output, "{place} edited")?),
+        Reply::Begun => push_value(output, &"begun"),
+        Reply::Gathered { place } => Ok(writeln!(output, "{place} gathered")?),
+        Reply::Committed(answer) => push_commit(output, answer),
+        Reply::Abandoned => push_value(output, &"abandoned"),
+        Reply::CaughtUp { behind } => push_caught_up(output, behind.as_slice()),
+        Reply::Refused(refusal) => push_refusal(output, refusal),
     }
 }
 
 // What a shard decided, with the newest moment of a stream that an entry is too far behind, or the horizon.
-fn push_decision(told: &mut String, place: u64, reply: &ShardReply) -> Result<(), Trouble> {
+fn push_decision(output: &mut String, place: u64, reply: &ShardReply) -> Result<(), Trouble> {
     let word = word_of(reply);
-    write!(told, "{place} {word}")?;
+    write!(output, "{place} {word}")?;
     if let Some(moment) = moment_of(reply) {
-        write!(told, " {moment}")?;
+        write!(output, " {moment}")?;
     }
-    told.push('\n')?;
+    output.push('\n')?;
     Ok(())
 }
 
@@ -159,144 +159,144 @@ fn word_of(reply: &ShardReply) -> &'static str {
 }
 
 // What was committed, with what a tail says of it.
-fn push_commit(told: &mut String, answer: &Committed) -> Result<(), Trouble> {
+fn push_commit(output: &mut String, answer: &Committed) -> Result<(), Trouble> {
     let evaluation = answer.evaluation.get();
-    write!(told, "{} committed, places", answer.number)?;
-    push_numbers(told, evaluation.places.as_slice())?;
-    told.push_str(", behind")?;
-    push_numbers(told, answer.behind.as_slice())?;
-    told.push('\n')?;
-    push_evaluation(told, Some(evaluation))
+    write!(output, "{} committed, places", answer.number)?;
+    push_numbers(output, evaluation.places.as_slice())?;
+    output.push_str(", behind")?;
+    push_numbers(output, answer.behind.as_slice())?;
+    output.push('\n')?;
+    push_evaluation(output, Some(evaluation))
 }
 
 // The sinks that are still behind.
-fn push_caught_up(told: &mut String, behind: &[u64]) -> Result<(), Trouble> {
-    told.push_str("caught up, behind")?;
-    push_numbers(told, behind)?;
-    told.push('\n')?;
+fn push_caught_up(output: &mut String, behind: &[u64]) -> Result<(), Trouble> {
+    output.push_str("caught up, behind")?;
+    push_numbers(output, behind)?;
+    output.push('\n')?;
     Ok(())
 }
 
 // Numbers, each after a space.
-fn push_numbers(told: &mut String, numbers: &[u64]) -> Result<(), Trouble> {
+fn push_numbers(output: &mut String, numbers: &[u64]) -> Result<(), Trouble> {
     for number in numbers {
-        write!(told, " {number}")?;
+        write!(output, " {number}")?;
     }
     Ok(())
 }
 
 // What a tail says of an evaluation.
-fn push_evaluation(told: &mut String, evaluation: Option<&Evaluation>) -> Result<(), Trouble> {
+fn push_evaluation(output: &mut String, evaluation: Option<&Evaluation>) -> Result<(), Trouble> {
     let Some(evaluation) = evaluation else {
-        return tell(told, &"None");
+        return push_value(output, &"None");
     };
-    let text = evaluation_text(*told.allocator(), SinkKind::Tail, evaluation)?;
-    told.push_str(text.as_str())?;
+    let text = evaluation_text(*output.allocator(), SinkKind::Tail, evaluation)?;
+    output.push_str(text.as_str())?;
     Ok(())
 }
 
 // A refusal as it is, and in words.
-fn push_refusal<F: Debug + Display>(told: &mut String, fault: &F) -> Result<(), Trouble> {
-    writeln!(told, "refused {fault:?}: {fault}")?;
+fn push_refusal<F: Debug + Display>(output: &mut String, fault: &F) -> Result<(), Trouble> {
+    writeln!(output, "refused {fault:?}: {fault}")?;
     Ok(())
 }
 
 // What a look-up finds in a world.
 fn look_at(
-    told: &mut String,
+    output: &mut String,
     world: &mut World<Kept, Sunk>,
     word: &str,
     rest: &str,
 ) -> Result<(), Trouble> {
     let (group, rest) = words_of(rest);
     match word {
-        "groups" => tell(told, &world.groups()),
-        "close" => Ok(writeln!(told, "{} not written", world.close_sinks())?),
-        "store" => push_store(told, world, number_in(group)? as usize),
+        "groups" => push_value(output, &world.groups()),
+        "close" => Ok(writeln!(output, "{} not written", world.close_sinks())?),
+        "store" => push_store(output, world, number_in(group)? as usize),
         _ => match world.book(number_in(group)? as usize) {
-            Some(book) => look(told, book, word, rest),
-            None => tell(told, &"None"),
+            Some(book) => look(output, book, word, rest),
+            None => push_value(output, &"None"),
         },
     }
 }
 
 // How many chunks the store of a shard has, and how often it was read.
-fn push_store(told: &mut String, world: &World<Kept, Sunk>, number: usize) -> Result<(), Trouble> {
+fn push_store(output: &mut String, world: &World<Kept, Sunk>, number: usize) -> Result<(), Trouble> {
     let Some(shard) = world.shard(number) else {
-        return tell(told, &"None");
+        return push_value(output, &"None");
     };
     let store = shard.store().inner();
-    writeln!(told, "{} chunks, {} reads", store.len(), store.reads())?;
+    writeln!(output, "{} chunks, {} reads", store.len(), store.reads())?;
     Ok(())
 }
 
 // What a look-up finds in a book: its group, the group as it began, the alerts of each rule, whether it is due, an item of
 // its history, what a tail says of an evaluation, or how many texts a sink has taken and one that it keeps.
-fn look(told: &mut String, book: &Book<Sunk>, word: &str, rest: &str) -> Result<(), Trouble> {
+fn look(output: &mut String, book: &Book<Sunk>, word: &str, rest: &str) -> Result<(), Trouble> {
     let (first, second) = words_of(rest);
     match word {
-        "group" => push_group(told, book),
-        "first" => push_count(told, "", book.first_group()),
-        "alerts" => push_alerts(told, book.alerts()),
-        "due" => tell(told, &book.due(moment_in(first)?)),
-        "item" => push_item(told, book.item(number_in(first)?)),
-        "evaluation" => push_evaluation(told, book.evaluation(number_in(first)?)),
-        "show" => push_kept(told, book, number_in(first)? as usize, number_in(second)?),
+        "group" => push_group(output, book),
+        "first" => push_count(output, "", book.first_group()),
+        "alerts" => push_alerts(output, book.alerts()),
+        "due" => push_value(output, &book.due(moment_in(first)?)),
+        "item" => push_item(output, book.item(number_in(first)?)),
+        "evaluation" => push_evaluation(output, book.evaluation(number_in(first)?)),
+        "show" => push_kept(output, book, number_in(first)? as usize, number_in(second)?),
         _ => Err(Trouble::BadInput),
     }
 }
 
-fn push_count(told: &mut String, before: &str, group: &Group) -> Result<(), Trouble> {
-    writeln!(told, "{before}{} rules", group.rules.len())?;
+fn push_count(output: &mut String, before: &str, group: &Group) -> Result<(), Trouble> {
+    writeln!(output, "{before}{} rules", group.rules.len())?;
     Ok(())
 }
 
 // How many texts a sink has taken, and one that it keeps.
-fn push_kept(told: &mut String, book: &Book<Sunk>, sink: usize, index: u64) -> Result<(), Trouble> {
+fn push_kept(output: &mut String, book: &Book<Sunk>, sink: usize, index: u64) -> Result<(), Trouble> {
     let (count, text) = (book.sink_count(sink), book.sink_text(sink, index));
-    writeln!(told, "{count:?} {text:?}")?;
+    writeln!(output, "{count:?} {text:?}")?;
     Ok(())
 }
 
 // The alerts of each rule, each after the number of the rule.
-fn push_alerts(told: &mut String, of_rules: &[PlainList<Alert>]) -> Result<(), Trouble> {
-    writeln!(told, "of {} rules", of_rules.len())?;
+fn push_alerts(output: &mut String, of_rules: &[PlainList<Alert>]) -> Result<(), Trouble> {
+    writeln!(output, "of {} rules", of_rules.len())?;
     for (number, alerts) in of_rules.iter().enumerate() {
         for alert in alerts.as_slice() {
-            push_alert(told, number, alert)?;
+            push_alert(output, number, alert)?;
         }
     }
     Ok(())
 }
 
-fn push_alert(told: &mut String, number: usize, alert: &Alert) -> Result<(), Trouble> {
+fn push_alert(output: &mut String, number: usize, alert: &Alert) -> Result<(), Trouble> {
     let (phase, labels, since) = (alert.phase, &alert.labels, alert.since.get());
     let (numerator, denominator) = (alert.value.numerator, alert.value.denominator);
     write!(
-        told,
+        output,
         "{number} {phase:?} {labels} {numerator}/{denominator} since {since}"
     )?;
     if let Some(fired) = alert.fired {
-        write!(told, " fired {}", fired.get())?;
+        write!(output, " fired {}", fired.get())?;
     }
-    told.push('\n')?;
+    output.push('\n')?;
     Ok(())
 }
 
-fn push_item(told: &mut String, item: Option<&Item>) -> Result<(), Trouble> {
+fn push_item(output: &mut String, item: Option<&Item>) -> Result<(), Trouble> {
     match item {
-        Some(Item::Edited(group)) => push_count(told, "edited to ", group.get()),
-        Some(Item::Evaluated(evaluation)) => push_evaluation(told, Some(evaluation.get())),
-        None => push_evaluation(told, None),
+        Some(Item::Edited(group)) => push_count(output, "edited to ", group.get()),
+        Some(Item::Evaluated(evaluation)) => push_evaluation(output, Some(evaluation.get())),
+        None => push_evaluation(output, None),
     }
 }
 
 // The name of a book's group, the number under which it asks, and its terms.
-fn push_group(told: &mut String, book: &Book<Sunk>) -> Result<(), Trouble> {
-    writeln!(told, "{}, slot {}", book.group().name, book.slot())?;
+fn push_group(output: &mut String, book: &Book<Sunk>) -> Result<(), Trouble> {
+    writeln!(output, "{}, slot {}", book.group().name, book.slot())?;
     for term in book.terms().get().as_slice() {
-        let text = print_term(*told.allocator(), term)?;
-        tell(told, &text)?;
+        let text = print_term(*output.allocator(), term)?;
+        push_value(output, &text)?;
     }
     Ok(())
 }
@@ -311,80 +311,80 @@ pub(crate) struct Asking {
 
 impl Asking {
     /// Writes what the book answers to each line.
-    pub(crate) fn push_calls(&mut self, told: &mut String, lines: &str) -> Result<(), Trouble> {
+    pub(crate) fn push_calls(&mut self, output: &mut String, lines: &str) -> Result<(), Trouble> {
         for line in lines.split('\n') {
-            self.push_call(told, line)?;
+            self.push_call(output, line)?;
         }
         Ok(())
     }
 
-    fn push_call(&mut self, told: &mut String, line: &str) -> Result<(), Trouble> {
+    fn push_call(&mut self, output: &mut String, line: &str) -> Result<(), Trouble> {
         let (word, rest) = words_of(line);
         match word {
-            "begin" => push_answer(told, &self.book.begin(moment_in(rest)?)),
-            "edit" => self.edit(told, rest),
-            "asks" => self.push_asked(told, number_in(rest)? as usize),
-            "put" => self.put_nothing(told, rest),
-            "commit" => self.commit(told),
-            "abandon" => push_answer(told, &self.book.abandon()),
-            "catch" => self.catch_up(told),
-            "close" => Ok(writeln!(told, "{} not written", self.book.close_sinks())?),
-            _ => look(told, &self.book, word, rest),
+            "begin" => push_answer(output, &self.book.begin(moment_in(rest)?)),
+            "edit" => self.edit(output, rest),
+            "asks" => self.push_asked(output, number_in(rest)? as usize),
+            "put" => self.put_nothing(output, rest),
+            "commit" => self.commit(output),
+            "abandon" => push_answer(output, &self.book.abandon()),
+            "catch" => self.catch_up(output),
+            "close" => Ok(writeln!(output, "{} not written", self.book.close_sinks())?),
+            _ => look(output, &self.book, word, rest),
         }
     }
 
-    fn commit(&mut self, told: &mut String) -> Result<(), Trouble> {
+    fn commit(&mut self, output: &mut String) -> Result<(), Trouble> {
         match self.book.commit() {
-            Ok(answer) => push_commit(told, &answer),
-            Err(error) => push_refusal(told, &error),
+            Ok(answer) => push_commit(output, &answer),
+            Err(error) => push_refusal(output, &error),
         }
     }
 
-    fn catch_up(&mut self, told: &mut String) -> Result<(), Trouble> {
+    fn catch_up(&mut self, output: &mut String) -> Result<(), Trouble> {
         let behind = self.book.catch_up()?;
-        push_caught_up(told, behind.as_slice())
+        push_caught_up(output, behind.as_slice())
     }
 
     // The moment at which a shard is to be asked.
-    fn push_asked(&self, told: &mut String, shard: usize) -> Result<(), Trouble> {
+    fn push_asked(&self, output: &mut String, shard: usize) -> Result<(), Trouble> {
         if shard >= self.shards {
             return Err(Trouble::BadInput);
         }
-        push_answer(told, &self.book.asks(shard))
+        push_answer(output, &self.book.asks(shard))
     }
 
     // Edits the group under its name.
-    fn edit(&mut self, told: &mut String, file: &str) -> Result<(), Trouble> {
-        let to = Group::read(*told.allocator(), file)?;
+    fn edit(&mut self, output: &mut String, file: &str) -> Result<(), Trouble> {
+        let to = Group::read(*output.allocator(), file)?;
         if !to.name.is_same(&self.book.group().name) {
             return Err(Trouble::BadInput);
         }
-        push_answer(told, &self.book.edit(to))
+        push_answer(output, &self.book.edit(to))
     }
 
     // Hands in what a shard shows of no term, at a place.
-    fn put_nothing(&mut self, told: &mut String, words: &str) -> Result<(), Trouble> {
+    fn put_nothing(&mut self, output: &mut String, words: &str) -> Result<(), Trouble> {
         let (shard, place) = words_of(words);
         let (shard, place) = (number_in(shard)? as usize, number_in(place)?);
         if shard >= self.shards || self.book.terms().get().len() > 0 {
             return Err(Trouble::BadInput);
         }
-        let nothing = PlainList::new(*told.allocator());
-        push_answer(told, &self.book.put_partials(shard, place, nothing))
+        let nothing = PlainList::new(*output.allocator());
+        push_answer(output, &self.book.put_partials(shard, place, nothing))
     }
 }
 
 // What a call is answered.
-fn push_answer<T, F>(told: &mut String, answer: &Result<T, F>) -> Result<(), Trouble>
+fn push_answer<T, F>(output: &mut String, answer: &Result<T, F>) -> Result<(), Trouble>
 where
     T: Debug,
     F: Debug + Display,
 {
     match answer {
         Ok(taken) => {
-            writeln!(told, "Ok({taken:?})")?;
+            writeln!(output, "Ok({taken:?})")?;
             Ok(())
         }
-        Err(fault) => push_refusal(told, fault),
+        Err(fault) => push_refusal(output, fault),
     }
 }

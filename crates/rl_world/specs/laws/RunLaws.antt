@@ -10,7 +10,7 @@ use Rattle.rl_world.specs.Offering.{Offered, AllOffered, is_behind, behind_from,
 use Rattle.rl_world.specs.Listings.{SinksFollow, listed_in, listing, listings, is_listed, latest, last_listing}
 use Rattle.rl_world.specs.ShardsTurn.{AreHonest}
 use Rattle.rl_world.specs.laws.StoreLaws.{get_set, get_set_other, still_honest}
-use Rattle.rl_world.specs.WorldRun.{SinksOffered, SinkStep, Ran, Replays, BookTold, told}
+use Rattle.rl_world.specs.WorldRun.{SinksOffered, SinkStep, Ran, Replays, BookOffers, offers}
 use Rattle.rl_world.specs.WorldState.{BookState, WorldBooks, WorldState, world_of}
 use Rattle.rl_world.specs.WorldStep.{Keeping, Turn, WorldStep, Replay, lists}
 use Rattle.rl_world.specs.declared.step.Committed.{Committed}
@@ -97,31 +97,31 @@ mod_chain : (new mid old a b : ℕ) → new % 2 ^ 64 ≡ (mid + b) % 2 ^ 64 → 
 mod_chain new mid old a b first second = omega (arith, first, second)
 
 -- a look-up through what sinks are offered
-record ToldAt (books : List BookState) (group : ℕ) (book : BookState) : Type 0 where
+record OffersAt (books : List BookState) (group : ℕ) (book : BookState) : Type 0 where
   pub after : BookState
   pub there : slice_get books group ≡ Some after
-  pub same : told after ≡ told book
+  pub same : offers after ≡ offers book
 
-told_in : (o : Option BookState) (book : BookState) → option_map told o ≡ Some (told book) → (after : BookState) × (o ≡ Some after) × (told after ≡ told book)
-told_in None book h = absurd (none_some (told book) h)
-told_in (Some after) book h = (after, refl, some_is (told after) (told book) h)
+offers_in : (o : Option BookState) (book : BookState) → option_map offers o ≡ Some (offers book) → (after : BookState) × (o ≡ Some after) × (offers after ≡ offers book)
+offers_in None book h = absurd (none_some (offers book) h)
+offers_in (Some after) book h = (after, refl, some_is (offers after) (offers book) h)
 
-told_at : (old new : List BookState) (group : ℕ) (book : BookState) → map told new ≡ map told old → slice_get old group ≡ Some book → ToldAt new group book
-told_at old new group book same there =
-    let found = told_in (slice_get new group) book (sym (slice_get-map told new group) ∙ ap (λ l. slice_get l group) same ∙ slice_get-map told old group ∙ ap (option_map told) there) in
+offers_at : (old new : List BookState) (group : ℕ) (book : BookState) → map offers new ≡ map offers old → slice_get old group ≡ Some book → OffersAt new group book
+offers_at old new group book same there =
+    let found = offers_in (slice_get new group) book (sym (slice_get-map offers new group) ∙ ap (λ l. slice_get l group) same ∙ slice_get-map offers old group ∙ ap (option_map offers) there) in
     record { after = found.0; there = found.1; same = found.2 }
 
 -- a turn that touches no sink
-untouched : (old new : List BookState) (group number : ℕ) (book : BookState) (sink : SinkState) → map told new ≡ map told old → slice_get old group ≡ Some book → slice_get book.sinks number ≡ Some sink → FollowsOn 0 None group number book sink new
+untouched : (old new : List BookState) (group number : ℕ) (book : BookState) (sink : SinkState) → map offers new ≡ map offers old → slice_get old group ≡ Some book → slice_get book.sinks number ≡ Some sink → FollowsOn 0 None group number book sink new
 untouched old new group number book sink same there here =
-    let found = told_at old new group book same there in
+    let found = offers_at old new group book same there in
     record {
       after = found.after;
       there = found.there;
       new = sink;
-      here = ap (λ (t : BookTold). slice_get t.sinks number) found.same ∙ here;
+      here = ap (λ (t : BookOffers). slice_get t.sinks number) found.same ∙ here;
       refusals = ap (λ n. n % 2 ^ 64) (omega arith);
-      behind = (refl, ap (λ (t : BookTold). t.evaluations) found.same);
+      behind = (refl, ap (λ (t : BookOffers). t.evaluations) found.same);
     }
 
 -- one refusal where the sink is behind
@@ -242,9 +242,9 @@ ran_follow old steps replies new run group number sink at =
 abbrev pub sink_counts : List BookState → List ℕ
 sink_counts books = map (λ book. length book.sinks) books
 
-counts_told : (books : List BookState) → map (λ (t : BookTold). length t.sinks) (map told books) ≡ sink_counts books
-counts_told [] = refl
-counts_told (book ∷ books) = ap (λ rest. length book.sinks ∷ rest) (counts_told books)
+counts_offered : (books : List BookState) → map (λ (t : BookOffers). length t.sinks) (map offers books) ≡ sink_counts books
+counts_offered [] = refl
+counts_offered (book ∷ books) = ap (λ rest. length book.sinks ∷ rest) (counts_offered books)
 
 counts_set : (books : List BookState) (group : ℕ) (before after : BookState) → slice_get books group ≡ Some before → length after.sinks ≡ length before.sinks → sink_counts (slice_set books group after) ≡ sink_counts books
 counts_set [] group before after there same = refl
@@ -264,7 +264,7 @@ offered_counts old new group behind turn =
 turn_counts : (old new : List BookState) (step : Step) (reply : Reply) → SinkStep old step reply new → sink_counts new ≡ sink_counts old
 turn_counts old new (steps.Commit group) (replies.Committed answer) offered = offered_counts old new group answer.behind offered
 turn_counts old new (steps.CatchUp group) (replies.CaughtUp behind) offered = offered_counts old new group behind offered
-turn_counts old new step reply same = sym (counts_told new) ∙ ap (map (λ (t : BookTold). length t.sinks)) same ∙ counts_told old
+turn_counts old new step reply same = sym (counts_offered new) ∙ ap (map (λ (t : BookOffers). length t.sinks)) same ∙ counts_offered old
 
 -- no sink comes or goes
 pub ran_counts : (old : WorldBooks) (steps : List Step) (replies : List Reply) (new : WorldBooks) → Ran old steps replies new → sink_counts new.books ≡ sink_counts old.books
@@ -301,7 +301,7 @@ module _ {X : Type 0} (keeping : Keeping X) where
   replay_unlisted old (step ∷ steps) [] new replay = absurd replay
 
 -- a run whose replies are given without those lists is still a replay
-pub unlisted_replays : (old : WorldBooks) (steps : List Step) (replies told : List Reply) (new : WorldBooks) → AreHonest old.shards → Ran old steps replies new → told ≡ map unlisted replies → Replays old steps told new
-unlisted_replays old steps replies told new honest run is shown stands =
+pub unlisted_replays : (old : WorldBooks) (steps : List Step) (replies offers : List Reply) (new : WorldBooks) → AreHonest old.shards → Ran old steps replies new → offers ≡ map unlisted replies → Replays old steps offers new
+unlisted_replays old steps replies offers new honest run is shown stands =
     let replay = ran_replays old steps replies new honest run shown stands in
     (replay.0, replay.1, subst (λ said. Replay lists shown steps said replay.0) (sym is) (replay_unlisted lists shown steps replies replay.0 replay.2))

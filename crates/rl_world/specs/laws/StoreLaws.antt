@@ -9,10 +9,10 @@ use Rattle.rl_shard.specs.ShardState.{ShardView}
 use Rattle.rl_shard.specs.declared.step.ShardFault.{ShardFault}
 use Rattle.rl_shard.specs.declared.step.ShardFault.TheVariants as shard_faults
 use Rattle.rl_world.specs.ShardsTurn.{AreHonest, CollectDecides, CollectFaults, Decides, Faults, IsAsked, ShardsTurn}
-use Rattle.rl_world.specs.Stores.{StoreFollows, StoresFollow, asks, is_told, tells_damage, tells_fault, tells_spent, was_told}
+use Rattle.rl_world.specs.Stores.{StoreFollows, StoresFollow, asks, is_answered_so, is_damage_reply, is_fault_reply, is_spent_reply, was_answered}
 use Rattle.rl_world.specs.WorldRun.{Ran}
 use Rattle.rl_world.specs.WorldState.{WorldBooks}
-use Rattle.rl_world.specs.WorldStep.{is_store_refusal, told_of_shard}
+use Rattle.rl_world.specs.WorldStep.{is_store_refusal, refusal_of_shard}
 use Rattle.rl_world.specs.declared.fault.Refusal.{Refusal}
 use Rattle.rl_world.specs.declared.fault.Refusal.TheVariants as refusals
 use Rattle.rl_world.specs.declared.step.Step.{Step}
@@ -83,17 +83,17 @@ still_honest old (steps.Gather group number) other new turn all = absurd turn
 still_honest old step reply new same all = subst AreHonest (sym same) all
 
 -- what a reply says of the store of the shard that was asked
-record Tells (reply : Reply) (before after : ShardView) : Type 0 where
-  pub fault : tells_fault reply ≡ true → FaultCame before.streams.seen.faults after.streams.seen.faults
-  pub spent : tells_spent reply ≡ true → after.streams.next ≡ greatest
-  pub damage : tells_damage reply ≡ true → before.streams.seen.honest ≡ false
+record Reports (reply : Reply) (before after : ShardView) : Type 0 where
+  pub fault : is_fault_reply reply ≡ true → FaultCame before.streams.seen.faults after.streams.seen.faults
+  pub spent : is_spent_reply reply ≡ true → after.streams.next ≡ greatest
+  pub damage : is_damage_reply reply ≡ true → before.streams.seen.honest ≡ false
 
-cause_tells : (fault : ShardFault) (before after : ShardView) → HasCause before.streams fault after.streams → Tells (replies.Refused (told_of_shard fault)) before after
-cause_tells shard_faults.JournalFull before after cause = record { fault = λ h. absurd (true_false (sym h)); spent = λ h. absurd (true_false (sym h)); damage = λ h. absurd (true_false (sym h)) }
-cause_tells shard_faults.Fault before after cause = record { fault = λ h. cause; spent = λ h. absurd (true_false (sym h)); damage = λ h. absurd (true_false (sym h)) }
-cause_tells shard_faults.Damaged before after cause = record { fault = λ h. absurd (true_false (sym h)); spent = λ h. absurd (true_false (sym h)); damage = λ h. cause }
-cause_tells shard_faults.NumbersSpent before after cause = record { fault = λ h. absurd (true_false (sym h)); spent = λ h. cause; damage = λ h. absurd (true_false (sym h)) }
-cause_tells shard_faults.Memory before after cause = record { fault = λ h. absurd (true_false (sym h)); spent = λ h. absurd (true_false (sym h)); damage = λ h. absurd (true_false (sym h)) }
+cause_reported : (fault : ShardFault) (before after : ShardView) → HasCause before.streams fault after.streams → Reports (replies.Refused (refusal_of_shard fault)) before after
+cause_reported shard_faults.JournalFull before after cause = record { fault = λ h. absurd (true_false (sym h)); spent = λ h. absurd (true_false (sym h)); damage = λ h. absurd (true_false (sym h)) }
+cause_reported shard_faults.Fault before after cause = record { fault = λ h. cause; spent = λ h. absurd (true_false (sym h)); damage = λ h. absurd (true_false (sym h)) }
+cause_reported shard_faults.Damaged before after cause = record { fault = λ h. absurd (true_false (sym h)); spent = λ h. absurd (true_false (sym h)); damage = λ h. cause }
+cause_reported shard_faults.NumbersSpent before after cause = record { fault = λ h. absurd (true_false (sym h)); spent = λ h. cause; damage = λ h. absurd (true_false (sym h)) }
+cause_reported shard_faults.Memory before after cause = record { fault = λ h. absurd (true_false (sym h)); spent = λ h. absurd (true_false (sym h)); damage = λ h. absurd (true_false (sym h)) }
 
 -- what a turn makes of the store of one shard
 record StoreTurn (number : ℕ) (step : Step) (reply : Reply) (before : ShardView) (shards : List ShardView) : Type 0 where
@@ -102,23 +102,23 @@ record StoreTurn (number : ℕ) (step : Step) (reply : Reply) (before : ShardVie
   pub honest : after.streams.seen.honest ≡ before.streams.seen.honest
   pub faults : FaultsRise before.streams.seen.faults after.streams.seen.faults
   pub stays : before.streams.next ≡ greatest → after.streams.next ≡ greatest
-  pub tells : asks number step ≡ true → Tells reply before after
+  pub reports : asks number step ≡ true → Reports reply before after
 
 -- a shard that was not asked, or of which nothing is reported
-store_kept : (number : ℕ) (step : Step) (reply : Reply) (before : ShardView) (shards : List ShardView) → slice_get shards number ≡ Some before → (asks number step ≡ true → Tells reply before before) → StoreTurn number step reply before shards
-store_kept number step reply before shards there tells = record { after = before; there = there; honest = refl; faults = omega arith; stays = λ h. h; tells = tells }
+store_kept : (number : ℕ) (step : Step) (reply : Reply) (before : ShardView) (shards : List ShardView) → slice_get shards number ≡ Some before → (asks number step ≡ true → Reports reply before before) → StoreTurn number step reply before shards
+store_kept number step reply before shards there reports = record { after = before; there = there; honest = refl; faults = omega arith; stays = λ h. h; reports = reports }
 
 -- a refusal that is no store's says nothing of one
-untold : (refusal : Refusal) (before after : ShardView) → is_store_refusal refusal ≡ false → Tells (replies.Refused refusal) before after
-untold refusals.Fault before after free = absurd (true_false free)
-untold refusals.Damaged before after free = absurd (true_false free)
-untold refusals.NumbersSpent before after free = absurd (true_false free)
-untold other before after free = record { fault = λ h. absurd (true_false (sym h)); spent = λ h. absurd (true_false (sym h)); damage = λ h. absurd (true_false (sym h)) }
+unreported : (refusal : Refusal) (before after : ShardView) → is_store_refusal refusal ≡ false → Reports (replies.Refused refusal) before after
+unreported refusals.Fault before after free = absurd (true_false free)
+unreported refusals.Damaged before after free = absurd (true_false free)
+unreported refusals.NumbersSpent before after free = absurd (true_false free)
+unreported other before after free = record { fault = λ h. absurd (true_false (sym h)); spent = λ h. absurd (true_false (sym h)); damage = λ h. absurd (true_false (sym h)) }
 
 -- a shard that was asked, and the others
-store_asked : (number asked : ℕ) (step : Step) (reply : Reply) (before : ShardView) (old new : List ShardView) (becomes : ShardView → ShardView → Type 0) → asks number step ≡ nat_eq asked number → slice_get old number ≡ Some before → (is : IsAsked old asked new becomes) → Tells reply is.before is.after
+store_asked : (number asked : ℕ) (step : Step) (reply : Reply) (before : ShardView) (old new : List ShardView) (becomes : ShardView → ShardView → Type 0) → asks number step ≡ nat_eq asked number → slice_get old number ≡ Some before → (is : IsAsked old asked new becomes) → Reports reply is.before is.after
     → StoreTurn number step reply before new
-store_asked number asked step reply before old new becomes asks_is there is tells = cases (nat_eq asked number) refl
+store_asked number asked step reply before old new becomes asks_is there is reports = cases (nat_eq asked number) refl
   where
     here : asked ≡ number → StoreTurn number step reply before new
     here same =
@@ -129,27 +129,27 @@ store_asked number asked step reply before old new becomes asks_is there is tell
           honest = is.stored.honest;
           faults = is.stored.faults;
           stays = λ spent. omega (arith, is.stored.next, is.numbers, spent);
-          tells = λ h. tells;
+          reports = λ h. reports;
         })
 
     cases : (b : Bool) → nat_eq asked number ≡ b → StoreTurn number step reply before new
     cases true same = here (eqb-true asked number same)
     cases false apart = store_kept number step reply before new (ap (λ l. slice_get l number) is.now ∙ get_set_other old asked number is.after (eqb-false asked number apart) ∙ there) (λ h. absurd (not_both (asks number step) h (asks_is ∙ apart)))
 
-silent : (reply : Reply) (before after : ShardView) → tells_fault reply ≡ false → tells_spent reply ≡ false → tells_damage reply ≡ false → Tells reply before after
-silent reply before after fault spent damage = record { fault = λ h. absurd (not_both (tells_fault reply) h fault); spent = λ h. absurd (not_both (tells_spent reply) h spent); damage = λ h. absurd (not_both (tells_damage reply) h damage) }
+silent : (reply : Reply) (before after : ShardView) → is_fault_reply reply ≡ false → is_spent_reply reply ≡ false → is_damage_reply reply ≡ false → Reports reply before after
+silent reply before after fault spent damage = record { fault = λ h. absurd (not_both (is_fault_reply reply) h fault); spent = λ h. absurd (not_both (is_spent_reply reply) h spent); damage = λ h. absurd (not_both (is_damage_reply reply) h damage) }
 
-faults_tell : {step : _} (refusal : Refusal) (before after : ShardView) → Faults step refusal before after → Tells (replies.Refused refusal) before after
-faults_tell refusal before after met = subst (λ r. Tells (replies.Refused r) before after) (sym met.told) (cause_tells met.fault before after met.cause.2)
+faults_reported : {step : _} (refusal : Refusal) (before after : ShardView) → Faults step refusal before after → Reports (replies.Refused refusal) before after
+faults_reported refusal before after met = subst (λ r. Reports (replies.Refused r) before after) (sym met.offers) (cause_reported met.fault before after met.cause.2)
 
 turn_stores : (old : List ShardView) (step : Step) (reply : Reply) (new : List ShardView) (number : ℕ) (before : ShardView) → ShardsTurn old step reply new → slice_get old number ≡ Some before → StoreTurn number step reply before new
 turn_stores old (steps.Shard shard step) (replies.Decided place reply) new number before asked there = store_asked number shard (steps.Shard shard step) (replies.Decided place reply) before old new (Decides place step reply) refl there asked (silent (replies.Decided place reply) asked.before asked.after refl refl refl)
-turn_stores old (steps.Shard shard step) (replies.Refused refusal) new number before (inl unasked) there = store_kept number (steps.Shard shard step) (replies.Refused refusal) before new (ap (λ l. slice_get l number) unasked.1 ∙ there) (λ h. untold refusal before before unasked.0)
-turn_stores old (steps.Shard shard step) (replies.Refused refusal) new number before (inr asked) there = store_asked number shard (steps.Shard shard step) (replies.Refused refusal) before old new (Faults step refusal) refl there asked (faults_tell refusal asked.before asked.after asked.as_said)
+turn_stores old (steps.Shard shard step) (replies.Refused refusal) new number before (inl unasked) there = store_kept number (steps.Shard shard step) (replies.Refused refusal) before new (ap (λ l. slice_get l number) unasked.1 ∙ there) (λ h. unreported refusal before before unasked.0)
+turn_stores old (steps.Shard shard step) (replies.Refused refusal) new number before (inr asked) there = store_asked number shard (steps.Shard shard step) (replies.Refused refusal) before old new (Faults step refusal) refl there asked (faults_reported refusal asked.before asked.after asked.as_said)
 turn_stores old (steps.Shard shard step) other new number before turn there = absurd turn
 turn_stores old (steps.Gather group shard) (replies.Gathered place) new number before asked there = store_asked number shard (steps.Gather group shard) (replies.Gathered place) before old new (CollectDecides group place) refl there asked (silent (replies.Gathered place) asked.before asked.after refl refl refl)
-turn_stores old (steps.Gather group shard) (replies.Refused refusal) new number before (inl unasked) there = store_kept number (steps.Gather group shard) (replies.Refused refusal) before new (ap (λ l. slice_get l number) unasked.1 ∙ there) (λ h. untold refusal before before unasked.0)
-turn_stores old (steps.Gather group shard) (replies.Refused refusal) new number before (inr asked) there = store_asked number shard (steps.Gather group shard) (replies.Refused refusal) before old new (CollectFaults group refusal) refl there asked (faults_tell refusal asked.before asked.after asked.as_said.faults)
+turn_stores old (steps.Gather group shard) (replies.Refused refusal) new number before (inl unasked) there = store_kept number (steps.Gather group shard) (replies.Refused refusal) before new (ap (λ l. slice_get l number) unasked.1 ∙ there) (λ h. unreported refusal before before unasked.0)
+turn_stores old (steps.Gather group shard) (replies.Refused refusal) new number before (inr asked) there = store_asked number shard (steps.Gather group shard) (replies.Refused refusal) before old new (CollectFaults group refusal) refl there asked (faults_reported refusal asked.before asked.after asked.as_said.faults)
 turn_stores old (steps.Gather group shard) other new number before turn there = absurd turn
 turn_stores old step reply new number before same there = store_kept number step reply before new (ap (λ l. slice_get l number) same ∙ there) (λ h. absurd (true_false (sym h)))
 
@@ -184,25 +184,25 @@ one_more number step reply turns before mids news first rest = record {
   follows = record {
     honest = rest.follows.honest ∙ first.honest;
     faults = omega (arith, first.faults, rest.follows.faults);
-    no_fault = λ same more. not_true (was_told number tells_fault ((step, reply) ∷ turns)) (λ told. fault_told same more (or_cases (is_told number tells_fault (step, reply)) (was_told number tells_fault turns) told));
-    spent = λ told. spent_told (or_cases (is_told number tells_spent (step, reply)) (was_told number tells_spent turns) told);
-    undamaged = λ honest. not_true (was_told number tells_damage ((step, reply) ∷ turns)) (λ told. damage_told honest (or_cases (is_told number tells_damage (step, reply)) (was_told number tells_damage turns) told));
+    no_fault = λ same more. not_true (was_answered number is_fault_reply ((step, reply) ∷ turns)) (λ offers. fault_answered same more (or_cases (is_answered_so number is_fault_reply (step, reply)) (was_answered number is_fault_reply turns) offers));
+    spent = λ offers. spent_answered (or_cases (is_answered_so number is_spent_reply (step, reply)) (was_answered number is_spent_reply turns) offers);
+    undamaged = λ honest. not_true (was_answered number is_damage_reply ((step, reply) ∷ turns)) (λ offers. damage_answered honest (or_cases (is_answered_so number is_damage_reply (step, reply)) (was_answered number is_damage_reply turns) offers));
   };
 }
   where
-    fault_told : rest.after.streams.seen.faults ≡ before.streams.seen.faults → before.streams.seen.faults < greatest → (is_told number tells_fault (step, reply) ≡ true) ⊎ (was_told number tells_fault turns ≡ true) → ⊥
-    fault_told same more (inl told) = none_came before.streams.seen.faults first.after.streams.seen.faults ((first.tells (and_first (asks number step) (tells_fault reply) told)).fault (and_second (asks number step) (tells_fault reply) told)) (between before.streams.seen.faults first.after.streams.seen.faults rest.after.streams.seen.faults first.faults rest.follows.faults same more) more
-    fault_told same more (inr told) =
+    fault_answered : rest.after.streams.seen.faults ≡ before.streams.seen.faults → before.streams.seen.faults < greatest → (is_answered_so number is_fault_reply (step, reply) ≡ true) ⊎ (was_answered number is_fault_reply turns ≡ true) → ⊥
+    fault_answered same more (inl offers) = none_came before.streams.seen.faults first.after.streams.seen.faults ((first.reports (and_first (asks number step) (is_fault_reply reply) offers)).fault (and_second (asks number step) (is_fault_reply reply) offers)) (between before.streams.seen.faults first.after.streams.seen.faults rest.after.streams.seen.faults first.faults rest.follows.faults same more) more
+    fault_answered same more (inr offers) =
         let as_before = between before.streams.seen.faults first.after.streams.seen.faults rest.after.streams.seen.faults first.faults rest.follows.faults same more in
-        not_both (was_told number tells_fault turns) told (rest.follows.no_fault (same ∙ sym as_before) (omega (arith, more, as_before)))
+        not_both (was_answered number is_fault_reply turns) offers (rest.follows.no_fault (same ∙ sym as_before) (omega (arith, more, as_before)))
 
-    spent_told : (is_told number tells_spent (step, reply) ≡ true) ⊎ (was_told number tells_spent turns ≡ true) → rest.after.streams.next ≡ greatest
-    spent_told (inl told) = rest.stays ((first.tells (and_first (asks number step) (tells_spent reply) told)).spent (and_second (asks number step) (tells_spent reply) told))
-    spent_told (inr told) = rest.follows.spent told
+    spent_answered : (is_answered_so number is_spent_reply (step, reply) ≡ true) ⊎ (was_answered number is_spent_reply turns ≡ true) → rest.after.streams.next ≡ greatest
+    spent_answered (inl offers) = rest.stays ((first.reports (and_first (asks number step) (is_spent_reply reply) offers)).spent (and_second (asks number step) (is_spent_reply reply) offers))
+    spent_answered (inr offers) = rest.follows.spent offers
 
-    damage_told : IsHonest before → (is_told number tells_damage (step, reply) ≡ true) ⊎ (was_told number tells_damage turns ≡ true) → ⊥
-    damage_told honest (inl told) = not_both before.streams.seen.honest honest ((first.tells (and_first (asks number step) (tells_damage reply) told)).damage (and_second (asks number step) (tells_damage reply) told))
-    damage_told honest (inr told) = not_both (was_told number tells_damage turns) told (rest.follows.undamaged (first.honest ∙ honest))
+    damage_answered : IsHonest before → (is_answered_so number is_damage_reply (step, reply) ≡ true) ⊎ (was_answered number is_damage_reply turns ≡ true) → ⊥
+    damage_answered honest (inl offers) = not_both before.streams.seen.honest honest ((first.reports (and_first (asks number step) (is_damage_reply reply) offers)).damage (and_second (asks number step) (is_damage_reply reply) offers))
+    damage_answered honest (inr offers) = not_both (was_answered number is_damage_reply turns) offers (rest.follows.undamaged (first.honest ∙ honest))
 
 run_stores : (old : WorldBooks) (steps : List Step) (replies : List Reply) (new : WorldBooks) (number : ℕ) (before : ShardView) → Ran old steps replies new → slice_get old.shards number ≡ Some before → FollowsOn number (zip steps replies) before new.shards
 run_stores old [] [] new number before run there = no_turn number before new.shards (ap (λ (world : WorldBooks). slice_get world.shards number) run ∙ there)

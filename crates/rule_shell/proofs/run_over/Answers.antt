@@ -17,8 +17,8 @@ loop-preserved-then-not-all g c =
     let state = (ghosts (own-1, lawful-own-1, sends-own-1)).state in
     let boxed = c.into_dyn_box.result in
     let read : state boxed ≡ log_state kinds.Recorder c.in_ok-new.field-0.value = read_made own-1 (own-1.entry (inl tt)) (inl tt) refl SinkState (λ j v. j.1.state v) boxed.vtable boxed.value c.in_ok-new.field-0.value c.into_dyn_box.ensures.1 in
-    let told = read ∙ ap (log_state kinds.Recorder) (c.in_ok-new.ensures.ok ∙ c.new-recorder.ensures) in
-    let own = fresh_one state c.in_ok-vec.field-0 boxed c.in_ok-vec.ensures.items (ap (λ sink. sink.count) told) (ap (λ sink. sink.kept) told) in
+    let written = read ∙ ap (log_state kinds.Recorder) (c.in_ok-new.ensures.ok ∙ c.new-recorder.ensures) in
+    let own = fresh_one state c.in_ok-vec.field-0 boxed c.in_ok-vec.ensures.items (ap (λ sink. sink.count) written) (ap (λ sink. sink.kept) written) in
     let more = fresh_more state c.loop.sinks.items c.in_ok-vec.field-0 c.loop.invariant.1 own in
     (search rules, rw (← c.in_ok-push.ensures.items) at more)
 

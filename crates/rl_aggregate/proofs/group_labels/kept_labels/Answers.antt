@@ -1,7 +1,7 @@
 -- The next label goes to the front, if it decides the group.
 use Rattle.std.proofs.Common.{◌≡◌, ◌++◌, ◌∷◌, [], List, true, cond, is_some, sym, ap, ◌∙◌, append_assoc}
 use Rattle.rl_labels.specs.LabelSet.{Pair, LabelSet, is_label, label, with_label}
-use Rattle.rl_aggregate.specs.Grouping.{tells_group}
+use Rattle.rl_aggregate.specs.Grouping.{is_grouping_label}
 use Rattle.rl_aggregate.proofs.Kept.{label_of, added-front}
 use Rattle.rl_aggregate.proofs.group_labels.kept_labels.Goals as goal
 
@@ -20,10 +20,10 @@ loop-pair-preserved-in_ok-add c =
     let set : LabelSet = c.loop-pair.builder in
     let inv = c.loop-pair.invariant in
     let place = sym (append_assoc before (pair ∷ []) inv.0) ∙ ap (λ r. r ++ inv.0) (sym c.in-Some.ensures.cases.0) ∙ inv.1 in
-    let kept : tells_group c.args.grouping.now pair.0 ≡ true = ap (tells_group c.args.grouping.now) (sym c.as_str-name.ensures) ∙ sym c.tells_group.ensures ∙ c.if-tells_group.true in (
+    let kept : is_grouping_label c.args.grouping.now pair.0 ≡ true = ap (is_grouping_label c.args.grouping.now) (sym c.as_str-name.ensures) ∙ sym c.is_grouping_label.ensures ∙ c.if-is_grouping_label.true in (
       pair ∷ inv.0,
       place,
       c.in_ok-add.ensures.added
           ∙ (λ i. cond (is_some (label set (c.as_str-name.ensures i))) set (with_label set (c.as_str-name.ensures i) (c.as_str.ensures i)))
-          ∙ added-front (λ p. tells_group c.args.grouping.now p.0) c.args.labels.now set before inv.0 pair place inv.2 kept,
+          ∙ added-front (λ p. is_grouping_label c.args.grouping.now p.0) c.args.labels.now set before inv.0 pair place inv.2 kept,
     )

@@ -5,7 +5,7 @@ use Rattle.std.proofs.lemmas.List.{take_all}
 use Rattle.std.proofs.lemmas.List.Elements.{All-from_recursion}
 use Rattle.std.proofs.lemmas.Result.{err_from_is_err_and}
 use Rattle.rl_parts.specs.StreamParts.{PartView}
-use Rattle.rl_parts.specs.Reading.{IsOutside, IsHandedOut, told_in_range}
+use Rattle.rl_parts.specs.Reading.{IsOutside, IsHandedOut, visited_in_range}
 use Rattle.rl_parts.specs.laws.UseLaws.{Looked-then}
 use Rattle.rl_parts.proofs.Handing.{part_more, piece_more}
 use Rattle.rl_parts.proofs.Refusals.{right_on, kept_at}
@@ -26,18 +26,18 @@ loop-part-preserved g c =
     record {
       looked = Looked-then start seen (g.S.Store.seen c.hand_out.new.store) c.loop-part.invariant.looked c.hand_out.ensures.looked;
       unread = λ apart. c.hand_out.ensures.unread (outside apart) ∙ c.loop-part.invariant.unread apart;
-      told = λ apart. more (c.loop-part.invariant.told apart) (c.in_ok-hand_out.ensures.told (outside apart));
+      visited = λ apart. more (c.loop-part.invariant.visited apart) (c.in_ok-hand_out.ensures.visited (outside apart));
       right = λ next kept honest.
           let here = kept_at start seen next c.args.labels.now c.args.parts.now c.loop-part.part-index c.part-item.result c.loop-part-test.true c.part-item.is c.loop-part.invariant.looked kept in
           more (c.loop-part.invariant.right next kept honest) (c.in_ok-hand_out.ensures.right next here (c.loop-part.invariant.looked.honest ∙ honest));
       pieces = piece_more g.T.Taker.taking c.args.labels.now c.args.from c.args.to c.args.parts.now c.loop-part.part-index c.part-item.result c.args.taker.now c.loop-part.taker c.hand_out.new.taker c.loop-part-test.true c.part-item.is c.loop-part.invariant.pieces c.in_ok-hand_out.ensures.piece;
     }
 
-pub returns-clause-told : goal.returns-clause-told
-returns-clause-told g c = λ apart. c.loop-part.invariant.told apart ∙ ap (λ (ps : List PartView). fold g.T.Taker.taking c.args.taker.now (told_in_range c.args.from c.args.to (flat_map (λ part. part.entries) ps))) (take_all c.loop-part.part-index c.args.parts.now c.loop-part-test.false)
+pub returns-clause-visited : goal.returns-clause-visited
+returns-clause-visited g c = λ apart. c.loop-part.invariant.visited apart ∙ ap (λ (ps : List PartView). fold g.T.Taker.taking c.args.taker.now (visited_in_range c.args.from c.args.to (flat_map (λ part. part.entries) ps))) (take_all c.loop-part.part-index c.args.parts.now c.loop-part-test.false)
 
 pub returns-clause-right : goal.returns-clause-right
-returns-clause-right g c = λ next kept honest. c.loop-part.invariant.right next kept honest ∙ ap (λ (ps : List PartView). fold g.T.Taker.taking c.args.taker.now (told_in_range c.args.from c.args.to (flat_map (λ part. part.entries) ps))) (take_all c.loop-part.part-index c.args.parts.now c.loop-part-test.false)
+returns-clause-right g c = λ next kept honest. c.loop-part.invariant.right next kept honest ∙ ap (λ (ps : List PartView). fold g.T.Taker.taking c.args.taker.now (visited_in_range c.args.from c.args.to (flat_map (λ part. part.entries) ps))) (take_all c.loop-part.part-index c.args.parts.now c.loop-part-test.false)
 
 pub returns-clause-pieces : goal.returns-clause-pieces
 returns-clause-pieces g c = subst (λ (ps : List PartView). IsHandedOut g.T.Taker.taking c.args.labels.now c.args.from c.args.to ps c.args.taker.now c.loop-part.taker) (take_all c.loop-part.part-index c.args.parts.now c.loop-part-test.false) c.loop-part.invariant.pieces

@@ -35,8 +35,8 @@ returns-clause-right g c = λ next is honest.
     let chunk = chunk_of entry.labels entries in
     let same : c.in_ok-chunk.chunk ≡ chunk = c.in_ok-chunk.ensures.right (chunk_text Short chunk) chunk honest (is.kept honest) (sym is.digest) is.read in
     let lines : c.as_slice.result.now ≡ map line_of entries = c.as_slice.ensures ∙ ap (λ (ch : Chunk). ch.lines) same in
-    let told : IsTrue c.has_line.result ↔ Contains (map line_of entries) (line_of entry) = subst (λ (ls : List Line). IsTrue c.has_line.result ↔ Contains ls (line_of entry)) lines c.has_line.ensures in
-    (λ t. line_found entry.labels entries entry c.requires.part.run.labels refl (told.0 t), λ there. told.1 (line_there entries entry there))
+    let visited : IsTrue c.has_line.result ↔ Contains (map line_of entries) (line_of entry) = subst (λ (ls : List Line). IsTrue c.has_line.result ↔ Contains ls (line_of entry)) lines c.has_line.ensures in
+    (λ t. line_found entry.labels entries entry c.requires.part.run.labels refl (visited.0 t), λ there. visited.1 (line_there entries entry there))
 
 pub returns-then-not-may_have-clause-no : goal.returns-then-not-may_have-clause-no
 returns-then-not-may_have-clause-no g c = λ found. inl (c.may_have.ensures.absent c.if-not-may_have.true)

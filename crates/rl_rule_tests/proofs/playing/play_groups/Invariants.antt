@@ -6,4 +6,4 @@ use Rattle.rl_rule_tests.proofs.Chains.{Goes}
 use Rattle.rl_rule_tests.proofs.playing.play_groups.Given as goal
 
 abbrev pub invariant-loop-group : goal.invariant-loop-group
-invariant-loop-group g l = Goes (PutsGroup (ruler_of g.E.Engine.calls)) (record { engine = l.fn.engine; counts = counts_of l.fn.told }) l.groups (drop l.group-index l.groups) (record { engine = l.engine; counts = counts_of l.told })
+invariant-loop-group g l = Goes (PutsGroup (ruler_of g.E.Engine.calls)) (record { engine = l.fn.engine; counts = counts_of l.fn.report }) l.groups (drop l.group-index l.groups) (record { engine = l.engine; counts = counts_of l.report })

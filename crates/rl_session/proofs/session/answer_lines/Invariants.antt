@@ -2,7 +2,7 @@
 use Rattle.std.proofs.Common.{length}
 use denote.Text.{Utf8}
 use denote.Shadow.{shadow}
-use Rattle.rl_session.proofs.LinesSoFar.{ToldSoFar}
+use Rattle.rl_session.proofs.LinesSoFar.{ExecutedSoFar}
 use Rattle.rl_session.proofs.session.answer_lines.Given as goal
 
 abbrev pub decreases-loop-reader : goal.decreases-loop-reader
@@ -11,5 +11,5 @@ decreases-loop-reader g l = length l.rest
 abbrev pub invariant-loop-reader : goal.invariant-loop-reader
 invariant-loop-reader g l = record {
   text : shadow (Utf8 l.rest);
-  so_far : ToldSoFar g.E.Engine.calls l.fn.engine l.commands l.rest l.refused (g.W.Write.contents l.fn.out) (g.W.Write.contents l.out) l.engine;
+  so_far : ExecutedSoFar g.E.Engine.calls l.fn.engine l.commands l.rest l.refused (g.W.Write.contents l.fn.out) (g.W.Write.contents l.out) l.engine;
 }

@@ -4,13 +4,13 @@ use Rattle.std.specs.Prelude.{if◌then◌else◌}
 use Rattle.std.specs.List.{fold}
 use Rattle.std.specs.Map.{values_of}
 use Rattle.std.proofs.lemmas.Result.{err_from_is_err_and}
-use Rattle.rl_parts.specs.Reading.{told_in_range}
+use Rattle.rl_parts.specs.Reading.{visited_in_range}
 use Rattle.rl_parts.specs.StreamParts.{entries_of}
 use Rattle.rl_parts.specs.laws.UseLaws.{Looked-then}
-use Rattle.rl_streams.specs.Asking.{told_of, AreOfRow}
+use Rattle.rl_streams.specs.Asking.{visited_of, AreOfRow}
 use Rattle.rl_streams.proofs.RowChanges.{within}
-use Rattle.rl_streams.proofs.Selecting.{AreFrom, chosen_there, from_more, no_place, right_at_all, selected_there, told_at_all}
-use Rattle.rl_streams.proofs.Told.{right_on, kept_there, of_row}
+use Rattle.rl_streams.proofs.Selecting.{AreFrom, chosen_there, from_more, no_place, right_at_all, selected_there, visited_at_all}
+use Rattle.rl_streams.proofs.Visited.{right_on, kept_there, of_row}
 use Rattle.rl_streams.proofs.reading.each.Goals as goal
 
 pub index-requires : goal.index-requires
@@ -35,13 +35,13 @@ loop-place-preserved g c =
     let lines = of_row selector c.args.from c.args.to stream g.T.Taker.taking c.loop-place.taker c.each.new.taker chosen.1 (Ok tt) c.in_ok-each.ensures.pieces in
     record {
       looked = Looked-then start seen (g.S.Store.seen c.each.new.store) before.looked c.each.ensures.looked;
-      told = from_more (AreOfRow selector c.args.from c.args.to) g.T.Taker.taking rows places index 0 c.args.taker.now c.loop-place.taker c.each.new.taker within before.told (lines.0, ((stream.labels, stream), chosen.0, lines.1), lines.2);
+      visited = from_more (AreOfRow selector c.args.from c.args.to) g.T.Taker.taking rows places index 0 c.args.taker.now c.loop-place.taker c.each.new.taker within before.visited (lines.0, ((stream.labels, stream), chosen.0, lines.1), lines.2);
       unread = λ none. absurd (no_place selector rows places index c.requires.places none within);
       right = λ next are honest.
           let kept = kept_there selector c.args.from c.args.to rows (get_or places index 0) stream start seen next are before.looked at in
-          let told = c.in_ok-each.ensures.right next kept (before.looked.honest ∙ honest) in
-          from_more (λ row lines. lines ≡ told_of selector c.args.from c.args.to row.0 row.1) g.T.Taker.taking rows places index 0 c.args.taker.now c.loop-place.taker c.each.new.taker within (before.right next are honest)
-          (told_of selector c.args.from c.args.to stream.labels stream, ((stream.labels, stream), chosen.0, refl), told ∙ ap (λ b. fold g.T.Taker.taking c.loop-place.taker (if b then told_in_range c.args.from c.args.to (entries_of stream) else [])) (sym chosen.1));
+          let visited = c.in_ok-each.ensures.right next kept (before.looked.honest ∙ honest) in
+          from_more (λ row lines. lines ≡ visited_of selector c.args.from c.args.to row.0 row.1) g.T.Taker.taking rows places index 0 c.args.taker.now c.loop-place.taker c.each.new.taker within (before.right next are honest)
+          (visited_of selector c.args.from c.args.to stream.labels stream, ((stream.labels, stream), chosen.0, refl), visited ∙ ap (λ b. fold g.T.Taker.taking c.loop-place.taker (if b then visited_in_range c.args.from c.args.to (entries_of stream) else [])) (sym chosen.1));
     }
 
 pub returns-in_err-each-clause-unread : goal.returns-in_err-each-clause-unread
@@ -55,13 +55,13 @@ returns-in_err-each-clause-right g c = λ next are honest.
     let kept = kept_there c.args.selection.now.selector c.args.from c.args.to rows (get_or c.places-place-items.result.now c.loop-place.place-index 0) c.index.result.now (g.S.Store.seen c.args.store.now) (g.S.Store.seen c.loop-place.store) next are c.loop-place.invariant.looked c.index.ensures in
     rw (p.1, p.2) (right_on c.in_err-each.field-0.0 _ _ (c.in_err-each.ensures.right next kept (c.loop-place.invariant.looked.honest ∙ honest)))
 
-pub returns-clause-told : goal.returns-clause-told
-returns-clause-told g c =
+pub returns-clause-visited : goal.returns-clause-visited
+returns-clause-visited g c =
     let selector = c.args.selection.now.selector in
     let places = c.args.selection.now.places in
     let all = take_all c.loop-place.place-index places (subst (λ ps. length ps ≤ c.loop-place.place-index) c.places-place-items.ensures (omega (arith, c.loop-place-test.false))) in
-    told_at_all selector c.args.from c.args.to g.T.Taker.taking c.args.streams.now.entries places c.args.taker.now c.loop-place.taker c.requires.places
-    (subst (λ ps. AreFrom (AreOfRow selector c.args.from c.args.to) g.T.Taker.taking c.args.streams.now.entries ps c.args.taker.now c.loop-place.taker) all c.loop-place.invariant.told)
+    visited_at_all selector c.args.from c.args.to g.T.Taker.taking c.args.streams.now.entries places c.args.taker.now c.loop-place.taker c.requires.places
+    (subst (λ ps. AreFrom (AreOfRow selector c.args.from c.args.to) g.T.Taker.taking c.args.streams.now.entries ps c.args.taker.now c.loop-place.taker) all c.loop-place.invariant.visited)
 
 pub returns-clause-right : goal.returns-clause-right
 returns-clause-right g c = λ next are honest.
@@ -69,4 +69,4 @@ returns-clause-right g c = λ next are honest.
     let places = c.args.selection.now.places in
     let all = take_all c.loop-place.place-index places (subst (λ ps. length ps ≤ c.loop-place.place-index) c.places-place-items.ensures (omega (arith, c.loop-place-test.false))) in
     right_at_all selector c.args.from c.args.to g.T.Taker.taking c.args.streams.now.entries places c.args.taker.now c.loop-place.taker c.requires.places
-    (subst (λ ps. AreFrom (λ row lines. lines ≡ told_of selector c.args.from c.args.to row.0 row.1) g.T.Taker.taking c.args.streams.now.entries ps c.args.taker.now c.loop-place.taker) all (c.loop-place.invariant.right next are honest))
+    (subst (λ ps. AreFrom (λ row lines. lines ≡ visited_of selector c.args.from c.args.to row.0 row.1) g.T.Taker.taking c.args.streams.now.entries ps c.args.taker.now c.loop-place.taker) all (c.loop-place.invariant.right next are honest))

@@ -2,7 +2,7 @@ use Rattle.std.proofs.Common.{◌≡◌, ℕ, true, false, take}
 use Rattle.std.specs.List.{AllByRecursion}
 use Rattle.rl_labels.specs.Selects.{selects}
 use Rattle.rl_parts.specs.StoreUse.{Looked}
-use Rattle.rl_streams.specs.Asking.{told_of, AreOfRow}
+use Rattle.rl_streams.specs.Asking.{visited_of, AreOfRow}
 use Rattle.rl_streams.specs.StreamRows.{AreStreams}
 use Rattle.rl_streams.proofs.Selecting.{AreFrom}
 use Rattle.rl_streams.proofs.reading.each.Given as goal
@@ -10,8 +10,8 @@ use Rattle.rl_streams.proofs.reading.each.Given as goal
 abbrev pub invariant-loop-place : goal.invariant-loop-place
 invariant-loop-place g l = record {
   looked : Looked (g.S.Store.seen l.fn.store) (g.S.Store.seen l.store);
-  told : AreFrom (AreOfRow l.selection.selector l.from l.to) g.T.Taker.taking l.streams.entries (take l.place-index l.selection.places) l.fn.taker l.taker;
+  visited : AreFrom (AreOfRow l.selection.selector l.from l.to) g.T.Taker.taking l.streams.entries (take l.place-index l.selection.places) l.fn.taker l.taker;
   unread : AllByRecursion (λ row. selects l.selection.selector row.0 ≡ false) l.streams.entries → g.S.Store.seen l.store ≡ g.S.Store.seen l.fn.store;
   right : (next : ℕ) → AreStreams l.streams.entries (g.S.Store.seen l.fn.store) next → (g.S.Store.seen l.fn.store).honest ≡ true
-      → AreFrom (λ row lines. lines ≡ told_of l.selection.selector l.from l.to row.0 row.1) g.T.Taker.taking l.streams.entries (take l.place-index l.selection.places) l.fn.taker l.taker;
+      → AreFrom (λ row lines. lines ≡ visited_of l.selection.selector l.from l.to row.0 row.1) g.T.Taker.taking l.streams.entries (take l.place-index l.selection.places) l.fn.taker l.taker;
 }

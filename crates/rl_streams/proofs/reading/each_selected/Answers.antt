@@ -4,9 +4,9 @@ use Rattle.std.specs.Prelude.{if◌then◌else◌, []}
 use Rattle.std.specs.List.{fold}
 use Rattle.rl_labels.specs.Selects.{selects}
 use Rattle.rl_parts.specs.StreamParts.{entries_of}
-use Rattle.rl_parts.specs.Reading.{told_in_range}
-use Rattle.rl_streams.specs.Asking.{told_of}
-use Rattle.rl_streams.proofs.Told.{right_then}
+use Rattle.rl_parts.specs.Reading.{visited_in_range}
+use Rattle.rl_streams.specs.Asking.{visited_of}
+use Rattle.rl_streams.proofs.Visited.{right_then}
 use Rattle.rl_streams.proofs.reading.each_selected.Goals as goal
 
 pub returns-clause-right : goal.returns-clause-right
@@ -14,5 +14,5 @@ returns-clause-right g c = λ next kept honest.
     let stream = c.args.stream.now in
     let becomes = fold g.T.Taker.taking c.args.taker.now in
     let selected = ap (selects c.args.selector.now) (sym c.labels.ensures) ∙ sym c.in_ok-accepts.ensures.accepts ∙ c.if-not-branch.false in
-    right_then (λ _. c.each.new.taker ≡ becomes (told_in_range c.args.from c.args.to (entries_of stream))) (λ _. c.each.new.taker ≡ becomes (told_of c.args.selector.now c.args.from c.args.to stream.labels stream))
-    (λ _ is. is ∙ ap (λ b. becomes (if b then told_in_range c.args.from c.args.to (entries_of stream) else [])) (sym selected)) c.each.result (c.each.ensures.right next kept honest)
+    right_then (λ _. c.each.new.taker ≡ becomes (visited_in_range c.args.from c.args.to (entries_of stream))) (λ _. c.each.new.taker ≡ becomes (visited_of c.args.selector.now c.args.from c.args.to stream.labels stream))
+    (λ _ is. is ∙ ap (λ b. becomes (if b then visited_in_range c.args.from c.args.to (entries_of stream) else [])) (sym selected)) c.each.result (c.each.ensures.right next kept honest)

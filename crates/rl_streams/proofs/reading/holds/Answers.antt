@@ -1,7 +1,7 @@
 -- The entry is held by the stream of its labels, or by none.
 use Rattle.std.proofs.Common.{sym}
 use Rattle.rl_streams.proofs.Held.{not_held}
-use Rattle.rl_streams.proofs.Told.{not_others, found_at}
+use Rattle.rl_streams.proofs.Visited.{not_others, found_at}
 use Rattle.rl_streams.proofs.reading.holds.Goals as goal
 
 pub returns-in-None-clause-right : goal.returns-in-None-clause-right

@@ -2,8 +2,8 @@
 use Rattle.std.proofs.Common.{rules, ◌∙◌}
 use Rattle.std.specs.Cmp.Rules.{comparing}
 use Rattle.rl_labels.specs.laws.OrderLaws.{operators_tie, matcher_cmp_total, matcher_cmp-IsAntisymmetric}
-use Rattle.rl_labels.proofs.Sameness.{told_by_order}
+use Rattle.rl_labels.proofs.Sameness.{same_by_order}
 use Rattle.rl_labels.proofs.matcher.MatcherSame.is_same.Goals as goal
 
 pub returns : goal.returns
-returns c = told_by_order matcher_cmp_total matcher_cmp-IsAntisymmetric c.args.self.now c.args.other.now c.eq.result (c.eq.ensures ∙ search (operators_tie, comparing, rules))
+returns c = same_by_order matcher_cmp_total matcher_cmp-IsAntisymmetric c.args.self.now c.args.other.now c.eq.result (c.eq.ensures ∙ search (operators_tie, comparing, rules))

@@ -25,10 +25,10 @@ pub returns-in-InStore-clause-yes : goal.returns-in-InStore-clause-yes
 returns-in-InStore-clause-yes g c =
     let written = c.in-InStore.written in
     let here : part_at (InStore written) ≡ c.args.self.now = ap part_at (sym c.in-InStore.is) ∙ c.self.view_is in
-    ok_then _ (λ found. found ≡ true → IsWith c.args.entry.now c.args.self.now) (λ found told t. subst (IsWith c.args.entry.now) here (record { number = written.number; digest = written.digest }, refl, told t)) c.has_written.result c.has_written.ensures.yes
+    ok_then _ (λ found. found ≡ true → IsWith c.args.entry.now c.args.self.now) (λ found visited t. subst (IsWith c.args.entry.now) here (record { number = written.number; digest = written.digest }, refl, visited t)) c.has_written.result c.has_written.ensures.yes
 
 pub returns-in-InStore-clause-no : goal.returns-in-InStore-clause-no
 returns-in-InStore-clause-no g c =
     let written = c.in-InStore.written in
     let here : part_at (InStore written) ≡ c.args.self.now = ap part_at (sym c.in-InStore.is) ∙ c.self.view_is in
-    ok_then _ (λ found. found ≡ false → IsWithout c.args.entry.now c.args.self.now) (λ found told f. subst (IsWithout c.args.entry.now) here (told f)) c.has_written.result c.has_written.ensures.no
+    ok_then _ (λ found. found ≡ false → IsWithout c.args.entry.now c.args.self.now) (λ found visited f. subst (IsWithout c.args.entry.now) here (visited f)) c.has_written.result c.has_written.ensures.no

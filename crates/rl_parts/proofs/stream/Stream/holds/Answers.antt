@@ -65,8 +65,8 @@ returns-clause-right g c = λ next kept honest.
     let of : c.self.inside.labels ≡ entry.labels = ap (λ (s : StreamView). s.labels) c.self.view_is ∙ sym c.requires in
     let now : AllByRecursion (IsKept seen next entry.labels) c.deref-3.result.now = subst (λ (ps : List PartView). AllByRecursion (IsKept seen next entry.labels) ps) (sym c.deref-3.ensures.value) (subst (λ (set : LabelSet). AllByRecursion (IsKept seen next set) parts) of are) in
     right_then (λ found. IsTrue found ↔ Contains (flat_map in_store c.deref-3.result.now) entry) (λ found. IsTrue found ↔ Contains (entries_of c.args.self.now) entry)
-    (λ found told. subst (λ (s : StreamView). IsTrue found ↔ Contains (entries_of s) entry) c.self.view_is
-    (of_rest parts head entry no_head no_memory found (subst (λ (ps : List PartView). IsTrue found ↔ Contains (flat_map in_store ps) entry) c.deref-3.ensures.value told)))
+    (λ found visited. subst (λ (s : StreamView). IsTrue found ↔ Contains (entries_of s) entry) c.self.view_is
+    (of_rest parts head entry no_head no_memory found (subst (λ (ps : List PartView). IsTrue found ↔ Contains (flat_map in_store ps) entry) c.deref-3.ensures.value visited)))
     c.any_there.result (c.any_there.ensures.right next now honest)
 
 pub returns-then-has_entry-clause-yes : goal.returns-then-has_entry-clause-yes
@@ -88,10 +88,10 @@ pub returns-clause-yes : goal.returns-clause-yes
 returns-clause-yes g c =
     let parts : c.deref-3.result.now ≡ c.args.self.now.parts = c.deref-3.ensures.value ∙ ap (λ (s : StreamView). s.parts) c.self.view_is in
     ok_then _ (λ found. found ≡ true → Contains (entries_here c.args.self.now) c.args.entry.now ⊎ ((part : PartView) × Contains c.args.self.now.parts part × IsWith c.args.entry.now part))
-    (λ found told t. let at = told t in inr (at.0, subst (λ (ps : List PartView). Contains ps at.0) parts at.1, at.2)) c.any_there.result c.any_there.ensures.yes
+    (λ found visited t. let at = visited t in inr (at.0, subst (λ (ps : List PartView). Contains ps at.0) parts at.1, at.2)) c.any_there.result c.any_there.ensures.yes
 
 pub returns-clause-no : goal.returns-clause-no
 returns-clause-no g c =
     let parts : c.deref-3.result.now ≡ c.args.self.now.parts = c.deref-3.ensures.value ∙ ap (λ (s : StreamView). s.parts) c.self.view_is in
     ok_then _ (λ found. found ≡ false → AllByRecursion (IsWithout c.args.entry.now) c.args.self.now.parts)
-    (λ found told f. subst (λ (ps : List PartView). AllByRecursion (IsWithout c.args.entry.now) ps) parts (told f)) c.any_there.result c.any_there.ensures.no
+    (λ found visited f. subst (λ (ps : List PartView). AllByRecursion (IsWithout c.args.entry.now) ps) parts (visited f)) c.any_there.result c.any_there.ensures.no

@@ -5,13 +5,13 @@ use Rattle.std.specs.List.{fold}
 use Rattle.std.specs.Map.{keys_of}
 use Rattle.std.proofs.lemmas.List.{length-map}
 use Rattle.rl_parts.specs.StoreUse.{Right}
-use Rattle.rl_streams.specs.Asking.{NoneSelected, AreTold, AreToldOnce, told_by}
+use Rattle.rl_streams.specs.Asking.{NoneSelected, AreVisited, AreVisitedOnce, visited_by}
 use Rattle.rl_streams.specs.StreamsState.{StreamsView, view_of}
 use Rattle.rl_streams.specs.HeldSet.{set_of}
 use Rattle.rl_streams.specs.Selected.{SelectionView}
 use Rattle.rl_streams.specs.StreamRows.{Row, joined, newest_in, newest_map}
 use Rattle.rl_streams.proofs.Selecting.{all_places, found_is, kept_there}
-use Rattle.rl_streams.proofs.Told.{right_then, told_once, rows_not_selected}
+use Rattle.rl_streams.proofs.Visited.{right_then, visited_once, rows_not_selected}
 use Rattle.rl_streams.proofs.Whole.{looked_whole}
 use Rattle.rl_streams.proofs.streams.Streams.each.Goals as goal
 
@@ -36,11 +36,11 @@ returns-clause-unread g c = λ none.
     let same = c.each.ensures.unread (rows_not_selected c.at-selection.result.now.selector s.streams.entries (subst (λ matchers. NoneSelected matchers (newest_map (newest_in s.streams.entries))) (sym chosen) (subst (λ (view : StreamsView). NoneSelected c.args.selector.now view.newest) (sym c.self.view_is) none))) in
     ap (λ seen. view_of s.limits s.streams.entries seen s.next) same ∙ c.self.view_is
 
-pub returns-clause-told : goal.returns-clause-told
-returns-clause-told g c =
+pub returns-clause-visited : goal.returns-clause-visited
+returns-clause-visited g c =
     let chosen = found_is (λ (one : SelectionView). one.selector) c.select.new.self c.in_ok-place.place c.at-selection.result.now c.args.selector.now c.at-selection.ensures c.in_ok-place.ensures.found in
-    subst (λ (view : StreamsView). OnOk c.each.result (AreTold g.T.Taker.taking c.args.selector.now c.args.from c.args.to view.rows c.args.taker.now c.each.new.taker)) c.self.view_is
-    (subst (λ matchers. OnOk c.each.result (AreTold g.T.Taker.taking matchers c.args.from c.args.to c.self.inside.streams.entries c.args.taker.now c.each.new.taker)) chosen c.each.ensures.told)
+    subst (λ (view : StreamsView). OnOk c.each.result (AreVisited g.T.Taker.taking c.args.selector.now c.args.from c.args.to view.rows c.args.taker.now c.each.new.taker)) c.self.view_is
+    (subst (λ matchers. OnOk c.each.result (AreVisited g.T.Taker.taking matchers c.args.from c.args.to c.self.inside.streams.entries c.args.taker.now c.each.new.taker)) chosen c.each.ensures.visited)
 
 pub returns-clause-right : goal.returns-clause-right
 returns-clause-right g c =
@@ -49,7 +49,7 @@ returns-clause-right g c =
     let before = c.args.taker.now in
     let after = c.each.new.taker in
     let chosen = found_is (λ (one : SelectionView). one.selector) c.select.new.self c.in_ok-place.place c.at-selection.result.now c.args.selector.now c.at-selection.ensures c.in_ok-place.ensures.found in
-    subst (λ (view : StreamsView). view.seen.honest ≡ true → Right c.each.result (λ _. AreToldOnce c.args.selector.now c.args.from c.args.to view.held g.T.Taker.taking before after)) c.self.view_is
-    (subst (λ matchers. (g.S.Store.seen s.store).honest ≡ true → Right c.each.result (λ _. AreToldOnce matchers c.args.from c.args.to (set_of (joined rows)) g.T.Taker.taking before after)) chosen
-    (λ honest. right_then (λ _. after ≡ fold g.T.Taker.taking before (told_by c.at-selection.result.now.selector c.args.from c.args.to rows)) (λ _. AreToldOnce c.at-selection.result.now.selector c.args.from c.args.to (set_of (joined rows)) g.T.Taker.taking before after)
-    (λ _ is. told_once g.T.Taker.taking c.at-selection.result.now.selector c.args.from c.args.to rows before after c.self.invariant.0.streams.own (c.self.invariant.0.streams.once honest) is) c.each.result (c.each.ensures.right s.next c.self.invariant.0.streams honest)))
+    subst (λ (view : StreamsView). view.seen.honest ≡ true → Right c.each.result (λ _. AreVisitedOnce c.args.selector.now c.args.from c.args.to view.held g.T.Taker.taking before after)) c.self.view_is
+    (subst (λ matchers. (g.S.Store.seen s.store).honest ≡ true → Right c.each.result (λ _. AreVisitedOnce matchers c.args.from c.args.to (set_of (joined rows)) g.T.Taker.taking before after)) chosen
+    (λ honest. right_then (λ _. after ≡ fold g.T.Taker.taking before (visited_by c.at-selection.result.now.selector c.args.from c.args.to rows)) (λ _. AreVisitedOnce c.at-selection.result.now.selector c.args.from c.args.to (set_of (joined rows)) g.T.Taker.taking before after)
+    (λ _ is. visited_once g.T.Taker.taking c.at-selection.result.now.selector c.args.from c.args.to rows before after c.self.invariant.0.streams.own (c.self.invariant.0.streams.once honest) is) c.each.result (c.each.ensures.right s.next c.self.invariant.0.streams honest)))

@@ -4,10 +4,10 @@ use Rattle.std.specs.List.{fold}
 use Rattle.rl_parts.specs.StoreUse.{Right}
 use Rattle.rl_parts.specs.laws.TakerLaws.{fold-pushed}
 use Rattle.rl_parts.specs.laws.UseLaws.{Looked-none}
-use Rattle.rl_streams.specs.Asking.{told_of, told_at}
+use Rattle.rl_streams.specs.Asking.{visited_of, visited_at}
 use Rattle.rl_streams.specs.StreamRows.{by_stream}
 use Rattle.rl_streams.specs.StreamsState.{StreamsView, order_of}
-use Rattle.rl_streams.proofs.Told.{right_then, told_here, kept_there}
+use Rattle.rl_streams.proofs.Visited.{right_then, visited_here, kept_there}
 use Rattle.rl_streams.proofs.streams.Streams.hand_out.Goals as goal
 
 pub returns-clause-right : goal.returns-clause-right
@@ -19,7 +19,7 @@ returns-clause-right g c =
     let selector = c.args.selector.now in
     let before = c.args.lines.now in
     let after = c.each_selected.new.taker in
-    subst (λ (view : StreamsView). view.seen.honest ≡ true → Right c.each_selected.result (λ _. after ≡ before ++ told_at selector c.args.from c.args.to (order_of view) c.args.place)) c.self.view_is
-    (λ honest. right_then (λ _. after ≡ fold (λ lines line. lines ++ line ∷ []) before (told_of selector c.args.from c.args.to stream.labels stream)) (λ _. after ≡ before ++ told_at selector c.args.from c.args.to (by_stream rows) c.args.place)
-    (λ _ is. is ∙ fold-pushed before (told_of selector c.args.from c.args.to stream.labels stream) ∙ ap (λ l. before ++ l) (told_here selector c.args.from c.args.to rows c.args.place stream c.self.invariant.0.streams.own c.index.ensures)) c.each_selected.result
+    subst (λ (view : StreamsView). view.seen.honest ≡ true → Right c.each_selected.result (λ _. after ≡ before ++ visited_at selector c.args.from c.args.to (order_of view) c.args.place)) c.self.view_is
+    (λ honest. right_then (λ _. after ≡ fold (λ lines line. lines ++ line ∷ []) before (visited_of selector c.args.from c.args.to stream.labels stream)) (λ _. after ≡ before ++ visited_at selector c.args.from c.args.to (by_stream rows) c.args.place)
+    (λ _ is. is ∙ fold-pushed before (visited_of selector c.args.from c.args.to stream.labels stream) ∙ ap (λ l. before ++ l) (visited_here selector c.args.from c.args.to rows c.args.place stream c.self.invariant.0.streams.own c.index.ensures)) c.each_selected.result
     (c.each_selected.ensures.right s.next (kept_there selector c.args.from c.args.to rows c.args.place stream seen seen s.next c.self.invariant.0.streams (Looked-none seen) c.index.ensures) honest))

@@ -6,7 +6,7 @@ use Rattle.rl_parts.specs.StoreUse.{Right}
 use Rattle.rl_streams.specs.StreamRows.{joined, is_among}
 use Rattle.rl_streams.specs.StreamsState.{StreamsView, view_of}
 use Rattle.rl_streams.specs.laws.HeldLaws.{contains_key-of_list}
-use Rattle.rl_streams.proofs.Told.{right_then, rows_others}
+use Rattle.rl_streams.proofs.Visited.{right_then, rows_others}
 use Rattle.rl_streams.proofs.Whole.{looked_whole}
 use Rattle.rl_streams.proofs.streams.Streams.holds.Goals as goal
 

@@ -7,7 +7,7 @@ use Rattle.rl_streams.specs.StreamRows.{Row, joined}
 use Rattle.rl_streams.specs.StreamsState.{IsWhole, StreamsView, view_of}
 use Rattle.rl_streams.specs.Rewritten.{AreLeftIn, Rewrites, rewritten, without}
 use Rattle.rl_streams.proofs.Leaving.{held_rewritten, view_rewritten, whole_rewritten}
-use Rattle.rl_streams.proofs.Plans.{fewer_rewritten, keys_rewritten, told_rewritten}
+use Rattle.rl_streams.proofs.Plans.{fewer_rewritten, keys_rewritten, rewritten_left}
 use Rattle.rl_streams.proofs.streams.Streams.rewrite.Goals as goal
 
 pub count-self-inside-requires : goal.count-self-inside-requires
@@ -58,8 +58,8 @@ returns-clause-rewritten g c =
     (subst (λ (rs : List Row). Rewrites (view_of s.limits rows before s.next) (view_of s.limits rs after next)) (sym streams)
     (view_rewritten s.limits rows s.next s.count before next seen c.self.invariant.0 made.grown made.next covers plans after made.of made.planned c.carry_out_all.ensures.removed))
 
-pub returns-clause-told : goal.returns-clause-told
-returns-clause-told g c =
+pub returns-clause-visited : goal.returns-clause-visited
+returns-clause-visited g c =
     let s = c.self.inside in
     let rows = s.streams.entries in
     let before = g.S.Store.seen s.store in
@@ -71,7 +71,7 @@ returns-clause-told g c =
     let covers = g.C.Covers.covers c.args.covered.now in
     let streams : c.carry_out_all.new.streams.entries ≡ rewritten rows plans = c.carry_out_all.ensures.streams in
     subst (λ (old : StreamsView). AreLeftIn covers old.rows c.carry_out_all.new.streams.entries) c.self.view_is
-    (subst (λ (rs : List Row). AreLeftIn covers rows rs) (sym streams) (told_rewritten covers rows plans made.of made.planned.told))
+    (subst (λ (rs : List Row). AreLeftIn covers rows rs) (sym streams) (rewritten_left covers rows plans made.of made.planned.visited))
 
 pub returns-clause-right : goal.returns-clause-right
 returns-clause-right g c =

@@ -1,8 +1,8 @@
 -- A group closes its evaluation, or refuses.
 use Rattle.std.proofs.Common.{arith, ap}
 use Rattle.std.proofs.lemmas.Option.{slice_get_read}
-use Rattle.rl_world.specs.WorldRun.{told}
-use Rattle.rl_world.proofs.Turning.{abandon_turn, abandon_refused, told_same}
+use Rattle.rl_world.specs.WorldRun.{offers}
+use Rattle.rl_world.proofs.Turning.{abandon_turn, abandon_refused, offers_same}
 use Rattle.rl_world.proofs.parts.WorldParts.abandon.Goals as goal
 
 pub returns-in-Ok-clause-step : goal.returns-in-Ok-clause-step
@@ -15,7 +15,7 @@ pub returns-in-Ok-clause-sinks : goal.returns-in-Ok-clause-sinks
 returns-in-Ok-clause-sinks g c =
     let books = c.args.self.now.books.items in
     let there = slice_get_read books c.len.result c.args.group c.index_mut-book.result.now (omega (arith, c.len.ensures, c.args.self.now.books.ok.0)) c.if-group-len.false c.index_mut-book.ensures.value in
-    told_same c.args.self.now.shards.items books c.args.group c.index_mut-book.result.now c.abandon.new.self there (ap told c.in-Ok.ensures.ok)
+    offers_same c.args.self.now.shards.items books c.args.group c.index_mut-book.result.now c.abandon.new.self there (ap offers c.in-Ok.ensures.ok)
 
 pub returns-in-Err-clause-step : goal.returns-in-Err-clause-step
 returns-in-Err-clause-step g c =

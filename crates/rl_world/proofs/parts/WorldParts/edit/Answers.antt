@@ -4,10 +4,10 @@ use Rattle.std.proofs.lemmas.Grind.{common_steps}
 use Rattle.std.proofs.lemmas.Option.{slice_get_read}
 use Rattle.rl_labels.specs.Name.{is_text}
 use Rattle.rl_rules.specs.declared.rule.Group.{Group}
-use Rattle.rl_world.specs.WorldRun.{told}
+use Rattle.rl_world.specs.WorldRun.{offers}
 use Rattle.rl_world.specs.WorldState.{BookState}
 use Rattle.rl_world.proofs.Gathering.{same_read}
-use Rattle.rl_world.proofs.Turning.{edit_turn, edit_refused, told_same}
+use Rattle.rl_world.proofs.Turning.{edit_turn, edit_refused, offers_same}
 use Rattle.rl_world.proofs.parts.WorldParts.edit.Goals as goal
 
 pub returns-in-Ok-clause-step : goal.returns-in-Ok-clause-step
@@ -26,7 +26,7 @@ returns-in-Ok-clause-sinks g c =
     let books = c.args.self.now.books.items in
     let book = c.index_mut-book.result.now in
     let there = slice_get_read books c.len.result c.args.group book (omega (arith, c.len.ensures, c.args.self.now.books.ok.0)) c.if-group-len.false c.index_mut-book.ensures.value in
-    told_same c.args.self.now.shards.items books c.args.group book c.edit.new.self there (ap told c.in-Ok.ensures.ok)
+    offers_same c.args.self.now.shards.items books c.args.group book c.edit.new.self there (ap offers c.in-Ok.ensures.ok)
 
 pub returns-in-Err-clause-step : goal.returns-in-Err-clause-step
 returns-in-Err-clause-step g c =

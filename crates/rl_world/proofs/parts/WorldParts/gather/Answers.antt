@@ -7,10 +7,10 @@ use Rattle.rl_shard.specs.ShardStep.{is_journal_full}
 use Rattle.rl_shard.specs.declared.step.ShardReply.TheVariants as shard_replies
 use Rattle.rl_world.specs.BookCalls.{with_history}
 use Rattle.rl_world.specs.History.{gather_fault, gathered}
-use Rattle.rl_world.specs.WorldRun.{told}
+use Rattle.rl_world.specs.WorldRun.{offers}
 use Rattle.rl_world.specs.WorldState.{BookState, IsBookOf}
 use Rattle.rl_world.proofs.Gathering.{book_shown, fits_put, fits_both, gather_refused, gather_turn, same_read, stores_gathered, stores_not_gathered}
-use Rattle.rl_world.proofs.Turning.{each_at, refused_ok, told_same}
+use Rattle.rl_world.proofs.Turning.{each_at, refused_ok, offers_same}
 use Rattle.rl_world.proofs.parts.WorldParts.gather.Goals as goal
 
 pub returns-in-Err-ask-clause-refused : goal.returns-in-Err-ask-clause-refused
@@ -95,4 +95,4 @@ returns-in-Ok-put_partials-clause-sinks g c =
     let books = c.args.self.now.books.items in
     let book = c.index_mut-book.result.now in
     let there = slice_get_read books c.len.result c.args.group book (omega (arith, c.len.ensures, c.args.self.now.books.ok.0)) c.if-group-len.false c.index_mut-book.ensures.value in
-    told_same shards books c.args.group book c.put_partials.new.self there (ap told c.in-Ok-put_partials.ensures.ok)
+    offers_same shards books c.args.group book c.put_partials.new.self there (ap offers c.in-Ok-put_partials.ensures.ok)

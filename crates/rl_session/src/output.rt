@@ -92,7 +92,7 @@ fn answer_of(refused: bool) -> Answer
 }
 
 /// Prints the result of a command. What becomes of the command.
-pub(crate) fn tell<W: Write>(got: &Got, out: &mut W) -> io::Result<Answer>
+pub(crate) fn write_result<W: Write>(got: &Got, out: &mut W) -> io::Result<Answer>
     ensures text { OnOk result (Appends (W.contents out.old) (W.contents out.new) (printed got.now)) }
     ensures answer { IfOk result (λ answer. answer ≡ answer_to got.now) }
 {
@@ -107,15 +107,15 @@ fn print<W: Write>(got: &Got, out: &mut W) -> io::Result<()>
     match got {
         Got::Refused => refuse(out, "BadCommand"),
         Got::Unread(error) => refuse_push(out, push_error_name(*error)),
-        Got::Pushed(answers) => tell_pushed(answers, out),
-        Got::Unpushed(count) => tell_none_pushed(*count, out),
+        Got::Pushed(answers) => write_pushed(answers, out),
+        Got::Unpushed(count) => write_none_pushed(*count, out),
         Got::NoSelector(error) => refuse(out, query_error_name(*error)),
-        Got::Asked(asked) => tell_asked(asked, out),
+        Got::Asked(asked) => write_asked(asked, out),
         Got::Edited(Ok(())) => out.write_all(b"ok\n"),
         Got::Edited(Err(refusal)) => refuse(out, edit_refusal_name(*refusal)),
-        Got::Evaluated(result) => tell_evaluated(result, out),
-        Got::Ticked(results) => tell_ticked(results, out),
-        Got::CaughtUp(result) => tell_caught_up(result, out),
+        Got::Evaluated(result) => write_evaluated(result, out),
+        Got::Ticked(results) => write_ticked(results, out),
+        Got::CaughtUp(result) => write_caught_up(result, out),
     }
 }
 
@@ -132,12 +132,12 @@ fn refuse_push<W: Write>(out: &mut W, name: &str) -> io::Result<()>
 }
 
 // Prints how many entries were accepted, and each of the others with its number and its refusal.
-fn tell_pushed<W: Write>(answers: &[Result<ShardReply, Refusal>], out: &mut W) -> io::Result<()>
+fn write_pushed<W: Write>(answers: &[Result<ShardReply, Refusal>], out: &mut W) -> io::Result<()>
     ensures { OnOk result (Appends (W.contents out.old) (W.contents out.new) (pushed_text answers.now)) }
 {
     let refused = answers.iter().filter(|answer| is_refused(answer)).count();
-    tell_counts(answers.len() - refused, refused, out)?;
-    tell_refusals(answers, out)
+    write_counts(answers.len() - refused, refused, out)?;
+    write_refusals(answers, out)
 }
 
 fn is_refused(answer: &Result<ShardReply, Refusal>) -> bool
@@ -147,7 +147,7 @@ fn is_refused(answer: &Result<ShardReply, Refusal>) -> bool
 }
 
 // Prints how many entries were accepted, and how many refused if some were.
-fn tell_counts<W: Write>(accepted: usize, refused: usize, out: &mut W) -> io::Result<()>
+fn write_counts<W: Write>(accepted: usize, refused: usize, out: &mut W) -> io::Result<()>
     ensures { OnOk result (Appends (W.contents out.old) (W.contents out.new) (counts_line accepted refused)) }
 {
     if refused == 0 {
@@ -158,54 +158,54 @@ fn tell_counts<W: Write>(accepted: usize, refused: usize, out: &mut W) -> io::Re
 }
 
 // Prints the number and the refusal of each entry that was refused.
-fn tell_refusals<W: Write>(answers: &[Result<ShardReply, Refusal>], out: &mut W) -> io::Result<()>
+fn write_refusals<W: Write>(answers: &[Result<ShardReply, Refusal>], out: &mut W) -> io::Result<()>
     ensures { OnOk result (Appends (W.contents out.old) (W.contents out.new) (entry_lines 0 answers.now)) }
 {
     for (number, answer) in answers.iter().enumerate() {
         if let Some(name) = push_refusal(answer) {
-            tell_refusal(number, name, out)?;
+            write_refusal(number, name, out)?;
         }
     }
     Ok(())
 }
 
-fn tell_refusal<W: Write>(number: usize, name: &str, out: &mut W) -> io::Result<()>
+fn write_refusal<W: Write>(number: usize, name: &str, out: &mut W) -> io::Result<()>
     ensures { OnOk result (Appends (W.contents out.old) (W.contents out.new) (entry_line number (Some name.now))) }
 {
     writeln!(out, "  {number} {name}")
 }
 
 // Prints that there was no memory for any of `count` entries.
-fn tell_none_pushed<W: Write>(count: usize, out: &mut W) -> io::Result<()>
+fn write_none_pushed<W: Write>(count: usize, out: &mut W) -> io::Result<()>
     ensures { OnOk result (Appends (W.contents out.old) (W.contents out.new) (pushed_text (none_pushed count))) }
 {
-    tell_counts(0, count, out)?;
-    tell_each_refused(count, out)
+    write_counts(0, count, out)?;
+    write_each_refused(count, out)
 }
 
 // Prints of each of `count` entries that there was no memory for it.
-fn tell_each_refused<W: Write>(count: usize, out: &mut W) -> io::Result<()>
+fn write_each_refused<W: Write>(count: usize, out: &mut W) -> io::Result<()>
     ensures { OnOk result (Appends (W.contents out.old) (W.contents out.new) (entry_lines 0 (none_pushed count))) }
 {
     for number in 0..count {
-        tell_refusal(number, "Memory", out)?;
+        write_refusal(number, "Memory", out)?;
     }
     Ok(())
 }
 
 // Prints whether each shard decided a step, or how many did and why the next one did not.
-fn tell_asked<W: Write>(asked: &Result<Option<ShardReply>, Partly>, out: &mut W) -> io::Result<()>
+fn write_asked<W: Write>(asked: &Result<Option<ShardReply>, Partly>, out: &mut W) -> io::Result<()>
     ensures { OnOk result (Appends (W.contents out.old) (W.contents out.new) (asked_text asked.now)) }
 {
     match asked {
         Ok(None) => out.write_all(b"ok\n"),
-        Ok(Some(reply)) => tell_decided(shard_refusal(reply), out),
-        Err(partly) => tell_partly(partly.done, refusal_name(partly.refusal), out),
+        Ok(Some(reply)) => write_decided(shard_refusal(reply), out),
+        Err(partly) => write_partly(partly.done, refusal_name(partly.refusal), out),
     }
 }
 
 // Prints why a shard refused, if it did.
-fn tell_decided<W: Write>(refusal: Option<&'static str>, out: &mut W) -> io::Result<()>
+fn write_decided<W: Write>(refusal: Option<&'static str>, out: &mut W) -> io::Result<()>
     ensures { OnOk result (Appends (W.contents out.old) (W.contents out.new) (decided_text (option_map (λ name. name.now) refusal.entry))) }
 {
     match refusal {
@@ -214,37 +214,37 @@ fn tell_decided<W: Write>(refusal: Option<&'static str>, out: &mut W) -> io::Res
     }
 }
 
-fn tell_partly<W: Write>(done: u64, name: &str, out: &mut W) -> io::Result<()>
+fn write_partly<W: Write>(done: u64, name: &str, out: &mut W) -> io::Result<()>
     ensures { OnOk result (Appends (W.contents out.old) (W.contents out.new) (partly_line done name.now)) }
 {
     writeln!(out, "partly {done} {name}")
 }
 
 // Prints what the groups that were due gave, if some were.
-fn tell_ticked<W: Write>(results: &[Result<Committed, Refusal>], out: &mut W) -> io::Result<()>
+fn write_ticked<W: Write>(results: &[Result<Committed, Refusal>], out: &mut W) -> io::Result<()>
     ensures { OnOk result (Appends (W.contents out.old) (W.contents out.new) (ticked_text results.now)) }
 {
     if results.is_empty() {
         return out.write_all(b"ok\n");
     }
     for evaluated in results {
-        tell_evaluated(evaluated, out)?;
+        write_evaluated(evaluated, out)?;
     }
     Ok(())
 }
 
 // Prints what an evaluation found, or why it was refused.
-fn tell_evaluated<W: Write>(evaluated: &Result<Committed, Refusal>, out: &mut W) -> io::Result<()>
+fn write_evaluated<W: Write>(evaluated: &Result<Committed, Refusal>, out: &mut W) -> io::Result<()>
     ensures { OnOk result (Appends (W.contents out.old) (W.contents out.new) (evaluated_text evaluated.now)) }
 {
     match evaluated {
-        Ok(committed) => tell_committed(committed, out),
+        Ok(committed) => write_committed(committed, out),
         Err(refusal) => refuse(out, refusal_name(*refusal)),
     }
 }
 
 // Prints what an evaluation found, and which sinks are behind.
-fn tell_committed<W: Write>(committed: &Committed, out: &mut W) -> io::Result<()>
+fn write_committed<W: Write>(committed: &Committed, out: &mut W) -> io::Result<()>
     ensures { OnOk result (Appends (W.contents out.old) (W.contents out.new) (committed_text committed.now)) }
 {
     write_tail(out, committed.evaluation.get())?;
@@ -252,7 +252,7 @@ fn tell_committed<W: Write>(committed: &Committed, out: &mut W) -> io::Result<()
 }
 
 // Prints which sinks are behind, or that none is.
-fn tell_caught_up<W: Write>(caught: &Result<PlainList<u64>, Refusal>, out: &mut W) -> io::Result<()>
+fn write_caught_up<W: Write>(caught: &Result<PlainList<u64>, Refusal>, out: &mut W) -> io::Result<()>
     ensures { OnOk result (Appends (W.contents out.old) (W.contents out.new) (caught_up_text caught.now)) }
 {
     match caught {
@@ -270,11 +270,11 @@ fn write_behind<W: Write>(behind: &[u64], out: &mut W) -> io::Result<()>
         return Ok(());
     }
     out.write_all(b"behind")?;
-    tell_numbers(behind, out)?;
+    write_numbers(behind, out)?;
     out.write_all(b"\n")
 }
 
-fn tell_numbers<W: Write>(numbers: &[u64], out: &mut W) -> io::Result<()>
+fn write_numbers<W: Write>(numbers: &[u64], out: &mut W) -> io::Result<()>
     ensures { OnOk result (Appends (W.contents out.old) (W.contents out.new) (flat_map number_text numbers.now)) }
 {
     for number in numbers {
@@ -284,16 +284,16 @@ fn tell_numbers<W: Write>(numbers: &[u64], out: &mut W) -> io::Result<()>
 }
 
 /// Prints whether the sinks were closed.
-pub(crate) fn tell_closed<W: Write>(closed: &Result<u64, Refusal>, out: &mut W) -> io::Result<()>
+pub(crate) fn write_closed<W: Write>(closed: &Result<u64, Refusal>, out: &mut W) -> io::Result<()>
     ensures { OnOk result (Appends (W.contents out.old) (W.contents out.new) (closed_text closed.now)) }
 {
     match closed {
         Ok(_failed) => out.write_all(b"closed\n"),
-        Err(refusal) => tell_not_closed(refusal_name(*refusal), out),
+        Err(refusal) => write_not_closed(refusal_name(*refusal), out),
     }
 }
 
-fn tell_not_closed<W: Write>(name: &str, out: &mut W) -> io::Result<()>
+fn write_not_closed<W: Write>(name: &str, out: &mut W) -> io::Result<()>
     ensures { OnOk result (Appends (W.contents out.old) (W.contents out.new) (not_closed_line name.now)) }
 {
     writeln!(out, "not closed {name}")

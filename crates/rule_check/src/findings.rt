@@ -13,44 +13,44 @@ pub(crate) struct Report {
 
 /// Why nothing can be reported: memory ran out.
 #[derive(Debug, Drop)]
-pub(crate) struct Untold;
+pub(crate) struct OutOfMemory;
 
-impl From<AllocError> for Untold {
+impl From<AllocError> for OutOfMemory {
     fn from(_error: AllocError) -> Self {
-        Untold
+        OutOfMemory
     }
 }
 
-impl<T: Drop> From<AllocFailed<T>> for Untold {
+impl<T: Drop> From<AllocFailed<T>> for OutOfMemory {
     fn from(_error: AllocFailed<T>) -> Self {
-        Untold
+        OutOfMemory
     }
 }
 
-impl From<fmt::Error> for Untold {
+impl From<fmt::Error> for OutOfMemory {
     fn from(_error: fmt::Error) -> Self {
-        Untold
+        OutOfMemory
     }
 }
 
 /// The faults that are reported so far.
 #[derive(Drop)]
-pub(crate) struct Told {
+pub(crate) struct Findings {
     pub(crate) text: String,
     pub(crate) count: usize,
 }
 
-impl Told {
+impl Findings {
     /// None.
     pub(crate) fn new(alloc: Global) -> Self {
-        Told {
+        Findings {
             text: String::new(alloc),
             count: 0,
         }
     }
 
     /// Begins one more, with its position. The caller writes the rest of its line.
-    pub(crate) fn begin(&mut self, place: &Place<'_>) -> Result<(), Untold> {
+    pub(crate) fn begin(&mut self, place: &Place<'_>) -> Result<(), OutOfMemory> {
         self.count = self.count.saturating_add(1);
         push_place(&mut self.text, place)
     }

@@ -8,18 +8,18 @@ use std::alloc::{AllocError, Global};
 
 /// What is printed so far, and how many checks passed and failed. What a ruler refuses is one failure more.
 #[derive(Drop)]
-pub struct Told {
+pub struct Report {
     pub text: String,
     pub passed: u64,
     pub failed: u64,
 }
 
-impl Told {
+impl Report {
     /// Nothing printed, and no checks.
-    pub fn new(alloc: Global) -> Told
+    pub fn new(alloc: Global) -> Report
         ensures { counts_of result ≡ no_counts }
     {
-        Told {
+        Report {
             text: String::new(alloc),
             passed: 0,
             failed: 0,

@@ -2,7 +2,7 @@
 use Rattle.std.proofs.Common.{take}
 use Rattle.std.specs.Io.KnownBytes.{Appends}
 use Rattle.rl_session.specs.Printed.{entry_lines}
-use Rattle.rl_session.proofs.telling.tell_refusals.Given as goal
+use Rattle.rl_session.proofs.output.write_refusals.Given as goal
 
 abbrev pub invariant-loop-number : goal.invariant-loop-number
 invariant-loop-number g l = Appends (g.W.Write.contents l.fn.out) (g.W.Write.contents l.out) (entry_lines 0 (take l.number l.answers))

@@ -25,10 +25,10 @@ use Rattle.rl_chunks.specs.declared.line.Line.{Line}
 use Rattle.rl_parts.specs.StreamParts.{StreamView, entries_of}
 use Rattle.rl_parts.specs.StoreUse.{AreKept, Looked, Right}
 use Rattle.rl_parts.specs.laws.TakerLaws.{fold-pushed}
-use Rattle.rl_parts.specs.Reading.{is_in_range, told, told_in_range, IsHandedOut}
+use Rattle.rl_parts.specs.Reading.{is_in_range, visited, visited_in_range, IsHandedOut}
 use Rattle.rl_parts.specs.declared.fault.ReadFault.{ReadFault}
 use Rattle.rl_parts.specs.declared.fault.ReadFault.TheVariants as reads
-use Rattle.rl_streams.specs.Asking.{is_asked, asked, told_of, told_by, told_at, left, AreOfParts, AreOfRow, AreToldOnce, NoneSelected}
+use Rattle.rl_streams.specs.Asking.{is_asked, asked, visited_of, visited_by, visited_at, left, AreOfParts, AreOfRow, AreVisitedOnce, NoneSelected}
 use Rattle.rl_streams.specs.RowSteps.{AreOthers, IsPlaceOf}
 use Rattle.rl_streams.specs.HeldSet.{set_of}
 use Rattle.rl_streams.specs.laws.HeldLaws.{keys-of_distinct}
@@ -66,30 +66,30 @@ module _ (rows : List Row) (i : ℕ) (entry : Entry) (stream : StreamView) (plac
 
 module _ (selector : List Matcher) (from to : ℕ) where
   -- entries of one stream that are asked for
-  of_stream : (labels : LabelSet) (entries : List Entry) → All (λ entry. entry.labels ≡ labels) entries → map told (asked selector from to entries) ≡ (if selects selector labels then told_in_range from to entries else [])
+  of_stream : (labels : LabelSet) (entries : List Entry) → All (λ entry. entry.labels ≡ labels) entries → map visited (asked selector from to entries) ≡ (if selects selector labels then visited_in_range from to entries else [])
   of_stream labels [] own = none (selects selector labels)
     where
-      none : (b : Bool) → [] ≡ (if b then told_in_range from to [] else [])
+      none : (b : Bool) → [] ≡ (if b then visited_in_range from to [] else [])
       none true = refl
       none false = refl
   of_stream labels (entry ∷ entries) own =
-      ap (λ set. map told (cond (selects selector set && is_in_range from to entry) (entry ∷ asked selector from to entries) (asked selector from to entries))) (All-head (λ e. e.labels ≡ labels) entry entries own)
+      ap (λ set. map visited (cond (selects selector set && is_in_range from to entry) (entry ∷ asked selector from to entries) (asked selector from to entries))) (All-head (λ e. e.labels ≡ labels) entry entries own)
       ∙ by (selects selector labels) (is_in_range from to entry) (of_stream labels entries (All-tail (λ e. e.labels ≡ labels) entry entries own))
     where
-      by : (a b : Bool) → map told (asked selector from to entries) ≡ (if a then told_in_range from to entries else [])
-          → map told (cond (a && b) (entry ∷ asked selector from to entries) (asked selector from to entries)) ≡ (if a then map told (cond b (entry ∷ filter (is_in_range from to) entries) (filter (is_in_range from to) entries)) else [])
-      by true true others = ap (λ l. told entry ∷ l) others
+      by : (a b : Bool) → map visited (asked selector from to entries) ≡ (if a then visited_in_range from to entries else [])
+          → map visited (cond (a && b) (entry ∷ asked selector from to entries) (asked selector from to entries)) ≡ (if a then map visited (cond b (entry ∷ filter (is_in_range from to) entries) (filter (is_in_range from to) entries)) else [])
+      by true true others = ap (λ l. visited entry ∷ l) others
       by true false others = others
       by false b others = others
 
   -- what is visited of all streams is what is asked of all entries
-  pub told_all : (rows : List Row) → AllByRecursion IsOwn rows → told_by selector from to rows ≡ map told (asked selector from to (joined rows))
-  told_all [] own = refl
-  told_all (row ∷ rows) own =
-      ap (λ l. l ++ told_by selector from to rows) (sym (of_stream row.0 (entries_of row.1) own.0.entries))
-      ∙ ap (λ l. map told (asked selector from to (entries_of row.1)) ++ l) (told_all rows own.1)
-      ∙ sym (map-append told (asked selector from to (entries_of row.1)) (asked selector from to (joined rows)))
-      ∙ ap (map told) (sym (filter-append (is_asked selector from to) (entries_of row.1) (joined rows)))
+  pub visited_all : (rows : List Row) → AllByRecursion IsOwn rows → visited_by selector from to rows ≡ map visited (asked selector from to (joined rows))
+  visited_all [] own = refl
+  visited_all (row ∷ rows) own =
+      ap (λ l. l ++ visited_by selector from to rows) (sym (of_stream row.0 (entries_of row.1) own.0.entries))
+      ∙ ap (λ l. map visited (asked selector from to (entries_of row.1)) ++ l) (visited_all rows own.1)
+      ∙ sym (map-append visited (asked selector from to (entries_of row.1)) (asked selector from to (joined rows)))
+      ∙ ap (map visited) (sym (filter-append (is_asked selector from to) (entries_of row.1) (joined rows)))
 
   -- a stream at an index is kept, once the store was looked at
   pub kept_there : (rows : List Row) (i : ℕ) (stream : StreamView) (old seen : Seen) (next : ℕ) → AreStreams rows old next → Looked old seen → slice_get (values_of rows) i ≡ Some stream → AreKept seen next stream
@@ -98,24 +98,24 @@ module _ (selector : List Matcher) (from to : ℕ) where
       at_row (λ row. AreKept seen next row.1) rows i (row.0, stream) ((streams_looked rows old next are seen looked).kept) row.1
 
 -- each once: what is visited of all streams, where no entry is held twice
-pub told_once : {T : Type 0} (taking : T → LabelSet × Line → T) (selector : List Matcher) (from to : ℕ) (rows : List Row) (before after : T) → AllByRecursion IsOwn rows → IsDistinct (eq_by_cmp entry_cmp) (joined rows)
-    → after ≡ fold taking before (told_by selector from to rows) → AreToldOnce selector from to (set_of (joined rows)) taking before after
-told_once taking selector from to rows before after own once is = record {
+pub visited_once : {T : Type 0} (taking : T → LabelSet × Line → T) (selector : List Matcher) (from to : ℕ) (rows : List Row) (before after : T) → AllByRecursion IsOwn rows → IsDistinct (eq_by_cmp entry_cmp) (joined rows)
+    → after ≡ fold taking before (visited_by selector from to rows) → AreVisitedOnce selector from to (set_of (joined rows)) taking before after
+visited_once taking selector from to rows before after own once is = record {
   order = asked selector from to (joined rows);
   once = IsPermutation-sym _ _ (keys-of_distinct entry_cmp_total entry_cmp-IsAntisymmetric (is_asked selector from to) (joined rows) once);
-  told = is ∙ ap (fold taking before) (told_all selector from to rows own);
+  visited = is ∙ ap (fold taking before) (visited_all selector from to rows own);
 }
 
 -- over any store: what is visited of a stream that is selected
 pub of_row : (selector : List Matcher) (from to : ℕ) (stream : StreamView) {T : Type 0} (taking : T → LabelSet × Line → T) (before after : T) → selects selector stream.labels ≡ true
-    → (result : Result (Unit {0}) ReadFault) → OnOk result ((mid : T) × IsHandedOut taking stream.labels from to stream.parts before mid × (after ≡ fold taking mid (told_in_range from to stream.head)))
+    → (result : Result (Unit {0}) ReadFault) → OnOk result ((mid : T) × IsHandedOut taking stream.labels from to stream.parts before mid × (after ≡ fold taking mid (visited_in_range from to stream.head)))
     → OnOk result ((lines : List (LabelSet × Line)) × AreOfRow selector from to (stream.labels, stream) lines × (after ≡ fold taking before lines))
 of_row selector from to stream taking before after selected (Ok _) (mid, handed, head) =
     let sealed = flat_map (λ piece. piece) handed.pieces in
-    let lines = sealed ++ told_in_range from to stream.head in (
+    let lines = sealed ++ visited_in_range from to stream.head in (
       lines,
       subst (λ b. MatchBool b (AreOfParts from to stream lines) (lines ≡ [])) (sym selected) (record { pieces = handed.pieces; each = handed.each; all = refl }),
-      head ∙ ap (λ t. fold taking t (told_in_range from to stream.head)) handed.following ∙ sym (fold-append taking before sealed (told_in_range from to stream.head)),
+      head ∙ ap (λ t. fold taking t (visited_in_range from to stream.head)) handed.following ∙ sym (fold-append taking before sealed (visited_in_range from to stream.head)),
     )
 of_row selector from to stream taking before after selected (Err fault) handed = tt
 
@@ -168,21 +168,21 @@ rows_others rows labels none = from rows (ap is_some (sym (get-of_tree label_set
         (by row two.0 (label_set_eq labels row.0) refl, from rows two.1)
 
 -- a stream that is asked alone
-pub told_here : (selector : List Matcher) (from to : ℕ) (rows : List Row) (i : ℕ) (stream : StreamView) → AllByRecursion IsOwn rows → slice_get (values_of rows) i ≡ Some stream → told_of selector from to stream.labels stream ≡ told_at selector from to (by_stream rows) i
-told_here selector from to [] i stream own at = absurd (not_none stream at)
-told_here selector from to (row ∷ rows) zero stream own at =
-    ap (λ (s : StreamView). told_of selector from to s.labels s) (sym (same_some row.1 stream at))
-    ∙ ap (λ labels. told_of selector from to labels row.1) own.0.labels ∙ sym (of_stream selector from to row.0 (entries_of row.1) own.0.entries)
-told_here selector from to (row ∷ rows) (suc i) stream own at = told_here selector from to rows i stream own.1 at
+pub visited_here : (selector : List Matcher) (from to : ℕ) (rows : List Row) (i : ℕ) (stream : StreamView) → AllByRecursion IsOwn rows → slice_get (values_of rows) i ≡ Some stream → visited_of selector from to stream.labels stream ≡ visited_at selector from to (by_stream rows) i
+visited_here selector from to [] i stream own at = absurd (not_none stream at)
+visited_here selector from to (row ∷ rows) zero stream own at =
+    ap (λ (s : StreamView). visited_of selector from to s.labels s) (sym (same_some row.1 stream at))
+    ∙ ap (λ labels. visited_of selector from to labels row.1) own.0.labels ∙ sym (of_stream selector from to row.0 (entries_of row.1) own.0.entries)
+visited_here selector from to (row ∷ rows) (suc i) stream own at = visited_here selector from to rows i stream own.1 at
 
 -- at first all that is asked for is left
-pub left_at_first : (selector : List Matcher) (from to : ℕ) (rows : List Row) → left selector from to (by_stream rows) 0 [] ≡ map told (asked selector from to (joined rows))
-left_at_first selector from to rows = ap (λ entries. map told (asked selector from to entries)) (flat_map-map (λ entries. entries) (λ (row : Row). entries_of row.1) rows)
+pub left_at_first : (selector : List Matcher) (from to : ℕ) (rows : List Row) → left selector from to (by_stream rows) 0 [] ≡ map visited (asked selector from to (joined rows))
+left_at_first selector from to rows = ap (λ entries. map visited (asked selector from to entries)) (flat_map-map (λ entries. entries) (λ (row : Row). entries_of row.1) rows)
 
 -- and each of them once
-pub left_once : (selector : List Matcher) (from to : ℕ) (rows : List Row) → IsDistinct (eq_by_cmp entry_cmp) (joined rows) → AreToldOnce selector from to (set_of (joined rows)) (λ lines line. lines ++ line ∷ []) [] (left selector from to (by_stream rows) 0 [])
+pub left_once : (selector : List Matcher) (from to : ℕ) (rows : List Row) → IsDistinct (eq_by_cmp entry_cmp) (joined rows) → AreVisitedOnce selector from to (set_of (joined rows)) (λ lines line. lines ++ line ∷ []) [] (left selector from to (by_stream rows) 0 [])
 left_once selector from to rows once = record {
   order = asked selector from to (joined rows);
   once = IsPermutation-sym _ _ (keys-of_distinct entry_cmp_total entry_cmp-IsAntisymmetric (is_asked selector from to) (joined rows) once);
-  told = left_at_first selector from to rows ∙ sym (fold-pushed [] (map told (asked selector from to (joined rows))));
+  visited = left_at_first selector from to rows ∙ sym (fold-pushed [] (map visited (asked selector from to (joined rows))));
 }
