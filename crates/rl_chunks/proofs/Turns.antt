@@ -21,8 +21,8 @@ at_push (y ∷ ys) x = at_push ys x
 
 last_push : {A : Type 0} (xs : List A) (x : A) → last_of (xs ++ x ∷ []) ≡ Some x
 last_push xs x =
-    let place : length (xs ++ x ∷ []) - 1 ≡ length xs = omega (arith, length_push xs x) in
-    ap (slice_get (xs ++ x ∷ [])) place ∙ at_push xs x
+    let offset : length (xs ++ x ∷ []) - 1 ≡ length xs = omega (arith, length_push xs x) in
+    ap (slice_get (xs ++ x ∷ [])) offset ∙ at_push xs x
 
 -- what was read before, and what is still read
 abbrev pub following : {A : Type 0} → List A → Read (List A) → Read (List A)

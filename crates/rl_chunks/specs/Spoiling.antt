@@ -17,12 +17,12 @@ spoil_at (planned ∷ plan) read = if planned.0 == read then Some planned.1 else
 
 -- one byte plus 1, from the greatest to 0
 abbrev pub flipped : ℕ → List ℕ → List ℕ
-flipped place bytes = if nat_lt place (length bytes) then slice_set bytes place ((slice_index bytes place + 1) % 256) else bytes
+flipped offset bytes = if nat_lt offset (length bytes) then slice_set bytes offset ((slice_index bytes offset + 1) % 256) else bytes
 
 -- what a read answers of these bytes
 abbrev pub spoilt : Option Spoil → Blobs → ℕ → Option (List ℕ)
 spoilt None blobs number = get blobs number
 spoilt (Some (Cut len)) blobs number = option_map (take len) (get blobs number)
-spoilt (Some (Flip place)) blobs number = option_map (flipped place) (get blobs number)
+spoilt (Some (Flip offset)) blobs number = option_map (flipped offset) (get blobs number)
 spoilt (Some (Swap other)) blobs number = get blobs other
 spoilt (Some Gone) blobs number = None

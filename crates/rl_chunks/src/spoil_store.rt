@@ -40,11 +40,11 @@ fn spoil_at(plan: &[(u64, Spoil)], read: u64) -> Option<Spoil>
 }
 
 // One byte plus 1, if there is one at that index.
-fn flip(bytes: &mut Vec<u8>, place: usize)
-    ensures { bytes.new.items ≡ flipped place bytes.old.items }
+fn flip(bytes: &mut Vec<u8>, offset: usize)
+    ensures { bytes.new.items ≡ flipped offset bytes.old.items }
 {
-    if place < bytes.len() {
-        bytes[place] = bytes[place].wrapping_add(1);
+    if offset < bytes.len() {
+        bytes[offset] = bytes[offset].wrapping_add(1);
     }
 }
 
@@ -103,10 +103,10 @@ impl<S: Store> Store for SpoilStore<S> {
                 }
                 Ok(found)
             }
-            Some(Spoil::Flip(place)) => {
+            Some(Spoil::Flip(offset)) => {
                 let mut found = self.inner.get(number)?;
                 if let Some(bytes) = &mut found {
-                    flip(bytes, place);
+                    flip(bytes, offset);
                 }
                 Ok(found)
             }

@@ -135,8 +135,8 @@ module _ {A : Type 0} (key : List ℕ) (found : List (Bor (List ℕ) × Bor (Val
   placed_last i d ends so_far = so_far.passed d ∙ ap (λ t. in_front (take i found) (put key d (referred t))) ends ∙ ap (λ t. in_front (take i found) (member key d (referred t))) (sym ends)
 
 -- a member at an index, between those in front of it and those after it
-pub member_between : {A : Type 0} (found : List (Bor (List ℕ) × Bor (Value A))) (place following : ℕ) (entry : Bor (List ℕ) × Bor (Value A)) → referred (take place found ++ entry ∷ drop following found) ≡ in_front (take place found) (member entry.0.now (data_of (value_view entry.1.now)) (referred (drop following found)))
-member_between found place following entry = referred-append (take place found) (entry ∷ drop following found)
+pub member_between : {A : Type 0} (found : List (Bor (List ℕ) × Bor (Value A))) (start following : ℕ) (entry : Bor (List ℕ) × Bor (Value A)) → referred (take start found ++ entry ∷ drop following found) ≡ in_front (take start found) (member entry.0.now (data_of (value_view entry.1.now)) (referred (drop following found)))
+member_between found start following entry = referred-append (take start found) (entry ∷ drop following found)
 
 -- a member that is replaced
 pub replaced : {X : Type 0} (xs : List X) (i : ℕ) (x : X) → i < length xs → set xs i x ≡ take i xs ++ x ∷ drop (i + 1) xs

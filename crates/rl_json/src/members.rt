@@ -51,24 +51,24 @@ fn put_member<'m, 'v>(
 ) -> Result<(), AllocError>
     ensures { OnOk result (referred found.new.items ≡ put key.now (data_of (value_view value.now)) (referred found.old.items)) }
 {
-    let (place, following) = place_of(found, key);
-    if place < following {
-        replace_at(found, place, (key, value));
+    let (start, following) = span_of(found, key);
+    if start < following {
+        replace_at(found, start, (key, value));
     } else {
-        found.insert(place, (key, value))?;
+        found.insert(start, (key, value))?;
     }
     Ok(())
 }
 
-fn replace_at<T: Drop>(items: &mut Vec<T>, place: usize, item: T)
-    requires { place < vec_len items.old }
-    ensures { items.new.items ≡ slice_set items.old.items place item }
+fn replace_at<T: Drop>(items: &mut Vec<T>, start: usize, item: T)
+    requires { start < vec_len items.old }
+    ensures { items.new.items ≡ slice_set items.old.items start item }
 {
-    items[place] = item;
+    items[start] = item;
 }
 
 // Where a member with the key stands or would stand, and where those after it begin.
-fn place_of(found: &[(&str, &Value<'_>)], key: &str) -> (usize, usize)
+fn span_of(found: &[(&str, &Value<'_>)], key: &str) -> (usize, usize)
     ensures within { (result.0 ≤ result.1) × (result.1 ≤ result.0 + 1) × (result.1 ≤ length found.now) }
     ensures placed { (d : Data) → put key.now d (referred found.now) ≡ in_front (take result.0 found.now) (member key.now d (referred (drop result.1 found.now))) }
 {

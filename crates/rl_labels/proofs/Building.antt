@@ -129,8 +129,8 @@ module _ (name value : List ℕ) (es : List Pair) (this : is_label (name, value)
       ∙ ap (λ b. cond b set (with_label set name value)) (ap is_some (label_in es are name) ∙ ap (λ s. is_some (label s name)) of_set)
 
 -- one is added where it stands
-pub new_placed : (name value : List ℕ) (es : List Pair) (place : ℕ) → find name_cmp name es ≡ None → put name_cmp name value es ≡ insert es place (name, value) → insert es place (name, value) ≡ with_new name value es
-new_placed name value es place absent placed = sym placed ∙ sym (ap (λ found. cond (is_some found) es (put name_cmp name value es)) absent)
+pub new_placed : (name value : List ℕ) (es : List Pair) (index : ℕ) → find name_cmp name es ≡ None → put name_cmp name value es ≡ insert es index (name, value) → insert es index (name, value) ≡ with_new name value es
+new_placed name value es index absent placed = sym placed ∙ sym (ap (λ found. cond (is_some found) es (put name_cmp name value es)) absent)
 
 -- and none where the name is there
 pub not_new : (name value : List ℕ) (es : List Pair) → is_some (find name_cmp name es) ≡ true → es ≡ with_new name value es

@@ -12,13 +12,13 @@ use Rattle.rl_labels.specs.LabelText.{label_text}
 use Rattle.rl_labels.specs.Rising.{rises}
 
 -- the item at an index, and what follows it
-pub split_at_place : {X : Type 0} (xs : List X) (i : ℕ) (x : X) → i < length xs → x ≡ get_or xs i x → drop i xs ≡ x ∷ drop (i + 1) xs
-split_at_place xs i x in' is = drop-cons xs i x in' ∙ ap (λ y. y ∷ drop (suc i) xs) (sym is) ∙ (let next : suc i ≡ i + 1 = omega arith in ap (λ n. x ∷ drop n xs) next)
+pub split_at_index : {X : Type 0} (xs : List X) (i : ℕ) (x : X) → i < length xs → x ≡ get_or xs i x → drop i xs ≡ x ∷ drop (i + 1) xs
+split_at_index xs i x in' is = drop-cons xs i x in' ∙ ap (λ y. y ∷ drop (suc i) xs) (sym is) ∙ (let next : suc i ≡ i + 1 = omega arith in ap (λ n. x ∷ drop n xs) next)
 
 -- a look-up at the front of what is left
 pub find_front : (name : List ℕ) (pairs : List Pair) (i : ℕ) (pair : Pair) → i < length pairs → pair ≡ get_or pairs i pair → find name_cmp name (drop i pairs) ≡ cond (is_text name pair.0) (Some pair.1) (find name_cmp name (drop (i + 1) pairs))
 find_front name pairs i pair in' is =
-    ap (find name_cmp name) (split_at_place pairs i pair in' is)
+    ap (find name_cmp name) (split_at_index pairs i pair in' is)
     ∙ ap (λ b. cond b (Some pair.1) (find name_cmp name (drop (i + 1) pairs))) (sym (texts_ties name pair.0))
 
 -- a list of at most one pair rises
@@ -46,7 +46,7 @@ labels_joined label (next ∷ labels) = ap (λ t. label_text label ++ 44 ∷ t) 
 -- a label with the name gives way
 pub put_equal : (name value : List ℕ) (pairs : List Pair) (i : ℕ) (pair : Pair) → i < length pairs → pair ≡ get_or pairs i pair → name_cmp name pair.0 ≡ Equal → put name_cmp name value (drop i pairs) ≡ (name, value) ∷ drop (i + 1) pairs
 put_equal name value pairs i pair in' is tied =
-    ap (put name_cmp name value) (split_at_place pairs i pair in' is)
+    ap (put name_cmp name value) (split_at_index pairs i pair in' is)
     ∙ ap (λ o. by_order o ((name, value) ∷ pair ∷ drop (i + 1) pairs) ((pair.0, value) ∷ drop (i + 1) pairs) (pair ∷ put name_cmp name value (drop (i + 1) pairs))) tied
     ∙ ap (λ n. (n, value) ∷ drop (i + 1) pairs) (sym (name_cmp-IsAntisymmetric name pair.0 tied))
 

@@ -32,7 +32,7 @@ billionths d = d.whole * 1000000000 + d.fraction * 10 ^ (9 - d.digits)
 
 -- the parts before and after the first point
 abbrev pub cut_at_point : List ℕ → Option (List ℕ × List ℕ)
-cut_at_point text = option_map (λ place. (take place text, drop (place + 1) text)) (position (λ b. b == 46) text)
+cut_at_point text = option_map (λ offset. (take offset text, drop (offset + 1) text)) (position (λ b. b == 46) text)
 
 abbrev pub decimal_of_parts : ℕ → List ℕ → Option (List ℕ × List ℕ) → Option DecimalForm
 decimal_of_parts most text None = option_map (λ whole. record { whole = whole; fraction = 0; digits = 0 }) (number_of most text)

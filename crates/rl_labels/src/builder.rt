@@ -155,12 +155,12 @@ fn add_to_list(
     ensures added { OnOk result (labels.new.items ≡ with_new name.now value.now labels.old.items) }
     ensures refused { OnErr result (labels.new.items ≡ labels.old.items) }
 {
-    let Some(place) = place_of(labels, name) else {
+    let Some(index) = index_of(labels, name) else {
         return Ok(());
     };
     let alloc = *labels.allocator();
     let label = short_label(alloc, name, value)?;
-    labels.insert(place, label)?;
+    labels.insert(index, label)?;
     Ok(())
 }
 
@@ -225,19 +225,19 @@ fn value_in<'a>(labels: &'a [(ShortText, ShortText)], name: &str) -> Option<&'a 
 
 // Where a label with the name stands among labels by rising name, unless one has it. It is sought from the end, as most
 // labels come in the order of their names.
-fn place_of(labels: &[(ShortText, ShortText)], name: &str) -> Option<usize>
+fn index_of(labels: &[(ShortText, ShortText)], name: &str) -> Option<usize>
     requires { IsTrue (are_labels labels.now) }
     ensures there { result ≡ None → is_some (find name_cmp name.now labels.now) ≡ true }
-    ensures within { IfSome result (λ place. place ≤ length labels.now) }
-    ensures absent { IfSome result (λ place. find name_cmp name.now labels.now ≡ None) }
-    ensures placed { IfSome result (λ place. (value : List ℕ) → put name_cmp name.now value labels.now ≡ insert labels.now place (name.now, value)) }
+    ensures within { IfSome result (λ index. index ≤ length labels.now) }
+    ensures absent { IfSome result (λ index. find name_cmp name.now labels.now ≡ None) }
+    ensures placed { IfSome result (λ index. (value : List ℕ) → put name_cmp name.now value labels.now ≡ insert labels.now index (name.now, value)) }
 {
-    let mut place = labels.len();
-    while place > 0 {
-        match name.cmp(labels[place - 1].0.as_str()) {
-            Ordering::Less => place -= 1,
+    let mut index = labels.len();
+    while index > 0 {
+        match name.cmp(labels[index - 1].0.as_str()) {
+            Ordering::Less => index -= 1,
             Ordering::Equal => return None,
-            Ordering::Greater => return Some(place),
+            Ordering::Greater => return Some(index),
         }
     }
     Some(0)

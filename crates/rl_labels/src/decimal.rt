@@ -187,14 +187,14 @@ impl Same for Decimal {
 fn cut_at_point(text: &[u8]) -> Option<(&[u8], &[u8])>
     ensures { option_map (λ parts. (parts.0.now, parts.1.now)) result ≡ cut_at_point text.now }
 {
-    let place = point_in(text)?;
-    Some((text.split_at(place).0, text.split_at(place + 1).1))
+    let offset = point_in(text)?;
+    Some((text.split_at(offset).0, text.split_at(offset + 1).1))
 }
 
 // The index of the first point.
 fn point_in(text: &[u8]) -> Option<usize>
-    ensures place { result ≡ position (λ b. b == 46) text.now }
-    ensures inside { IfSome result (λ place. place < length text.now) }
+    ensures offset { result ≡ position (λ b. b == 46) text.now }
+    ensures inside { IfSome result (λ offset. offset < length text.now) }
 {
     text.iter().position(|byte| *byte == b'.')
 }

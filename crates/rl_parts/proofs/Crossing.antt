@@ -7,7 +7,7 @@ use Rattle.rl_labels.proofs.entry.Entry.TheSendSync as entry
 use Rattle.rl_labels.proofs.labels.Labels.TheSendSync as labels
 use Rattle.rl_parts.specs.contracts.held.Held as Held
 use Rattle.rl_parts.specs.contracts.part.Written as Written
-use Rattle.rl_parts.specs.contracts.part.Place as Place
+use Rattle.rl_parts.specs.contracts.part.Location as Location
 use Rattle.rl_parts.specs.contracts.part.Part as Part
 use Rattle.rl_parts.specs.contracts.part.Part.TheInside as part
 use Rattle.rl_parts.specs.contracts.stream.Stream as Stream
@@ -19,11 +19,11 @@ Held-send = search (entry.the_send, entry.the_sync, shared.the_send, sendable, h
 Written-send : IsSend (Written.the_field).row
 Written-send = let held = Held-send in search (list.the_send, sendable, heap.crosses) depth 20
 
-Place-send : IsSend (Place.the_field).row
-Place-send = let held = Held-send in let written = Written-send in search (list.the_send, sendable, heap.crosses) depth 20
+Location-send : IsSend (Location.the_field).row
+Location-send = let held = Held-send in let written = Written-send in search (list.the_send, sendable, heap.crosses) depth 20
 
 part-inside : IsSend part.the_row
-part-inside = let place = Place-send in search (sendable, heap.crosses) depth 20
+part-inside = let location = Location-send in search (sendable, heap.crosses) depth 20
 
 pub Part-send : IsSend Part.the_row
 Part-send = view_send _ _ _ _ _ part-inside

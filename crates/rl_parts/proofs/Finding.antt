@@ -100,8 +100,8 @@ from_store part q there = at part.note there
     at None h = absurd (nothing q h)
     at (Some note) h = h
 
-either_place : (part : PartView) (q : Entry) → Contains part.entries q → Contains (in_memory part) q ⊎ Contains (in_store part) q
-either_place part q there = at part.note
+either_location : (part : PartView) (q : Entry) → Contains part.entries q → Contains (in_memory part) q ⊎ Contains (in_store part) q
+either_location part q there = at part.note
   where
     at : (note : Option Note) → Contains (in_memory (record { entries = part.entries; note = note })) q ⊎ Contains (in_store (record { entries = part.entries; note = note })) q
     at None = inl there
@@ -117,7 +117,7 @@ of_store parts q there = found_in in_store (λ part. part.entries) from_store pa
 pub of_either : (parts : List PartView) (q : Entry) → Contains (flat_map (λ part. part.entries) parts) q → Contains (flat_map in_memory parts) q ⊎ Contains (flat_map in_store parts) q
 of_either [] q there = inl there
 of_either (part ∷ parts) q there = elim (Contains-append_cases part.entries (flat_map (λ part. part.entries) parts) q there) [
-  | inl here ↦ elim (either_place part q here) [
+  | inl here ↦ elim (either_location part q here) [
     | inl memory ↦ inl (Contains-append_left (in_memory part) (flat_map in_memory parts) q memory)
     | inr store ↦ inr (Contains-append_left (in_store part) (flat_map in_store parts) q store)
   ]

@@ -24,25 +24,25 @@ one_after P (y ∷ ys) x h p = (h.0, one_after P ys x h.1 p)
 -- a run with an entry put in
 pub run_put : (set : LabelSet) (old : List Entry) (entry : Entry) (new : List Entry) → IsRun set old → entry.labels ≡ set → IsPut old entry new → IsRun set new
 run_put set old entry new run of put =
-    let labels : All (λ e. e.labels ≡ set) (List_insert old put.place entry) =
-    All-append (λ e. e.labels ≡ set) (take put.place old) (entry ∷ drop put.place old) (All-take (λ e. e.labels ≡ set) put.place old run.labels)
-    (All-cons (λ e. e.labels ≡ set) entry (drop put.place old) of (All-drop (λ e. e.labels ≡ set) put.place old run.labels)) in
-    subst (IsRun set) (sym put.is) (record { labels = labels; rising = insert_in_order entry_cmp_total old entry put.place run.rising put.belongs.within put.belongs.before put.belongs.after })
+    let labels : All (λ e. e.labels ≡ set) (List_insert old put.index entry) =
+    All-append (λ e. e.labels ≡ set) (take put.index old) (entry ∷ drop put.index old) (All-take (λ e. e.labels ≡ set) put.index old run.labels)
+    (All-cons (λ e. e.labels ≡ set) entry (drop put.index old) of (All-drop (λ e. e.labels ≡ set) put.index old run.labels)) in
+    subst (IsRun set) (sym put.is) (record { labels = labels; rising = insert_in_order entry_cmp_total old entry put.index run.rising put.belongs.within put.belongs.before put.belongs.after })
 
 pub run_none : (set : LabelSet) → IsRun set []
 run_none set = record { labels = λ k d h. absurd (omega arith); rising = nothing_in_order entry_cmp_total }
 
 pub many_put : (old : List Entry) (entry : Entry) (new : List Entry) → IsPut old entry new → length new ≡ length old + 1
-many_put old entry new put = ap length put.is ∙ length-insert old put.place entry put.belongs.within
+many_put old entry new put = ap length put.is ∙ length-insert old put.index entry put.belongs.within
 
 -- all entries, where one was put into the head
 pub entries_put : (front old : List Entry) (entry : Entry) (new : List Entry) → IsPut old entry new → IsInserted (front ++ old) entry (front ++ new)
 entries_put front old entry new put =
-    let back : length front + put.place - length front ≡ put.place = omega arith in
+    let back : length front + put.index - length front ≡ put.index = omega arith in
     record {
-      place = length front + put.place;
+      index = length front + put.index;
       within = omega (arith, put.belongs.within, length-append front old);
-      is = ap (λ xs. front ++ xs) put.is ∙ sym (insert-append_right front old (length front) (length front + put.place) entry refl (omega arith) ∙ ap (λ i. front ++ List_insert old i entry) back);
+      is = ap (λ xs. front ++ xs) put.is ∙ sym (insert-append_right front old (length front) (length front + put.index) entry refl (omega arith) ∙ ap (λ i. front ++ List_insert old i entry) back);
     }
 
 -- all entries stay where the head is sealed
@@ -74,5 +74,5 @@ in_order_sealed set parts head newest old new are up_to run some few is =
 -- and so is one of a single entry
 pub one_in_order : (set : LabelSet) (entry : Entry) (newest : ℕ) → entry.labels ≡ set → IsInOrder (record { labels = set; parts = []; head = entry ∷ []; newest = newest }) None
 one_in_order set entry newest of =
-    let put : IsPut [] entry (entry ∷ []) = record { place = 0; belongs = record { within = omega arith; before = λ k d low high. absurd (omega (arith, low, high)); after = λ k d low high. absurd (omega (arith, high)) }; is = refl } in
+    let put : IsPut [] entry (entry ∷ []) = record { index = 0; belongs = record { within = omega arith; before = λ k d low high. absurd (omega (arith, low, high)); after = λ k d low high. absurd (omega (arith, high)) }; is = refl } in
     record { parts = record { sealed = tt; growing = run_put set [] entry (entry ∷ []) (run_none set) of put; few = lit< tt }; up_to = tt }

@@ -70,8 +70,8 @@ module _ {K : Type 0} {R : K → K → Ordering} (o : IsTotalOrder R) where
           back : (k : ℕ) → i < k → k - 1 + 1 ≡ k
           back k lt = omega arith
 
-      places : (k : ℕ) → (k + 1 < i) ⊎ ((k + 1 ≡ i) ⊎ ((k ≡ i) ⊎ (i < k)))
-      places k = elim (cases_lt (k + 1) i) [
+      positions : (k : ℕ) → (k + 1 < i) ⊎ ((k + 1 ≡ i) ⊎ ((k ≡ i) ⊎ (i < k)))
+      positions k = elim (cases_lt (k + 1) i) [
         | inl lower ↦ inl lower
         | inr le ↦ elim (cases_eq (k + 1) i) [
           | inl last ↦ inr (inl last)
@@ -83,7 +83,7 @@ module _ {K : Type 0} {R : K → K → Ordering} (o : IsTotalOrder R) where
       ]
 
       next : (k : ℕ) → k + 1 < length (List_insert xs i q) → R (get_or (List_insert xs i q) k q) (get_or (List_insert xs i q) (k + 1) q) ≡ Less
-      next k high = step k high (places k)
+      next k high = step k high (positions k)
 
   -- what a search by halves answers
   pub stands : IsAntisymmetric R → (xs : List K) (q : K) (r : Result ℕ ℕ) → IsSearchInRange r (length xs) → IsBinarySearchResult (λ y. R y q) xs r → IfOk r (λ _. Contains xs q)

@@ -7,9 +7,9 @@ use Rattle.rl_parts.specs.StreamParts.{Note, PartView, StreamView, unwritten, no
 
 -- the entry was put at some index
 pub record IsInserted (old : List Entry) (entry : Entry) (new : List Entry) : Type 0 where
-  pub place : ℕ
-  pub within : place ≤ length old
-  pub is : new ≡ insert old place entry
+  pub index : ℕ
+  pub within : index ≤ length old
+  pub is : new ≡ insert old index entry
 
 -- parts that no store has may have come after the old ones
 pub record AreSealed (old new : List PartView) : Type 0 where
@@ -23,10 +23,10 @@ sealed_parts stream = if length stream.head == 0 then stream.parts else stream.p
 
 -- the entry was put into the head, which becomes a part where it has `most` entries by now
 pub record IsHeld (most : ℕ) (old : StreamView) (entry : Entry) (new : StreamView) : Type 0 where
-  pub place : ℕ
-  pub within : place ≤ length old.head
-  pub parts : new.parts ≡ (if nat_lt (length old.head + 1) most then old.parts else old.parts ++ unwritten (insert old.head place entry) ∷ [])
-  pub head : new.head ≡ (if nat_lt (length old.head + 1) most then insert old.head place entry else [])
+  pub index : ℕ
+  pub within : index ≤ length old.head
+  pub parts : new.parts ≡ (if nat_lt (length old.head + 1) most then old.parts else old.parts ++ unwritten (insert old.head index entry) ∷ [])
+  pub head : new.head ≡ (if nat_lt (length old.head + 1) most then insert old.head index entry else [])
 
 -- how many parts have no note
 abbrev pub unwritten_count : List PartView → ℕ

@@ -8,19 +8,19 @@ use Rattle.rl_parts.specs.StreamParts.{Note, PartView, chunk_of}
 use Rattle.rl_parts.specs.StoreUse.{IsNoteOf}
 use Rattle.rl_parts.specs.Marks.{AreMarks}
 use Rattle.rl_parts.specs.declared.part.Written.{Written}
-use Rattle.rl_parts.specs.declared.part.Place.{Place}
-use Rattle.rl_parts.specs.declared.part.Place.TheVariants.{Here, InStore}
+use Rattle.rl_parts.specs.declared.part.Location.{Location}
+use Rattle.rl_parts.specs.declared.part.Location.TheVariants.{Here, InStore}
 
-abbrev pub entries_at : Place → List Entry
+abbrev pub entries_at : Location → List Entry
 entries_at (Here entries) = entries
 entries_at (InStore written) = written.entries.value
 
-abbrev pub note_at : Place → Option Note
+abbrev pub note_at : Location → Option Note
 note_at (Here entries) = None
 note_at (InStore written) = Some (record { number = written.number; digest = written.digest })
 
-abbrev pub part_at : Place → PartView
-part_at place = record { entries = entries_at place; note = note_at place }
+abbrev pub part_at : Location → PartView
+part_at location = record { entries = entries_at location; note = note_at location }
 
 -- the timestamp of the entry at an index, 0 where there is none
 abbrev pub timestamp_at : List Entry → ℕ → ℕ
@@ -32,7 +32,7 @@ pub record IsRange (entries : List Entry) (first last : ℕ) : Type 0 where
   pub end : last ≡ timestamp_at entries (length entries - 1)
 
 -- the range and the fingerprints that are kept of a written part are its own
-abbrev pub RangeAndMarksAreKept : Place → Type 0
+abbrev pub RangeAndMarksAreKept : Location → Type 0
 RangeAndMarksAreKept (Here entries) = Unit {0}
 RangeAndMarksAreKept (InStore written) = IsRange written.entries.value written.first written.last × AreMarks written.entries.value written.marks
 

@@ -16,13 +16,13 @@ pub record IsInOrder (stream : StreamView) (sealed_to : Option ℕ) : Type 0 whe
   pub up_to : AreSealedUpTo sealed_to stream.parts
 
 -- the entry belongs at the index: the entries before it are less, and those from it on greater
-pub record BelongsAt (entries : List Entry) (entry : Entry) (place : ℕ) : Type 0 where
-  pub within : place ≤ length entries
-  pub before : AllWithin (λ other. entry_cmp other entry ≡ Less) entries 0 place
-  pub after : AllWithin (λ other. entry_cmp other entry ≡ Greater) entries place (length entries)
+pub record BelongsAt (entries : List Entry) (entry : Entry) (index : ℕ) : Type 0 where
+  pub within : index ≤ length entries
+  pub before : AllWithin (λ other. entry_cmp other entry ≡ Less) entries 0 index
+  pub after : AllWithin (λ other. entry_cmp other entry ≡ Greater) entries index (length entries)
 
 -- the entry was put where it belongs
 pub record IsPut (old : List Entry) (entry : Entry) (new : List Entry) : Type 0 where
-  pub place : ℕ
-  pub belongs : BelongsAt old entry place
-  pub is : new ≡ insert old place entry
+  pub index : ℕ
+  pub belongs : BelongsAt old entry index
+  pub is : new ≡ insert old index entry

@@ -28,7 +28,7 @@ pub(crate) struct Written {
 
 // Where the entries are.
 #[derive(Drop)]
-enum Place {
+enum Location {
     Here(PlainList<Held>),
     InStore(Written),
 }
@@ -36,7 +36,7 @@ enum Place {
 /// Sealed entries of a stream, by timestamp and line. They do not change any more.
 #[derive(Drop)]
 pub struct Part {
-    place: Place,
+    location: Location,
 }
 
 impl Model for Part {
@@ -48,9 +48,9 @@ impl Model for Part {
 
     ghost use Rattle.rl_parts.specs.PartState.{part_at, RangeAndMarksAreKept};
 
-    ghost view = { λ a. part_at a.place };
+    ghost view = { λ a. part_at a.location };
 
-    ghost invariant = { λ a. RangeAndMarksAreKept a.place };
+    ghost invariant = { λ a. RangeAndMarksAreKept a.location };
 }
 
 impl Part {
@@ -69,8 +69,8 @@ impl Part {
     pub(crate) fn new(entries: Vec<Held>) -> Part
         ensures { result ≡ unwritten entries.items }
     {
-        let place = Place::Here(PlainList::from_vec(entries));
-        Part { place }
+        let location = Location::Here(PlainList::from_vec(entries));
+        Part { location }
     }
 
     // A part that a store has.
@@ -80,7 +80,7 @@ impl Part {
         ensures { result ≡ record { entries = written.entries.value; note = Some (record { number = written.number; digest = written.digest }) } }
     {
         Part {
-            place: Place::InStore(written),
+            location: Location::InStore(written),
         }
     }
 
@@ -88,9 +88,9 @@ impl Part {
     pub(crate) fn len(&self) -> usize
         ensures { result ≡ length self.now.entries }
     {
-        match &self.place {
-            Place::Here(entries) => entries.len(),
-            Place::InStore(written) => written.marks.len(),
+        match &self.location {
+            Location::Here(entries) => entries.len(),
+            Location::InStore(written) => written.marks.len(),
         }
     }
 
@@ -98,9 +98,9 @@ impl Part {
     pub(crate) fn number(&self) -> Option<u64>
         ensures { result ≡ option_map (λ note. note.number) self.now.note }
     {
-        match &self.place {
-            Place::Here(_) => None,
-            Place::InStore(written) => Some(written.number),
+        match &self.location {
+            Location::Here(_) => None,
+            Location::InStore(written) => Some(written.number),
         }
     }
 
@@ -119,11 +119,11 @@ impl Part {
         ensures grown { Grown (S.seen store.old) next.old (S.seen store.new) }
         ensures cause { IfErr result (FlushCause (S.seen store.old) (S.seen store.new) next.new) }
     {
-        let written = match &self.place {
-            Place::InStore(_) => return Ok(()),
-            Place::Here(entries) => write_entries(alloc, store, labels, entries, next)?,
+        let written = match &self.location {
+            Location::InStore(_) => return Ok(()),
+            Location::Here(entries) => write_entries(alloc, store, labels, entries, next)?,
         };
-        self.place = Place::InStore(written);
+        self.location = Location::InStore(written);
         Ok(())
     }
 
@@ -132,9 +132,9 @@ impl Part {
         requires { IsPart entry.now.labels self.now }
         ensures { IsTrue result ↔ Contains (in_memory self.now) entry.now }
     {
-        match &self.place {
-            Place::Here(entries) => has_entry(entries.as_slice(), entry),
-            Place::InStore(_) => false,
+        match &self.location {
+            Location::Here(entries) => has_entry(entries.as_slice(), entry),
+            Location::InStore(_) => false,
         }
     }
 
@@ -153,9 +153,9 @@ impl Part {
         ensures no { IfOk result (λ found. found ≡ false → IsWithout entry.now self.now) }
         ensures right { (next : ℕ) → IsKept (S.seen store.old) next entry.now.labels self.now → (S.seen store.old).honest ≡ true → Right result (λ found. IsTrue found ↔ Contains (in_store self.now) entry.now) }
     {
-        match &self.place {
-            Place::Here(_) => Ok(false),
-            Place::InStore(written) => has_written(alloc, store, written, entry),
+        match &self.location {
+            Location::Here(_) => Ok(false),
+            Location::InStore(written) => has_written(alloc, store, written, entry),
         }
     }
 
@@ -177,9 +177,9 @@ impl Part {
         ensures piece { OnOk result (IsHandedOut T.taking labels.now from to (self.now ∷ []) taker.old taker.new) }
         ensures right { (next : ℕ) → IsKept (S.seen store.old) next labels.now self.now → (S.seen store.old).honest ≡ true → Right result (λ _. taker.new ≡ fold T.taking taker.old (visited_in_range from to self.now.entries)) }
     {
-        match &self.place {
-            Place::Here(entries) => hand_all(labels, entries.as_slice(), from, to, taker)?,
-            Place::InStore(written) => {
+        match &self.location {
+            Location::Here(entries) => hand_all(labels, entries.as_slice(), from, to, taker)?,
+            Location::InStore(written) => {
                 return hand_written(alloc, store, written, labels, from, to, taker);
             }
         }
@@ -203,12 +203,12 @@ impl Part {
         ensures grown { Grown (S.seen store.old) next.old (S.seen store.new) }
         ensures cause { IfErr result (RewriteCause (S.seen store.old) (S.seen store.new) next.new) }
     {
-        match &self.place {
-            Place::Here(entries) => {
+        match &self.location {
+            Location::Here(entries) => {
                 let change = rewrite_here(alloc, covered, entries.as_slice())?;
                 Ok(change)
             }
-            Place::InStore(written) => rewrite_written(
+            Location::InStore(written) => rewrite_written(
                 alloc, store, covered, labels, written, next,
             ),
         }

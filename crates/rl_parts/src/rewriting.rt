@@ -12,7 +12,7 @@ ghost use Rattle.rl_parts.specs.Reading.{IsReadAs};
 ghost use Rattle.rl_parts.specs.Rewriting.{AreOfLines, AreRewritten, IsChangedHere, RewriteCause, gone_by, left_by, uncovered};
 ghost use Rattle.rl_parts.specs.StoreUse.{Grown, IsNoteOf, Looked, ReadCause, Right};
 ghost use Rattle.rl_parts.specs.StreamParts.{IsPart, chunk_of, unwritten};
-ghost use Rattle.rl_parts.specs.declared.part.Place.TheVariants.{InStore};
+ghost use Rattle.rl_parts.specs.declared.part.Location.TheVariants.{InStore};
 
 use crate::fault::{ReadFault, RewriteFault};
 use crate::fetching::fetch;

@@ -19,7 +19,7 @@ use std::mem;
 pub(crate) fn search(entries: &[Held], entry: &Entry) -> Result<usize, usize>
     requires { IsRun entry.now.labels entries.now }
     ensures stands { IfOk result (λ _. Contains entries.now entry.now) }
-    ensures belongs { IfErr result (λ place. BelongsAt entries.now entry.now place) }
+    ensures belongs { IfErr result (λ index. BelongsAt entries.now entry.now index) }
 {
     match entries.last() {
         Some(last) if last.order(entry).is_lt() => Err(entries.len()),
@@ -28,14 +28,14 @@ pub(crate) fn search(entries: &[Held], entry: &Entry) -> Result<usize, usize>
 }
 
 // Where an entry that is not there belongs.
-fn place_of(entries: &[Held], entry: &Entry) -> usize
+fn index_of(entries: &[Held], entry: &Entry) -> usize
     requires run { IsRun entry.now.labels entries.now }
     requires new { Contains entries.now entry.now → ⊥ }
     ensures { BelongsAt entries.now entry.now result }
 {
     match search(entries, entry) {
-        Ok(place) => place,
-        Err(place) => place,
+        Ok(index) => index,
+        Err(index) => index,
     }
 }
 
@@ -46,8 +46,8 @@ pub(crate) fn put(entries: &mut Vec<Held>, entry: Shared<Entry>) -> Result<(), A
     ensures ok { OnOk result (IsPut entries.old.items entry entries.new.items) }
     ensures err { OnErr result (entries.new.items ≡ entries.old.items) }
 {
-    let place = place_of(entries, entry.get());
-    entries.insert(place, Held::new(entry))?;
+    let index = index_of(entries, entry.get());
+    entries.insert(index, Held::new(entry))?;
     Ok(())
 }
 

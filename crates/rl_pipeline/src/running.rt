@@ -188,29 +188,29 @@ fn send(
     ensures same { steps.new ≡ steps.old }
     ensures line { line.new ≡ line.old }
 {
-    let place = filters_in_front(steps);
-    send_after(alloc, steps, place, line)
+    let position = filters_in_front(steps);
+    send_after(alloc, steps, position, line)
 }
 
 // The labels that such a line has after the stages that follow the line filters in front, if it stays.
 fn send_after(
     alloc: Global,
     steps: &mut [Step<'_>],
-    place: usize,
+    position: usize,
     line: &mut Line<'_>,
 ) -> Result<Option<Labels>, AllocError>
-    ensures sent { IfOk result (λ found. found ≡ labels_after (map step_stage (drop place steps.old)) line.old.text line.old.labels) }
+    ensures sent { IfOk result (λ found. found ≡ labels_after (map step_stage (drop position steps.old)) line.old.text line.old.labels) }
     ensures same { steps.new ≡ steps.old }
     ensures line { line.new ≡ line.old }
 {
     let (labels, text) = (line.labels(), line.text());
-    if place >= steps.len() {
-        return send_from(alloc, steps, place, Draft::of(labels), text);
+    if position >= steps.len() {
+        return send_from(alloc, steps, position, Draft::of(labels), text);
     }
-    read_by(alloc, &mut steps[place], line)?;
-    match found_by(&steps[place], line) {
-        Some(found) => send_from(alloc, steps, place + 1, Draft::parsed(found), text),
-        None => send_from(alloc, steps, place, Draft::of(labels), text),
+    read_by(alloc, &mut steps[position], line)?;
+    match found_by(&steps[position], line) {
+        Some(found) => send_from(alloc, steps, position + 1, Draft::parsed(found), text),
+        None => send_from(alloc, steps, position, Draft::of(labels), text),
     }
 }
 
@@ -245,9 +245,9 @@ fn filters_in_front(steps: &[Step<'_>]) -> usize
     ensures within { result ≤ length steps.now }
     ensures left { (line : List ℕ) (labels : LabelSet) → labels_after (map step_stage steps.now) line labels ≡ labels_after (map step_stage (drop result steps.now)) line labels }
 {
-    for (place, step) in steps.iter().enumerate() {
+    for (position, step) in steps.iter().enumerate() {
         if !is_filter(step) {
-            return place;
+            return position;
         }
     }
     steps.len()
@@ -257,15 +257,15 @@ fn filters_in_front(steps: &[Step<'_>]) -> usize
 fn send_from(
     alloc: Global,
     steps: &mut [Step<'_>],
-    place: usize,
+    position: usize,
     draft: Draft<'_>,
     line: &str,
 ) -> Result<Option<Labels>, AllocError>
-    ensures sent { IfOk result (λ found. found ≡ labels_after (map step_stage (drop place steps.old)) line.now draft.entry) }
+    ensures sent { IfOk result (λ found. found ≡ labels_after (map step_stage (drop position steps.old)) line.now draft.entry) }
     ensures same { steps.new ≡ steps.old }
 {
     let mut draft = draft;
-    for index in place..steps.len() {
+    for index in position..steps.len() {
         if !send_on(alloc, &mut steps[index], &mut draft, line)? {
             return Ok(None);
         }

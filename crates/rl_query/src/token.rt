@@ -105,5 +105,5 @@ pub enum Token {
 #[derive(Drop)]
 pub struct Lexeme {
     pub token: Token,
-    pub place: usize,
+    pub offset: usize,
 }

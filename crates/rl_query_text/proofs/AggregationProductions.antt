@@ -19,7 +19,7 @@ use Rattle.rl_selector_text.proofs.TestProductions.{only_word}
 use Rattle.rl_query_text.specs.AggregationReading.{back_at, ended_at, front_at, grouped_at, groups_loudly, grouping_at, is_operator_word, label_name, named_at, names_in, nested, operator_at, top_at, topk_at}
 use Rattle.rl_selector_text.specs.Fronts.{expected, is_sign, next}
 use Rattle.rl_selector_text.specs.Standing.{Stand}
-use Rattle.rl_selector_text.specs.Stops.{place_of}
+use Rattle.rl_selector_text.specs.Stops.{offset_of}
 use Rattle.rl_query_text.specs.TermGrammar.{IsGrouping, IsParameter, OneSide, names_tokens}
 use Rattle.rl_selector_text.specs.Testing.{is_word}
 use Rattle.rl_query_text.specs.declared.aggregation_reading.Front.{Front}
@@ -34,14 +34,14 @@ use Rattle.std.specs.List.{list_all}
 abbrev name_tokens : List ℕ → List Token
 name_tokens name = tokens.Word name ∷ []
 
-label_found : (place : ℕ) (token : Token) → Finds (λ name. (token ≡ tokens.Word name) × (is_name name ≡ true)) (label_name place token)
-label_found place token = then _ (named_found place token) (λ name shown. by_test (is_name name) (λ is. found (shown, is)) (λ _. fault))
+label_found : (offset : ℕ) (token : Token) → Finds (λ name. (token ≡ tokens.Word name) × (is_name name ≡ true)) (label_name offset token)
+label_found offset token = then _ (named_found offset token) (λ name shown. by_test (is_name name) (λ is. found (shown, is)) (λ _. fault))
 
 named_read : IsSoundElement name_tokens is_name signs.CloseParenthesis named_at
 unfolding named_at
 named_read lexemes =
     then _ (next_found lexemes) (λ first a.
-    then _ (label_found first.0.place first.0.token) (λ name label.
+    then _ (label_found first.0.offset first.0.token) (λ name label.
     then _ (next_found first.1) (λ sign b.
     then _ (follows_found signs.CloseParenthesis sign.0.token _) (λ more shown.
     found (stand_then (name_tokens name) (follows signs.CloseParenthesis more ∷ []) lexemes first.1 sign.1 (stands_as lexemes first.1 label.0 a) (stands_as first.1 sign.1 shown b), label.1)))))
@@ -85,12 +85,12 @@ grouped_read room word lexemes following stand =
     })
 
 -- after the word
-grouped_is : (room : Room) (depth : ℕ) (word : List ℕ) (names : List (List ℕ)) (lexemes rest : List Lexeme) → room.depth ≡ suc depth → AreGrouped word names lexemes rest → (place : ℕ) × (following : List Lexeme) × (next lexemes ≡ Ok (record { token = tokens.Word word; place = place }, following)) × (grouped_at room following ≡ Ok (names, rest))
+grouped_is : (room : Room) (depth : ℕ) (word : List ℕ) (names : List (List ℕ)) (lexemes rest : List Lexeme) → room.depth ≡ suc depth → AreGrouped word names lexemes rest → (offset : ℕ) × (following : List Lexeme) × (next lexemes ≡ Ok (record { token = tokens.Word word; offset = offset }, following)) × (grouped_at room following ≡ Ok (names, rest))
 unfolding grouped_at
 grouped_is room depth word names lexemes rest deep are =
     let first = next_is (tokens.Word word) (tokens.Sign signs.OpenParenthesis ∷ names_tokens names) lexemes rest are.0 in
     let split = stand_split (tokens.Sign signs.OpenParenthesis ∷ []) (names_tokens names) first.following rest first.more in
-    (first.place, first.following, first.is, rw (opened_is positions.Elsewhere room depth first.following split.0 deep split.1, in_is names split.0 rest (split.2, are.1)) refl)
+    (first.offset, first.following, first.is, rw (opened_is positions.Elsewhere room depth first.following split.0 deep split.1, in_is names split.0 rest (split.2, are.1)) refl)
 
 pub grouping_read : (room : Room) (lexemes : List Lexeme) → Finds (λ x. IsGrouping x.0 lexemes x.1) (grouping_at room lexemes)
 unfolding grouping_at
@@ -119,9 +119,9 @@ grouping_is room depth (groupings.Without names) lexemes rest deep is ends = let
 
 -- Operators.
 
-top_at_found : (place : ℕ) (token : Token) → Finds (λ k. (number : List ℕ) × (token ≡ tokens.Number number) × (top_of number ≡ Some k)) (top_at place token)
-top_at_found place (tokens.Number number) = of_option Ok (top_of number) (λ k is. found (number, refl, is)) (λ _. fault)
-top_at_found place _ = fault
+top_at_found : (offset : ℕ) (token : Token) → Finds (λ k. (number : List ℕ) × (token ≡ tokens.Number number) × (top_of number ≡ Some k)) (top_at offset token)
+top_at_found offset (tokens.Number number) = of_option Ok (top_of number) (λ k is. found (number, refl, is)) (λ _. fault)
+top_at_found offset _ = fault
 
 -- an operator without a number of samples
 no_parameter : (word : List ℕ) (operator : VectorOperator) (lexemes : List Lexeme) → plain_operator word ≡ Some operator → word ≡ operator_word operator → IsParameter operator lexemes lexemes
@@ -134,7 +134,7 @@ operator_found word lexemes is = of_option _ (plain_operator word)
     (λ operator plain. let known = text_found operator_word word plain_operators operator plain in found (known, no_parameter word operator lexemes plain known))
     (λ none. let topk : is_text word (codes "topk") ≡ true = sym (ap (λ (o : Option VectorOperator). is_some o || is_text word (codes "topk")) none) ∙ is in
     then _ (next_found lexemes) (λ first stand.
-    then _ (top_at_found first.0.place first.0.token) (λ top number.
+    then _ (top_at_found first.0.offset first.0.token) (λ top number.
     then _ (expected_found signs.Comma positions.Elsewhere first.1) (λ following comma.
     let there = stand_then (tokens.Number number.0 ∷ []) (tokens.Sign signs.Comma ∷ []) lexemes first.1 following (stands_as lexemes first.1 number.1 stand) comma in
     found (same_text word (codes "topk") topk, (number.0, there, number.2))))))
@@ -159,14 +159,14 @@ pub record IsFront (word : List ℕ) (nest : ℕ) (room : Room) (front : Front) 
   pub word_is : word ≡ operator_word front.operator
   pub parameter : IsParameter front.operator after_parenthesis rest
 
-nested_found : (place nest : ℕ) → Finds (λ fewer. nest ≡ suc fewer) (nested place nest)
-nested_found place zero = fault
-nested_found place (suc nest) = found refl
+nested_found : (offset nest : ℕ) → Finds (λ fewer. nest ≡ suc fewer) (nested offset nest)
+nested_found offset zero = fault
+nested_found offset (suc nest) = found refl
 
 pub front_found : (word : List ℕ) (nest : ℕ) (room : Room) (lexemes : List Lexeme) → is_operator_word word ≡ true → Finds (λ x. IsFront word nest room x.0 lexemes x.1) (front_at word nest room lexemes)
 unfolding front_at
 front_found word nest room lexemes is =
-    then _ (nested_found (place_of lexemes) nest) (λ inner fewer.
+    then _ (nested_found (offset_of lexemes) nest) (λ inner fewer.
     then _ (grouping_read room lexemes) (λ grouping grouped.
     then _ (opened_read positions.Elsewhere room grouping.1) (λ following opened.
     then _ (operator_found word following.1 is) (λ operator known.

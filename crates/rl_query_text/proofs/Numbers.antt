@@ -27,7 +27,7 @@ front_len text = prefix_len (λ b. not (b == 46)) text
 
 front_short : (text : List ℕ) → length (front text (cut_at_point text)) ≤ front_len text
 front_short text =
-    cond_both (nat_lt (front_len text) (length text)) (Some (front_len text)) None (λ place. length (front text (option_map (λ n. (take n text, drop (n + 1) text)) place)) ≤ front_len text)
+    cond_both (nat_lt (front_len text) (length text)) (Some (front_len text)) None (λ offset. length (front text (option_map (λ n. (take n text, drop (n + 1) text)) offset)) ≤ front_len text)
     (λ _. omega (arith, length-prefix_len (λ b. not (b == 46)) text)) (λ above. ltb-false (front_len text) (length text) above)
 
 -- a row of few digits reads alike where more are let through
@@ -72,7 +72,7 @@ top_again k h = subst (λ text. top_of text ≡ Some k) (append-nil (decimal k))
 
 -- digits alone have no point
 no_cut : (text : List ℕ) → list_all is_ascii_digit text ≡ true → cut_at_point text ≡ None
-no_cut text are = ap (option_map (λ place. (take place text, drop (place + 1) text))) (cond-false (nat_lt (front_len text) (length text)) _ _ (false_from_ne_true _ (λ inside.
+no_cut text are = ap (option_map (λ offset. (take offset text, drop (offset + 1) text))) (cond-false (nat_lt (front_len text) (length text)) _ _ (false_from_ne_true _ (λ inside.
     let stop = prefix_len_stops (λ b. not (b == 46)) text 0 (ltb-true _ _ inside) in
     let digit = AllPass-from_list_all is_ascii_digit text are (front_len text) 0 (ltb-true _ _ inside) in
     grind (arith, nat_tests))))

@@ -11,7 +11,7 @@ use Rattle.rl_query_text.specs.AggregationReading.{nested, grouping_at, operator
 use Rattle.rl_selector_text.specs.Fronts.{expected}
 use Rattle.rl_query_text.specs.RangeReading.{opened_at}
 use Rattle.rl_query_text.specs.QueryReading.{Reader, in_parentheses, around, aggregated_at, term_in}
-use Rattle.rl_selector_text.specs.Stops.{place_of}
+use Rattle.rl_selector_text.specs.Stops.{offset_of}
 use Rattle.rl_query_text.proofs.Parentheses.{opened_read}
 use Rattle.rl_selector_text.proofs.Finding.{Finds, found, itself, then}
 
@@ -20,7 +20,7 @@ pub front_depth : (word : List ℕ) (nest : ℕ) (room : Room) (lexemes : List L
 unfolding front_at
 front_depth word nest room lexemes front opened h =
     let depths : Finds (λ x. room.depth ≡ suc x.0.room.depth) (front_at word nest room lexemes) =
-    then _ (itself (nested (place_of lexemes) nest)) (λ _ _.
+    then _ (itself (nested (offset_of lexemes) nest)) (λ _ _.
     then _ (itself (grouping_at room lexemes)) (λ grouping _.
     then _ (opened_read positions.Elsewhere room grouping.1) (λ opened is.
     then _ (itself (operator_at word opened.1)) (λ _ _. found (ap (λ (r : Room). r.depth) is.around))))) in

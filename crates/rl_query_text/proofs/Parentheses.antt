@@ -1,6 +1,6 @@
 -- Something in parentheses: what is read is derived, and what is derived is read.
 use Rattle.std.proofs.Common.{◌≡◌, ℕ, zero, suc, List, [], ◌∷◌, Ok, refl}
-use Rattle.rl_selector_text.specs.Stops.{place_of}
+use Rattle.rl_selector_text.specs.Stops.{offset_of}
 use Rattle.rl_selector_text.specs.declared.front.Position.{Position}
 use Rattle.rl_selector_text.specs.declared.front.Position.TheVariants as positions
 use Rattle.rl_selector_text.specs.declared.room.Room.{Room}
@@ -26,14 +26,14 @@ pub record IsOpened (room inside : Room) (lexemes following : List Lexeme) : Typ
   pub stand : Stand (tokens.Sign signs.OpenParenthesis ∷ []) lexemes following
   pub around : room ≡ outside inside
 
-deeper_found : (place depth : ℕ) (room : Room) → Finds (λ inside. inside_room room depth ≡ outside inside) (deeper place depth room)
-deeper_found place zero room = fault
-deeper_found place (suc depth) room = found refl
+deeper_found : (offset depth : ℕ) (room : Room) → Finds (λ inside. inside_room room depth ≡ outside inside) (deeper offset depth room)
+deeper_found offset zero room = fault
+deeper_found offset (suc depth) room = found refl
 
 pub opened_read : (position : Position) (room : Room) (lexemes : List Lexeme) → Finds (λ x. IsOpened room x.0 lexemes x.1) (opened_at position room lexemes)
 unfolding opened_at
 opened_read position room lexemes =
-    then _ (expected_found signs.OpenParenthesis position lexemes) (λ following stand. then _ (deeper_found (place_of lexemes) room.depth room) (λ inside is. found (record { stand = stand; around = is })))
+    then _ (expected_found signs.OpenParenthesis position lexemes) (λ following stand. then _ (deeper_found (offset_of lexemes) room.depth room) (λ inside is. found (record { stand = stand; around = is })))
 
 pub opened_is : (position : Position) (room : Room) (depth : ℕ) (lexemes following : List Lexeme) → room.depth ≡ suc depth → Stand (tokens.Sign signs.OpenParenthesis ∷ []) lexemes following → opened_at position room lexemes ≡ Ok (inside_room room depth, following)
 unfolding opened_at

@@ -102,15 +102,15 @@ compared_read (tokens.Sign signs.Equal) comparison h = cc
 compared_read (tokens.Sign _) comparison h = cc
 compared_read _ comparison h = cc
 
-number_found : (place : ℕ) (token : Token) → Finds (λ value. (number : List ℕ) × (token ≡ tokens.Number number) × (threshold_of number ≡ Some value)) (number_at place token)
-number_found place (tokens.Number number) = of_option Ok (threshold_of number) (λ value is. found (number, refl, is)) (λ _. fault)
-number_found place _ = fault
+number_found : (offset : ℕ) (token : Token) → Finds (λ value. (number : List ℕ) × (token ≡ tokens.Number number) × (threshold_of number ≡ Some value)) (number_at offset token)
+number_found offset (tokens.Number number) = of_option Ok (threshold_of number) (λ value is. found (number, refl, is)) (λ _. fault)
+number_found offset _ = fault
 
 threshold_found : (comparison : Comparison) (lexemes middle : List Lexeme) → Stand (tokens.Sign (comparison_sign comparison) ∷ []) lexemes middle → Finds (λ x. IsThreshold (Some x.0) lexemes x.1) (threshold_at comparison middle)
 unfolding threshold_at
 threshold_found comparison lexemes middle sign =
     then _ (next_found middle) (λ first stand.
-    then _ (number_found first.0.place first.0.token) (λ value number.
+    then _ (number_found first.0.offset first.0.token) (λ value number.
     found (number.0, stand_then (tokens.Sign (comparison_sign comparison) ∷ []) (tokens.Number number.0 ∷ []) lexemes middle first.1 sign (stands_as middle first.1 number.1 stand), number.2)))
 
 compared_sound : (room : Room) (left : TermForm) (over : Option TermForm) (test : Option ThresholdForm) (lexemes middle : List Lexeme) → IsRoomyQuery room (parts_of_query left over test) lexemes middle
@@ -147,9 +147,9 @@ pub whole_derived : (lexemes : List Lexeme) → Finding whole_room lexemes (whol
 unfolding whole_at
 whole_derived lexemes = within_sound (suc most_parentheses) whole_room lexemes
 
-end_found : (place : ℕ) (token : Token) → Finds (λ _. token ≡ tokens.End) (ends place token)
-end_found place tokens.End = found refl
-end_found place _ = fault
+end_found : (offset : ℕ) (token : Token) → Finds (λ _. token ≡ tokens.End) (ends offset token)
+end_found offset tokens.End = found refl
+end_found offset _ = fault
 
 -- a query that is read is derived
 pub query_derived : (text : List ℕ) → Finds (Derives text) (query_reading text)
@@ -157,5 +157,5 @@ unfolding query_in
 query_derived text =
     then _ (whole_derived (lexemes_of text)) (λ query roomy.
     then _ (next_found query.1) (λ last stand.
-    then _ (end_found last.0.place last.0.token) (λ _ is.
+    then _ (end_found last.0.offset last.0.token) (λ _ is.
     found (record { following = query.1; rest = last.1; is = roomy.is; end = stands_as query.1 last.1 is stand; few = roomy.fits.0; few_tests = roomy.fits.1; nested = roomy.fits.2 }))))

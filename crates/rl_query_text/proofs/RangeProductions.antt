@@ -26,20 +26,20 @@ use Rattle.rl_query_text.proofs.Parentheses.{inside_room, opened_read, opened_is
 abbrev IsSeconds : Token → ℕ → Type 0
 IsSeconds token seconds = (number : List ℕ) × (token ≡ tokens.Number number) × (duration_of number ≡ Some seconds) × ((1 ≤ seconds) × (seconds ≤ longest_range))
 
-range_read : (place : ℕ) (token : Token) → Finds (IsSeconds token) (range_of place token)
-range_read place (tokens.Number number) = by_duration (duration_of number) refl
+range_read : (offset : ℕ) (token : Token) → Finds (IsSeconds token) (range_of offset token)
+range_read offset (tokens.Number number) = by_duration (duration_of number) refl
   where
-    by_duration : (o : Option ℕ) → duration_of number ≡ o → Finds (IsSeconds (tokens.Number number)) (seconds_of o place number)
+    by_duration : (o : Option ℕ) → duration_of number ≡ o → Finds (IsSeconds (tokens.Number number)) (seconds_of o offset number)
     by_duration None is = by_test (looks_like_duration number) (λ _. fault) (λ _. fault)
     by_duration (Some s) is = by_test (nat_le 1 s && nat_le s longest_range) (λ within. let bounds = and_parts (nat_le 1 s) (nat_le s longest_range) within in found (number, refl, is, (leb-true 1 s bounds.0, leb-true s longest_range bounds.1))) (λ _. fault)
-range_read place _ = fault
+range_read offset _ = fault
 
 seconds_read : (position : Position) (lexemes : List Lexeme) → Finds (λ x. IsDuration x.0 lexemes x.1) (seconds_at position lexemes)
 unfolding seconds_at
 seconds_read position lexemes =
     then _ (expected_found signs.OpenBracket position lexemes) (λ bracket opened.
     then _ (next_found bracket) (λ number stand.
-    then _ (range_read number.0.place number.0.token) (λ seconds is.
+    then _ (range_read number.0.offset number.0.token) (λ seconds is.
     then _ (expected_found signs.CloseBracket positions.InRange number.1) (λ rest closed.
     let digits = stand_then (tokens.Number is.0 ∷ []) (tokens.Sign signs.CloseBracket ∷ []) bracket number.1 rest (stands_as bracket number.1 is.1 stand) closed in
     found (record { duration = is.0; stand = stand_then (tokens.Sign signs.OpenBracket ∷ []) (tokens.Number is.0 ∷ tokens.Sign signs.CloseBracket ∷ []) lexemes bracket rest opened digits; read = is.2; in_range = is.3 })))))

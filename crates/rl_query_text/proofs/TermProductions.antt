@@ -69,9 +69,9 @@ aggregated_sound inside sound word nest room lexemes following operator stand =
     let roomy : IsRoomyTerm nest (outside x.0.room) (around y.0 term.0) lexemes y.1 = record { is = inl aggregation; fits = omega (arith, front.fewer, inner.fits) } in
     found (subst (λ r. IsRoomyTerm nest r (around y.0 term.0) lexemes y.1) (sym front.opened.around) roomy))))
 
-begun_sound : (inside : TermReader) → IsSound inside → (position : Position) (place : ℕ) (token : Token) (nest : ℕ) (room : Room) (all following : List Lexeme) → Stand (token ∷ []) all following → Finds (λ x. IsRoomyTerm nest room x.0 all x.1) (begun_at inside position place token nest room all following)
+begun_sound : (inside : TermReader) → IsSound inside → (position : Position) (offset : ℕ) (token : Token) (nest : ℕ) (room : Room) (all following : List Lexeme) → Stand (token ∷ []) all following → Finds (λ x. IsRoomyTerm nest room x.0 all x.1) (begun_at inside position offset token nest room all following)
 unfolding ranged_at
-begun_sound inside sound position place (tokens.Word word) nest room all following stand = by_test (is_operator_word word)
+begun_sound inside sound position offset (tokens.Word word) nest room all following stand = by_test (is_operator_word word)
     (λ operator. aggregated_sound inside sound word nest room all following operator stand)
     (λ _. of_option _ (function_with_text word) (λ function is. then _ (range_derived room following) (λ x range.
     let begins = stands_as all following (ap tokens.Word (text_found function_text word all_functions function is)) stand in
@@ -79,19 +79,19 @@ begun_sound inside sound position place (tokens.Word word) nest room all followi
     let is : IsTerm (suc range.inside) made all x.1 = inl (following, begins, range.is) in
     found (record { is = subst (λ n. IsTerm n made all x.1) (sym range.depth) is; fits = (omega arith, range.few, range.few_tests) })))
     (λ _. fault))
-begun_sound inside sound position place (tokens.Sign sign) nest room all following stand = by_test (is_sign signs.OpenParenthesis (tokens.Sign sign))
+begun_sound inside sound position offset (tokens.Sign sign) nest room all following stand = by_test (is_sign signs.OpenParenthesis (tokens.Sign sign))
     (λ _. record {
       is = λ x h.
           let p = (parentheses_read (IsRoomyTerm nest) positions.InTerm (inside positions.InTerm nest) room all (sound positions.InTerm nest)).is x h in
           subst (λ r. IsRoomyTerm nest r x.0 all x.1) (sym p.1) (record { is = inr (inside_mapped (λ _ _ inner. inner.is) p.2); fits = p.2.inside.fits });
     })
     (λ _. fault)
-begun_sound inside sound position place _ nest room all following stand = fault
+begun_sound inside sound position offset _ nest room all following stand = fault
 
 in_sound : (turns : ℕ) → IsSound (term_in turns)
 unfolding term_by
 in_sound zero position nest room lexemes = fault
-in_sound (suc turns) position nest room lexemes = then _ (next_found lexemes) (λ first stand. begun_sound (term_in turns) (in_sound turns) position first.0.place first.0.token nest room lexemes first.1 stand)
+in_sound (suc turns) position nest room lexemes = then _ (next_found lexemes) (λ first stand. begun_sound (term_in turns) (in_sound turns) position first.0.offset first.0.token nest room lexemes first.1 stand)
 
 pub term_derived : (position : Position) (room : Room) (lexemes : List Lexeme) → Finds (λ x. IsRoomyTerm most_aggregations room x.0 lexemes x.1) (term_at position room lexemes)
 term_derived position room lexemes = in_sound (suc room.depth) position most_aggregations room lexemes

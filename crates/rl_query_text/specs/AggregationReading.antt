@@ -12,7 +12,7 @@ use Rattle.rl_query.specs.declared.aggregation.VectorOperator.{VectorOperator}
 use Rattle.rl_query.specs.declared.aggregation.VectorOperator.TheVariants as operators
 use Rattle.rl_selector_text.specs.Bytes.{point}
 use Rattle.rl_selector_text.specs.declared.stop.Stop.{Stop}
-use Rattle.rl_selector_text.specs.Stops.{stop, syntax, unsupported, place_of}
+use Rattle.rl_selector_text.specs.Stops.{stop, syntax, unsupported, offset_of}
 use Rattle.rl_query.specs.declared.fault.QueryFault.TheVariants as faults
 use Rattle.rl_query_text.specs.declared.aggregation_reading.Front.{Front}
 use Rattle.rl_selector_text.specs.declared.front.Position.TheVariants as positions
@@ -32,19 +32,19 @@ use Rattle.rl_selector_text.specs.Testing.{is_word}
 
 -- a name that a label may have
 abbrev pub label_name : ℕ → Token → Result (List ℕ) Stop
-label_name place token = name_of place token >>= λ name. if is_name name then Ok name else Err (syntax place)
+label_name offset token = name_of offset token >>= λ name. if is_name name then Ok name else Err (syntax offset)
 
 -- after a name: whether another follows
 abbrev pub name_follows : ℕ → Token → Result Bool Stop
-name_follows place token = if is_sign signs.Comma token then Ok true else (if is_sign signs.CloseParenthesis token then Ok false else Err (refusal positions.Elsewhere place token))
+name_follows offset token = if is_sign signs.Comma token then Ok true else (if is_sign signs.CloseParenthesis token then Ok false else Err (refusal positions.Elsewhere offset token))
 
 -- a name, and whether another follows
 unfoldable pub named_at : List Lexeme → Result (List ℕ × Bool × List Lexeme) Stop
 named_at lexemes = do
   first ← next lexemes
-  name ← label_name first.0.place first.0.token
+  name ← label_name first.0.offset first.0.token
   following ← next first.1
-  more ← name_follows following.0.place following.0.token
+  more ← name_follows following.0.offset following.0.token
   Ok (name, more, following.1)
 
 -- names joined by commas up to the closing parenthesis, or none
@@ -68,18 +68,18 @@ groups_loudly _ = false
 unfoldable pub grouping_at : Room → List Lexeme → Result (Grouping × List Lexeme) Stop
 grouping_at room lexemes = do
   first ← next lexemes
-  if is_word (codes "by") first.0.token then (grouped_at room first.1 >>= λ names. Ok (groupings.By names.0, names.1)) else (if is_word (codes "without") first.0.token then (grouped_at room first.1 >>= λ names. Ok (groupings.Without names.0, names.1)) else (if groups_loudly first.0.token then Err (unsupported first.0.place) else Ok (groupings.All, lexemes)))
+  if is_word (codes "by") first.0.token then (grouped_at room first.1 >>= λ names. Ok (groupings.By names.0, names.1)) else (if is_word (codes "without") first.0.token then (grouped_at room first.1 >>= λ names. Ok (groupings.Without names.0, names.1)) else (if groups_loudly first.0.token then Err (unsupported first.0.offset) else Ok (groupings.All, lexemes)))
 
 -- the number of samples that topk keeps
 abbrev pub top_at : ℕ → Token → Result ℕ Stop
-top_at place (tokens.Number number) = option_map_or Ok (top_of number) (Err (unsupported place))
-top_at place token = Err (refusal positions.InParameter place token)
+top_at offset (tokens.Number number) = option_map_or Ok (top_of number) (Err (unsupported offset))
+top_at offset token = Err (refusal positions.InParameter offset token)
 
 -- that number and a comma
 unfoldable pub topk_at : List Lexeme → Result (VectorOperator × List Lexeme) Stop
 topk_at lexemes = do
   number ← next lexemes
-  top ← top_at number.0.place number.0.token
+  top ← top_at number.0.offset number.0.token
   following ← expected signs.Comma positions.Elsewhere number.1
   Ok (operators.Topk top, following)
 
@@ -92,14 +92,14 @@ abbrev pub is_operator_word : List ℕ → Bool
 is_operator_word word = is_some (plain_operator word) || is_text word (codes "topk")
 
 -- one vector aggregation more
-abbrev pub nested : (place nest : ℕ) → Result ℕ Stop
-nested place zero = Err (stop faults.TooDeep place)
-nested place (suc nest) = Ok nest
+abbrev pub nested : (offset nest : ℕ) → Result ℕ Stop
+nested offset zero = Err (stop faults.TooDeep offset)
+nested offset (suc nest) = Ok nest
 
 -- what follows the word of a vector aggregation, up to the term in it
 unfoldable pub front_at : (word : List ℕ) → (nest : ℕ) → Room → List Lexeme → Result (Front × List Lexeme) Stop
 front_at word nest room lexemes = do
-  fewer ← nested (place_of lexemes) nest
+  fewer ← nested (offset_of lexemes) nest
   grouping ← grouping_at room lexemes
   opened ← opened_at positions.Elsewhere room grouping.1
   operator ← operator_at word opened.1
@@ -123,12 +123,12 @@ are_digits bytes = nat_lt 0 (length bytes) && list_all is_ascii_digit bytes
 
 -- digits, and perhaps a point and digits after it, however many
 abbrev pub is_digits : List ℕ → Bool
-is_digits number = option_map_or (λ place. are_digits (take place number) && are_digits (drop (place + 1) number)) (position (λ b. b == point) number) (are_digits number)
+is_digits number = option_map_or (λ offset. are_digits (take offset number) && are_digits (drop (offset + 1) number)) (position (λ b. b == point) number) (are_digits number)
 
 -- the number of a threshold
 abbrev pub number_at : ℕ → Token → Result DecimalForm Stop
-number_at place (tokens.Number number) = option_map_or Ok (threshold_of number) (Err (if is_digits number then unsupported place else syntax place))
-number_at place token = Err (refusal positions.InThreshold place token)
+number_at offset (tokens.Number number) = option_map_or Ok (threshold_of number) (Err (if is_digits number then unsupported offset else syntax offset))
+number_at offset token = Err (refusal positions.InThreshold offset token)
 
 -- the comparison of a threshold that a token is; `=` is none
 abbrev pub compared_by : Token → Option Comparison
@@ -140,5 +140,5 @@ compared_by _ = None
 unfoldable pub threshold_at : Comparison → List Lexeme → Result (ThresholdForm × List Lexeme) Stop
 threshold_at comparison lexemes = do
   first ← next lexemes
-  value ← number_at first.0.place first.0.token
+  value ← number_at first.0.offset first.0.token
   Ok (record { comparison = comparison; value = value }, first.1)

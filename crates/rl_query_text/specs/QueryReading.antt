@@ -3,7 +3,7 @@ use Rattle.std.specs.Prelude.{ℕ, zero, suc, ◌-◌, Bool, not, ◌&&◌, List
 use Rattle.std.specs.Option.{option_map_or}
 use Rattle.rl_plain.specs.Answers.{◌>>=◌}
 use Rattle.rl_selector_text.specs.declared.stop.Stop.{Stop}
-use Rattle.rl_selector_text.specs.Stops.{stop, place_of, fault_of}
+use Rattle.rl_selector_text.specs.Stops.{stop, offset_of, fault_of}
 use Rattle.rl_query.specs.declared.fault.QueryFault.{QueryFault}
 use Rattle.rl_query.specs.declared.fault.QueryFault.TheVariants as faults
 use Rattle.rl_selector_text.specs.declared.front.Position.{Position}
@@ -58,25 +58,25 @@ ranged_at function room lexemes = do
   Ok (record { aggregations = []; function = function; range = range.0 }, range.1)
 
 -- a term after the word with which it begins
-abbrev pub worded_at : TermReader → Position → (place : ℕ) → (word : List ℕ) → (nest : ℕ) → Reader TermForm
-worded_at inside position place word nest room lexemes =
+abbrev pub worded_at : TermReader → Position → (offset : ℕ) → (word : List ℕ) → (nest : ℕ) → Reader TermForm
+worded_at inside position offset word nest room lexemes =
     if is_operator_word word then aggregated_at inside word nest room lexemes
-    else option_map_or (λ function. ranged_at function room lexemes) (function_with_text word) (Err (refusal position place (tokens.Word word)))
+    else option_map_or (λ function. ranged_at function room lexemes) (function_with_text word) (Err (refusal position offset (tokens.Word word)))
 
 -- a term that begins with the token; the others follow it
-abbrev pub begun_at : TermReader → Position → (place : ℕ) → Token → (nest : ℕ) → Room → (all following : List Lexeme) → Result (TermForm × List Lexeme) Stop
-begun_at inside position place (tokens.Word word) nest room all following = worded_at inside position place word nest room following
-begun_at inside position place token nest room all following = if is_sign signs.OpenParenthesis token then in_parentheses positions.InTerm (inside positions.InTerm nest) room all else Err (refusal position place token)
+abbrev pub begun_at : TermReader → Position → (offset : ℕ) → Token → (nest : ℕ) → Room → (all following : List Lexeme) → Result (TermForm × List Lexeme) Stop
+begun_at inside position offset (tokens.Word word) nest room all following = worded_at inside position offset word nest room following
+begun_at inside position offset token nest room all following = if is_sign signs.OpenParenthesis token then in_parentheses positions.InTerm (inside positions.InTerm nest) room all else Err (refusal position offset token)
 
 -- a term whose inside is read so
 unfoldable pub term_by : TermReader → TermReader
 term_by inside position nest room lexemes = do
   first ← next lexemes
-  begun_at inside position first.0.place first.0.token nest room lexemes first.1
+  begun_at inside position first.0.offset first.0.token nest room lexemes first.1
 
 -- a term in which terms stand within one another at most `turns` deep
 abbrev pub term_in : (turns : ℕ) → TermReader
-term_in zero position nest room lexemes = Err (stop faults.TooDeep (place_of lexemes))
+term_in zero position nest room lexemes = Err (stop faults.TooDeep (offset_of lexemes))
 term_in (suc turns) position nest room lexemes = term_by (term_in turns) position nest room lexemes
 
 -- each term within another takes a parenthesis
@@ -148,13 +148,13 @@ query_by inside room lexemes = do
 
 -- a query in which queries stand within one another at most `turns` deep
 abbrev pub query_within : (turns : ℕ) → Reader QueryForm
-query_within zero room lexemes = Err (stop faults.TooDeep (place_of lexemes))
+query_within zero room lexemes = Err (stop faults.TooDeep (offset_of lexemes))
 query_within (suc turns) room lexemes = query_by (query_within turns) room lexemes
 
 -- nothing follows a query
 abbrev pub ends : ℕ → Token → Result (Unit {0}) Stop
-ends place tokens.End = Ok tt
-ends place token = Err (refusal positions.AfterTerm place token)
+ends offset tokens.End = Ok tt
+ends offset token = Err (refusal positions.AfterTerm offset token)
 
 -- all that a text may have
 abbrev pub whole_room : Room
@@ -169,7 +169,7 @@ unfoldable pub query_in : List Lexeme → Result QueryForm Stop
 query_in lexemes = do
   query ← whole_at lexemes
   lexeme ← next query.1
-  nothing ← ends lexeme.0.place lexeme.0.token
+  nothing ← ends lexeme.0.offset lexeme.0.token
   Ok query.0
 
 -- the query that a text is, or where reading it from the left stops

@@ -7,7 +7,7 @@ use Rattle.rl_query.specs.Limits.{longest_range}
 use Rattle.rl_query.specs.Form.{StageForm, RangeForm}
 use Rattle.std.specs.Char.{is_ascii_digit}
 use Rattle.rl_selector_text.specs.declared.stop.Stop.{Stop}
-use Rattle.rl_selector_text.specs.Stops.{stop, syntax, place_of}
+use Rattle.rl_selector_text.specs.Stops.{stop, syntax, offset_of}
 use Rattle.rl_query.specs.declared.fault.QueryFault.TheVariants as faults
 use Rattle.rl_selector_text.specs.declared.front.Position.{Position}
 use Rattle.rl_selector_text.specs.declared.front.Position.TheVariants as positions
@@ -33,24 +33,24 @@ abbrev pub looks_like_duration : List ℕ → Bool
 looks_like_duration bytes = (list_all is_duration_byte bytes && is_unit_letter (slice_index bytes (length bytes - 1))) || is_some (label_duration_of bytes)
 
 -- whole seconds, from 1 to the longest range
-abbrev pub checked_range : (place seconds : ℕ) → Result ℕ Stop
-checked_range place seconds = if nat_le 1 seconds && nat_le seconds longest_range then Ok seconds else Err (stop faults.BadRange place)
+abbrev pub checked_range : (offset seconds : ℕ) → Result ℕ Stop
+checked_range offset seconds = if nat_le 1 seconds && nat_le seconds longest_range then Ok seconds else Err (stop faults.BadRange offset)
 
 -- the seconds of a number with units
 abbrev pub seconds_of : Option ℕ → ℕ → List ℕ → Result ℕ Stop
-seconds_of (Some seconds) place number = checked_range place seconds
-seconds_of None place number = if looks_like_duration number then Err (stop faults.BadRange place) else Err (syntax place)
+seconds_of (Some seconds) offset number = checked_range offset seconds
+seconds_of None offset number = if looks_like_duration number then Err (stop faults.BadRange offset) else Err (syntax offset)
 
 abbrev pub range_of : ℕ → Token → Result ℕ Stop
-range_of place (tokens.Number number) = seconds_of (duration_of number) place number
-range_of place token = Err (refusal positions.Elsewhere place token)
+range_of offset (tokens.Number number) = seconds_of (duration_of number) offset number
+range_of offset token = Err (refusal positions.Elsewhere offset token)
 
 -- a range in brackets
 unfoldable pub seconds_at : Position → List Lexeme → Result (ℕ × List Lexeme) Stop
 seconds_at position lexemes = do
   bracket ← expected signs.OpenBracket position lexemes
   number ← next bracket
-  seconds ← range_of number.0.place number.0.token
+  seconds ← range_of number.0.offset number.0.token
   closed ← expected signs.CloseBracket positions.InRange number.1
   Ok (seconds, closed)
 
@@ -78,15 +78,15 @@ closing_at room lexemes = do
   timed_at room front.0 front.1
 
 -- the room inside one parenthesis more
-abbrev pub deeper : (place depth : ℕ) → Room → Result Room Stop
-deeper place zero room = Err (stop faults.TooDeep place)
-deeper place (suc depth) room = Ok (record { depth = depth; stages = room.stages; tests = room.tests })
+abbrev pub deeper : (offset depth : ℕ) → Room → Result Room Stop
+deeper offset zero room = Err (stop faults.TooDeep offset)
+deeper offset (suc depth) room = Ok (record { depth = depth; stages = room.stages; tests = room.tests })
 
 -- an opening parenthesis, and the room inside it
 unfoldable pub opened_at : Position → Room → List Lexeme → Result (Room × List Lexeme) Stop
 opened_at position room lexemes = do
   following ← expected signs.OpenParenthesis position lexemes
-  inside ← deeper (place_of lexemes) room.depth room
+  inside ← deeper (offset_of lexemes) room.depth room
   Ok (inside, following)
 
 -- a selector, stages and a range in parentheses

@@ -21,7 +21,7 @@ use rl_query::quantity_test::Comparison;
 use rl_query::token::{Lexeme, Sign, Token};
 use rl_selector_text::front::{Position, expected, is_sign, name_of, next, refusal};
 use rl_selector_text::room::Room;
-use rl_selector_text::stop::{Stop, Stopped, place_of};
+use rl_selector_text::stop::{Stop, Stopped, offset_of};
 use rl_selector_text::testing::{comparison_of, is_word};
 use std::alloc::Global;
 
@@ -39,18 +39,18 @@ pub struct Front {
 
 // The name of a label.
 fn label_name(lexeme: &Lexeme) -> Result<&PlainText, Stop>
-    ensures { Answers (λ name. name.now) result (label_name lexeme.now.place lexeme.now.token) }
+    ensures { Answers (λ name. name.now) result (label_name lexeme.now.offset lexeme.now.token) }
 {
     let name = name_of(lexeme)?;
     if is_label_name(name.as_str()) {
         return Ok(name);
     }
-    Err(Stop::syntax(lexeme.place))
+    Err(Stop::syntax(lexeme.offset))
 }
 
 // Whether another name follows.
 fn name_follows(lexeme: &Lexeme) -> Result<bool, Stop>
-    ensures { result ≡ name_follows lexeme.now.place lexeme.now.token }
+    ensures { result ≡ name_follows lexeme.now.offset lexeme.now.token }
 {
     if is_sign(Sign::Comma, &lexeme.token) {
         return Ok(true);
@@ -58,7 +58,7 @@ fn name_follows(lexeme: &Lexeme) -> Result<bool, Stop>
     if is_sign(Sign::CloseParenthesis, &lexeme.token) {
         return Ok(false);
     }
-    Err(refusal(Position::Elsewhere, lexeme.place, &lexeme.token))
+    Err(refusal(Position::Elsewhere, lexeme.offset, &lexeme.token))
 }
 
 // A name, and whether another follows.
@@ -149,7 +149,7 @@ fn grouping_in(
         return Ok((Grouping::Without(names), rest));
     }
     if groups_loudly(&first.token) {
-        return Err(Stopped::Fault(Stop::unsupported(first.place)));
+        return Err(Stopped::Fault(Stop::unsupported(first.offset)));
     }
     Ok((Grouping::All, lexemes))
 }
@@ -180,12 +180,12 @@ fn top_of(number: &str) -> Option<u16>
 }
 
 fn top_at(lexeme: &Lexeme) -> Result<u16, Stop>
-    ensures top { result ≡ top_at lexeme.now.place lexeme.now.token }
+    ensures top { result ≡ top_at lexeme.now.offset lexeme.now.token }
     ensures proper { IfOk result (λ top. IsTrue (is_top top)) }
 {
     match &lexeme.token {
-        Token::Number(number) => top_of(number.as_str()).ok_or(Stop::unsupported(lexeme.place)),
-        token => Err(refusal(Position::InParameter, lexeme.place, token)),
+        Token::Number(number) => top_of(number.as_str()).ok_or(Stop::unsupported(lexeme.offset)),
+        token => Err(refusal(Position::InParameter, lexeme.offset, token)),
     }
 }
 
@@ -237,11 +237,11 @@ pub(crate) fn is_operator_word(word: &str) -> bool
 }
 
 // One vector aggregation more.
-fn nested(place: usize, nest: usize) -> Result<usize, Stop>
-    ensures { result ≡ nested place nest }
+fn nested(offset: usize, nest: usize) -> Result<usize, Stop>
+    ensures { result ≡ nested offset nest }
 {
     if nest == 0 {
-        return Err(Stop::new(QueryFault::TooDeep, place));
+        return Err(Stop::new(QueryFault::TooDeep, offset));
     }
     Ok(nest - 1)
 }
@@ -259,7 +259,7 @@ pub(crate) fn front_at<'a>(
     ensures proper { IfOk result (λ x. IsTrue (is_operator x.0.operator)) }
     ensures named { IfOk result (λ x. IsTrue (is_grouping x.0.grouping)) }
 {
-    let nest = nested(place_of(lexemes), nest)?;
+    let nest = nested(offset_of(lexemes), nest)?;
     let (grouping, rest) = grouping_at(alloc, room, lexemes)?;
     let (room, rest) = opened_at(Position::Elsewhere, room, rest)?;
     let (operator, rest) = operator_at(word, rest)?;
@@ -323,8 +323,8 @@ fn are_digits(bytes: &[u8]) -> bool
 
 // The index of the first point.
 fn point_in(text: &[u8]) -> Option<usize>
-    ensures place { result ≡ position (λ b. b == 46) text.now }
-    ensures inside { IfSome result (λ place. place < length text.now) }
+    ensures offset { result ≡ position (λ b. b == 46) text.now }
+    ensures inside { IfSome result (λ offset. offset < length text.now) }
 {
     text.iter().position(|byte| *byte == b'.')
 }
@@ -334,8 +334,8 @@ fn is_digits(number: &[u8]) -> bool
     ensures { result ≡ is_digits number.now }
 {
     match point_in(number) {
-        Some(place) => {
-            are_digits(number.split_at(place).0) && are_digits(number.split_at(place + 1).1)
+        Some(offset) => {
+            are_digits(number.split_at(offset).0) && are_digits(number.split_at(offset + 1).1)
         }
         None => are_digits(number),
     }
@@ -347,7 +347,7 @@ fn has_few_digits(number: &[u8], value: Decimal) -> bool
     ensures { result ≡ nat_le value.digits 6 }
 {
     match point_in(number) {
-        Some(place) => number.len() - place - 1 <= 6,
+        Some(offset) => number.len() - offset - 1 <= 6,
         None => true,
     }
 }
@@ -365,19 +365,19 @@ fn threshold_of(number: &str) -> Option<Decimal>
 }
 
 fn number_at(lexeme: &Lexeme) -> Result<Decimal, Stop>
-    ensures value { result ≡ number_at lexeme.now.place lexeme.now.token }
+    ensures value { result ≡ number_at lexeme.now.offset lexeme.now.token }
     ensures proper { IfOk result (λ value. IsTrue (is_threshold value)) }
 {
     match &lexeme.token {
         Token::Number(number) => match threshold_of(number.as_str()) {
             Some(value) => Ok(value),
             None => Err(if is_digits(number.as_str().as_bytes()) {
-                Stop::unsupported(lexeme.place)
+                Stop::unsupported(lexeme.offset)
             } else {
-                Stop::syntax(lexeme.place)
+                Stop::syntax(lexeme.offset)
             }),
         },
-        token => Err(refusal(Position::InThreshold, lexeme.place, token)),
+        token => Err(refusal(Position::InThreshold, lexeme.offset, token)),
     }
 }
 

@@ -239,11 +239,11 @@ fn query_at(
 
 // Nothing follows a query.
 fn ends(lexeme: &Lexeme) -> Result<(), Stop>
-    ensures { result ≡ ends lexeme.now.place lexeme.now.token }
+    ensures { result ≡ ends lexeme.now.offset lexeme.now.token }
 {
     match &lexeme.token {
         Token::End => Ok(()),
-        token => Err(refusal(Position::AfterTerm, lexeme.place, token)),
+        token => Err(refusal(Position::AfterTerm, lexeme.offset, token)),
     }
 }
 

@@ -21,7 +21,7 @@ use rl_selector_text::front::{Position, expected, next, refusal};
 use rl_selector_text::room::Room;
 use rl_selector_text::selector::selector_at;
 use rl_selector_text::stage::{after_stages, stages_at};
-use rl_selector_text::stop::{Stop, Stopped, place_of};
+use rl_selector_text::stop::{Stop, Stopped, offset_of};
 use std::alloc::Global;
 
 // Digits, points and letters of units, with a letter at the end, or a duration as label tests have it.
@@ -66,37 +66,37 @@ fn ends_with_letter(bytes: &[u8]) -> bool
 
 // The seconds of a range.
 fn range_of(lexeme: &Lexeme) -> Result<u64, Stop>
-    ensures read { result ≡ range_of lexeme.now.place lexeme.now.token }
+    ensures read { result ≡ range_of lexeme.now.offset lexeme.now.token }
     ensures fits { IfOk result (λ seconds. (1 ≤ seconds) × (seconds ≤ longest_range)) }
 {
     match &lexeme.token {
-        Token::Number(number) => seconds_of(lexeme.place, number.as_str()),
-        token => Err(refusal(Position::Elsewhere, lexeme.place, token)),
+        Token::Number(number) => seconds_of(lexeme.offset, number.as_str()),
+        token => Err(refusal(Position::Elsewhere, lexeme.offset, token)),
     }
 }
 
-fn seconds_of(place: usize, number: &str) -> Result<u64, Stop>
-    ensures read { result ≡ seconds_of (duration_of number.now) place number.now }
+fn seconds_of(offset: usize, number: &str) -> Result<u64, Stop>
+    ensures read { result ≡ seconds_of (duration_of number.now) offset number.now }
     ensures fits { IfOk result (λ seconds. (1 ≤ seconds) × (seconds ≤ longest_range)) }
 {
     match duration_of(number.as_bytes()) {
-        Some(seconds) => checked_range(place, seconds),
+        Some(seconds) => checked_range(offset, seconds),
         None => Err(if looks_like_duration(number) {
-            Stop::new(QueryFault::BadRange, place)
+            Stop::new(QueryFault::BadRange, offset)
         } else {
-            Stop::syntax(place)
+            Stop::syntax(offset)
         }),
     }
 }
 
-fn checked_range(place: usize, seconds: u64) -> Result<u64, Stop>
-    ensures read { result ≡ checked_range place seconds }
+fn checked_range(offset: usize, seconds: u64) -> Result<u64, Stop>
+    ensures read { result ≡ checked_range offset seconds }
     ensures fits { IfOk result (λ seconds. (1 ≤ seconds) × (seconds ≤ longest_range)) }
 {
     if seconds >= 1 && seconds <= LONGEST_RANGE {
         return Ok(seconds);
     }
-    Err(Stop::new(QueryFault::BadRange, place))
+    Err(Stop::new(QueryFault::BadRange, offset))
 }
 
 // The seconds of a range between its brackets.
@@ -178,11 +178,11 @@ fn closing_at(
 }
 
 // The room inside one parenthesis more.
-fn deeper(place: usize, room: Room) -> Result<Room, Stop>
-    ensures { result ≡ deeper place room.depth room }
+fn deeper(offset: usize, room: Room) -> Result<Room, Stop>
+    ensures { result ≡ deeper offset room.depth room }
 {
     if room.depth == 0 {
-        return Err(Stop::new(QueryFault::TooDeep, place));
+        return Err(Stop::new(QueryFault::TooDeep, offset));
     }
     Ok(Room {
         depth: room.depth - 1,
@@ -201,7 +201,7 @@ pub(crate) fn opened_at(
     ensures { Answers (λ x. (x.0, x.1.now)) result (opened_at position room lexemes.now) }
 {
     let following = expected(Sign::OpenParenthesis, position, lexemes)?;
-    let inside = deeper(place_of(lexemes), room)?;
+    let inside = deeper(offset_of(lexemes), room)?;
     Ok((inside, following))
 }
 

@@ -94,20 +94,20 @@ fn enclosed_at(
 fn worded_at<'a>(
     alloc: Global,
     position: Position,
-    place: usize,
+    offset: usize,
     word: &str,
     nest: usize,
     room: Room,
     lexemes: &'a [Lexeme],
 ) -> Result<(DraftTerm, &'a [Lexeme]), Stopped>
-    ensures { Gives (λ x. (term_draft x.0, x.1.now)) result (worded_at (term_in room.depth) position place word.now nest room lexemes.now) }
+    ensures { Gives (λ x. (term_draft x.0, x.1.now)) result (worded_at (term_in room.depth) position offset word.now nest room lexemes.now) }
 {
     if is_operator_word(word) {
         return aggregated_at(alloc, word, nest, room, lexemes);
     }
     match RangeFunction::with_text(word) {
         Some(function) => ranged_at(alloc, function, room, lexemes),
-        None => Err(Stopped::Fault(refused_word(position, place, word))),
+        None => Err(Stopped::Fault(refused_word(position, offset, word))),
     }
 }
 
@@ -129,7 +129,7 @@ fn term_in(
             worded_at(
                 alloc,
                 position,
-                first.place,
+                first.offset,
                 word.as_str(),
                 nest,
                 room,
@@ -140,7 +140,7 @@ fn term_in(
             if is_sign(Sign::OpenParenthesis, token) {
                 return enclosed_at(alloc, nest, room, lexemes);
             }
-            Err(Stopped::Fault(refusal(position, first.place, token)))
+            Err(Stopped::Fault(refusal(position, first.offset, token)))
         }
     }
 }

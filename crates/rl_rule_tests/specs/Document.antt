@@ -114,7 +114,7 @@ billionths_of decimal = record { numerator = billionths decimal; denominator = 1
 
 -- the parts before and after the first slash
 abbrev pub cut_at_slash : List ℕ → Option (List ℕ × List ℕ)
-cut_at_slash text = option_map (λ place. (take place text, drop (place + 1) text)) (position (λ byte. byte == 47) text)
+cut_at_slash text = option_map (λ offset. (take offset text, drop (offset + 1) text)) (position (λ byte. byte == 47) text)
 
 -- the fraction that a text is: `12`, `0.2` or `1/5`
 abbrev pub fraction_in_parts : List ℕ → Option (List ℕ × List ℕ) → Option Fraction

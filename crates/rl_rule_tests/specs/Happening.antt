@@ -93,12 +93,12 @@ happenings groups test =
     ++ map check_event (enumerate_from 0 test.checks.items)
 
 -- at one moment lines come first, then edits, evaluations and checks
-abbrev pub place : What → ℕ
-place whats.Line = 0
-place whats.Edit = 1
-place whats.Evaluation = 2
-place whats.Check = 3
+abbrev pub rank : What → ℕ
+rank whats.Line = 0
+rank whats.Edit = 1
+rank whats.Evaluation = 2
+rank whats.Check = 3
 
 -- the order of what happens: by moment, by what it is, by its number, and by its line
 abbrev pub event_cmp : Event → Event → Ordering
-event_cmp a b = ordering_then (ordering_then (ordering_then (nat_cmp a.at b.at) (nat_cmp (place a.what) (place b.what))) (nat_cmp a.number b.number)) (nat_cmp a.line b.line)
+event_cmp a b = ordering_then (ordering_then (ordering_then (nat_cmp a.at b.at) (nat_cmp (rank a.what) (rank b.what))) (nat_cmp a.number b.number)) (nat_cmp a.line b.line)

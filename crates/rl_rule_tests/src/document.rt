@@ -86,8 +86,8 @@ fn toml_fault(alloc: Global, text: &str, error: &Error) -> TestsError {
         None => 0,
     };
     let (mut line, mut column) = (1usize, 1usize);
-    for (place, letter) in text.char_indices() {
-        if place >= start {
+    for (offset, letter) in text.char_indices() {
+        if offset >= start {
             break;
         }
         if letter == '\n' {

@@ -2,7 +2,7 @@
 ghost use Rattle.std.specs.Prelude.{◌≡◌, [], ◌∷◌, ◌++◌, map, IfOk, OnOk};
 ghost use Rattle.std.specs.List.{enumerate_from, flat_map};
 ghost use Rattle.std.specs.List.Sorted.{IsPermutation, IsSorted};
-ghost use Rattle.rl_rule_tests.specs.Happening.{check_event, edit_event, evaluations_of, event_cmp, happenings, interval_steps, last_check, later, moments_of, place, steps_of, stream_events};
+ghost use Rattle.rl_rule_tests.specs.Happening.{check_event, edit_event, evaluations_of, event_cmp, happenings, interval_steps, last_check, later, moments_of, rank, steps_of, stream_events};
 
 use crate::document::{Check, Edit, MOST_MOMENTS, Span, Test};
 use crate::judging::is_named;
@@ -59,14 +59,14 @@ fn order(one: &Event, other: &Event) -> Ordering
 {
     one.at
         .cmp(&other.at)
-        .then(place(one.what).cmp(&place(other.what)))
+        .then(rank(one.what).cmp(&rank(other.what)))
         .then(one.number.cmp(&other.number))
         .then(one.line.cmp(&other.line))
 }
 
 // What comes first of what happens at one moment.
-fn place(what: What) -> u8
-    ensures { result ≡ place what }
+fn rank(what: What) -> u8
+    ensures { result ≡ rank what }
 {
     match what {
         What::Line => 0,

@@ -5,7 +5,7 @@ use std::alloc::{AllocError, Global};
 /// What is wrong with a test file, and where: `tests 2, streams 1`, or nothing for the whole file.
 #[derive(Drop)]
 pub struct TestsFault {
-    pub place: String,
+    pub location: String,
     pub what: String,
 }
 
@@ -16,9 +16,9 @@ pub type TestsError = OrMemory<TestsFault>;
 pub(crate) fn within(alloc: Global, error: TestsError, array: &str, index: usize) -> TestsError {
     match error {
         TestsError::Fault(fault) => {
-            match place_within(alloc, array, index, fault.place.as_str()) {
-                Ok(place) => TestsError::Fault(TestsFault {
-                    place,
+            match location_within(alloc, array, index, fault.location.as_str()) {
+                Ok(location) => TestsError::Fault(TestsFault {
+                    location,
                     what: fault.what,
                 }),
                 Err(_) => TestsError::Memory,
@@ -29,7 +29,7 @@ pub(crate) fn within(alloc: Global, error: TestsError, array: &str, index: usize
 }
 
 // Numbers count from 1.
-fn place_within(
+fn location_within(
     alloc: Global,
     array: &str,
     index: usize,
@@ -47,7 +47,7 @@ fn place_within(
 pub(crate) fn fault(report: Result<String, AllocError>) -> TestsError {
     match report {
         Ok(what) => TestsError::Fault(TestsFault {
-            place: String::new(*what.allocator()),
+            location: String::new(*what.allocator()),
             what,
         }),
         Err(_) => TestsError::Memory,

@@ -149,8 +149,8 @@ fn rows_agree(wanted: &[Row<'_>], given: &[Row<'_>]) -> bool
     if wanted.len() != given.len() {
         return false;
     }
-    for place in 0..wanted.len() {
-        if !meets(&wanted[place], &given[place]) {
+    for index in 0..wanted.len() {
+        if !meets(&wanted[index], &given[index]) {
             return false;
         }
     }

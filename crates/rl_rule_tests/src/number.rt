@@ -88,14 +88,14 @@ fn decimal_in(text: &str) -> Option<Fraction>
 fn cut_at_slash(text: &[u8]) -> Option<(&[u8], &[u8])>
     ensures { option_map (λ parts. (parts.0.now, parts.1.now)) result ≡ cut_at_slash text.now }
 {
-    let place = slash_in(text)?;
-    Some((text.split_at(place).0, text.split_at(place + 1).1))
+    let offset = slash_in(text)?;
+    Some((text.split_at(offset).0, text.split_at(offset + 1).1))
 }
 
 // The index of the first slash.
 fn slash_in(text: &[u8]) -> Option<usize>
-    ensures place { result ≡ position (λ byte. byte == 47) text.now }
-    ensures inside { IfSome result (λ place. place < length text.now) }
+    ensures offset { result ≡ position (λ byte. byte == 47) text.now }
+    ensures inside { IfSome result (λ offset. offset < length text.now) }
 {
     text.iter().position(|byte| *byte == b'/')
 }

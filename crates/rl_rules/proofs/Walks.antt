@@ -31,8 +31,8 @@ tables_next vs i v within is =
 module _ {A X : Type 0} (read : ℕ → Members → Result A RulesFault) (form : X → A) where
   -- tables that follow others are read after them
   each_after : (n m : ℕ) (ts us : List Members) → m ≡ n + length ts → each_from read n (ts ++ us) ≡ both (each_from read n ts) (each_from read m us)
-  each_after n m [] us place = sym (with_nothing (each_from read n us)) ∙ ap (λ k. both (Ok []) (each_from read k us)) (omega (arith, place))
-  each_after n m (t ∷ ts) us place = ap (first_then (read n t)) (each_after (n + 1) m ts us (omega (arith, place))) ∙ regroup (read n t) (each_from read (n + 1) ts) (each_from read m us)
+  each_after n m [] us position = sym (with_nothing (each_from read n us)) ∙ ap (λ k. both (Ok []) (each_from read k us)) (omega (arith, position))
+  each_after n m (t ∷ ts) us position = ap (first_then (read n t)) (each_after (n + 1) m ts us (omega (arith, position))) ∙ regroup (read n t) (each_from read (n + 1) ts) (each_from read m us)
     where
       regroup : (first : Result A RulesFault) (others rest : Result (List A) RulesFault) → first_then first (both others rest) ≡ both (first_then first others) rest
       regroup (Ok x) (Ok xs) (Ok ys) = refl

@@ -157,10 +157,10 @@ rule_at group rule members = do
 
 -- what is read of tables one after the other, each with its index
 abbrev pub each_from : {A : Type 0} → (ℕ → Members → Result A RulesFault) → ℕ → List Members → Result (List A) RulesFault
-each_from read place [] = Ok []
-each_from read place (table ∷ tables) = do
-  first ← read place table
-  others ← each_from read (place + 1) tables
+each_from read position [] = Ok []
+each_from read position (table ∷ tables) = do
+  first ← read position table
+  others ← each_from read (position + 1) tables
   Ok (first ∷ others)
 
 -- the interval of a group in seconds, and its limit, 0 where it names none

@@ -27,7 +27,7 @@ pub struct Namer {
     // Label sets of samples with their final ones: those of the last evaluation, the index from which they are sought, and
     // those of this one.
     known: Vec<(Labels, Labels)>,
-    place: usize,
+    position: usize,
     fresh: Vec<(Labels, Labels)>,
 }
 
@@ -49,7 +49,7 @@ impl Namer {
             name: PlainText::from_string(String::new(alloc)),
             labels: PlainList::new(alloc),
             known: Vec::new(alloc),
-            place: 0,
+            position: 0,
             fresh: Vec::new(alloc),
         }
     }
@@ -68,7 +68,7 @@ impl Namer {
         ensures { OnOk result (self.new ≡ naming_of rule.now) }
     {
         self.fresh.clear();
-        self.place = 0;
+        self.position = 0;
         if self.is_of(rule) {
             return Ok(());
         }
@@ -89,9 +89,9 @@ impl Namer {
         if let Some(named) = self.as_before(labels)? {
             return Ok(named);
         }
-        self.place = first_from(&self.known, self.place, labels);
-        let known = known_at(&self.known, self.place, labels)?;
-        self.place = self.place.saturating_add(known.is_some() as usize);
+        self.position = first_from(&self.known, self.position, labels);
+        let known = known_at(&self.known, self.position, labels)?;
+        self.position = self.position.saturating_add(known.is_some() as usize);
         let named = known_or_made(known, self.kind, &self.name, &self.labels, labels)?;
         self.fresh.push((labels.try_copy()?, named.try_copy()?))?;
         Ok(named)
@@ -105,12 +105,12 @@ impl Namer {
         if !self.fresh.is_empty() {
             return Ok(None);
         }
-        let known = known_at(&self.known, self.place, labels)?;
+        let known = known_at(&self.known, self.position, labels)?;
         if known.is_some() {
-            self.place = self.place.saturating_add(1);
+            self.position = self.position.saturating_add(1);
             return Ok(known);
         }
-        push_first(&mut self.fresh, &self.known, self.place)?;
+        push_first(&mut self.fresh, &self.known, self.position)?;
         Ok(None)
     }
 
@@ -119,7 +119,7 @@ impl Namer {
         ensures { self.new ≡ self.old }
     {
         if self.fresh.is_empty() {
-            self.known.truncate(self.place);
+            self.known.truncate(self.position);
         } else {
             mem::swap(&mut self.known, &mut self.fresh);
         }
@@ -130,11 +130,11 @@ impl Namer {
 fn push_first(
     fresh: &mut Vec<(Labels, Labels)>,
     known: &[(Labels, Labels)],
-    place: usize,
+    position: usize,
 ) -> Result<(), AllocError>
     ensures { (naming : Naming) → AreFinal naming known.now → AreFinal naming fresh.old.items → AreFinal naming fresh.new.items }
 {
-    let first = &known[..place.min(known.len())];
+    let first = &known[..position.min(known.len())];
     for pair in first {
         fresh.push((pair.0.try_copy()?, pair.1.try_copy()?))?;
     }
@@ -143,9 +143,9 @@ fn push_first(
 
 // The first index, from one on, whose label set is not less.
 fn first_from(known: &[(Labels, Labels)], from: usize, labels: &Labels) -> usize {
-    for place in from..known.len() {
-        if known[place].0 >= *labels {
-            return place;
+    for position in from..known.len() {
+        if known[position].0 >= *labels {
+            return position;
         }
     }
     known.len()
@@ -154,15 +154,15 @@ fn first_from(known: &[(Labels, Labels)], from: usize, labels: &Labels) -> usize
 // The final label set at the index, if it is that of the labels.
 fn known_at(
     known: &[(Labels, Labels)],
-    place: usize,
+    position: usize,
     labels: &Labels,
 ) -> Result<Option<Labels>, AllocError>
     ensures { (naming : Naming) → AreFinal naming known.now → IfOk result (λ found. IfSome found (λ named. named ≡ final_by naming labels.now)) }
 {
-    if place >= known.len() {
+    if position >= known.len() {
         return Ok(None);
     }
-    let (before, named) = &known[place];
+    let (before, named) = &known[position];
     if before == labels {
         Ok(Some(named.try_copy()?))
     } else {

@@ -29,17 +29,17 @@ pub op_is : (op : LineOp) → filter_op (tokens.Sign (filter_sign op)) ≡ Some 
 op_is lines.Contains = refl
 op_is _ = refl
 
-text_read : (place : ℕ) (t : Token) → Finds (λ value. t ≡ tokens.Text value) (filter_text place t)
-text_read place (tokens.Text text) = found refl
-text_read place _ = fault
+text_read : (offset : ℕ) (t : Token) → Finds (λ value. t ≡ tokens.Text value) (filter_text offset t)
+text_read offset (tokens.Text text) = found refl
+text_read offset _ = fault
 
 -- a line filter that was read stood there after its sign
 pub filter_read : (lexemes following : List Lexeme) (op : LineOp) → Stand (tokens.Sign (filter_sign op) ∷ []) lexemes following → Finds (λ x. Stand (filter_tokens x.0) lexemes x.1 × (is_filter x.0.op x.0.text ≡ true)) (filter_at op following)
 unfolding filter_at
 filter_read lexemes following op sign =
     then _ (next_found following) (λ text stand.
-    then _ (text_read text.0.place text.0.token) (λ value is.
-    then _ (checked (is_filter op value) (record { op = op; text = value }) (stop faults.BadRegex text.0.place)) (λ filter proper.
+    then _ (text_read text.0.offset text.0.token) (λ value is.
+    then _ (checked (is_filter op value) (record { op = op; text = value }) (stop faults.BadRegex text.0.offset)) (λ filter proper.
     found (subst (λ (f : FilterForm). Stand (filter_tokens f) lexemes text.1 × (is_filter f.op f.text ≡ true)) proper.1 (stand_then (tokens.Sign (filter_sign op) ∷ []) (tokens.Text value ∷ []) lexemes following text.1 sign (stands_as following text.1 is stand), proper.0)))))
 
 -- one turn of reading them

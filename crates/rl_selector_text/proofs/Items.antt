@@ -36,9 +36,9 @@ real_forms (m ∷ matchers) = ap (λ b. not (passes m.op m.value []) || b) (real
 
 -- why a matcher is not read, as a fault of the query
 abbrev stop_of : ℕ → MatcherFault → Stop
-stop_of place matchers.BadName = syntax place
-stop_of place matchers.BadRegex = stop faults.BadRegex place
+stop_of offset matchers.BadName = syntax offset
+stop_of offset matchers.BadRegex = stop faults.BadRegex offset
 
-pub unread : (place : ℕ) (m : MatcherForm) (fault : MatcherFault) → IsUnread m.name m.op m.value (errors.Fault fault) → checked_matcher place m ≡ Err (stop_of place fault)
-unread place m matchers.BadName h = cond-true (not (is_name m.name)) _ _ (ap not h)
-unread place m matchers.BadRegex h = cond-false (not (is_name m.name)) _ _ (ap not h.0) ∙ cond-false (is_comparable m.op m.value) _ _ h.1
+pub unread : (offset : ℕ) (m : MatcherForm) (fault : MatcherFault) → IsUnread m.name m.op m.value (errors.Fault fault) → checked_matcher offset m ≡ Err (stop_of offset fault)
+unread offset m matchers.BadName h = cond-true (not (is_name m.name)) _ _ (ap not h)
+unread offset m matchers.BadRegex h = cond-false (not (is_name m.name)) _ _ (ap not h.0) ∙ cond-false (is_comparable m.op m.value) _ _ h.1

@@ -28,7 +28,7 @@ read_refused view x lexemes reading error is h = rw is (for_room view (Ok (view 
 pub stop_refused : {X Y : Type 0} (view : X → Y) (lexemes : List Lexeme) (reading : Result Y Stop) (stopped : OrMemory Stop) (error : OrMemory QueryFault) → Fails stopped reading → IsRefusal lexemes stopped error → Reads view (Err error) (fault_of reading) (meets_pattern reading lexemes)
 stop_refused view lexemes reading errors.Memory error fails shown = rw shown tt
 stop_refused view lexemes reading (errors.Fault stop) error fails (inl is) = rw (is, fails) (inl refl)
-stop_refused view lexemes reading (errors.Fault stop) error fails (inr room) = rw fails (for_room view (Err stop.fault) (has_pattern_token false (tokens_before stop.place lexemes)) error room)
+stop_refused view lexemes reading (errors.Fault stop) error fails (inr room) = rw fails (for_room view (Err stop.fault) (has_pattern_token false (tokens_before stop.offset lexemes)) error room)
 
 -- a text after a sign of patterns, at an index among tokens
 pub pattern_found : (after_sign : Bool) (lexemes : List Lexeme) (i : ℕ) (text : Lexeme) → i < length lexemes → text ≡ get_or lexemes i text → is_content text.token ≡ true → ends_before_pattern after_sign (take i lexemes) ≡ true → has_pattern_token after_sign lexemes ≡ true

@@ -8,7 +8,7 @@ use Rattle.rl_labels.specs.Operators.{is_comparable}
 use Rattle.rl_labels.specs.laws.LabelLaws.{same_text, is_text_itself}
 use Rattle.rl_labels.specs.declared.matcher.MatchOp.{MatchOp}
 use Rattle.rl_labels.specs.declared.matcher.MatchOp.TheVariants as operators
-use Rattle.rl_selector_text.specs.Stops.{stop, place_of}
+use Rattle.rl_selector_text.specs.Stops.{stop, offset_of}
 use Rattle.rl_selector_text.specs.declared.stop.Stop.{Stop}
 use Rattle.rl_query.specs.declared.fault.QueryFault.TheVariants as faults
 use Rattle.rl_selector_text.specs.declared.front.Position.{Position}
@@ -56,14 +56,14 @@ stand_length (t ∷ ts) (l ∷ lexemes) rest stand = omega (arith, stand_length 
 
 -- the token at the front, and those after it
 pub record Next (token : Token) (others : List Token) (lexemes rest : List Lexeme) : Type 0 where
-  pub place : ℕ
+  pub offset : ℕ
   pub following : List Lexeme
-  pub is : next lexemes ≡ Ok (record { token = token; place = place }, following)
+  pub is : next lexemes ≡ Ok (record { token = token; offset = offset }, following)
   pub more : Stand others following rest
 
 pub next_is : (token : Token) (others : List Token) (lexemes rest : List Lexeme) → Stand (token ∷ others) lexemes rest → Next token others lexemes rest
 next_is token others [] rest stand = absurd stand
-next_is token others (l ∷ lexemes) rest stand = record { place = l.place; following = lexemes; is = ap (λ t. Ok (record { token = t; place = l.place }, lexemes)) stand.0; more = stand.1 }
+next_is token others (l ∷ lexemes) rest stand = record { offset = l.offset; following = lexemes; is = ap (λ t. Ok (record { token = t; offset = l.offset }, lexemes)) stand.0; more = stand.1 }
 
 -- the token at the front passes a test
 pub record First (Passes : Token → Type 0) (lexemes : List Lexeme) : Type 0 where
@@ -73,7 +73,7 @@ pub record First (Passes : Token → Type 0) (lexemes : List Lexeme) : Type 0 wh
   pub passes : Passes first.token
 
 pub first_at : {Passes : Token → Type 0} (token : Token) (others : List Token) (lexemes rest : List Lexeme) → Stand (token ∷ others) lexemes rest → Passes token → First Passes lexemes
-first_at token others lexemes rest stand passes = let n = next_is token others lexemes rest stand in record { first = record { token = token; place = n.place }; following = n.following; is = n.is; passes = passes }
+first_at token others lexemes rest stand passes = let n = next_is token others lexemes rest stand in record { first = record { token = token; offset = n.offset }; following = n.following; is = n.is; passes = passes }
 
 pub first_half : {Passes Others : Token → Type 0} {lexemes : List Lexeme} → First (λ token. Passes token × Others token) lexemes → First Passes lexemes
 first_half first = record { first = first.first; following = first.following; is = first.is; passes = first.passes.0 }
@@ -99,40 +99,40 @@ expected_found sign position lexemes = then _ (next_found lexemes) (λ first sta
 -- tokens, placed at the offsets of others, and what follows them
 abbrev pub placed : List Token → List Lexeme → List Lexeme → List Lexeme
 placed [] lexemes rest = rest
-placed (t ∷ ts) lexemes rest = record { token = t; place = place_of lexemes } ∷ placed ts (drop 1 lexemes) rest
+placed (t ∷ ts) lexemes rest = record { token = t; offset = offset_of lexemes } ∷ placed ts (drop 1 lexemes) rest
 
 -- tokens that stand at the front are placed so
 pub stood : (ts : List Token) (lexemes rest : List Lexeme) → Stand ts lexemes rest → lexemes ≡ placed ts lexemes rest
 stood [] lexemes rest stand = stand
 stood (t ∷ ts) [] rest stand = absurd stand
-stood (t ∷ ts) (l ∷ ls) rest stand = λ i. record { token = stand.0 i; place = l.place } ∷ stood ts ls rest stand.1 i
+stood (t ∷ ts) (l ∷ ls) rest stand = λ i. record { token = stand.0 i; offset = l.offset } ∷ stood ts ls rest stand.1 i
 
 pub expected_is : (sign : Sign) (position : Position) (lexemes rest : List Lexeme) → Stand (tokens.Sign sign ∷ []) lexemes rest → expected sign position lexemes ≡ Ok rest
 unfolding expected
 expected_is sign position lexemes rest stand = rw (stood (tokens.Sign sign ∷ []) lexemes rest stand) (cond-true (is_sign sign (tokens.Sign sign)) _ _ (is_text_itself (sign_text sign)))
 
-pub named_found : (place : ℕ) (t : Token) → Finds (λ name. t ≡ tokens.Word name) (name_of place t)
-named_found place (tokens.Word w) = found refl
-named_found place _ = fault
+pub named_found : (offset : ℕ) (t : Token) → Finds (λ name. t ≡ tokens.Word name) (name_of offset t)
+named_found offset (tokens.Word w) = found refl
+named_found offset _ = fault
 
-content_found : (place : ℕ) (t : Token) → Finds (λ value. t ≡ tokens.Text value) (content_of place t)
-content_found place (tokens.Text w) = found refl
-content_found place _ = fault
+content_found : (offset : ℕ) (t : Token) → Finds (λ value. t ≡ tokens.Text value) (content_of offset t)
+content_found offset (tokens.Text w) = found refl
+content_found offset _ = fault
 
-operator_found : (place : ℕ) (t : Token) → Finds (λ op. t ≡ tokens.Sign (operator_sign op)) (operator_of place t)
-operator_found place (tokens.Sign signs.Equal) = found refl
-operator_found place (tokens.Sign signs.NotEqual) = found refl
-operator_found place (tokens.Sign signs.Matches) = found refl
-operator_found place (tokens.Sign signs.NotMatches) = found refl
-operator_found place (tokens.Sign _) = fault
-operator_found place _ = fault
+operator_found : (offset : ℕ) (t : Token) → Finds (λ op. t ≡ tokens.Sign (operator_sign op)) (operator_of offset t)
+operator_found offset (tokens.Sign signs.Equal) = found refl
+operator_found offset (tokens.Sign signs.NotEqual) = found refl
+operator_found offset (tokens.Sign signs.Matches) = found refl
+operator_found offset (tokens.Sign signs.NotMatches) = found refl
+operator_found offset (tokens.Sign _) = fault
+operator_found offset _ = fault
 
-operator_is : (place : ℕ) (op : MatchOp) → operator_of place (tokens.Sign (operator_sign op)) ≡ Ok op
-operator_is place operators.Equal = refl
-operator_is place _ = refl
+operator_is : (offset : ℕ) (op : MatchOp) → operator_of offset (tokens.Sign (operator_sign op)) ≡ Ok op
+operator_is offset operators.Equal = refl
+operator_is offset _ = refl
 
-checked_found : (place : ℕ) (m : MatcherForm) → Finds (λ made. (is_matcher m ≡ true) × (m ≡ made)) (checked_matcher place m)
-checked_found place m = by_test (not (is_name m.name)) (λ _. fault)
+checked_found : (offset : ℕ) (m : MatcherForm) → Finds (λ made. (is_matcher m ≡ true) × (m ≡ made)) (checked_matcher offset m)
+checked_found offset m = by_test (not (is_name m.name)) (λ _. fault)
     (λ named. by_test (is_comparable m.op m.value) (λ comparable. found (and_from (is_name m.name) _ (not-false _ named) comparable, refl)) (λ _. fault))
 
 -- name="value", or another operator
@@ -142,29 +142,29 @@ pub record IsMatcher (m : MatcherForm) (lexemes rest : List Lexeme) : Type 0 whe
 
 -- a row that is read: its tokens stand there, and each is read as what it is
 pub row_found : {Op Value Made : Type 0} {OpIs : Op → Token → Type 0} {ValueIs : Value → Token → Type 0} {Q : Made × List Lexeme → Type 0} (op_of : ℕ → Token → Result Op Stop) (value_of : ℕ → Token → Result Value Stop) (made : ℕ → List ℕ → Op → Value → Result Made Stop) (lexemes : List Lexeme)
-    → ((place : ℕ) (t : Token) → Finds (λ op. OpIs op t) (op_of place t)) → ((place : ℕ) (t : Token) → Finds (λ value. ValueIs value t) (value_of place t))
-    → ((place : ℕ) (name : List ℕ) (sign content : Token) (op : Op) (value : Value) (rest : List Lexeme) → Stand (tokens.Word name ∷ sign ∷ content ∷ []) lexemes rest → OpIs op sign → ValueIs value content → Finds (λ whole. Q (whole, rest)) (made place name op value)) → Finds Q (row_at op_of value_of made lexemes)
+    → ((offset : ℕ) (t : Token) → Finds (λ op. OpIs op t) (op_of offset t)) → ((offset : ℕ) (t : Token) → Finds (λ value. ValueIs value t) (value_of offset t))
+    → ((offset : ℕ) (name : List ℕ) (sign content : Token) (op : Op) (value : Value) (rest : List Lexeme) → Stand (tokens.Word name ∷ sign ∷ content ∷ []) lexemes rest → OpIs op sign → ValueIs value content → Finds (λ whole. Q (whole, rest)) (made offset name op value)) → Finds Q (row_at op_of value_of made lexemes)
 row_found op_of value_of made lexemes ops values whole =
     then _ (next_found lexemes) (λ first a.
-    then _ (named_found first.0.place first.0.token) (λ name b.
+    then _ (named_found first.0.offset first.0.token) (λ name b.
     then _ (next_found first.1) (λ second c.
-    then _ (ops second.0.place second.0.token) (λ op d.
+    then _ (ops second.0.offset second.0.token) (λ op d.
     then _ (next_found second.1) (λ third e.
-    then _ (values third.0.place third.0.token) (λ value f.
-    then _ (whole first.0.place name second.0.token third.0.token op value third.1 (stand_then (tokens.Word name ∷ []) (second.0.token ∷ third.0.token ∷ []) lexemes first.1 third.1 (stands_as lexemes first.1 b a) (stand_then (second.0.token ∷ []) (third.0.token ∷ []) first.1 second.1 third.1 c e)) d f) (λ made is. found is)))))))
+    then _ (values third.0.offset third.0.token) (λ value f.
+    then _ (whole first.0.offset name second.0.token third.0.token op value third.1 (stand_then (tokens.Word name ∷ []) (second.0.token ∷ third.0.token ∷ []) lexemes first.1 third.1 (stands_as lexemes first.1 b a) (stand_then (second.0.token ∷ []) (third.0.token ∷ []) first.1 second.1 third.1 c e)) d f) (λ made is. found is)))))))
 
 pub matcher_found : (lexemes : List Lexeme) → Finds (λ x. IsMatcher x.0 lexemes x.1) (matcher_at lexemes)
 unfolding matcher_at
-matcher_found lexemes = row_found {Q = λ x. IsMatcher x.0 lexemes x.1} operator_of content_of _ lexemes operator_found content_found (λ place name sign content op value rest stand sign_is content_is.
+matcher_found lexemes = row_found {Q = λ x. IsMatcher x.0 lexemes x.1} operator_of content_of _ lexemes operator_found content_found (λ offset name sign content op value rest stand sign_is content_is.
     let read : MatcherForm = record { name = name; op = op; value = value } in
     let there = subst (λ ts. Stand ts lexemes rest) (λ i. tokens.Word name ∷ sign_is i ∷ content_is i ∷ []) stand in
-    record { is = λ m h. let proper = (checked_found place read).is m h in subst (λ x. IsMatcher x lexemes rest) proper.1 (record { stand = there; proper = proper.0 }) })
+    record { is = λ m h. let proper = (checked_found offset read).is m h in subst (λ x. IsMatcher x lexemes rest) proper.1 (record { stand = there; proper = proper.0 }) })
 
 pub matcher_is : (m : MatcherForm) (lexemes rest : List Lexeme) → Stand (matcher_tokens m) lexemes rest → is_matcher m ≡ true → matcher_at lexemes ≡ Ok (m, rest)
 unfolding matcher_at
 matcher_is m lexemes rest stand is =
     let parts = and_parts (is_name m.name) (is_comparable m.op m.value) is in
-    rw (stood (matcher_tokens m) lexemes rest stand, operator_is (place_of (drop 1 lexemes)) m.op, parts.0, parts.1) refl
+    rw (stood (matcher_tokens m) lexemes rest stand, operator_is (offset_of (drop 1 lexemes)) m.op, parts.0, parts.1) refl
 
 -- What is listed with commas.
 
@@ -248,9 +248,9 @@ pub selector_found : (lexemes braced : List Lexeme) → Stand (tokens.Sign signs
 unfolding selector_at
 selector_found lexemes braced opened =
     then _ (next_found braced) (λ first _.
-    then _ (itself (some_matcher first.0.place first.0.token)) (λ _ _.
+    then _ (itself (some_matcher first.0.offset first.0.token)) (λ _ _.
     then _ (listed_found matcher_tokens is_matcher signs.CloseBrace element_at matchers_tokens (λ _. refl) (λ _ _ _. refl) element_found (length braced) braced) (λ read are.
-    then _ (checked (has_real_form read.0) read.0 (stop faults.NoRealMatcher (place_of read.1))) (λ matchers is.
+    then _ (checked (has_real_form read.0) read.0 (stop faults.NoRealMatcher (offset_of read.1))) (λ matchers is.
     let stand = stand_then (tokens.Sign signs.OpenBrace ∷ []) (matchers_tokens read.0) lexemes braced read.1 opened are.0 in
     found (subst (λ ms. IsSelector ms lexemes read.1) is.1 (record { stand = stand; proper = are.1; real = is.0 }))))))
 

@@ -21,17 +21,17 @@ use Rattle.rl_selector_text.proofs.FreeNames.{free_name}
 use Rattle.rl_selector_text.proofs.Finding.{Finds, found, fault, then, by_test, of_option}
 use Rattle.rl_selector_text.proofs.Productions.{stood, IsMatcher, row_found, matcher_found, matcher_is}
 
-comparison_found : (place : ℕ) (t : Token) → Finds (λ c. (sign : Sign) × (t ≡ tokens.Sign sign) × (comparison_of sign ≡ Some c)) (comparison_at place t)
-comparison_found place (tokens.Sign sign) = of_option Ok (comparison_of sign) (λ c is. found (sign, refl, is)) (λ _. fault)
-comparison_found place _ = fault
+comparison_found : (offset : ℕ) (t : Token) → Finds (λ c. (sign : Sign) × (t ≡ tokens.Sign sign) × (comparison_of sign ≡ Some c)) (comparison_at offset t)
+comparison_found offset (tokens.Sign sign) = of_option Ok (comparison_of sign) (λ c is. found (sign, refl, is)) (λ _. fault)
+comparison_found offset _ = fault
 
-quantity_found : (place : ℕ) (t : Token) → Finds (λ q. (number : List ℕ) × (t ≡ tokens.Number number) × (quantity_of number ≡ Some q)) (quantity_at place t)
-quantity_found place (tokens.Number number) = of_option Ok (quantity_of number) (λ q is. found (number, refl, is)) (λ _. fault)
-quantity_found place _ = fault
+quantity_found : (offset : ℕ) (t : Token) → Finds (λ q. (number : List ℕ) × (t ≡ tokens.Number number) × (quantity_of number ≡ Some q)) (quantity_at offset t)
+quantity_found offset (tokens.Number number) = of_option Ok (quantity_of number) (λ q is. found (number, refl, is)) (λ _. fault)
+quantity_found offset _ = fault
 
 quantity_test_found : (lexemes : List Lexeme) → label_comes lexemes ≡ true → Finds (λ x. IsLabelTest (by_quantity x.0) lexemes x.1) (quantity_test_at lexemes)
 unfolding quantity_test_at
-quantity_test_found lexemes label = row_found {Q = λ x. IsLabelTest (by_quantity x.0) lexemes x.1} comparison_at quantity_at _ lexemes comparison_found quantity_found (λ place name sign content op value rest stand sign_is number.
+quantity_test_found lexemes label = row_found {Q = λ x. IsLabelTest (by_quantity x.0) lexemes x.1} comparison_at quantity_at _ lexemes comparison_found quantity_found (λ offset name sign content op value rest stand sign_is number.
     let there = subst (λ ts. Stand ts lexemes rest) (λ i. tokens.Word name ∷ sign_is.1 i ∷ number.1 i ∷ []) stand in
     let free = not-true (is_taken name) (free_name name (tokens.Sign sign_is.0 ∷ tokens.Number number.0 ∷ []) lexemes rest there label) in
     by_test (is_name name) (λ named. found (record { sign = sign_is.0; value = tokens.Number number.0; stand = there; compares = (sign_is.2, (number.0, refl, number.2)); named = named; free = free })) (λ _. fault))

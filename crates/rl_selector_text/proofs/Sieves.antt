@@ -16,9 +16,9 @@ use Rattle.rl_selector_text.proofs.Productions.{next_is, expected_found, selecto
 use Rattle.rl_selector_text.proofs.Finding.{Finds, found, fault, then, next_found, stands_as}
 use Rattle.rl_selector_text.proofs.FilterProductions.{stops_at, filters_read, filters_are}
 
-end_read : (position : Position) (place : ℕ) (t : Token) → Finds (λ _. t ≡ tokens.End) (sieve_ends position place t)
-end_read position place tokens.End = found refl
-end_read position place _ = fault
+end_read : (position : Position) (offset : ℕ) (t : Token) → Finds (λ _. t ≡ tokens.End) (sieve_ends position offset t)
+end_read position offset tokens.End = found refl
+end_read position offset _ = fault
 
 -- the line filters of a sieve, and then the end
 record IsRest (filters : List FilterForm) (lexemes : List Lexeme) : Type 0 where
@@ -32,7 +32,7 @@ unfolding rest_at
 rest_read lexemes =
     then _ (filters_read most_stages lexemes) (λ filters are.
     then _ (next_found filters.1) (λ last stand.
-    then _ (end_read (after_filters filters.0) last.0.place last.0.token) (λ _ is.
+    then _ (end_read (after_filters filters.0) last.0.offset last.0.token) (λ _ is.
     found (record { following = filters.1; rest = last.1; are = are; end = stands_as filters.1 last.1 is stand }))))
 
 rest_is : (filters : List FilterForm) (lexemes following rest : List Lexeme) → AreFilters most_stages filters lexemes following → Stand (tokens.End ∷ []) following rest → rest_at lexemes ≡ Ok filters

@@ -18,7 +18,7 @@ use Rattle.rl_query.specs.declared.token.Sign.TheVariants as signs
 use Rattle.rl_query.specs.declared.token.Token.{Token}
 use Rattle.rl_query.specs.declared.token.Token.TheVariants as tokens
 use Rattle.rl_selector_text.specs.Standing.{Stand}
-use Rattle.rl_selector_text.specs.Stops.{place_of}
+use Rattle.rl_selector_text.specs.Stops.{offset_of}
 use Rattle.rl_selector_text.specs.Grammar.{filter_sign, filter_tokens, IsStage, AreChained, AreStages}
 use Rattle.rl_query.specs.Limits.{is_taken}
 use Rattle.rl_selector_text.specs.Fronts.{next, is_sign}
@@ -41,8 +41,8 @@ no_parser : (t : Token) → ((word : List ℕ) → is_taken word ≡ true → is
 no_parser (tokens.Word word) free = rw (free (codes "json") refl, free (codes "logfmt") refl) refl
 no_parser _ free = refl
 
-only_found : (place : ℕ) (parsed : Bool) (named : Parser) → Finds (λ parser. (parsed ≡ false) × (named ≡ parser)) (only_parser place parsed named)
-only_found place parsed named = by_test parsed (λ _. fault) (λ none. found (none, refl))
+only_found : (offset : ℕ) (parsed : Bool) (named : Parser) → Finds (λ parser. (parsed ≡ false) × (named ≡ parser)) (only_parser offset parsed named)
+only_found offset parsed named = by_test parsed (λ _. fault) (λ none. found (none, refl))
 
 -- a stage, no parser where one was read before, and how many label tests may still come
 record IsNext (parsed : Bool) (depth left : ℕ) (lexemes : List Lexeme) (read : StageForm × ℕ × List Lexeme) : Type 0 where
@@ -56,10 +56,10 @@ piped_found parsed depth left lexemes following pipe = then _ (next_found follow
     let there : (word : List ℕ) → first.0.token ≡ tokens.Word word → Stand (tokens.Sign signs.Pipe ∷ tokens.Word word ∷ []) lexemes first.1 =
     λ word shown. stand_then (tokens.Sign signs.Pipe ∷ []) (tokens.Word word ∷ []) lexemes following first.1 pipe (stands_as following first.1 shown stand) in
     of_option _ (parser_of first.0.token)
-    (λ named is. then _ (only_found first.0.place parsed named) (λ parser only.
+    (λ named is. then _ (only_found first.0.offset parsed named) (λ parser only.
     let shown = parser_read first.0.token named is ∙ ap (λ p. tokens.Word (parser_text p)) only.1 in
     found (record { is = there (parser_text parser) shown; only = ap (λ b. b && true) only.0; counts = omega arith })))
-    (λ _. then _ (itself (next following)) (λ first _. then _ (itself (tests_begin first.0.place first.0.token first.1)) (λ _ _. then _ (tests_found depth left following) (λ tests are.
+    (λ _. then _ (itself (next following)) (λ first _. then _ (itself (tests_begin first.0.offset first.0.token first.1)) (λ _ _. then _ (tests_found depth left following) (λ tests are.
     found (record { is = record { following = following; pipe = pipe; are = are.0 }; only = and-false parsed; counts = are.1 }))))))
 
 stage_found : (parsed : Bool) (depth left : ℕ) (lexemes : List Lexeme) → stage_comes lexemes ≡ Ok true → Finds (IsNext parsed depth left lexemes) (stage_at parsed depth left lexemes)
@@ -78,12 +78,12 @@ record IsTaken (parsed : Bool) (depth left : ℕ) (stage : StageForm) (fewer : �
 
 -- a word after the pipe
 word_is : (parsed : Bool) (depth left : ℕ) (stage : StageForm) (word : List ℕ) (fewer : ℕ) (lexemes rest : List Lexeme) → Stand (tokens.Sign signs.Pipe ∷ tokens.Word word ∷ []) lexemes rest → 0 + fewer ≡ left
-    → ((place : ℕ) → piped_at parsed depth left (record { token = tokens.Word word; place = place } ∷ rest) ≡ Ok (stage, left, rest)) → IsTaken parsed depth left stage fewer lexemes rest
+    → ((offset : ℕ) → piped_at parsed depth left (record { token = tokens.Word word; offset = offset } ∷ rest) ≡ Ok (stage, left, rest)) → IsTaken parsed depth left stage fewer lexemes rest
 unfolding stage_at
 word_is parsed depth left stage word fewer lexemes rest stand counts read =
     let stands = stood (tokens.Sign signs.Pipe ∷ tokens.Word word ∷ []) lexemes rest stand in
     let same : left ≡ fewer = omega (arith, counts) in
-    record { comes = rw stands refl; read = rw stands (read (place_of (drop 1 lexemes)) ∙ ap (λ n. Ok (stage, n, rest)) same) }
+    record { comes = rw stands refl; read = rw stands (read (offset_of (drop 1 lexemes)) ∙ ap (λ n. Ok (stage, n, rest)) same) }
 
 stage_is : (parsed : Bool) (depth left : ℕ) (stage : StageForm) (fewer : ℕ) (lexemes rest : List Lexeme) → IsStage depth stage lexemes rest → IsEnd rest → parsed && parses stage ≡ false → tests_of stage + fewer ≡ left → IsTaken parsed depth left stage fewer lexemes rest
 unfolding stage_at piped_at tested_at filter_at

@@ -24,7 +24,7 @@ use Rattle.rl_selector_text.specs.TestGrammar.{Rule, test_name, Compares, IsLabe
 use Rattle.rl_selector_text.specs.Testing.{IsEnd, is_word, is_and, begins, compares, after_and}
 use Rattle.rl_query.specs.TestTree.{TestTree}
 use Rattle.rl_selector_text.proofs.Productions.{placed, stood}
-use Rattle.rl_selector_text.specs.Stops.{place_of}
+use Rattle.rl_selector_text.specs.Stops.{offset_of}
 
 -- label tests begin there, whatever stands before them, and with no word of the grammar
 pub record Starts (lexemes : List Lexeme) : Type 0 where
@@ -33,7 +33,7 @@ pub record Starts (lexemes : List Lexeme) : Type 0 where
   pub is : next lexemes ≡ Ok (first, following)
   pub goes_on : after_and lexemes ≡ Some lexemes
   pub free : (word : List ℕ) → is_taken word ≡ true → is_word word first.token ≡ false
-  pub begin : tests_begin first.place first.token following ≡ Ok tt
+  pub begin : tests_begin first.offset first.token following ≡ Ok tt
 
 is_operator : (op : MatchOp) → is_match (tokens.Sign (operator_sign op)) ≡ true
 is_operator operators.Equal = refl
@@ -53,7 +53,7 @@ test_starts test lexemes rest is =
     let free : (word : List ℕ) → is_taken word ≡ true → is_text name word ≡ false =
     λ word taken. false_from_ne_true _ (λ same. true≢false (sym taken ∙ ap is_taken (sym (same_text name word same)) ∙ is.free)) in
     record {
-      first = record { token = tokens.Word name; place = place_of lexemes };
+      first = record { token = tokens.Word name; offset = offset_of lexemes };
       following = placed others (drop 1 lexemes) rest;
       is = rw stands refl;
       goes_on = rw (stands, free (codes "and") refl, free (codes "or") refl, comes, or-true) refl;
@@ -65,7 +65,7 @@ pub one_starts : (Inside : Rule) (tests : TestTree TestForm) (lexemes rest : Lis
 one_starts Inside _ _ _ (alone test lexemes rest is) = test_starts test lexemes rest is
 one_starts Inside _ _ _ (in_parentheses tests lexemes following end rest opened is closed) =
     let stands = stood (tokens.Sign signs.OpenParenthesis ∷ []) lexemes following opened in
-    record { first = record { token = tokens.Sign signs.OpenParenthesis; place = place_of lexemes }; following = following; is = rw stands refl; goes_on = rw stands refl; free = λ _ _. refl; begin = refl }
+    record { first = record { token = tokens.Sign signs.OpenParenthesis; offset = offset_of lexemes }; following = following; is = rw stands refl; goes_on = rw stands refl; free = λ _ _. refl; begin = refl }
 
 joined_starts : (join : Join) (Part : Rule) → ((tests : TestTree TestForm) (lexemes rest : List Lexeme) → Part tests lexemes rest → Starts lexemes) → (tests : TestTree TestForm) (lexemes rest : List Lexeme) → AreJoined join Part tests lexemes rest → Starts lexemes
 joined_starts join Part starts _ _ _ (part tests lexemes rest is) = starts tests lexemes rest is

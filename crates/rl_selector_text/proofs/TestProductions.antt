@@ -32,16 +32,16 @@ pub only_word : (word : List ℕ) (t : Token) → is_word word t ≡ true → t 
 only_word word (tokens.Word found) h = ap tokens.Word (same_text found word h)
 only_word word _ h = cc
 
-pub fewer_found : (place left : ℕ) → Finds (λ fewer. 1 + fewer ≡ left) (one_fewer place left)
-fewer_found place zero = fault
-fewer_found place (suc left) = found (omega arith)
+pub fewer_found : (offset left : ℕ) → Finds (λ fewer. 1 + fewer ≡ left) (one_fewer offset left)
+fewer_found offset zero = fault
+fewer_found offset (suc left) = found (omega arith)
 
 test_sound : (Inside : Rule) → IsSound test_at (IsOne Inside)
 unfolding test_at
 test_sound Inside left lexemes =
     then _ (itself (next lexemes)) (λ first n.
-    then _ (itself (label_at first.0.place first.0.token)) (λ _ label.
-    then _ (fewer_found first.0.place left) (λ fewer count.
+    then _ (itself (label_at first.0.offset first.0.token)) (λ _ label.
+    then _ (fewer_found first.0.offset left) (λ fewer count.
     then _ (label_test_found lexemes (label_first lexemes first.1 first.0 n (sym label))) (λ test is.
     found (alone test.0 lexemes test.1 is, count)))))
 

@@ -143,7 +143,7 @@ is_unsupported position _ = false
 
 -- the fault of a token that does not fit its position
 abbrev pub refusal : Position → ℕ → Token → Stop
-refusal position place token = if is_unsupported position token then unsupported place else syntax place
+refusal position offset token = if is_unsupported position token then unsupported offset else syntax offset
 
 -- a token is the sign
 abbrev pub is_sign : Sign → Token → Bool
@@ -159,17 +159,17 @@ next (lexeme ∷ lexemes) = Ok (lexeme, lexemes)
 unfoldable pub expected : Sign → Position → List Lexeme → Result (List Lexeme) Stop
 expected sign position lexemes = do
   lexeme ← next lexemes
-  if is_sign sign lexeme.0.token then Ok lexeme.1 else Err (refusal position lexeme.0.place lexeme.0.token)
+  if is_sign sign lexeme.0.token then Ok lexeme.1 else Err (refusal position lexeme.0.offset lexeme.0.token)
 
 -- the name that a token is
 abbrev pub name_of : ℕ → Token → Result (List ℕ) Stop
-name_of place (tokens.Word name) = Ok name
-name_of place token = Err (refusal positions.Elsewhere place token)
+name_of offset (tokens.Word name) = Ok name
+name_of offset token = Err (refusal positions.Elsewhere offset token)
 
 -- the text that a token is
 abbrev pub content_of : ℕ → Token → Result (List ℕ) Stop
-content_of place (tokens.Text content) = Ok content
-content_of place token = Err (refusal positions.Elsewhere place token)
+content_of offset (tokens.Text content) = Ok content
+content_of offset token = Err (refusal positions.Elsewhere offset token)
 
 -- the operator of a matcher that a sign is
 abbrev pub match_of : Sign → Option MatchOp
@@ -186,27 +186,27 @@ is_match _ = false
 
 -- the operator that a token is
 abbrev pub operator_of : ℕ → Token → Result MatchOp Stop
-operator_of place (tokens.Sign sign) = option_map_or Ok (match_of sign) (Err (refusal positions.Elsewhere place (tokens.Sign sign)))
-operator_of place token = Err (refusal positions.Elsewhere place token)
+operator_of offset (tokens.Sign sign) = option_map_or Ok (match_of sign) (Err (refusal positions.Elsewhere offset (tokens.Sign sign)))
+operator_of offset token = Err (refusal positions.Elsewhere offset token)
 
 -- the matcher of its parts, where its name is one, and its pattern
-abbrev pub checked_matcher : (place : ℕ) → MatcherForm → Result MatcherForm Stop
-checked_matcher place matcher =
-    if not (is_name matcher.name) then Err (syntax place)
-    else (if is_comparable matcher.op matcher.value then Ok matcher else Err (stop faults.BadRegex place))
+abbrev pub checked_matcher : (offset : ℕ) → MatcherForm → Result MatcherForm Stop
+checked_matcher offset matcher =
+    if not (is_name matcher.name) then Err (syntax offset)
+    else (if is_comparable matcher.op matcher.value then Ok matcher else Err (stop faults.BadRegex offset))
 
 -- a row of three tokens: a name, a sign and a value, and what they make at the name's offset. Its fault is that of the first that does not fit
-abbrev pub row_at : {Op Value Made : Type 0} → (op_of : ℕ → Token → Result Op Stop) → (value_of : ℕ → Token → Result Value Stop) → (made : (place : ℕ) → List ℕ → Op → Value → Result Made Stop) → List Lexeme → Result (Made × List Lexeme) Stop
+abbrev pub row_at : {Op Value Made : Type 0} → (op_of : ℕ → Token → Result Op Stop) → (value_of : ℕ → Token → Result Value Stop) → (made : (offset : ℕ) → List ℕ → Op → Value → Result Made Stop) → List Lexeme → Result (Made × List Lexeme) Stop
 row_at op_of value_of made lexemes = do
   first ← next lexemes
-  name ← name_of first.0.place first.0.token
+  name ← name_of first.0.offset first.0.token
   second ← next first.1
-  op ← op_of second.0.place second.0.token
+  op ← op_of second.0.offset second.0.token
   third ← next second.1
-  value ← value_of third.0.place third.0.token
-  whole ← made first.0.place name op value
+  value ← value_of third.0.offset third.0.token
+  whole ← made first.0.offset name op value
   Ok (whole, third.1)
 
 -- a name, an operator and a text
 unfoldable pub matcher_at : List Lexeme → Result (MatcherForm × List Lexeme) Stop
-matcher_at lexemes = row_at operator_of content_of (λ place name op value. checked_matcher place (record { name = name; op = op; value = value })) lexemes
+matcher_at lexemes = row_at operator_of content_of (λ offset name op value. checked_matcher offset (record { name = name; op = op; value = value })) lexemes

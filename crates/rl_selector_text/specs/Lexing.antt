@@ -90,10 +90,10 @@ token_at (byte ∷ bytes) =
 
 -- at most `most` tokens and the end, each after spaces and comments, with their offsets in a text of `total` bytes
 unfoldable pub lexemes_in : ℕ → ℕ → List ℕ → List Lexeme
-lexemes_in zero total bytes = record { token = tokens.End; place = total } ∷ []
+lexemes_in zero total bytes = record { token = tokens.End; offset = total } ∷ []
 lexemes_in (suc most) total bytes =
     let start = drop (gap_len false bytes) bytes in
-    if length start == 0 then record { token = tokens.End; place = total } ∷ [] else record { token = (token_at start).0; place = total - length start } ∷ lexemes_in most total (token_at start).1
+    if length start == 0 then record { token = tokens.End; offset = total } ∷ [] else record { token = (token_at start).0; offset = total - length start } ∷ lexemes_in most total (token_at start).1
 
 -- the tokens of a text, which are no more than its bytes, and the end
 abbrev pub lexemes_of : List ℕ → List Lexeme

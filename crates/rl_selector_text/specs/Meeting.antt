@@ -26,12 +26,12 @@ has_pattern_token after_sign (lexeme ∷ lexemes) = (after_sign && is_content le
 
 -- the tokens before an offset
 abbrev pub tokens_before : ℕ → List Lexeme → List Lexeme
-tokens_before place lexemes = take (prefix_len (λ lexeme. nat_lt lexeme.place place) lexemes) lexemes
+tokens_before offset lexemes = take (prefix_len (λ lexeme. nat_lt lexeme.offset offset) lexemes) lexemes
 
 -- the tokens that a reading meets
 abbrev pub tokens_met : {A : Type 0} → Result A Stop → List Lexeme → List Lexeme
 tokens_met (Ok read) lexemes = lexemes
-tokens_met (Err stop) lexemes = tokens_before stop.place lexemes
+tokens_met (Err stop) lexemes = tokens_before stop.offset lexemes
 
 abbrev pub meets_pattern : {A : Type 0} → Result A Stop → List Lexeme → Bool
 meets_pattern reading lexemes = has_pattern_token false (tokens_met reading lexemes)
@@ -44,4 +44,4 @@ ends_before_pattern after_sign (lexeme ∷ lexemes) = ends_before_pattern (prece
 -- why a text is refused at which reading stopped: for its fault, or for room where a pattern stands before that
 abbrev pub IsRefusal : List Lexeme → OrMemory Stop → OrMemory QueryFault → Type 0
 IsRefusal lexemes Memory error = error ≡ Memory
-IsRefusal lexemes (Fault stop) error = (error ≡ Fault stop.fault) ⊎ IsForRoom (has_pattern_token false (tokens_before stop.place lexemes)) error
+IsRefusal lexemes (Fault stop) error = (error ≡ Fault stop.fault) ⊎ IsForRoom (has_pattern_token false (tokens_before stop.offset lexemes)) error

@@ -8,7 +8,7 @@ use Rattle.rl_query.specs.Form.{by_tests, MatcherForm, FilterForm, StageForm, by
 use Rattle.std.specs.Option.{option_map_or}
 use Rattle.rl_labels.specs.Name.{is_text}
 use Rattle.rl_selector_text.specs.declared.stop.Stop.{Stop}
-use Rattle.rl_selector_text.specs.Stops.{stop, syntax, unsupported, place_of}
+use Rattle.rl_selector_text.specs.Stops.{stop, syntax, unsupported, offset_of}
 use Rattle.rl_query.specs.declared.fault.QueryFault.TheVariants as faults
 use Rattle.rl_query.specs.declared.filter.LineOp.{LineOp}
 use Rattle.rl_query.specs.declared.filter.LineOp.TheVariants as lines
@@ -26,14 +26,14 @@ use Rattle.rl_plain.specs.Answers.{◌>>=◌}
 
 -- after a matcher: whether another follows
 abbrev pub goes_on : ℕ → Token → Result Bool Stop
-goes_on place token = if is_sign signs.Comma token then Ok true else (if is_sign signs.CloseBrace token then Ok false else Err (refusal positions.Elsewhere place token))
+goes_on offset token = if is_sign signs.Comma token then Ok true else (if is_sign signs.CloseBrace token then Ok false else Err (refusal positions.Elsewhere offset token))
 
 -- a matcher, and whether another follows
 unfoldable pub element_at : List Lexeme → Result (MatcherForm × Bool × List Lexeme) Stop
 element_at lexemes = do
   matcher ← matcher_at lexemes
   lexeme ← next matcher.1
-  more ← goes_on lexeme.0.place lexeme.0.token
+  more ← goes_on lexeme.0.offset lexeme.0.token
   Ok (matcher.0, more, lexeme.1)
 
 -- at most `most` items joined by commas, up to what closes them; each says whether another follows
@@ -49,19 +49,19 @@ matchers_at = listed_at element_at
 
 -- a selector that closes at once has no matcher
 abbrev pub some_matcher : ℕ → Token → Result (Unit {0}) Stop
-some_matcher place token = if is_sign signs.CloseBrace token then Err (stop faults.NoRealMatcher place) else Ok tt
+some_matcher offset token = if is_sign signs.CloseBrace token then Err (stop faults.NoRealMatcher offset) else Ok tt
 
 -- matchers of which one at least refuses the empty text
-abbrev pub real_matchers : (place : ℕ) → List MatcherForm → Result (List MatcherForm) Stop
-real_matchers place matchers = if has_real_form matchers then Ok matchers else Err (stop faults.NoRealMatcher place)
+abbrev pub real_matchers : (offset : ℕ) → List MatcherForm → Result (List MatcherForm) Stop
+real_matchers offset matchers = if has_real_form matchers then Ok matchers else Err (stop faults.NoRealMatcher offset)
 
 -- after the opening brace: the matchers of a selector
 unfoldable pub selector_at : List Lexeme → Result (List MatcherForm × List Lexeme) Stop
 selector_at lexemes = do
   lexeme ← next lexemes
-  some ← some_matcher lexeme.0.place lexeme.0.token
+  some ← some_matcher lexeme.0.offset lexeme.0.token
   found ← matchers_at (length lexemes) lexemes
-  matchers ← real_matchers (place_of found.1) found.0
+  matchers ← real_matchers (offset_of found.1) found.0
   Ok (matchers, found.1)
 
 -- the line filter that a sign begins
@@ -78,26 +78,26 @@ filter_op _ = None
 
 -- the text of a line filter; LogQL has words there too
 abbrev pub filter_text : ℕ → Token → Result (List ℕ) Stop
-filter_text place (tokens.Text text) = Ok text
-filter_text place token = Err (refusal positions.InFilter place token)
+filter_text offset (tokens.Text text) = Ok text
+filter_text offset token = Err (refusal positions.InFilter offset token)
 
 -- what is looked for by a pattern has to be one
 abbrev pub checked_filter : ℕ → FilterForm → Result FilterForm Stop
-checked_filter place filter = if is_filter filter.op filter.text then Ok filter else Err (stop faults.BadRegex place)
+checked_filter offset filter = if is_filter filter.op filter.text then Ok filter else Err (stop faults.BadRegex offset)
 
 -- the text of a line filter, after its sign
 unfoldable pub filter_at : LineOp → List Lexeme → Result (FilterForm × List Lexeme) Stop
 filter_at op lexemes = do
   text ← next lexemes
-  value ← filter_text text.0.place text.0.token
-  filter ← checked_filter text.0.place (record { op = op; text = value })
+  value ← filter_text text.0.offset text.0.token
+  filter ← checked_filter text.0.offset (record { op = op; text = value })
   Ok (filter, text.1)
 
 -- at most `most` line filters
 unfoldable pub filters_at : ℕ → List Lexeme → Result (List FilterForm × List Lexeme) Stop
 filters_at zero lexemes = do
   first ← next lexemes
-  if is_some (filter_op first.0.token) then Err (stop faults.TooDeep first.0.place) else Ok ([], lexemes)
+  if is_some (filter_op first.0.token) then Err (stop faults.TooDeep first.0.offset) else Ok ([], lexemes)
 filters_at (suc most) lexemes = do
   first ← next lexemes
   option_map_or (λ op. filter_at op first.1 >>= λ filter. filters_at most filter.1 >>= λ others. Ok (filter.0 ∷ others.0, others.1)) (filter_op first.0.token) (Ok ([], lexemes))
@@ -120,7 +120,7 @@ parser_of _ = None
 
 -- a parser comes once
 abbrev pub only_parser : ℕ → (parsed : Bool) → Parser → Result Parser Stop
-only_parser place parsed parser = if parsed then Err (stop faults.TwoParsers place) else Ok parser
+only_parser offset parsed parser = if parsed then Err (stop faults.TwoParsers offset) else Ok parser
 
 -- the words that begin a stage in LogQL
 abbrev pub later_stages : List (List ℕ)
@@ -133,20 +133,20 @@ is_later_stage_word word = list_any (λ later. is_in_any_case later word) later_
 
 -- label tests begin with a word or a parenthesis; a word of LogQL's names a label only before an operator
 abbrev pub word_begins : ℕ → List ℕ → List Lexeme → Result (Unit {0}) Stop
-word_begins place word lexemes = if is_later_stage_word word && not (operator_comes lexemes) then Err (unsupported place) else Ok tt
+word_begins offset word lexemes = if is_later_stage_word word && not (operator_comes lexemes) then Err (unsupported offset) else Ok tt
 
 abbrev pub parenthesis_begins : ℕ → Token → Result (Unit {0}) Stop
-parenthesis_begins place token = if is_sign signs.OpenParenthesis token then Ok tt else Err (refusal positions.Elsewhere place token)
+parenthesis_begins offset token = if is_sign signs.OpenParenthesis token then Ok tt else Err (refusal positions.Elsewhere offset token)
 
 abbrev pub tests_begin : ℕ → Token → List Lexeme → Result (Unit {0}) Stop
-tests_begin place (tokens.Word word) lexemes = word_begins place word lexemes
-tests_begin place token lexemes = parenthesis_begins place token
+tests_begin offset (tokens.Word word) lexemes = word_begins offset word lexemes
+tests_begin offset token lexemes = parenthesis_begins offset token
 
 -- label tests after their pipe, how many may still come, and the tokens that follow
 unfoldable pub tested_at : (depth left : ℕ) → List Lexeme → Result (StageForm × ℕ × List Lexeme) Stop
 tested_at depth left lexemes = do
   first ← next lexemes
-  begin ← tests_begin first.0.place first.0.token first.1
+  begin ← tests_begin first.0.offset first.0.token first.1
   tests ← tests_at depth left lexemes
   Ok (by_tests tests.0, tests.1, tests.2)
 
@@ -154,7 +154,7 @@ tested_at depth left lexemes = do
 unfoldable pub piped_at : (parsed : Bool) (depth left : ℕ) → List Lexeme → Result (StageForm × ℕ × List Lexeme) Stop
 piped_at parsed depth left lexemes = do
   first ← next lexemes
-  option_map_or (λ parser. only_parser first.0.place parsed parser >>= λ only. Ok (by_parser only, left, first.1)) (parser_of first.0.token) (tested_at depth left lexemes)
+  option_map_or (λ parser. only_parser first.0.offset parsed parser >>= λ only. Ok (by_parser only, left, first.1)) (parser_of first.0.token) (tested_at depth left lexemes)
 
 -- a stage, where one comes, and how many label tests may still come after it
 unfoldable pub stage_at : (parsed : Bool) (depth left : ℕ) → List Lexeme → Result (StageForm × ℕ × List Lexeme) Stop
@@ -166,7 +166,7 @@ stage_at parsed depth left lexemes = do
 unfoldable pub stages_at : (parsed : Bool) (depth left most : ℕ) → List Lexeme → Result (List StageForm × List Lexeme) Stop
 stages_at parsed depth left zero lexemes = do
   more ← stage_comes lexemes
-  if more then Err (stop faults.TooDeep (place_of lexemes)) else Ok ([], lexemes)
+  if more then Err (stop faults.TooDeep (offset_of lexemes)) else Ok ([], lexemes)
 stages_at parsed depth left (suc most) lexemes = do
   more ← stage_comes lexemes
   if more then (stage_at parsed depth left lexemes >>= λ stage. stages_at (parsed || parses stage.0) depth stage.1 most stage.2 >>= λ others. Ok (stage.0 ∷ others.0, others.1)) else Ok ([], lexemes)

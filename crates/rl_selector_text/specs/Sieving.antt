@@ -24,15 +24,15 @@ after_filters (filter ∷ filters) = positions.AfterSieveFilter
 
 -- nothing follows a sieve
 abbrev pub sieve_ends : Position → ℕ → Token → Result (Unit {0}) Stop
-sieve_ends position place tokens.End = Ok tt
-sieve_ends position place token = Err (refusal position place token)
+sieve_ends position offset tokens.End = Ok tt
+sieve_ends position offset token = Err (refusal position offset token)
 
 -- the line filters of a sieve, and then the end
 unfoldable pub rest_at : List Lexeme → Result (List FilterForm) Stop
 rest_at lexemes = do
   filters ← filters_at most_stages lexemes
   last ← next filters.1
-  nothing ← sieve_ends (after_filters filters.0) last.0.place last.0.token
+  nothing ← sieve_ends (after_filters filters.0) last.0.offset last.0.token
   Ok filters.0
 
 -- a sieve is all of its tokens

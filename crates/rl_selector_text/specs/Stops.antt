@@ -6,18 +6,18 @@ use Rattle.rl_query.specs.declared.token.Lexeme.{Lexeme}
 use Rattle.rl_selector_text.specs.declared.stop.Stop.{Stop}
 
 abbrev pub stop : QueryFault → ℕ → Stop
-stop fault place = record { fault = fault; place = place }
+stop fault offset = record { fault = fault; offset = offset }
 
 abbrev pub syntax : ℕ → Stop
-syntax place = stop (faults.Syntax place) place
+syntax offset = stop (faults.Syntax offset) offset
 
 abbrev pub unsupported : ℕ → Stop
-unsupported place = stop (faults.Unsupported place) place
+unsupported offset = stop (faults.Unsupported offset) offset
 
 -- the offset at which tokens begin
-abbrev pub place_of : List Lexeme → ℕ
-place_of [] = 0
-place_of (lexeme ∷ lexemes) = lexeme.place
+abbrev pub offset_of : List Lexeme → ℕ
+offset_of [] = 0
+offset_of (lexeme ∷ lexemes) = lexeme.offset
 
 -- what was read, or why reading stopped
 abbrev pub fault_of : {A : Type 0} → Result A Stop → Result A QueryFault

@@ -68,4 +68,4 @@ AreTests depth = AreTestsIn (AreInside depth)
 
 -- the end of a text, which follows its tokens
 abbrev pub ended : List ℕ → List Lexeme
-ended bytes = record { token = tokens.End; place = length bytes } ∷ []
+ended bytes = record { token = tokens.End; offset = length bytes } ∷ []

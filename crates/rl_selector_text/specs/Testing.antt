@@ -4,7 +4,7 @@ use Rattle.std.specs.Option.{option_map_or}
 use Rattle.rl_labels.specs.Name.{is_text, is_name}
 use Rattle.rl_plain.specs.Answers.{◌>>=◌}
 use Rattle.rl_selector_text.specs.declared.stop.Stop.{Stop}
-use Rattle.rl_selector_text.specs.Stops.{stop, syntax, place_of}
+use Rattle.rl_selector_text.specs.Stops.{stop, syntax, offset_of}
 use Rattle.rl_query.specs.declared.fault.QueryFault.TheVariants as faults
 use Rattle.rl_query.specs.declared.label_test.Join.{Join}
 use Rattle.rl_query.specs.declared.label_test.Join.TheVariants.{And, Or}
@@ -45,7 +45,7 @@ is_label (tokens.Word word) = not (is_taken word)
 is_label _ = false
 
 abbrev pub label_at : ℕ → Token → Result (Unit {0}) Stop
-label_at place token = if is_label token then Ok tt else Err (refusal positions.Elsewhere place token)
+label_at offset token = if is_label token then Ok tt else Err (refusal positions.Elsewhere offset token)
 
 -- the first token names a label
 abbrev pub label_comes : List Lexeme → Bool
@@ -53,27 +53,27 @@ label_comes [] = false
 label_comes (lexeme ∷ lexemes) = is_label lexeme.token
 
 -- one fewer may still come, where one may
-abbrev pub one_fewer : (place left : ℕ) → Result ℕ Stop
-one_fewer place zero = Err (stop faults.TooDeep place)
-one_fewer place (suc fewer) = Ok fewer
+abbrev pub one_fewer : (offset left : ℕ) → Result ℕ Stop
+one_fewer offset zero = Err (stop faults.TooDeep offset)
+one_fewer offset (suc fewer) = Ok fewer
 
 -- the comparison that a token is
 abbrev pub comparison_at : ℕ → Token → Result Comparison Stop
-comparison_at place (tokens.Sign sign) = option_map_or Ok (comparison_of sign) (Err (refusal positions.Elsewhere place (tokens.Sign sign)))
-comparison_at place token = Err (refusal positions.Elsewhere place token)
+comparison_at offset (tokens.Sign sign) = option_map_or Ok (comparison_of sign) (Err (refusal positions.Elsewhere offset (tokens.Sign sign)))
+comparison_at offset token = Err (refusal positions.Elsewhere offset token)
 
 -- the quantity that a token is; LogQL has `ip(..)` there, and negative numbers
 abbrev pub quantity_at : ℕ → Token → Result Quantity Stop
-quantity_at place (tokens.Number number) = option_map_or Ok (quantity_of number) (Err (syntax place))
-quantity_at place token = Err (refusal positions.InTest place token)
+quantity_at offset (tokens.Number number) = option_map_or Ok (quantity_of number) (Err (syntax offset))
+quantity_at offset token = Err (refusal positions.InTest offset token)
 
 -- the test by quantity of its parts, where its name is one
-abbrev pub named_test : (place : ℕ) → QuantityForm → Result QuantityForm Stop
-named_test place test = if is_name test.name then Ok test else Err (syntax place)
+abbrev pub named_test : (offset : ℕ) → QuantityForm → Result QuantityForm Stop
+named_test offset test = if is_name test.name then Ok test else Err (syntax offset)
 
 -- a name, a comparison and a quantity
 unfoldable pub quantity_test_at : List Lexeme → Result (QuantityForm × List Lexeme) Stop
-quantity_test_at lexemes = row_at comparison_at quantity_at (λ place name comparison quantity. named_test place (record { name = name; comparison = comparison; quantity = quantity })) lexemes
+quantity_test_at lexemes = row_at comparison_at quantity_at (λ offset name comparison quantity. named_test offset (record { name = name; comparison = comparison; quantity = quantity })) lexemes
 
 -- a token is a comparison
 abbrev pub compares : Token → Bool
@@ -100,8 +100,8 @@ label_test_at lexemes =
 unfoldable pub test_at : Reader
 test_at left lexemes = do
   first ← next lexemes
-  label ← label_at first.0.place first.0.token
-  fewer ← one_fewer first.0.place left
+  label ← label_at first.0.offset first.0.token
+  fewer ← one_fewer first.0.offset left
   test ← label_test_at lexemes
   Ok (one test.0, fewer, test.1)
 
@@ -173,7 +173,7 @@ tests_in inside = joined_at Or (part_at Or inside)
 
 -- tests in parentheses, `depth` of which may be opened within one another
 abbrev pub inside_at : ℕ → Reader
-inside_at zero left lexemes = Err (stop faults.TooDeep (place_of lexemes))
+inside_at zero left lexemes = Err (stop faults.TooDeep (offset_of lexemes))
 inside_at (suc depth) left lexemes = tests_in (inside_at depth) left lexemes
 
 -- tests in which `depth` parentheses may be opened within one another

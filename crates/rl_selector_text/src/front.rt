@@ -88,24 +88,24 @@ pub enum Position {
 }
 
 /// The fault of a token that does not fit its position.
-pub fn refusal(position: Position, place: usize, token: &Token) -> Stop
-    ensures { result ≡ refusal position place token.now }
+pub fn refusal(position: Position, offset: usize, token: &Token) -> Stop
+    ensures { result ≡ refusal position offset token.now }
 {
     if is_unsupported(position, token) {
-        Stop::unsupported(place)
+        Stop::unsupported(offset)
     } else {
-        Stop::syntax(place)
+        Stop::syntax(offset)
     }
 }
 
 /// The fault of a word that does not fit its position.
-pub fn refused_word(position: Position, place: usize, word: &str) -> Stop
-    ensures { result ≡ refusal position place (tokens.Word word.now) }
+pub fn refused_word(position: Position, offset: usize, word: &str) -> Stop
+    ensures { result ≡ refusal position offset (tokens.Word word.now) }
 {
     if is_unsupported_word(position, word) {
-        Stop::unsupported(place)
+        Stop::unsupported(offset)
     } else {
-        Stop::syntax(place)
+        Stop::syntax(offset)
     }
 }
 
@@ -250,7 +250,7 @@ pub fn expected(sign: Sign, position: Position, lexemes: &[Lexeme]) -> Result<&[
     if is_sign(sign, &lexeme.token) {
         return Ok(rest);
     }
-    Err(refusal(position, lexeme.place, &lexeme.token))
+    Err(refusal(position, lexeme.offset, &lexeme.token))
 }
 
 /// Whether a token is the sign.
@@ -265,21 +265,21 @@ pub fn is_sign(sign: Sign, token: &Token) -> bool
 
 /// The word that a token is.
 pub fn name_of(lexeme: &Lexeme) -> Result<&PlainText, Stop>
-    ensures { Answers (λ name. name.now) result (name_of lexeme.now.place lexeme.now.token) }
+    ensures { Answers (λ name. name.now) result (name_of lexeme.now.offset lexeme.now.token) }
 {
     match &lexeme.token {
         Token::Word(name) => Ok(name),
-        token => Err(refusal(Position::Elsewhere, lexeme.place, token)),
+        token => Err(refusal(Position::Elsewhere, lexeme.offset, token)),
     }
 }
 
 // The text that a token is.
 fn content_of(lexeme: &Lexeme) -> Result<&PlainText, Stop>
-    ensures { Answers (λ content. content.now) result (content_of lexeme.now.place lexeme.now.token) }
+    ensures { Answers (λ content. content.now) result (content_of lexeme.now.offset lexeme.now.token) }
 {
     match &lexeme.token {
         Token::Text(content) => Ok(content),
-        token => Err(refusal(Position::Elsewhere, lexeme.place, token)),
+        token => Err(refusal(Position::Elsewhere, lexeme.offset, token)),
     }
 }
 
@@ -295,33 +295,33 @@ pub(crate) fn is_match(token: &Token) -> bool
 
 // The operator of a matcher that a token is.
 fn operator_of(lexeme: &Lexeme) -> Result<MatchOp, Stop>
-    ensures { result ≡ operator_of lexeme.now.place lexeme.now.token }
+    ensures { result ≡ operator_of lexeme.now.offset lexeme.now.token }
 {
     match &lexeme.token {
         Token::Sign(Sign::Equal) => Ok(MatchOp::Equal),
         Token::Sign(Sign::NotEqual) => Ok(MatchOp::NotEqual),
         Token::Sign(Sign::Matches) => Ok(MatchOp::Matches),
         Token::Sign(Sign::NotMatches) => Ok(MatchOp::NotMatches),
-        token => Err(refusal(Position::Elsewhere, lexeme.place, token)),
+        token => Err(refusal(Position::Elsewhere, lexeme.offset, token)),
     }
 }
 
 // The matcher of its parts, where its name is one, and its pattern.
 #[tactic(auto, using(crate::proofs::Items::unread))]
 fn checked_matcher(
-    place: usize,
+    offset: usize,
     name: &PlainText,
     op: MatchOp,
     value: &PlainText,
 ) -> Result<Matcher, Stopped>
-    ensures { Gives matcher_form result (checked_matcher place (record { name = name.now; op = op; value = value.now })) }
+    ensures { Gives matcher_form result (checked_matcher offset (record { name = name.now; op = op; value = value.now })) }
 {
     match Matcher::read(name.try_copy()?, op, value.try_copy()?) {
         Ok(matcher) => Ok(matcher),
-        Err(OrMemory::Fault(MatcherFault::BadName)) => Err(Stopped::Fault(Stop::syntax(place))),
+        Err(OrMemory::Fault(MatcherFault::BadName)) => Err(Stopped::Fault(Stop::syntax(offset))),
         Err(OrMemory::Fault(MatcherFault::BadRegex)) => Err(Stopped::Fault(Stop::new(
             QueryFault::BadRegex,
-            place,
+            offset,
         ))),
         Err(OrMemory::Memory) => Err(Stopped::Memory),
     }
@@ -338,6 +338,6 @@ pub(crate) fn matcher_at(lexemes: &[Lexeme]) -> Result<(Matcher, &[Lexeme]), Sto
     let op = operator_of(sign)?;
     let (text, rest) = next(rest)?;
     let value = content_of(text)?;
-    let matcher = checked_matcher(first.place, name, op, value)?;
+    let matcher = checked_matcher(first.offset, name, op, value)?;
     Ok((matcher, rest))
 }

@@ -22,22 +22,22 @@ pub fn lexemes_of(alloc: Global, text: &str) -> Result<Vec<Lexeme>, AllocError>
         if start.is_empty() {
             return with_end(lexemes, text.len());
         }
-        let place = text.len().saturating_sub(start.len());
+        let offset = text.len().saturating_sub(start.len());
         let (token, following) = token_at(alloc, start)?;
-        lexemes.push(Lexeme { token, place })?;
+        lexemes.push(Lexeme { token, offset })?;
         rest = following;
     }
     with_end(lexemes, text.len())
 }
 
 // The tokens, and the end.
-fn with_end(lexemes: Vec<Lexeme>, place: usize) -> Result<Vec<Lexeme>, AllocError>
-    ensures { IfOk result (λ all. all.items ≡ lexemes.items ++ record { token = tokens.End; place = place } ∷ []) }
+fn with_end(lexemes: Vec<Lexeme>, offset: usize) -> Result<Vec<Lexeme>, AllocError>
+    ensures { IfOk result (λ all. all.items ≡ lexemes.items ++ record { token = tokens.End; offset = offset } ∷ []) }
 {
     let mut lexemes = lexemes;
     lexemes.push(Lexeme {
         token: Token::End,
-        place,
+        offset,
     })?;
     Ok(lexemes)
 }

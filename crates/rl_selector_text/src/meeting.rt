@@ -25,7 +25,7 @@ pub fn refused(alloc: Global, lexemes: &[Lexeme], stopped: Stopped) -> QueryErro
     ensures { IsRefusal lexemes.now stopped result }
 {
     match stopped {
-        OrMemory::Fault(stop) => match have_room(alloc, before(stop.place, lexemes)) {
+        OrMemory::Fault(stop) => match have_room(alloc, before(stop.offset, lexemes)) {
             Ok(()) => QueryError::Fault(stop.fault),
             Err(error) => error,
         },
@@ -34,19 +34,19 @@ pub fn refused(alloc: Global, lexemes: &[Lexeme], stopped: Stopped) -> QueryErro
 }
 
 // The tokens before an offset.
-fn before(place: usize, lexemes: &[Lexeme]) -> &[Lexeme]
-    ensures { result.now ≡ tokens_before place lexemes.now }
+fn before(offset: usize, lexemes: &[Lexeme]) -> &[Lexeme]
+    ensures { result.now ≡ tokens_before offset lexemes.now }
 {
-    let (before, _) = lexemes.split_at(count_before(place, lexemes));
+    let (before, _) = lexemes.split_at(count_before(offset, lexemes));
     before
 }
 
-fn count_before(place: usize, lexemes: &[Lexeme]) -> usize
-    ensures count { result ≡ prefix_len (λ lexeme. nat_lt lexeme.place place) lexemes.now }
+fn count_before(offset: usize, lexemes: &[Lexeme]) -> usize
+    ensures count { result ≡ prefix_len (λ lexeme. nat_lt lexeme.offset offset) lexemes.now }
     ensures within { result ≤ length lexemes.now }
 {
     for (index, lexeme) in lexemes.iter().enumerate() {
-        if lexeme.place >= place {
+        if lexeme.offset >= offset {
             return index;
         }
     }

@@ -7,7 +7,7 @@ ghost use Rattle.rl_selector_text.specs.Parsing.{goes_on, element_at, matchers_a
 ghost use Rattle.rl_query.specs.Limits.{has_real_matcher};
 
 use crate::front::{Position, is_sign, matcher_at, next, refusal};
-use crate::stop::{Stop, Stopped, place_of};
+use crate::stop::{Stop, Stopped, offset_of};
 use rl_labels::Matcher;
 use rl_plain::PlainList;
 use rl_query::fault::QueryFault;
@@ -17,7 +17,7 @@ use std::alloc::{AllocError, Global};
 
 // Whether another matcher follows.
 fn goes_on(lexeme: &Lexeme) -> Result<bool, Stop>
-    ensures { result ≡ goes_on lexeme.now.place lexeme.now.token }
+    ensures { result ≡ goes_on lexeme.now.offset lexeme.now.token }
 {
     if is_sign(Sign::Comma, &lexeme.token) {
         return Ok(true);
@@ -25,7 +25,7 @@ fn goes_on(lexeme: &Lexeme) -> Result<bool, Stop>
     if is_sign(Sign::CloseBrace, &lexeme.token) {
         return Ok(false);
     }
-    Err(refusal(Position::Elsewhere, lexeme.place, &lexeme.token))
+    Err(refusal(Position::Elsewhere, lexeme.offset, &lexeme.token))
 }
 
 // A matcher, and whether another follows.
@@ -64,27 +64,27 @@ pub fn selector_at(alloc: Global, lexemes: &[Lexeme]) -> Result<(Selector, &[Lex
     let (lexeme, _) = next(lexemes)?;
     some_matcher(lexeme)?;
     let (matchers, rest) = matchers_at(alloc, lexemes)?;
-    let selector = real_selector(place_of(rest), matchers)?;
+    let selector = real_selector(offset_of(rest), matchers)?;
     Ok((selector, rest))
 }
 
 // A selector that closes at once has no matcher.
 fn some_matcher(lexeme: &Lexeme) -> Result<(), Stop>
-    ensures { result ≡ some_matcher lexeme.now.place lexeme.now.token }
+    ensures { result ≡ some_matcher lexeme.now.offset lexeme.now.token }
 {
     if is_sign(Sign::CloseBrace, &lexeme.token) {
-        return Err(Stop::new(QueryFault::NoRealMatcher, lexeme.place));
+        return Err(Stop::new(QueryFault::NoRealMatcher, lexeme.offset));
     }
     Ok(())
 }
 
 // The selector of matchers of which one at least refuses a stream without its label.
 #[tactic(auto, using(crate::proofs::Items::real_forms))]
-fn real_selector(place: usize, matchers: Vec<Matcher>) -> Result<Selector, Stopped>
-    ensures { Gives (λ selector. map matcher_form selector.matchers) result (real_matchers place (map matcher_form matchers.items)) }
+fn real_selector(offset: usize, matchers: Vec<Matcher>) -> Result<Selector, Stopped>
+    ensures { Gives (λ selector. map matcher_form selector.matchers) result (real_matchers offset (map matcher_form matchers.items)) }
 {
     if !has_real_matcher(&matchers)? {
-        return Err(Stopped::Fault(Stop::new(QueryFault::NoRealMatcher, place)));
+        return Err(Stopped::Fault(Stop::new(QueryFault::NoRealMatcher, offset)));
     }
     let matchers = PlainList::from_vec(matchers);
     Ok(Selector { matchers })

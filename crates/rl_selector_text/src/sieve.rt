@@ -65,11 +65,11 @@ fn after_filters(filters: &[LineFilter]) -> Position
 }
 
 fn sieve_ends(position: Position, lexeme: &Lexeme) -> Result<(), Stop>
-    ensures { result ≡ sieve_ends position lexeme.now.place lexeme.now.token }
+    ensures { result ≡ sieve_ends position lexeme.now.offset lexeme.now.token }
 {
     match &lexeme.token {
         Token::End => Ok(()),
-        token => Err(refusal(position, lexeme.place, token)),
+        token => Err(refusal(position, lexeme.offset, token)),
     }
 }
 

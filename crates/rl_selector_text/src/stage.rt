@@ -10,7 +10,7 @@ ghost use Rattle.rl_selector_text.specs.Parsing.{filter_op, filter_text, checked
 
 use crate::front::{Position, is_one_of, is_sign, next, refusal};
 use crate::room::Room;
-use crate::stop::{Stop, Stopped, place_of};
+use crate::stop::{Stop, Stopped, offset_of};
 use crate::testing::{operator_comes, tests_at};
 use rl_patterns::is_pattern;
 use rl_plain::{PlainText, TryCopy};
@@ -54,11 +54,11 @@ fn filter_op(token: &Token) -> Option<LineOp>
 
 // The text of a line filter.
 fn filter_text(lexeme: &Lexeme) -> Result<&PlainText, Stop>
-    ensures { Answers (λ text. text.now) result (filter_text lexeme.now.place lexeme.now.token) }
+    ensures { Answers (λ text. text.now) result (filter_text lexeme.now.offset lexeme.now.token) }
 {
     match &lexeme.token {
         Token::Text(text) => Ok(text),
-        token => Err(refusal(Position::InFilter, lexeme.place, token)),
+        token => Err(refusal(Position::InFilter, lexeme.offset, token)),
     }
 }
 
@@ -69,11 +69,11 @@ fn is_line_pattern(op: LineOp) -> bool
 }
 
 // The line filter of its parts, where its pattern is one.
-fn checked_filter(op: LineOp, place: usize, text: &PlainText) -> Result<LineFilter, Stopped>
-    ensures { Gives filter_form result (checked_filter place (record { op = op; text = text.now })) }
+fn checked_filter(op: LineOp, offset: usize, text: &PlainText) -> Result<LineFilter, Stopped>
+    ensures { Gives filter_form result (checked_filter offset (record { op = op; text = text.now })) }
 {
     if is_line_pattern(op) && !is_pattern(text.allocator(), text.as_str())? {
-        return Err(Stopped::Fault(Stop::new(QueryFault::BadRegex, place)));
+        return Err(Stopped::Fault(Stop::new(QueryFault::BadRegex, offset)));
     }
     let text = text.try_copy()?;
     Ok(LineFilter { op, text })
@@ -86,7 +86,7 @@ fn filter_at(op: LineOp, lexemes: &[Lexeme]) -> Result<(LineFilter, &[Lexeme]), 
 {
     let (lexeme, rest) = next(lexemes)?;
     let text = filter_text(lexeme)?;
-    let filter = checked_filter(op, lexeme.place, text)?;
+    let filter = checked_filter(op, lexeme.offset, text)?;
     Ok((filter, rest))
 }
 
@@ -120,7 +120,7 @@ fn no_filter(lexemes: &[Lexeme]) -> Result<(), Stop>
 {
     let (first, _) = next(lexemes)?;
     if filter_op(&first.token).is_some() {
-        return Err(Stop::new(QueryFault::TooDeep, first.place));
+        return Err(Stop::new(QueryFault::TooDeep, first.offset));
     }
     Ok(())
 }
@@ -163,11 +163,11 @@ fn named_parser(word: &str) -> Option<Parser>
 }
 
 // A parser comes once.
-fn only_parser(place: usize, parsed: bool, parser: Parser) -> Result<Parser, Stop>
-    ensures { result ≡ only_parser place parsed parser }
+fn only_parser(offset: usize, parsed: bool, parser: Parser) -> Result<Parser, Stop>
+    ensures { result ≡ only_parser offset parsed parser }
 {
     if parsed {
-        return Err(Stop::new(QueryFault::TwoParsers, place));
+        return Err(Stop::new(QueryFault::TwoParsers, offset));
     }
     Ok(parser)
 }
@@ -180,30 +180,30 @@ fn is_later_stage_word(word: &str) -> bool
 
 // That label tests begin with a token; a word of LogQL's names a label only before an operator.
 fn tests_begin(first: &Lexeme, rest: &[Lexeme]) -> Result<(), Stop>
-    ensures { result ≡ tests_begin first.now.place first.now.token rest.now }
+    ensures { result ≡ tests_begin first.now.offset first.now.token rest.now }
 {
     match &first.token {
-        Token::Word(word) => word_begins(first.place, word.as_str(), rest),
-        token => parenthesis_begins(first.place, token),
+        Token::Word(word) => word_begins(first.offset, word.as_str(), rest),
+        token => parenthesis_begins(first.offset, token),
     }
 }
 
-fn word_begins(place: usize, word: &str, rest: &[Lexeme]) -> Result<(), Stop>
-    ensures { result ≡ word_begins place word.now rest.now }
+fn word_begins(offset: usize, word: &str, rest: &[Lexeme]) -> Result<(), Stop>
+    ensures { result ≡ word_begins offset word.now rest.now }
 {
     if is_later_stage_word(word) && !operator_comes(rest) {
-        return Err(Stop::unsupported(place));
+        return Err(Stop::unsupported(offset));
     }
     Ok(())
 }
 
-fn parenthesis_begins(place: usize, token: &Token) -> Result<(), Stop>
-    ensures { result ≡ parenthesis_begins place token.now }
+fn parenthesis_begins(offset: usize, token: &Token) -> Result<(), Stop>
+    ensures { result ≡ parenthesis_begins offset token.now }
 {
     if is_sign(Sign::OpenParenthesis, token) {
         return Ok(());
     }
-    Err(refusal(Position::Elsewhere, place, token))
+    Err(refusal(Position::Elsewhere, offset, token))
 }
 
 // Label tests, after their pipe.
@@ -235,7 +235,7 @@ fn piped_at(
 {
     let (first, rest) = next(lexemes)?;
     if let Some(parser) = parser_of(&first.token) {
-        let parser = only_parser(first.place, parsed, parser)?;
+        let parser = only_parser(first.offset, parsed, parser)?;
         return Ok((Stage::Parser(parser), left, rest));
     }
     tested_at(alloc, depth, left, lexemes)
@@ -299,7 +299,7 @@ fn no_stage(lexemes: &[Lexeme]) -> Result<(), Stop>
     ensures { (parsed : Bool) (depth left : ℕ) → Answers (λ _. ([], lexemes.now)) result (stages_at parsed depth left 0 lexemes.now) }
 {
     if stage_comes(lexemes)? {
-        return Err(Stop::new(QueryFault::TooDeep, place_of(lexemes)));
+        return Err(Stop::new(QueryFault::TooDeep, offset_of(lexemes)));
     }
     Ok(())
 }

@@ -1,7 +1,7 @@
 //! Where reading stops.
 ghost use Rattle.std.specs.Prelude.{◌≡◌};
 ghost use Rattle.rl_plain.specs.declared.refusal.OrMemory.TheVariants.{Fault};
-ghost use Rattle.rl_selector_text.specs.Stops.{stop, syntax, unsupported, place_of};
+ghost use Rattle.rl_selector_text.specs.Stops.{stop, syntax, unsupported, offset_of};
 
 use rl_plain::OrMemory;
 use rl_query::fault::QueryFault;
@@ -11,7 +11,7 @@ use rl_query::token::Lexeme;
 #[derive(Clone, Copy, Drop)]
 pub struct Stop {
     pub fault: QueryFault,
-    pub place: usize,
+    pub offset: usize,
 }
 
 /// Why nothing was read.
@@ -27,33 +27,33 @@ impl From<Stop> for Stopped {
 
 impl Stop {
     /// A fault at an offset.
-    pub fn new(fault: QueryFault, place: usize) -> Stop
-        ensures { result ≡ stop fault place }
+    pub fn new(fault: QueryFault, offset: usize) -> Stop
+        ensures { result ≡ stop fault offset }
     {
-        Stop { fault, place }
+        Stop { fault, offset }
     }
 
     /// What is no query, at an offset.
-    pub fn syntax(place: usize) -> Stop
-        ensures { result ≡ syntax place }
+    pub fn syntax(offset: usize) -> Stop
+        ensures { result ≡ syntax offset }
     {
-        Stop::new(QueryFault::Syntax(place), place)
+        Stop::new(QueryFault::Syntax(offset), offset)
     }
 
     /// What LogQL has and the ruler has not, at an offset.
-    pub fn unsupported(place: usize) -> Stop
-        ensures { result ≡ unsupported place }
+    pub fn unsupported(offset: usize) -> Stop
+        ensures { result ≡ unsupported offset }
     {
-        Stop::new(QueryFault::Unsupported(place), place)
+        Stop::new(QueryFault::Unsupported(offset), offset)
     }
 }
 
 /// The offset at which tokens begin.
-pub fn place_of(lexemes: &[Lexeme]) -> usize
-    ensures { result ≡ place_of lexemes.now }
+pub fn offset_of(lexemes: &[Lexeme]) -> usize
+    ensures { result ≡ offset_of lexemes.now }
 {
     match lexemes {
-        [first, ..] => first.place,
+        [first, ..] => first.offset,
         [] => 0,
     }
 }

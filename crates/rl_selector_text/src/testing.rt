@@ -13,7 +13,7 @@ ghost use Rattle.rl_selector_text.specs.Testing.{IsEnd, Read, is_word, is_label,
 use crate::front::{
     Position, expected, is_joining_word, is_match, is_sign, matcher_at, name_of, next, refusal,
 };
-use crate::stop::{Stop, Stopped, place_of};
+use crate::stop::{Stop, Stopped, offset_of};
 use rl_labels::labels::is_label_name;
 use rl_labels::{Decimal, Duration, Size};
 use rl_plain::{PlainText, TryCopy};
@@ -51,20 +51,20 @@ pub(crate) fn is_label(token: &Token) -> bool
 }
 
 fn label_at(lexeme: &Lexeme) -> Result<(), Stop>
-    ensures { result ≡ label_at lexeme.now.place lexeme.now.token }
+    ensures { result ≡ label_at lexeme.now.offset lexeme.now.token }
 {
     if is_label(&lexeme.token) {
         return Ok(());
     }
-    Err(refusal(Position::Elsewhere, lexeme.place, &lexeme.token))
+    Err(refusal(Position::Elsewhere, lexeme.offset, &lexeme.token))
 }
 
 // One fewer may still come, where one may.
-fn one_fewer(place: usize, most: usize) -> Result<usize, Stop>
-    ensures { result ≡ one_fewer place most }
+fn one_fewer(offset: usize, most: usize) -> Result<usize, Stop>
+    ensures { result ≡ one_fewer offset most }
 {
     if most == 0 {
-        return Err(Stop::new(QueryFault::TooDeep, place));
+        return Err(Stop::new(QueryFault::TooDeep, offset));
     }
     Ok(most - 1)
 }
@@ -85,14 +85,14 @@ pub fn comparison_of(sign: Sign) -> Option<Comparison>
 }
 
 fn comparison_at(lexeme: &Lexeme) -> Result<Comparison, Stop>
-    ensures { result ≡ comparison_at lexeme.now.place lexeme.now.token }
+    ensures { result ≡ comparison_at lexeme.now.offset lexeme.now.token }
 {
     match &lexeme.token {
         Token::Sign(sign) => match comparison_of(*sign) {
             Some(comparison) => Ok(comparison),
-            None => Err(refusal(Position::Elsewhere, lexeme.place, &lexeme.token)),
+            None => Err(refusal(Position::Elsewhere, lexeme.offset, &lexeme.token)),
         },
-        token => Err(refusal(Position::Elsewhere, lexeme.place, token)),
+        token => Err(refusal(Position::Elsewhere, lexeme.offset, token)),
     }
 }
 
@@ -122,28 +122,28 @@ fn quantity_of(text: &str) -> Option<Quantity>
 }
 
 fn quantity_at(lexeme: &Lexeme) -> Result<Quantity, Stop>
-    ensures quantity { result ≡ quantity_at lexeme.now.place lexeme.now.token }
+    ensures quantity { result ≡ quantity_at lexeme.now.offset lexeme.now.token }
     ensures proper { IfOk result (λ quantity. IsTrue (is_quantity quantity)) }
 {
     match &lexeme.token {
-        Token::Number(number) => quantity_of(number.as_str()).ok_or(Stop::syntax(lexeme.place)),
-        token => Err(refusal(Position::InTest, lexeme.place, token)),
+        Token::Number(number) => quantity_of(number.as_str()).ok_or(Stop::syntax(lexeme.offset)),
+        token => Err(refusal(Position::InTest, lexeme.offset, token)),
     }
 }
 
 // The test by quantity of its parts, where its name is one.
 fn named_test(
-    place: usize,
+    offset: usize,
     name: &PlainText,
     comparison: Comparison,
     quantity: Quantity,
 ) -> Result<QuantityTest, Stopped>
     requires free { IsTrue (not (is_taken name.now)) }
     requires proper { IsTrue (is_quantity quantity) }
-    ensures { Gives quantity_form result (named_test place (record { name = name.now; comparison = comparison; quantity = quantity })) }
+    ensures { Gives quantity_form result (named_test offset (record { name = name.now; comparison = comparison; quantity = quantity })) }
 {
     if !is_label_name(name.as_str()) {
-        return Err(Stopped::Fault(Stop::syntax(place)));
+        return Err(Stopped::Fault(Stop::syntax(offset)));
     }
     let name = name.try_copy()?;
     Ok(QuantityTest {
@@ -165,7 +165,7 @@ fn quantity_test_at(lexemes: &[Lexeme]) -> Result<(QuantityTest, &[Lexeme]), Sto
     let comparison = comparison_at(sign)?;
     let (number, rest) = next(rest)?;
     let quantity = quantity_at(number)?;
-    let test = named_test(first.place, name, comparison, quantity)?;
+    let test = named_test(first.offset, name, comparison, quantity)?;
     Ok((test, rest))
 }
 
@@ -224,7 +224,7 @@ fn test_at(
 {
     let (first, _) = next(lexemes)?;
     label_at(first)?;
-    let fewer = one_fewer(first.place, left)?;
+    let fewer = one_fewer(first.offset, left)?;
     let (test, rest) = label_test_at(lexemes)?;
     let tests = LabelTests::one(alloc, test)?;
     Ok((tests, fewer, rest))
@@ -300,7 +300,7 @@ fn enclosed_at(
 ) -> Result<(LabelTests, usize, &[Lexeme]), Stopped>
     ensures { Gives (λ x. (tests_form x.0, x.1, x.2.now)) result (enclosed_at (inside_at depth) left lexemes.now) }
 {
-    let fewer = one_fewer(place_of(lexemes), depth)?;
+    let fewer = one_fewer(offset_of(lexemes), depth)?;
     let (tests, left, rest) = joined_at(alloc, Join::Or, fewer, left, lexemes)?;
     let rest = expected(Sign::CloseParenthesis, Position::AfterInnerTests, rest)?;
     Ok((tests, left, rest))

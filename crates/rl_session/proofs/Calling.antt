@@ -18,17 +18,17 @@ module _ {E : Type 0} (calls : Calls E) where
   -- a group more
   pub due_more : (old : E) (now from left at : ℕ) (results : List (Result Committed Refusal)) (mid : E) (due : Bool) (more : List (Result Committed Refusal)) (new : E) → at ≡ from + left → EvaluatesDue calls old now from left results mid → calls.is_due mid at now due
       → IsTurn calls due mid now at (λ engine rest. (rest ≡ []) × (new ≡ engine)) more → EvaluatesDue calls old now from (suc left) (results ++ more) new
-  due_more old now from zero at results mid due more new place evaluated is_due turn =
-      let here : at ≡ from = omega (arith, place) in
+  due_more old now from zero at results mid due more new same_number evaluated is_due turn =
+      let here : at ≡ from = omega (arith, same_number) in
       subst (λ r. EvaluatesDue calls old now from (suc zero) (r ++ more) new) (sym evaluated.0) (
         due,
         subst (λ n. calls.is_due old n now due) here (subst (λ engine. calls.is_due engine at now due) evaluated.1 is_due),
         subst (λ n. IsTurn calls due old now n (λ engine rest. (rest ≡ []) × (new ≡ engine)) more) here (subst (λ engine. IsTurn calls due engine now at (λ engine rest. (rest ≡ []) × (new ≡ engine)) more) evaluated.1 turn),
       )
-  due_more old now from (suc left) at results mid due more new place (true, first, turned) is_due turn =
-      (true, first, (turned.0, turned.1, turned.2 ++ more, turned.3, ap (λ r. r ++ more) turned.4, due_more turned.1 now (suc from) left at turned.2 mid due more new (omega (arith, place)) turned.5 is_due turn))
-  due_more old now from (suc left) at results mid due more new place (false, first, turned) is_due turn =
-      (false, first, due_more old now (suc from) left at results mid due more new (omega (arith, place)) turned is_due turn)
+  due_more old now from (suc left) at results mid due more new same_number (true, first, turned) is_due turn =
+      (true, first, (turned.0, turned.1, turned.2 ++ more, turned.3, ap (λ r. r ++ more) turned.4, due_more turned.1 now (suc from) left at turned.2 mid due more new (omega (arith, same_number)) turned.5 is_due turn))
+  due_more old now from (suc left) at results mid due more new same_number (false, first, turned) is_due turn =
+      (false, first, due_more old now (suc from) left at results mid due more new (omega (arith, same_number)) turned is_due turn)
 
   -- the next group, in the words of a loop
   pub due_next : (old : E) (now group : ℕ) (results : List (Result Committed Refusal)) (mid : E) (all : List (Result Committed Refusal)) (new : E) → EvaluatesDue calls old now 0 group results mid → TakesTurn calls mid now group results all new → EvaluatesDue calls old now 0 (group + 1) all new

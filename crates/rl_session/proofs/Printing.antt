@@ -21,8 +21,8 @@ entry_lines-push number (first ∷ answers) answer =
 -- the line of an answer more
 pub entry_lines_more : (answers : List (Result ShardReply Refusal)) (i : ℕ) (answer : Result ShardReply Refusal) → i < length answers → answer ≡ get_or answers i answer → entry_lines 0 (take i answers) ++ entry_line i (push_refusal answer) ≡ entry_lines 0 (take (i + 1) answers)
 entry_lines_more answers i answer below is =
-    let place : 0 + length (take i answers) ≡ i = omega (arith, length-take-le i answers (omega arith)) in
-    sym (ap (entry_lines 0) (take_more answers i answer below ∙ ap (λ r. take i answers ++ r ∷ []) (sym is)) ∙ entry_lines-push 0 (take i answers) answer ∙ ap (λ n. entry_lines 0 (take i answers) ++ entry_line n (push_refusal answer)) place)
+    let same_number : 0 + length (take i answers) ≡ i = omega (arith, length-take-le i answers (omega arith)) in
+    sym (ap (entry_lines 0) (take_more answers i answer below ∙ ap (λ r. take i answers ++ r ∷ []) (sym is)) ∙ entry_lines-push 0 (take i answers) answer ∙ ap (λ n. entry_lines 0 (take i answers) ++ entry_line n (push_refusal answer)) same_number)
 
 -- an answer more, which is a refusal of this name or none
 pub answers_written : (old mid new : Option (List ℕ)) (answers : List (Result ShardReply Refusal)) (i : ℕ) (answer : Result ShardReply Refusal) (refusal : Option (List ℕ)) → i < length answers → answer ≡ get_or answers i answer → push_refusal answer ≡ refusal → Appends old mid (entry_lines 0 (take i answers)) → Appends mid new (entry_line i refusal) → Appends old new (entry_lines 0 (take (i + 1) answers))
@@ -32,5 +32,5 @@ answers_written old mid new answers i answer refusal below is refused before mor
 -- an answer more, where each one is this answer
 pub entry_lines_repeated : (i : ℕ) (answer : Result ShardReply Refusal) → entry_lines 0 (replicate i answer) ++ entry_line i (push_refusal answer) ≡ entry_lines 0 (replicate (i + 1) answer)
 entry_lines_repeated i answer =
-    let place : 0 + length (replicate i answer) ≡ i = omega (arith, length-replicate i answer) in
-    sym (ap (entry_lines 0) (sym (replicate_more i answer)) ∙ entry_lines-push 0 (replicate i answer) answer ∙ ap (λ n. entry_lines 0 (replicate i answer) ++ entry_line n (push_refusal answer)) place)
+    let same_number : 0 + length (replicate i answer) ≡ i = omega (arith, length-replicate i answer) in
+    sym (ap (entry_lines 0) (sym (replicate_more i answer)) ∙ entry_lines-push 0 (replicate i answer) answer ∙ ap (λ n. entry_lines 0 (replicate i answer) ++ entry_line n (push_refusal answer)) same_number)

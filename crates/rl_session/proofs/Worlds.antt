@@ -34,27 +34,27 @@ ok_err x refusal h = cc
 
 -- a shard more
 pub gathered_more : (old : WorldBooks) (group from left at : ℕ) (mid new : WorldBooks) → at ≡ from + left → AreGathered old group from left (Ok tt) mid → IsGathered mid group at (Ok tt) new → AreGathered old group from (suc left) (Ok tt) new
-gathered_more old group from zero at mid new place gathered next =
-    (Ok tt, new, subst (λ n. IsGathered old group n (Ok tt) new) (omega (arith, place)) (subst (λ world. IsGathered world group at (Ok tt) new) gathered.1 next), (refl, refl))
-gathered_more old group from (suc left) at mid new place (Ok done, first, begins, rest) next =
-    (Ok done, first, begins, gathered_more first group (suc from) left at mid new (omega (arith, place)) rest next)
-gathered_more old group from (suc left) at mid new place (Err refusal, first, begins, rest) next = absurd (ok_err tt refusal rest.0)
+gathered_more old group from zero at mid new same_number gathered next =
+    (Ok tt, new, subst (λ n. IsGathered old group n (Ok tt) new) (omega (arith, same_number)) (subst (λ world. IsGathered world group at (Ok tt) new) gathered.1 next), (refl, refl))
+gathered_more old group from (suc left) at mid new same_number (Ok done, first, begins, rest) next =
+    (Ok done, first, begins, gathered_more first group (suc from) left at mid new (omega (arith, same_number)) rest next)
+gathered_more old group from (suc left) at mid new same_number (Err refusal, first, begins, rest) next = absurd (ok_err tt refusal rest.0)
 
 -- a shard that refuses ends it
 pub gathered_stop : (old : WorldBooks) (group from left all at : ℕ) (mid new : WorldBooks) (refusal : Refusal) → at ≡ from + left → left < all → AreGathered old group from left (Ok tt) mid → IsGathered mid group at (Err refusal) new → AreGathered old group from all (Err refusal) new
-gathered_stop old group from left zero at mid new refusal place below gathered stops = absurd (omega (arith, below))
-gathered_stop old group from zero (suc all) at mid new refusal place below gathered stops =
-    (Err refusal, new, subst (λ n. IsGathered old group n (Err refusal) new) (omega (arith, place)) (subst (λ world. IsGathered world group at (Err refusal) new) gathered.1 stops), (refl, refl))
-gathered_stop old group from (suc left) (suc all) at mid new refusal place below (Ok done, first, begins, rest) stops =
-    (Ok done, first, begins, gathered_stop first group (suc from) left all at mid new refusal (omega (arith, place)) (omega (arith, below)) rest stops)
-gathered_stop old group from (suc left) (suc all) at mid new refusal place below (Err other, first, begins, rest) stops = absurd (ok_err tt other rest.0)
+gathered_stop old group from left zero at mid new refusal same_number below gathered stops = absurd (omega (arith, below))
+gathered_stop old group from zero (suc all) at mid new refusal same_number below gathered stops =
+    (Err refusal, new, subst (λ n. IsGathered old group n (Err refusal) new) (omega (arith, same_number)) (subst (λ world. IsGathered world group at (Err refusal) new) gathered.1 stops), (refl, refl))
+gathered_stop old group from (suc left) (suc all) at mid new refusal same_number below (Ok done, first, begins, rest) stops =
+    (Ok done, first, begins, gathered_stop first group (suc from) left all at mid new refusal (omega (arith, same_number)) (omega (arith, below)) rest stops)
+gathered_stop old group from (suc left) (suc all) at mid new refusal same_number below (Err other, first, begins, rest) stops = absurd (ok_err tt other rest.0)
 
 -- a shard more decided a step
 pub decided_more : (old : WorldBooks) (step : ShardStep) (from at : ℕ) (replies : List ShardReply) (mid : WorldBooks) (reply : ShardReply) (new : WorldBooks) → at ≡ from + length replies → AreDecided old step from replies mid → IsAskedFor mid step at (Ok reply) new → AreDecided old step from (replies ++ reply ∷ []) new
-decided_more old step from at [] mid reply new place decided next =
-    (new, subst (λ n. IsAskedFor old step n (Ok reply) new) (omega (arith, place)) (subst (λ world. IsAskedFor world step at (Ok reply) new) decided next), refl)
-decided_more old step from at (first ∷ replies) mid reply new place decided next =
-    (decided.0, decided.1, decided_more decided.0 step (suc from) at replies mid reply new (omega (arith, place)) decided.2 next)
+decided_more old step from at [] mid reply new same_number decided next =
+    (new, subst (λ n. IsAskedFor old step n (Ok reply) new) (omega (arith, same_number)) (subst (λ world. IsAskedFor world step at (Ok reply) new) decided next), refl)
+decided_more old step from at (first ∷ replies) mid reply new same_number decided next =
+    (decided.0, decided.1, decided_more decided.0 step (suc from) at replies mid reply new (omega (arith, same_number)) decided.2 next)
 
 none_after : (refused : Option ShardReply) → or_else refused None ≡ refused
 none_after None = refl

@@ -4,7 +4,7 @@ ghost use Rattle.std.specs.List.{AllByRecursion, concat};
 ghost use Rattle.std.specs.Io.KnownBytes.{Appends};
 ghost use Rattle.rl_shard.specs.ShardState.{opened_over};
 ghost use Rattle.rl_world.specs.BookCalls.{books_from, IsFresh};
-ghost use Rattle.rl_world.specs.Slots.{most_shards};
+ghost use Rattle.rl_world.specs.ShardAnswers.{most_shards};
 ghost use Rattle.rl_world.specs.WorldRun.{Turned};
 ghost use Rattle.rl_world.specs.declared.step.Reply.TheVariants as replies;
 ghost use Rattle.rl_world.specs.declared.step.Step.TheVariants as steps;

@@ -40,7 +40,7 @@ first_stays f [] ys b is = absurd (none_is b is)
 first_stays f (x ∷ xs) ys b is = is
 
 -- what is known of the index of a range
-pub known_range : {X : Type 0} (of : X → LogRange) (known : List X) (i : ℕ) (range : LogRange) → option_map (λ (place : ℕ). option_map of (slice_get known place)) (Some i) ≡ option_map (λ (_ : ℕ). Some range) (Some i) → option_map of (slice_get known i) ≡ Some range
+pub known_range : {X : Type 0} (of : X → LogRange) (known : List X) (i : ℕ) (range : LogRange) → option_map (λ (index : ℕ). option_map of (slice_get known index)) (Some i) ≡ option_map (λ (_ : ℕ). Some range) (Some i) → option_map of (slice_get known i) ≡ Some range
 known_range of known i range at = some_is (option_map of (slice_get known i)) (Some range) at
   where
     some_is : (a b : Option LogRange) → Some a ≡ Some b → a ≡ b

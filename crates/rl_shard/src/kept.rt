@@ -102,15 +102,15 @@ impl KeptRanges {
         ensures kept { (streams : StreamsView) (requests : RequestsView) → AreKept streams requests self.old → AreKept streams requests self.new }
         ensures found { (streams : StreamsView) (requests : RequestsView) (term : Term) → AreKept streams requests self.old → term.range ≡ range.now → IfOk result (λ found. IfSome found (IsPartialOf streams requests term t)) }
     {
-        let Some(place) = place_of(&self.kept, self.next, range) else {
+        let Some(index) = index_of(&self.kept, self.next, range) else {
             return Ok(None);
         };
-        let one = &self.kept[place];
+        let one = &self.kept[index];
         if !one.stands(self.turn, t) {
             return Ok(None);
         }
         let partial = one.partial.try_copy()?;
-        self.next = place + 1;
+        self.next = index + 1;
         Ok(Some(partial))
     }
 
@@ -125,13 +125,13 @@ impl KeptRanges {
     ) -> Result<(), AllocError>
         ensures { (streams : StreamsView) (requests : RequestsView) → AreKept streams requests self.old → StandsFor streams requests range.now first lasts partial → AreKept streams requests self.new }
     {
-        if let Some(place) = place_of(&self.kept, self.next, range) {
-            let one = &mut self.kept[place];
+        if let Some(index) = index_of(&self.kept, self.next, range) {
+            let one = &mut self.kept[index];
             one.first = first;
             one.lasts = lasts;
             one.partial = partial;
             one.turn = self.turn;
-            self.next = place + 1;
+            self.next = index + 1;
             return Ok(());
         }
         let range = range.try_copy()?;
@@ -151,8 +151,8 @@ impl KeptRanges {
 }
 
 // The index of the range, if it is kept: the one that is sought first, or another.
-fn place_of(kept: &[KeptRange], first: usize, range: &LogRange) -> Option<usize>
-    ensures { option_map (λ place. option_map (λ one. one.range) (slice_get kept.now place)) result ≡ option_map (λ _. Some range.now) result }
+fn index_of(kept: &[KeptRange], first: usize, range: &LogRange) -> Option<usize>
+    ensures { option_map (λ index. option_map (λ one. one.range) (slice_get kept.now index)) result ≡ option_map (λ _. Some range.now) result }
 {
     if first < kept.len() && is_of(&kept[first], range) {
         return Some(first);

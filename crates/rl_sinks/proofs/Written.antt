@@ -3,7 +3,7 @@ use Rattle.std.proofs.Common.{◌≡◌, ◌≢◌, Bool, true, false, ℕ, zero
 use Rattle.std.proofs.lemmas.List.{get_or_append_left, take-append-drop, append-nil, take_all, drop-append-le, drop_more, length-drop}
 use Rattle.std.specs.List.{flat_map}
 use Rattle.std.specs.Io.KnownBytes.{Appends, Keeps}
-use Rattle.rl_sinks.specs.Pieces.{Writes, IsPlace, end_pieces, pieces, rest_of}
+use Rattle.rl_sinks.specs.Pieces.{Writes, IsPosition, end_pieces, pieces, rest_of}
 
 -- one write after another
 pub Appends-trans : (o m n : Option (List ℕ)) (f g : List ℕ) → Appends o m f → Appends m n g → Appends o n (f ++ g)
@@ -62,11 +62,11 @@ piece_written : {A E : Type 0} (r : Result A E) (o n : Option (List ℕ)) (all :
     → OnErr r ((next_after ≡ next) × (part_after < length piece) × Writes o n (drop part piece) (drop part_after piece))
     → Writes o n (rest_of all next part) (rest_of all next_after part_after)
 piece_written (Ok x) o n all next part next_after part_after piece within fits read ok err =
-    subst (λ place. Writes o n (rest_of all next part) (rest_of all place part_after)) (sym ok.0)
+    subst (λ position. Writes o n (rest_of all next part) (rest_of all position part_after)) (sym ok.0)
     (subst (λ byte. Writes o n (rest_of all next part) (rest_of all (next + 1) byte)) (sym ok.1)
     (piece_done o n all next part within fits (subst (λ text. Writes o n (drop part text) []) read ok.2)))
 piece_written (Err e) o n all next part next_after part_after piece within fits read ok err =
-    subst (λ place. Writes o n (rest_of all next part) (rest_of all place part_after)) (sym err.0)
+    subst (λ position. Writes o n (rest_of all next part) (rest_of all position part_after)) (sym err.0)
     (piece_begun o n all next part part_after within fits (subst (λ text. part_after ≤ length text) read (omega (arith, err.1))) (subst (λ text. Writes o n (drop part text) (drop part_after text)) read err.2))
 
 -- bytes of the next piece are left
@@ -90,10 +90,10 @@ wanted_written r o n ended texts count next part next_after part_after piece wit
     piece_written r o n (pieces ended texts count) next part next_after part_after piece within (subst (λ p. part ≤ length p) same fits) (read ∙ same) ok err
 
 -- and the writing stands in them
-pub wanted_place : {A E : Type 0} (P Q : Type 0) (r : Result A E) (ended : Bool) (texts : List (List ℕ)) (count next next_after part_after : ℕ) (piece : List ℕ) → next < length (pieces ended texts count) → piece ≡ get_or (pieces true texts count) next []
-    → OnOk r ((next_after ≡ next + 1) × (part_after ≡ 0) × P) → OnErr r ((next_after ≡ next) × (part_after < length piece) × Q) → IsPlace (pieces ended texts count) next_after part_after
-wanted_place P Q (Ok x) ended texts count next next_after part_after piece within read ok err = record { within = omega (arith, ok.0, within); fits = omega (arith, ok.1) }
-wanted_place P Q (Err e) ended texts count next next_after part_after piece within read ok err =
+pub wanted_position : {A E : Type 0} (P Q : Type 0) (r : Result A E) (ended : Bool) (texts : List (List ℕ)) (count next next_after part_after : ℕ) (piece : List ℕ) → next < length (pieces ended texts count) → piece ≡ get_or (pieces true texts count) next []
+    → OnOk r ((next_after ≡ next + 1) × (part_after ≡ 0) × P) → OnErr r ((next_after ≡ next) × (part_after < length piece) × Q) → IsPosition (pieces ended texts count) next_after part_after
+wanted_position P Q (Ok x) ended texts count next next_after part_after piece within read ok err = record { within = omega (arith, ok.0, within); fits = omega (arith, ok.1) }
+wanted_position P Q (Err e) ended texts count next next_after part_after piece within read ok err =
     let below = subst (λ text. part_after < length text) (read ∙ piece_wanted ended texts count next within) err.1 in
     record { within = omega (arith, err.0, within); fits = subst (λ n. part_after ≤ length (get_or (pieces ended texts count) n [])) (sym err.0) (omega (arith, below)) }
 
@@ -101,7 +101,7 @@ wanted_place P Q (Err e) ended texts count next next_after part_after piece with
 pub wanted_left : (ended : Bool) (texts : List (List ℕ)) (count next next_after part_after : ℕ) (piece : List ℕ) → next < length (pieces ended texts count) → piece ≡ get_or (pieces true texts count) next [] → next_after ≡ next → part_after < length piece → rest_of (pieces ended texts count) next_after part_after ≢ []
 wanted_left ended texts count next next_after part_after piece within read same short =
     let below = subst (λ text. part_after < length text) (read ∙ piece_wanted ended texts count next within) short in
-    subst (λ place. rest_of (pieces ended texts count) place part_after ≢ []) (sym same) (rest_of-left (pieces ended texts count) next part_after within below)
+    subst (λ position. rest_of (pieces ended texts count) position part_after ≢ []) (sym same) (rest_of-left (pieces ended texts count) next part_after within below)
 
 -- a piece that is wanted is one of all
 pub piece_within : (ended : Bool) (texts : List (List ℕ)) (count i : ℕ) → i < length (pieces ended texts count) → i < length (pieces true texts count)
@@ -114,5 +114,5 @@ fits_after (x ∷ xs) ys zero p f = f
 fits_after (x ∷ xs) ys (suc n) p f = fits_after xs ys n p f
 
 -- a position among pieces is one with more after them
-pub place_after : (xs ys : List (List ℕ)) (n p : ℕ) → IsPlace xs n p → IsPlace (xs ++ ys) n p
+pub place_after : (xs ys : List (List ℕ)) (n p : ℕ) → IsPosition xs n p → IsPosition (xs ++ ys) n p
 place_after xs ys n p is = record { within = let within = is.within in omega (arith, within, length-append xs ys); fits = fits_after xs ys n p is.fits }

@@ -2,7 +2,7 @@
 use Rattle.std.specs.Prelude.{◌≡◌, ◌≢◌, ◌⊎◌, ℕ, ◌+◌, ◌-◌, ◌%◌, ◌^◌, ◌≤◌, nat_le, ⊤, Bool, true, false, not, ◌&&◌, IsTrue, List, [], ◌∷◌, ◌++◌, length, None, Result, Err, IsOk, OnOk, OnErr, refl}
 use Rattle.std.specs.Coded.{Coded, code_by, coded×, coded_list, coded_ℕ, coded_bool}
 use Rattle.rl_sinks.specs.SinkState.{SinkState}
-use Rattle.rl_sinks.specs.Pieces.{IsPlace, pieces, rest_of}
+use Rattle.rl_sinks.specs.Pieces.{IsPosition, pieces, rest_of}
 use Rattle.rl_sinks.specs.declared.sink.SinkKind.{SinkKind}
 use Rattle.rl_sinks.specs.declared.sink.SinkFault.{SinkFault}
 use Rattle.rl_sinks.specs.declared.sink.SinkFault.TheVariants as faults
@@ -31,8 +31,8 @@ logged_code {W} writer = code_by (W × (ℕ × (List (List ℕ) × (ℕ × (ℕ 
 
 -- what is written ends in the pieces, and in the texts until the last line is wanted
 pub record IsLogged (texts : List (List ℕ)) (next part : ℕ) (closed : Bool) : Type 0 where
-  pub place : IsPlace (pieces true texts (length texts)) next part
-  pub open_in_texts : IsTrue (not closed) → IsPlace texts next part
+  pub position : IsPosition (pieces true texts (length texts)) next part
+  pub open_in_texts : IsTrue (not closed) → IsPosition texts next part
 
 module _ {W : Type 0} where
   -- with nothing taken, and nothing written

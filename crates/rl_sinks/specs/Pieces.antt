@@ -18,7 +18,7 @@ abbrev pub rest_of : List (List ℕ) → ℕ → ℕ → List ℕ
 rest_of all next part = drop part (flat_map (λ piece. piece) (drop next all))
 
 -- a byte of a piece, or the end of all
-pub record IsPlace (all : List (List ℕ)) (next part : ℕ) : Type 0 where
+pub record IsPosition (all : List (List ℕ)) (next part : ℕ) : Type 0 where
   pub within : next ≤ length all
   pub fits : part ≤ length (slice_index_or all next [])
 

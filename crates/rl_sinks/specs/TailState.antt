@@ -2,7 +2,7 @@
 use Rattle.std.specs.Prelude.{◌≡◌, ◌≢◌, ◌⊎◌, ℕ, ◌+◌, ◌%◌, ◌^◌, ⊤, Bool, true, false, not, IsTrue, List, [], ◌∷◌, ◌++◌, Some, Result, Err, IsOk, OnOk, OnErr, refl}
 use Rattle.std.specs.Coded.{Coded, code_by, coded×, coded_list, coded_ℕ, coded_bool}
 use Rattle.rl_sinks.specs.SinkState.{SinkState, within}
-use Rattle.rl_sinks.specs.Pieces.{IsPlace, pieces, rest_of}
+use Rattle.rl_sinks.specs.Pieces.{IsPosition, pieces, rest_of}
 use Rattle.rl_sinks.specs.declared.sink.SinkKind.TheVariants as kinds
 use Rattle.rl_sinks.specs.declared.sink.SinkFault.{SinkFault}
 use Rattle.rl_sinks.specs.declared.sink.SinkFault.TheVariants as faults
@@ -33,7 +33,7 @@ tailed_code {W} writer = code_by (W × (ℕ × (List (List ℕ) × (ℕ × (ℕ 
 
 -- what is written ends in the pieces, and nothing is written until it is closed
 pub record IsTailed (kept : List (List ℕ)) (count next part : ℕ) (closed : Bool) : Type 0 where
-  pub place : IsPlace (pieces true kept count) next part
+  pub position : IsPosition (pieces true kept count) next part
   pub open_at_start : IsTrue (not closed) → (next ≡ 0) × (part ≡ 0)
 
 module _ {W : Type 0} where

@@ -1,6 +1,6 @@
 //! Texts and a last line, written piece by piece to a writer that may stop anywhere.
 ghost use Rattle.std.specs.Prelude.{◌≡◌, ◌≢◌, ◌+◌, ◌<◌, ◌≤◌, ◌^◌, true, [], length, drop, OnOk, OnErr, IfErr, slice_index_or};
-ghost use Rattle.rl_sinks.specs.Pieces.{Writes, IsPlace, pieces, rest_of};
+ghost use Rattle.rl_sinks.specs.Pieces.{Writes, IsPosition, pieces, rest_of};
 ghost use Rattle.rl_sinks.specs.declared.sink.SinkFault.TheVariants as faults;
 
 use crate::sink::SinkFault;
@@ -19,12 +19,12 @@ pub(crate) fn write_rest<W: Write>(
     next: &mut usize,
     part: &mut usize,
 ) -> Result<(), SinkFault>
-    requires { IsPlace (pieces true texts.now count) next.old part.old }
+    requires { IsPosition (pieces true texts.now count) next.old part.old }
     ensures fault { IfErr result (λ fault. fault ≡ faults.WriteFault) }
-    ensures place { IsPlace (pieces true texts.now count) next.new part.new }
+    ensures position { IsPosition (pieces true texts.now count) next.new part.new }
     ensures wanted { Writes (W.contents writer.old) (W.contents writer.new) (rest_of (pieces ended texts.now count) next.old part.old) (rest_of (pieces ended texts.now count) next.new part.new) }
     ensures writes { Writes (W.contents writer.old) (W.contents writer.new) (rest_of (pieces true texts.now count) next.old part.old) (rest_of (pieces true texts.now count) next.new part.new) }
-    ensures stays { IsPlace (pieces ended texts.now count) next.old part.old → IsPlace (pieces ended texts.now count) next.new part.new }
+    ensures stays { IsPosition (pieces ended texts.now count) next.old part.old → IsPosition (pieces ended texts.now count) next.new part.new }
     ensures all { OnOk result (length (pieces ended texts.now count) ≤ next.new) }
     ensures none { OnOk result (rest_of (pieces ended texts.now count) next.new part.new ≡ []) }
     ensures left { OnErr result (rest_of (pieces ended texts.now count) next.new part.new ≢ []) }

@@ -21,7 +21,7 @@ use Rattle.rl_labels.specs.declared.entry.Entry.{Entry}
 use Rattle.rl_labels.specs.declared.limits.Limits.{Limits}
 use Rattle.rl_parts.specs.StreamParts.{StreamView, entries_of, notes_of}
 use Rattle.rl_streams.specs.StreamRows.{Row, joined, newest_in, newest_map, newest_at}
-use Rattle.rl_streams.specs.RowSteps.{Gains, AreAdded, AreOthers, IsPlaceOf}
+use Rattle.rl_streams.specs.RowSteps.{Gains, AreAdded, AreOthers, IsPositionOf}
 use Rattle.rl_streams.specs.StreamsState.{age_refusal, is_far_behind, half_second}
 use Rattle.rl_streams.specs.declared.refusal.AddRefusal.TheVariants.{Expired, TooFarBehind}
 use Rattle.rl_streams.proofs.Held.{held_at}
@@ -99,9 +99,9 @@ none_passes test (row ∷ rows) none = by (test row.0) refl none (none_passes te
     by true e none others = absurd (true≢false none)
     by false e none others = (e, others none)
 
-pub place_found : (rows : List Row) (labels : LabelSet) (place : Option ℕ) → place ≡ position (label_set_eq labels) (keys_of rows) → is_some place ≡ is_some (lookup (label_set_eq labels) rows) → IsPlaceOf rows labels place
-place_found rows labels None is found = none_passes (label_set_eq labels) rows (sym found)
-place_found rows labels (Some i) is found =
+pub position_found : (rows : List Row) (labels : LabelSet) (index : Option ℕ) → index ≡ position (label_set_eq labels) (keys_of rows) → is_some index ≡ is_some (lookup (label_set_eq labels) rows) → IsPositionOf rows labels index
+position_found rows labels None is found = none_passes (label_set_eq labels) rows (sym found)
+position_found rows labels (Some i) is found =
     let at = position-Some (label_set_eq labels) (keys_of rows) i labels (sym is) in
     let row = row_in rows i labels at.0 in
     (row.0, row.1 ∙ ap (λ key. Some (key, row.0)) (sym (label_set_eq-true labels (get_or (keys_of rows) i labels) at.1)))
@@ -127,12 +127,12 @@ age_of_new limits rows horizon entry others late = sym (age_by limits rows horiz
     not_below n = grind (arith, nat_tests)
 
 -- an entry of a stream that is there
-pub age_at : (limits : Limits) (rows : List Row) (i : ℕ) (horizon : ℕ) (entry : Entry) (stream : StreamView) (far : Bool) → IsDistinct label_set_eq (keys_of rows) → IsPlaceOf rows entry.labels (Some i) → slice_get (values_of rows) i ≡ Some stream → nat_lt entry.timestamp horizon ≡ false → is_far_behind limits entry stream.newest ≡ far
+pub age_at : (limits : Limits) (rows : List Row) (i : ℕ) (horizon : ℕ) (entry : Entry) (stream : StreamView) (far : Bool) → IsDistinct label_set_eq (keys_of rows) → IsPositionOf rows entry.labels (Some i) → slice_get (values_of rows) i ≡ Some stream → nat_lt entry.timestamp horizon ≡ false → is_far_behind limits entry stream.newest ≡ far
     → (if far then Some (TooFarBehind stream.newest) else None) ≡ age_refusal limits (newest_map (newest_in rows)) horizon entry
-age_at limits rows i horizon entry stream far apart place at late following =
-    let same : place.0 ≡ stream = same_some place.0 stream (sym (value_at rows i entry.labels place.0 place.1) ∙ at) in
-    sym (age_by limits rows horizon entry stream.newest far (newest_found rows i entry.labels place.0 apart place.1 ∙ ap (λ (s : StreamView). s.newest) same) late following)
+age_at limits rows i horizon entry stream far apart index at late following =
+    let same : index.0 ≡ stream = same_some index.0 stream (sym (value_at rows i entry.labels index.0 index.1) ∙ at) in
+    sym (age_by limits rows horizon entry stream.newest far (newest_found rows i entry.labels index.0 apart index.1 ∙ ap (λ (s : StreamView). s.newest) same) late following)
 
 -- the row at an index that was found
-pub row_of_place : (rows : List Row) (i : ℕ) (labels : LabelSet) (stream : StreamView) → IsPlaceOf rows labels (Some i) → slice_get (values_of rows) i ≡ Some stream → slice_get rows i ≡ Some (labels, stream)
-row_of_place rows i labels stream place at = place.1 ∙ ap (λ s. Some (labels, s)) (same_some place.0 stream (sym (value_at rows i labels place.0 place.1) ∙ at))
+pub row_of_position : (rows : List Row) (i : ℕ) (labels : LabelSet) (stream : StreamView) → IsPositionOf rows labels (Some i) → slice_get (values_of rows) i ≡ Some stream → slice_get rows i ≡ Some (labels, stream)
+row_of_position rows i labels stream index at = index.1 ∙ ap (λ s. Some (labels, s)) (same_some index.0 stream (sym (value_at rows i labels index.0 index.1) ∙ at))

@@ -13,10 +13,10 @@ use Rattle.rl_parts.specs.StoreUse.{Right, AreKept}
 use Rattle.rl_parts.specs.declared.fault.ReadFault.{ReadFault}
 use Rattle.rl_parts.specs.declared.fault.ReadFault.TheVariants as reads
 use Rattle.rl_streams.specs.StreamRows.{Row, joined, is_among, IsOwn, AreStreams}
-use Rattle.rl_streams.specs.RowSteps.{IsOffered, AreOffered, IsOfferedRight, IsPlaceOf}
+use Rattle.rl_streams.specs.RowSteps.{IsOffered, AreOffered, IsOfferedRight, IsPositionOf}
 use Rattle.rl_streams.specs.declared.refusal.AddRefusal.{AddRefusal}
 use Rattle.rl_streams.specs.declared.refusal.AddRefusal.TheVariants.{Full, Read}
-use Rattle.rl_streams.proofs.Added.{added_at, row_of_place}
+use Rattle.rl_streams.proofs.Added.{added_at, row_of_position}
 use Rattle.rl_streams.proofs.Held.{held_at}
 use Rattle.rl_streams.proofs.RowChanges.{at_row, set_itself}
 
@@ -31,9 +31,9 @@ pub not_begun : (refusal : AddRefusal) (held : Bool) → held ≡ false → (ref
 not_begun refusal held is_new (inl full) = subst (λ (r : AddRefusal). IsOfferedRight (Err r) held) (sym full) is_new
 not_begun refusal held is_new (inr memory) = subst (λ (r : AddRefusal). IsOfferedRight (Err r) held) (sym memory) tt
 
-module _ (rows : List Row) (i : ℕ) (entry : Entry) (stream new : StreamView) (place : IsPlaceOf rows entry.labels (Some i)) (at : slice_get (values_of rows) i ≡ Some stream) where
+module _ (rows : List Row) (i : ℕ) (entry : Entry) (stream new : StreamView) (position : IsPositionOf rows entry.labels (Some i)) (at : slice_get (values_of rows) i ≡ Some stream) where
   row : slice_get rows i ≡ Some (entry.labels, stream)
-  row = row_of_place rows i entry.labels stream place at
+  row = row_of_position rows i entry.labels stream position at
 
   -- what the stream at the index became, the rows became
   pub offered_at : (result : Result Bool AddRefusal) → IsDistinct label_set_eq (keys_of rows) → IfOk result (λ more. IsOffered more stream entry new) → IfOk result (λ more. AreOffered more rows entry (set_value_at rows i new))

@@ -226,12 +226,12 @@ pub of_split : (rows : List Row) (plans done left : List PlanView) (plan : PlanV
 of_split rows plans done left plan rest split next of = subst (λ (ps : List PlanView). AreOf rows ps) (sym split ∙ ap (λ ps. done ++ ps) next) of
 
 -- so the next stream is that of its plan
-pub at_next : (rows : List Row) (done : List PlanView) (plan : PlanView) (rest : List PlanView) → AreOf rows (done ++ plan ∷ rest) → (now : List Row) (place : ℕ) (stream : StreamView) → now ≡ rewritten rows done → place ≡ length done → slice_get (values_of now) place ≡ Some stream → plan.of ≡ stream
-at_next rows done plan rest of now place stream same many at =
+pub at_next : (rows : List Row) (done : List PlanView) (plan : PlanView) (rest : List PlanView) → AreOf rows (done ++ plan ∷ rest) → (now : List Row) (position : ℕ) (stream : StreamView) → now ≡ rewritten rows done → position ≡ length done → slice_get (values_of now) position ≡ Some stream → plan.of ≡ stream
+at_next rows done plan rest of now position stream same many at =
     same_some plan.of stream (sym (next_row rows done plan rest of) ∙ sym (λ i. slice_get (values_of (same i)) (many i)) ∙ at)
 
-pub below_next : (rows : List Row) (done : List PlanView) (plan : PlanView) (rest : List PlanView) → AreOf rows (done ++ plan ∷ rest) → (now : List Row) (place : ℕ) → now ≡ rewritten rows done → place ≡ length done → place < length now
-below_next rows done plan rest of now place same many =
+pub below_next : (rows : List Row) (done : List PlanView) (plan : PlanView) (rest : List PlanView) → AreOf rows (done ++ plan ∷ rest) → (now : List Row) (position : ℕ) → now ≡ rewritten rows done → position ≡ length done → position < length now
+below_next rows done plan rest of now position same many =
     omega (arith, many, ap length same, long_rewritten rows done, as_many rows (done ++ plan ∷ rest) of, length-append done (plan ∷ rest))
 
 abbrev fault_in : {A : Type 0} → RewriteFault → Result A RewriteFault → RewriteFault

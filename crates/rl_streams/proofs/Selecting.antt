@@ -40,15 +40,15 @@ selected_push selector (first ∷ labels) one =
 
 -- a stream that was asked
 module _ (labels : List LabelSet) (s : SelectionView) (one : LabelSet) (is : IsSelection labels s) (within : s.asked < length labels) (at : get_or labels s.asked one ≡ one) where
-  chosen : (b : Bool) → (if b then s.places ++ s.asked ∷ [] else s.places) ≡ s.places ++ (if b then s.asked ∷ [] else [])
+  chosen : (b : Bool) → (if b then s.positions ++ s.asked ∷ [] else s.positions) ≡ s.positions ++ (if b then s.asked ∷ [] else [])
   chosen true = refl
-  chosen false = sym (append-nil s.places)
+  chosen false = sym (append-nil s.positions)
 
   pub next_asked : IsSelection labels (asked_next s one)
   next_asked = record {
     asked = omega (arith, within);
-    places = chosen (selects s.selector one)
-        ∙ ap (λ ps. ps ++ (if selects s.selector one then s.asked ∷ [] else [])) is.places
+    positions = chosen (selects s.selector one)
+        ∙ ap (λ ps. ps ++ (if selects s.selector one then s.asked ∷ [] else [])) is.positions
         ∙ ap (λ n. selected s.selector (take s.asked labels) ++ (if selects s.selector one then n ∷ [] else [])) (sym (length-take-le s.asked labels is.asked))
         ∙ sym (selected_push s.selector (take s.asked labels) one)
         ∙ ap (λ l. selected s.selector (take s.asked labels ++ l ∷ [])) (sym at)
@@ -59,7 +59,7 @@ module _ (labels : List LabelSet) (s : SelectionView) (one : LabelSet) (is : IsS
 pub selections_more : (labels more : List LabelSet) (kept : List SelectionView) → AreSelections labels kept → AreSelections (labels ++ more) kept
 selections_more labels more kept are = all_weaker (IsSelection labels) (IsSelection (labels ++ more)) (λ s is. record {
   asked = omega (arith, is.asked, length-append labels more);
-  places = is.places ∙ ap (selected s.selector) (sym (take-append-le s.asked labels more is.asked));
+  positions = is.positions ∙ ap (selected s.selector) (sym (take-append-le s.asked labels more is.asked));
 }) kept are
 
 -- nor do streams that keep their labels
@@ -78,15 +78,15 @@ selections_after old new kept (more, same) are = subst (λ labels. AreSelections
 
 -- a selected stream stands at the index
 abbrev pub IsSelectedAt : List Matcher → List Row → ℕ → Type 0
-IsSelectedAt selector rows place = (row : Row) × (slice_get rows place ≡ Some row) × (selects selector row.0 ≡ true)
+IsSelectedAt selector rows position = (row : Row) × (slice_get rows position ≡ Some row) × (selects selector row.0 ≡ true)
 
 all_selected : (selector : List Matcher) (rows : List Row) → AllByRecursion (IsSelectedAt selector rows) (selected selector (keys_of rows))
 all_selected selector [] = tt
 all_selected selector (row ∷ rows) = by (selects selector row.0) refl (all_selected selector rows)
   where
-    following : (places : List ℕ) → AllByRecursion (IsSelectedAt selector rows) places → AllByRecursion (IsSelectedAt selector (row ∷ rows)) (map suc places)
+    following : (positions : List ℕ) → AllByRecursion (IsSelectedAt selector rows) positions → AllByRecursion (IsSelectedAt selector (row ∷ rows)) (map suc positions)
     following [] h = tt
-    following (place ∷ places) h = (h.0, following places h.1)
+    following (position ∷ positions) h = (h.0, following positions h.1)
 
     by : (b : Bool) → selects selector row.0 ≡ b → AllByRecursion (IsSelectedAt selector rows) (selected selector (keys_of rows))
         → AllByRecursion (IsSelectedAt selector (row ∷ rows)) (if b then 0 ∷ map suc (selected selector (keys_of rows)) else map suc (selected selector (keys_of rows)))
@@ -98,8 +98,8 @@ one_of P [] i d h lt = absurd (omega (arith, lt))
 one_of P (x ∷ xs) zero d h lt = h.0
 one_of P (x ∷ xs) (suc i) d h lt = one_of P xs i d h.1 (omega (arith, lt))
 
-pub selected_there : (selector : List Matcher) (rows : List Row) (places : List ℕ) (i : ℕ) (d : ℕ) → places ≡ selected selector (keys_of rows) → i < length places → IsSelectedAt selector rows (get_or places i d)
-selected_there selector rows places i d are lt = one_of (IsSelectedAt selector rows) places i d (subst (AllByRecursion (IsSelectedAt selector rows)) (sym are) (all_selected selector rows)) lt
+pub selected_there : (selector : List Matcher) (rows : List Row) (positions : List ℕ) (i : ℕ) (d : ℕ) → positions ≡ selected selector (keys_of rows) → i < length positions → IsSelectedAt selector rows (get_or positions i d)
+selected_there selector rows positions i d are lt = one_of (IsSelectedAt selector rows) positions i d (subst (AllByRecursion (IsSelectedAt selector rows)) (sym are) (all_selected selector rows)) lt
 
 -- without a selected stream there is no index
 none_selected : (selector : List Matcher) (rows : List Row) → AllByRecursion (λ row. selects selector row.0 ≡ false) rows → selected selector (keys_of rows) ≡ []
@@ -108,17 +108,17 @@ none_selected selector (row ∷ rows) none =
     ap (λ b. if b then 0 ∷ map suc (selected selector (keys_of rows)) else map suc (selected selector (keys_of rows))) none.0
     ∙ ap (map suc) (none_selected selector rows none.1)
 
-pub no_place : (selector : List Matcher) (rows : List Row) (places : List ℕ) (i : ℕ) → places ≡ selected selector (keys_of rows) → AllByRecursion (λ row. selects selector row.0 ≡ false) rows → i < length places → ⊥
-no_place selector rows places i are none lt = let empty = ap length (are ∙ none_selected selector rows none) in omega (arith, lt, empty)
+pub no_position : (selector : List Matcher) (rows : List Row) (positions : List ℕ) (i : ℕ) → positions ≡ selected selector (keys_of rows) → AllByRecursion (λ row. selects selector row.0 ≡ false) rows → i < length positions → ⊥
+no_position selector rows positions i are none lt = let empty = ap length (are ∙ none_selected selector rows none) in omega (arith, lt, empty)
 
 -- lines that may be visited of the row at an index
 abbrev pub IsAt : (Row → List (LabelSet × Line) → Type 0) → List Row → ℕ → List (LabelSet × Line) → Type 0
-IsAt R rows place lines = (row : Row) × (slice_get rows place ≡ Some row) × R row lines
+IsAt R rows position lines = (row : Row) × (slice_get rows position ≡ Some row) × R row lines
 
 -- such lines of each index in turn were visited
-pub record AreFrom {T : Type 0} (R : Row → List (LabelSet × Line) → Type 0) (taking : T → LabelSet × Line → T) (rows : List Row) (places : List ℕ) (before after : T) : Type 0 where
+pub record AreFrom {T : Type 0} (R : Row → List (LabelSet × Line) → Type 0) (taking : T → LabelSet × Line → T) (rows : List Row) (positions : List ℕ) (before after : T) : Type 0 where
   pub lines : List (List (LabelSet × Line))
-  pub each : AllZip (IsAt R rows) places lines
+  pub each : AllZip (IsAt R rows) positions lines
   pub visited : after ≡ fold taking before (flat_map (λ of_row. of_row) lines)
 
 module _ {T : Type 0} (R : Row → List (LabelSet × Line) → Type 0) (taking : T → LabelSet × Line → T) (rows : List Row) where
@@ -126,12 +126,12 @@ module _ {T : Type 0} (R : Row → List (LabelSet × Line) → Type 0) (taking :
   from_none before = record { lines = []; each = tt; visited = refl }
 
   -- one index more
-  pub from_more : (places : List ℕ) (i d : ℕ) (before taken now : T) → i < length places → AreFrom R taking rows (take i places) before taken → (lines : List (LabelSet × Line)) × IsAt R rows (get_or places i d) lines × (now ≡ fold taking taken lines)
-      → AreFrom R taking rows (take (i + 1) places) before now
-  from_more places i d before taken now lt was (lines, at, is) =
-      subst (λ ps. AreFrom R taking rows ps before now) (sym (take_more places i d lt)) (record {
+  pub from_more : (positions : List ℕ) (i d : ℕ) (before taken now : T) → i < length positions → AreFrom R taking rows (take i positions) before taken → (lines : List (LabelSet × Line)) × IsAt R rows (get_or positions i d) lines × (now ≡ fold taking taken lines)
+      → AreFrom R taking rows (take (i + 1) positions) before now
+  from_more positions i d before taken now lt was (lines, at, is) =
+      subst (λ ps. AreFrom R taking rows ps before now) (sym (take_more positions i d lt)) (record {
         lines = was.lines ++ lines ∷ [];
-        each = AllZip-append (IsAt R rows) (take i places) was.lines (get_or places i d ∷ []) (lines ∷ []) was.each (at, tt);
+        each = AllZip-append (IsAt R rows) (take i positions) was.lines (get_or positions i d ∷ []) (lines ∷ []) was.each (at, tt);
         visited = is ∙ ap (λ t. fold taking t lines) was.visited ∙ sym (fold-append taking before (flat_map (λ l. l) was.lines) lines)
             ∙ ap (fold taking before) (ap (λ l. flat_map (λ l. l) was.lines ++ l) (sym (append-nil lines)) ∙ sym (flat_map-append (λ l. l) was.lines (lines ∷ [])));
       })
@@ -141,31 +141,31 @@ module _ (R : Row → List (LabelSet × Line) → Type 0) (selector : List Match
   abbrev pub Spread : List Row → List (List (LabelSet × Line)) → Type 0
   Spread rows lines = (all : List (List (LabelSet × Line))) × AllZip R rows all × (flat_map (λ l. l) all ≡ flat_map (λ l. l) lines)
 
-  following : (row : Row) (rows : List Row) (places : List ℕ) (lines : List (List (LabelSet × Line))) → AllZip (IsAt R (row ∷ rows)) (map suc places) lines → AllZip (IsAt R rows) places lines
+  following : (row : Row) (rows : List Row) (positions : List ℕ) (lines : List (List (LabelSet × Line))) → AllZip (IsAt R (row ∷ rows)) (map suc positions) lines → AllZip (IsAt R rows) positions lines
   following row rows [] [] h = tt
   following row rows [] (l ∷ lines) h = absurd h
-  following row rows (place ∷ places) [] h = absurd h
-  following row rows (place ∷ places) (l ∷ lines) h = (h.0, following row rows places lines h.1)
+  following row rows (position ∷ positions) [] h = absurd h
+  following row rows (position ∷ positions) (l ∷ lines) h = (h.0, following row rows positions lines h.1)
 
   pub spread : (rows : List Row) (lines : List (List (LabelSet × Line))) → AllZip (IsAt R rows) (selected selector (keys_of rows)) lines → Spread rows lines
   spread [] [] each = ([], tt, refl)
   spread [] (l ∷ lines) each = absurd each
   spread (row ∷ rows) lines each = by (selects selector row.0) refl lines each (spread rows)
     where
-      places : List ℕ
-      places = selected selector (keys_of rows)
+      positions : List ℕ
+      positions = selected selector (keys_of rows)
 
       same : (other : Row) → Some row ≡ Some other → row ≡ other
       same other e = same_some row other e
 
-      by : (b : Bool) → selects selector row.0 ≡ b → (lines : List (List (LabelSet × Line))) → AllZip (IsAt R (row ∷ rows)) (if b then 0 ∷ map suc places else map suc places) lines
-          → ((lines : List (List (LabelSet × Line))) → AllZip (IsAt R rows) places lines → Spread rows lines) → Spread (row ∷ rows) lines
+      by : (b : Bool) → selects selector row.0 ≡ b → (lines : List (List (LabelSet × Line))) → AllZip (IsAt R (row ∷ rows)) (if b then 0 ∷ map suc positions else map suc positions) lines
+          → ((lines : List (List (LabelSet × Line))) → AllZip (IsAt R rows) positions lines → Spread rows lines) → Spread (row ∷ rows) lines
       by true e [] each more = absurd each
       by true e (l ∷ lines) each more =
-          let others = more lines (following row rows places lines each.1) in
+          let others = more lines (following row rows positions lines each.1) in
           (l ∷ others.0, (subst (λ r. R r l) (sym (same each.0.0 each.0.1)) each.0.2, others.1), ap (λ ls. l ++ ls) others.2)
       by false e lines each more =
-          let others = more lines (following row rows places lines each) in
+          let others = more lines (following row rows positions lines each) in
           ([] ∷ others.0, (none row e, others.1), others.2)
 
 -- the labels of the stream at an index
@@ -175,21 +175,21 @@ label_there (row ∷ rows) zero stream own at = (omega arith, sym own.0.labels �
 label_there (row ∷ rows) (suc i) stream own at = let others = label_there rows i stream own.1 at in (omega (arith, others.0), others.1)
 
 -- a stream at an index of the selection is selected, and stands there under its labels
-pub chosen_there : (selector : List Matcher) (rows : List Row) (places : List ℕ) (i : ℕ) (stream : StreamView) → AllByRecursion IsOwn rows → places ≡ selected selector (keys_of rows) → i < length places → slice_get (values_of rows) (get_or places i 0) ≡ Some stream
-    → (slice_get rows (get_or places i 0) ≡ Some (stream.labels, stream)) × (selects selector stream.labels ≡ true)
-chosen_there selector rows places i stream own are lt at =
-    let row = with_key rows (get_or places i 0) stream at in
-    let labels = (at_row IsOwn rows (get_or places i 0) (row.0, stream) own row.1).labels in
-    let there = subst (λ l. slice_get rows (get_or places i 0) ≡ Some (l, stream)) (sym labels) row.1 in
-    let chosen = selected_there selector rows places i 0 are lt in
+pub chosen_there : (selector : List Matcher) (rows : List Row) (positions : List ℕ) (i : ℕ) (stream : StreamView) → AllByRecursion IsOwn rows → positions ≡ selected selector (keys_of rows) → i < length positions → slice_get (values_of rows) (get_or positions i 0) ≡ Some stream
+    → (slice_get rows (get_or positions i 0) ≡ Some (stream.labels, stream)) × (selects selector stream.labels ≡ true)
+chosen_there selector rows positions i stream own are lt at =
+    let row = with_key rows (get_or positions i 0) stream at in
+    let labels = (at_row IsOwn rows (get_or positions i 0) (row.0, stream) own row.1).labels in
+    let there = subst (λ l. slice_get rows (get_or positions i 0) ≡ Some (l, stream)) (sym labels) row.1 in
+    let chosen = selected_there selector rows positions i 0 are lt in
     (there, ap (λ (r : Row). selects selector r.0) (same_some (stream.labels, stream) chosen.0 (sym there ∙ chosen.1)) ∙ chosen.2)
 
 none_of_row : (selector : List Matcher) (from to : ℕ) (row : Row) → selects selector row.0 ≡ false → AreOfRow selector from to row []
 none_of_row selector from to row e = let none : List (LabelSet × Line) = [] in subst (λ b. MatchBool b (AreOfParts from to row.1 none) (none ≡ none)) (sym e) refl
 
-module _ {T : Type 0} (selector : List Matcher) (from to : ℕ) (taking : T → LabelSet × Line → T) (rows : List Row) (places : List ℕ) (before after : T) (are : places ≡ selected selector (keys_of rows)) where
+module _ {T : Type 0} (selector : List Matcher) (from to : ℕ) (taking : T → LabelSet × Line → T) (rows : List Row) (positions : List ℕ) (before after : T) (are : positions ≡ selected selector (keys_of rows)) where
   -- over any store
-  pub visited_at_all : AreFrom (AreOfRow selector from to) taking rows places before after → AreVisited taking selector from to rows before after
+  pub visited_at_all : AreFrom (AreOfRow selector from to) taking rows positions before after → AreVisited taking selector from to rows before after
   visited_at_all handed =
       let all = spread (AreOfRow selector from to) selector (none_of_row selector from to) rows handed.lines (subst (λ ps. AllZip (IsAt (AreOfRow selector from to) rows) ps handed.lines) are handed.each) in
       record { lines = all.0; each = all.1; visited = handed.visited ∙ ap (fold taking before) (sym all.2) }
@@ -204,7 +204,7 @@ module _ {T : Type 0} (selector : List Matcher) (from to : ℕ) (taking : T → 
   joined_visited (row ∷ rows) [] h = absurd h
   joined_visited (row ∷ rows) (l ∷ all) h = ap (λ ls. ls ++ flat_map (λ l. l) all) h.0 ∙ ap (λ ls. visited_of selector from to row.0 row.1 ++ ls) (joined_visited rows all h.1)
 
-  pub right_at_all : AreFrom IsVisitedOf taking rows places before after → after ≡ fold taking before (visited_by selector from to rows)
+  pub right_at_all : AreFrom IsVisitedOf taking rows positions before after → after ≡ fold taking before (visited_by selector from to rows)
   right_at_all handed =
       let all = spread IsVisitedOf selector (λ row e. ap (λ b. if b then visited_in_range from to (entries_of row.1) else []) (sym e)) rows handed.lines (subst (λ ps. AllZip (IsAt IsVisitedOf rows) ps handed.lines) are handed.each) in
       handed.visited ∙ ap (fold taking before) (sym all.2 ∙ joined_visited rows all.0 all.1)
@@ -234,5 +234,5 @@ set_there (one ∷ xs) zero x lt = refl
 set_there (one ∷ xs) (suc i) x lt = set_there xs i x (omega (arith, lt))
 
 -- where all streams were asked, all indices are there
-pub all_places : (labels : List LabelSet) (s : SelectionView) → IsSelection labels s → s.asked ≡ length labels → s.places ≡ selected s.selector labels
-all_places labels s is all = is.places ∙ ap (selected s.selector) (take_all s.asked labels (omega (arith, all)))
+pub all_positions : (labels : List LabelSet) (s : SelectionView) → IsSelection labels s → s.asked ≡ length labels → s.positions ≡ selected s.selector labels
+all_positions labels s is all = is.positions ∙ ap (selected s.selector) (take_all s.asked labels (omega (arith, all)))

@@ -29,11 +29,11 @@ use Rattle.rl_parts.specs.Reading.{is_in_range, visited, visited_in_range, IsHan
 use Rattle.rl_parts.specs.declared.fault.ReadFault.{ReadFault}
 use Rattle.rl_parts.specs.declared.fault.ReadFault.TheVariants as reads
 use Rattle.rl_streams.specs.Asking.{is_asked, asked, visited_of, visited_by, visited_at, left, AreOfParts, AreOfRow, AreVisitedOnce, NoneSelected}
-use Rattle.rl_streams.specs.RowSteps.{AreOthers, IsPlaceOf}
+use Rattle.rl_streams.specs.RowSteps.{AreOthers, IsPositionOf}
 use Rattle.rl_streams.specs.HeldSet.{set_of}
 use Rattle.rl_streams.specs.laws.HeldLaws.{keys-of_distinct}
 use Rattle.rl_streams.specs.StreamRows.{Row, joined, by_stream, newest_in, newest_map, is_among, IsOwn, AreStreams}
-use Rattle.rl_streams.proofs.Added.{row_of_place}
+use Rattle.rl_streams.proofs.Added.{row_of_position}
 use Rattle.rl_plain.specs.laws.TreeMaps.{get-of_tree}
 use Rattle.rl_streams.proofs.Held.{answer_is, held_at}
 use Rattle.rl_streams.proofs.RowChanges.{at_row, with_key, not_none, same_some}
@@ -52,15 +52,15 @@ right_then P Q f (Err reads.Fault) h = tt
 right_then P Q f (Err reads.Damaged) h = h
 right_then P Q f (Err reads.Memory) h = tt
 
-module _ (rows : List Row) (i : ℕ) (entry : Entry) (stream : StreamView) (place : IsPlaceOf rows entry.labels (Some i)) (at : slice_get (values_of rows) i ≡ Some stream) where
+module _ (rows : List Row) (i : ℕ) (entry : Entry) (stream : StreamView) (position : IsPositionOf rows entry.labels (Some i)) (at : slice_get (values_of rows) i ≡ Some stream) where
   -- there is a stream of its labels
   pub not_others : AreOthers entry.labels rows → ⊥
-  not_others others = true≢false (sym (label_set_eq_itself entry.labels) ∙ at_row (λ row. label_set_eq entry.labels row.0 ≡ false) rows i (entry.labels, stream) others (row_of_place rows i entry.labels stream place at))
+  not_others others = true≢false (sym (label_set_eq_itself entry.labels) ∙ at_row (λ row. label_set_eq entry.labels row.0 ≡ false) rows i (entry.labels, stream) others (row_of_position rows i entry.labels stream position at))
 
   -- what the stream answers is right of all streams
   pub found_at : (result : Result Bool ReadFault) (seen : Seen) (next : ℕ) → AreStreams rows seen next → (AreKept seen next stream → Right result (λ found. IsTrue found ↔ Contains (entries_of stream) entry)) → Right result (λ found. found ≡ is_among entry (joined rows))
   found_at result seen next are right =
-      let row = row_of_place rows i entry.labels stream place at in
+      let row = row_of_position rows i entry.labels stream position at in
       right_then (λ found. IsTrue found ↔ Contains (entries_of stream) entry) (λ found. found ≡ is_among entry (joined rows)) (λ found is. answer_is entry found (entries_of stream) is ∙ sym (held_at entry rows i stream are.own are.apart row)) result
       (right (at_row (λ row. AreKept seen next row.1) rows i (entry.labels, stream) are.kept row))
 

@@ -57,8 +57,8 @@ pub record AreVisited {T : Type 0} (taking : T → LabelSet × Line → T) (sele
 
 -- what is visited of one stream of all
 abbrev pub visited_at : List Matcher → ℕ → ℕ → List (List Entry) → ℕ → List (LabelSet × Line)
-visited_at selector from to order place = map visited (asked selector from to (get_or order place []))
+visited_at selector from to order position = map visited (asked selector from to (get_or order position []))
 
 -- what a cursor has still to give: the lines that wait, and what is asked of the streams from an index on
 abbrev pub left : List Matcher → ℕ → ℕ → List (List Entry) → ℕ → List (LabelSet × Line) → List (LabelSet × Line)
-left selector from to order place lines = lines ++ map visited (asked selector from to (flat_map (λ entries. entries) (drop place order)))
+left selector from to order position lines = lines ++ map visited (asked selector from to (flat_map (λ entries. entries) (drop position order)))

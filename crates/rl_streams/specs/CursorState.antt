@@ -8,4 +8,4 @@ use Rattle.rl_streams.specs.declared.cursor.Cursor.{Cursor}
 
 -- the lines that wait, and what is asked of the streams that follow
 abbrev pub left_in : {S : Type 0} → Cursor S → List (LabelSet × Line)
-left_in cursor = left cursor.selector.now cursor.from cursor.to (order_of cursor.streams.now) cursor.place cursor.lines
+left_in cursor = left cursor.selector.now cursor.from cursor.to (order_of cursor.streams.now) cursor.position cursor.lines

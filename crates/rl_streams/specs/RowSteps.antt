@@ -20,8 +20,8 @@ abbrev pub AreOthers : LabelSet → List Row → Type 0
 AreOthers labels rows = AllByRecursion (λ row. label_set_eq labels row.0 ≡ false) rows
 
 -- where the stream with the labels stands, if there is one
-abbrev pub IsPlaceOf : List Row → LabelSet → Option ℕ → Type 0
-IsPlaceOf rows labels place = MatchOption place (AreOthers labels rows) (λ i. (stream : StreamView) × (slice_get rows i ≡ Some (labels, stream)))
+abbrev pub IsPositionOf : List Row → LabelSet → Option ℕ → Type 0
+IsPositionOf rows labels position = MatchOption position (AreOthers labels rows) (λ i. (stream : StreamView) × (slice_get rows i ≡ Some (labels, stream)))
 
 -- streams that hold what they held, over the same store
 pub record AreCut (old new : List Row) : Type 0 where

@@ -11,14 +11,14 @@ use Rattle.rl_labels.specs.contracts.matcher.Matcher as matcher_type
 pub record SelectionView : Type 0 where
   pub selector : List Matcher
   pub asked : ℕ
-  pub places : List ℕ
+  pub positions : List ℕ
 
 -- as its parts, for a store
 abbrev pub selection_code : Coded SelectionView
 selection_code =
     code_by (List Matcher × (ℕ × List ℕ)) (coded× (coded_list matcher_type.the_row.coded) (coded× coded_ℕ (coded_list coded_ℕ)))
-    (λ s. (s.selector, (s.asked, s.places)))
-    (λ p. record { selector = p.0; asked = p.1.0; places = p.1.1 })
+    (λ s. (s.selector, (s.asked, s.positions)))
+    (λ p. record { selector = p.0; asked = p.1.0; positions = p.1.1 })
     (λ _. refl)
 
 -- the indices of the label sets that the selector selects
@@ -28,12 +28,12 @@ selected selector (labels ∷ others) = if selects selector labels then 0 ∷ ma
 
 -- the next stream was asked
 abbrev pub asked_next : SelectionView → LabelSet → SelectionView
-asked_next s labels = record { selector = s.selector; asked = s.asked + 1; places = if selects s.selector labels then s.places ++ s.asked ∷ [] else s.places }
+asked_next s labels = record { selector = s.selector; asked = s.asked + 1; positions = if selects s.selector labels then s.positions ++ s.asked ∷ [] else s.positions }
 
 -- the indices are those of the streams that the selector selects among the first ones, which were asked
 pub record IsSelection (labels : List LabelSet) (s : SelectionView) : Type 0 where
   pub asked : s.asked ≤ length labels
-  pub places : s.places ≡ selected s.selector (take s.asked labels)
+  pub positions : s.positions ≡ selected s.selector (take s.asked labels)
 
 abbrev pub AreSelections : List LabelSet → List SelectionView → Type 0
 AreSelections labels kept = AllByRecursion (IsSelection labels) kept

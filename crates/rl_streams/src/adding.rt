@@ -6,7 +6,7 @@ ghost use Rattle.rl_labels.specs.LabelText.{label_set_eq};
 ghost use Rattle.rl_parts.specs.StreamParts.{entries_of, most_entries};
 ghost use Rattle.rl_parts.specs.StoreUse.{Looked, AreKept};
 ghost use Rattle.rl_streams.specs.StreamRows.{joined, newest_in, newest_map, is_among, IsOwn, AreStreams};
-ghost use Rattle.rl_streams.specs.RowSteps.{AreAdded, AreOffered, AreOthers, IsOffered, IsOfferedRight, IsPlaceOf};
+ghost use Rattle.rl_streams.specs.RowSteps.{AreAdded, AreOffered, AreOthers, IsOffered, IsOfferedRight, IsPositionOf};
 ghost use Rattle.rl_streams.specs.StreamsState.{age_refusal, is_far_behind, AddCause, IsNoAge};
 ghost use Rattle.rl_streams.specs.declared.refusal.AddRefusal.TheVariants.{Full, Read};
 ghost use Rattle.rl_parts.specs.declared.fault.ReadFault.TheVariants.{Memory};
@@ -30,8 +30,8 @@ fn is_far_behind(limits: &Limits, entry: &Entry, newest: Ns) -> bool
 }
 
 // Where the stream of the labels stands, if there is one.
-pub(crate) fn place_of(streams: &IndexMap<Labels, Stream>, labels: &Labels) -> Option<usize>
-    ensures place { IsPlaceOf streams.now.entries labels.now result }
+pub(crate) fn position_of(streams: &IndexMap<Labels, Stream>, labels: &Labels) -> Option<usize>
+    ensures position { IsPositionOf streams.now.entries labels.now result }
     ensures apart { IsDistinct label_set_eq (keys_of streams.now.entries) }
 {
     streams.get_index_of(labels)
@@ -41,21 +41,21 @@ pub(crate) fn place_of(streams: &IndexMap<Labels, Stream>, labels: &Labels) -> O
 pub(crate) fn age_refusal(
     limits: &Limits,
     streams: &IndexMap<Labels, Stream>,
-    place: Option<usize>,
+    position: Option<usize>,
     horizon: Ns,
     entry: &Entry,
 ) -> Option<AddRefusal>
-    requires place { IsPlaceOf streams.now.entries entry.now.labels place }
+    requires position { IsPositionOf streams.now.entries entry.now.labels position }
     requires apart { IsDistinct label_set_eq (keys_of streams.now.entries) }
     ensures { result ≡ age_refusal limits.now (newest_map (newest_in streams.now.entries)) horizon entry.now }
 {
     if entry.timestamp < horizon {
         return Some(AddRefusal::Expired { horizon });
     }
-    match place {
+    match position {
         None => None,
-        Some(place) => {
-            let newest = streams[place].newest();
+        Some(position) => {
+            let newest = streams[position].newest();
             if is_far_behind(limits, entry, newest) {
                 Some(AddRefusal::TooFarBehind { newest })
             } else {
@@ -128,12 +128,12 @@ pub(crate) fn put<S: Store>(
     alloc: Global,
     store: &mut S,
     streams: &mut IndexMap<Labels, Stream>,
-    place: Option<usize>,
+    position: Option<usize>,
     entry: Shared<Entry>,
     most: u64,
     is_full: bool,
 ) -> Result<bool, AddRefusal>
-    requires place { IsPlaceOf streams.old.entries entry.labels place }
+    requires position { IsPositionOf streams.old.entries entry.labels position }
     requires own { AllByRecursion IsOwn streams.old.entries }
     requires apart { IsDistinct label_set_eq (keys_of streams.old.entries) }
     requires some { 1 ≤ most }
@@ -147,11 +147,11 @@ pub(crate) fn put<S: Store>(
     ensures refused { OnErr result (streams.new.entries ≡ streams.old.entries) }
     ensures right { (next : ℕ) → AreStreams streams.old.entries (S.seen store.old) next → (S.seen store.old).honest ≡ true → IsOfferedRight result (is_among entry (joined streams.old.entries)) }
 {
-    match place {
+    match position {
         None => {
             begin(alloc, streams, entry, most, is_full)?;
             Ok(true)
         }
-        Some(place) => offer(alloc, store, &mut streams[place], entry, most, is_full),
+        Some(position) => offer(alloc, store, &mut streams[position], entry, most, is_full),
     }
 }

@@ -19,7 +19,7 @@ pub struct Cursor<'a, S: Store> {
     from: Ns,
     to: Ns,
     // Where the next stream stands.
-    place: usize,
+    position: usize,
     // Lines of the streams before it, which wait here.
     lines: Lines,
 }
@@ -30,16 +30,16 @@ fn fill<S: Store>(
     selector: &SelectorCode,
     from: Ns,
     to: Ns,
-    place: &mut usize,
+    position: &mut usize,
     lines: &mut Lines,
 ) -> Result<(), ReadFault>
     ensures same { Looks streams.old streams.new }
     ensures cause { IfErr result (ReadCause streams.old.seen streams.new.seen) }
     ensures undamaged { streams.old.seen.honest ≡ true → Right result (λ _. Unit {0}) }
-    ensures left { streams.old.seen.honest ≡ true → left selector.now from to (order_of streams.new) place.new lines.new ≡ left selector.now from to (order_of streams.old) place.old lines.old }
-    ensures all { OnOk result (lines.new ≡ [] → length (order_of streams.new) ≤ place.new) }
+    ensures left { streams.old.seen.honest ≡ true → left selector.now from to (order_of streams.new) position.new lines.new ≡ left selector.now from to (order_of streams.old) position.old lines.old }
+    ensures all { OnOk result (lines.new ≡ [] → length (order_of streams.new) ≤ position.new) }
 {
-    for next in *place..streams.stream_count() {
+    for next in *position..streams.stream_count() {
         if !lines.is_empty() {
             return Ok(());
         }
@@ -47,7 +47,7 @@ fn fill<S: Store>(
             lines.clear();
             return Err(fault);
         }
-        *place = next + 1;
+        *position = next + 1;
     }
     Ok(())
 }
@@ -66,7 +66,7 @@ impl<'a, S: Store> Cursor<'a, S> {
         ensures same_reference { result.streams.ghost_name ≡ streams.entry.ghost_name }
         ensures streams { result.streams.now ≡ streams.old }
         ensures asks { (result.selector.now ≡ selector.now) × (result.from ≡ from) × (result.to ≡ to) }
-        ensures place { result.place ≡ 0 }
+        ensures position { result.position ≡ 0 }
         ensures lines { result.lines ≡ lines }
     {
         Cursor {
@@ -74,7 +74,7 @@ impl<'a, S: Store> Cursor<'a, S> {
             selector,
             from,
             to,
-            place: 0,
+            position: 0,
             lines,
         }
     }
@@ -88,13 +88,13 @@ impl<'a, S: Store> Cursor<'a, S> {
         ensures right { self.old.streams.now.seen.honest ≡ true → Right result (λ found. MatchOption found (left_in self.old ≡ []) (λ line. left_in self.old ≡ line ∷ left_in self.new)) }
         ensures refused { OnErr result (self.old.streams.now.seen.honest ≡ true → left_in self.new ≡ left_in self.old) }
     {
-        let (place, lines) = (&mut self.place, &mut self.lines);
+        let (position, lines) = (&mut self.position, &mut self.lines);
         fill(
             self.streams,
             self.selector,
             self.from,
             self.to,
-            place,
+            position,
             lines,
         )?;
         Ok(self.lines.pop())

@@ -13,8 +13,8 @@ pub(crate) fn cut(streams: &mut IndexMap<Labels, Stream>) -> Result<(), AllocErr
     ensures cut { AreCut streams.old.entries streams.new.entries }
     ensures all { OnOk result (loose_in streams.new.entries ≡ []) }
 {
-    for place in 0..streams.len() {
-        streams[place].seal()?;
+    for position in 0..streams.len() {
+        streams[position].seal()?;
     }
     Ok(())
 }

@@ -22,8 +22,8 @@ pub(crate) fn flush<S: Store>(
     ensures all { OnOk result (unwritten_in streams.new.entries ≡ []) }
     ensures cause { IfErr result (FlushCause (S.seen store.old) (S.seen store.new) next.new) }
 {
-    for place in 0..streams.len() {
-        streams[place].flush(alloc, store, next)?;
+    for position in 0..streams.len() {
+        streams[position].flush(alloc, store, next)?;
     }
     Ok(())
 }

@@ -11,7 +11,7 @@ ghost use Rattle.rl_streams.specs.RowSteps.{AreOthers};
 ghost use Rattle.rl_streams.specs.Selected.{selected};
 ghost use Rattle.rl_streams.specs.StreamRows.{joined, is_among, IsOwn, AreStreams};
 
-use crate::adding::place_of;
+use crate::adding::position_of;
 use crate::selections::Selection;
 use indexmap::IndexMap;
 use rl_chunks::Store;
@@ -32,9 +32,9 @@ pub(crate) fn holds<S: Store>(
     ensures unread { AreOthers entry.now.labels streams.now.entries → (result ≡ Ok false) × (S.seen store.new ≡ S.seen store.old) }
     ensures right { (next : ℕ) → AreStreams streams.now.entries (S.seen store.old) next → (S.seen store.old).honest ≡ true → Right result (λ found. found ≡ is_among entry.now (joined streams.now.entries)) }
 {
-    match place_of(streams, &entry.labels) {
+    match position_of(streams, &entry.labels) {
         None => Ok(false),
-        Some(place) => streams[place].holds(alloc, store, entry),
+        Some(position) => streams[position].holds(alloc, store, entry),
     }
 }
 
@@ -69,15 +69,15 @@ pub(crate) fn each<S: Store, T: Taker>(
     taker: &mut T,
 ) -> Result<(), ReadFault>
     requires own { AllByRecursion IsOwn streams.now.entries }
-    requires places { selection.now.places ≡ selected selection.now.selector (keys_of streams.now.entries) }
+    requires positions { selection.now.positions ≡ selected selection.now.selector (keys_of streams.now.entries) }
     ensures looked { Looked (S.seen store.old) (S.seen store.new) }
     ensures cause { IfErr result (ReadCause (S.seen store.old) (S.seen store.new)) }
     ensures unread { AllByRecursion (λ row. selects selection.now.selector row.0 ≡ false) streams.now.entries → S.seen store.new ≡ S.seen store.old }
     ensures visited { OnOk result (AreVisited T.taking selection.now.selector from to streams.now.entries taker.old taker.new) }
     ensures right { (next : ℕ) → AreStreams streams.now.entries (S.seen store.old) next → (S.seen store.old).honest ≡ true → Right result (λ _. taker.new ≡ fold T.taking taker.old (visited_by selection.now.selector from to streams.now.entries)) }
 {
-    for place in selection.places() {
-        streams[*place].each(alloc, store, from, to, taker)?;
+    for position in selection.positions() {
+        streams[*position].each(alloc, store, from, to, taker)?;
     }
     Ok(())
 }

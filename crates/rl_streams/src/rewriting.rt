@@ -28,8 +28,8 @@ pub(crate) fn plan_all<S: Store, C: Covers>(
     ensures cause { IfErr result (RewriteCause (S.seen store.old) (S.seen store.new) next.new) }
 {
     let mut plans = Vec::with_capacity(alloc, streams.len())?;
-    for place in 0..streams.len() {
-        let plan = streams[place].plan(alloc, store, covered, next)?;
+    for position in 0..streams.len() {
+        let plan = streams[position].plan(alloc, store, covered, next)?;
         plans.push(plan)?;
     }
     Ok(plans)
@@ -54,11 +54,11 @@ pub(crate) fn carry_out_all<S: Store>(
     ensures streams { streams.new.entries ≡ rewritten streams.old.entries plans.items }
     ensures removed { AreRemoved (S.seen store.old) (numbers_gone plans.items) (S.seen store.new) }
 {
-    let mut place = 0;
+    let mut position = 0;
     for plan in plans {
-        let gone = streams[place].carry_out(plan);
+        let gone = streams[position].carry_out(plan);
         remove_all(store, &gone);
-        place += 1;
+        position += 1;
     }
 }
 
@@ -68,8 +68,8 @@ pub(crate) fn count(streams: &IndexMap<Labels, Stream>, most: u64) -> u64
     ensures { result ≡ length (joined streams.now.entries) }
 {
     let mut count = 0;
-    for place in 0..streams.len() {
-        count += streams[place].len();
+    for position in 0..streams.len() {
+        count += streams[position].len();
     }
     count
 }

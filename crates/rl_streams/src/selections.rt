@@ -23,7 +23,7 @@ pub(crate) struct Selection {
     selector: PlainList<Matcher>,
     code: SelectorCode,
     asked: usize,
-    places: Vec<usize>,
+    positions: Vec<usize>,
 }
 
 impl Model for Selection {
@@ -34,7 +34,7 @@ impl Model for Selection {
 
     ghost coded = { selection_code };
 
-    ghost view = { λ a. record { selector = a.selector; asked = a.asked; places = a.places.items } };
+    ghost view = { λ a. record { selector = a.selector; asked = a.asked; positions = a.positions.items } };
 
     ghost invariant = { λ a. a.code ≡ a.selector };
 }
@@ -42,7 +42,7 @@ impl Model for Selection {
 impl Selection {
     // The selector's, of which no stream was asked.
     fn new(alloc: Global, selector: &PlainList<Matcher>) -> Result<Selection, AllocError>
-        ensures { IfOk result (λ selection. selection ≡ record { selector = selector.now; asked = 0; places = [] }) }
+        ensures { IfOk result (λ selection. selection ≡ record { selector = selector.now; asked = 0; positions = [] }) }
     {
         // Its patterns were built when it was read, so a refusal is one for memory.
         let code = SelectorCode::build(alloc, selector.as_slice()).or(Err(AllocError))?;
@@ -51,7 +51,7 @@ impl Selection {
             selector,
             code,
             asked: 0,
-            places: Vec::new(alloc),
+            positions: Vec::new(alloc),
         })
     }
 
@@ -63,10 +63,10 @@ impl Selection {
     }
 
     // The indices of the streams that are selected, the lowest first.
-    pub(crate) fn places(&self) -> &[usize]
-        ensures { result.now ≡ self.now.places }
+    pub(crate) fn positions(&self) -> &[usize]
+        ensures { result.now ≡ self.now.positions }
     {
-        self.places.as_slice()
+        self.positions.as_slice()
     }
 
     // How many streams were asked.
@@ -83,7 +83,7 @@ impl Selection {
         ensures refused { OnErr result (self.new ≡ self.old) }
     {
         if self.code.accepts(labels)? {
-            self.places.push(self.asked)?;
+            self.positions.push(self.asked)?;
         }
         self.asked += 1;
         Ok(())
@@ -122,11 +122,11 @@ impl Selections {
     }
 
     // The one at an index.
-    pub(crate) fn at(&self, place: usize) -> &Selection
-        requires { place < length self.now }
-        ensures { slice_get self.now place ≡ Some result.now }
+    pub(crate) fn at(&self, position: usize) -> &Selection
+        requires { position < length self.now }
+        ensures { slice_get self.now position ≡ Some result.now }
     {
-        &self.kept[place]
+        &self.kept[position]
     }
 
     // Where the selector's is, of which all streams are asked then.
@@ -139,35 +139,35 @@ impl Selections {
         requires own { AllByRecursion IsOwn streams.now.entries }
         requires kept { AreSelections (keys_of streams.now.entries) self.old }
         ensures kept { AreSelections (keys_of streams.now.entries) self.new }
-        ensures found { IfOk result (λ place. option_map (λ one. one.selector) (slice_get self.new place) ≡ Some selector.now) }
-        ensures asked { IfOk result (λ place. option_map (λ one. one.asked) (slice_get self.new place) ≡ Some (length streams.now.entries)) }
+        ensures found { IfOk result (λ position. option_map (λ one. one.selector) (slice_get self.new position) ≡ Some selector.now) }
+        ensures asked { IfOk result (λ position. option_map (λ one. one.asked) (slice_get self.new position) ≡ Some (length streams.now.entries)) }
     {
-        let place = place_in(alloc, &mut self.kept, self.next, selector)?;
-        self.next = place.saturating_add(1);
-        ask_all(&mut self.kept[place], streams)?;
-        Ok(place)
+        let position = position_in(alloc, &mut self.kept, self.next, selector)?;
+        self.next = position.saturating_add(1);
+        ask_all(&mut self.kept[position], streams)?;
+        Ok(position)
     }
 }
 
 // Where the selector's selection is. One that is not kept begins.
-fn place_in(
+fn position_in(
     alloc: Global,
     kept: &mut Vec<Selection>,
     first: usize,
     selector: &PlainList<Matcher>,
 ) -> Result<usize, AllocError>
     ensures kept { (labels : List LabelSet) → AreSelections labels kept.old.items → AreSelections labels kept.new.items }
-    ensures found { IfOk result (λ place. option_map (λ one. one.selector) (slice_get kept.new.items place) ≡ Some selector.now) }
+    ensures found { IfOk result (λ position. option_map (λ one. one.selector) (slice_get kept.new.items position) ≡ Some selector.now) }
 {
-    match place_of(kept, first, selector) {
-        Some(place) => Ok(place),
+    match position_of(kept, first, selector) {
+        Some(position) => Ok(position),
         None => begin(alloc, kept, selector),
     }
 }
 
 // Where the selector's selection is, if it is kept: at the index that is tried first, or elsewhere.
-fn place_of(kept: &[Selection], first: usize, selector: &PlainList<Matcher>) -> Option<usize>
-    ensures { option_map (λ place. option_map (λ one. one.selector) (slice_get kept.now place)) result ≡ option_map (λ _. Some selector.now) result }
+fn position_of(kept: &[Selection], first: usize, selector: &PlainList<Matcher>) -> Option<usize>
+    ensures { option_map (λ position. option_map (λ one. one.selector) (slice_get kept.now position)) result ≡ option_map (λ _. Some selector.now) result }
 {
     if first < kept.len() && kept[first].is_of(selector) {
         return Some(first);
@@ -182,15 +182,15 @@ fn begin(
     selector: &PlainList<Matcher>,
 ) -> Result<usize, AllocError>
     ensures kept { (labels : List LabelSet) → AreSelections labels kept.old.items → AreSelections labels kept.new.items }
-    ensures found { IfOk result (λ place. option_map (λ one. one.selector) (slice_get kept.new.items place) ≡ Some selector.now) }
+    ensures found { IfOk result (λ position. option_map (λ one. one.selector) (slice_get kept.new.items position) ≡ Some selector.now) }
 {
     let selection = Selection::new(alloc, selector)?;
     if kept.len() >= MOST {
         kept.clear();
     }
-    let place = kept.len();
+    let position = kept.len();
     kept.push(selection)?;
-    Ok(place)
+    Ok(position)
 }
 
 // Asks the streams that were not asked yet.
@@ -201,8 +201,8 @@ fn ask_all(selection: &mut Selection, streams: &IndexMap<Labels, Stream>) -> Res
     ensures same { selection.new.selector ≡ selection.old.selector }
     ensures all { OnOk result (selection.new.asked ≡ length streams.now.entries) }
 {
-    for place in selection.asked()..streams.len() {
-        selection.ask(streams[place].labels())?;
+    for position in selection.asked()..streams.len() {
+        selection.ask(streams[position].labels())?;
     }
     Ok(())
 }

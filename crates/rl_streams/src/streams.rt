@@ -2,7 +2,7 @@
 ghost use Rattle.std.specs.Prelude.{◌≡◌, ◌⊎◌, ◌<◌, ◌≤◌, ◌++◌, [], ◌∷◌, length, true, false, None, Ok, Err, IfErr, IsErrOf, MatchOption, OnErr, OnOk};
 ghost use Rattle.rl_chunks.specs.StoreState.{greatest};
 
-use crate::adding::{age_refusal, place_of, put};
+use crate::adding::{age_refusal, position_of, put};
 use crate::cursor::Cursor;
 use crate::lines::Lines;
 use crate::refusal::AddRefusal;
@@ -110,15 +110,15 @@ impl<S: Store> Streams<S> {
         // Exactly one of these over an honest store.
         ensures decided { age_refusal self.old.limits self.old.newest horizon entry ≡ None → self.old.seen.honest ≡ true → IsDecided result self.old entry self.new }
     {
-        let place = place_of(&self.streams, &entry.get().labels);
-        let refusal = age_refusal(&self.limits, &self.streams, place, horizon, entry.get());
+        let position = position_of(&self.streams, &entry.get().labels);
+        let refusal = age_refusal(&self.limits, &self.streams, position, horizon, entry.get());
         if let Some(refusal) = refusal {
             return Err(refusal);
         }
         let is_full = self.count >= self.limits.entries;
         let most = self.limits.chunk_entries;
         let (store, streams) = (&mut self.store, &mut self.streams);
-        if !put(self.alloc, store, streams, place, entry, most, is_full)? {
+        if !put(self.alloc, store, streams, position, entry, most, is_full)? {
             return Ok(());
         }
         self.count += 1;
@@ -194,8 +194,8 @@ impl<S: Store> Streams<S> {
         ensures right { self.old.seen.honest ≡ true → Right result (λ _. AreVisitedOnce selector.now from to self.old.held T.taking taker.old taker.new) }
     {
         let (store, streams) = (&mut self.store, &self.streams);
-        let place = self.selections.select(self.alloc, streams, selector)?;
-        let selection = self.selections.at(place);
+        let position = self.selections.select(self.alloc, streams, selector)?;
+        let selection = self.selections.at(position);
         reading::each(self.alloc, store, streams, selection, from, to, taker)
     }
 
@@ -221,18 +221,18 @@ impl<S: Store> Streams<S> {
     // Puts what one stream has in the range after the lines that wait, if the selector selects it.
     pub(crate) fn hand_out(
         &mut self,
-        place: usize,
+        position: usize,
         selector: &SelectorCode,
         from: Ns,
         to: Ns,
         lines: &mut Lines,
     ) -> Result<(), ReadFault>
-        requires { place < length (order_of self.old) }
+        requires { position < length (order_of self.old) }
         ensures same { Looks self.old self.new }
         ensures cause { IfErr result (ReadCause self.old.seen self.new.seen) }
-        ensures right { self.old.seen.honest ≡ true → Right result (λ _. lines.new ≡ lines.old ++ visited_at selector.now from to (order_of self.old) place) }
+        ensures right { self.old.seen.honest ≡ true → Right result (λ _. lines.new ≡ lines.old ++ visited_at selector.now from to (order_of self.old) position) }
     {
-        let (store, stream) = (&mut self.store, &self.streams[place]);
+        let (store, stream) = (&mut self.store, &self.streams[position]);
         reading::each_selected(self.alloc, store, stream, selector, from, to, lines)
     }
 }

@@ -7,7 +7,7 @@ use Rattle.rl_sinks.specs.SinkState.{SinkState}
 use Rattle.rl_sinks.specs.declared.sink.SinkKind.TheVariants as sinks
 use Rattle.rl_world.specs.Offering.{Offered, AllOffered}
 use Rattle.rl_aggregate.specs.Limited.{IsWithin}
-use Rattle.rl_world.specs.Slots.{AreOfOneShard}
+use Rattle.rl_world.specs.ShardAnswers.{AreOfOneShard}
 use Rattle.rl_world.specs.Listings.{listings, last_listing}
 use Rattle.rl_world.specs.declared.step.Step.{Step}
 use Rattle.rl_world.specs.declared.step.Step.TheVariants as steps

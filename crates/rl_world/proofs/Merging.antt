@@ -14,7 +14,7 @@ use Rattle.rl_aggregate.specs.TotalsMap.{no_total, plus, total_at}
 use Rattle.rl_aggregate.specs.declared.total.Total.{Total}
 use Rattle.rl_aggregate.specs.declared.partial.Partial.{Partial}
 use Rattle.rl_world.specs.Kept.{no_partial, merged_from, merged_terms}
-use Rattle.rl_world.specs.Slots.{IsKept, HasTerm, most_in_shard, most_shards}
+use Rattle.rl_world.specs.ShardAnswers.{IsKept, HasTerm, most_in_shard, most_shards}
 use Rattle.rl_world.specs.declared.opened.Gathered.{Gathered}
 
 -- what is merged into no partial is itself
@@ -76,35 +76,35 @@ within-more m n partial more within = record {
   bytes = omega (arith, within.bytes);
 }
 
-abbrev Slot : Type 0
-Slot = Option (Gathered (List Partial))
+abbrev ShardAnswer : Type 0
+ShardAnswer = Option (Gathered (List Partial))
 
-abbrev Slots : Type 0
-Slots = List Slot
+abbrev ShardAnswers : Type 0
+ShardAnswers = List ShardAnswer
 
 -- the sum so far, with the answers from index `i` on, is the merge of all answers, and `i` shards may hold its numbers
-pub record IsSumBefore (term : ℕ) (slots : Slots) (i : ℕ) (sum : Partial) : Type 0 where
-  pub all : merged_from sum term (flat_map option_to_list (drop i slots)) ≡ merged_from no_partial term (flat_map option_to_list slots)
+pub record IsSumBefore (term : ℕ) (answers : ShardAnswers) (i : ℕ) (sum : Partial) : Type 0 where
+  pub all : merged_from sum term (flat_map option_to_list (drop i answers)) ≡ merged_from no_partial term (flat_map option_to_list answers)
   pub within : IsWithin (i * most_in_shard) sum
 
-pub nothing_merged : (term : ℕ) (slots : Slots) → IsSumBefore term slots 0 no_partial
-nothing_merged term slots = record { all = refl; within = within-none }
+pub nothing_merged : (term : ℕ) (answers : ShardAnswers) → IsSumBefore term answers 0 no_partial
+nothing_merged term answers = record { all = refl; within = within-none }
 
-module _ (term : ℕ) (slots : Slots) (i : ℕ) (slot : Slot) (sum : Partial) (inside : i < length slots) (slot_is : slot ≡ get_or slots i slot) (before : IsSumBefore term slots i sum) where
+module _ (term : ℕ) (answers : ShardAnswers) (i : ℕ) (answered : ShardAnswer) (sum : Partial) (inside : i < length answers) (answer_is : answered ≡ get_or answers i answered) (before : IsSumBefore term answers i sum) where
   -- what the answers from one on add is what it adds first, and then the others
-  first_slot : (own : Slot) → slot ≡ own → merged_from sum term (flat_map option_to_list (own ∷ drop (i + 1) slots)) ≡ merged_from no_partial term (flat_map option_to_list slots)
-  first_slot own is =
-      ap (λ first. merged_from sum term (flat_map option_to_list (first ∷ drop (i + 1) slots))) (sym is ∙ slot_is)
-      ∙ sym (at_drop_more (λ left. merged_from sum term (flat_map option_to_list left)) slots i slot inside)
+  first_answer : (own : ShardAnswer) → answered ≡ own → merged_from sum term (flat_map option_to_list (own ∷ drop (i + 1) answers)) ≡ merged_from no_partial term (flat_map option_to_list answers)
+  first_answer own is =
+      ap (λ first. merged_from sum term (flat_map option_to_list (first ∷ drop (i + 1) answers))) (sym is ∙ answer_is)
+      ∙ sym (at_drop_more (λ left. merged_from sum term (flat_map option_to_list left)) answers i answered inside)
       ∙ before.all
 
   -- a shard that was not asked adds nothing
-  pub not_asked : slot ≡ None → IsSumBefore term slots (i + 1) sum
-  not_asked is = record { all = first_slot None is; within = within-more (i * most_in_shard) ((i + 1) * most_in_shard) sum (omega arith) before.within }
+  pub not_asked : answered ≡ None → IsSumBefore term answers (i + 1) sum
+  not_asked is = record { all = first_answer None is; within = within-more (i * most_in_shard) ((i + 1) * most_in_shard) sum (omega arith) before.within }
 
-  module _ (answer : Gathered (List Partial)) (own : Partial) (each : AllByRecursion (HasTerm term) slots) (is : slot ≡ Some answer) (own_is : own ≡ get_or answer.shown term own) where
+  module _ (answer : Gathered (List Partial)) (own : Partial) (each : AllByRecursion (HasTerm term) answers) (is : answered ≡ Some answer) (own_is : own ≡ get_or answer.shown term own) where
     answer_has : HasTerm term (Some answer)
-    answer_has = subst (HasTerm term) (sym slot_is ∙ is) (All-from_recursion _ slots each i slot inside)
+    answer_has = subst (HasTerm term) (sym answer_is ∙ is) (All-from_recursion _ answers each i answered inside)
 
     own_within : IsWithin most_in_shard own
     own_within = subst (IsWithin most_in_shard) (sym own_is) (All-from_recursion _ answer.shown answer_has.1 term own answer_has.0)
@@ -113,13 +113,13 @@ module _ (term : ℕ) (slots : Slots) (i : ℕ) (slot : Slot) (sum : Partial) (i
     within_both = within-more (i * most_in_shard + most_in_shard) _ (merge sum own) (omega arith) (within-merge _ _ sum own before.within own_within)
 
     -- one that was asked adds its partial of the term, and the sum fits
-    pub asked : IsSumBefore term slots (i + 1) (merge sum own)
+    pub asked : IsSumBefore term answers (i + 1) (merge sum own)
     asked = record {
-      all = ap (λ shown. merged_from (merge sum shown) term (flat_map option_to_list (drop (i + 1) slots))) (own_is ∙ get_or_default answer.shown term own no_partial answer_has.0) ∙ first_slot (Some answer) is;
+      all = ap (λ shown. merged_from (merge sum shown) term (flat_map option_to_list (drop (i + 1) answers))) (own_is ∙ get_or_default answer.shown term own no_partial answer_has.0) ∙ first_answer (Some answer) is;
       within = within_both;
     }
 
-    pub sum_fits : length slots ≤ most_shards → Fits (merge sum own)
+    pub sum_fits : length answers ≤ most_shards → Fits (merge sum own)
     sum_fits few = within-fits ((i + 1) * most_in_shard) (merge sum own) within_both (omega arith)
 
 -- the merge of one term more, before those that are left
@@ -137,26 +137,26 @@ length-merged_terms term zero answers = refl
 length-merged_terms term (suc more) answers = ap suc (length-merged_terms (suc term) more answers)
 
 -- what all answers merge to is within what all shards may hold
-merged-within : (term n : ℕ) (slots : Slots) (sum : Partial) → IsWithin n sum → AllByRecursion (HasTerm term) slots → IsWithin (n + length slots * most_in_shard) (merged_from sum term (flat_map option_to_list slots))
+merged-within : (term n : ℕ) (answers : ShardAnswers) (sum : Partial) → IsWithin n sum → AllByRecursion (HasTerm term) answers → IsWithin (n + length answers * most_in_shard) (merged_from sum term (flat_map option_to_list answers))
 merged-within term n [] sum within each = within-more n _ sum (omega arith) within
-merged-within term n (None ∷ slots) sum within each = within-more (n + length slots * most_in_shard) _ _ (omega arith) (merged-within term n slots sum within each.1)
-merged-within term n (Some answer ∷ slots) sum within each =
+merged-within term n (None ∷ answers) sum within each = within-more (n + length answers * most_in_shard) _ _ (omega arith) (merged-within term n answers sum within each.1)
+merged-within term n (Some answer ∷ answers) sum within each =
     let own = get_or answer.shown term no_partial in
     let own_within : IsWithin most_in_shard own = All-from_recursion _ answer.shown each.0.1 term no_partial each.0.0 in
-    within-more (n + most_in_shard + length slots * most_in_shard) _ _ (omega arith) (merged-within term (n + most_in_shard) slots (merge sum own) (within-merge n most_in_shard sum own within own_within) each.1)
+    within-more (n + most_in_shard + length answers * most_in_shard) _ _ (omega arith) (merged-within term (n + most_in_shard) answers (merge sum own) (within-merge n most_in_shard sum own within own_within) each.1)
 
 -- an answer that has a partial for each term has one for this
-has_term : (term terms : ℕ) (slots : Slots) → term < terms → AllByRecursion (IsKept terms) slots → AllByRecursion (HasTerm term) slots
+has_term : (term terms : ℕ) (answers : ShardAnswers) → term < terms → AllByRecursion (IsKept terms) answers → AllByRecursion (HasTerm term) answers
 has_term term terms [] inside kept = tt
-has_term term terms (None ∷ slots) inside kept = (kept.0, has_term term terms slots inside kept.1)
-has_term term terms (Some answer ∷ slots) inside kept = ((omega (arith, inside, kept.0.each), kept.0.within), has_term term terms slots inside kept.1)
+has_term term terms (None ∷ answers) inside kept = (kept.0, has_term term terms answers inside kept.1)
+has_term term terms (Some answer ∷ answers) inside kept = ((omega (arith, inside, kept.0.each), kept.0.within), has_term term terms answers inside kept.1)
 
 -- so the merge of each term is within the limits of one
-pub merged_terms-limited : (term more terms : ℕ) (slots : Slots) → length slots ≤ most_shards → term + more ≤ terms → AllByRecursion (IsKept terms) slots → AllByRecursion IsLimited (merged_terms term more (flat_map option_to_list slots))
-merged_terms-limited term zero terms slots few inside kept = tt
-merged_terms-limited term (suc more) terms slots few inside kept = (
-  within-limited (0 + length slots * most_in_shard) _ (merged-within term 0 slots no_partial within-none (has_term term terms slots (omega arith) kept)) (omega arith),
-  merged_terms-limited (suc term) more terms slots few (omega arith) kept,
+pub merged_terms-limited : (term more terms : ℕ) (answers : ShardAnswers) → length answers ≤ most_shards → term + more ≤ terms → AllByRecursion (IsKept terms) answers → AllByRecursion IsLimited (merged_terms term more (flat_map option_to_list answers))
+merged_terms-limited term zero terms answers few inside kept = tt
+merged_terms-limited term (suc more) terms answers few inside kept = (
+  within-limited (0 + length answers * most_in_shard) _ (merged-within term 0 answers no_partial within-none (has_term term terms answers (omega arith) kept)) (omega arith),
+  merged_terms-limited (suc term) more terms answers few (omega arith) kept,
 )
 
 -- one shard alone gives what it has
@@ -169,11 +169,11 @@ merged_terms-alone term (suc more) answer all =
     ∙ sym (at_drop_more (λ left. left) answer.shown term no_partial (omega (arith, all)))
 
 -- so the merges of all answers are what the only one has
-pub merged_terms-lone : (terms : ℕ) (slots : Slots) (slot : Slot) (answer : Gathered (List Partial)) → length slots < 2 → 1 ≤ length slots → slot ≡ get_or slots 0 slot → slot ≡ Some answer → AllByRecursion (IsKept terms) slots → answer.shown ≡ merged_terms 0 terms (flat_map option_to_list slots)
-merged_terms-lone terms (first ∷ []) slot answer one some is asked kept =
+pub merged_terms-lone : (terms : ℕ) (answers : ShardAnswers) (answered : ShardAnswer) (answer : Gathered (List Partial)) → length answers < 2 → 1 ≤ length answers → answered ≡ get_or answers 0 answered → answered ≡ Some answer → AllByRecursion (IsKept terms) answers → answer.shown ≡ merged_terms 0 terms (flat_map option_to_list answers)
+merged_terms-lone terms (first ∷ []) answered answer one some is asked kept =
     let own : Some answer ≡ first = sym asked ∙ is in
     let has : IsKept terms (Some answer) = subst (IsKept terms) (sym own) kept.0 in
     let all : 0 + terms ≡ length answer.shown = omega (arith, has.each) in
     subst (λ first. answer.shown ≡ merged_terms 0 terms (flat_map option_to_list (first ∷ []))) own (sym (merged_terms-alone 0 terms answer all))
-merged_terms-lone terms [] slot answer one some is asked kept = absurd (omega (arith, some))
-merged_terms-lone terms (first ∷ other ∷ slots) slot answer one some is asked kept = absurd (omega (arith, one))
+merged_terms-lone terms [] answered answer one some is asked kept = absurd (omega (arith, some))
+merged_terms-lone terms (first ∷ other ∷ answers) answered answer one some is asked kept = absurd (omega (arith, one))

@@ -11,8 +11,8 @@ use Rattle.rl_world.specs.Offering.{TookPrefix, Offered, AllOffered, is_behind, 
 -- where the rest is as it was, the first of the rest is, and what follows it
 get_or-rest : (olds nows : List SinkState) (i : ℕ) (d : SinkState) → drop i nows ≡ drop i olds → get_or nows i d ≡ get_or olds i d
 get_or-rest olds nows i d rest =
-    let place : i + 0 ≡ i = omega arith in
-    ap (λ n. get_or nows n d) (sym place) ∙ sym (get_or-drop i nows 0 d) ∙ ap (λ (sinks : List SinkState). get_or sinks 0 d) rest ∙ get_or-drop i olds 0 d ∙ ap (λ n. get_or olds n d) place
+    let same_number : i + 0 ≡ i = omega arith in
+    ap (λ n. get_or nows n d) (sym same_number) ∙ sym (get_or-drop i nows 0 d) ∙ ap (λ (sinks : List SinkState). get_or sinks 0 d) rest ∙ get_or-drop i olds 0 d ∙ ap (λ n. get_or olds n d) same_number
 
 drop-rest : (olds nows : List SinkState) (i : ℕ) (new : SinkState) → drop i nows ≡ drop i olds → drop (i + 1) (set nows i new) ≡ drop (i + 1) olds
 drop-rest olds nows i new rest = drop-set-lt (i + 1) nows i new (omega arith) ∙ sym (drop-drop 1 i nows) ∙ ap (drop 1) rest ∙ drop-drop 1 i olds
@@ -39,19 +39,19 @@ cond-append false n xs ys more e = e
 
 behind_from-push : (number : ℕ) (evaluations : List Evaluation) (sinks : List SinkState) (sink : SinkState) → behind_from number evaluations (sinks ++ sink ∷ []) ≡ behind_from number evaluations sinks ++ cond (is_behind evaluations sink) ((number + length sinks) ∷ []) []
 behind_from-push number evaluations [] sink =
-    let place : number ≡ number + 0 = omega arith in
-    ap (λ n. cond (is_behind evaluations sink) (n ∷ []) []) place
+    let same_number : number ≡ number + 0 = omega arith in
+    ap (λ n. cond (is_behind evaluations sink) (n ∷ []) []) same_number
 behind_from-push number evaluations (first ∷ sinks) sink =
-    let place : suc number + length sinks ≡ number + length (first ∷ sinks) = omega arith in
+    let same_number : suc number + length sinks ≡ number + length (first ∷ sinks) = omega arith in
     cond-append (is_behind evaluations first) number _ (behind_from (suc number) evaluations sinks) _
-    (behind_from-push (suc number) evaluations sinks sink ∙ ap (λ n. behind_from (suc number) evaluations sinks ++ cond (is_behind evaluations sink) (n ∷ []) []) place)
+    (behind_from-push (suc number) evaluations sinks sink ∙ ap (λ n. behind_from (suc number) evaluations sinks ++ cond (is_behind evaluations sink) (n ∷ []) []) same_number)
 
 behind_of-more : (evaluations : List Evaluation) (nows : List SinkState) (i : ℕ) (new : SinkState) → i < length nows → behind_of evaluations (take (i + 1) (set nows i new)) ≡ behind_of evaluations (take i nows) ++ cond (is_behind evaluations new) (i ∷ []) []
 behind_of-more evaluations nows i new within =
-    let place : 0 + length (take i nows) ≡ i = omega (arith, length-take-le {A = SinkState}) in
+    let same_number : 0 + length (take i nows) ≡ i = omega (arith, length-take-le {A = SinkState}) in
     ap (behind_of evaluations) (take_more_set nows i new within)
     ∙ behind_from-push 0 evaluations (take i nows) new
-    ∙ ap (λ n. behind_of evaluations (take i nows) ++ cond (is_behind evaluations new) (n ∷ []) []) place
+    ∙ ap (λ n. behind_of evaluations (take i nows) ++ cond (is_behind evaluations new) (n ∷ []) []) same_number
 
 -- the sink that is next took a prefix, as at the beginning
 pub took_prefix-next : {S : Type 0} (state : S → SinkState) (evaluations : List Evaluation) (olds nows : List S) (i : ℕ) (sink : S) → length nows ≡ length olds → i < length nows

@@ -39,9 +39,9 @@ pub books-more : {X : Type 0} (states : X → List SinkState) (records shards sl
     → books ++ books_from (length books) records shards groups (map states sinks) ≡ all → more ++ books_from (length more) records shards groups_left (map states sinks_left) ≡ all
 books-more {X} states records shards slot all books more group groups groups_left own sinks sinks_left book groups_are sinks_are slot_is book_is more_is so_far =
     let rest : List BookState = books_from (suc (length books)) records shards groups_left (map states sinks_left) in
-    let place : length (books ++ book ∷ []) ≡ suc (length books) = omega (arith, length-append books (book ∷ [])) in
+    let next_slot : length (books ++ book ∷ []) ≡ suc (length books) = omega (arith, length-append books (book ∷ [])) in
     ap (λ (bs : List BookState). bs ++ books_from (length bs) records shards groups_left (map states sinks_left)) more_is
-    ∙ ap (λ n. (books ++ book ∷ []) ++ books_from n records shards groups_left (map states sinks_left)) place
+    ∙ ap (λ n. (books ++ book ∷ []) ++ books_from n records shards groups_left (map states sinks_left)) next_slot
     ∙ append_assoc books (book ∷ []) rest
     ∙ ap (λ (b : BookState). books ++ b ∷ rest) (book_is ∙ ap (λ n. new_book n records shards group (states own)) slot_is)
     ∙ sym (ap (λ (left : List X). books ++ books_from (length books) records shards (group ∷ groups_left) (map states left)) sinks_are)

@@ -11,7 +11,7 @@ use Rattle.rl_shard.specs.ShardStep.{AreWithin, IsAnswered}
 use Rattle.rl_shard.specs.declared.step.ShardReply.{ShardReply}
 use Rattle.rl_shard.specs.declared.step.ShardReply.TheVariants as replies
 use Rattle.rl_shard.specs.declared.step.ShardStep.TheVariants as shard_steps
-use Rattle.rl_world.specs.Slots.{AreOfOneShard, most_in_shard}
+use Rattle.rl_world.specs.ShardAnswers.{AreOfOneShard, most_in_shard}
 use Rattle.rl_world.proofs.Merging.{within-more}
 
 each_within : (entries : ℕ) (partials : List Partial) → entries ≤ most_in_shard → AllByRecursion (IsWithin entries) partials → AllByRecursion (IsWithin most_in_shard) partials

@@ -6,7 +6,7 @@ pub mod Kept
 pub mod Listings
 pub mod Offering
 pub mod ShardsTurn
-pub mod Slots
+pub mod ShardAnswers
 pub mod Stores
 pub mod WorldRun
 pub mod WorldState

@@ -11,7 +11,7 @@ use Rattle.rl_world.specs.Evaluating.{group_terms}
 use Rattle.rl_world.specs.Kept.{partials_of}
 use Rattle.rl_world.specs.History.{History, alerts_of, group_after, evaluations_in}
 use Rattle.rl_world.specs.Offering.{TookPrefix}
-use Rattle.rl_world.specs.Slots.{IsKept, most_shards}
+use Rattle.rl_world.specs.ShardAnswers.{IsKept, most_shards}
 use Rattle.rl_world.specs.declared.opened.Gathered.{Gathered}
 use Rattle.rl_world.specs.declared.opened.OpenEvaluation.{OpenEvaluation}
 
@@ -72,7 +72,7 @@ pub record IsBook (terms : List Term) (alerts : List (List Alert)) (book : BookS
   pub few : length book.history.items ≤ book.history.records
   pub group_is : book.history.group ≡ group_after book.history.first book.history.items
   pub evaluations_are : book.history.evaluations ≡ evaluations_in book.history.items
-  pub slots : IfSome book.history.opened (λ opened. (length opened.gathered ≡ book.shards) × AllByRecursion (IsKept (length terms)) opened.gathered)
+  pub answers : IfSome book.history.opened (λ opened. (length opened.gathered ≡ book.shards) × AllByRecursion (IsKept (length terms)) opened.gathered)
   pub prefixes : AllByRecursion (TookPrefix book.history.evaluations) book.sinks
 
 -- a book of a world with `shards` shards

@@ -8,7 +8,7 @@ ghost use Rattle.std.specs.List.{AllByRecursion, list_all};
 ghost use Rattle.std.specs.Option.{option_copied};
 
 use crate::editing::alerts_edited;
-use crate::evaluating::{RuleMemory, Slot, evaluate, terms_of_group};
+use crate::evaluating::{RuleMemory, ShardAnswer, evaluate, terms_of_group};
 use crate::fault::{BookError, BookFault};
 use crate::item::Item;
 use crate::offering::{catch_up_all, offer_all};
@@ -74,7 +74,7 @@ impl<S: Sink> Book<S> {
     ghost use Rattle.rl_world.specs.Kept.{evaluation_from};
     ghost use Rattle.rl_world.specs.History.{alerts_of, alerts_then, group_after, evaluations_in, is_due, begin_fault, edit_fault, gather_fault, commit_fault, abandon_fault, begun, edited, gathered, committed, abandoned};
     ghost use Rattle.rl_world.specs.Offering.{AllOffered, behind_of};
-    ghost use Rattle.rl_world.specs.Slots.{AreOfOneShard, most_shards};
+    ghost use Rattle.rl_world.specs.ShardAnswers.{AreOfOneShard, most_shards};
 
     /// A book with no evaluation. It asks `shards` shards, under the number `slot`, and keeps at most `records` edits and
     /// evaluations, up to 1,048,576. The sinks have taken nothing.
@@ -154,7 +154,7 @@ impl<S: Sink> Book<S> {
                 return Err(BookError::Fault(BookFault::MomentNotLater { last }));
             }
         }
-        let gathered = empty_slots(self.alloc, self.shards)?;
+        let gathered = no_answers(self.alloc, self.shards)?;
         self.opened = Some(OpenEvaluation { t, gathered });
         Ok(())
     }
@@ -425,10 +425,10 @@ fn complete(
 }
 
 // Whether every shard was asked.
-fn all_asked(slots: &[Slot]) -> bool
-    ensures { result ≡ list_all is_some slots.now }
+fn all_asked(answers: &[ShardAnswer]) -> bool
+    ensures { result ≡ list_all is_some answers.now }
 {
-    slots.iter().all(|answer| answer.is_some())
+    answers.iter().all(|answer| answer.is_some())
 }
 
 // Keeps what a shard showed as its answer.
@@ -453,14 +453,14 @@ fn close(opened: &mut Option<OpenEvaluation<PlainList<Shared<Partial>>>>)
 }
 
 // For each shard no answer, as none was asked.
-fn empty_slots(alloc: Global, shards: usize) -> Result<PlainList<Slot>, AllocError>
-    ensures { IfOk result (λ slots. slots ≡ replicate shards None) }
+fn no_answers(alloc: Global, shards: usize) -> Result<PlainList<ShardAnswer>, AllocError>
+    ensures { IfOk result (λ answers. answers ≡ replicate shards None) }
 {
-    let mut slots = Vec::with_capacity(alloc, shards)?;
+    let mut answers = Vec::with_capacity(alloc, shards)?;
     for _ in 0..shards {
-        slots.push(None)?;
+        answers.push(None)?;
     }
-    Ok(PlainList::from_vec(slots))
+    Ok(PlainList::from_vec(answers))
 }
 
 // Closes each sink in order. How many could not write all.

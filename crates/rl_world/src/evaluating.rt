@@ -9,7 +9,7 @@ ghost use Rattle.rl_world.specs.Evaluating.{group_terms, result_of, first_alerts
 ghost use Rattle.rl_rules.specs.Outcomes.{alerts_left};
 ghost use Rattle.rl_world.specs.History.{alerts_then};
 ghost use Rattle.rl_world.specs.Kept.{evaluation_from, merged_from, merged_terms, results_from, no_partial};
-ghost use Rattle.rl_world.specs.Slots.{IsKept, HasTerm, most_shards};
+ghost use Rattle.rl_world.specs.ShardAnswers.{IsKept, HasTerm, most_shards};
 
 use crate::opened::{Gathered, OpenEvaluation};
 use rl_aggregate::{Finisher, Partial, merge};
@@ -20,7 +20,7 @@ use rl_rules::{Alert, Evaluation, Group, Namer, Rule, RuleResult, step_rule};
 use std::alloc::{AllocError, Global};
 
 /// What a book has of each shard: the partials of the group's terms, once the shard was asked.
-pub(crate) type Slot = Option<Gathered<PlainList<Shared<Partial>>>>;
+pub(crate) type ShardAnswer = Option<Gathered<PlainList<Shared<Partial>>>>;
 
 /// What is kept for a rule from one evaluation to the next: the outcome of its query and the final label sets.
 #[derive(Drop)]
@@ -59,13 +59,13 @@ pub(crate) fn evaluate(
 ) -> Result<(Shared<Evaluation>, Vec<PlainList<Alert>>), AllocError>
     requires terms { terms ≡ length (group_terms group.now) }
     requires shards { length opened.now.gathered ≤ most_shards }
-    requires slots { AllByRecursion (IsKept terms) opened.now.gathered }
+    requires answers { AllByRecursion (IsKept terms) opened.now.gathered }
     ensures evaluation { IfOk result (λ made. made.0 ≡ evaluation_from group.now alerts.now opened.now) }
     ensures alerts { IfOk result (λ made. made.1.items ≡ alerts_then alerts.now made.0.outcomes) }
 {
-    let slots = opened.gathered.as_slice();
-    let (outcomes, left) = group_results(alloc, group, terms, opened.t, alerts, slots, memories)?;
-    let places = places(alloc, slots)?;
+    let answers = opened.gathered.as_slice();
+    let (outcomes, left) = group_results(alloc, group, terms, opened.t, alerts, answers, memories)?;
+    let places = places(alloc, answers)?;
     let name = group.name.try_copy()?;
     let evaluation = Evaluation {
         group: name,
@@ -84,33 +84,33 @@ fn group_results(
     terms: usize,
     t: Ns,
     alerts: &[PlainList<Alert>],
-    slots: &[Slot],
+    answers: &[ShardAnswer],
     memories: &mut Vec<RuleMemory>,
 ) -> Result<(Vec<RuleResult>, Vec<PlainList<Alert>>), AllocError>
     requires terms { terms ≡ length (group_terms group.now) }
-    requires shards { length slots.now ≤ most_shards }
-    requires slots { AllByRecursion (IsKept terms) slots.now }
-    ensures results { IfOk result (λ made. made.0.items ≡ results_from group.now.limit t group.now.rules alerts.now (merged_terms 0 terms (flat_map option_to_list slots.now))) }
+    requires shards { length answers.now ≤ most_shards }
+    requires answers { AllByRecursion (IsKept terms) answers.now }
+    ensures results { IfOk result (λ made. made.0.items ≡ results_from group.now.limit t group.now.rules alerts.now (merged_terms 0 terms (flat_map option_to_list answers.now))) }
     ensures alerts { IfOk result (λ made. made.1.items ≡ alerts_then alerts.now made.0.items) }
 {
     let rules = group.rules.as_slice();
-    if let [slot] = slots {
-        if let Some(answer) = slot {
+    if let [answered] = answers {
+        if let Some(answer) = answered {
             let partials = answer.shown.as_slice();
             return results(alloc, group.limit, t, rules, alerts, partials, memories);
         }
     }
-    let partials = merged_terms(alloc, slots, terms)?;
+    let partials = merged_terms(alloc, answers, terms)?;
     results(alloc, group.limit, t, rules, alerts, &partials, memories)
 }
 
 // Where the journals of the shards that were asked have the question.
-fn places(alloc: Global, slots: &[Slot]) -> Result<Vec<u64>, AllocError>
-    ensures { IfOk result (λ places. places.items ≡ map (λ answer. answer.place) (flat_map option_to_list slots.now)) }
+fn places(alloc: Global, answers: &[ShardAnswer]) -> Result<Vec<u64>, AllocError>
+    ensures { IfOk result (λ places. places.items ≡ map (λ answer. answer.place) (flat_map option_to_list answers.now)) }
 {
-    let mut places = Vec::with_capacity(alloc, slots.len())?;
-    for slot in slots {
-        if let Some(answer) = slot {
+    let mut places = Vec::with_capacity(alloc, answers.len())?;
+    for answered in answers {
+        if let Some(answer) = answered {
             places.push(answer.place)?;
         }
     }
@@ -120,16 +120,16 @@ fn places(alloc: Global, slots: &[Slot]) -> Result<Vec<u64>, AllocError>
 // For each term, the merge of what the shards have of it.
 fn merged_terms(
     alloc: Global,
-    slots: &[Slot],
+    answers: &[ShardAnswer],
     terms: usize,
 ) -> Result<Vec<Shared<Partial>>, AllocError>
-    requires shards { length slots.now ≤ most_shards }
-    requires slots { AllByRecursion (IsKept terms) slots.now }
-    ensures { IfOk result (λ partials. partials.items ≡ merged_terms 0 terms (flat_map option_to_list slots.now)) }
+    requires shards { length answers.now ≤ most_shards }
+    requires answers { AllByRecursion (IsKept terms) answers.now }
+    ensures { IfOk result (λ partials. partials.items ≡ merged_terms 0 terms (flat_map option_to_list answers.now)) }
 {
     let mut partials = Vec::with_capacity(alloc, terms)?;
     for term in 0..terms {
-        let partial = merged(alloc, slots, term)?;
+        let partial = merged(alloc, answers, term)?;
         let shared = Shared::new(alloc, partial)?;
         partials.push(shared)?;
     }
@@ -137,14 +137,14 @@ fn merged_terms(
 }
 
 // The merge of what the shards have of one term.
-fn merged(alloc: Global, slots: &[Slot], term: usize) -> Result<Partial, AllocError>
-    requires shards { length slots.now ≤ most_shards }
-    requires slots { AllByRecursion (HasTerm term) slots.now }
-    ensures { IfOk result (λ sum. sum ≡ merged_from no_partial term (flat_map option_to_list slots.now)) }
+fn merged(alloc: Global, answers: &[ShardAnswer], term: usize) -> Result<Partial, AllocError>
+    requires shards { length answers.now ≤ most_shards }
+    requires answers { AllByRecursion (HasTerm term) answers.now }
+    ensures { IfOk result (λ sum. sum ≡ merged_from no_partial term (flat_map option_to_list answers.now)) }
 {
     let mut sum = None;
-    for slot in slots {
-        if let Some(answer) = slot {
+    for answered in answers {
+        if let Some(answer) = answered {
             let both = merge_first(sum, answer.shown.as_slice()[term].get())?;
             sum = Some(both);
         }

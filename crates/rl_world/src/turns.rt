@@ -10,7 +10,7 @@ ghost use Rattle.rl_shard.specs.declared.step.ShardReply.TheVariants as shard_re
 ghost use Rattle.rl_shard.specs.declared.step.ShardStep.TheVariants as shard_steps;
 ghost use Rattle.rl_world.specs.Kept.{partials_of};
 ghost use Rattle.rl_world.specs.ShardsTurn.{AreHonest, Decides, ShardsTurn};
-ghost use Rattle.rl_world.specs.Slots.{AreOfOneShard};
+ghost use Rattle.rl_world.specs.ShardAnswers.{AreOfOneShard};
 ghost use Rattle.rl_world.specs.WorldRun.{HistoriesTurn, SinkStep};
 ghost use Rattle.rl_world.specs.WorldState.{world_of};
 ghost use Rattle.rl_world.specs.WorldStep.{WorldStep, IfRefused, IsRefused, partials, refusal_of_shard, refusal_of_book};

@@ -5,7 +5,7 @@ ghost use Rattle.std.specs.Option.{option_copied};
 ghost use Rattle.rl_world.specs.WorldState.{with_sinks_closed};
 ghost use Rattle.rl_world.specs.BookCalls.{books_from, IsFresh};
 ghost use Rattle.rl_world.specs.Closed.{BooksClosed};
-ghost use Rattle.rl_world.specs.Slots.{most_shards};
+ghost use Rattle.rl_world.specs.ShardAnswers.{most_shards};
 ghost use Rattle.rl_shard.specs.ShardState.{opened_over};
 
 use crate::book::Book;

@@ -2,7 +2,7 @@
 
 use crate::near::is_near;
 use crate::no_toml::Standing;
-use crate::place::Place;
+use crate::location::Location;
 use crate::queries::push_query_fault;
 use crate::report::push_refusal;
 use crate::findings::{Findings, OutOfMemory};
@@ -58,15 +58,15 @@ pub(crate) fn push_command(
     line: &str,
 ) -> Result<bool, OutOfMemory> {
     let before = findings.count;
-    let place = Place::whole(Some(number));
+    let location = Location::whole(Some(number));
     let ends = match read_command(line) {
         Some(Command::End) => true,
         Some(command) => {
-            push_asked(findings, known, &place, number, command)?;
+            push_asked(findings, known, &location, number, command)?;
             false
         }
         None => {
-            push_no_command(findings, &place, line)?;
+            push_no_command(findings, &location, line)?;
             false
         }
     };
@@ -80,23 +80,23 @@ pub(crate) fn push_command(
 fn push_asked(
     findings: &mut Findings,
     known: &mut Known<'_>,
-    place: &Place<'_>,
+    location: &Location<'_>,
     number: usize,
     command: Command<'_>,
 ) -> Result<(), OutOfMemory> {
     match command {
-        Command::Push(body) => push_body(findings, known, place, body),
-        Command::Edit(document) => push_edit(findings, known, place, number, document),
-        Command::Delete { selector, .. } => push_selector(findings, place, selector),
-        Command::Eval { group, .. } => push_unnamed(findings, known, place, group),
-        Command::Pump(group) => push_unnamed(findings, known, place, group),
+        Command::Push(body) => push_body(findings, known, location, body),
+        Command::Edit(document) => push_edit(findings, known, location, number, document),
+        Command::Delete { selector, .. } => push_selector(findings, location, selector),
+        Command::Eval { group, .. } => push_unnamed(findings, known, location, group),
+        Command::Pump(group) => push_unnamed(findings, known, location, group),
         Command::Show { sink, group } => {
             if sink > LAST_SINK {
-                findings.begin(place)?;
+                findings.begin(location)?;
                 findings.text
                     .push_str("a group has sink 0, and with --sinks all 1 and 2\n")?;
             }
-            push_unnamed(findings, known, place, group)
+            push_unnamed(findings, known, location, group)
         }
         _ => Ok(()),
     }
@@ -105,26 +105,26 @@ fn push_asked(
 fn push_body(
     findings: &mut Findings,
     known: &mut Known<'_>,
-    place: &Place<'_>,
+    location: &Location<'_>,
     body: &str,
 ) -> Result<(), OutOfMemory> {
     match known.reader.read(body.as_bytes()) {
         Ok(_) => Ok(()),
         Err(PushError::Memory) => Err(OutOfMemory),
         Err(error) => {
-            findings.begin(place)?;
+            findings.begin(location)?;
             writeln!(findings.text, "the body: {}", push_error_name(error))?;
             Ok(())
         }
     }
 }
 
-fn push_selector(findings: &mut Findings, place: &Place<'_>, selector: &str) -> Result<(), OutOfMemory> {
+fn push_selector(findings: &mut Findings, location: &Location<'_>, selector: &str) -> Result<(), OutOfMemory> {
     match parse_delete(*findings.text.allocator(), selector) {
         Ok(_) => Ok(()),
         Err(QueryError::Memory) => Err(OutOfMemory),
         Err(QueryError::Fault(fault)) => {
-            findings.begin(place)?;
+            findings.begin(location)?;
             findings.text.push_str("the selector: ")?;
             push_query_fault(&mut findings.text, selector, fault)
         }
@@ -135,15 +135,15 @@ fn push_selector(findings: &mut Findings, place: &Place<'_>, selector: &str) -> 
 fn push_edit(
     findings: &mut Findings,
     known: &Known<'_>,
-    place: &Place<'_>,
+    location: &Location<'_>,
     number: usize,
     document: &str,
 ) -> Result<(), OutOfMemory> {
     match read_rules(*findings.text.allocator(), document) {
         Ok(groups) => match groups.as_slice() {
-            [group] => push_unnamed(findings, known, place, group.name.as_str()),
+            [group] => push_unnamed(findings, known, location, group.name.as_str()),
             groups => {
-                findings.begin(place)?;
+                findings.begin(location)?;
                 let count = groups.len();
                 writeln!(findings.text, "{count} groups, where an edit has one")?;
                 Ok(())
@@ -154,7 +154,7 @@ fn push_edit(
                 first_line: number,
                 lead: "edit ",
             };
-            push_refusal(findings, place, standing, document, fault)
+            push_refusal(findings, location, standing, document, fault)
         }
         Err(RulesError::Memory) => Err(OutOfMemory),
     }
@@ -164,7 +164,7 @@ fn push_edit(
 fn push_unnamed(
     findings: &mut Findings,
     known: &Known<'_>,
-    place: &Place<'_>,
+    location: &Location<'_>,
     name: &str,
 ) -> Result<(), OutOfMemory> {
     let Some(groups) = known.groups else {
@@ -173,7 +173,7 @@ fn push_unnamed(
     if groups.iter().any(|group| group.name.as_str() == name) {
         return Ok(());
     }
-    findings.begin(place)?;
+    findings.begin(location)?;
     findings.text.push_str("no group is named ")?;
     push_word(&mut findings.text, name)?;
     findings.text.push('\n')?;
@@ -188,12 +188,12 @@ fn push_unnamed(
 }
 
 // Why a line is no command.
-fn push_no_command(findings: &mut Findings, place: &Place<'_>, line: &str) -> Result<(), OutOfMemory> {
+fn push_no_command(findings: &mut Findings, location: &Location<'_>, line: &str) -> Result<(), OutOfMemory> {
     let word = match line.split_once(' ') {
         Some((word, _)) => word,
         None => line,
     };
-    findings.begin(place)?;
+    findings.begin(location)?;
     if word.is_empty() {
         findings.text.push_str("no command begins with a space\n")?;
         return Ok(());

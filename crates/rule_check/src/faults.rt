@@ -2,7 +2,7 @@
 
 use crate::keys::{Key, Owner};
 use crate::names::{push_labels, push_name_fault, push_rule_name_fault, spot_of};
-use crate::place::Place;
+use crate::location::Location;
 use crate::queries::push_query;
 use crate::findings::{Findings, OutOfMemory};
 use crate::values::{items_at, push_name, push_value, text_at};
@@ -15,21 +15,21 @@ use toml::Table;
 /// its unknown ones in their order, and by those that are missing.
 pub(crate) fn push_faults(
     findings: &mut Findings,
-    place: &Place<'_>,
+    location: &Location<'_>,
     document: &Table,
 ) -> Result<(), OutOfMemory> {
-    push_keys(findings, place, Owner::File, document)?;
+    push_keys(findings, location, Owner::File, document)?;
     let items = items_at(document, "groups");
     if items.len() > MOST_GROUPS {
         let count = items.len();
-        findings.begin(place)?;
+        findings.begin(location)?;
         writeln!(findings.text, "{count} groups, where {MOST_GROUPS} are allowed")?;
     }
     let mut names = BTreeSet::new(*findings.text.allocator());
     for (number, item) in items.iter().enumerate() {
         if let Some(group) = item.as_table() {
-            let place = place.of_group(spot_of(group, "name", number));
-            push_group(findings, &place, group, &mut names)?;
+            let location = location.of_group(spot_of(group, "name", number));
+            push_group(findings, &location, group, &mut names)?;
         }
     }
     Ok(())
@@ -38,22 +38,22 @@ pub(crate) fn push_faults(
 // The faults of a group after others, whose names are known.
 fn push_group(
     findings: &mut Findings,
-    place: &Place<'_>,
+    location: &Location<'_>,
     group: &Table,
     names: &mut BTreeSet<String>,
 ) -> Result<(), OutOfMemory> {
-    push_keys(findings, place, Owner::Group, group)?;
-    push_name_fault(findings, place, group, "name")?;
-    push_same_name(findings, place, group, names)?;
+    push_keys(findings, location, Owner::Group, group)?;
+    push_name_fault(findings, location, group, "name")?;
+    push_same_name(findings, location, group, names)?;
     let items = items_at(group, "rules");
     if items.len() > MOST_RULES {
         let count = items.len();
-        findings.begin(place)?;
+        findings.begin(location)?;
         writeln!(findings.text, "{count} rules, where {MOST_RULES} are allowed")?;
     }
     for (number, item) in items.iter().enumerate() {
         if let Some(rule) = item.as_table() {
-            push_rule(findings, place, number, rule)?;
+            push_rule(findings, location, number, rule)?;
         }
     }
     Ok(())
@@ -61,7 +61,7 @@ fn push_group(
 
 fn push_same_name(
     findings: &mut Findings,
-    place: &Place<'_>,
+    location: &Location<'_>,
     group: &Table,
     names: &mut BTreeSet<String>,
 ) -> Result<(), OutOfMemory> {
@@ -69,7 +69,7 @@ fn push_same_name(
         return Ok(());
     };
     if !names.insert(String::from_str(*findings.text.allocator(), name)?)? {
-        findings.begin(place)?;
+        findings.begin(location)?;
         findings.text.push_str("two groups have this name\n")?;
     }
     Ok(())
@@ -77,7 +77,7 @@ fn push_same_name(
 
 fn push_rule(
     findings: &mut Findings,
-    place: &Place<'_>,
+    location: &Location<'_>,
     number: usize,
     rule: &Table,
 ) -> Result<(), OutOfMemory> {
@@ -86,15 +86,15 @@ fn push_rule(
     } else {
         (Owner::Alerting, "alert")
     };
-    let place = place.of_rule(spot_of(rule, key, number));
-    push_keys(findings, &place, owner, rule)?;
-    push_rule_name_fault(findings, &place, owner, rule)?;
-    push_labels(findings, &place, rule, "labels", "label")?;
+    let location = location.of_rule(spot_of(rule, key, number));
+    push_keys(findings, &location, owner, rule)?;
+    push_rule_name_fault(findings, &location, owner, rule)?;
+    push_labels(findings, &location, rule, "labels", "label")?;
     if owner.has("annotations") {
-        push_labels(findings, &place, rule, "annotations", "annotation")?;
+        push_labels(findings, &location, rule, "annotations", "annotation")?;
     }
     match text_at(rule, "expr") {
-        Some(query) => push_query(findings, &place, query),
+        Some(query) => push_query(findings, &location, query),
         None => Ok(()),
     }
 }
@@ -102,23 +102,23 @@ fn push_rule(
 // The faults of a table by its keys.
 fn push_keys(
     findings: &mut Findings,
-    place: &Place<'_>,
+    location: &Location<'_>,
     owner: Owner,
     table: &Table,
 ) -> Result<(), OutOfMemory> {
     for key in owner.keys() {
         if let Some(value) = table.get(key.name) {
-            push_value(findings, place, key, value)?;
+            push_value(findings, location, key, value)?;
         }
     }
     for name in table.keys() {
         if !owner.has(name.as_str()) {
-            push_unknown(findings, place, owner, name.as_str())?;
+            push_unknown(findings, location, owner, name.as_str())?;
         }
     }
     for key in owner.keys() {
         if key.is_needed && table.get(key.name).is_none() {
-            push_missing(findings, place, owner, key)?;
+            push_missing(findings, location, owner, key)?;
         }
     }
     Ok(())
@@ -126,11 +126,11 @@ fn push_keys(
 
 fn push_unknown(
     findings: &mut Findings,
-    place: &Place<'_>,
+    location: &Location<'_>,
     owner: Owner,
     name: &str,
 ) -> Result<(), OutOfMemory> {
-    findings.begin(place)?;
+    findings.begin(location)?;
     write!(findings.text, "{} has no key ", owner.as_str())?;
     push_name(&mut findings.text, name)?;
     findings.text.push('\n')?;
@@ -140,8 +140,8 @@ fn push_unknown(
     Ok(())
 }
 
-fn push_missing(findings: &mut Findings, place: &Place<'_>, owner: Owner, key: &Key) -> Result<(), OutOfMemory> {
-    findings.begin(place)?;
+fn push_missing(findings: &mut Findings, location: &Location<'_>, owner: Owner, key: &Key) -> Result<(), OutOfMemory> {
+    findings.begin(location)?;
     writeln!(findings.text, "the key {} is missing", owner.missing(key))?;
     Ok(())
 }

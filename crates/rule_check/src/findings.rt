@@ -1,6 +1,6 @@
 //! What is reported: a text, and how many faults it has.
 
-use crate::place::{Place, push_place};
+use crate::location::{Location, push_location};
 use std::alloc::{AllocError, AllocFailed, Global};
 use std::fmt;
 
@@ -50,8 +50,8 @@ impl Findings {
     }
 
     /// Begins one more, with its position. The caller writes the rest of its line.
-    pub(crate) fn begin(&mut self, place: &Place<'_>) -> Result<(), OutOfMemory> {
+    pub(crate) fn begin(&mut self, location: &Location<'_>) -> Result<(), OutOfMemory> {
         self.count = self.count.saturating_add(1);
-        push_place(&mut self.text, place)
+        push_location(&mut self.text, location)
     }
 }

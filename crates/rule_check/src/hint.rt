@@ -1,7 +1,7 @@
 //! What a ruler has near what it refuses in a query, and near what LogQL has beside the language.
 
 use crate::no_toml::{first_word, last_word};
-use crate::place::cut_at;
+use crate::location::cut_at;
 use crate::findings::OutOfMemory;
 use rl_query::{QueryFault, RangeFunction};
 use std::fmt::Write;
@@ -12,12 +12,12 @@ const SECONDS: &str = "whole seconds, as [5m]";
 /// Writes what a ruler has near the fault of a query, if it has something.
 pub(crate) fn push_hint(text: &mut String, query: &str, fault: QueryFault) -> Result<(), OutOfMemory> {
     match fault {
-        QueryFault::Syntax(place) => {
-            let (front, back) = cut_at(query, place);
+        QueryFault::Syntax(location) => {
+            let (front, back) = cut_at(query, location);
             push_near_syntax(text, front.trim_end(), back)
         }
-        QueryFault::Unsupported(place) => {
-            let (front, back) = cut_at(query, place);
+        QueryFault::Unsupported(location) => {
+            let (front, back) = cut_at(query, location);
             push_near_unsupported(text, front.trim_end(), back)
         }
         QueryFault::NoRealMatcher => push(

@@ -6,7 +6,7 @@
 //! - `session`: what is reported of the input of a session. `commands`: its command lines. `near`: words that are nearly equal.
 //! - `hint`: what a ruler has near a query that it refuses. `lint`: what is taken and looks like a mistake.
 //!   `doubt`: lines that would fail a rule.
-//! - `place`: where a fault is. `findings`: what is reported so far.
+//! - `location`: where a fault is. `findings`: what is reported so far.
 #![tactic(auto)]
 
 mod commands;
@@ -19,7 +19,7 @@ mod names;
 mod near;
 mod no_toml;
 mod options;
-mod place;
+mod location;
 mod print;
 mod queries;
 mod report;

@@ -1,7 +1,7 @@
 //! Names of groups and rules, and the labels of rules.
 
 use crate::keys::Owner;
-use crate::place::{Place, Spot};
+use crate::location::{Location, Spot};
 use crate::findings::{Findings, OutOfMemory};
 use crate::values::{push_quoted, text_at};
 use rl_labels::Labels;
@@ -35,7 +35,7 @@ fn has_control(name: &str) -> bool {
 /// The fault of the name of a group or of alerts, if it is a text with one.
 pub(crate) fn push_name_fault(
     findings: &mut Findings,
-    place: &Place<'_>,
+    location: &Location<'_>,
     table: &Table,
     key: &str,
 ) -> Result<(), OutOfMemory> {
@@ -45,7 +45,7 @@ pub(crate) fn push_name_fault(
     if is_name(name) {
         return Ok(());
     }
-    findings.begin(place)?;
+    findings.begin(location)?;
     if name.is_empty() {
         writeln!(findings.text, "{key} is empty")?;
     } else if name.len() > LONGEST_NAME {
@@ -63,24 +63,24 @@ pub(crate) fn push_name_fault(
 /// The fault of the name of a rule, if it is a text with one.
 pub(crate) fn push_rule_name_fault(
     findings: &mut Findings,
-    place: &Place<'_>,
+    location: &Location<'_>,
     owner: Owner,
     rule: &Table,
 ) -> Result<(), OutOfMemory> {
     match owner {
-        Owner::Recording => push_metric_fault(findings, place, rule),
-        _ => push_name_fault(findings, place, rule, "alert"),
+        Owner::Recording => push_metric_fault(findings, location, rule),
+        _ => push_name_fault(findings, location, rule, "alert"),
     }
 }
 
-fn push_metric_fault(findings: &mut Findings, place: &Place<'_>, rule: &Table) -> Result<(), OutOfMemory> {
+fn push_metric_fault(findings: &mut Findings, location: &Location<'_>, rule: &Table) -> Result<(), OutOfMemory> {
     let Some(name) = text_at(rule, "record") else {
         return Ok(());
     };
     if is_metric_name(name) {
         return Ok(());
     }
-    findings.begin(place)?;
+    findings.begin(location)?;
     push_quoted(&mut findings.text, name)?;
     findings.text.push_str(
         " is no name of a metric, which has letters, digits, _ and :, and no digit first\n",
@@ -102,7 +102,7 @@ fn is_metric_byte(byte: u8) -> bool {
 /// The faults of the labels or the annotations at a key, by the word for one of them.
 pub(crate) fn push_labels(
     findings: &mut Findings,
-    place: &Place<'_>,
+    location: &Location<'_>,
     rule: &Table,
     key: &str,
     word: &str,
@@ -112,11 +112,11 @@ pub(crate) fn push_labels(
     };
     let before = findings.count;
     for name in table.keys() {
-        push_label_name(findings, place, word, name.as_str())?;
+        push_label_name(findings, location, word, name.as_str())?;
     }
     let alloc = *findings.text.allocator();
     if findings.count == before && !make_labels(alloc, table)? {
-        findings.begin(place)?;
+        findings.begin(location)?;
         writeln!(findings.text, "{key} have more than 4096 bytes as a label text")?;
     }
     Ok(())
@@ -124,15 +124,15 @@ pub(crate) fn push_labels(
 
 fn push_label_name(
     findings: &mut Findings,
-    place: &Place<'_>,
+    location: &Location<'_>,
     word: &str,
     name: &str,
 ) -> Result<(), OutOfMemory> {
     if name == "__error__" {
-        findings.begin(place)?;
+        findings.begin(location)?;
         writeln!(findings.text, "{word} __error__ is one that no stream has")?;
     } else if !is_label_name(name) {
-        findings.begin(place)?;
+        findings.begin(location)?;
         write!(findings.text, "{word} ")?;
         push_quoted(&mut findings.text, name)?;
         findings.text.push_str(" is no label name\n")?;

@@ -16,7 +16,7 @@ fn is_one_apart(one: &[u8], other: &[u8]) -> bool {
         false
     } else if less == more {
         same.saturating_add(1) >= more
-            || (same.saturating_add(2) >= more && changed_places(front, one, other))
+            || (same.saturating_add(2) >= more && changed_locations(front, one, other))
     } else {
         more.saturating_sub(less) == 1 && same >= less
     }
@@ -47,7 +47,7 @@ fn same_back(one: &[u8], other: &[u8]) -> usize {
 }
 
 // Whether the byte at an index and the next one are swapped.
-fn changed_places(place: usize, one: &[u8], other: &[u8]) -> bool {
-    let next = place.saturating_add(1);
-    one.get(place) == other.get(next) && one.get(next) == other.get(place)
+fn changed_locations(location: usize, one: &[u8], other: &[u8]) -> bool {
+    let next = location.saturating_add(1);
+    one.get(location) == other.get(next) && one.get(next) == other.get(location)
 }

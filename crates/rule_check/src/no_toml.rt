@@ -1,6 +1,6 @@
 //! A text that is no TOML document.
 
-use crate::place::{Line, cut_at, line_at, push_line};
+use crate::location::{Line, cut_at, line_at, push_line};
 use crate::findings::{Findings, OutOfMemory};
 use crate::values::is_duration;
 use std::fmt::Write;
@@ -27,14 +27,14 @@ pub(crate) fn push_no_toml(
     document: &str,
     error: &Error,
 ) -> Result<(), OutOfMemory> {
-    let place = match error.span() {
+    let location = match error.span() {
         Some(span) => span.start,
         None => 0,
     };
-    let (front, _) = cut_at(document, place);
+    let (front, _) = cut_at(document, location);
     let feeds = front.bytes().filter(|byte| *byte == b'\n').count();
     let lead = if feeds == 0 { standing.lead } else { "" };
-    let line = line_at(document, place);
+    let line = line_at(document, location);
     findings.count = findings.count.saturating_add(1);
     let number = standing.first_line.saturating_add(feeds);
     let before = lead

@@ -1,19 +1,19 @@
 //! The query of a rule, and why it is refused.
 
 use crate::hint::push_hint;
-use crate::place::{Place, line_at, push_line};
+use crate::location::{Location, line_at, push_line};
 use crate::findings::{Findings, OutOfMemory};
 use rl_query::{QueryError, QueryFault};
 use rl_query_text::parse;
 use std::fmt::Write;
 
 /// The fault of a query, if it has one: the line in which it is, a caret under the byte, and what a ruler has near it.
-pub(crate) fn push_query(findings: &mut Findings, place: &Place<'_>, query: &str) -> Result<(), OutOfMemory> {
+pub(crate) fn push_query(findings: &mut Findings, location: &Location<'_>, query: &str) -> Result<(), OutOfMemory> {
     match parse(*findings.text.allocator(), query) {
         Ok(_) => Ok(()),
         Err(QueryError::Memory) => Err(OutOfMemory),
         Err(QueryError::Fault(fault)) => {
-            findings.begin(place)?;
+            findings.begin(location)?;
             push_query_fault(&mut findings.text, query, fault)
         }
     }
@@ -27,8 +27,8 @@ pub(crate) fn push_query_fault(
 ) -> Result<(), OutOfMemory> {
     writeln!(text, "{fault}")?;
     match fault {
-        QueryFault::Syntax(place) | QueryFault::Unsupported(place) => {
-            push_line(text, line_at(query, place))?;
+        QueryFault::Syntax(location) | QueryFault::Unsupported(location) => {
+            push_line(text, line_at(query, location))?;
         }
         _ => {}
     }

@@ -3,7 +3,7 @@
 use crate::faults::push_faults;
 use crate::lint::push_lints;
 use crate::no_toml::{ALONE, Standing, push_no_toml};
-use crate::place::Place;
+use crate::location::Location;
 use crate::print::push_groups;
 use crate::findings::{Report, Findings, OutOfMemory};
 use rl_rules::{Group, RulesError, RulesFault, read_rules};
@@ -41,7 +41,7 @@ pub(crate) fn push_rules(
             Ok(Some(groups))
         }
         Err(RulesError::Fault(fault)) => {
-            push_refusal(findings, &Place::whole(None), ALONE, file, fault)?;
+            push_refusal(findings, &Location::whole(None), ALONE, file, fault)?;
             Ok(None)
         }
         Err(RulesError::Memory) => Err(OutOfMemory),
@@ -51,19 +51,19 @@ pub(crate) fn push_rules(
 /// Each fault of a document that the reader refused for its lowest one.
 pub(crate) fn push_refusal(
     findings: &mut Findings,
-    place: &Place<'_>,
+    location: &Location<'_>,
     standing: Standing<'_>,
     file: &str,
     fault: RulesFault,
 ) -> Result<(), OutOfMemory> {
     let before = findings.count;
     match toml::table_from_str(*findings.text.allocator(), file) {
-        Ok(document) => push_faults(findings, place, &document)?,
+        Ok(document) => push_faults(findings, location, &document)?,
         Err(error) if error.is_memory() => return Err(OutOfMemory),
         Err(error) => push_no_toml(findings, standing, file, &error)?,
     }
     if findings.count == before {
-        findings.begin(place)?;
+        findings.begin(location)?;
         writeln!(findings.text, "{fault}")?;
     }
     Ok(())

@@ -1,7 +1,7 @@
 //! What is reported of the input of a session: rules, a line `%%`, and commands.
 
 use crate::commands::{Known, push_command};
-use crate::place::Place;
+use crate::location::Location;
 use crate::report::{ending, push_counts, push_rules};
 use crate::findings::{Report, Findings, OutOfMemory};
 use rl_rules::Group;
@@ -40,7 +40,7 @@ fn text_of(bytes: Vec<u8>) -> Result<String, FrontFault> {
 }
 
 fn push_front_fault(findings: &mut Findings, fault: FrontFault) -> Result<(), OutOfMemory> {
-    findings.begin(&Place::whole(None))?;
+    findings.begin(&Location::whole(None))?;
     writeln!(findings.text, "{fault}")?;
     Ok(())
 }

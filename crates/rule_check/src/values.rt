@@ -1,7 +1,7 @@
 //! What stands at a key, and what is wanted there.
 
 use crate::keys::{Key, Kind};
-use crate::place::Place;
+use crate::location::Location;
 use crate::findings::{Findings, OutOfMemory};
 use rl_query::duration::{LONGEST_RANGE, duration_of};
 use std::fmt::Write;
@@ -32,37 +32,37 @@ pub(crate) fn text_at<'a>(table: &'a Table, key: &str) -> Option<&'a str> {
 /// The faults of what stands at a key.
 pub(crate) fn push_value(
     findings: &mut Findings,
-    place: &Place<'_>,
+    location: &Location<'_>,
     key: &Key,
     value: &Value,
 ) -> Result<(), OutOfMemory> {
     match key.kind {
-        Kind::Text => push_text(findings, place, key.name, value),
-        Kind::Tables(head) => push_tables(findings, place, key.name, head, value),
-        Kind::Seconds(least) => push_seconds(findings, place, key.name, least, value),
-        Kind::Number(most) => push_number(findings, place, key.name, most, value),
-        Kind::Texts => push_texts(findings, place, key.name, value),
+        Kind::Text => push_text(findings, location, key.name, value),
+        Kind::Tables(head) => push_tables(findings, location, key.name, head, value),
+        Kind::Seconds(least) => push_seconds(findings, location, key.name, least, value),
+        Kind::Number(most) => push_number(findings, location, key.name, most, value),
+        Kind::Texts => push_texts(findings, location, key.name, value),
     }
 }
 
-fn push_text(findings: &mut Findings, place: &Place<'_>, name: &str, value: &Value) -> Result<(), OutOfMemory> {
+fn push_text(findings: &mut Findings, location: &Location<'_>, name: &str, value: &Value) -> Result<(), OutOfMemory> {
     if value.is_str() {
         return Ok(());
     }
-    push_misfit(findings, place, name, value)?;
+    push_misfit(findings, location, name, value)?;
     findings.text.push_str("a text is wanted\n")?;
     Ok(())
 }
 
 fn push_tables(
     findings: &mut Findings,
-    place: &Place<'_>,
+    location: &Location<'_>,
     name: &str,
     head: &str,
     value: &Value,
 ) -> Result<(), OutOfMemory> {
     let Some(items) = value.as_array() else {
-        push_misfit(findings, place, name, value)?;
+        push_misfit(findings, location, name, value)?;
         findings.text.push_str("an array of tables is wanted\n")?;
         if value.is_table() {
             writeln!(findings.text, "  in its place: {head}")?;
@@ -71,7 +71,7 @@ fn push_tables(
     };
     for (index, item) in items.iter().enumerate() {
         if !item.is_table() {
-            findings.begin(place)?;
+            findings.begin(location)?;
             let (number, kind) = (index.saturating_add(1), kind_of(item));
             writeln!(
                 findings.text,
@@ -84,7 +84,7 @@ fn push_tables(
 
 fn push_seconds(
     findings: &mut Findings,
-    place: &Place<'_>,
+    location: &Location<'_>,
     name: &str,
     least: u64,
     value: &Value,
@@ -93,7 +93,7 @@ fn push_seconds(
     if text.is_some_and(|text| is_duration(text, least)) {
         return Ok(());
     }
-    push_misfit(findings, place, name, value)?;
+    push_misfit(findings, location, name, value)?;
     let from = if least == 0 { "0" } else { "1s" };
     writeln!(
         findings.text,
@@ -132,7 +132,7 @@ pub(crate) fn is_duration(text: &str, least: u64) -> bool {
 
 fn push_number(
     findings: &mut Findings,
-    place: &Place<'_>,
+    location: &Location<'_>,
     name: &str,
     most: u64,
     value: &Value,
@@ -141,7 +141,7 @@ fn push_number(
         Some(number) if number >= 0 && number.unsigned_abs() <= most => return Ok(()),
         _ => {}
     }
-    push_misfit(findings, place, name, value)?;
+    push_misfit(findings, location, name, value)?;
     writeln!(findings.text, "a whole number from 0 to {most} is wanted")?;
     match value.as_str() {
         Some(text) => push_near_number(findings, text, most),
@@ -160,9 +160,9 @@ fn push_near_number(findings: &mut Findings, text: &str, most: u64) -> Result<()
     }
 }
 
-fn push_texts(findings: &mut Findings, place: &Place<'_>, name: &str, value: &Value) -> Result<(), OutOfMemory> {
+fn push_texts(findings: &mut Findings, location: &Location<'_>, name: &str, value: &Value) -> Result<(), OutOfMemory> {
     let Some(table) = value.as_table() else {
-        push_misfit(findings, place, name, value)?;
+        push_misfit(findings, location, name, value)?;
         findings.text.push_str("a table of texts is wanted\n")?;
         return Ok(());
     };
@@ -171,7 +171,7 @@ fn push_texts(findings: &mut Findings, place: &Place<'_>, name: &str, value: &Va
             let mut path = String::new(*findings.text.allocator());
             write!(path, "{name}.")?;
             push_name(&mut path, key.as_str())?;
-            push_text(findings, place, path.as_str(), item)?;
+            push_text(findings, location, path.as_str(), item)?;
         }
     }
     Ok(())
@@ -180,11 +180,11 @@ fn push_texts(findings: &mut Findings, place: &Place<'_>, name: &str, value: &Va
 // The position and the value that does not fit; what is wanted follows.
 fn push_misfit(
     findings: &mut Findings,
-    place: &Place<'_>,
+    location: &Location<'_>,
     name: &str,
     value: &Value,
 ) -> Result<(), OutOfMemory> {
-    findings.begin(place)?;
+    findings.begin(location)?;
     push_shown(&mut findings.text, name, value)?;
     findings.text.push_str(", where ")?;
     Ok(())

@@ -8,7 +8,7 @@ ghost use Rattle.std.specs.Prelude.{◌≡◌, ◌≤◌, length, map, IfOk};
 ghost use Rattle.std.specs.List.{AllByRecursion};
 ghost use Rattle.std.specs.Process.{exit_status};
 ghost use Rattle.rl_world.specs.BookCalls.{IsFresh};
-ghost use Rattle.rl_world.specs.Slots.{most_shards};
+ghost use Rattle.rl_world.specs.ShardAnswers.{most_shards};
 ghost use Rattle.rule_shell.specs.Statuses.{status_number, stop_at};
 ghost use Rattle.rule_shell.specs.declared.Stop.TheVariants.{Failed};
 

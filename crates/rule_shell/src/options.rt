@@ -2,7 +2,7 @@
 ghost use Rattle.std.specs.Prelude.{◌≡◌, ◌≢◌, ◌≤◌, Ok, IfOk, codes};
 ghost use Rattle.std.specs.Option.{option_copied};
 ghost use Rattle.clap.specs.Words.{found_of, first_value};
-ghost use Rattle.rl_world.specs.Slots.{most_shards};
+ghost use Rattle.rl_world.specs.ShardAnswers.{most_shards};
 ghost use Rattle.rule_shell.specs.Options.{number_or, limits_asked, number_asked, kinds_asked, IsChecked, AreChecked};
 
 use crate::Stop;

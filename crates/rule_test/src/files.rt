@@ -46,7 +46,7 @@ pub(crate) fn read_groups(
     match read_rules(alloc, text.as_str()) {
         Ok(groups) => Ok(groups),
         Err(RulesError::Fault(fault)) => Err(Stop::Fault {
-            place: format!(in alloc; "{name}")?,
+            location: format!(in alloc; "{name}")?,
             what: format!(in alloc; "{fault}")?,
         }),
         Err(RulesError::Memory) => Err(Stop::Memory),
@@ -60,7 +60,7 @@ fn text_of(alloc: Global, file: &str, read: io::Result<String>) -> Result<String
         Err(error) => match error.kind() {
             ErrorKind::OutOfMemory => Err(Stop::Memory),
             ErrorKind::InvalidData => Err(Stop::Fault {
-                place: format!(in alloc; "{file}")?,
+                location: format!(in alloc; "{file}")?,
                 what: format!(in alloc; "no UTF-8 text")?,
             }),
             _ => Err(Stop::Unread(format!(in alloc; "{file}")?)),

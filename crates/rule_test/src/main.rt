@@ -20,7 +20,7 @@ pub(crate) enum Stop {
     /// What the program does was asked for.
     Help(String),
     /// What is wrong with a file, and where; nothing for the whole file.
-    Fault { place: String, what: String },
+    Fault { location: String, what: String },
     /// The file that cannot be read.
     Unread(String),
     Unwritten,
@@ -43,7 +43,7 @@ impl From<TestsError> for Stop {
     fn from(error: TestsError) -> Self {
         match error {
             TestsError::Fault(fault) => Stop::Fault {
-                place: fault.place,
+                location: fault.location,
                 what: fault.what,
             },
             TestsError::Memory => Stop::Memory,
@@ -64,8 +64,8 @@ fn report_stop(rt: &HostRuntime, stop: Stop) -> ExitCode {
     let (report, status) = match &stop {
         Stop::Help(text) => (print!(rt; "{text}"), 0),
         Stop::BadOptions => (eprintln!(rt; "rule_test: bad options"), 2),
-        Stop::Fault { place, what } if place.is_empty() => (eprintln!(rt; "rule_test: {what}"), 2),
-        Stop::Fault { place, what } => (eprintln!(rt; "rule_test: {place}: {what}"), 2),
+        Stop::Fault { location, what } if location.is_empty() => (eprintln!(rt; "rule_test: {what}"), 2),
+        Stop::Fault { location, what } => (eprintln!(rt; "rule_test: {location}: {what}"), 2),
         Stop::Unread(file) => (eprintln!(rt; "rule_test: {file} cannot be read"), 3),
         Stop::Memory => (eprintln!(rt; "rule_test: out of memory"), 3),
         Stop::Unwritten => (Ok(()), 3),

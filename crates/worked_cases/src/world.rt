@@ -9,7 +9,7 @@ ghost use Rattle.std.specs.List.{AllByRecursion};
 ghost use Rattle.rl_sinks.specs.LogState.{log_state};
 ghost use Rattle.rl_sinks.specs.declared.sink.SinkKind.TheVariants as kinds;
 ghost use Rattle.rl_world.specs.BookCalls.{IsFresh};
-ghost use Rattle.rl_world.specs.Slots.{most_shards};
+ghost use Rattle.rl_world.specs.ShardAnswers.{most_shards};
 
 use crate::given::{Read, limits_in, number_in, words_of};
 use crate::streams::plan_in;

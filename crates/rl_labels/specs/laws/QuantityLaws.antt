@@ -93,14 +93,14 @@ is_no_point b h = grind (arith, nat_tests)
 no_cut : (text : List ℕ) → list_all is_ascii_digit text ≡ true → cut_at_point text ≡ None
 no_cut text are =
     let all : prefix_len (λ b. not (b == 46)) text ≡ length text = subst (λ t. prefix_len (λ b. not (b == 46)) t ≡ length text) (append-nil text) (run (λ b. not (b == 46)) text [] (weaker is_ascii_digit (λ b. not (b == 46)) is_no_point text are) refl) in
-    ap (option_map (λ place. (take place text, drop (place + 1) text))) (cond-false (nat_lt (prefix_len (λ b. not (b == 46)) text) (length text)) _ _ (le-ltb _ _ (omega (arith, all))))
+    ap (option_map (λ offset. (take offset text, drop (offset + 1) text))) (cond-false (nat_lt (prefix_len (λ b. not (b == 46)) text) (length text)) _ _ (le-ltb _ _ (omega (arith, all))))
 
 cut : (front following : List ℕ) → list_all is_ascii_digit front ≡ true → cut_at_point (front ++ 46 ∷ following) ≡ Some (front, following)
 cut front following are =
     let text = front ++ 46 ∷ following in
     let at : prefix_len (λ b. not (b == 46)) text ≡ length front = run (λ b. not (b == 46)) front (46 ∷ following) (weaker is_ascii_digit (λ b. not (b == 46)) is_no_point front are) refl in
     let inside : prefix_len (λ b. not (b == 46)) text < length text = omega (arith, at, length-append front (46 ∷ following)) in
-    ap (option_map (λ place. (take place text, drop (place + 1) text))) (cond-true (nat_lt (prefix_len (λ b. not (b == 46)) text) (length text)) _ _ (lt-ltb _ _ inside) ∙ ap (λ n. Some n) at)
+    ap (option_map (λ offset. (take offset text, drop (offset + 1) text))) (cond-true (nat_lt (prefix_len (λ b. not (b == 46)) text) (length text)) _ _ (lt-ltb _ _ inside) ∙ ap (λ n. Some n) at)
     ∙ (λ i. Some (take-append_seam front (46 ∷ following) i, drop-append-add front (46 ∷ following) 1 i))
 
 -- Decimals.

@@ -31,10 +31,10 @@ drop-next [] (suc i) x rest is = cc
 drop-next (y ∷ ys) (suc i) x rest is = drop-next ys i x rest is
 
 -- of each shard that was asked the partials are kept
-gathered-kept : (terms : List Term) (t : ℕ) (slots : List (Option (Gathered (List Entry)))) → flat_map option_to_list (map (option_map (kept_answer terms t)) slots) ≡ map (kept_answer terms t) (flat_map option_to_list slots)
+gathered-kept : (terms : List Term) (t : ℕ) (answers : List (Option (Gathered (List Entry)))) → flat_map option_to_list (map (option_map (kept_answer terms t)) answers) ≡ map (kept_answer terms t) (flat_map option_to_list answers)
 gathered-kept terms t [] = refl
-gathered-kept terms t (None ∷ slots) = gathered-kept terms t slots
-gathered-kept terms t (Some answer ∷ slots) = ap (λ rest. kept_answer terms t answer ∷ rest) (gathered-kept terms t slots)
+gathered-kept terms t (None ∷ answers) = gathered-kept terms t answers
+gathered-kept terms t (Some answer ∷ answers) = ap (λ rest. kept_answer terms t answer ∷ rest) (gathered-kept terms t answers)
 
 pub answers-kept : (terms : List Term) (opened : OpenEvaluation (List Entry)) → answers (kept_open terms opened) ≡ map (kept_answer terms opened.t) (answers opened)
 answers-kept terms opened = gathered-kept terms opened.t opened.gathered

@@ -11,9 +11,9 @@ returns-clause-added c =
     let es = c.args.labels.now.items in
     let name = c.args.name.now in
     let value = c.args.value.now in
-    let place = c.in-Some.place in
-    c.in_ok-insert.ensures.items ∙ ap (insert es place) c.in_ok-label.ensures
-    ∙ new_placed name value es place (ap (find name_cmp name) (sym c.deref.ensures.value) ∙ c.in-Some.ensures.absent) (subst (λ ls. put name_cmp name value ls ≡ insert ls place (name, value)) c.deref.ensures.value (c.in-Some.ensures.placed value))
+    let index = c.in-Some.index in
+    c.in_ok-insert.ensures.items ∙ ap (insert es index) c.in_ok-label.ensures
+    ∙ new_placed name value es index (ap (find name_cmp name) (sym c.deref.ensures.value) ∙ c.in-Some.ensures.absent) (subst (λ ls. put name_cmp name value ls ≡ insert ls index (name, value)) c.deref.ensures.value (c.in-Some.ensures.placed value))
 
 pub returns-in_default-clause-added : goal.returns-in_default-clause-added
 returns-in_default-clause-added c = not_new c.args.name.now c.args.value.now c.args.labels.now.items (ap (λ ls. is_some (find name_cmp c.args.name.now ls)) (sym c.deref.ensures.value) ∙ c.in_default.ensures.there refl)

@@ -5,5 +5,5 @@ use Rattle.rl_pipeline.specs.Running.{labels_after}
 use Rattle.rl_pipeline.specs.Steps.{step_stage}
 use Rattle.rl_pipeline.proofs.running.filters_in_front.Given as goal
 
-abbrev pub invariant-loop-place : goal.invariant-loop-place
-invariant-loop-place l = (line : List ℕ) (labels : LabelSet) → labels_after (map step_stage l.steps) line labels ≡ labels_after (map step_stage (drop l.place l.steps)) line labels
+abbrev pub invariant-loop-position : goal.invariant-loop-position
+invariant-loop-position l = (line : List ℕ) (labels : LabelSet) → labels_after (map step_stage l.steps) line labels ≡ labels_after (map step_stage (drop l.position l.steps)) line labels

@@ -6,6 +6,6 @@ use Rattle.rl_pipeline.proofs.running.send_from.Given as goal
 
 abbrev pub invariant-loop-index : goal.invariant-loop-index
 invariant-loop-index l = record {
-  sent : labels_after (map step_stage (drop l.index l.initial.steps)) l.line l.draft ≡ labels_after (map step_stage (drop l.place l.initial.steps)) l.line l.initial.draft;
+  sent : labels_after (map step_stage (drop l.index l.initial.steps)) l.line l.draft ≡ labels_after (map step_stage (drop l.position l.initial.steps)) l.line l.initial.draft;
   same : l.steps ≡ l.initial.steps;
 }

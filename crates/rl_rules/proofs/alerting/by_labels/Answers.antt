@@ -14,9 +14,9 @@ loop-index-preserved c =
     let alerts = c.args.alerts.now in
     let i = c.loop-index.index in
     let x = c.index-alerts-alerts.result in
-    let place : length alerts - 1 - i ≡ length alerts - (i + 1) = omega arith in
+    let position : length alerts - 1 - i ≡ length alerts - (i + 1) = omega arith in
     let next : length alerts - i ≡ suc (length alerts - (i + 1)) = omega arith in
-    let here : x ≡ get_or alerts (length alerts - (i + 1)) x = c.index-alerts-alerts.is ∙ ap (λ n. get_or alerts n x) place in
+    let here : x ≡ get_or alerts (length alerts - (i + 1)) x = c.index-alerts-alerts.is ∙ ap (λ n. get_or alerts n x) position in
     record {
       ordered = c.in_ok-insert.ensures.ordered;
       so_far = first_set alerts (length alerts - (i + 1)) x c.loop-index.found.entries c.insert.new.self.entries c.in_ok-try_copy.field-0 c.in_ok-try_copy-2.field-0 (omega arith)

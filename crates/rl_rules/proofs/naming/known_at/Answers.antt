@@ -8,7 +8,7 @@ use Rattle.rl_rules.proofs.naming.known_at.Goals as goal
 
 pub returns-in_ok-try_copy : goal.returns-in_ok-try_copy
 returns-in_ok-try_copy c = λ naming are.
-    let pair : LabelSet × LabelSet = c.index-known-place.result in
-    let final = final_at naming c.args.known.now c.args.place pair are (omega (arith, c.if-place-known.false)) in
+    let pair : LabelSet × LabelSet = c.index-known-position.result in
+    let final = final_at naming c.args.known.now c.args.position pair are (omega (arith, c.if-position-known.false)) in
     let same = label_set_eq-true pair.0 c.args.labels.now (sym c.if-eq.ensures) in
-    c.in_ok-try_copy.ensures ∙ subst (λ (p : LabelSet × LabelSet). p.1 ≡ final_by naming p.0) (sym c.index-known-place.is) final ∙ ap (final_by naming) same
+    c.in_ok-try_copy.ensures ∙ subst (λ (p : LabelSet × LabelSet). p.1 ≡ final_by naming p.0) (sym c.index-known-position.is) final ∙ ap (final_by naming) same

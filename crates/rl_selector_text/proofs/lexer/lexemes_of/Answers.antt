@@ -10,7 +10,7 @@ pub loop-turn-preserved : goal.loop-turn-preserved
 loop-turn-preserved c = (
   search rules,
   turn c.args.text.now c.loop-turn.rest.now c.past_gap-start.result.now c.in_ok-token.following.now c.loop-turn._turn c.in_ok-token.token c.loop-turn.lexemes.items c.push.new.self.items c.loop-turn.invariant.1 c.loop-turn-test.true c.past_gap-start.ensures
-      (sym c.is_empty.ensures ∙ c.if-is_empty.false) c.in_ok-token.ensures (c.in_ok-push.ensures.items ∙ ap (λ p. c.loop-turn.lexemes.items ++ record { token = c.in_ok-token.token; place = p } ∷ []) c.saturating_sub-place.ensures),
+      (sym c.is_empty.ensures ∙ c.if-is_empty.false) c.in_ok-token.ensures (c.in_ok-push.ensures.items ∙ ap (λ p. c.loop-turn.lexemes.items ++ record { token = c.in_ok-token.token; offset = p } ∷ []) c.saturating_sub-offset.ensures),
 )
 
 pub returns : goal.returns

@@ -4,4 +4,4 @@ use Rattle.std.specs.List.{prefix_len}
 use Rattle.rl_selector_text.proofs.meeting.count_before.Given as goal
 
 abbrev pub invariant-loop-index : goal.invariant-loop-index
-invariant-loop-index l = l.index + prefix_len (λ lexeme. nat_lt lexeme.place l.place) (drop l.index l.lexemes) ≡ prefix_len (λ lexeme. nat_lt lexeme.place l.place) l.lexemes
+invariant-loop-index l = l.index + prefix_len (λ lexeme. nat_lt lexeme.offset l.offset) (drop l.index l.lexemes) ≡ prefix_len (λ lexeme. nat_lt lexeme.offset l.offset) l.lexemes

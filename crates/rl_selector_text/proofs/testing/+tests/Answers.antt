@@ -35,11 +35,11 @@ joined_at-returns t c = sym (c.loop-turn.invariant 0 (omega arith))
 pub enclosed_at-returns-in_err-rest : goal.enclosed_at-returns-in_err-rest
 unfolding enclosed_at
 enclosed_at-returns-in_err-rest t c =
-    let depth : c.args.depth ≡ suc c.in_ok-fewer.fewer = omega (arith, (fewer_found c.place_of.result c.args.depth).is c.in_ok-fewer.fewer (sym c.in_ok-fewer.ensures)) in
+    let depth : c.args.depth ≡ suc c.in_ok-fewer.fewer = omega (arith, (fewer_found c.offset_of.result c.args.depth).is c.in_ok-fewer.fewer (sym c.in_ok-fewer.ensures)) in
     fails_on _ _ _ _ c.from_residual-in_err-rest.ensures.1 (rw (depth, c.in_ok-tests.ensures, c.in_err-rest.ensures) refl)
 
 pub enclosed_at-returns : goal.enclosed_at-returns
 unfolding enclosed_at
 enclosed_at-returns t c =
-    let depth : c.args.depth ≡ suc c.in_ok-fewer.fewer = omega (arith, (fewer_found c.place_of.result c.args.depth).is c.in_ok-fewer.fewer (sym c.in_ok-fewer.ensures)) in
+    let depth : c.args.depth ≡ suc c.in_ok-fewer.fewer = omega (arith, (fewer_found c.offset_of.result c.args.depth).is c.in_ok-fewer.fewer (sym c.in_ok-fewer.ensures)) in
     rw (depth, c.in_ok-tests.ensures, c.in_ok-rest.ensures) refl

@@ -1,7 +1,7 @@
 -- The stream at the index is offered the entry, or a new one begins.
 use Rattle.std.proofs.Common.{not, sym, ap, subst, rules}
 use Rattle.std.proofs.lemmas.Result.{err_from_is_err_and}
-use Rattle.rl_streams.specs.RowSteps.{IsPlaceOf}
+use Rattle.rl_streams.specs.RowSteps.{IsPositionOf}
 use Rattle.rl_streams.proofs.Held.{not_held}
 use Rattle.rl_streams.proofs.Offered.{not_begun, offered_at, refused_at, labels_at, right_at}
 use Rattle.rl_streams.proofs.RowChanges.{within}
@@ -9,37 +9,37 @@ use Rattle.rl_streams.proofs.adding.put.Goals as goal
 
 pub returns-in_err-begin-in-None-clause-right : goal.returns-in_err-begin-in-None-clause-right
 returns-in_err-begin-in-None-clause-right g c = λ next are honest.
-    let others = subst (IsPlaceOf c.args.streams.now.entries c.args.entry.labels) c.in-None.is c.requires.place in
+    let others = subst (IsPositionOf c.args.streams.now.entries c.args.entry.labels) c.in-None.is c.requires.position in
     let p = err_from_is_err_and c.from_residual.result c.from_residual.ensures.1 in
     rw (p.1, p.2) (not_begun c.in_err-begin-in-None.field-0.0 _ (not_held c.args.entry c.args.streams.now.entries are.own others) c.in_err-begin-in-None.ensures.cause)
 
 pub returns-in_ok-begin-in-None-clause-right : goal.returns-in_ok-begin-in-None-clause-right
 returns-in_ok-begin-in-None-clause-right g c = λ next are honest.
-    let others = subst (IsPlaceOf c.args.streams.now.entries c.args.entry.labels) c.in-None.is c.requires.place in
+    let others = subst (IsPositionOf c.args.streams.now.entries c.args.entry.labels) c.in-None.is c.requires.position in
     ap not (sym (not_held c.args.entry c.args.streams.now.entries are.own others))
 
 pub index_mut-requires : goal.index_mut-requires
 index_mut-requires g c =
-    let place = subst (IsPlaceOf c.args.streams.now.entries c.args.entry.labels) c.in-Some.is c.requires.place in
-    within c.args.streams.now.entries c.in-Some.place (c.args.entry.labels, place.0) place.1
+    let position = subst (IsPositionOf c.args.streams.now.entries c.args.entry.labels) c.in-Some.is c.requires.position in
+    within c.args.streams.now.entries c.in-Some.position (c.args.entry.labels, position.0) position.1
 
 pub offer-requires-clause-labels : goal.offer-requires-clause-labels
 offer-requires-clause-labels g c =
-    let place = subst (IsPlaceOf c.args.streams.now.entries c.args.entry.labels) c.in-Some.is c.requires.place in
-    let labels = labels_at c.args.streams.now.entries c.in-Some.place c.args.entry c.index_mut.result.now c.index_mut.result.now place c.index_mut.ensures.value c.requires.own in
+    let position = subst (IsPositionOf c.args.streams.now.entries c.args.entry.labels) c.in-Some.is c.requires.position in
+    let labels = labels_at c.args.streams.now.entries c.in-Some.position c.args.entry c.index_mut.result.now c.index_mut.result.now position c.index_mut.ensures.value c.requires.own in
     search (rules, labels)
 
 pub returns-in-Some-clause-taken : goal.returns-in-Some-clause-taken
 returns-in-Some-clause-taken g c =
-    let place = subst (IsPlaceOf c.args.streams.now.entries c.args.entry.labels) c.in-Some.is c.requires.place in
-    offered_at c.args.streams.now.entries c.in-Some.place c.args.entry c.index_mut.result.now c.offer.new.stream place c.index_mut.ensures.value c.offer.result c.requires.apart c.offer.ensures.taken
+    let position = subst (IsPositionOf c.args.streams.now.entries c.args.entry.labels) c.in-Some.is c.requires.position in
+    offered_at c.args.streams.now.entries c.in-Some.position c.args.entry c.index_mut.result.now c.offer.new.stream position c.index_mut.ensures.value c.offer.result c.requires.apart c.offer.ensures.taken
 
 pub returns-in-Some-clause-refused : goal.returns-in-Some-clause-refused
 returns-in-Some-clause-refused g c =
-    let place = subst (IsPlaceOf c.args.streams.now.entries c.args.entry.labels) c.in-Some.is c.requires.place in
-    refused_at c.args.streams.now.entries c.in-Some.place c.args.entry c.index_mut.result.now c.offer.new.stream place c.index_mut.ensures.value c.offer.result c.offer.ensures.refused
+    let position = subst (IsPositionOf c.args.streams.now.entries c.args.entry.labels) c.in-Some.is c.requires.position in
+    refused_at c.args.streams.now.entries c.in-Some.position c.args.entry c.index_mut.result.now c.offer.new.stream position c.index_mut.ensures.value c.offer.result c.offer.ensures.refused
 
 pub returns-in-Some-clause-right : goal.returns-in-Some-clause-right
 returns-in-Some-clause-right g c = λ next are honest.
-    let place = subst (IsPlaceOf c.args.streams.now.entries c.args.entry.labels) c.in-Some.is c.requires.place in
-    right_at c.args.streams.now.entries c.in-Some.place c.args.entry c.index_mut.result.now c.offer.new.stream place c.index_mut.ensures.value c.offer.result (g.S.Store.seen c.args.store.now) next are (λ kept. c.offer.ensures.right next kept honest)
+    let position = subst (IsPositionOf c.args.streams.now.entries c.args.entry.labels) c.in-Some.is c.requires.position in
+    right_at c.args.streams.now.entries c.in-Some.position c.args.entry c.index_mut.result.now c.offer.new.stream position c.index_mut.ensures.value c.offer.result (g.S.Store.seen c.args.store.now) next are (λ kept. c.offer.ensures.right next kept honest)

@@ -6,6 +6,6 @@ use Rattle.rl_streams.proofs.cursor.fill.Given as goal
 abbrev pub invariant-loop-next : goal.invariant-loop-next
 invariant-loop-next g l = record {
   same : Looks l.fn.streams l.streams;
-  at : l.place ≡ l.next;
-  left : l.fn.streams.seen.honest ≡ true → left l.selector l.from l.to (order_of l.streams) l.place l.lines ≡ left l.selector l.from l.to (order_of l.fn.streams) l.fn.place l.fn.lines;
+  at : l.position ≡ l.next;
+  left : l.fn.streams.seen.honest ≡ true → left l.selector l.from l.to (order_of l.streams) l.position l.lines ≡ left l.selector l.from l.to (order_of l.fn.streams) l.fn.position l.fn.lines;
 }

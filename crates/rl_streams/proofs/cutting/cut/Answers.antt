@@ -8,17 +8,17 @@ use Rattle.rl_streams.proofs.cutting.cut.Goals as goal
 
 pub returns-in_err-seal-clause-cut : goal.returns-in_err-seal-clause-cut
 returns-in_err-seal-clause-cut c =
-    one_sealed c.args.streams.now.entries c.loop-place.streams.entries c.loop-place.place c.index_mut.result.now c.seal.new.self c.loop-place.invariant.cut c.index_mut.ensures.value c.seal.ensures.labels c.seal.ensures.newest c.seal.ensures.entries (none_sealed c.index_mut.result.now c.seal.new.self c.in_err-seal.ensures.err)
+    one_sealed c.args.streams.now.entries c.loop-position.streams.entries c.loop-position.position c.index_mut.result.now c.seal.new.self c.loop-position.invariant.cut c.index_mut.ensures.value c.seal.ensures.labels c.seal.ensures.newest c.seal.ensures.entries (none_sealed c.index_mut.result.now c.seal.new.self c.in_err-seal.ensures.err)
 
-pub loop-place-preserved : goal.loop-place-preserved
-loop-place-preserved c =
-    let rows = c.loop-place.streams.entries in
-    let row = with_key rows c.loop-place.place c.index_mut.result.now c.index_mut.ensures.value in
+pub loop-position-preserved : goal.loop-position-preserved
+loop-position-preserved c =
+    let rows = c.loop-position.streams.entries in
+    let row = with_key rows c.loop-position.position c.index_mut.result.now c.index_mut.ensures.value in
     record {
-      cut = one_sealed c.args.streams.now.entries rows c.loop-place.place c.index_mut.result.now c.seal.new.self c.loop-place.invariant.cut c.index_mut.ensures.value c.seal.ensures.labels c.seal.ensures.newest c.seal.ensures.entries c.in_ok-seal.ensures.parts;
-      many = length_set rows c.loop-place.place c.seal.new.self ∙ c.loop-place.invariant.many;
-      all = set_up_to (λ (r : Row). r.1.head ≡ []) rows c.loop-place.place row.0 c.index_mut.result.now c.seal.new.self row.1 c.loop-place.invariant.all c.in_ok-seal.ensures.head;
+      cut = one_sealed c.args.streams.now.entries rows c.loop-position.position c.index_mut.result.now c.seal.new.self c.loop-position.invariant.cut c.index_mut.ensures.value c.seal.ensures.labels c.seal.ensures.newest c.seal.ensures.entries c.in_ok-seal.ensures.parts;
+      many = length_set rows c.loop-position.position c.seal.new.self ∙ c.loop-position.invariant.many;
+      all = set_up_to (λ (r : Row). r.1.head ≡ []) rows c.loop-position.position row.0 c.index_mut.result.now c.seal.new.self row.1 c.loop-position.invariant.all c.in_ok-seal.ensures.head;
     }
 
 pub returns-clause-all : goal.returns-clause-all
-returns-clause-all c = none_left (λ (s : StreamView). s.head) c.loop-place.streams.entries (λ k d low high. c.loop-place.invariant.all k d low (omega (arith, high, c.loop-place.invariant.many, c.len-place-end.ensures.len, c.loop-place-test.false)))
+returns-clause-all c = none_left (λ (s : StreamView). s.head) c.loop-position.streams.entries (λ k d low high. c.loop-position.invariant.all k d low (omega (arith, high, c.loop-position.invariant.many, c.len-position-end.ensures.len, c.loop-position-test.false)))

@@ -10,19 +10,19 @@ use Rattle.rl_streams.proofs.flushing.flush.Goals as goal
 
 pub returns-in_err-flush-clause-flushed : goal.returns-in_err-flush-clause-flushed
 returns-in_err-flush-clause-flushed g c =
-    one_written c.args.streams.now.entries (g.S.Store.seen c.args.store.now) c.args.next.now c.loop-place.streams.entries (g.S.Store.seen c.loop-place.store) c.loop-place.next c.loop-place.place c.index_mut.result.now c.flush.new.self (g.S.Store.seen c.flush.new.store) c.flush.new.next
-    c.loop-place.invariant.flushed c.index_mut.ensures.value c.flush.ensures.labels c.flush.ensures.newest c.flush.ensures.head c.flush.ensures.entries c.flush.ensures.parts c.flush.ensures.kept c.flush.ensures.grown
+    one_written c.args.streams.now.entries (g.S.Store.seen c.args.store.now) c.args.next.now c.loop-position.streams.entries (g.S.Store.seen c.loop-position.store) c.loop-position.next c.loop-position.position c.index_mut.result.now c.flush.new.self (g.S.Store.seen c.flush.new.store) c.flush.new.next
+    c.loop-position.invariant.flushed c.index_mut.ensures.value c.flush.ensures.labels c.flush.ensures.newest c.flush.ensures.head c.flush.ensures.entries c.flush.ensures.parts c.flush.ensures.kept c.flush.ensures.grown
 
-pub loop-place-preserved : goal.loop-place-preserved
-loop-place-preserved g c =
-    let rows = c.loop-place.streams.entries in
-    let row = with_key rows c.loop-place.place c.index_mut.result.now c.index_mut.ensures.value in
+pub loop-position-preserved : goal.loop-position-preserved
+loop-position-preserved g c =
+    let rows = c.loop-position.streams.entries in
+    let row = with_key rows c.loop-position.position c.index_mut.result.now c.index_mut.ensures.value in
     record {
-      flushed = one_written c.args.streams.now.entries (g.S.Store.seen c.args.store.now) c.args.next.now rows (g.S.Store.seen c.loop-place.store) c.loop-place.next c.loop-place.place c.index_mut.result.now c.flush.new.self (g.S.Store.seen c.flush.new.store) c.flush.new.next
-          c.loop-place.invariant.flushed c.index_mut.ensures.value c.flush.ensures.labels c.flush.ensures.newest c.flush.ensures.head c.flush.ensures.entries c.flush.ensures.parts c.flush.ensures.kept c.flush.ensures.grown;
-      many = length_set rows c.loop-place.place c.flush.new.self ∙ c.loop-place.invariant.many;
-      all = set_up_to (λ (r : Row). unwritten_count r.1.parts ≡ 0) rows c.loop-place.place row.0 c.index_mut.result.now c.flush.new.self row.1 c.loop-place.invariant.all c.in_ok-flush.ensures.all;
+      flushed = one_written c.args.streams.now.entries (g.S.Store.seen c.args.store.now) c.args.next.now rows (g.S.Store.seen c.loop-position.store) c.loop-position.next c.loop-position.position c.index_mut.result.now c.flush.new.self (g.S.Store.seen c.flush.new.store) c.flush.new.next
+          c.loop-position.invariant.flushed c.index_mut.ensures.value c.flush.ensures.labels c.flush.ensures.newest c.flush.ensures.head c.flush.ensures.entries c.flush.ensures.parts c.flush.ensures.kept c.flush.ensures.grown;
+      many = length_set rows c.loop-position.position c.flush.new.self ∙ c.loop-position.invariant.many;
+      all = set_up_to (λ (r : Row). unwritten_count r.1.parts ≡ 0) rows c.loop-position.position row.0 c.index_mut.result.now c.flush.new.self row.1 c.loop-position.invariant.all c.in_ok-flush.ensures.all;
     }
 
 pub returns-clause-all : goal.returns-clause-all
-returns-clause-all g c = none_left (λ (s : StreamView). filter (λ part. is_none part.note) s.parts) c.loop-place.streams.entries (λ k d low high. no_parts (get_or c.loop-place.streams.entries k d).1.parts (c.loop-place.invariant.all k d low (omega (arith, high, c.loop-place.invariant.many, c.len-place-end.ensures.len, c.loop-place-test.false))))
+returns-clause-all g c = none_left (λ (s : StreamView). filter (λ part. is_none part.note) s.parts) c.loop-position.streams.entries (λ k d low high. no_parts (get_or c.loop-position.streams.entries k d).1.parts (c.loop-position.invariant.all k d low (omega (arith, high, c.loop-position.invariant.many, c.len-position-end.ensures.len, c.loop-position-test.false))))

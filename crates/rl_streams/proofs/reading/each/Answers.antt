@@ -9,64 +9,64 @@ use Rattle.rl_parts.specs.StreamParts.{entries_of}
 use Rattle.rl_parts.specs.laws.UseLaws.{Looked-then}
 use Rattle.rl_streams.specs.Asking.{visited_of, AreOfRow}
 use Rattle.rl_streams.proofs.RowChanges.{within}
-use Rattle.rl_streams.proofs.Selecting.{AreFrom, chosen_there, from_more, no_place, right_at_all, selected_there, visited_at_all}
+use Rattle.rl_streams.proofs.Selecting.{AreFrom, chosen_there, from_more, no_position, right_at_all, selected_there, visited_at_all}
 use Rattle.rl_streams.proofs.Visited.{right_on, kept_there, of_row}
 use Rattle.rl_streams.proofs.reading.each.Goals as goal
 
 pub index-requires : goal.index-requires
 index-requires g c =
-    let chosen = selected_there c.args.selection.now.selector c.args.streams.now.entries c.places-place-items.result.now c.loop-place.place-index 0 (c.places-place-items.ensures ∙ c.requires.places) c.loop-place-test.true in
-    within c.args.streams.now.entries (get_or c.places-place-items.result.now c.loop-place.place-index 0) chosen.0 chosen.1
+    let chosen = selected_there c.args.selection.now.selector c.args.streams.now.entries c.positions-position-items.result.now c.loop-position.position-index 0 (c.positions-position-items.ensures ∙ c.requires.positions) c.loop-position-test.true in
+    within c.args.streams.now.entries (get_or c.positions-position-items.result.now c.loop-position.position-index 0) chosen.0 chosen.1
 
-pub loop-place-preserved : goal.loop-place-preserved
-loop-place-preserved g c =
+pub loop-position-preserved : goal.loop-position-preserved
+loop-position-preserved g c =
     let selector = c.args.selection.now.selector in
     let rows = c.args.streams.now.entries in
-    let places = c.args.selection.now.places in
-    let index = c.loop-place.place-index in
+    let positions = c.args.selection.now.positions in
+    let index = c.loop-position.position-index in
     let stream = c.index.result.now in
     let start = g.S.Store.seen c.args.store.now in
-    let seen = g.S.Store.seen c.loop-place.store in
-    let before = c.loop-place.invariant in
-    let items = c.places-place-items.ensures in
-    let within = subst (λ ps. index < length ps) items c.loop-place-test.true in
+    let seen = g.S.Store.seen c.loop-position.store in
+    let before = c.loop-position.invariant in
+    let items = c.positions-position-items.ensures in
+    let within = subst (λ ps. index < length ps) items c.loop-position-test.true in
     let at = subst (λ ps. slice_get (values_of rows) (get_or ps index 0) ≡ Some stream) items c.index.ensures in
-    let chosen = chosen_there selector rows places index stream c.requires.own c.requires.places within at in
-    let lines = of_row selector c.args.from c.args.to stream g.T.Taker.taking c.loop-place.taker c.each.new.taker chosen.1 (Ok tt) c.in_ok-each.ensures.pieces in
+    let chosen = chosen_there selector rows positions index stream c.requires.own c.requires.positions within at in
+    let lines = of_row selector c.args.from c.args.to stream g.T.Taker.taking c.loop-position.taker c.each.new.taker chosen.1 (Ok tt) c.in_ok-each.ensures.pieces in
     record {
       looked = Looked-then start seen (g.S.Store.seen c.each.new.store) before.looked c.each.ensures.looked;
-      visited = from_more (AreOfRow selector c.args.from c.args.to) g.T.Taker.taking rows places index 0 c.args.taker.now c.loop-place.taker c.each.new.taker within before.visited (lines.0, ((stream.labels, stream), chosen.0, lines.1), lines.2);
-      unread = λ none. absurd (no_place selector rows places index c.requires.places none within);
+      visited = from_more (AreOfRow selector c.args.from c.args.to) g.T.Taker.taking rows positions index 0 c.args.taker.now c.loop-position.taker c.each.new.taker within before.visited (lines.0, ((stream.labels, stream), chosen.0, lines.1), lines.2);
+      unread = λ none. absurd (no_position selector rows positions index c.requires.positions none within);
       right = λ next are honest.
-          let kept = kept_there selector c.args.from c.args.to rows (get_or places index 0) stream start seen next are before.looked at in
+          let kept = kept_there selector c.args.from c.args.to rows (get_or positions index 0) stream start seen next are before.looked at in
           let visited = c.in_ok-each.ensures.right next kept (before.looked.honest ∙ honest) in
-          from_more (λ row lines. lines ≡ visited_of selector c.args.from c.args.to row.0 row.1) g.T.Taker.taking rows places index 0 c.args.taker.now c.loop-place.taker c.each.new.taker within (before.right next are honest)
-          (visited_of selector c.args.from c.args.to stream.labels stream, ((stream.labels, stream), chosen.0, refl), visited ∙ ap (λ b. fold g.T.Taker.taking c.loop-place.taker (if b then visited_in_range c.args.from c.args.to (entries_of stream) else [])) (sym chosen.1));
+          from_more (λ row lines. lines ≡ visited_of selector c.args.from c.args.to row.0 row.1) g.T.Taker.taking rows positions index 0 c.args.taker.now c.loop-position.taker c.each.new.taker within (before.right next are honest)
+          (visited_of selector c.args.from c.args.to stream.labels stream, ((stream.labels, stream), chosen.0, refl), visited ∙ ap (λ b. fold g.T.Taker.taking c.loop-position.taker (if b then visited_in_range c.args.from c.args.to (entries_of stream) else [])) (sym chosen.1));
     }
 
 pub returns-in_err-each-clause-unread : goal.returns-in_err-each-clause-unread
 returns-in_err-each-clause-unread g c = λ none.
-    absurd (no_place c.args.selection.now.selector c.args.streams.now.entries c.args.selection.now.places c.loop-place.place-index c.requires.places none (subst (λ ps. c.loop-place.place-index < length ps) c.places-place-items.ensures c.loop-place-test.true))
+    absurd (no_position c.args.selection.now.selector c.args.streams.now.entries c.args.selection.now.positions c.loop-position.position-index c.requires.positions none (subst (λ ps. c.loop-position.position-index < length ps) c.positions-position-items.ensures c.loop-position-test.true))
 
 pub returns-in_err-each-clause-right : goal.returns-in_err-each-clause-right
 returns-in_err-each-clause-right g c = λ next are honest.
     let rows = c.args.streams.now.entries in
     let p = err_from_is_err_and c.from_residual.result c.from_residual.ensures.1 in
-    let kept = kept_there c.args.selection.now.selector c.args.from c.args.to rows (get_or c.places-place-items.result.now c.loop-place.place-index 0) c.index.result.now (g.S.Store.seen c.args.store.now) (g.S.Store.seen c.loop-place.store) next are c.loop-place.invariant.looked c.index.ensures in
-    rw (p.1, p.2) (right_on c.in_err-each.field-0.0 _ _ (c.in_err-each.ensures.right next kept (c.loop-place.invariant.looked.honest ∙ honest)))
+    let kept = kept_there c.args.selection.now.selector c.args.from c.args.to rows (get_or c.positions-position-items.result.now c.loop-position.position-index 0) c.index.result.now (g.S.Store.seen c.args.store.now) (g.S.Store.seen c.loop-position.store) next are c.loop-position.invariant.looked c.index.ensures in
+    rw (p.1, p.2) (right_on c.in_err-each.field-0.0 _ _ (c.in_err-each.ensures.right next kept (c.loop-position.invariant.looked.honest ∙ honest)))
 
 pub returns-clause-visited : goal.returns-clause-visited
 returns-clause-visited g c =
     let selector = c.args.selection.now.selector in
-    let places = c.args.selection.now.places in
-    let all = take_all c.loop-place.place-index places (subst (λ ps. length ps ≤ c.loop-place.place-index) c.places-place-items.ensures (omega (arith, c.loop-place-test.false))) in
-    visited_at_all selector c.args.from c.args.to g.T.Taker.taking c.args.streams.now.entries places c.args.taker.now c.loop-place.taker c.requires.places
-    (subst (λ ps. AreFrom (AreOfRow selector c.args.from c.args.to) g.T.Taker.taking c.args.streams.now.entries ps c.args.taker.now c.loop-place.taker) all c.loop-place.invariant.visited)
+    let positions = c.args.selection.now.positions in
+    let all = take_all c.loop-position.position-index positions (subst (λ ps. length ps ≤ c.loop-position.position-index) c.positions-position-items.ensures (omega (arith, c.loop-position-test.false))) in
+    visited_at_all selector c.args.from c.args.to g.T.Taker.taking c.args.streams.now.entries positions c.args.taker.now c.loop-position.taker c.requires.positions
+    (subst (λ ps. AreFrom (AreOfRow selector c.args.from c.args.to) g.T.Taker.taking c.args.streams.now.entries ps c.args.taker.now c.loop-position.taker) all c.loop-position.invariant.visited)
 
 pub returns-clause-right : goal.returns-clause-right
 returns-clause-right g c = λ next are honest.
     let selector = c.args.selection.now.selector in
-    let places = c.args.selection.now.places in
-    let all = take_all c.loop-place.place-index places (subst (λ ps. length ps ≤ c.loop-place.place-index) c.places-place-items.ensures (omega (arith, c.loop-place-test.false))) in
-    right_at_all selector c.args.from c.args.to g.T.Taker.taking c.args.streams.now.entries places c.args.taker.now c.loop-place.taker c.requires.places
-    (subst (λ ps. AreFrom (λ row lines. lines ≡ visited_of selector c.args.from c.args.to row.0 row.1) g.T.Taker.taking c.args.streams.now.entries ps c.args.taker.now c.loop-place.taker) all (c.loop-place.invariant.right next are honest))
+    let positions = c.args.selection.now.positions in
+    let all = take_all c.loop-position.position-index positions (subst (λ ps. length ps ≤ c.loop-position.position-index) c.positions-position-items.ensures (omega (arith, c.loop-position-test.false))) in
+    right_at_all selector c.args.from c.args.to g.T.Taker.taking c.args.streams.now.entries positions c.args.taker.now c.loop-position.taker c.requires.positions
+    (subst (λ ps. AreFrom (λ row lines. lines ≡ visited_of selector c.args.from c.args.to row.0 row.1) g.T.Taker.taking c.args.streams.now.entries ps c.args.taker.now c.loop-position.taker) all (c.loop-position.invariant.right next are honest))

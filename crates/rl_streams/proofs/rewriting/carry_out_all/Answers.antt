@@ -16,13 +16,13 @@ pub index_mut-requires : goal.index_mut-requires
 index_mut-requires g c =
     let loop = c.loop-plan in
     let of = of_split c.args.streams.now.entries c.args.plans.items loop.yielded loop.plan-iterator.rest.items c.in-Some.plan c.next.new.self.rest.items loop.invariant.split c.in-Some.ensures.steps.0 c.requires in
-    below_next c.args.streams.now.entries loop.yielded c.in-Some.plan c.next.new.self.rest.items of loop.streams.entries loop.place loop.invariant.rows loop.invariant.many
+    below_next c.args.streams.now.entries loop.yielded c.in-Some.plan c.next.new.self.rest.items of loop.streams.entries loop.position loop.invariant.rows loop.invariant.many
 
 pub carry_out-gone-requires : goal.carry_out-gone-requires
 carry_out-gone-requires g c =
     let loop = c.loop-plan in
     let of = of_split c.args.streams.now.entries c.args.plans.items loop.yielded loop.plan-iterator.rest.items c.in-Some.plan c.next.new.self.rest.items loop.invariant.split c.in-Some.ensures.steps.0 c.requires in
-    at_next c.args.streams.now.entries loop.yielded c.in-Some.plan c.next.new.self.rest.items of loop.streams.entries loop.place c.index_mut.result.now loop.invariant.rows loop.invariant.many c.index_mut.ensures.value
+    at_next c.args.streams.now.entries loop.yielded c.in-Some.plan c.next.new.self.rest.items of loop.streams.entries loop.position c.index_mut.result.now loop.invariant.rows loop.invariant.many c.index_mut.ensures.value
 
 pub loop-plan-preserved : goal.loop-plan-preserved
 loop-plan-preserved g c =

@@ -6,7 +6,7 @@ use Rattle.rl_streams.proofs.rewriting.carry_out_all.Given as goal
 abbrev pub invariant-loop-plan : goal.invariant-loop-plan
 invariant-loop-plan g l = record {
   split : l.yielded ++ l.plan-iterator.rest.items ≡ l.fn.plans.items;
-  many : l.place ≡ length l.yielded;
+  many : l.position ≡ length l.yielded;
   rows : l.streams.entries ≡ rewritten l.fn.streams.entries l.yielded;
   removed : AreRemoved (g.S.Store.seen l.fn.store) (numbers_gone l.yielded) (g.S.Store.seen l.store);
 }

@@ -3,5 +3,5 @@ use Rattle.std.proofs.Common.{◌≡◌, length, take}
 use Rattle.rl_streams.specs.StreamRows.{joined}
 use Rattle.rl_streams.proofs.rewriting.count.Given as goal
 
-abbrev pub invariant-loop-place : goal.invariant-loop-place
-invariant-loop-place l = l.count ≡ length (joined (take l.place l.streams.entries))
+abbrev pub invariant-loop-position : goal.invariant-loop-position
+invariant-loop-position l = l.count ≡ length (joined (take l.position l.streams.entries))

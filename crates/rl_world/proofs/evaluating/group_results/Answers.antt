@@ -10,17 +10,17 @@ use Rattle.rl_world.proofs.evaluating.group_results.Goals as goal
 pub results-requires-2-clause-terms : goal.results-requires-2-clause-terms
 results-requires-2-clause-terms c =
     ap (λ partials. length partials) (c.deref.ensures.value ∙ c.in_ok-partials.ensures)
-    ∙ length-merged_terms 0 c.args.terms (flat_map option_to_list c.args.slots.now)
+    ∙ length-merged_terms 0 c.args.terms (flat_map option_to_list c.args.answers.now)
     ∙ c.requires.terms
     ∙ ap (λ rules. length (flat_map (λ rule. terms_of rule.query) rules)) (sym c.as_slice-rules.ensures)
 
 pub results-requires-2-clause-limited : goal.results-requires-2-clause-limited
 results-requires-2-clause-limited c =
-    subst (AllByRecursion IsLimited) (sym (c.deref.ensures.value ∙ c.in_ok-partials.ensures)) (merged_terms-limited 0 c.args.terms c.args.terms c.args.slots.now c.requires.shards (omega arith) c.requires.slots)
+    subst (AllByRecursion IsLimited) (sym (c.deref.ensures.value ∙ c.in_ok-partials.ensures)) (merged_terms-limited 0 c.args.terms c.args.terms c.args.answers.now c.requires.shards (omega arith) c.requires.answers)
 
 pub returns-in-Some-clause-results : goal.returns-in-Some-clause-results
 returns-in-Some-clause-results c =
-    let given = c.as_slice-partials.ensures ∙ merged_terms-lone c.args.terms c.args.slots.now c.slot-item.result c.in-Some.answer c.in-len1.len_below c.in-len1.len_at_least c.slot-item.is c.in-Some.is c.requires.slots in
-    subst (λ rules. IfOk c.results.result (λ made. made.0.items ≡ results_from c.args.group.now.limit c.args.t rules c.args.alerts.now (merged_terms 0 c.args.terms (flat_map option_to_list c.args.slots.now)))) c.as_slice-rules.ensures (
+    let given = c.as_slice-partials.ensures ∙ merged_terms-lone c.args.terms c.args.answers.now c.answered-item.result c.in-Some.answer c.in-len1.len_below c.in-len1.len_at_least c.answered-item.is c.in-Some.is c.requires.answers in
+    subst (λ rules. IfOk c.results.result (λ made. made.0.items ≡ results_from c.args.group.now.limit c.args.t rules c.args.alerts.now (merged_terms 0 c.args.terms (flat_map option_to_list c.args.answers.now)))) c.as_slice-rules.ensures (
     subst (λ partials. IfOk c.results.result (λ made. made.0.items ≡ results_from c.args.group.now.limit c.args.t c.as_slice-rules.result.now c.args.alerts.now partials)) given c.results.ensures.results
     )

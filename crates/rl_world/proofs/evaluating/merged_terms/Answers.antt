@@ -8,7 +8,7 @@ pub loop-term-preserved : goal.loop-term-preserved
 loop-term-preserved c =
     let term = c.loop-term.term in
     let terms = c.args.terms in
-    let answers = flat_map option_to_list c.args.slots.now in
+    let answers = flat_map option_to_list c.args.answers.now in
     let done = c.loop-term.partials.items in
     let pushed : c.push.new.self.items ≡ done ++ merged_from no_partial term answers ∷ [] = c.in_ok-push.ensures.items ∙ ap (λ own. done ++ own ∷ []) (c.in_ok-shared.ensures ∙ c.in_ok-partial.ensures) in
     ap (λ items. items ++ merged_terms (term + 1) (terms - (term + 1)) answers) pushed

@@ -7,7 +7,7 @@ use Rattle.rl_parts.specs.StreamParts.{PartView}
 use Rattle.rl_parts.specs.PartState.{part_at}
 use Rattle.rl_parts.specs.StoreUse.{IsKept, Right}
 use Rattle.rl_parts.specs.Reading.{IsHandedOut, lines_in_range, visited_in_range}
-use Rattle.rl_parts.specs.declared.part.Place.TheVariants.{Here, InStore}
+use Rattle.rl_parts.specs.declared.part.Location.TheVariants.{Here, InStore}
 use Rattle.rl_parts.proofs.Handing.{lines_visited, one_piece}
 use Rattle.rl_parts.proofs.Refusals.{on_ok_then}
 use Rattle.rl_parts.proofs.part.Part.hand_out.Goals as goal

@@ -2,7 +2,7 @@
 use Rattle.std.proofs.Common.{◌≡◌, length, sym, ap, subst, ◌∙◌}
 use Rattle.rl_parts.specs.StreamParts.{PartView}
 use Rattle.rl_parts.specs.PartState.{RangeAndMarksAreKept, part_at}
-use Rattle.rl_parts.specs.declared.part.Place.TheVariants.{InStore}
+use Rattle.rl_parts.specs.declared.part.Location.TheVariants.{InStore}
 use Rattle.rl_parts.proofs.Leaving.{marks_len}
 use Rattle.rl_parts.proofs.part.Part.len.Goals as goal
 

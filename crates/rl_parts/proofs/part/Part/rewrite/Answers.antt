@@ -4,7 +4,7 @@ use Rattle.rl_labels.specs.declared.entry.Entry.{Entry}
 use Rattle.rl_parts.specs.StreamParts.{PartView, IsPart}
 use Rattle.rl_parts.specs.PartState.{part_at}
 use Rattle.rl_parts.specs.Rewriting.{AreRewritten, IsChangedHere, gone_by, left_by}
-use Rattle.rl_parts.specs.declared.part.Place.TheVariants.{Here}
+use Rattle.rl_parts.specs.declared.part.Location.TheVariants.{Here}
 use Rattle.rl_parts.proofs.Leaving.{here_rewritten}
 use Rattle.rl_parts.proofs.part.Part.rewrite.Goals as goal
 

@@ -11,10 +11,10 @@ pub returns-in-Some : goal.returns-in-Some
 returns-in-Some c streams requests are stands =
     let kept = c.args.self.now.kept.items in
     let of = λ (one : KeptRange). one.range in
-    let at = subst (λ (kept : List KeptRange). option_map of (slice_get kept c.in-Some.place) ≡ Some c.args.range.now) c.deref.ensures.value (known_range of c.deref.result.now c.in-Some.place c.args.range.now c.in-Some.ensures) in
-    let same = range_is kept c.in-Some.place c.args.range.now c.index_mut-one.result.now at c.index_mut-one.ensures.value in
+    let at = subst (λ (kept : List KeptRange). option_map of (slice_get kept c.in-Some.index) ≡ Some c.args.range.now) c.deref.ensures.value (known_range of c.deref.result.now c.in-Some.index c.args.range.now c.in-Some.ensures) in
+    let same = range_is kept c.in-Some.index c.args.range.now c.index_mut-one.result.now at c.index_mut-one.ensures.value in
     record {
-      each = all_set (IsKept streams requests c.args.self.now.turn) kept c.in-Some.place _ are.each (record {
+      each = all_set (IsKept streams requests c.args.self.now.turn) kept c.in-Some.index _ are.each (record {
         was = omega arith;
         stands = λ _. subst (λ (range : LogRange). StandsFor streams requests range c.args.first c.args.lasts c.args.partial) (sym same) stands;
       });

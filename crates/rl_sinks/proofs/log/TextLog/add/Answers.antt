@@ -12,4 +12,4 @@ invariant_of-self-2 g c =
     let here = c.self.invariant.open_in_texts (subst (λ closed. IsTrue (not closed)) (sym c.if-self.false) refl) in
     let more = place_after s.texts.items (c.from_string.result ∷ []) s.next s.part here in
     subst (λ texts. IsLogged texts s.next s.part s.closed) (sym c.in_ok-push.ensures.items)
-    (record { place = place_after (s.texts.items ++ c.from_string.result ∷ []) (end_pieces _) s.next s.part more; open_in_texts = λ _. more })
+    (record { position = place_after (s.texts.items ++ c.from_string.result ∷ []) (end_pieces _) s.next s.part more; open_in_texts = λ _. more })

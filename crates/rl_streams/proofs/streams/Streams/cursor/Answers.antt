@@ -13,7 +13,7 @@ returns-clause-left g c = λ honest.
     let to = c.args.to in
     let e = c.new.ensures in
     let none = e.lines ∙ c.new-lines.ensures in
-    let same : left_in c.new.result ≡ left selector from to (order_of c.args.self.now) 0 [] = λ i. left (e.asks.0 i) (e.asks.1 i) (e.asks.2 i) (order_of (e.streams i)) (e.place i) (none i) in
+    let same : left_in c.new.result ≡ left selector from to (order_of c.args.self.now) 0 [] = λ i. left (e.asks.0 i) (e.asks.1 i) (e.asks.2 i) (order_of (e.streams i)) (e.position i) (none i) in
     subst (AreVisitedOnce selector from to c.args.self.now.held (λ lines line. lines ++ line ∷ []) []) (sym same)
     (subst (λ (view : StreamsView). view.seen.honest ≡ true → AreVisitedOnce selector from to view.held (λ lines line. lines ++ line ∷ []) [] (left selector from to (order_of view) 0 [])) c.self.view_is
     (λ honest. left_once selector from to c.self.inside.streams.entries (c.self.invariant.0.streams.once honest)) honest)

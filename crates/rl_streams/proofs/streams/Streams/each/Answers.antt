@@ -10,7 +10,7 @@ use Rattle.rl_streams.specs.StreamsState.{StreamsView, view_of}
 use Rattle.rl_streams.specs.HeldSet.{set_of}
 use Rattle.rl_streams.specs.Selected.{SelectionView}
 use Rattle.rl_streams.specs.StreamRows.{Row, joined, newest_in, newest_map}
-use Rattle.rl_streams.proofs.Selecting.{all_places, found_is, kept_there}
+use Rattle.rl_streams.proofs.Selecting.{all_positions, found_is, kept_there}
 use Rattle.rl_streams.proofs.Visited.{right_then, visited_once, rows_not_selected}
 use Rattle.rl_streams.proofs.Whole.{looked_whole}
 use Rattle.rl_streams.proofs.streams.Streams.each.Goals as goal
@@ -18,11 +18,11 @@ use Rattle.rl_streams.proofs.streams.Streams.each.Goals as goal
 pub invariant_of-self : goal.invariant_of-self
 invariant_of-self g c = (c.self.invariant.0, c.select.ensures.kept)
 
-pub each-requires-clause-places : goal.each-requires-clause-places
-each-requires-clause-places g c =
+pub each-requires-clause-positions : goal.each-requires-clause-positions
+each-requires-clause-positions g c =
     let s = c.self.inside in
-    let all = found_is (λ (one : SelectionView). one.asked) c.select.new.self c.in_ok-place.place c.at-selection.result.now (length s.streams.entries) c.at-selection.ensures c.in_ok-place.ensures.asked in
-    all_places (keys_of s.streams.entries) c.at-selection.result.now (kept_there (keys_of s.streams.entries) c.select.new.self c.in_ok-place.place c.at-selection.result.now c.select.ensures.kept c.at-selection.ensures) (all ∙ sym (length-map s.streams.entries (λ (row : Row). row.0)))
+    let all = found_is (λ (one : SelectionView). one.asked) c.select.new.self c.in_ok-position.position c.at-selection.result.now (length s.streams.entries) c.at-selection.ensures c.in_ok-position.ensures.asked in
+    all_positions (keys_of s.streams.entries) c.at-selection.result.now (kept_there (keys_of s.streams.entries) c.select.new.self c.in_ok-position.position c.at-selection.result.now c.select.ensures.kept c.at-selection.ensures) (all ∙ sym (length-map s.streams.entries (λ (row : Row). row.0)))
 
 pub invariant_of-self-2 : goal.invariant_of-self-2
 invariant_of-self-2 g c =
@@ -32,13 +32,13 @@ invariant_of-self-2 g c =
 pub returns-clause-unread : goal.returns-clause-unread
 returns-clause-unread g c = λ none.
     let s = c.self.inside in
-    let chosen = found_is (λ (one : SelectionView). one.selector) c.select.new.self c.in_ok-place.place c.at-selection.result.now c.args.selector.now c.at-selection.ensures c.in_ok-place.ensures.found in
+    let chosen = found_is (λ (one : SelectionView). one.selector) c.select.new.self c.in_ok-position.position c.at-selection.result.now c.args.selector.now c.at-selection.ensures c.in_ok-position.ensures.found in
     let same = c.each.ensures.unread (rows_not_selected c.at-selection.result.now.selector s.streams.entries (subst (λ matchers. NoneSelected matchers (newest_map (newest_in s.streams.entries))) (sym chosen) (subst (λ (view : StreamsView). NoneSelected c.args.selector.now view.newest) (sym c.self.view_is) none))) in
     ap (λ seen. view_of s.limits s.streams.entries seen s.next) same ∙ c.self.view_is
 
 pub returns-clause-visited : goal.returns-clause-visited
 returns-clause-visited g c =
-    let chosen = found_is (λ (one : SelectionView). one.selector) c.select.new.self c.in_ok-place.place c.at-selection.result.now c.args.selector.now c.at-selection.ensures c.in_ok-place.ensures.found in
+    let chosen = found_is (λ (one : SelectionView). one.selector) c.select.new.self c.in_ok-position.position c.at-selection.result.now c.args.selector.now c.at-selection.ensures c.in_ok-position.ensures.found in
     subst (λ (view : StreamsView). OnOk c.each.result (AreVisited g.T.Taker.taking c.args.selector.now c.args.from c.args.to view.rows c.args.taker.now c.each.new.taker)) c.self.view_is
     (subst (λ matchers. OnOk c.each.result (AreVisited g.T.Taker.taking matchers c.args.from c.args.to c.self.inside.streams.entries c.args.taker.now c.each.new.taker)) chosen c.each.ensures.visited)
 
@@ -48,7 +48,7 @@ returns-clause-right g c =
     let rows = s.streams.entries in
     let before = c.args.taker.now in
     let after = c.each.new.taker in
-    let chosen = found_is (λ (one : SelectionView). one.selector) c.select.new.self c.in_ok-place.place c.at-selection.result.now c.args.selector.now c.at-selection.ensures c.in_ok-place.ensures.found in
+    let chosen = found_is (λ (one : SelectionView). one.selector) c.select.new.self c.in_ok-position.position c.at-selection.result.now c.args.selector.now c.at-selection.ensures c.in_ok-position.ensures.found in
     subst (λ (view : StreamsView). view.seen.honest ≡ true → Right c.each.result (λ _. AreVisitedOnce c.args.selector.now c.args.from c.args.to view.held g.T.Taker.taking before after)) c.self.view_is
     (subst (λ matchers. (g.S.Store.seen s.store).honest ≡ true → Right c.each.result (λ _. AreVisitedOnce matchers c.args.from c.args.to (set_of (joined rows)) g.T.Taker.taking before after)) chosen
     (λ honest. right_then (λ _. after ≡ fold g.T.Taker.taking before (visited_by c.at-selection.result.now.selector c.args.from c.args.to rows)) (λ _. AreVisitedOnce c.at-selection.result.now.selector c.args.from c.args.to (set_of (joined rows)) g.T.Taker.taking before after)

@@ -19,7 +19,7 @@ returns-clause-right g c =
     let selector = c.args.selector.now in
     let before = c.args.lines.now in
     let after = c.each_selected.new.taker in
-    subst (λ (view : StreamsView). view.seen.honest ≡ true → Right c.each_selected.result (λ _. after ≡ before ++ visited_at selector c.args.from c.args.to (order_of view) c.args.place)) c.self.view_is
-    (λ honest. right_then (λ _. after ≡ fold (λ lines line. lines ++ line ∷ []) before (visited_of selector c.args.from c.args.to stream.labels stream)) (λ _. after ≡ before ++ visited_at selector c.args.from c.args.to (by_stream rows) c.args.place)
-    (λ _ is. is ∙ fold-pushed before (visited_of selector c.args.from c.args.to stream.labels stream) ∙ ap (λ l. before ++ l) (visited_here selector c.args.from c.args.to rows c.args.place stream c.self.invariant.0.streams.own c.index.ensures)) c.each_selected.result
-    (c.each_selected.ensures.right s.next (kept_there selector c.args.from c.args.to rows c.args.place stream seen seen s.next c.self.invariant.0.streams (Looked-none seen) c.index.ensures) honest))
+    subst (λ (view : StreamsView). view.seen.honest ≡ true → Right c.each_selected.result (λ _. after ≡ before ++ visited_at selector c.args.from c.args.to (order_of view) c.args.position)) c.self.view_is
+    (λ honest. right_then (λ _. after ≡ fold (λ lines line. lines ++ line ∷ []) before (visited_of selector c.args.from c.args.to stream.labels stream)) (λ _. after ≡ before ++ visited_at selector c.args.from c.args.to (by_stream rows) c.args.position)
+    (λ _ is. is ∙ fold-pushed before (visited_of selector c.args.from c.args.to stream.labels stream) ∙ ap (λ l. before ++ l) (visited_here selector c.args.from c.args.to rows c.args.position stream c.self.invariant.0.streams.own c.index.ensures)) c.each_selected.result
+    (c.each_selected.ensures.right s.next (kept_there selector c.args.from c.args.to rows c.args.position stream seen seen s.next c.self.invariant.0.streams (Looked-none seen) c.index.ensures) honest))

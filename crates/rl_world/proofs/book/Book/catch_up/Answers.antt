@@ -27,6 +27,6 @@ invariant_of-self g c =
       few = c.self.invariant.few;
       group_is = c.self.invariant.group_is;
       evaluations_are = c.self.invariant.evaluations_are;
-      slots = c.self.invariant.slots;
+      answers = c.self.invariant.answers;
       prefixes = subst (λ sinks. AllByRecursion (TookPrefix inside.evaluations.items) (map state sinks)) (sym same) offered;
     }

@@ -18,7 +18,7 @@ invariant_of-self g c =
       few = c.self.invariant.few;
       group_is = c.self.invariant.group_is;
       evaluations_are = c.self.invariant.evaluations_are;
-      slots = c.self.invariant.slots;
+      answers = c.self.invariant.answers;
       prefixes = took_prefix-put g.S.Sink.state book.evaluations.items book.sinks.items c.close_all.new.sinks book.sinks.len (omega (arith, book.sinks.ok.0)) is_closed c.self.invariant.prefixes;
     }
 

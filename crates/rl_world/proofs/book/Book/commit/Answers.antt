@@ -41,7 +41,7 @@ invariant_of-self-2 g c =
       few = omega (arith, one_more items c.push_reserved.new.self.items (kinds.Evaluated evaluation) more, room);
       group_is = c.self.invariant.group_is ∙ sym (group-evaluated evaluation inside.first items) ∙ ap (group_after inside.first) (sym more);
       evaluations_are = c.in_ok-push.ensures.items ∙ ap (λ evaluations. evaluations ++ evaluation ∷ []) c.self.invariant.evaluations_are ∙ sym (evaluations-evaluated evaluation items) ∙ ap evaluations_in (sym more);
-      slots = holds_of_none _ c.close.new.opened c.close.ensures;
+      answers = holds_of_none _ c.close.new.opened c.close.ensures;
       prefixes = subst (λ sinks. AllByRecursion (TookPrefix c.push.new.self.items) (map state sinks)) (sym same) offered;
     }
 

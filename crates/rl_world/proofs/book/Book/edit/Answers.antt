@@ -26,6 +26,6 @@ invariant_of-self-2 g c =
       few = omega (arith, one_more items c.push.new.self.items (kinds.Edited to) more, room);
       group_is = c.in_ok-group.ensures ∙ sym (group-edited to inside.first items) ∙ ap (group_after inside.first) (sym more);
       evaluations_are = c.self.invariant.evaluations_are ∙ sym (evaluations-edited to items) ∙ ap evaluations_in (sym more);
-      slots = holds_of_none _ inside.opened (none_there inside.opened (sym c.is_some-busy.ensures ∙ c.if-busy.false));
+      answers = holds_of_none _ inside.opened (none_there inside.opened (sym c.is_some-busy.ensures ∙ c.if-busy.false));
       prefixes = c.self.invariant.prefixes;
     }

@@ -5,7 +5,7 @@ use std::fmt::Write;
 
 /// The line of a session, the group and the rule that a fault is in, as far as it is in one.
 #[derive(Clone, Copy)]
-pub(crate) struct Place<'a> {
+pub(crate) struct Location<'a> {
     line: Option<usize>,
     group: Option<Spot<'a>>,
     rule: Option<Spot<'a>>,
@@ -18,10 +18,10 @@ pub(crate) struct Spot<'a> {
     pub(crate) number: usize,
 }
 
-impl<'a> Place<'a> {
+impl<'a> Location<'a> {
     /// A document as a whole, on a line of a session or in a file of its own.
     pub(crate) fn whole(line: Option<usize>) -> Self {
-        Place {
+        Location {
             line,
             group: None,
             rule: None,
@@ -30,7 +30,7 @@ impl<'a> Place<'a> {
 
     /// A group of it.
     pub(crate) fn of_group(self, group: Spot<'a>) -> Self {
-        Place {
+        Location {
             line: self.line,
             group: Some(group),
             rule: None,
@@ -39,7 +39,7 @@ impl<'a> Place<'a> {
 
     /// A rule of that.
     pub(crate) fn of_rule(self, rule: Spot<'a>) -> Self {
-        Place {
+        Location {
             line: self.line,
             group: self.group,
             rule: Some(rule),
@@ -48,24 +48,24 @@ impl<'a> Place<'a> {
 }
 
 /// Writes the position as `line 7: group shop, rule Errors: `, as much as there is of it.
-pub(crate) fn push_place(text: &mut String, place: &Place<'_>) -> Result<(), OutOfMemory> {
-    if let Some(line) = place.line {
+pub(crate) fn push_location(text: &mut String, location: &Location<'_>) -> Result<(), OutOfMemory> {
+    if let Some(line) = location.line {
         write!(text, "line {line}: ")?;
     }
-    if place.group.is_some() {
-        push_names(text, place)?;
+    if location.group.is_some() {
+        push_names(text, location)?;
         text.push_str(": ")?;
     }
     Ok(())
 }
 
 /// Writes the group and the rule as `group shop, rule Errors`.
-pub(crate) fn push_names(text: &mut String, place: &Place<'_>) -> Result<(), OutOfMemory> {
-    if let Some(group) = place.group {
+pub(crate) fn push_names(text: &mut String, location: &Location<'_>) -> Result<(), OutOfMemory> {
+    if let Some(group) = location.group {
         text.push_str("group ")?;
         push_spot(text, group)?;
     }
-    if let Some(rule) = place.rule {
+    if let Some(rule) = location.rule {
         text.push_str(", rule ")?;
         push_spot(text, rule)?;
     }
@@ -89,17 +89,17 @@ pub(crate) struct Line<'a> {
 }
 
 /// A text cut in two at a byte, where one of its characters begins there.
-pub(crate) fn cut_at(text: &str, place: usize) -> (&str, &str) {
-    if text.is_char_boundary(place) {
-        text.split_at(place)
+pub(crate) fn cut_at(text: &str, location: usize) -> (&str, &str) {
+    if text.is_char_boundary(location) {
+        text.split_at(location)
     } else {
         (text, "")
     }
 }
 
 /// The line that has the byte, or the last one where the text is no longer.
-pub(crate) fn line_at(text: &str, place: usize) -> Line<'_> {
-    let (front, back) = cut_at(text, place);
+pub(crate) fn line_at(text: &str, location: usize) -> Line<'_> {
+    let (front, back) = cut_at(text, location);
     let before = match front.rsplit_once('\n') {
         Some((_, before)) => before,
         None => front,

@@ -3,7 +3,7 @@ use Rattle.std.proofs.Common.{◌≡◌, ◌<◌, length, sym, ◌∙◌, arith,
 use Rattle.std.specs.Cmp.Lexicographic.{slice_cmp}
 use Rattle.std.specs.declared.cmp.Ordering.TheVariants.{Equal, Greater}
 use Rattle.rl_json.proofs.JsonData.{above_more, placed_on}
-use Rattle.rl_json.proofs.members.place_of.Goals as goal
+use Rattle.rl_json.proofs.members.span_of.Goals as goal
 
 pub returns-in-Equal-clause-placed : goal.returns-in-Equal-clause-placed
 returns-in-Equal-clause-placed c = λ d.
