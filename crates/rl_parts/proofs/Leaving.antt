@@ -25,7 +25,7 @@ use Rattle.rl_parts.specs.declared.plan.Change.{Change}
 use Rattle.rl_parts.specs.declared.plan.Change.TheVariants.{Stays, Goes, Becomes}
 use Rattle.rl_parts.specs.Marks.{AreMarks, mark, marks_of}
 use Rattle.rl_parts.specs.laws.RewriteLaws.{AreRenumbered-all, AreRenumbered-none, AreRenumbered-then, range-none}
-use Rattle.rl_parts.specs.laws.TakerLaws.{AllZip-append}
+use Rattle.rl_parts.specs.laws.VisitorLaws.{AllZip-append}
 use Rattle.rl_parts.specs.laws.UseLaws.{Grown-none, each_part, IsKept-grown}
 use Rattle.rl_parts.proofs.Lines.{lines_compare}
 

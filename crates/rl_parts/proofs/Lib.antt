@@ -1,6 +1,6 @@
 pub mod Crossing
 pub mod Finding
-pub mod Handing
+pub mod Visits
 pub mod Heads
 pub mod InOrder
 pub mod Leaving

@@ -68,7 +68,7 @@ IsPiece labels from to part piece = MatchOption part.note (piece ≡ visited_in_
     (λ note. (IsApart from to part.entries × (piece ≡ [])) ⊎ ((chunk : Chunk) × IsReadAs note.digest chunk × (piece ≡ lines_in_range labels from to chunk.lines)))
 
 -- a piece of each part in turn was visited, and this is what the visitor became by them
-pub record IsHandedOut {T : Type 0} (taking : T → LabelSet × Line → T) (labels : LabelSet) (from to : ℕ) (parts : List PartView) (old new : T) : Type 0 where
+pub record IsVisited {T : Type 0} (visiting : T → LabelSet × Line → T) (labels : LabelSet) (from to : ℕ) (parts : List PartView) (old new : T) : Type 0 where
   pub pieces : List (List (LabelSet × Line))
   pub each : AllZip (IsPiece labels from to) parts pieces
-  pub following : new ≡ fold taking old (flat_map (λ piece. piece) pieces)
+  pub following : new ≡ fold visiting old (flat_map (λ piece. piece) pieces)

@@ -1,5 +1,5 @@
 -- Laws that the crates above rest on.
 pub mod NoteLaws
 pub mod RewriteLaws
-pub mod TakerLaws
+pub mod VisitorLaws
 pub mod UseLaws

@@ -4,14 +4,14 @@
 //!   there. `part`: `Part`, sealed entries, in memory or in a store.
 //! - `plan`: `Plan`, what a stream becomes without entries that are covered. It is made first, and then carried out.
 //! - `fetching`: `fetch`, a chunk of a store whose bytes have a digest.
-//! - `taker`: `Taker`, a visitor of the lines of a stream.
+//! - `visitor`: `Visitor`, a visitor of the lines of a stream.
 //! - `fault`: why reading, writing or rewriting was refused. `sending`: a probe for what may cross to another thread.
 #![tactic(auto)]
 
 pub mod fault;
 pub mod fetching;
 mod flushing;
-mod handing_out;
+mod visiting_lines;
 mod held;
 mod marks;
 pub mod part;
@@ -21,11 +21,11 @@ mod sealing;
 mod searching;
 pub mod sending;
 pub mod stream;
-pub mod taker;
+pub mod visitor;
 
 pub use fault::{FlushFault, ReadFault, RewriteFault};
 pub use fetching::fetch;
 pub use part::Part;
 pub use plan::Plan;
 pub use stream::Stream;
-pub use taker::Taker;
+pub use visitor::Visitor;

@@ -1,12 +1,12 @@
 //! Sealed entries of a stream, in memory or in a store.
 use crate::fault::{FlushFault, ReadFault, RewriteFault};
 use crate::flushing::write_entries;
-use crate::handing_out::{hand_all, hand_written};
+use crate::visiting_lines::{visit_all, visit_written};
 use crate::held::Held;
 use crate::plan::Change;
 use crate::rewriting::{rewrite_here, rewrite_written};
 use crate::searching::{has_entry, has_written};
-use crate::taker::Taker;
+use crate::visitor::Visitor;
 use rl_chunks::Store;
 use rl_labels::{Covers, Entry, Labels, Ns};
 use rl_plain::PlainList;
@@ -59,7 +59,7 @@ impl Part {
     ghost use Rattle.std.specs.List.{Contains, fold};
     ghost use Rattle.rl_parts.specs.StreamParts.{IsPart, unwritten};
     ghost use Rattle.rl_parts.specs.StoreUse.{Looked, Grown, IsKept, Right, ReadCause, FlushCause};
-    ghost use Rattle.rl_parts.specs.Reading.{IsOutside, IsWith, IsWithout, IsHandedOut, in_memory, in_store, visited_in_range};
+    ghost use Rattle.rl_parts.specs.Reading.{IsOutside, IsWith, IsWithout, IsVisited, in_memory, in_store, visited_in_range};
     ghost use Rattle.rl_parts.specs.Changes.{AreNoted};
     ghost use Rattle.rl_parts.specs.Marks.{AreMarks};
     ghost use Rattle.rl_parts.specs.PartState.{IsRange};
@@ -160,27 +160,27 @@ impl Part {
     }
 
     // Visits the entries of the range.
-    pub(crate) fn hand_out<S: Store, T: Taker>(
+    pub(crate) fn visit_lines<S: Store, T: Visitor>(
         &self,
         alloc: Global,
         store: &mut S,
         labels: &Labels,
         from: Ns,
         to: Ns,
-        taker: &mut T,
+        visitor: &mut T,
     ) -> Result<(), ReadFault>
         requires { IsPart labels.now self.now }
         ensures looked { Looked (S.seen store.old) (S.seen store.new) }
         ensures cause { IfErr result (ReadCause (S.seen store.old) (S.seen store.new)) }
         ensures unread { IsOutside from to self.now → S.seen store.new ≡ S.seen store.old }
-        ensures visited { IsOutside from to self.now → OnOk result (taker.new ≡ fold T.taking taker.old (visited_in_range from to self.now.entries)) }
-        ensures piece { OnOk result (IsHandedOut T.taking labels.now from to (self.now ∷ []) taker.old taker.new) }
-        ensures right { (next : ℕ) → IsKept (S.seen store.old) next labels.now self.now → (S.seen store.old).honest ≡ true → Right result (λ _. taker.new ≡ fold T.taking taker.old (visited_in_range from to self.now.entries)) }
+        ensures visited { IsOutside from to self.now → OnOk result (visitor.new ≡ fold T.visiting visitor.old (visited_in_range from to self.now.entries)) }
+        ensures piece { OnOk result (IsVisited T.visiting labels.now from to (self.now ∷ []) visitor.old visitor.new) }
+        ensures right { (next : ℕ) → IsKept (S.seen store.old) next labels.now self.now → (S.seen store.old).honest ≡ true → Right result (λ _. visitor.new ≡ fold T.visiting visitor.old (visited_in_range from to self.now.entries)) }
     {
         match &self.location {
-            Location::Here(entries) => hand_all(labels, entries.as_slice(), from, to, taker)?,
+            Location::Here(entries) => visit_all(labels, entries.as_slice(), from, to, visitor)?,
             Location::InStore(written) => {
-                return hand_written(alloc, store, written, labels, from, to, taker);
+                return visit_written(alloc, store, written, labels, from, to, visitor);
             }
         }
         Ok(())

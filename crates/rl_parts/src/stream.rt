@@ -3,14 +3,14 @@ ghost use Rattle.std.specs.Prelude.{◌≡◌, ℕ, ◌<◌, ◌≤◌, ◌^◌,
 
 use crate::fault::{FlushFault, ReadFault, RewriteFault};
 use crate::flushing::write_parts;
-use crate::handing_out::{hand_all, hand_parts};
+use crate::visiting_lines::{visit_all, visit_parts};
 use crate::held::{Held, with_labels};
 use crate::part::Part;
 use crate::plan::{Plan, carry, count_parts, plan_parts};
 use crate::rewriting::uncovered;
 use crate::sealing::{later, put, seal_head};
 use crate::searching::{any_here, any_there, has_entry, is_above};
-use crate::taker::Taker;
+use crate::visitor::Visitor;
 use rl_chunks::Store;
 use rl_labels::{Covers, Entry, Labels, Ns};
 use rl_plain::{Shared, TryCopy};
@@ -52,7 +52,7 @@ impl Stream {
     ghost use Rattle.std.specs.List.{All, AllByRecursion, Contains, fold};
     ghost use Rattle.rl_parts.specs.StreamParts.{PartView, entries_of, notes_of, most_entries};
     ghost use Rattle.rl_parts.specs.StoreUse.{Looked, Grown, AreKept, Right, ReadCause, FlushCause};
-    ghost use Rattle.rl_parts.specs.Reading.{NoneReaches, IsWith, IsWithout, IsHandedOut, entries_here, visited_in_range};
+    ghost use Rattle.rl_parts.specs.Reading.{NoneReaches, IsWith, IsWithout, IsVisited, entries_here, visited_in_range};
     ghost use Rattle.rl_parts.specs.Changes.{IsInserted, IsHeld, AreSealed, AreNoted, sealed_parts, unwritten_count};
     ghost use Rattle.rl_parts.specs.Rewriting.{AreLeft, AreRenumbered, RewriteCause, note_numbers, uncovered};
 
@@ -204,24 +204,24 @@ impl Stream {
 
     /// Visits the entries of a range of time, both ends included, each once: part by part, and then the head. A part
     /// that a store has is read only where its range of time reaches into the range.
-    pub fn each<S: Store, T: Taker>(
+    pub fn each<S: Store, T: Visitor>(
         &self,
         alloc: Global,
         store: &mut S,
         from: Ns,
         to: Ns,
-        taker: &mut T,
+        visitor: &mut T,
     ) -> Result<(), ReadFault>
         ensures looked { Looked (S.seen store.old) (S.seen store.new) }
         ensures cause { IfErr result (ReadCause (S.seen store.old) (S.seen store.new)) }
         ensures unread { NoneReaches from to self.now → S.seen store.new ≡ S.seen store.old }
-        ensures visited { NoneReaches from to self.now → OnOk result (taker.new ≡ fold T.taking taker.old (visited_in_range from to (entries_of self.now))) }
+        ensures visited { NoneReaches from to self.now → OnOk result (visitor.new ≡ fold T.visiting visitor.old (visited_in_range from to (entries_of self.now))) }
         // What is visited of a part that a store has follows from bytes with the digest, whatever the store does.
-        ensures pieces { OnOk result ((mid : T) × IsHandedOut T.taking self.now.labels from to self.now.parts taker.old mid × (taker.new ≡ fold T.taking mid (visited_in_range from to self.now.head))) }
-        ensures right { (next : ℕ) → AreKept (S.seen store.old) next self.now → (S.seen store.old).honest ≡ true → Right result (λ _. taker.new ≡ fold T.taking taker.old (visited_in_range from to (entries_of self.now))) }
+        ensures pieces { OnOk result ((mid : T) × IsVisited T.visiting self.now.labels from to self.now.parts visitor.old mid × (visitor.new ≡ fold T.visiting mid (visited_in_range from to self.now.head))) }
+        ensures right { (next : ℕ) → AreKept (S.seen store.old) next self.now → (S.seen store.old).honest ≡ true → Right result (λ _. visitor.new ≡ fold T.visiting visitor.old (visited_in_range from to (entries_of self.now))) }
     {
-        hand_parts(alloc, store, &self.labels, &self.parts, from, to, taker)?;
-        hand_all(&self.labels, &self.head, from, to, taker)?;
+        visit_parts(alloc, store, &self.labels, &self.parts, from, to, visitor)?;
+        visit_all(&self.labels, &self.head, from, to, visitor)?;
         Ok(())
     }
 

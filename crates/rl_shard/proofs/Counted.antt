@@ -72,8 +72,8 @@ abbrev counts_any : CounterView → LabelSet × Line → CounterView
 counts_any counter line = counted_line line.0 line.1.text counter
 
 module _ (requests : Bor RequestsView) (range t : ℕ) where
-  abbrev pub taker : CounterView → ℕ → Lines
-  taker counter lasts = record { counter = counter; requests = requests; range = range; t = t; lasts = lasts }
+  abbrev pub visitor : CounterView → ℕ → Lines
+  visitor counter lasts = record { counter = counter; requests = requests; range = range; t = t; lasts = lasts }
 
   -- the line is of the window, and it is shown
   abbrev pub is_counted : LabelSet × Line → Bool
@@ -89,7 +89,7 @@ module _ (requests : Bor RequestsView) (range t : ℕ) where
     pub fewer : after.lasts ≤ lasts
     pub noticed : AllByRecursion (Noticed after.lasts) lines
 
-  pub ends : (counter : CounterView) (lasts : ℕ) (lines : List (LabelSet × Line)) → Ends counter lasts lines (fold counts (taker counter lasts) lines)
+  pub ends : (counter : CounterView) (lasts : ℕ) (lines : List (LabelSet × Line)) → Ends counter lasts lines (fold counts (visitor counter lasts) lines)
   ends counter lasts [] = record { counted = refl; fewer = omega arith; noticed = tt }
   ends counter lasts (line ∷ lines) =
       let ts = line.1.timestamp in
@@ -100,7 +100,7 @@ module _ (requests : Bor RequestsView) (range t : ℕ) where
       let shorter = min lasts (range - (t - ts) - 1) in
       let more = counted_line line.0 line.1.text counter in
       let rest = filter is_counted lines in
-      let after = λ (l o h : Bool). fold counts (cond l (taker counter sooner) (cond o (taker counter lasts) (cond h (taker counter lasts) (taker more shorter)))) lines in
+      let after = λ (l o h : Bool). fold counts (cond l (visitor counter sooner) (cond o (visitor counter lasts) (cond h (visitor counter lasts) (visitor more shorter)))) lines in
       elim late as (λ l. late ≡ l → Ends counter lasts (line ∷ lines) (after l old hidden)) [
         | true ↦ λ is.
             let end = ends counter sooner lines in
@@ -296,7 +296,7 @@ module _ (first : Term) (terms : List Term) (streams : StreamsView) (requests : 
   range = first.range.seconds * second
 
   abbrev none : Lines
-  none = taker requests range t (none_counted streams.limits.entries pipelines) (to - t)
+  none = visitor requests range t (none_counted streams.limits.entries pipelines) (to - t)
 
   module _ (few : length (keys streams.held) ≤ streams.limits.entries) (once : AreVisitedOnce first.range.selector.matchers start to streams.held counts none after) where
     abbrev passes : Entry → Bool
@@ -360,12 +360,12 @@ module _ (first : Term) (terms : List Term) (streams : StreamsView) (requests : 
           ∙ map-map (λ stages. partial_of (stayed stages order)) (λ (term : Term). term.range.stages) terms
           ∙ found_all terms alike
 
-  module _ (handed : AreVisited counts first.range.selector.matchers start to streams.rows none after) where
+  module _ (given : AreVisited counts first.range.selector.matchers start to streams.rows none after) where
     abbrev all : List (LabelSet × Line)
-    all = flat_map (λ of_row. of_row) handed.lines
+    all = flat_map (λ of_row. of_row) given.lines
 
     ended_counted : Ends requests range t none.counter (to - t) all after
-    ended_counted = subst (Ends requests range t none.counter (to - t) all) (sym handed.answered) (ends requests range t none.counter (to - t) all)
+    ended_counted = subst (Ends requests range t none.counter (to - t) all) (sym given.answered) (ends requests range t none.counter (to - t) all)
 
     -- over any store the limit of lines that may be counted is as before
     pub most_is : after.counter.most ≡ streams.limits.entries
@@ -376,10 +376,10 @@ module _ (first : Term) (terms : List Term) (streams : StreamsView) (requests : 
     read_each u starts some later within short not_over =
         let low = start_at first.range.seconds u in
         let fewer = ended_counted.fewer in
-        let lines = map (filter (is_between low u)) handed.lines in
-        let each = narrow_rows start to low u (starts_before first.range.seconds t start u starts some later) (omega (arith, within, fewer, short)) first.range.selector.matchers streams.rows handed.lines handed.each in
+        let lines = map (filter (is_between low u)) given.lines in
+        let each = narrow_rows start to low u (starts_before first.range.seconds t start u starts some later) (omega (arith, within, fewer, short)) first.range.selector.matchers streams.rows given.lines given.each in
         let same : filter (is_shown requests.now) (flat_map (λ of_row. of_row) lines) ≡ filter (is_counted requests range t) all =
-        ap (filter (is_shown requests.now)) (sym (filter_flat (is_between low u) handed.lines))
+        ap (filter (is_shown requests.now)) (sym (filter_flat (is_between low u) given.lines))
         ∙ filter-both (is_between low u) (is_shown requests.now) all
         ∙ (λ i. filter (λ (line : LabelSet × Line). sym (starts_at first.range.seconds u line.1.timestamp) i && is_shown requests.now line) all)
         ∙ filter_same (λ (line : LabelSet × Line). in_window first.range.seconds u line.1.timestamp && is_shown requests.now line) (is_counted requests range t) all (same_all requests range t after.lasts u later within all ended_counted.noticed) in

@@ -11,7 +11,7 @@ use Rattle.rl_labels.specs.LabelSet.{LabelSet}
 use Rattle.rl_labels.specs.Selects.{selects}
 use Rattle.rl_labels.specs.declared.matcher.Matcher.{Matcher}
 use Rattle.rl_chunks.specs.declared.line.Line.{Line}
-use Rattle.rl_parts.specs.laws.TakerLaws.{AllZip-append}
+use Rattle.rl_parts.specs.laws.VisitorLaws.{AllZip-append}
 use Rattle.rl_parts.specs.Reading.{visited_in_range}
 use Rattle.rl_parts.specs.StreamParts.{StreamView, entries_of}
 use Rattle.rl_streams.specs.Asking.{visited_of, visited_by, AreOfParts, AreOfRow, AreVisited}
@@ -116,24 +116,24 @@ abbrev pub IsAt : (Row → List (LabelSet × Line) → Type 0) → List Row → 
 IsAt R rows position lines = (row : Row) × (slice_get rows position ≡ Some row) × R row lines
 
 -- such lines of each index in turn were visited
-pub record AreFrom {T : Type 0} (R : Row → List (LabelSet × Line) → Type 0) (taking : T → LabelSet × Line → T) (rows : List Row) (positions : List ℕ) (before after : T) : Type 0 where
+pub record AreFrom {T : Type 0} (R : Row → List (LabelSet × Line) → Type 0) (visiting : T → LabelSet × Line → T) (rows : List Row) (positions : List ℕ) (before after : T) : Type 0 where
   pub lines : List (List (LabelSet × Line))
   pub each : AllZip (IsAt R rows) positions lines
-  pub visited : after ≡ fold taking before (flat_map (λ of_row. of_row) lines)
+  pub visited : after ≡ fold visiting before (flat_map (λ of_row. of_row) lines)
 
-module _ {T : Type 0} (R : Row → List (LabelSet × Line) → Type 0) (taking : T → LabelSet × Line → T) (rows : List Row) where
-  pub from_none : (before : T) → AreFrom R taking rows [] before before
+module _ {T : Type 0} (R : Row → List (LabelSet × Line) → Type 0) (visiting : T → LabelSet × Line → T) (rows : List Row) where
+  pub from_none : (before : T) → AreFrom R visiting rows [] before before
   from_none before = record { lines = []; each = tt; visited = refl }
 
   -- one index more
-  pub from_more : (positions : List ℕ) (i d : ℕ) (before taken now : T) → i < length positions → AreFrom R taking rows (take i positions) before taken → (lines : List (LabelSet × Line)) × IsAt R rows (get_or positions i d) lines × (now ≡ fold taking taken lines)
-      → AreFrom R taking rows (take (i + 1) positions) before now
+  pub from_more : (positions : List ℕ) (i d : ℕ) (before taken now : T) → i < length positions → AreFrom R visiting rows (take i positions) before taken → (lines : List (LabelSet × Line)) × IsAt R rows (get_or positions i d) lines × (now ≡ fold visiting taken lines)
+      → AreFrom R visiting rows (take (i + 1) positions) before now
   from_more positions i d before taken now lt was (lines, at, is) =
-      subst (λ ps. AreFrom R taking rows ps before now) (sym (take_more positions i d lt)) (record {
+      subst (λ ps. AreFrom R visiting rows ps before now) (sym (take_more positions i d lt)) (record {
         lines = was.lines ++ lines ∷ [];
         each = AllZip-append (IsAt R rows) (take i positions) was.lines (get_or positions i d ∷ []) (lines ∷ []) was.each (at, tt);
-        visited = is ∙ ap (λ t. fold taking t lines) was.visited ∙ sym (fold-append taking before (flat_map (λ l. l) was.lines) lines)
-            ∙ ap (fold taking before) (ap (λ l. flat_map (λ l. l) was.lines ++ l) (sym (append-nil lines)) ∙ sym (flat_map-append (λ l. l) was.lines (lines ∷ [])));
+        visited = is ∙ ap (λ t. fold visiting t lines) was.visited ∙ sym (fold-append visiting before (flat_map (λ l. l) was.lines) lines)
+            ∙ ap (fold visiting before) (ap (λ l. flat_map (λ l. l) was.lines ++ l) (sym (append-nil lines)) ∙ sym (flat_map-append (λ l. l) was.lines (lines ∷ [])));
       })
 
 -- what is visited of the selected rows is visited of all, where nothing is visited of the others
@@ -187,12 +187,12 @@ chosen_there selector rows positions i stream own are lt at =
 none_of_row : (selector : List Matcher) (from to : ℕ) (row : Row) → selects selector row.0 ≡ false → AreOfRow selector from to row []
 none_of_row selector from to row e = let none : List (LabelSet × Line) = [] in subst (λ b. MatchBool b (AreOfParts from to row.1 none) (none ≡ none)) (sym e) refl
 
-module _ {T : Type 0} (selector : List Matcher) (from to : ℕ) (taking : T → LabelSet × Line → T) (rows : List Row) (positions : List ℕ) (before after : T) (are : positions ≡ selected selector (keys_of rows)) where
+module _ {T : Type 0} (selector : List Matcher) (from to : ℕ) (visiting : T → LabelSet × Line → T) (rows : List Row) (positions : List ℕ) (before after : T) (are : positions ≡ selected selector (keys_of rows)) where
   -- over any store
-  pub visited_at_all : AreFrom (AreOfRow selector from to) taking rows positions before after → AreVisited taking selector from to rows before after
-  visited_at_all handed =
-      let all = spread (AreOfRow selector from to) selector (none_of_row selector from to) rows handed.lines (subst (λ ps. AllZip (IsAt (AreOfRow selector from to) rows) ps handed.lines) are handed.each) in
-      record { lines = all.0; each = all.1; visited = handed.visited ∙ ap (fold taking before) (sym all.2) }
+  pub visited_at_all : AreFrom (AreOfRow selector from to) visiting rows positions before after → AreVisited visiting selector from to rows before after
+  visited_at_all given =
+      let all = spread (AreOfRow selector from to) selector (none_of_row selector from to) rows given.lines (subst (λ ps. AllZip (IsAt (AreOfRow selector from to) rows) ps given.lines) are given.each) in
+      record { lines = all.0; each = all.1; visited = given.visited ∙ ap (fold visiting before) (sym all.2) }
 
   -- over an honest one
   abbrev IsVisitedOf : Row → List (LabelSet × Line) → Type 0
@@ -204,10 +204,10 @@ module _ {T : Type 0} (selector : List Matcher) (from to : ℕ) (taking : T → 
   joined_visited (row ∷ rows) [] h = absurd h
   joined_visited (row ∷ rows) (l ∷ all) h = ap (λ ls. ls ++ flat_map (λ l. l) all) h.0 ∙ ap (λ ls. visited_of selector from to row.0 row.1 ++ ls) (joined_visited rows all h.1)
 
-  pub right_at_all : AreFrom IsVisitedOf taking rows positions before after → after ≡ fold taking before (visited_by selector from to rows)
-  right_at_all handed =
-      let all = spread IsVisitedOf selector (λ row e. ap (λ b. if b then visited_in_range from to (entries_of row.1) else []) (sym e)) rows handed.lines (subst (λ ps. AllZip (IsAt IsVisitedOf rows) ps handed.lines) are handed.each) in
-      handed.visited ∙ ap (fold taking before) (sym all.2 ∙ joined_visited rows all.0 all.1)
+  pub right_at_all : AreFrom IsVisitedOf visiting rows positions before after → after ≡ fold visiting before (visited_by selector from to rows)
+  right_at_all given =
+      let all = spread IsVisitedOf selector (λ row e. ap (λ b. if b then visited_in_range from to (entries_of row.1) else []) (sym e)) rows given.lines (subst (λ ps. AllZip (IsAt IsVisitedOf rows) ps given.lines) are given.each) in
+      given.visited ∙ ap (fold visiting before) (sym all.2 ∙ joined_visited rows all.0 all.1)
 
 -- what is kept at an index, and what it is of
 pub found_there : {A B : Type 0} (f : A → B) (xs : List A) (i : ℕ) (y : B) → option_map f (slice_get xs i) ≡ Some y → i < length xs

@@ -24,8 +24,8 @@ use Rattle.rl_chunks.specs.StoreState.{Seen}
 use Rattle.rl_chunks.specs.declared.line.Line.{Line}
 use Rattle.rl_parts.specs.StreamParts.{StreamView, entries_of}
 use Rattle.rl_parts.specs.StoreUse.{AreKept, Looked, Right}
-use Rattle.rl_parts.specs.laws.TakerLaws.{fold-pushed}
-use Rattle.rl_parts.specs.Reading.{is_in_range, visited, visited_in_range, IsHandedOut}
+use Rattle.rl_parts.specs.laws.VisitorLaws.{fold-pushed}
+use Rattle.rl_parts.specs.Reading.{is_in_range, visited, visited_in_range, IsVisited}
 use Rattle.rl_parts.specs.declared.fault.ReadFault.{ReadFault}
 use Rattle.rl_parts.specs.declared.fault.ReadFault.TheVariants as reads
 use Rattle.rl_streams.specs.Asking.{is_asked, asked, visited_of, visited_by, visited_at, left, AreOfParts, AreOfRow, AreVisitedOnce, NoneSelected}
@@ -98,26 +98,26 @@ module _ (selector : List Matcher) (from to : ℕ) where
       at_row (λ row. AreKept seen next row.1) rows i (row.0, stream) ((streams_looked rows old next are seen looked).kept) row.1
 
 -- each once: what is visited of all streams, where no entry is held twice
-pub visited_once : {T : Type 0} (taking : T → LabelSet × Line → T) (selector : List Matcher) (from to : ℕ) (rows : List Row) (before after : T) → AllByRecursion IsOwn rows → IsDistinct (eq_by_cmp entry_cmp) (joined rows)
-    → after ≡ fold taking before (visited_by selector from to rows) → AreVisitedOnce selector from to (set_of (joined rows)) taking before after
-visited_once taking selector from to rows before after own once is = record {
+pub visited_once : {T : Type 0} (visiting : T → LabelSet × Line → T) (selector : List Matcher) (from to : ℕ) (rows : List Row) (before after : T) → AllByRecursion IsOwn rows → IsDistinct (eq_by_cmp entry_cmp) (joined rows)
+    → after ≡ fold visiting before (visited_by selector from to rows) → AreVisitedOnce selector from to (set_of (joined rows)) visiting before after
+visited_once visiting selector from to rows before after own once is = record {
   order = asked selector from to (joined rows);
   once = IsPermutation-sym _ _ (keys-of_distinct entry_cmp_total entry_cmp-IsAntisymmetric (is_asked selector from to) (joined rows) once);
-  visited = is ∙ ap (fold taking before) (visited_all selector from to rows own);
+  visited = is ∙ ap (fold visiting before) (visited_all selector from to rows own);
 }
 
 -- over any store: what is visited of a stream that is selected
-pub of_row : (selector : List Matcher) (from to : ℕ) (stream : StreamView) {T : Type 0} (taking : T → LabelSet × Line → T) (before after : T) → selects selector stream.labels ≡ true
-    → (result : Result (Unit {0}) ReadFault) → OnOk result ((mid : T) × IsHandedOut taking stream.labels from to stream.parts before mid × (after ≡ fold taking mid (visited_in_range from to stream.head)))
-    → OnOk result ((lines : List (LabelSet × Line)) × AreOfRow selector from to (stream.labels, stream) lines × (after ≡ fold taking before lines))
-of_row selector from to stream taking before after selected (Ok _) (mid, handed, head) =
-    let sealed = flat_map (λ piece. piece) handed.pieces in
+pub of_row : (selector : List Matcher) (from to : ℕ) (stream : StreamView) {T : Type 0} (visiting : T → LabelSet × Line → T) (before after : T) → selects selector stream.labels ≡ true
+    → (result : Result (Unit {0}) ReadFault) → OnOk result ((mid : T) × IsVisited visiting stream.labels from to stream.parts before mid × (after ≡ fold visiting mid (visited_in_range from to stream.head)))
+    → OnOk result ((lines : List (LabelSet × Line)) × AreOfRow selector from to (stream.labels, stream) lines × (after ≡ fold visiting before lines))
+of_row selector from to stream visiting before after selected (Ok _) (mid, given, head) =
+    let sealed = flat_map (λ piece. piece) given.pieces in
     let lines = sealed ++ visited_in_range from to stream.head in (
       lines,
-      subst (λ b. MatchBool b (AreOfParts from to stream lines) (lines ≡ [])) (sym selected) (record { pieces = handed.pieces; each = handed.each; all = refl }),
-      head ∙ ap (λ t. fold taking t (visited_in_range from to stream.head)) handed.following ∙ sym (fold-append taking before sealed (visited_in_range from to stream.head)),
+      subst (λ b. MatchBool b (AreOfParts from to stream lines) (lines ≡ [])) (sym selected) (record { pieces = given.pieces; each = given.each; all = refl }),
+      head ∙ ap (λ t. fold visiting t (visited_in_range from to stream.head)) given.following ∙ sym (fold-append visiting before sealed (visited_in_range from to stream.head)),
     )
-of_row selector from to stream taking before after selected (Err fault) handed = tt
+of_row selector from to stream visiting before after selected (Err fault) given = tt
 
 -- a stream that is there has a newest timestamp
 after_another : (row : Row) (rows : List Row) (labels : LabelSet) → is_some (lookup (is_at (label_set_cmp labels)) (newest_in rows)) ≡ true → is_some (lookup (is_at (label_set_cmp labels)) (newest_in (row ∷ rows))) ≡ true

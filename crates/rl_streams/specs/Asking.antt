@@ -34,10 +34,10 @@ abbrev pub NoneSelected : List Matcher → FinMap label_set_cmp ℕ → Type 0
 NoneSelected selector newest = (labels : LabelSet) → selects selector labels ≡ true → get newest labels ≡ None
 
 -- the held entries that are asked for were visited, each once, in some order
-pub record AreVisitedOnce {T : Type 0} (selector : List Matcher) (from to : ℕ) (held : EntrySet) (taking : T → LabelSet × Line → T) (before after : T) : Type 0 where
+pub record AreVisitedOnce {T : Type 0} (selector : List Matcher) (from to : ℕ) (held : EntrySet) (visiting : T → LabelSet × Line → T) (before after : T) : Type 0 where
   pub order : List Entry
   pub once : IsPermutation (asked selector from to (keys held)) order
-  pub visited : after ≡ fold taking before (map visited order)
+  pub visited : after ≡ fold visiting before (map visited order)
 
 -- lines of a stream over any store: a piece of each part, and what its head has in the range
 pub record AreOfParts (from to : ℕ) (stream : StreamView) (lines : List (LabelSet × Line)) : Type 0 where
@@ -50,10 +50,10 @@ abbrev pub AreOfRow : List Matcher → ℕ → ℕ → Row → List (LabelSet ×
 AreOfRow selector from to row lines = MatchBool (selects selector row.0) (AreOfParts from to row.1 lines) (lines ≡ [])
 
 -- such lines of each stream in turn were visited, and this is what the visitor became by them
-pub record AreVisited {T : Type 0} (taking : T → LabelSet × Line → T) (selector : List Matcher) (from to : ℕ) (rows : List Row) (before after : T) : Type 0 where
+pub record AreVisited {T : Type 0} (visiting : T → LabelSet × Line → T) (selector : List Matcher) (from to : ℕ) (rows : List Row) (before after : T) : Type 0 where
   pub lines : List (List (LabelSet × Line))
   pub each : AllZip (AreOfRow selector from to) rows lines
-  pub visited : after ≡ fold taking before (flat_map (λ of_row. of_row) lines)
+  pub visited : after ≡ fold visiting before (flat_map (λ of_row. of_row) lines)
 
 -- what is visited of one stream of all
 abbrev pub visited_at : List Matcher → ℕ → ℕ → List (List Entry) → ℕ → List (LabelSet × Line)

@@ -43,7 +43,7 @@ fn fill<S: Store>(
         if !lines.is_empty() {
             return Ok(());
         }
-        if let Err(fault) = streams.hand_out(next, selector, from, to, lines) {
+        if let Err(fault) = streams.visit_lines(next, selector, from, to, lines) {
             lines.clear();
             return Err(fault);
         }

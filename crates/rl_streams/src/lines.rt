@@ -3,7 +3,7 @@ ghost use Rattle.std.specs.Prelude.{◌≡◌, ◌↔◌, [], ◌∷◌, IfOk, I
 
 use rl_chunks::Line;
 use rl_labels::{Labels, Ns};
-use rl_parts::Taker;
+use rl_parts::Visitor;
 use rl_plain::{PlainText, Same, Shared, TryCopy};
 use std::alloc::{AllocError, Global};
 use std::collections::VecDeque;
@@ -80,10 +80,10 @@ impl Lines {
     }
 }
 
-impl Taker for Lines {
+impl Visitor for Lines {
     ghost use Rattle.std.specs.Prelude.{◌++◌};
 
-    ghost taking = { λ lines line. lines ++ line ∷ [] };
+    ghost visiting = { λ lines line. lines ++ line ∷ [] };
 
     fn take(&mut self, labels: &Labels, timestamp: Ns, text: &str) -> Result<(), AllocError> {
         let labels = shared(self.alloc, self.lines.back(), labels)?;

@@ -16,7 +16,7 @@ use crate::selections::Selection;
 use indexmap::IndexMap;
 use rl_chunks::Store;
 use rl_labels::{Entry, Labels, Ns, SelectorCode};
-use rl_parts::{ReadFault, Stream, Taker};
+use rl_parts::{ReadFault, Stream, Visitor};
 use std::alloc::Global;
 
 // Whether a stream holds the entry. Where no stream has its labels, nothing is read.
@@ -39,45 +39,45 @@ pub(crate) fn holds<S: Store>(
 }
 
 // Visits the lines of a stream in the range, if the selector selects it.
-pub(crate) fn each_selected<S: Store, T: Taker>(
+pub(crate) fn each_selected<S: Store, T: Visitor>(
     alloc: Global,
     store: &mut S,
     stream: &Stream,
     selector: &SelectorCode,
     from: Ns,
     to: Ns,
-    taker: &mut T,
+    visitor: &mut T,
 ) -> Result<(), ReadFault>
     ensures looked { Looked (S.seen store.old) (S.seen store.new) }
     ensures cause { IfErr result (ReadCause (S.seen store.old) (S.seen store.new)) }
-    ensures right { (next : ℕ) → AreKept (S.seen store.old) next stream.now → (S.seen store.old).honest ≡ true → Right result (λ _. taker.new ≡ fold T.taking taker.old (visited_of selector.now from to stream.now.labels stream.now)) }
+    ensures right { (next : ℕ) → AreKept (S.seen store.old) next stream.now → (S.seen store.old).honest ≡ true → Right result (λ _. visitor.new ≡ fold T.visiting visitor.old (visited_of selector.now from to stream.now.labels stream.now)) }
 {
     if !selector.accepts(stream.labels())? {
         return Ok(());
     }
-    stream.each(alloc, store, from, to, taker)
+    stream.each(alloc, store, from, to, visitor)
 }
 
 // Visits the lines in the range of the streams of a selection, of which all were asked. The others are not read.
-pub(crate) fn each<S: Store, T: Taker>(
+pub(crate) fn each<S: Store, T: Visitor>(
     alloc: Global,
     store: &mut S,
     streams: &IndexMap<Labels, Stream>,
     selection: &Selection,
     from: Ns,
     to: Ns,
-    taker: &mut T,
+    visitor: &mut T,
 ) -> Result<(), ReadFault>
     requires own { AllByRecursion IsOwn streams.now.entries }
     requires positions { selection.now.positions ≡ selected selection.now.selector (keys_of streams.now.entries) }
     ensures looked { Looked (S.seen store.old) (S.seen store.new) }
     ensures cause { IfErr result (ReadCause (S.seen store.old) (S.seen store.new)) }
     ensures unread { AllByRecursion (λ row. selects selection.now.selector row.0 ≡ false) streams.now.entries → S.seen store.new ≡ S.seen store.old }
-    ensures visited { OnOk result (AreVisited T.taking selection.now.selector from to streams.now.entries taker.old taker.new) }
-    ensures right { (next : ℕ) → AreStreams streams.now.entries (S.seen store.old) next → (S.seen store.old).honest ≡ true → Right result (λ _. taker.new ≡ fold T.taking taker.old (visited_by selection.now.selector from to streams.now.entries)) }
+    ensures visited { OnOk result (AreVisited T.visiting selection.now.selector from to streams.now.entries visitor.old visitor.new) }
+    ensures right { (next : ℕ) → AreStreams streams.now.entries (S.seen store.old) next → (S.seen store.old).honest ≡ true → Right result (λ _. visitor.new ≡ fold T.visiting visitor.old (visited_by selection.now.selector from to streams.now.entries)) }
 {
     for position in selection.positions() {
-        streams[*position].each(alloc, store, from, to, taker)?;
+        streams[*position].each(alloc, store, from, to, visitor)?;
     }
     Ok(())
 }

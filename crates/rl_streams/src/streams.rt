@@ -11,7 +11,7 @@ use crate::{cutting, flushing, reading, rewriting};
 use indexmap::IndexMap;
 use rl_chunks::Store;
 use rl_labels::{Covers, Entry, Labels, Limits, Matcher, Ns, SelectorCode};
-use rl_parts::{FlushFault, ReadFault, RewriteFault, Stream, Taker};
+use rl_parts::{FlushFault, ReadFault, RewriteFault, Stream, Visitor};
 use rl_plain::{PlainList, Shared};
 use std::alloc::{AllocError, Global};
 use std::marker::Model;
@@ -179,24 +179,24 @@ impl<S: Store> Streams<S> {
     /// Visits the lines from one moment to another, both included, of the streams that the selector selects: each once,
     /// one stream after the other. A stream that is not selected is asked for its labels alone, and once for a selector while
     /// no more than 1,024 are asked for. After a refusal some lines may have been visited.
-    pub fn each<T: Taker>(
+    pub fn each<T: Visitor>(
         &mut self,
         selector: &PlainList<Matcher>,
         from: Ns,
         to: Ns,
-        taker: &mut T,
+        visitor: &mut T,
     ) -> Result<(), ReadFault>
         ensures same { Looks self.old self.new }
         ensures cause { IfErr result (ReadCause self.old.seen self.new.seen) }
         ensures unread { NoneSelected selector.now self.old.newest → self.new ≡ self.old }
         // What is visited of a part that the store has follows from bytes with its digest, over any store.
-        ensures visited { OnOk result (AreVisited T.taking selector.now from to self.old.rows taker.old taker.new) }
-        ensures right { self.old.seen.honest ≡ true → Right result (λ _. AreVisitedOnce selector.now from to self.old.held T.taking taker.old taker.new) }
+        ensures visited { OnOk result (AreVisited T.visiting selector.now from to self.old.rows visitor.old visitor.new) }
+        ensures right { self.old.seen.honest ≡ true → Right result (λ _. AreVisitedOnce selector.now from to self.old.held T.visiting visitor.old visitor.new) }
     {
         let (store, streams) = (&mut self.store, &self.streams);
         let position = self.selections.select(self.alloc, streams, selector)?;
         let selection = self.selections.at(position);
-        reading::each(self.alloc, store, streams, selection, from, to, taker)
+        reading::each(self.alloc, store, streams, selection, from, to, visitor)
     }
 
     /// A cursor over the lines from one moment to another, both included, of the streams that the selector selects. Over an
@@ -219,7 +219,7 @@ impl<S: Store> Streams<S> {
     }
 
     // Puts what one stream has in the range after the lines that wait, if the selector selects it.
-    pub(crate) fn hand_out(
+    pub(crate) fn visit_lines(
         &mut self,
         position: usize,
         selector: &SelectorCode,

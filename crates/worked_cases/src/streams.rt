@@ -9,7 +9,7 @@ use crate::output::push_value;
 use crate::trouble::Trouble;
 use rl_chunks::{MemStore, Spoil, SpoilStore};
 use rl_labels::{Labels, MatchOp, Matcher, Ns, SelectorCode};
-use rl_parts::Taker;
+use rl_parts::Visitor;
 use rl_plain::{PlainList, PlainText, Shared};
 use rl_streams::{Cursor, Streams};
 use std::alloc::{AllocError, Global};
@@ -146,8 +146,8 @@ impl Model for Visited {
     ghost view = { λ _. 0 };
 }
 
-impl Taker for Visited {
-    ghost taking = { λ output _. output };
+impl Visitor for Visited {
+    ghost visiting = { λ output _. output };
 
     fn take(&mut self, labels: &Labels, timestamp: Ns, text: &str) -> Result<(), AllocError> {
         push_line(&mut self.text, labels, timestamp, text)
@@ -169,25 +169,25 @@ fn each(output: &mut String, streams: &mut Asked, rest: &str) -> Result<(), Trou
     let (labels, range) = words_of(rest);
     let (from, to) = words_of(range);
     let (from, to) = (moment_in(from)?, moment_in(to)?);
-    let mut handed = Visited {
+    let mut visited = Visited {
         text: String::new(*output.allocator()),
     };
-    let ended = hand_out(&mut handed, streams, labels, from, to);
-    output.push_str(handed.text.as_str())?;
+    let ended = visit_lines(&mut visited, streams, labels, from, to);
+    output.push_str(visited.text.as_str())?;
     ended
 }
 
-fn hand_out(
-    handed: &mut Visited,
+fn visit_lines(
+    visited: &mut Visited,
     streams: &mut Asked,
     labels: &str,
     from: Ns,
     to: Ns,
 ) -> Result<(), Trouble> {
-    let selector = selector_in(*handed.text.allocator(), labels)?;
-    match streams.each(&selector, from, to, handed) {
+    let selector = selector_in(*visited.text.allocator(), labels)?;
+    match streams.each(&selector, from, to, visited) {
         Ok(()) => Ok(()),
-        Err(fault) => push_value(&mut handed.text, &fault),
+        Err(fault) => push_value(&mut visited.text, &fault),
     }
 }
 

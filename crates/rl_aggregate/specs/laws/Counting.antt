@@ -71,8 +71,8 @@ pub partial-stayed : (entries : List Entry) (term : Term) (t : ℕ) → partial_
 partial-stayed entries term t = ap (λ es. partial_of (map (element term.range.stages) es)) (filter-both (is_selected term t) (stays term.range.stages) entries)
 
 -- also in another order, for each term that reads the same lines as the one by which they are selected
-pub partial-handed : (lead term : Term) (t : ℕ) (entries order : List Entry) → IsAlike lead term → IsPermutation (filter (is_selected lead t) entries) order → partial_of (stayed term.range.stages order) ≡ partial entries term t
-partial-handed lead term t entries order alike moved =
+pub partial-visited : (lead term : Term) (t : ℕ) (entries order : List Entry) → IsAlike lead term → IsPermutation (filter (is_selected lead t) entries) order → partial_of (stayed term.range.stages order) ≡ partial entries term t
+partial-visited lead term t entries order alike moved =
     let stages = term.range.stages in
     sym (kept-permuted (stays stages) stages (filter (is_selected lead t) entries) order moved)
     ∙ (λ i. partial_of (stayed stages (filter (λ e. in_window (sym alike.0 i) t e.timestamp && selects (sym alike.1 i).matchers e.labels) entries)))

@@ -32,16 +32,16 @@ loop-position-preserved g c =
     let within = subst (λ ps. index < length ps) items c.loop-position-test.true in
     let at = subst (λ ps. slice_get (values_of rows) (get_or ps index 0) ≡ Some stream) items c.index.ensures in
     let chosen = chosen_there selector rows positions index stream c.requires.own c.requires.positions within at in
-    let lines = of_row selector c.args.from c.args.to stream g.T.Taker.taking c.loop-position.taker c.each.new.taker chosen.1 (Ok tt) c.in_ok-each.ensures.pieces in
+    let lines = of_row selector c.args.from c.args.to stream g.T.Visitor.visiting c.loop-position.visitor c.each.new.visitor chosen.1 (Ok tt) c.in_ok-each.ensures.pieces in
     record {
       looked = Looked-then start seen (g.S.Store.seen c.each.new.store) before.looked c.each.ensures.looked;
-      visited = from_more (AreOfRow selector c.args.from c.args.to) g.T.Taker.taking rows positions index 0 c.args.taker.now c.loop-position.taker c.each.new.taker within before.visited (lines.0, ((stream.labels, stream), chosen.0, lines.1), lines.2);
+      visited = from_more (AreOfRow selector c.args.from c.args.to) g.T.Visitor.visiting rows positions index 0 c.args.visitor.now c.loop-position.visitor c.each.new.visitor within before.visited (lines.0, ((stream.labels, stream), chosen.0, lines.1), lines.2);
       unread = λ none. absurd (no_position selector rows positions index c.requires.positions none within);
       right = λ next are honest.
           let kept = kept_there selector c.args.from c.args.to rows (get_or positions index 0) stream start seen next are before.looked at in
           let visited = c.in_ok-each.ensures.right next kept (before.looked.honest ∙ honest) in
-          from_more (λ row lines. lines ≡ visited_of selector c.args.from c.args.to row.0 row.1) g.T.Taker.taking rows positions index 0 c.args.taker.now c.loop-position.taker c.each.new.taker within (before.right next are honest)
-          (visited_of selector c.args.from c.args.to stream.labels stream, ((stream.labels, stream), chosen.0, refl), visited ∙ ap (λ b. fold g.T.Taker.taking c.loop-position.taker (if b then visited_in_range c.args.from c.args.to (entries_of stream) else [])) (sym chosen.1));
+          from_more (λ row lines. lines ≡ visited_of selector c.args.from c.args.to row.0 row.1) g.T.Visitor.visiting rows positions index 0 c.args.visitor.now c.loop-position.visitor c.each.new.visitor within (before.right next are honest)
+          (visited_of selector c.args.from c.args.to stream.labels stream, ((stream.labels, stream), chosen.0, refl), visited ∙ ap (λ b. fold g.T.Visitor.visiting c.loop-position.visitor (if b then visited_in_range c.args.from c.args.to (entries_of stream) else [])) (sym chosen.1));
     }
 
 pub returns-in_err-each-clause-unread : goal.returns-in_err-each-clause-unread
@@ -60,13 +60,13 @@ returns-clause-visited g c =
     let selector = c.args.selection.now.selector in
     let positions = c.args.selection.now.positions in
     let all = take_all c.loop-position.position-index positions (subst (λ ps. length ps ≤ c.loop-position.position-index) c.positions-position-items.ensures (omega (arith, c.loop-position-test.false))) in
-    visited_at_all selector c.args.from c.args.to g.T.Taker.taking c.args.streams.now.entries positions c.args.taker.now c.loop-position.taker c.requires.positions
-    (subst (λ ps. AreFrom (AreOfRow selector c.args.from c.args.to) g.T.Taker.taking c.args.streams.now.entries ps c.args.taker.now c.loop-position.taker) all c.loop-position.invariant.visited)
+    visited_at_all selector c.args.from c.args.to g.T.Visitor.visiting c.args.streams.now.entries positions c.args.visitor.now c.loop-position.visitor c.requires.positions
+    (subst (λ ps. AreFrom (AreOfRow selector c.args.from c.args.to) g.T.Visitor.visiting c.args.streams.now.entries ps c.args.visitor.now c.loop-position.visitor) all c.loop-position.invariant.visited)
 
 pub returns-clause-right : goal.returns-clause-right
 returns-clause-right g c = λ next are honest.
     let selector = c.args.selection.now.selector in
     let positions = c.args.selection.now.positions in
     let all = take_all c.loop-position.position-index positions (subst (λ ps. length ps ≤ c.loop-position.position-index) c.positions-position-items.ensures (omega (arith, c.loop-position-test.false))) in
-    right_at_all selector c.args.from c.args.to g.T.Taker.taking c.args.streams.now.entries positions c.args.taker.now c.loop-position.taker c.requires.positions
-    (subst (λ ps. AreFrom (λ row lines. lines ≡ visited_of selector c.args.from c.args.to row.0 row.1) g.T.Taker.taking c.args.streams.now.entries ps c.args.taker.now c.loop-position.taker) all (c.loop-position.invariant.right next are honest))
+    right_at_all selector c.args.from c.args.to g.T.Visitor.visiting c.args.streams.now.entries positions c.args.visitor.now c.loop-position.visitor c.requires.positions
+    (subst (λ ps. AreFrom (λ row lines. lines ≡ visited_of selector c.args.from c.args.to row.0 row.1) g.T.Visitor.visiting c.args.streams.now.entries ps c.args.visitor.now c.loop-position.visitor) all (c.loop-position.invariant.right next are honest))

@@ -12,8 +12,8 @@ use Rattle.rl_chunks.specs.EntryLines.{line_of}
 use Rattle.rl_chunks.specs.declared.line.Line.{Line}
 use Rattle.rl_parts.specs.StreamParts.{PartView, IsRun}
 use Rattle.rl_parts.specs.PartState.{timestamp_at, IsRange}
-use Rattle.rl_parts.specs.Reading.{is_in_range, visited, visited_in_range, lines_in_range, IsPiece, IsHandedOut}
-use Rattle.rl_parts.specs.laws.TakerLaws.{AllZip-append}
+use Rattle.rl_parts.specs.Reading.{is_in_range, visited, visited_in_range, lines_in_range, IsPiece, IsVisited}
+use Rattle.rl_parts.specs.laws.VisitorLaws.{AllZip-append}
 use Rattle.rl_parts.proofs.Times.{up_to_last, from_first}
 
 pub lines-append : (set : LabelSet) (from to : ℕ) (xs ys : List Line) → lines_in_range set from to (xs ++ ys) ≡ lines_in_range set from to xs ++ lines_in_range set from to ys
@@ -25,23 +25,23 @@ pub visited-append : (from to : ℕ) (xs ys : List Entry) → visited_in_range f
 visited-append from to xs ys = ap (map visited) (filter-append (is_in_range from to) xs ys) ∙ map-append visited (filter (is_in_range from to) xs) (filter (is_in_range from to) ys)
 
 -- one line more
-pub line_more : {A T : Type 0} (taking : T → LabelSet × Line → T) (line : A → Line) (set : LabelSet) (from to : ℕ) (xs : List A) (i : ℕ) (x : A) (start taken now : T) → i < length xs → x ≡ get_or xs i x
-    → taken ≡ fold taking start (lines_in_range set from to (map line (take i xs))) → now ≡ fold taking taken (lines_in_range set from to (line x ∷ [])) → now ≡ fold taking start (lines_in_range set from to (map line (take (i + 1) xs)))
-line_more taking line set from to xs i x start taken now within is so_far one =
+pub line_more : {A T : Type 0} (visiting : T → LabelSet × Line → T) (line : A → Line) (set : LabelSet) (from to : ℕ) (xs : List A) (i : ℕ) (x : A) (start taken now : T) → i < length xs → x ≡ get_or xs i x
+    → taken ≡ fold visiting start (lines_in_range set from to (map line (take i xs))) → now ≡ fold visiting taken (lines_in_range set from to (line x ∷ [])) → now ≡ fold visiting start (lines_in_range set from to (map line (take (i + 1) xs)))
+line_more visiting line set from to xs i x start taken now within is so_far one =
     let front : take (i + 1) xs ≡ take i xs ++ x ∷ [] = take_more xs i x within ∙ ap (λ y. take i xs ++ y ∷ []) (sym is) in
     let all : lines_in_range set from to (map line (take (i + 1) xs)) ≡ lines_in_range set from to (map line (take i xs)) ++ lines_in_range set from to (line x ∷ []) =
     ap (λ ys. lines_in_range set from to (map line ys)) front ∙ ap (lines_in_range set from to) (map-append line (take i xs) (x ∷ [])) ∙ lines-append set from to (map line (take i xs)) (line x ∷ []) in
-    one ∙ ap (λ t. fold taking t (lines_in_range set from to (line x ∷ []))) so_far ∙ sym (fold-append taking start (lines_in_range set from to (map line (take i xs))) (lines_in_range set from to (line x ∷ []))) ∙ ap (fold taking start) (sym all)
+    one ∙ ap (λ t. fold visiting t (lines_in_range set from to (line x ∷ []))) so_far ∙ sym (fold-append visiting start (lines_in_range set from to (map line (take i xs))) (lines_in_range set from to (line x ∷ []))) ∙ ap (fold visiting start) (sym all)
 
 -- one part more
-pub part_more : {T : Type 0} (taking : T → LabelSet × Line → T) (from to : ℕ) (parts : List PartView) (i : ℕ) (p : PartView) (start taken now : T) → i < length parts → p ≡ get_or parts i p
-    → taken ≡ fold taking start (visited_in_range from to (flat_map (λ part. part.entries) (take i parts))) → now ≡ fold taking taken (visited_in_range from to p.entries) → now ≡ fold taking start (visited_in_range from to (flat_map (λ part. part.entries) (take (i + 1) parts)))
-part_more taking from to parts i p start taken now within is so_far one =
+pub part_more : {T : Type 0} (visiting : T → LabelSet × Line → T) (from to : ℕ) (parts : List PartView) (i : ℕ) (p : PartView) (start taken now : T) → i < length parts → p ≡ get_or parts i p
+    → taken ≡ fold visiting start (visited_in_range from to (flat_map (λ part. part.entries) (take i parts))) → now ≡ fold visiting taken (visited_in_range from to p.entries) → now ≡ fold visiting start (visited_in_range from to (flat_map (λ part. part.entries) (take (i + 1) parts)))
+part_more visiting from to parts i p start taken now within is so_far one =
     let entries = λ (part : PartView). part.entries in
     let front : take (i + 1) parts ≡ take i parts ++ p ∷ [] = take_more parts i p within ∙ ap (λ y. take i parts ++ y ∷ []) (sym is) in
     let all : visited_in_range from to (flat_map entries (take (i + 1) parts)) ≡ visited_in_range from to (flat_map entries (take i parts)) ++ visited_in_range from to p.entries =
     ap (λ ps. visited_in_range from to (flat_map entries ps)) front ∙ ap (visited_in_range from to) (flat_map-append entries (take i parts) (p ∷ []) ∙ ap (λ es. flat_map entries (take i parts) ++ es) (append-nil p.entries)) ∙ visited-append from to (flat_map entries (take i parts)) p.entries in
-    one ∙ ap (λ t. fold taking t (visited_in_range from to p.entries)) so_far ∙ sym (fold-append taking start (visited_in_range from to (flat_map entries (take i parts))) (visited_in_range from to p.entries)) ∙ ap (fold taking start) (sym all)
+    one ∙ ap (λ t. fold visiting t (visited_in_range from to p.entries)) so_far ∙ sym (fold-append visiting start (visited_in_range from to (flat_map entries (take i parts))) (visited_in_range from to p.entries)) ∙ ap (fold visiting start) (sym all)
 
 -- lines of entries are visited as the entries are
 same_visited : (set : LabelSet) (from to : ℕ) (entries : List Entry) → AllByRecursion (λ entry. entry.labels ≡ set) entries → lines_in_range set from to (map line_of entries) ≡ visited_in_range from to entries
@@ -70,27 +70,27 @@ nothing_visited set xs first last from to run range out = none_visited from to x
     at entry low high (inr following) = grind (arith, nat_tests, range.start, range.end)
 
 -- parts, and then the head
-pub both_visited : {T : Type 0} (taking : T → LabelSet × Line → T) (set : LabelSet) (from to : ℕ) (parts : List PartView) (head : List Entry) (start mid now : T) → All (λ entry. entry.labels ≡ set) head
-    → mid ≡ fold taking start (visited_in_range from to (flat_map (λ part. part.entries) parts)) → now ≡ fold taking mid (lines_in_range set from to (map line_of head)) → now ≡ fold taking start (visited_in_range from to (flat_map (λ part. part.entries) parts ++ head))
-both_visited taking set from to parts head start mid now same first second =
+pub both_visited : {T : Type 0} (visiting : T → LabelSet × Line → T) (set : LabelSet) (from to : ℕ) (parts : List PartView) (head : List Entry) (start mid now : T) → All (λ entry. entry.labels ≡ set) head
+    → mid ≡ fold visiting start (visited_in_range from to (flat_map (λ part. part.entries) parts)) → now ≡ fold visiting mid (lines_in_range set from to (map line_of head)) → now ≡ fold visiting start (visited_in_range from to (flat_map (λ part. part.entries) parts ++ head))
+both_visited visiting set from to parts head start mid now same first second =
     let all : List Entry = flat_map (λ part. part.entries) parts in
-    second ∙ (λ i. fold taking (first i) (lines_visited set from to head same i)) ∙ sym (fold-append taking start (visited_in_range from to all) (visited_in_range from to head)) ∙ ap (fold taking start) (sym (visited-append from to all head))
+    second ∙ (λ i. fold visiting (first i) (lines_visited set from to head same i)) ∙ sym (fold-append visiting start (visited_in_range from to all) (visited_in_range from to head)) ∙ ap (fold visiting start) (sym (visited-append from to all head))
 
 -- pieces of parts, and then of others
-handed_then : {T : Type 0} (taking : T → LabelSet × Line → T) (set : LabelSet) (from to : ℕ) (xs ys : List PartView) (a b c : T) → IsHandedOut taking set from to xs a b → IsHandedOut taking set from to ys b c → IsHandedOut taking set from to (xs ++ ys) a c
-handed_then taking set from to xs ys a b c p q = record {
+visited_then : {T : Type 0} (visiting : T → LabelSet × Line → T) (set : LabelSet) (from to : ℕ) (xs ys : List PartView) (a b c : T) → IsVisited visiting set from to xs a b → IsVisited visiting set from to ys b c → IsVisited visiting set from to (xs ++ ys) a c
+visited_then visiting set from to xs ys a b c p q = record {
   pieces = p.pieces ++ q.pieces;
   each = AllZip-append (IsPiece set from to) xs p.pieces ys q.pieces p.each q.each;
-  following = q.following ∙ ap (λ t. fold taking t (flat_map (λ piece. piece) q.pieces)) p.following ∙ sym (fold-append taking a (flat_map (λ piece. piece) p.pieces) (flat_map (λ piece. piece) q.pieces)) ∙ ap (fold taking a) (sym (flat_map-append (λ piece. piece) p.pieces q.pieces));
+  following = q.following ∙ ap (λ t. fold visiting t (flat_map (λ piece. piece) q.pieces)) p.following ∙ sym (fold-append visiting a (flat_map (λ piece. piece) p.pieces) (flat_map (λ piece. piece) q.pieces)) ∙ ap (fold visiting a) (sym (flat_map-append (λ piece. piece) p.pieces q.pieces));
 }
 
 -- the piece of one part more
-pub piece_more : {T : Type 0} (taking : T → LabelSet × Line → T) (set : LabelSet) (from to : ℕ) (parts : List PartView) (i : ℕ) (p : PartView) (start taken now : T) → i < length parts → p ≡ get_or parts i p
-    → IsHandedOut taking set from to (take i parts) start taken → IsHandedOut taking set from to (p ∷ []) taken now → IsHandedOut taking set from to (take (i + 1) parts) start now
-piece_more taking set from to parts i p start taken now within is so_far one =
+pub piece_more : {T : Type 0} (visiting : T → LabelSet × Line → T) (set : LabelSet) (from to : ℕ) (parts : List PartView) (i : ℕ) (p : PartView) (start taken now : T) → i < length parts → p ≡ get_or parts i p
+    → IsVisited visiting set from to (take i parts) start taken → IsVisited visiting set from to (p ∷ []) taken now → IsVisited visiting set from to (take (i + 1) parts) start now
+piece_more visiting set from to parts i p start taken now within is so_far one =
     let front : take (i + 1) parts ≡ take i parts ++ p ∷ [] = take_more parts i p within ∙ ap (λ y. take i parts ++ y ∷ []) (sym is) in
-    subst (λ (ps : List PartView). IsHandedOut taking set from to ps start now) (sym front) (handed_then taking set from to (take i parts) (p ∷ []) start taken now so_far one)
+    subst (λ (ps : List PartView). IsVisited visiting set from to ps start now) (sym front) (visited_then visiting set from to (take i parts) (p ∷ []) start taken now so_far one)
 
 -- one piece
-pub one_piece : {T : Type 0} (taking : T → LabelSet × Line → T) (set : LabelSet) (from to : ℕ) (p : PartView) (piece : List (LabelSet × Line)) (old new : T) → IsPiece set from to p piece → new ≡ fold taking old piece → IsHandedOut taking set from to (p ∷ []) old new
-one_piece taking set from to p piece old new is following = record { pieces = piece ∷ []; each = (is, tt); following = following ∙ ap (fold taking old) (sym (append-nil piece)) }
+pub one_piece : {T : Type 0} (visiting : T → LabelSet × Line → T) (set : LabelSet) (from to : ℕ) (p : PartView) (piece : List (LabelSet × Line)) (old new : T) → IsPiece set from to p piece → new ≡ fold visiting old piece → IsVisited visiting set from to (p ∷ []) old new
+one_piece visiting set from to p piece old new is following = record { pieces = piece ∷ []; each = (is, tt); following = following ∙ ap (fold visiting old) (sym (append-nil piece)) }

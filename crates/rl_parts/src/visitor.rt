@@ -7,11 +7,11 @@ use rl_labels::{Labels, Ns};
 use std::alloc::AllocError;
 
 /// Visits lines one by one.
-pub trait Taker {
+pub trait Visitor {
     /// What it becomes by one more line.
-    ghost taking: { Self → LabelSet × Line → Self };
+    ghost visiting: { Self → LabelSet × Line → Self };
 
     /// Visits one more line. The text is lent for the call alone.
     fn take(&mut self, labels: &Labels, timestamp: Ns, text: &str) -> Result<(), AllocError>
-        ensures { OnOk result (self.new ≡ taking self.old (labels.now, record { timestamp = timestamp; text = text.now })) };
+        ensures { OnOk result (self.new ≡ visiting self.old (labels.now, record { timestamp = timestamp; text = text.now })) };
 }

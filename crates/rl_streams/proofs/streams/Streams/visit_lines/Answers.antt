@@ -2,13 +2,13 @@
 use Rattle.std.proofs.Common.{◌≡◌, [], ◌∷◌, ◌++◌, true, ap, subst, ◌∙◌}
 use Rattle.std.specs.List.{fold}
 use Rattle.rl_parts.specs.StoreUse.{Right}
-use Rattle.rl_parts.specs.laws.TakerLaws.{fold-pushed}
+use Rattle.rl_parts.specs.laws.VisitorLaws.{fold-pushed}
 use Rattle.rl_parts.specs.laws.UseLaws.{Looked-none}
 use Rattle.rl_streams.specs.Asking.{visited_of, visited_at}
 use Rattle.rl_streams.specs.StreamRows.{by_stream}
 use Rattle.rl_streams.specs.StreamsState.{StreamsView, order_of}
 use Rattle.rl_streams.proofs.Visited.{right_then, visited_here, kept_there}
-use Rattle.rl_streams.proofs.streams.Streams.hand_out.Goals as goal
+use Rattle.rl_streams.proofs.streams.Streams.visit_lines.Goals as goal
 
 pub returns-clause-right : goal.returns-clause-right
 returns-clause-right g c =
@@ -18,7 +18,7 @@ returns-clause-right g c =
     let seen = g.S.Store.seen s.store in
     let selector = c.args.selector.now in
     let before = c.args.lines.now in
-    let after = c.each_selected.new.taker in
+    let after = c.each_selected.new.visitor in
     subst (λ (view : StreamsView). view.seen.honest ≡ true → Right c.each_selected.result (λ _. after ≡ before ++ visited_at selector c.args.from c.args.to (order_of view) c.args.position)) c.self.view_is
     (λ honest. right_then (λ _. after ≡ fold (λ lines line. lines ++ line ∷ []) before (visited_of selector c.args.from c.args.to stream.labels stream)) (λ _. after ≡ before ++ visited_at selector c.args.from c.args.to (by_stream rows) c.args.position)
     (λ _ is. is ∙ fold-pushed before (visited_of selector c.args.from c.args.to stream.labels stream) ∙ ap (λ l. before ++ l) (visited_here selector c.args.from c.args.to rows c.args.position stream c.self.invariant.0.streams.own c.index.ensures)) c.each_selected.result

@@ -4,7 +4,7 @@ ghost use Rattle.std.specs.List.{AllByRecursion, flat_map, fold};
 ghost use Rattle.rl_parts.specs.StreamParts.{IsPart, unwritten, chunk_of};
 ghost use Rattle.rl_parts.specs.PartState.{IsRange};
 ghost use Rattle.rl_parts.specs.StoreUse.{Looked, IsKept, IsNoteOf, Right, ReadCause};
-ghost use Rattle.rl_parts.specs.Reading.{IsApart, IsOutside, IsReadAs, IsHandedOut, lines_in_range, visited_in_range};
+ghost use Rattle.rl_parts.specs.Reading.{IsApart, IsOutside, IsReadAs, IsVisited, lines_in_range, visited_in_range};
 ghost use Rattle.rl_labels.specs.LabelSet.{LabelSet};
 ghost use Rattle.rl_chunks.specs.declared.chunk.Chunk.{Chunk};
 ghost use Rattle.rl_chunks.specs.declared.line.Line.{Line};
@@ -13,7 +13,7 @@ use crate::fault::ReadFault;
 use crate::fetching::fetch;
 use crate::part::{Part, Written};
 use crate::searching::is_outside;
-use crate::taker::Taker;
+use crate::visitor::Visitor;
 use rl_chunks::{AsLine, Store};
 use rl_labels::{Labels, Ns};
 use std::alloc::{AllocError, Global};
@@ -26,85 +26,85 @@ fn is_within(from: Ns, to: Ns, timestamp: Ns) -> bool
 }
 
 // Visits a line, if it is in the range.
-fn hand<L: AsLine, T: Taker>(
+fn visit_line<L: AsLine, T: Visitor>(
     labels: &Labels,
     line: &L,
     from: Ns,
     to: Ns,
-    taker: &mut T,
+    visitor: &mut T,
 ) -> Result<(), AllocError>
-    ensures { OnOk result (taker.new ≡ fold T.taking taker.old (lines_in_range labels.now from to (L.line line.now ∷ []))) }
+    ensures { OnOk result (visitor.new ≡ fold T.visiting visitor.old (lines_in_range labels.now from to (L.line line.now ∷ []))) }
 {
     let timestamp = line.timestamp();
     if is_within(from, to, timestamp) {
-        return taker.take(labels, timestamp, line.text());
+        return visitor.take(labels, timestamp, line.text());
     }
     Ok(())
 }
 
 // Visits the lines of the range.
-pub(crate) fn hand_all<L: AsLine, T: Taker>(
+pub(crate) fn visit_all<L: AsLine, T: Visitor>(
     labels: &Labels,
     lines: &[L],
     from: Ns,
     to: Ns,
-    taker: &mut T,
+    visitor: &mut T,
 ) -> Result<(), AllocError>
-    ensures { OnOk result (taker.new ≡ fold T.taking taker.old (lines_in_range labels.now from to (map L.line lines.now))) }
+    ensures { OnOk result (visitor.new ≡ fold T.visiting visitor.old (lines_in_range labels.now from to (map L.line lines.now))) }
 {
     for line in lines {
-        hand(labels, line, from, to, taker)?;
+        visit_line(labels, line, from, to, visitor)?;
     }
     Ok(())
 }
 
 // Visits what a store has of a part. The store is read only where the part's range of time reaches into the range.
-pub(crate) fn hand_written<S: Store, T: Taker>(
+pub(crate) fn visit_written<S: Store, T: Visitor>(
     alloc: Global,
     store: &mut S,
     written: &Written,
     labels: &Labels,
     from: Ns,
     to: Ns,
-    taker: &mut T,
+    visitor: &mut T,
 ) -> Result<(), ReadFault>
     requires part { IsPart labels.now (unwritten written.now.entries.value) }
     requires range { IsRange written.now.entries.value written.now.first written.now.last }
     ensures looked { Looked (S.seen store.old) (S.seen store.new) }
     ensures cause { IfErr result (ReadCause (S.seen store.old) (S.seen store.new)) }
     ensures unread { IsApart from to written.now.entries.value → S.seen store.new ≡ S.seen store.old }
-    ensures visited { IsApart from to written.now.entries.value → OnOk result (taker.new ≡ fold T.taking taker.old (visited_in_range from to written.now.entries.value)) }
-    ensures piece { OnOk result ((piece : List (LabelSet × Line)) × ((IsApart from to written.now.entries.value × (piece ≡ [])) ⊎ ((chunk : Chunk) × IsReadAs written.now.digest chunk × (piece ≡ lines_in_range labels.now from to chunk.lines))) × (taker.new ≡ fold T.taking taker.old piece)) }
-    ensures right { (next : ℕ) → IsNoteOf (S.seen store.old) next (chunk_of labels.now written.now.entries.value) (record { number = written.now.number; digest = written.now.digest }) → (S.seen store.old).honest ≡ true → Right result (λ _. taker.new ≡ fold T.taking taker.old (visited_in_range from to written.now.entries.value)) }
+    ensures visited { IsApart from to written.now.entries.value → OnOk result (visitor.new ≡ fold T.visiting visitor.old (visited_in_range from to written.now.entries.value)) }
+    ensures piece { OnOk result ((piece : List (LabelSet × Line)) × ((IsApart from to written.now.entries.value × (piece ≡ [])) ⊎ ((chunk : Chunk) × IsReadAs written.now.digest chunk × (piece ≡ lines_in_range labels.now from to chunk.lines))) × (visitor.new ≡ fold T.visiting visitor.old piece)) }
+    ensures right { (next : ℕ) → IsNoteOf (S.seen store.old) next (chunk_of labels.now written.now.entries.value) (record { number = written.now.number; digest = written.now.digest }) → (S.seen store.old).honest ≡ true → Right result (λ _. visitor.new ≡ fold T.visiting visitor.old (visited_in_range from to written.now.entries.value)) }
 {
     if is_outside(written, from, to) {
         return Ok(());
     }
     let chunk = fetch(alloc, store, written.number, &written.digest)?;
-    hand_all(labels, chunk.lines.as_slice(), from, to, taker)?;
+    visit_all(labels, chunk.lines.as_slice(), from, to, visitor)?;
     Ok(())
 }
 
 // Visits the entries of parts.
-pub(crate) fn hand_parts<S: Store, T: Taker>(
+pub(crate) fn visit_parts<S: Store, T: Visitor>(
     alloc: Global,
     store: &mut S,
     labels: &Labels,
     parts: &[Part],
     from: Ns,
     to: Ns,
-    taker: &mut T,
+    visitor: &mut T,
 ) -> Result<(), ReadFault>
     requires { AllByRecursion (IsPart labels.now) parts.now }
     ensures looked { Looked (S.seen store.old) (S.seen store.new) }
     ensures cause { IfErr result (ReadCause (S.seen store.old) (S.seen store.new)) }
     ensures unread { AllByRecursion (IsOutside from to) parts.now → S.seen store.new ≡ S.seen store.old }
-    ensures visited { AllByRecursion (IsOutside from to) parts.now → OnOk result (taker.new ≡ fold T.taking taker.old (visited_in_range from to (flat_map (λ part. part.entries) parts.now))) }
-    ensures pieces { OnOk result (IsHandedOut T.taking labels.now from to parts.now taker.old taker.new) }
-    ensures right { (next : ℕ) → AllByRecursion (IsKept (S.seen store.old) next labels.now) parts.now → (S.seen store.old).honest ≡ true → Right result (λ _. taker.new ≡ fold T.taking taker.old (visited_in_range from to (flat_map (λ part. part.entries) parts.now))) }
+    ensures visited { AllByRecursion (IsOutside from to) parts.now → OnOk result (visitor.new ≡ fold T.visiting visitor.old (visited_in_range from to (flat_map (λ part. part.entries) parts.now))) }
+    ensures pieces { OnOk result (IsVisited T.visiting labels.now from to parts.now visitor.old visitor.new) }
+    ensures right { (next : ℕ) → AllByRecursion (IsKept (S.seen store.old) next labels.now) parts.now → (S.seen store.old).honest ≡ true → Right result (λ _. visitor.new ≡ fold T.visiting visitor.old (visited_in_range from to (flat_map (λ part. part.entries) parts.now))) }
 {
     for part in parts {
-        part.hand_out(alloc, store, labels, from, to, taker)?;
+        part.visit_lines(alloc, store, labels, from, to, visitor)?;
     }
     Ok(())
 }
