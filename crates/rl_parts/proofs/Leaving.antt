@@ -23,7 +23,7 @@ use Rattle.rl_parts.specs.StoreUse.{Grown, IsKept}
 use Rattle.rl_parts.specs.Rewriting.{AreLeft, AreOfLines, AreRenumbered, AreRewritten, IsChangedHere, IsLeft, IsOneMore, carried, entries_in, gone_by, left_by, note_numbers, uncovered}
 use Rattle.rl_parts.specs.declared.plan.Change.{Change}
 use Rattle.rl_parts.specs.declared.plan.Change.TheVariants.{Stays, Goes, Becomes}
-use Rattle.rl_parts.specs.Marks.{AreMarks, mark, marks_of}
+use Rattle.rl_parts.specs.Fingerprints.{AreFingerprints, fingerprint, fingerprints_of}
 use Rattle.rl_parts.specs.laws.RewriteLaws.{AreRenumbered-all, AreRenumbered-none, AreRenumbered-then, range-none}
 use Rattle.rl_parts.specs.laws.VisitorLaws.{AllZip-append}
 use Rattle.rl_parts.specs.laws.UseLaws.{Grown-none, each_part, IsKept-grown}
@@ -224,8 +224,8 @@ count_up_to (q ∷ parts) (suc i) p within is =
     omega (arith, others, length-append q.entries (entries_in parts), length-append q.entries (entries_in (take i parts)))
 
 -- there is one fingerprint for each entry
-pub marks_len : (entries : List Entry) (marks : List ℕ) → AreMarks entries marks → length marks ≡ length entries
-marks_len entries marks are = length_permutation (marks_of entries) marks are.all ∙ length-map entries (λ entry. mark (line_of entry))
+pub fingerprints_len : (entries : List Entry) (fingerprints : List ℕ) → AreFingerprints entries fingerprints → length fingerprints ≡ length entries
+fingerprints_len entries fingerprints are = length_permutation (fingerprints_of entries) fingerprints are.all ∙ length-map entries (λ entry. fingerprint (line_of entry))
 
 -- what becomes of entries in memory
 pub here_rewritten : (covers : Entry → Bool) (set : LabelSet) (entries : List Entry) (change : Change) (first : ℕ) (start : Seen) → IsPart set (unwritten entries) → IsChangedHere covers entries change

@@ -5,7 +5,7 @@ pub mod Heads
 pub mod InOrder
 pub mod Leaving
 pub mod Lines
-pub mod Marked
+pub mod Fingerprinted
 pub mod Puts
 pub mod Refusals
 pub mod Rereading

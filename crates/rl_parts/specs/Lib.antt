@@ -1,5 +1,5 @@
 pub mod Changes
-pub mod Marks
+pub mod Fingerprints
 pub mod PartState
 pub mod Reading
 pub mod RewriteFaults

@@ -6,7 +6,7 @@ use Rattle.rl_labels.specs.declared.entry.Entry.{Entry}
 use Rattle.rl_chunks.specs.StoreState.{Seen}
 use Rattle.rl_parts.specs.StreamParts.{Note, PartView, chunk_of}
 use Rattle.rl_parts.specs.StoreUse.{IsNoteOf}
-use Rattle.rl_parts.specs.Marks.{AreMarks}
+use Rattle.rl_parts.specs.Fingerprints.{AreFingerprints}
 use Rattle.rl_parts.specs.declared.part.Written.{Written}
 use Rattle.rl_parts.specs.declared.part.Location.{Location}
 use Rattle.rl_parts.specs.declared.part.Location.TheVariants.{Here, InStore}
@@ -32,14 +32,14 @@ pub record IsRange (entries : List Entry) (first last : ℕ) : Type 0 where
   pub end : last ≡ timestamp_at entries (length entries - 1)
 
 -- the range and the fingerprints that are kept of a written part are its own
-abbrev pub RangeAndMarksAreKept : Location → Type 0
-RangeAndMarksAreKept (Here entries) = Unit {0}
-RangeAndMarksAreKept (InStore written) = IsRange written.entries.value written.first written.last × AreMarks written.entries.value written.marks
+abbrev pub RangeAndFingerprintsAreKept : Location → Type 0
+RangeAndFingerprintsAreKept (Here entries) = Unit {0}
+RangeAndFingerprintsAreKept (InStore written) = IsRange written.entries.value written.first written.last × AreFingerprints written.entries.value written.fingerprints
 
 -- what is kept of entries that were written under a number, over what a store then has
 pub record IsWritten (seen : Seen) (labels : LabelSet) (entries : List Entry) (number : ℕ) (written : Written) : Type 0 where
   pub entries_are : written.entries.value ≡ entries
   pub range : IsRange entries written.first written.last
-  pub marks : AreMarks entries written.marks
+  pub fingerprints : AreFingerprints entries written.fingerprints
   pub number_is : written.number ≡ number
   pub note : IsNoteOf seen (number + 1) (chunk_of labels entries) (record { number = written.number; digest = written.digest })

@@ -8,8 +8,8 @@ ghost use Rattle.rl_parts.specs.StoreUse.{Grown, IsKept, FlushCause};
 ghost use Rattle.rl_parts.specs.Changes.{AreNoted, unwritten_count};
 
 use crate::fault::FlushFault;
-use crate::held::Held;
-use crate::marks::marks_of;
+use crate::stored::StoredEntry;
+use crate::fingerprints::fingerprints_of;
 use crate::part::{Part, Written};
 use rl_chunks::{AsLine, Store, StoreFault, encode};
 use rl_labels::{Labels, Ns};
@@ -32,7 +32,7 @@ fn put_bytes<S: Store>(store: &mut S, number: u64, bytes: Vec<u8>) -> Result<(),
 }
 
 // The timestamps of the first and the last entry.
-fn range_of(entries: &[Held]) -> (Ns, Ns)
+fn range_of(entries: &[StoredEntry]) -> (Ns, Ns)
     requires { 0 < length entries.now }
     ensures { IsRange entries.now result.0 result.1 }
 {
@@ -46,7 +46,7 @@ pub(crate) fn write_entries<S: Store>(
     alloc: Global,
     store: &mut S,
     labels: &Labels,
-    entries: &PlainList<Held>,
+    entries: &PlainList<StoredEntry>,
     next: &mut u64,
 ) -> Result<Written, FlushFault>
     requires { IsPart labels.now (unwritten entries.now) }
@@ -61,7 +61,7 @@ pub(crate) fn write_entries<S: Store>(
     }
     let bytes = encode(alloc, labels, entries.as_slice())?;
     let digest = Sha256::digest(bytes.as_slice());
-    let marks = marks_of(alloc, entries.as_slice())?;
+    let fingerprints = fingerprints_of(alloc, entries.as_slice())?;
     put_bytes(store, number, bytes)?;
     *next = number + 1;
     let (first, last) = range_of(entries.as_slice());
@@ -70,7 +70,7 @@ pub(crate) fn write_entries<S: Store>(
         digest,
         first,
         last,
-        marks,
+        fingerprints,
         entries: Snapshot::of(entries),
     })
 }

@@ -2,7 +2,7 @@
 use crate::fault::{FlushFault, ReadFault, RewriteFault};
 use crate::flushing::write_entries;
 use crate::visiting_lines::{visit_all, visit_written};
-use crate::held::Held;
+use crate::stored::StoredEntry;
 use crate::plan::Change;
 use crate::rewriting::{rewrite_here, rewrite_written};
 use crate::searching::{has_entry, has_written};
@@ -22,14 +22,14 @@ pub(crate) struct Written {
     pub(crate) first: Ns,
     pub(crate) last: Ns,
     // Fingerprints of all entries, in rising order. The store is read for an entry only where its own is one of them.
-    pub(crate) marks: PlainList<u64>,
-    pub(crate) entries: Snapshot<PlainList<Held>>,
+    pub(crate) fingerprints: PlainList<u64>,
+    pub(crate) entries: Snapshot<PlainList<StoredEntry>>,
 }
 
 // Where the entries are.
 #[derive(Drop)]
 enum Location {
-    Here(PlainList<Held>),
+    Here(PlainList<StoredEntry>),
     InStore(Written),
 }
 
@@ -46,11 +46,11 @@ impl Model for Part {
 
     ghost coded = { part_code };
 
-    ghost use Rattle.rl_parts.specs.PartState.{part_at, RangeAndMarksAreKept};
+    ghost use Rattle.rl_parts.specs.PartState.{part_at, RangeAndFingerprintsAreKept};
 
     ghost view = { λ a. part_at a.location };
 
-    ghost invariant = { λ a. RangeAndMarksAreKept a.location };
+    ghost invariant = { λ a. RangeAndFingerprintsAreKept a.location };
 }
 
 impl Part {
@@ -61,12 +61,12 @@ impl Part {
     ghost use Rattle.rl_parts.specs.StoreUse.{Looked, Grown, IsKept, Right, ReadCause, FlushCause};
     ghost use Rattle.rl_parts.specs.Reading.{IsOutside, IsWith, IsWithout, IsVisited, in_memory, in_store, visited_in_range};
     ghost use Rattle.rl_parts.specs.Changes.{AreNoted};
-    ghost use Rattle.rl_parts.specs.Marks.{AreMarks};
+    ghost use Rattle.rl_parts.specs.Fingerprints.{AreFingerprints};
     ghost use Rattle.rl_parts.specs.PartState.{IsRange};
     ghost use Rattle.rl_parts.specs.Rewriting.{AreRewritten, RewriteCause, gone_by, left_by};
 
     // A part that no store has.
-    pub(crate) fn new(entries: Vec<Held>) -> Part
+    pub(crate) fn new(entries: Vec<StoredEntry>) -> Part
         ensures { result ≡ unwritten entries.items }
     {
         let location = Location::Here(PlainList::from_vec(entries));
@@ -76,7 +76,7 @@ impl Part {
     // A part that a store has.
     pub(crate) fn kept(written: Written) -> Part
         requires range { IsRange written.entries.value written.first written.last }
-        requires marks { AreMarks written.entries.value written.marks }
+        requires fingerprints { AreFingerprints written.entries.value written.fingerprints }
         ensures { result ≡ record { entries = written.entries.value; note = Some (record { number = written.number; digest = written.digest }) } }
     {
         Part {
@@ -90,7 +90,7 @@ impl Part {
     {
         match &self.location {
             Location::Here(entries) => entries.len(),
-            Location::InStore(written) => written.marks.len(),
+            Location::InStore(written) => written.fingerprints.len(),
         }
     }
 

@@ -7,7 +7,7 @@ ghost use Rattle.rl_parts.specs.StoreUse.{Grown, IsKept};
 ghost use Rattle.rl_parts.specs.StreamParts.{IsPart};
 
 use crate::fault::RewriteFault;
-use crate::held::Held;
+use crate::stored::StoredEntry;
 use crate::part::Part;
 use crate::stream::Stream;
 use rl_chunks::Store;
@@ -32,7 +32,7 @@ pub struct Plan {
     pub(crate) changes: Vec<Change>,
     // Room for the parts.
     pub(crate) room: Vec<Part>,
-    pub(crate) head: Vec<Held>,
+    pub(crate) head: Vec<StoredEntry>,
     pub(crate) sealed_to: Option<Ns>,
     pub(crate) gone: Vec<u64>,
 }

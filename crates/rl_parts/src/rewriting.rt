@@ -6,7 +6,7 @@ ghost use Rattle.rl_labels.specs.LabelSet.{LabelSet};
 ghost use Rattle.rl_labels.specs.declared.entry.Entry.{Entry};
 ghost use Rattle.rl_chunks.specs.EntryLines.{line_of};
 ghost use Rattle.rl_chunks.specs.declared.chunk.Chunk.{Chunk};
-ghost use Rattle.rl_parts.specs.Marks.{AreMarks};
+ghost use Rattle.rl_parts.specs.Fingerprints.{AreFingerprints};
 ghost use Rattle.rl_parts.specs.PartState.{IsRange, part_at};
 ghost use Rattle.rl_parts.specs.Reading.{IsReadAs};
 ghost use Rattle.rl_parts.specs.Rewriting.{AreOfLines, AreRewritten, IsChangedHere, RewriteCause, gone_by, left_by, uncovered};
@@ -17,7 +17,7 @@ ghost use Rattle.rl_parts.specs.declared.part.Location.TheVariants.{InStore};
 use crate::fault::{ReadFault, RewriteFault};
 use crate::fetching::fetch;
 use crate::flushing::write_entries;
-use crate::held::Held;
+use crate::stored::StoredEntry;
 use crate::part::{Part, Written};
 use crate::plan::Change;
 use rl_chunks::{Line, Store};
@@ -29,14 +29,14 @@ use std::alloc::{AllocError, Global};
 pub(crate) fn uncovered<C: Covers>(
     alloc: Global,
     covered: &C,
-    entries: &[Held],
-) -> Result<Vec<Held>, AllocError>
+    entries: &[StoredEntry],
+) -> Result<Vec<StoredEntry>, AllocError>
     ensures { IfOk result (λ left. left.items ≡ uncovered (C.covers covered.now) entries.now) }
 {
     let mut left = Vec::new(alloc);
-    for held in entries {
-        if !covered.covers(held.entry())? {
-            left.push(held.share()?)?;
+    for stored in entries {
+        if !covered.covers(stored.entry())? {
+            left.push(stored.share()?)?;
         }
     }
     Ok(left)
@@ -46,7 +46,7 @@ pub(crate) fn uncovered<C: Covers>(
 pub(crate) fn rewrite_here<C: Covers>(
     alloc: Global,
     covered: &C,
-    entries: &[Held],
+    entries: &[StoredEntry],
 ) -> Result<Change, AllocError>
     ensures { IfOk result (λ change. IsChangedHere (C.covers covered.now) entries.now change) }
 {
@@ -79,13 +79,13 @@ fn entry_of(labels: &Labels, line: Line) -> Result<Entry, AllocError>
 fn push_uncovered<C: Covers>(
     alloc: Global,
     covered: &C,
-    left: &mut Vec<Held>,
+    left: &mut Vec<StoredEntry>,
     entry: Entry,
 ) -> Result<(), AllocError>
     ensures { OnOk result (left.new.items ≡ left.old.items ++ uncovered (C.covers covered.now) (entry ∷ [])) }
 {
     if !covered.covers(&entry)? {
-        left.push(Held::new(Shared::new(alloc, entry)?))?;
+        left.push(StoredEntry::new(Shared::new(alloc, entry)?))?;
     }
     Ok(())
 }
@@ -96,7 +96,7 @@ fn uncovered_lines<C: Covers>(
     covered: &C,
     labels: &Labels,
     lines: Vec<Line>,
-) -> Result<Vec<Held>, AllocError>
+) -> Result<Vec<StoredEntry>, AllocError>
     requires stream { IsTrue (is_stream labels.now) }
     requires short { All (λ line. length line.text ≤ longest_line) lines.items }
     ensures { IfOk result (λ left. (read : List Entry) × AreOfLines labels.now lines.items read × (left.items ≡ uncovered (C.covers covered.now) read)) }
@@ -125,14 +125,14 @@ fn read_again<S: Store>(
     written: &Written,
 ) -> Result<Vec<Line>, ReadFault>
     ensures found { IfOk result (λ lines. (chunk : Chunk) × IsReadAs written.now.digest chunk × (lines.items ≡ chunk.lines)) }
-    ensures many { IfOk result (λ lines. length lines.items ≡ length written.now.marks) }
+    ensures many { IfOk result (λ lines. length lines.items ≡ length written.now.fingerprints) }
     ensures old { IfOk result (λ lines. All (λ line. line.timestamp ≤ written.now.last) lines.items) }
     ensures looked { Looked (S.seen store.old) (S.seen store.new) }
     ensures cause { IfErr result (ReadCause (S.seen store.old) (S.seen store.new)) }
-    ensures right { (labels : LabelSet) (next : ℕ) → IsPart labels (unwritten written.now.entries.value) → IsRange written.now.entries.value written.now.first written.now.last → AreMarks written.now.entries.value written.now.marks → IsNoteOf (S.seen store.old) next (chunk_of labels written.now.entries.value) (record { number = written.now.number; digest = written.now.digest }) → (S.seen store.old).honest ≡ true → Right result (λ lines. lines.items ≡ map line_of written.now.entries.value) }
+    ensures right { (labels : LabelSet) (next : ℕ) → IsPart labels (unwritten written.now.entries.value) → IsRange written.now.entries.value written.now.first written.now.last → AreFingerprints written.now.entries.value written.now.fingerprints → IsNoteOf (S.seen store.old) next (chunk_of labels written.now.entries.value) (record { number = written.now.number; digest = written.now.digest }) → (S.seen store.old).honest ≡ true → Right result (λ lines. lines.items ≡ map line_of written.now.entries.value) }
 {
     let chunk = fetch(alloc, store, written.number, &written.digest)?;
-    if !are_of_part(chunk.lines.as_slice(), written.marks.len(), written.last) {
+    if !are_of_part(chunk.lines.as_slice(), written.fingerprints.len(), written.last) {
         return Err(ReadFault::Damaged);
     }
     Ok(chunk.lines.into_vec())
@@ -149,7 +149,7 @@ pub(crate) fn rewrite_written<S: Store, C: Covers>(
 ) -> Result<Change, RewriteFault>
     requires part { IsPart labels.now (unwritten written.now.entries.value) }
     requires range { IsRange written.now.entries.value written.now.first written.now.last }
-    requires marks { AreMarks written.now.entries.value written.now.marks }
+    requires fingerprints { AreFingerprints written.now.entries.value written.now.fingerprints }
     ensures rewritten { IfOk result (λ change. AreRewritten (C.covers covered.now) labels.now (part_at (InStore written.now) ∷ []) next.old (S.seen store.old) (left_by (part_at (InStore written.now)) change) (gone_by (part_at (InStore written.now)) change) next.new (S.seen store.new)) }
     ensures undamaged { IsNoteOf (S.seen store.old) next.old (chunk_of labels.now written.now.entries.value) (record { number = written.now.number; digest = written.now.digest }) → (S.seen store.old).honest ≡ true → IsErrOf result RewriteFault.Damaged → ⊥ }
     ensures next { next.old ≤ next.new }

@@ -5,15 +5,15 @@ ghost use Rattle.std.specs.List.{AllByRecursion, Contains, flat_map};
 ghost use Rattle.rl_chunks.specs.EntryLines.{line_of};
 ghost use Rattle.rl_parts.specs.StreamParts.{PartView, IsPart, IsRun, unwritten, chunk_of};
 ghost use Rattle.rl_chunks.specs.declared.chunk.Chunk.{Chunk};
-ghost use Rattle.rl_parts.specs.Marks.{AreMarks};
+ghost use Rattle.rl_parts.specs.Fingerprints.{AreFingerprints};
 ghost use Rattle.rl_parts.specs.PartState.{IsRange};
 ghost use Rattle.rl_parts.specs.StoreUse.{Looked, IsKept, IsNoteOf, Right, ReadCause};
 ghost use Rattle.rl_parts.specs.Reading.{IsApart, IsOutside, IsReadAs, IsWith, IsWithout, in_memory, in_store};
 
 use crate::fault::ReadFault;
 use crate::fetching::fetch;
-use crate::held::Held;
-use crate::marks::{has_mark, mark_of};
+use crate::stored::StoredEntry;
+use crate::fingerprints::{has_fingerprint, fingerprint_of};
 use crate::part::{Part, Written};
 use crate::sealing::search;
 use rl_chunks::{Line, Store};
@@ -21,7 +21,7 @@ use rl_labels::{Entry, Ns};
 use std::alloc::Global;
 
 // Whether entries in order have this one.
-pub(crate) fn has_entry(entries: &[Held], entry: &Entry) -> bool
+pub(crate) fn has_entry(entries: &[StoredEntry], entry: &Entry) -> bool
     requires { IsRun entry.now.labels entries.now }
     ensures { IsTrue result ↔ Contains entries.now entry.now }
 {
@@ -72,15 +72,15 @@ pub(crate) fn is_outside(written: &Written, from: Ns, to: Ns) -> bool
 fn may_have(written: &Written, entry: &Entry) -> bool
     requires part { IsPart entry.now.labels (unwritten written.now.entries.value) }
     requires range { IsRange written.now.entries.value written.now.first written.now.last }
-    requires marks { AreMarks written.now.entries.value written.now.marks }
+    requires fingerprints { AreFingerprints written.now.entries.value written.now.fingerprints }
     ensures absent { result ≡ false → Contains written.now.entries.value entry.now → ⊥ }
     ensures reaches { result ≡ true → IsApart entry.now.timestamp entry.now.timestamp written.now.entries.value → ⊥ }
 {
     if is_outside(written, entry.timestamp, entry.timestamp) {
         return false;
     }
-    let mark = mark_of(entry.timestamp, entry.line.as_str());
-    has_mark(written.marks.as_slice(), mark)
+    let fingerprint = fingerprint_of(entry.timestamp, entry.line.as_str());
+    has_fingerprint(written.fingerprints.as_slice(), fingerprint)
 }
 
 // Whether the entry is among those that a store has of a part. The store is read only where the part's range of time has
@@ -93,7 +93,7 @@ pub(crate) fn has_written<S: Store>(
 ) -> Result<bool, ReadFault>
     requires part { IsPart entry.now.labels (unwritten written.now.entries.value) }
     requires range { IsRange written.now.entries.value written.now.first written.now.last }
-    requires marks { AreMarks written.now.entries.value written.now.marks }
+    requires fingerprints { AreFingerprints written.now.entries.value written.now.fingerprints }
     ensures looked { Looked (S.seen store.old) (S.seen store.new) }
     ensures cause { IfErr result (ReadCause (S.seen store.old) (S.seen store.new)) }
     ensures unread { IsApart entry.now.timestamp entry.now.timestamp written.now.entries.value → S.seen store.new ≡ S.seen store.old }

@@ -4,7 +4,7 @@ ghost use Rattle.std.specs.Prelude.{◌≡◌, ℕ, ◌<◌, ◌≤◌, ◌^◌,
 use crate::fault::{FlushFault, ReadFault, RewriteFault};
 use crate::flushing::write_parts;
 use crate::visiting_lines::{visit_all, visit_parts};
-use crate::held::{Held, with_labels};
+use crate::stored::{StoredEntry, with_labels};
 use crate::part::Part;
 use crate::plan::{Plan, carry, count_parts, plan_parts};
 use crate::rewriting::uncovered;
@@ -28,7 +28,7 @@ pub struct Stream {
     labels: Labels,
     parts: Vec<Part>,
     // Not sealed yet; by timestamp and line.
-    head: Vec<Held>,
+    head: Vec<StoredEntry>,
     newest: Ns,
     // The newest timestamp in a part, if there is a part.
     sealed_to: Option<Ns>,
@@ -69,7 +69,7 @@ impl Stream {
         let labels = entry.get().labels.try_copy()?;
         let newest = entry.get().timestamp;
         let mut head = Vec::new(alloc);
-        head.push(Held::new(entry))?;
+        head.push(StoredEntry::new(entry))?;
         let mut stream = Stream {
             labels,
             parts: Vec::new(alloc),

@@ -8,7 +8,7 @@ use Rattle.rl_parts.specs.StreamParts.{PartView, IsPart, chunk_of, unwritten}
 use Rattle.rl_parts.specs.StoreUse.{IsNoteOf}
 use Rattle.rl_parts.specs.Rewriting.{AreRewritten, uncovered}
 use Rattle.rl_parts.specs.laws.UseLaws.{Grown-looked, Grown-none}
-use Rattle.rl_parts.proofs.Leaving.{filter_all, marks_len, part_left}
+use Rattle.rl_parts.proofs.Leaving.{filter_all, fingerprints_len, part_left}
 use Rattle.rl_parts.proofs.Lines.{stream_of}
 use Rattle.rl_parts.proofs.Rereading.{read_becomes, read_goes, read_part, read_stays, unread_stays}
 use Rattle.rl_parts.proofs.rewriting.rewrite_written.Goals as goal
@@ -35,8 +35,8 @@ returns-then-len-many-clause-rewritten g c =
     let none : uncovered covers read ≡ read = filter_all (λ entry. not (covers entry)) read
     (omega (arith, ap length left, c.in_ok-left.left.ok.0, c.len.ensures, c.len-many.ensures, c.if-len-many.true, lines.ok.0, ap length are.same, length-map read line_of)) in
     read_stays covers c.args.labels.now written.entries.value (record { number = written.number; digest = written.digest }) written.first written.last c.args.next.now start lines.items read c.requires.part c.requires.range c.in_ok-lines.ensures.found are
-    (c.in_ok-lines.ensures.many ∙ marks_len written.entries.value written.marks c.requires.marks) c.in_ok-lines.ensures.old
-    (λ honest kept. c.in_ok-lines.ensures.right c.args.labels.now c.args.next.now c.requires.part c.requires.range c.requires.marks kept honest)
+    (c.in_ok-lines.ensures.many ∙ fingerprints_len written.entries.value written.fingerprints c.requires.fingerprints) c.in_ok-lines.ensures.old
+    (λ honest kept. c.in_ok-lines.ensures.right c.args.labels.now c.args.next.now c.requires.part c.requires.range c.requires.fingerprints kept honest)
     (g.S.Store.seen c.read_again.new.store) (Grown-looked start (g.S.Store.seen c.read_again.new.store) c.args.next.now c.read_again.ensures.looked) none
 
 pub returns-then-is_empty-clause-rewritten : goal.returns-then-is_empty-clause-rewritten
@@ -50,8 +50,8 @@ returns-then-is_empty-clause-rewritten g c =
     let left : c.in_ok-left.left.items ≡ uncovered covers read = c.in_ok-left.ensures.2 in
     let none : length c.in_ok-left.left.items ≡ 0 = grind (arith, nat_tests, c.in_ok-left.left.ok.0, c.is_empty.ensures, c.if-is_empty.true) in
     read_goes covers c.args.labels.now written.entries.value (record { number = written.number; digest = written.digest }) written.first written.last c.args.next.now start lines.items read c.requires.part c.requires.range c.in_ok-lines.ensures.found are
-    (c.in_ok-lines.ensures.many ∙ marks_len written.entries.value written.marks c.requires.marks) c.in_ok-lines.ensures.old
-    (λ honest kept. c.in_ok-lines.ensures.right c.args.labels.now c.args.next.now c.requires.part c.requires.range c.requires.marks kept honest)
+    (c.in_ok-lines.ensures.many ∙ fingerprints_len written.entries.value written.fingerprints c.requires.fingerprints) c.in_ok-lines.ensures.old
+    (λ honest kept. c.in_ok-lines.ensures.right c.args.labels.now c.args.next.now c.requires.part c.requires.range c.requires.fingerprints kept honest)
     (g.S.Store.seen c.read_again.new.store) (sym left ∙ nil_from_length c.in_ok-left.left.items none)
 
 pub write_entries-requires : goal.write_entries-requires
@@ -65,8 +65,8 @@ write_entries-requires g c =
     let left : c.in_ok-left.left.items ≡ uncovered covers read = c.in_ok-left.ensures.2 in
     let some : 0 < length c.in_ok-left.left.items = grind (arith, nat_tests, c.in_ok-left.left.ok.0, c.is_empty.ensures, c.if-is_empty.false) in
     let part : IsPart c.args.labels.now (unwritten read) = read_part covers c.args.labels.now written.entries.value (record { number = written.number; digest = written.digest }) written.first written.last c.args.next.now start lines.items read c.requires.part c.requires.range c.in_ok-lines.ensures.found are
-    (c.in_ok-lines.ensures.many ∙ marks_len written.entries.value written.marks c.requires.marks) c.in_ok-lines.ensures.old
-    (λ honest kept. c.in_ok-lines.ensures.right c.args.labels.now c.args.next.now c.requires.part c.requires.range c.requires.marks kept honest) in
+    (c.in_ok-lines.ensures.many ∙ fingerprints_len written.entries.value written.fingerprints c.requires.fingerprints) c.in_ok-lines.ensures.old
+    (λ honest kept. c.in_ok-lines.ensures.right c.args.labels.now c.args.next.now c.requires.part c.requires.range c.requires.fingerprints kept honest) in
     subst (λ (es : List Entry). IsPart c.args.labels.now (unwritten es)) (sym (c.from_vec-left.ensures ∙ left)) (part_left covers c.args.labels.now read part (omega (arith, some, ap length left)))
 
 pub returns-clause-rewritten : goal.returns-clause-rewritten
@@ -89,6 +89,6 @@ returns-clause-rewritten g c =
     (subst (λ n. IsNoteOf seen n (chunk_of labels c.from_vec-left.result) (record { number = written.number; digest = written.digest })) (sym c.in_ok-written.ensures.next) is.note) in
     subst (λ (p : PartView). AreRewritten covers labels (record { entries = old.entries.value; note = Some (record { number = old.number; digest = old.digest }) } ∷ []) c.args.next.now start (p ∷ []) (old.number ∷ []) next seen) (sym c.kept.ensures)
     (read_becomes covers labels old.entries.value (record { number = old.number; digest = old.digest }) old.first old.last c.args.next.now start lines.items read c.requires.part c.requires.range c.in_ok-lines.ensures.found are
-    (c.in_ok-lines.ensures.many ∙ marks_len old.entries.value old.marks c.requires.marks) c.in_ok-lines.ensures.old
-    (λ honest kept. c.in_ok-lines.ensures.right labels c.args.next.now c.requires.part c.requires.range c.requires.marks kept honest)
+    (c.in_ok-lines.ensures.many ∙ fingerprints_len old.entries.value old.fingerprints c.requires.fingerprints) c.in_ok-lines.ensures.old
+    (λ honest kept. c.in_ok-lines.ensures.right labels c.args.next.now c.requires.part c.requires.range c.requires.fingerprints kept honest)
     written.entries.value (record { number = written.number; digest = written.digest }) next seen (entries ∙ left) (omega (arith, some, ap length entries)) is.number_is c.in_ok-written.ensures.next kept)

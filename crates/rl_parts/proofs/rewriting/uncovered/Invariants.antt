@@ -3,5 +3,5 @@ use Rattle.std.proofs.Common.{◌≡◌, take}
 use Rattle.rl_parts.specs.Rewriting.{uncovered}
 use Rattle.rl_parts.proofs.rewriting.uncovered.Given as goal
 
-abbrev pub invariant-loop-held : goal.invariant-loop-held
-invariant-loop-held g l = l.left.items ≡ uncovered (g.C.Covers.covers l.covered) (take l.held-index l.entries)
+abbrev pub invariant-loop-stored : goal.invariant-loop-stored
+invariant-loop-stored g l = l.left.items ≡ uncovered (g.C.Covers.covers l.covered) (take l.stored-index l.entries)

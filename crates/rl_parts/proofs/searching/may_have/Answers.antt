@@ -2,9 +2,9 @@
 use Rattle.std.proofs.Common.{◌≡◌, sym, ap, subst, ◌∙◌}
 use Rattle.std.specs.List.{Contains}
 use Rattle.rl_chunks.specs.EntryLines.{line_of}
-use Rattle.rl_parts.specs.Marks.{mark}
+use Rattle.rl_parts.specs.Fingerprints.{fingerprint}
 use Rattle.rl_parts.proofs.Finding.{not_both}
-use Rattle.rl_parts.proofs.Marked.{mark_there}
+use Rattle.rl_parts.proofs.Fingerprinted.{fingerprint_there}
 use Rattle.rl_parts.proofs.Times.{outside, reaches}
 use Rattle.rl_parts.proofs.searching.may_have.Goals as goal
 
@@ -14,10 +14,10 @@ returns-then-is_outside-clause-absent c = λ _ there.
 
 pub returns-clause-absent : goal.returns-clause-absent
 returns-clause-absent c = λ not_there there.
-    let own : c.mark_of-mark.result ≡ mark (line_of c.args.entry.now) = c.mark_of-mark.ensures ∙ ap (λ text. mark (record { timestamp = c.args.entry.now.timestamp; text = text })) c.as_str.ensures in
-    let marked : Contains c.as_slice.result.now c.mark_of-mark.result = subst (λ marks. Contains marks c.mark_of-mark.result) (sym c.as_slice.ensures)
-    (subst (λ m. Contains c.args.written.now.marks m) (sym own) (mark_there c.args.written.now.entries.value c.args.written.now.marks c.args.entry.now c.requires.marks there)) in
-    not_both (c.has_mark.ensures.1 marked) not_there
+    let own : c.fingerprint_of-fingerprint.result ≡ fingerprint (line_of c.args.entry.now) = c.fingerprint_of-fingerprint.ensures ∙ ap (λ text. fingerprint (record { timestamp = c.args.entry.now.timestamp; text = text })) c.as_str.ensures in
+    let fingerprinted : Contains c.as_slice.result.now c.fingerprint_of-fingerprint.result = subst (λ fingerprints. Contains fingerprints c.fingerprint_of-fingerprint.result) (sym c.as_slice.ensures)
+    (subst (λ m. Contains c.args.written.now.fingerprints m) (sym own) (fingerprint_there c.args.written.now.entries.value c.args.written.now.fingerprints c.args.entry.now c.requires.fingerprints there)) in
+    not_both (c.has_fingerprint.ensures.1 fingerprinted) not_there
 
 pub returns-clause-reaches : goal.returns-clause-reaches
 returns-clause-reaches c = λ _ apart.

@@ -12,12 +12,12 @@ use std::marker::Model;
 
 // An entry, with its timestamp beside it, so that a search seldom has to look into the entry's block. Contracts see the entry.
 #[derive(Drop)]
-pub(crate) struct Held {
+pub(crate) struct StoredEntry {
     timestamp: Ns,
     entry: Shared<Entry>,
 }
 
-impl Model for Held {
+impl Model for StoredEntry {
     ghost use Rattle.std.specs.Prelude.{◌≡◌};
     ghost use Rattle.rl_labels.specs.declared.entry.Entry.{Entry};
     ghost use Rattle.rl_labels.specs.contracts.entry.Entry as entry_type;
@@ -31,12 +31,12 @@ impl Model for Held {
     ghost invariant = { λ a. a.timestamp ≡ a.entry.timestamp };
 }
 
-impl Held {
-    pub(crate) fn new(entry: Shared<Entry>) -> Held
+impl StoredEntry {
+    pub(crate) fn new(entry: Shared<Entry>) -> StoredEntry
         ensures { result ≡ entry }
     {
         let timestamp = entry.get().timestamp;
-        Held { timestamp, entry }
+        StoredEntry { timestamp, entry }
     }
 
     pub(crate) fn entry(&self) -> &Entry
@@ -46,11 +46,11 @@ impl Held {
     }
 
     // One owner more.
-    pub(crate) fn share(&self) -> Result<Held, AllocError>
-        ensures { IfOk result (λ held. held ≡ self.now) }
+    pub(crate) fn share(&self) -> Result<StoredEntry, AllocError>
+        ensures { IfOk result (λ stored. stored ≡ self.now) }
     {
         let entry = self.entry.try_copy()?;
-        Ok(Held::new(entry))
+        Ok(StoredEntry::new(entry))
     }
 
     // How it stands to another entry of its stream: by timestamp, and then by line.
@@ -63,7 +63,7 @@ impl Held {
     }
 }
 
-impl AsLine for Held {
+impl AsLine for StoredEntry {
     ghost line = { line_of };
 
     fn timestamp(&self) -> Ns {

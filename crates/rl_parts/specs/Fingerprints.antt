@@ -10,14 +10,14 @@ use Rattle.rl_chunks.specs.EntryLines.{line_of}
 use Rattle.rl_chunks.specs.declared.line.Line.{Line}
 
 -- a hash of the timestamp and of the text
-abbrev pub mark : Line → ℕ
-mark line = folding.finish (folding.write (fold folding.write folding.initial (fed.u64 line.timestamp)) line.text)
+abbrev pub fingerprint : Line → ℕ
+fingerprint line = folding.finish (folding.write (fold folding.write folding.initial (fed.u64 line.timestamp)) line.text)
 
 -- the fingerprint of each entry
-abbrev pub marks_of : List Entry → List ℕ
-marks_of entries = map (λ entry. mark (line_of entry)) entries
+abbrev pub fingerprints_of : List Entry → List ℕ
+fingerprints_of entries = map (λ entry. fingerprint (line_of entry)) entries
 
 -- the fingerprints of all entries, in rising order
-pub record AreMarks (entries : List Entry) (marks : List ℕ) : Type 0 where
-  pub all : IsPermutation (marks_of entries) marks
-  pub rising : IsSorted nat_cmp marks
+pub record AreFingerprints (entries : List Entry) (fingerprints : List ℕ) : Type 0 where
+  pub all : IsPermutation (fingerprints_of entries) fingerprints
+  pub rising : IsSorted nat_cmp fingerprints

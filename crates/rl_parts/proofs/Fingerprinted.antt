@@ -10,7 +10,7 @@ use Rattle.std.proofs.lemmas.List.{length-map, get_or-map, get_or_default}
 use Rattle.std.proofs.lemmas.List.Sorted.{Contains-permutation, IsNonDecreasingBy-from_sort, searched}
 use Rattle.rl_labels.specs.declared.entry.Entry.{Entry}
 use Rattle.rl_chunks.specs.EntryLines.{line_of}
-use Rattle.rl_parts.specs.Marks.{mark, marks_of, AreMarks}
+use Rattle.rl_parts.specs.Fingerprints.{fingerprint, fingerprints_of, AreFingerprints}
 use Rattle.rl_parts.proofs.Finding.{yes, no}
 
 -- a search finds a number just where it is there
@@ -24,9 +24,9 @@ found_by_search xs x r sorted visited = at r (searched xs x r visited (λ i j le
         elim (cases_lt there.0 i) [ inl lt ↦ (let low = h.1 there.0 lt in omega arith) | inr le ↦ (let high = h.2 there.0 le there.1 in omega arith) ])
 
 -- the fingerprint of one of the entries is among the fingerprints
-pub mark_there : (entries : List Entry) (marks : List ℕ) (entry : Entry) → AreMarks entries marks → Contains entries entry → Contains marks (mark (line_of entry))
-mark_there entries marks entry are there =
-    let own : Entry → ℕ = λ e. mark (line_of e) in
+pub fingerprint_there : (entries : List Entry) (fingerprints : List ℕ) (entry : Entry) → AreFingerprints entries fingerprints → Contains entries entry → Contains fingerprints (fingerprint (line_of entry))
+fingerprint_there entries fingerprints entry are there =
+    let own : Entry → ℕ = λ e. fingerprint (line_of e) in
     let within : there.0 < length (map own entries) = subst (λ n. there.0 < n) (sym (length-map entries own)) there.1 in
-    Contains-permutation (marks_of entries) marks (own entry) are.all
+    Contains-permutation (fingerprints_of entries) fingerprints (own entry) are.all
     (there.0, within, get_or-map own entries there.0 entry (own entry) there.1 ∙ (λ i. own (there.2 i)))
