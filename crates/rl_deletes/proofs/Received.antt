@@ -14,10 +14,10 @@ use Rattle.std.specs.Ordering.{nat_cmp}
 use Rattle.std.proofs.lemmas.Bool.{true≢false}
 use Rattle.std.proofs.lemmas.Cmp.{nat_cmp_total}
 use Rattle.rl_plain.specs.laws.TreeMaps.{find_lookup, get-of_tree, one_set, sorted_entries}
-use Rattle.rl_deletes.specs.Deletes.{RequestsView, ended, ended_from, if_received, is_received, received_at, with_request, in_phase}
+use Rattle.rl_deletes.specs.Deletes.{RequestsView, ended, ended_from, if_received, is_received, received_at, with_request, in_status}
 use Rattle.rl_deletes.specs.Views.{AreBuilt, view_of}
 use Rattle.rl_deletes.specs.laws.Passing.{passes_at, any_alike, any_values}
-use Rattle.rl_deletes.specs.declared.request.Phase.{Phase}
+use Rattle.rl_deletes.specs.declared.request.RequestStatus.{RequestStatus}
 use Rattle.rl_deletes.specs.declared.request.Request.{Request}
 
 abbrev pub Tree : Type 0
@@ -43,23 +43,23 @@ passing_received : (p : Request → Bool) (known : Option Request) → passes_at
 passing_received p None = refl
 passing_received p (Some request) = elim (is_received request) as (λ b. passes_at p (cond b (Some request) None) ≡ (b && p request)) [ true ↦ refl | false ↦ refl ]
 
-module _ (cancel : ℕ) (requests acting : Tree) (are : AreBuilt cancel requests acting) where
+module _ (cancel : ℕ) (requests active : Tree) (are : AreBuilt cancel requests active) where
   -- what is built under a number
-  pub built_at : (q : ℕ) → lookup (is_at (nat_cmp q)) acting ≡ if_received (map.get (map_of requests) q)
+  pub built_at : (q : ℕ) → lookup (is_at (nat_cmp q)) active ≡ if_received (map.get (map_of requests) q)
   built_at q = are.built q ∙ ap if_received (found_at requests q)
 
-  found_built : (q : ℕ) → find nat_cmp q acting ≡ if_received (map.get (map_of requests) q)
-  found_built q = find_lookup nat_cmp acting q ∙ built_at q
+  found_built : (q : ℕ) → find nat_cmp q active ≡ if_received (map.get (map_of requests) q)
+  found_built q = find_lookup nat_cmp active q ∙ built_at q
 
-  module _ (sorted : IsStrictlySortedBy nat_cmp (keys_of acting)) (p : Request → Bool) where
+  module _ (sorted : IsStrictlySortedBy nat_cmp (keys_of active)) (p : Request → Bool) where
     -- a test passes of one that is built where it passes of one that is received
-    pub any_built : list_any p (values_of acting) ≡ list_any (λ request. is_received request && p request) (map.values (map_of requests))
-    any_built = any_values p acting ∙ any_alike (λ _. p) _ acting (map_of requests) (sorted_entries nat_cmp acting sorted) (λ q.
+    pub any_built : list_any p (values_of active) ≡ list_any (λ request. is_received request && p request) (map.values (map_of requests))
+    any_built = any_values p active ∙ any_alike (λ _. p) _ active (map_of requests) (sorted_entries nat_cmp active sorted) (λ q.
         ap (passes_at p) (found_built q) ∙ passing_received p (map.get (map_of requests) q))
 
     -- and so but for one number
-    pub any_beside : (id : ℕ) → list_any (λ e. not (e.0 == id) && p e.1) acting ≡ list_any (λ request. is_received request && p request) (map.values (map.remove (map_of requests) id))
-    any_beside id = any_alike (λ q request. not (q == id) && p request) _ acting (map.remove (map_of requests) id) (sorted_entries nat_cmp acting sorted) (λ q.
+    pub any_beside : (id : ℕ) → list_any (λ e. not (e.0 == id) && p e.1) active ≡ list_any (λ request. is_received request && p request) (map.values (map.remove (map_of requests) id))
+    any_beside id = any_alike (λ q request. not (q == id) && p request) _ active (map.remove (map_of requests) id) (sorted_entries nat_cmp active sorted) (λ q.
         ap (passes_at (λ request. not (q == id) && p request)) (found_built q)
         ∙ beside (q == id) (map.get (map_of requests) q)
         ∙ ap (λ b. passes_at (λ request. is_received request && p request) (cond b None (map.get (map_of requests) q))) (sym (unsigned_tied q id))
@@ -70,19 +70,19 @@ module _ (cancel : ℕ) (requests acting : Tree) (are : AreBuilt cancel requests
         beside true (Some request) = elim (is_received request) as (λ b. passes_at (λ request. false) (cond b (Some request) None) ≡ false) [ true ↦ refl | false ↦ refl ]
         beside false known = passing_received p known
 
-ended_known : (cancel : ℕ) (es fs : Tree) (id : ℕ) (phase : Phase) (known : Option Request) → map.get (map_of es) id ≡ known → IsSome (if_received known)
-    → ((q : ℕ) → lookup (is_at (nat_cmp q)) fs ≡ cond (is_at (nat_cmp id) q) (option_map (in_phase phase) (lookup (is_at (nat_cmp id)) es)) (lookup (is_at (nat_cmp q)) es))
-    → view_of cancel fs ≡ ended_from known phase (view_of cancel es) id
-ended_known cancel es fs id phase None there some answers = absurd (true≢false (sym some))
-ended_known cancel es fs id phase (Some request) there some answers =
-    elim (is_received request) as (λ b. IsSome (cond b (Some request) None) → view_of cancel fs ≡ cond b (with_request (view_of cancel es) id (in_phase phase request)) (view_of cancel es)) [
-      | true ↦ λ _. ap (λ (m : FinMap nat_cmp Request). let all : RequestsView = record { requests = m; cancel = cancel } in all) (one_put es fs id (in_phase phase request) (λ q.
-          answers q ∙ ap (λ known. cond (is_at (nat_cmp id) q) (option_map (in_phase phase) known) (lookup (is_at (nat_cmp q)) es)) (found_at es id ∙ there)))
+ended_known : (cancel : ℕ) (es fs : Tree) (id : ℕ) (status : RequestStatus) (known : Option Request) → map.get (map_of es) id ≡ known → IsSome (if_received known)
+    → ((q : ℕ) → lookup (is_at (nat_cmp q)) fs ≡ cond (is_at (nat_cmp id) q) (option_map (in_status status) (lookup (is_at (nat_cmp id)) es)) (lookup (is_at (nat_cmp q)) es))
+    → view_of cancel fs ≡ ended_from known status (view_of cancel es) id
+ended_known cancel es fs id status None there some answers = absurd (true≢false (sym some))
+ended_known cancel es fs id status (Some request) there some answers =
+    elim (is_received request) as (λ b. IsSome (cond b (Some request) None) → view_of cancel fs ≡ cond b (with_request (view_of cancel es) id (in_status status request)) (view_of cancel es)) [
+      | true ↦ λ _. ap (λ (m : FinMap nat_cmp Request). let all : RequestsView = record { requests = m; cancel = cancel } in all) (one_put es fs id (in_status status request) (λ q.
+          answers q ∙ ap (λ known. cond (is_at (nat_cmp id) q) (option_map (in_status status) known) (lookup (is_at (nat_cmp q)) es)) (found_at es id ∙ there)))
       | false ↦ λ none. absurd (true≢false (sym none))
     ] some
 
 -- a tree in which a received request has another status
-pub ended_tree : (cancel : ℕ) (es fs : Tree) (id : ℕ) (phase : Phase) → IsSome (received_at (view_of cancel es) id)
-    → ((q : ℕ) → lookup (is_at (nat_cmp q)) fs ≡ cond (is_at (nat_cmp id) q) (option_map (in_phase phase) (lookup (is_at (nat_cmp id)) es)) (lookup (is_at (nat_cmp q)) es))
-    → view_of cancel fs ≡ ended phase (view_of cancel es) id
-ended_tree cancel es fs id phase = ended_known cancel es fs id phase (map.get (map_of es) id) refl
+pub ended_tree : (cancel : ℕ) (es fs : Tree) (id : ℕ) (status : RequestStatus) → IsSome (received_at (view_of cancel es) id)
+    → ((q : ℕ) → lookup (is_at (nat_cmp q)) fs ≡ cond (is_at (nat_cmp id) q) (option_map (in_status status) (lookup (is_at (nat_cmp id)) es)) (lookup (is_at (nat_cmp q)) es))
+    → view_of cancel fs ≡ ended status (view_of cancel es) id
+ended_tree cancel es fs id status = ended_known cancel es fs id status (map.get (map_of es) id) refl

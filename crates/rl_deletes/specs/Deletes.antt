@@ -11,8 +11,8 @@ use Rattle.rl_labels.specs.declared.entry.Entry.{Entry}
 use Rattle.rl_labels.specs.declared.limits.Limits.{Limits}
 use Rattle.rl_query.specs.declared.filter.Sieve.{Sieve}
 use Rattle.rl_pipeline.specs.Sieving.{selects_line}
-use Rattle.rl_deletes.specs.declared.request.Phase.{Phase}
-use Rattle.rl_deletes.specs.declared.request.Phase.TheVariants.{Received, Cancelled, Processed}
+use Rattle.rl_deletes.specs.declared.request.RequestStatus.{RequestStatus}
+use Rattle.rl_deletes.specs.declared.request.RequestStatus.TheVariants.{Received, Cancelled, Processed}
 use Rattle.rl_deletes.specs.declared.request.Request.{Request}
 use Rattle.rl_deletes.specs.declared.fault.ReceiveFault.{ReceiveFault}
 use Rattle.rl_deletes.specs.declared.fault.ReceiveFault.TheVariants.{IdTaken, Full}
@@ -34,14 +34,14 @@ no_requests limits = record { requests = map.empty; cancel = limits.cancel }
 abbrev pub most_requests : ℕ
 most_requests = 65536
 
-abbrev pub is_in_force : Phase → Bool
+abbrev pub is_in_force : RequestStatus → Bool
 is_in_force Received = true
 is_in_force Cancelled = false
 is_in_force Processed = false
 
 -- it was neither cancelled nor processed
 abbrev pub is_received : Request → Bool
-is_received request = is_in_force request.phase
+is_received request = is_in_force request.status
 
 -- the sieve selects the line of the stream, and its timestamp is from the start to the end
 abbrev pub covers_line : Request → LabelSet → (timestamp : ℕ) → List ℕ → Bool
@@ -80,7 +80,7 @@ with_request all id request = record { requests = map.insert all.requests id req
 
 -- a request as it is received
 abbrev pub asked : (sieve : Sieve) (start end created : ℕ) → Request
-asked sieve start end created = record { sieve = sieve; start = start; end = end; created = created; phase = Received }
+asked sieve start end created = record { sieve = sieve; start = start; end = end; created = created; status = Received }
 
 -- the known request is received and covers what the other asks for
 pub record IsRepeat (request known : Request) : Type 0 where
@@ -123,25 +123,25 @@ received all id request = received_beside (map.get all.requests id) all id reque
 
 -- CANCELLING AND PROCESSING
 
-abbrev pub in_phase : Phase → Request → Request
-in_phase phase request = record request { phase = phase }
+abbrev pub in_status : RequestStatus → Request → Request
+in_status status request = record request { status = status }
 
-abbrev pub ended_from : Option Request → Phase → RequestsView → ℕ → RequestsView
-ended_from None phase all id = all
-ended_from (Some request) phase all id = if is_received request then with_request all id (in_phase phase request) else all
+abbrev pub ended_from : Option Request → RequestStatus → RequestsView → ℕ → RequestsView
+ended_from None status all id = all
+ended_from (Some request) status all id = if is_received request then with_request all id (in_status status request) else all
 
 -- the request with the number has the status from now on, if it was received
-abbrev pub ended : Phase → RequestsView → ℕ → RequestsView
-ended phase all id = ended_from (map.get all.requests id) phase all id
+abbrev pub ended : RequestStatus → RequestsView → ℕ → RequestsView
+ended status all id = ended_from (map.get all.requests id) status all id
 
-abbrev pub cancel_fault_in : Phase → Option CancelFault
+abbrev pub cancel_fault_in : RequestStatus → Option CancelFault
 cancel_fault_in Received = None
 cancel_fault_in Cancelled = None
 cancel_fault_in Processed = Some cancelling.AlreadyProcessed
 
 abbrev pub cancel_fault_of : Option Request → Option CancelFault
 cancel_fault_of None = Some cancelling.NoSuchRequest
-cancel_fault_of (Some request) = cancel_fault_in request.phase
+cancel_fault_of (Some request) = cancel_fault_in request.status
 
 -- why the request with the number is not cancelled, if it is not
 abbrev pub cancel_fault : RequestsView → ℕ → Option CancelFault
@@ -154,14 +154,14 @@ cancelled all id = ended Cancelled all id
 abbrev pub due : RequestsView → (created : ℕ) → ℕ
 due all created = created + all.cancel * 10 ^ 9
 
-abbrev pub process_fault_in : Phase → (due now : ℕ) → Option ProcessFault
+abbrev pub process_fault_in : RequestStatus → (due now : ℕ) → Option ProcessFault
 process_fault_in Received due now = if nat_lt now due then Some processing.TooEarly else None
 process_fault_in Cancelled due now = Some processing.WasCancelled
 process_fault_in Processed due now = None
 
 abbrev pub process_fault_of : Option Request → RequestsView → (now : ℕ) → Option ProcessFault
 process_fault_of None all now = Some processing.NoSuchRequest
-process_fault_of (Some request) all now = process_fault_in request.phase (due all request.created) now
+process_fault_of (Some request) all now = process_fault_in request.status (due all request.created) now
 
 -- why the request with the number is not processed at the moment, if it is not
 abbrev pub process_fault : RequestsView → ℕ → (now : ℕ) → Option ProcessFault

@@ -19,6 +19,6 @@ abbrev pub view_of : (cancel : ℕ) → List (ℕ × Request) → RequestsView
 view_of cancel requests = record { requests = map.from_entries requests; cancel = cancel }
 
 -- what is built are those that are received, each under its number; and each waits for a year at most
-pub record AreBuilt (cancel : ℕ) (requests acting : List (ℕ × Request)) : Type 0 where
+pub record AreBuilt (cancel : ℕ) (requests active : List (ℕ × Request)) : Type 0 where
   pub cancel_in_range : cancel ≤ 31536000
-  pub built : (q : ℕ) → lookup (is_at (nat_cmp q)) acting ≡ if_received (lookup (is_at (nat_cmp q)) requests)
+  pub built : (q : ℕ) → lookup (is_at (nat_cmp q)) active ≡ if_received (lookup (is_at (nat_cmp q)) requests)

@@ -8,7 +8,7 @@ use rl_query::Sieve;
 
 /// The status of a request.
 #[derive(Clone, Copy, Debug, PartialEq, Eq)]
-pub enum Phase {
+pub enum RequestStatus {
     /// What it covers is hidden.
     Received,
     /// It covers nothing any more.
@@ -24,7 +24,7 @@ pub struct Request {
     pub start: Ns,
     pub end: Ns,
     pub created: Ns,
-    pub phase: Phase,
+    pub status: RequestStatus,
 }
 
 impl Request {
@@ -32,10 +32,10 @@ impl Request {
     pub fn is_received(&self) -> bool
         ensures { result ≡ is_received self.now }
     {
-        match self.phase {
-            Phase::Received => true,
-            Phase::Cancelled => false,
-            Phase::Processed => false,
+        match self.status {
+            RequestStatus::Received => true,
+            RequestStatus::Cancelled => false,
+            RequestStatus::Processed => false,
         }
     }
 

@@ -5,11 +5,11 @@ ghost use Rattle.std.specs.FinMap as map;
 ghost use Rattle.std.specs.Map.{lookup};
 ghost use Rattle.std.specs.Option.{option_map};
 ghost use Rattle.std.specs.Ordering.{nat_cmp};
-ghost use Rattle.rl_deletes.specs.Deletes.{asked, cancel_fault, cancelled, covered_beside, covered_line, ended, is_in_force, no_requests, process_fault, processed, received, received_at, with_request, in_phase, IsReceiveAnswer, IsReceiveFault};
+ghost use Rattle.rl_deletes.specs.Deletes.{asked, cancel_fault, cancelled, covered_beside, covered_line, ended, is_in_force, no_requests, process_fault, processed, received, received_at, with_request, in_status, IsReceiveAnswer, IsReceiveFault};
 
-use crate::acting::Acting;
+use crate::active::ActiveRequest;
 use crate::fault::{CancelFault, ProcessFault, ReceiveError, ReceiveFault};
-use crate::request::{Phase, Request};
+use crate::request::{RequestStatus, Request};
 use rl_labels::{Covers, Entry, Labels, Limits, Ns};
 use rl_plain::{OrMemory, Shared};
 use rl_query::Sieve;
@@ -30,7 +30,7 @@ pub struct Requests {
     cancel: u64,
     requests: BTreeMap<u64, Request>,
     // Those that are received.
-    acting: BTreeMap<u64, Acting>,
+    active: BTreeMap<u64, ActiveRequest>,
 }
 
 impl Model for Requests {
@@ -43,7 +43,7 @@ impl Model for Requests {
 
     ghost view = { λ a. view_of a.cancel a.requests.entries };
 
-    ghost invariant = { λ a. AreBuilt a.cancel a.requests.entries a.acting.entries };
+    ghost invariant = { λ a. AreBuilt a.cancel a.requests.entries a.active.entries };
 }
 
 impl Requests {
@@ -55,7 +55,7 @@ impl Requests {
             alloc,
             cancel: limits.cancel,
             requests: BTreeMap::new(alloc),
-            acting: BTreeMap::new(alloc),
+            active: BTreeMap::new(alloc),
         }
     }
 
@@ -72,13 +72,13 @@ impl Requests {
         ensures fault { IsReceiveAnswer self.old id (asked sieve start end created) result }
         ensures err { OnErr result (self.new ≡ self.old) }
     {
-        let phase = Phase::Received;
+        let status = RequestStatus::Received;
         let request = Request {
             sieve,
             start,
             end,
             created,
-            phase,
+            status,
         };
         if let Some(known) = self.request(id) {
             if request.repeats(known) {
@@ -100,12 +100,12 @@ impl Requests {
         let Some(request) = self.request(id) else {
             return Err(CancelFault::NoSuchRequest);
         };
-        match request.phase {
-            Phase::Received => {}
-            Phase::Cancelled => return Ok(()),
-            Phase::Processed => return Err(CancelFault::AlreadyProcessed),
+        match request.status {
+            RequestStatus::Received => {}
+            RequestStatus::Cancelled => return Ok(()),
+            RequestStatus::Processed => return Err(CancelFault::AlreadyProcessed),
         }
-        self.retire(id, Phase::Cancelled);
+        self.retire(id, RequestStatus::Cancelled);
         Ok(())
     }
 
@@ -114,22 +114,22 @@ impl Requests {
         ensures { MatchResult result (λ _. (process_fault self.old id now ≡ None) × (self.new ≡ processed self.old id)) (λ fault. (process_fault self.old id now ≡ Some fault) × (self.new ≡ self.old)) }
     {
         if self.due(id, now)?.is_some() {
-            self.retire(id, Phase::Processed);
+            self.retire(id, RequestStatus::Processed);
         }
         Ok(())
     }
 
     /// The request that a process at the moment would end; none where it was processed before.
-    pub fn due(&self, id: u64, now: Ns) -> Result<Option<&Acting>, ProcessFault>
-        ensures { MatchResult result (λ due. (process_fault self.now id now ≡ None) × (option_map (λ acting. acting.now) due ≡ received_at self.now id)) (λ fault. process_fault self.now id now ≡ Some fault) }
+    pub fn due(&self, id: u64, now: Ns) -> Result<Option<&ActiveRequest>, ProcessFault>
+        ensures { MatchResult result (λ due. (process_fault self.now id now ≡ None) × (option_map (λ active. active.now) due ≡ received_at self.now id)) (λ fault. process_fault self.now id now ≡ Some fault) }
     {
         let Some(request) = self.request(id) else {
             return Err(ProcessFault::NoSuchRequest);
         };
-        match request.phase {
-            Phase::Received => {}
-            Phase::Cancelled => return Err(ProcessFault::WasCancelled),
-            Phase::Processed => return Ok(None),
+        match request.status {
+            RequestStatus::Received => {}
+            RequestStatus::Cancelled => return Err(ProcessFault::WasCancelled),
+            RequestStatus::Processed => return Ok(None),
         }
         if now.get() < request.created.get() + self.cancel * SECOND {
             return Err(ProcessFault::TooEarly);
@@ -145,21 +145,21 @@ impl Requests {
     }
 
     // The received request with the number.
-    fn received(&self, id: u64) -> Option<&Acting>
-        ensures { option_map (λ acting. acting.now) result ≡ received_at self.now id }
+    fn received(&self, id: u64) -> Option<&ActiveRequest>
+        ensures { option_map (λ active. active.now) result ≡ received_at self.now id }
     {
-        self.acting.get(&id)
+        self.active.get(&id)
     }
 
     /// Whether a received request covers the entry, but for the one with the number.
     pub fn covers_beside(&self, id: u64, entry: &Entry) -> Result<bool, AllocError>
         ensures { IfOk result (λ answer. answer ≡ covered_beside self.now id entry.now) }
     {
-        for (number, acting) in self.acting.iter() {
+        for (number, active) in self.active.iter() {
             if *number == id {
                 continue;
             }
-            if acting.covers(entry)? {
+            if active.covers(entry)? {
                 return Ok(true);
             }
         }
@@ -175,11 +175,11 @@ impl Requests {
     ) -> Result<bool, AllocError>
         ensures { IfOk result (λ answer. answer ≡ covered_line self.now labels.now timestamp line.now) }
     {
-        if self.acting.len() == 0 {
+        if self.active.len() == 0 {
             return Ok(false);
         }
-        for acting in self.acting.values() {
-            if acting.covers_line(labels, timestamp, line)? {
+        for active in self.active.values() {
+            if active.covers_line(labels, timestamp, line)? {
                 return Ok(true);
             }
         }
@@ -200,25 +200,25 @@ impl Requests {
         ensures ok { OnOk result (self.new ≡ with_request self.old id request) }
         ensures err { OnErr result (self.new ≡ self.old) }
     {
-        let acting = Acting::build(self.alloc, &request)?;
-        self.acting.insert(id, acting)?;
+        let active = ActiveRequest::build(self.alloc, &request)?;
+        self.active.insert(id, active)?;
         match self.requests.insert(id, request) {
             Ok(_) => Ok(()),
             Err(refused) => {
-                self.acting.remove(&id);
+                self.active.remove(&id);
                 Err(refused.into())
             }
         }
     }
 
     // Ends a received request.
-    fn retire(&mut self, id: u64, phase: Phase)
+    fn retire(&mut self, id: u64, status: RequestStatus)
         requires received { IsSome (received_at self.old id) }
-        requires ends { is_in_force phase ≡ false }
-        ensures { self.new ≡ ended phase self.old id }
+        requires ends { is_in_force status ≡ false }
+        ensures { self.new ≡ ended status self.old id }
     {
-        set_phase(&mut self.requests, id, phase);
-        self.acting.remove(&id);
+        set_status(&mut self.requests, id, status);
+        self.active.remove(&id);
     }
 }
 
@@ -232,8 +232,8 @@ impl Covers for Requests {
     }
 
     fn may_cover(&self, labels: &Labels, from: Ns, to: Ns) -> Result<bool, AllocError> {
-        for acting in self.acting.values() {
-            if acting.may_cover(labels, from, to)? {
+        for active in self.active.values() {
+            if active.may_cover(labels, from, to)? {
                 return Ok(true);
             }
         }
@@ -242,10 +242,10 @@ impl Covers for Requests {
 }
 
 // Sets the status of the request with the number.
-fn set_phase(requests: &mut BTreeMap<u64, Request>, id: u64, phase: Phase)
-    ensures { (q : ℕ) → lookup (is_at (nat_cmp q)) requests.new.entries ≡ cond (is_at (nat_cmp id) q) (option_map (in_phase phase) (lookup (is_at (nat_cmp id)) requests.old.entries)) (lookup (is_at (nat_cmp q)) requests.old.entries) }
+fn set_status(requests: &mut BTreeMap<u64, Request>, id: u64, status: RequestStatus)
+    ensures { (q : ℕ) → lookup (is_at (nat_cmp q)) requests.new.entries ≡ cond (is_at (nat_cmp id) q) (option_map (in_status status) (lookup (is_at (nat_cmp id)) requests.old.entries)) (lookup (is_at (nat_cmp q)) requests.old.entries) }
 {
     if let Some(request) = requests.get_mut(&id) {
-        request.phase = phase;
+        request.status = status;
     }
 }

@@ -13,8 +13,8 @@ use Rattle.rl_labels.specs.Quantities.{duration_of, duration_value}
 use Rattle.rl_rules.specs.Document.{tables_at}
 use Rattle.rl_rules.specs.Outcomes.{name_label}
 use Rattle.rl_rules.specs.Values.{name_key, texts_at}
-use Rattle.rl_rules.specs.declared.alert.Phase.{Phase}
-use Rattle.rl_rules.specs.declared.alert.Phase.TheVariants as phases
+use Rattle.rl_rules.specs.declared.alert.AlertState.{AlertState}
+use Rattle.rl_rules.specs.declared.alert.AlertState.TheVariants as states
 use Rattle.rl_rules.specs.declared.evaluation.Cause.{Cause}
 use Rattle.rl_rules.specs.declared.evaluation.Cause.TheVariants as causes
 use Rattle.rl_rules.specs.declared.rule.RuleKind.{RuleKind}
@@ -85,14 +85,14 @@ abbrev pub AreLabelsIf : List ℕ → Members → Option LabelSet → Type 0
 AreLabelsIf key table None = get_member key table ≡ None
 AreLabelsIf key table (Some labels) = AreLabels key None table labels
 
-abbrev pub phase_text : Phase → List ℕ
-phase_text phases.Pending = codes "pending"
-phase_text phases.Firing = codes "firing"
-phase_text phases.Resolved = codes "resolved"
+abbrev pub state_text : AlertState → List ℕ
+state_text states.Pending = codes "pending"
+state_text states.Firing = codes "firing"
+state_text states.Resolved = codes "resolved"
 
 -- an alert has a state, a sample has none
-abbrev pub IsState : RuleKind → Members → Option Phase → Type 0
-IsState kinds.Alerting table state = text_at (codes "state") table ≡ option_map phase_text state
+abbrev pub IsState : RuleKind → Members → Option AlertState → Type 0
+IsState kinds.Alerting table state = text_at (codes "state") table ≡ option_map state_text state
 IsState kinds.Recording table state = state ≡ None
 
 -- VALUES

@@ -12,8 +12,8 @@ use Rattle.rl_labels.specs.Name.{is_text}
 use Rattle.rl_aggregate.specs.declared.outcome.Fraction.{Fraction}
 use Rattle.rl_aggregate.specs.declared.outcome.Sample.{Sample}
 use Rattle.rl_rules.specs.declared.alert.Alert.{Alert}
-use Rattle.rl_rules.specs.declared.alert.Phase.{Phase}
-use Rattle.rl_rules.specs.declared.alert.Phase.TheVariants as phases
+use Rattle.rl_rules.specs.declared.alert.AlertState.{AlertState}
+use Rattle.rl_rules.specs.declared.alert.AlertState.TheVariants as states
 use Rattle.rl_rules.specs.declared.evaluation.Cause.{Cause}
 use Rattle.rl_rules.specs.declared.evaluation.Cause.TheVariants as causes
 use Rattle.rl_rules.specs.declared.evaluation.Evaluation.{Evaluation}
@@ -30,7 +30,7 @@ use Rattle.rl_rule_tests.specs.declared.wanted.Wanted.{Wanted}
 -- an alert or a sample as it is compared. Of what is wanted it has no state, value or annotations where these are not looked at
 pub record RowForm : Type 0 where
   pub labels : LabelSet
-  pub state : Option Phase
+  pub state : Option AlertState
   pub value : Option Fraction
   pub annotations : Option LabelSet
 
@@ -46,7 +46,7 @@ abbrev pub sample_row : Sample → RowForm
 sample_row sample = record { labels = sample.labels; state = None; value = Some sample.value; annotations = None }
 
 abbrev pub alert_row : LabelSet → Alert → RowForm
-alert_row annotations alert = record { labels = alert.labels; state = Some alert.phase; value = Some alert.value; annotations = Some annotations }
+alert_row annotations alert = record { labels = alert.labels; state = Some alert.state; value = Some alert.value; annotations = Some annotations }
 
 abbrev pub rows_in : LabelSet → RuleOutcome → List RowForm
 rows_in annotations (made.Samples samples) = map sample_row samples
@@ -101,11 +101,11 @@ are_equal one other =
     (one.numerator == other.numerator && one.denominator == other.denominator)
     || (nat_lt (one.numerator * other.denominator) (2 ^ 128) && one.numerator * other.denominator == other.numerator * one.denominator)
 
-abbrev pub is_phase : Phase → Phase → Bool
-is_phase phases.Pending phases.Pending = true
-is_phase phases.Firing phases.Firing = true
-is_phase phases.Resolved phases.Resolved = true
-is_phase phase other = false
+abbrev pub is_state : AlertState → AlertState → Bool
+is_state states.Pending states.Pending = true
+is_state states.Firing states.Firing = true
+is_state states.Resolved states.Resolved = true
+is_state state other = false
 
 abbrev pub is_cause : Cause → Cause → Bool
 is_cause causes.PipelineError causes.PipelineError = true
@@ -119,8 +119,8 @@ has test None given = true
 has test (Some wanted) None = false
 has test (Some wanted) (Some given) = test wanted given
 
-abbrev pub has_state : Option Phase → Option Phase → Bool
-has_state = has is_phase
+abbrev pub has_state : Option AlertState → Option AlertState → Bool
+has_state = has is_state
 
 abbrev pub has_value : Option Fraction → Option Fraction → Bool
 has_value = has are_equal

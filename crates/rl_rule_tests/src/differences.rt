@@ -2,7 +2,7 @@
 use crate::judging::meets;
 use crate::number::push_number;
 use crate::rows::{Outcome, Row};
-use rl_rules::Phase;
+use rl_rules::AlertState;
 use std::alloc::AllocError;
 use std::cmp::Ordering;
 
@@ -68,11 +68,11 @@ fn push_row(text: &mut String, row: Row<'_>, annotated: bool) -> Result<(), Allo
     }
 }
 
-fn state_name(state: Phase) -> &'static str {
+fn state_name(state: AlertState) -> &'static str {
     match state {
-        Phase::Pending => "pending",
-        Phase::Firing => "firing",
-        Phase::Resolved => "resolved",
+        AlertState::Pending => "pending",
+        AlertState::Firing => "firing",
+        AlertState::Resolved => "resolved",
     }
 }
 

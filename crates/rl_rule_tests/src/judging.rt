@@ -11,7 +11,7 @@ use crate::rows::{Outcome, Row};
 use rl_aggregate::Sample;
 use rl_labels::Labels;
 use rl_plain::Shared;
-use rl_rules::{Alert, Cause, Evaluation, Phase, RuleOutcome, RuleResult};
+use rl_rules::{Alert, Cause, Evaluation, AlertState, RuleOutcome, RuleResult};
 use std::alloc::{AllocError, Global};
 
 /// What the rules of a check gave, of these evaluations. More than one may have its name.
@@ -124,7 +124,7 @@ fn push_alerts<'a>(
     for alert in alerts {
         rows.push(Row {
             labels: &alert.labels,
-            state: Some(alert.phase),
+            state: Some(alert.state),
             value: Some(Number::computed(alert.value)),
             annotations: Some(annotations),
         })?;
@@ -167,7 +167,7 @@ pub(crate) fn meets(wanted: &Row<'_>, given: &Row<'_>) -> bool
         && has_annotations(wanted.annotations, given.annotations)
 }
 
-fn has_state(wanted: Option<Phase>, given: Option<Phase>) -> bool
+fn has_state(wanted: Option<AlertState>, given: Option<AlertState>) -> bool
     ensures { result ≡ has_state wanted given }
 {
     match (wanted, given) {

@@ -4,14 +4,14 @@ ghost use Rattle.rl_rule_tests.specs.Judging.{form, IsInOrder, IsOutcome};
 
 use crate::number::Number;
 use rl_labels::Labels;
-use rl_rules::{Cause, Phase};
+use rl_rules::{Cause, AlertState};
 use std::alloc::AllocError;
 
 /// An alert or a sample. Of what is wanted it has no state, value or annotations where these are not looked at.
 #[derive(Clone, Copy)]
 pub(crate) struct Row<'a> {
     pub(crate) labels: &'a Labels,
-    pub(crate) state: Option<Phase>,
+    pub(crate) state: Option<AlertState>,
     pub(crate) value: Option<Number<'a>>,
     pub(crate) annotations: Option<&'a Labels>,
 }

@@ -3,7 +3,7 @@ ghost use Rattle.std.specs.Prelude.{◌≡◌, map, Some, codes, option_and_then
 ghost use Rattle.toml.specs.Data.{get_member};
 ghost use Rattle.toml.specs.View.{table_view};
 ghost use Rattle.rl_rules.specs.Document.{tables_at};
-ghost use Rattle.rl_rule_tests.specs.Document.{cause_text, phase_text, text_at, value_of, wanted_keys, AreAfter, IsWanted};
+ghost use Rattle.rl_rule_tests.specs.Document.{cause_text, state_text, text_at, value_of, wanted_keys, AreAfter, IsWanted};
 ghost use Rattle.rl_rule_tests.specs.Judging.{wanted_row, IsOutcome};
 
 use crate::document::Check;
@@ -13,14 +13,14 @@ use crate::part::{Item, Part};
 use crate::rows::{Outcome, Row};
 use rl_labels::Labels;
 use rl_rules::naming::{ALERT_LABEL, NAME_LABEL};
-use rl_rules::{Cause, Phase, RuleKind};
+use rl_rules::{Cause, AlertState, RuleKind};
 use std::alloc::{AllocError, Global};
 
 /// A row that is wanted. What it has not is not looked at.
 #[derive(Drop)]
 pub(crate) struct Wanted<'a> {
     pub(crate) labels: Labels,
-    pub(crate) state: Option<Phase>,
+    pub(crate) state: Option<AlertState>,
     pub(crate) value: Option<Number<'a>>,
     pub(crate) annotations: Option<Labels>,
 }
@@ -101,13 +101,13 @@ fn wanted_keys(kind: RuleKind) -> &'static [&'static str]
     }
 }
 
-fn read_state(part: Part<'_>) -> Result<Phase, TestsError>
-    ensures { IfOk result (λ phase. text_at (codes "state") (table_view part.entry.table.now) ≡ Some (phase_text phase)) }
+fn read_state(part: Part<'_>) -> Result<AlertState, TestsError>
+    ensures { IfOk result (λ state. text_at (codes "state") (table_view part.entry.table.now) ≡ Some (state_text state)) }
 {
     match part.wanted_text("state")? {
-        "pending" => Ok(Phase::Pending),
-        "firing" => Ok(Phase::Firing),
-        "resolved" => Ok(Phase::Resolved),
+        "pending" => Ok(AlertState::Pending),
+        "firing" => Ok(AlertState::Firing),
+        "resolved" => Ok(AlertState::Resolved),
         _ => Err(part.key_fault("state", "is none of pending, firing and resolved")),
     }
 }

@@ -14,15 +14,15 @@ pub struct Alert {
     /// The value that the series has, or had last.
     pub value: Fraction,
     /// The moment from which it is active, its series there without a break.
-    pub since: Ns,
+    pub active_at: Ns,
     /// When the alert became firing, if it has.
     pub fired: Option<Ns>,
-    pub phase: Phase,
+    pub state: AlertState,
 }
 
 /// The state of an alert.
 #[derive(Clone, Copy, Debug, PartialEq, Eq)]
-pub enum Phase {
+pub enum AlertState {
     /// Its series has not been there for long enough.
     Pending,
     Firing,
@@ -30,7 +30,7 @@ pub enum Phase {
     Resolved,
 }
 
-impl TryCopy for Phase {
+impl TryCopy for AlertState {
     /// Takes no memory, and is never refused.
     fn try_copy(&self) -> Result<Self, AllocError>
         ensures copy { IfOk result (λ copy. copy ≡ self.now) }
@@ -40,7 +40,7 @@ impl TryCopy for Phase {
     }
 }
 
-impl Same for Phase {
+impl Same for AlertState {
     fn is_same(&self, other: &Self) -> bool {
         self == other
     }
@@ -53,9 +53,9 @@ impl TryCopy for Alert {
         Ok(Alert {
             labels,
             value: self.value,
-            since: self.since,
+            active_at: self.active_at,
             fired: self.fired,
-            phase: self.phase,
+            state: self.state,
         })
     }
 }
@@ -64,9 +64,9 @@ impl Same for Alert {
     fn is_same(&self, other: &Self) -> bool {
         self.labels.is_same(&other.labels)
             && self.value.is_same(&other.value)
-            && self.since.is_same(&other.since)
+            && self.active_at.is_same(&other.active_at)
             && self.fired.is_same(&other.fired)
-            && self.phase.is_same(&other.phase)
+            && self.state.is_same(&other.state)
     }
 }
 

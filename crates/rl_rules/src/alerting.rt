@@ -4,9 +4,9 @@ ghost use Rattle.std.specs.BTreeMap as tree;
 ghost use Rattle.std.specs.FinMap.{entries, from_entries};
 ghost use Rattle.std.specs.Option.{option_copied};
 ghost use Rattle.rl_labels.specs.LabelText.{label_set_cmp};
-ghost use Rattle.rl_rules.specs.Alerts.{keyed, since_of, fired_of, is_due, standing, gone, all_gone, in_label_order, alerts_after};
+ghost use Rattle.rl_rules.specs.Alerts.{keyed, active_from, fired_of, is_due, standing, gone, all_gone, in_label_order, alerts_after};
 
-use crate::alert::{Alert, Phase};
+use crate::alert::{Alert, AlertState};
 use rl_aggregate::Sample;
 use rl_labels::{Labels, Ns};
 use rl_plain::TryCopy;
@@ -64,13 +64,13 @@ fn push_gone(after: &mut Vec<Alert>, alerts: &[Alert]) -> Result<(), AllocError>
 fn gone(alert: &Alert) -> Result<Option<Alert>, AllocError>
     ensures { IfOk result (λ after. after ≡ gone alert.now) }
 {
-    match alert.phase {
-        Phase::Firing => {
+    match alert.state {
+        AlertState::Firing => {
             let mut resolved = alert.try_copy()?;
-            resolved.phase = Phase::Resolved;
+            resolved.state = AlertState::Resolved;
             Ok(Some(resolved))
         }
-        Phase::Pending | Phase::Resolved => Ok(None),
+        AlertState::Pending | AlertState::Resolved => Ok(None),
     }
 }
 
@@ -79,22 +79,22 @@ fn standing(hold: u64, t: Ns, sample: &Sample, before: Option<&Alert>) -> Result
     ensures { IfOk result (λ alert. alert ≡ standing hold t sample.now.labels sample.now.value (option_copied before.entry)) }
 {
     let labels = sample.labels.try_copy()?;
-    let since = since_of(t, before);
-    let due = is_due(hold, since, t);
+    let active_at = active_from(t, before);
+    let due = is_due(hold, active_at, t);
     Ok(Alert {
         labels,
         value: sample.value,
-        since,
+        active_at,
         fired: if due { fired_of(t, before) } else { None },
-        phase: if due { Phase::Firing } else { Phase::Pending },
+        state: if due { AlertState::Firing } else { AlertState::Pending },
     })
 }
 
-fn since_of(t: Ns, before: Option<&Alert>) -> Ns
-    ensures { result ≡ since_of t (option_copied before.entry) }
+fn active_from(t: Ns, before: Option<&Alert>) -> Ns
+    ensures { result ≡ active_from t (option_copied before.entry) }
 {
     match before {
-        Some(alert) if !matches!(alert.phase, Phase::Resolved) => alert.since,
+        Some(alert) if !matches!(alert.state, AlertState::Resolved) => alert.active_at,
         _ => t,
     }
 }
@@ -103,17 +103,17 @@ fn fired_of(t: Ns, before: Option<&Alert>) -> Option<Ns>
     ensures { result ≡ fired_of t (option_copied before.entry) }
 {
     match before {
-        Some(alert) if matches!(alert.phase, Phase::Firing) => alert.fired,
+        Some(alert) if matches!(alert.state, AlertState::Firing) => alert.fired,
         _ => Some(t),
     }
 }
 
 // Whether a series has been there for `hold` seconds.
-fn is_due(hold: u64, since: Ns, t: Ns) -> bool
-    ensures { result ≡ is_due hold since t }
+fn is_due(hold: u64, active_at: Ns, t: Ns) -> bool
+    ensures { result ≡ is_due hold active_at t }
 {
     let held = u128::from(hold) * 1_000_000_000;
-    u128::from(since.get()) + held <= u128::from(t.get())
+    u128::from(active_at.get()) + held <= u128::from(t.get())
 }
 
 // The alerts in the order of their label sets, of which the first with one counts.

@@ -4,7 +4,7 @@
 //! recording rule or the alerts of an alerting one, or why it failed. `hand_on` gives the rules of an edited group the
 //! alerts of those before that are equal.
 //!
-//! - `rule`: `Group`, `Rule`. `alert`: `Alert`, `Phase`. `evaluation`: `Evaluation`, `RuleResult`, `RuleOutcome`, `Cause`.
+//! - `rule`: `Group`, `Rule`. `alert`: `Alert`, `AlertState`. `evaluation`: `Evaluation`, `RuleResult`, `RuleOutcome`, `Cause`.
 //! - `fault`: why a rule file is refused. `reading`: `read_rules`. `stepping`: `step_rule`. `naming`: `Namer`, which
 //!   gives final label sets. `editing`: `hand_on`.
 //! - `sending`: what may be sent to another thread, and looked at from two.
@@ -24,7 +24,7 @@ mod shape;
 pub mod stepping;
 mod values;
 
-pub use alert::{Alert, Phase};
+pub use alert::{Alert, AlertState};
 pub use editing::hand_on;
 pub use evaluation::{Cause, Evaluation, RuleOutcome, RuleResult};
 pub use fault::{RulesError, RulesFault};

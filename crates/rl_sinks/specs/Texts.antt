@@ -7,8 +7,8 @@ use Rattle.rl_labels.specs.LabelText.{canonical_text}
 use Rattle.rl_aggregate.specs.declared.outcome.Fraction.{Fraction}
 use Rattle.rl_aggregate.specs.declared.outcome.Sample.{Sample}
 use Rattle.rl_rules.specs.declared.alert.Alert.{Alert}
-use Rattle.rl_rules.specs.declared.alert.Phase.{Phase}
-use Rattle.rl_rules.specs.declared.alert.Phase.TheVariants as phases
+use Rattle.rl_rules.specs.declared.alert.AlertState.{AlertState}
+use Rattle.rl_rules.specs.declared.alert.AlertState.TheVariants as states
 use Rattle.rl_rules.specs.declared.rule.RuleKind.{RuleKind}
 use Rattle.rl_rules.specs.declared.rule.RuleKind.TheVariants as kinds
 use Rattle.rl_rules.specs.declared.evaluation.Evaluation.{Evaluation}
@@ -27,14 +27,14 @@ value_text value = if value.denominator == 1 then decimal value.numerator else d
 abbrev pub sample_text : Sample → List ℕ
 sample_text sample = canonical_text sample.labels ++ codes " " ++ value_text sample.value
 
-abbrev pub phase_text : Phase → List ℕ
-phase_text phases.Pending = codes "pending"
-phase_text phases.Firing = codes "firing"
-phase_text phases.Resolved = codes "resolved"
+abbrev pub state_text : AlertState → List ℕ
+state_text states.Pending = codes "pending"
+state_text states.Firing = codes "firing"
+state_text states.Resolved = codes "resolved"
 
 -- state, labels, value, and the moment from which it is active
 unfoldable pub alert_text : Alert → List ℕ
-alert_text alert = phase_text alert.phase ++ codes " " ++ canonical_text alert.labels ++ codes " " ++ value_text alert.value ++ codes " " ++ decimal alert.since
+alert_text alert = state_text alert.state ++ codes " " ++ canonical_text alert.labels ++ codes " " ++ value_text alert.value ++ codes " " ++ decimal alert.active_at
 
 abbrev pub cause_text : Cause → List ℕ
 cause_text causes.PipelineError = codes "PipelineError"
@@ -62,15 +62,15 @@ abbrev pub became_firing : ℕ → Option ℕ → Bool
 became_firing t None = false
 became_firing t (Some fired) = fired == t
 
-abbrev pub is_notified : ℕ → Phase → Option ℕ → Bool
-is_notified t phases.Pending fired = false
-is_notified t phases.Firing fired = became_firing t fired
-is_notified t phases.Resolved fired = true
+abbrev pub is_notified : ℕ → AlertState → Option ℕ → Bool
+is_notified t states.Pending fired = false
+is_notified t states.Firing fired = became_firing t fired
+is_notified t states.Resolved fired = true
 
 -- a notifier's line of such an alert, with the annotations of its rule
 unfoldable pub notified_line : ℕ → LabelSet → Alert → List ℕ
 notified_line t annotations alert =
-    if is_notified t alert.phase alert.fired
+    if is_notified t alert.state alert.fired
     then alert_text alert ++ codes " " ++ decimal t ++ codes " " ++ canonical_text annotations ++ codes "\n"
     else []
 

@@ -3,14 +3,14 @@ ghost use Rattle.std.specs.Prelude.{◌≡◌, IfOk, OnOk, string_bytes};
 ghost use Rattle.std.specs.Fmt.{decimal};
 ghost use Rattle.std.specs.List.{flat_map};
 ghost use Rattle.std.specs.Io.KnownBytes.{Appends};
-ghost use Rattle.rl_sinks.specs.Texts.{evaluation_text, recorder_text, notifier_text, tail_text, recorded_lines, notified_lines, tail_lines, recorded_line, notified_line, tail_line, alert_line, failed_line, sample_text, alert_text, is_notified, phase_text, value_text, cause_text};
+ghost use Rattle.rl_sinks.specs.Texts.{evaluation_text, recorder_text, notifier_text, tail_text, recorded_lines, notified_lines, tail_lines, recorded_line, notified_line, tail_line, alert_line, failed_line, sample_text, alert_text, is_notified, state_text, value_text, cause_text};
 
 use crate::sink::SinkKind;
 use crate::target::{InMemory, TextTarget};
 use rl_aggregate::{Fraction, Sample};
 use rl_labels::{Labels, Ns};
 use rl_plain::PlainText;
-use rl_rules::{Alert, Cause, Evaluation, Phase, RuleKind, RuleOutcome, RuleResult};
+use rl_rules::{Alert, Cause, Evaluation, AlertState, RuleKind, RuleOutcome, RuleResult};
 use std::alloc::{AllocError, Global};
 use std::io;
 use std::io::Write;
@@ -183,7 +183,7 @@ fn put_notified_line<T: TextTarget>(
 ) -> Result<(), T::Error>
     ensures { OnOk result (Appends (T.contents target.old) (T.contents target.new) (notified_line t annotations.now alert.now)) }
 {
-    if !is_notified(t, alert.phase, alert.fired) {
+    if !is_notified(t, alert.state, alert.fired) {
         return Ok(());
     }
     put_alert(target, alert)?;
@@ -193,13 +193,13 @@ fn put_notified_line<T: TextTarget>(
 }
 
 // Whether an alert became firing at the moment, or is resolved.
-fn is_notified(t: Ns, phase: Phase, fired: Option<Ns>) -> bool
-    ensures { result ≡ is_notified t phase fired }
+fn is_notified(t: Ns, state: AlertState, fired: Option<Ns>) -> bool
+    ensures { result ≡ is_notified t state fired }
 {
-    match (phase, fired) {
-        (Phase::Firing, Some(fired)) => fired == t,
-        (Phase::Firing, None) | (Phase::Pending, _) => false,
-        (Phase::Resolved, _) => true,
+    match (state, fired) {
+        (AlertState::Firing, Some(fired)) => fired == t,
+        (AlertState::Firing, None) | (AlertState::Pending, _) => false,
+        (AlertState::Resolved, _) => true,
     }
 }
 
@@ -266,21 +266,21 @@ fn put_alert_line<T: TextTarget>(target: &mut T, alert: &Alert) -> Result<(), T:
 fn put_alert<T: TextTarget>(target: &mut T, alert: &Alert) -> Result<(), T::Error>
     ensures { OnOk result (Appends (T.contents target.old) (T.contents target.new) (alert_text alert.now)) }
 {
-    let phase = phase_text(alert.phase);
+    let state = state_text(alert.state);
     let labels = alert.labels.as_text();
-    write!(target, "{phase} {labels} ")?;
+    write!(target, "{state} {labels} ")?;
     put_value(target, alert.value)?;
-    let since = alert.since.get();
-    write!(target, " {since}")
+    let active_at = alert.active_at.get();
+    write!(target, " {active_at}")
 }
 
-fn phase_text(phase: Phase) -> &'static str
-    ensures { result.now ≡ phase_text phase }
+fn state_text(state: AlertState) -> &'static str
+    ensures { result.now ≡ state_text state }
 {
-    match phase {
-        Phase::Pending => "pending",
-        Phase::Firing => "firing",
-        Phase::Resolved => "resolved",
+    match state {
+        AlertState::Pending => "pending",
+        AlertState::Firing => "firing",
+        AlertState::Resolved => "resolved",
     }
 }
 

@@ -8,7 +8,7 @@ use crate::output::{push_debug, push_fault_text};
 use crate::trouble::Trouble;
 use rl_aggregate::{Fraction, Sample};
 use rl_plain::{PlainList, PlainText};
-use rl_rules::{Alert, Cause, Evaluation, Phase, RuleKind, RuleOutcome, RuleResult};
+use rl_rules::{Alert, Cause, Evaluation, AlertState, RuleKind, RuleOutcome, RuleResult};
 use rl_sinks::{Notifier, Recorder, Sink, SinkFault, SinkKind, Tail, evaluation_text};
 use std::alloc::{AllocError, AllocFailed, Global};
 
@@ -173,13 +173,13 @@ fn found_in(alloc: Global, kind: RuleKind, text: &str) -> Result<RuleOutcome, Tr
     })
 }
 
-// An alert is `phase@since@fired@labels:value`, of which the third may be `-`.
+// An alert is `state@active_at@fired@labels:value`, of which the third may be `-`.
 impl Read for Alert {
     fn read(alloc: Global, word: &str) -> Result<Self, Trouble> {
-        let (phase, rest) = word.split_once('@').unwrap_or((word, ""));
-        let (since, rest) = rest.split_once('@').unwrap_or((rest, ""));
+        let (state, rest) = word.split_once('@').unwrap_or((word, ""));
+        let (active_at, rest) = rest.split_once('@').unwrap_or((rest, ""));
         let (fired, sample) = rest.split_once('@').unwrap_or((rest, ""));
-        let (since, phase) = (moment_in(since)?, phase_in(phase)?);
+        let (active_at, state) = (moment_in(active_at)?, state_in(state)?);
         let fired = if fired == "-" {
             None
         } else {
@@ -189,18 +189,18 @@ impl Read for Alert {
         Ok(Alert {
             labels,
             value,
-            since,
+            active_at,
             fired,
-            phase,
+            state,
         })
     }
 }
 
-fn phase_in(word: &str) -> Result<Phase, Trouble> {
+fn state_in(word: &str) -> Result<AlertState, Trouble> {
     match word {
-        "pending" => Ok(Phase::Pending),
-        "firing" => Ok(Phase::Firing),
-        "resolved" => Ok(Phase::Resolved),
+        "pending" => Ok(AlertState::Pending),
+        "firing" => Ok(AlertState::Firing),
+        "resolved" => Ok(AlertState::Resolved),
         _ => Err(Trouble::BadInput),
     }
 }

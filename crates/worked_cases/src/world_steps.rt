@@ -270,11 +270,11 @@ fn push_alerts(output: &mut String, of_rules: &[PlainList<Alert>]) -> Result<(),
 }
 
 fn push_alert(output: &mut String, number: usize, alert: &Alert) -> Result<(), Trouble> {
-    let (phase, labels, since) = (alert.phase, &alert.labels, alert.since.get());
+    let (state, labels, active_at) = (alert.state, &alert.labels, alert.active_at.get());
     let (numerator, denominator) = (alert.value.numerator, alert.value.denominator);
     write!(
         output,
-        "{number} {phase:?} {labels} {numerator}/{denominator} since {since}"
+        "{number} {state:?} {labels} {numerator}/{denominator} since {active_at}"
     )?;
     if let Some(fired) = alert.fired {
         write!(output, " fired {}", fired.get())?;

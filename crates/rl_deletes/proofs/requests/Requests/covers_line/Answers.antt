@@ -6,18 +6,18 @@ use Rattle.rl_deletes.specs.declared.request.Request.{Request}
 use Rattle.rl_deletes.proofs.Received.{any_built, none_pass}
 use Rattle.rl_deletes.proofs.requests.Requests.covers_line.Goals as goal
 
-pub loop-acting-init : goal.loop-acting-init
-loop-acting-init c =
+pub loop-active-init : goal.loop-active-init
+loop-active-init c =
     let inside = c.self.inside in
-    ap (list_any (λ (request : Request). covers_line request c.args.labels.now c.args.timestamp c.args.line.now)) (c.into_iter-acting-iterator.ensures.into_iter_gives ∙ c.values-acting-items.ensures.rest)
-    ∙ any_built inside.cancel inside.requests.entries inside.acting.entries c.self.invariant c.values-acting-items.ensures.ordered (λ request. covers_line request c.args.labels.now c.args.timestamp c.args.line.now)
+    ap (list_any (λ (request : Request). covers_line request c.args.labels.now c.args.timestamp c.args.line.now)) (c.into_iter-active-iterator.ensures.into_iter_gives ∙ c.values-active-items.ensures.rest)
+    ∙ any_built inside.cancel inside.requests.entries inside.active.entries c.self.invariant c.values-active-items.ensures.ordered (λ request. covers_line request c.args.labels.now c.args.timestamp c.args.line.now)
     ∙ ap (λ all. covered_line all c.args.labels.now c.args.timestamp c.args.line.now) c.self.view_is
 
 pub returns-then-len-eq0 : goal.returns-then-len-eq0
 returns-then-len-eq0 c =
     let inside = c.self.inside in
     let covers = λ (request : Request). covers_line request c.args.labels.now c.args.timestamp c.args.line.now in
-    let none : length inside.acting.entries ≡ 0 = omega (arith, c.len.ensures.len, c.if-len-eq0.true) in
-    sym (none_pass covers inside.acting.entries none)
-    ∙ any_built inside.cancel inside.requests.entries inside.acting.entries c.self.invariant c.len.ensures.ordered covers
+    let none : length inside.active.entries ≡ 0 = omega (arith, c.len.ensures.len, c.if-len-eq0.true) in
+    sym (none_pass covers inside.active.entries none)
+    ∙ any_built inside.cancel inside.requests.entries inside.active.entries c.self.invariant c.len.ensures.ordered covers
     ∙ ap (λ all. covered_line all c.args.labels.now c.args.timestamp c.args.line.now) c.self.view_is

@@ -7,5 +7,5 @@ use Rattle.rl_deletes.proofs.requests.Requests.retire.Goals as goal
 pub returns : goal.returns
 returns c =
     let inside = c.self.inside in
-    ended_tree inside.cancel inside.requests.entries c.set_phase.new.requests.entries c.args.id c.args.phase (subst (λ all. IsSome (received_at all c.args.id)) (sym c.self.view_is) c.requires.received) c.set_phase.ensures
-    ∙ ap (λ all. ended c.args.phase all c.args.id) c.self.view_is
+    ended_tree inside.cancel inside.requests.entries c.set_status.new.requests.entries c.args.id c.args.status (subst (λ all. IsSome (received_at all c.args.id)) (sym c.self.view_is) c.requires.received) c.set_status.ensures
+    ∙ ap (λ all. ended c.args.status all c.args.id) c.self.view_is

@@ -6,9 +6,9 @@ use Rattle.rl_deletes.specs.declared.request.Request.{Request}
 use Rattle.rl_deletes.proofs.Received.{any_built}
 use Rattle.rl_deletes.proofs.requests.RequestsCovers.may_cover.Goals as goal
 
-pub loop-acting-init : goal.loop-acting-init
-loop-acting-init c = λ entry of from to.
+pub loop-active-init : goal.loop-active-init
+loop-active-init c = λ entry of from to.
     let inside = c.self.inside in
-    ap (list_any (λ (request : Request). covers_one request entry)) (c.into_iter-acting-iterator.ensures.into_iter_gives ∙ c.values-acting-items.ensures.rest)
-    ∙ any_built inside.cancel inside.requests.entries inside.acting.entries c.self.invariant c.values-acting-items.ensures.ordered (λ request. covers_one request entry)
+    ap (list_any (λ (request : Request). covers_one request entry)) (c.into_iter-active-iterator.ensures.into_iter_gives ∙ c.values-active-items.ensures.rest)
+    ∙ any_built inside.cancel inside.requests.entries inside.active.entries c.self.invariant c.values-active-items.ensures.ordered (λ request. covers_one request entry)
     ∙ ap (λ all. covered all entry) c.self.view_is

@@ -10,14 +10,14 @@ use std::marker::Model;
 
 /// A received request, built. Contracts see the request.
 #[derive(Drop)]
-pub struct Acting {
+pub struct ActiveRequest {
     code: SieveCode,
     start: Ns,
     end: Ns,
     created: Ns,
 }
 
-impl Model for Acting {
+impl Model for ActiveRequest {
     ghost use Rattle.rl_deletes.specs.declared.request.Request.{Request};
     ghost use Rattle.rl_deletes.specs.Deletes.{asked};
 
@@ -26,13 +26,13 @@ impl Model for Acting {
     ghost view = { λ a. asked a.code a.start a.end a.created };
 }
 
-impl Acting {
+impl ActiveRequest {
     // The request built, as it is received. A pattern that no longer builds is answered as lack of memory.
-    pub(crate) fn build(alloc: Global, request: &Request) -> Result<Acting, AllocError>
-        ensures { IfOk result (λ acting. acting ≡ asked request.now.sieve request.now.start request.now.end request.now.created) }
+    pub(crate) fn build(alloc: Global, request: &Request) -> Result<ActiveRequest, AllocError>
+        ensures { IfOk result (λ active. active ≡ asked request.now.sieve request.now.start request.now.end request.now.created) }
     {
         match SieveCode::build(alloc, request.sieve.get()) {
-            Ok(code) => Ok(Acting {
+            Ok(code) => Ok(ActiveRequest {
                 code,
                 start: request.start,
                 end: request.end,
@@ -58,7 +58,7 @@ impl Acting {
     }
 }
 
-impl Covers for Acting {
+impl Covers for ActiveRequest {
     ghost use Rattle.rl_deletes.specs.Deletes.{covers_one};
 
     ghost covers = { covers_one };
