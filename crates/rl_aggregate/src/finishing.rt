@@ -15,7 +15,7 @@ use std::marker::Model;
 /// A cache of outcomes: finishes a query at one evaluation after the other. Where its terms add up to what they did the last
 /// time, the outcome is copied.
 #[derive(Drop)]
-pub struct Finisher {
+pub struct OutcomeCache {
     last: Option<Finished>,
 }
 
@@ -51,10 +51,10 @@ impl Finished {
     }
 }
 
-impl Finisher {
+impl OutcomeCache {
     /// An empty cache.
-    pub fn new() -> Finisher {
-        Finisher { last: None }
+    pub fn new() -> OutcomeCache {
+        OutcomeCache { last: None }
     }
 
     /// The outcome of a query, with one partial for each of its terms.

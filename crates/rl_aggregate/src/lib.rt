@@ -6,7 +6,7 @@
 //!
 //! - `total`, `totals`: counts and bytes, by label set. `partial`: `Partial`, `merge`. `counter`: `Counter`, by a `tally` for each term. `range`: `scratch`, and what is built of terms.
 //! - `aggregation`: what vector aggregations make of a vector, with `group_labels` and `groups`, and `topk`. `ratio` and `threshold`: ratios of vectors, and what is left of them.
-//! - `outcome`: `Outcome`, `Sample`, `Fraction`. `absence`: what `absent_over_time` gives. `vector`: `finish`. `finishing`: `Finisher`, a cache of outcomes.
+//! - `outcome`: `Outcome`, `Sample`, `Fraction`. `absence`: what `absent_over_time` gives. `vector`: `finish`. `finishing`: `OutcomeCache`, a cache of outcomes.
 #![tactic(auto)]
 
 pub mod absence;
@@ -27,7 +27,7 @@ pub mod totals;
 pub mod vector;
 
 pub use counter::Counter;
-pub use finishing::Finisher;
+pub use finishing::OutcomeCache;
 pub use outcome::{Fraction, Outcome, Sample};
 pub use partial::{Partial, merge};
 pub use range::{pipelines_of, scratch, selector_of};

@@ -8,7 +8,7 @@ use Rattle.rl_labels.proofs.labels.Labels.TheSendSync as labels
 use Rattle.rl_query.proofs.Crossing as queries
 use Rattle.rl_rules.proofs.evaluation.Evaluation.TheSendSync as evaluation
 use Rattle.rl_rules.proofs.rule.RuleKind.TheSendSync as kind
-use Rattle.rl_rules.specs.contracts.naming.Namer as Namer
+use Rattle.rl_rules.specs.contracts.naming.LabelSetCache as LabelSetCache
 use Rattle.rl_rules.specs.contracts.rule.Group as Group
 use Rattle.rl_rules.specs.contracts.rule.Rule as Rule
 
@@ -24,8 +24,8 @@ Group-send = let rule = Rule-send in search (text.the_send, list.the_send, senda
 pub Group-sync : IsSync Group.the_row
 Group-sync = let rule = Rule-sync in search (text.the_sync, list.the_sync, sendable, heap.crosses) depth 20
 
-pub Namer-send : IsSend Namer.the_row
-Namer-send = search (kind.the_field_send, labels.the_send, text.the_send, list.the_send, sendable, heap.crosses) depth 20
+pub LabelSetCache-send : IsSend LabelSetCache.the_row
+LabelSetCache-send = search (kind.the_field_send, labels.the_send, text.the_send, list.the_send, sendable, heap.crosses) depth 20
 
 -- with these `search` shows that a type which holds groups or evaluations may be sent, and looked at from two threads
 pub ruleset crosses = (
@@ -33,7 +33,7 @@ pub ruleset crosses = (
   Rule-sync,
   Group-send,
   Group-sync,
-  Namer-send,
+  LabelSetCache-send,
   evaluation.the_send,
   evaluation.the_sync,
   list.the_send,

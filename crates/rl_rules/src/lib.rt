@@ -5,7 +5,7 @@
 //! alerts of those before that are equal.
 //!
 //! - `rule`: `Group`, `Rule`. `alert`: `Alert`, `AlertState`. `evaluation`: `Evaluation`, `RuleResult`, `RuleOutcome`, `Cause`.
-//! - `fault`: why a rule file is refused. `reading`: `read_rules`. `stepping`: `step_rule`. `naming`: `Namer`, which
+//! - `fault`: why a rule file is refused. `reading`: `read_rules`. `stepping`: `step_rule`. `naming`: `LabelSetCache`, which
 //!   gives final label sets. `editing`: `hand_on`.
 //! - `sending`: what may be sent to another thread, and looked at from two.
 #![tactic(auto)]
@@ -28,7 +28,7 @@ pub use alert::{Alert, AlertState};
 pub use editing::hand_on;
 pub use evaluation::{Cause, Evaluation, RuleOutcome, RuleResult};
 pub use fault::{RulesError, RulesFault};
-pub use naming::Namer;
+pub use naming::LabelSetCache;
 pub use reading::read_rules;
 pub use rule::{Group, Rule, RuleKind};
 pub use stepping::step_rule;

@@ -20,7 +20,7 @@ pub const ALERT_LABEL: &str = "alertname";
 /// Gives the samples of a rule their final label sets, and shares those that it gave at the last evaluation. Contracts see
 /// what it takes of the rule.
 #[derive(Drop)]
-pub struct Namer {
+pub struct LabelSetCache {
     kind: RuleKind,
     name: PlainText,
     labels: PlainList<(PlainText, PlainText)>,
@@ -31,7 +31,7 @@ pub struct Namer {
     fresh: Vec<(Labels, Labels)>,
 }
 
-impl Model for Namer {
+impl Model for LabelSetCache {
     ghost use Rattle.rl_rules.specs.Naming.{Naming, AreFinal};
 
     ghost Value = { Naming };
@@ -41,10 +41,10 @@ impl Model for Namer {
     ghost invariant = { λ a. AreFinal (record { kind = a.kind; name = a.name; labels = a.labels }) a.known.items × AreFinal (record { kind = a.kind; name = a.name; labels = a.labels }) a.fresh.items };
 }
 
-impl Namer {
+impl LabelSetCache {
     /// One that is of no rule yet.
-    pub fn new(alloc: Global) -> Namer {
-        Namer {
+    pub fn new(alloc: Global) -> LabelSetCache {
+        LabelSetCache {
             kind: RuleKind::Recording,
             name: PlainText::from_string(String::new(alloc)),
             labels: PlainList::new(alloc),

@@ -7,7 +7,7 @@ ghost use Rattle.rl_rules.specs.Recording.{named, named_by, sample_cmp, has_same
 use crate::alert::Alert;
 use crate::alerting::alerts_after;
 use crate::evaluation::{Cause, RuleOutcome};
-use crate::naming::Namer;
+use crate::naming::LabelSetCache;
 use crate::rule::{Rule, RuleKind};
 use rl_aggregate::{Outcome, Sample};
 use rl_labels::Ns;
@@ -22,7 +22,7 @@ pub fn step_rule(
     limit: u64,
     alerts: PlainList<Alert>,
     outcome: Outcome,
-    namer: &mut Namer,
+    label_set_cache: &mut LabelSetCache,
     t: Ns,
 ) -> Result<(PlainList<Alert>, RuleOutcome), AllocError>
     ensures stepped { IfOk result (λ step. step ≡ rule_step rule.now limit alerts outcome t) }
@@ -30,7 +30,7 @@ pub fn step_rule(
 {
     match outcome {
         Outcome::Vector(samples) => {
-            let made = make(rule, limit, &alerts, samples.into_vec(), namer, t)?;
+            let made = make(rule, limit, &alerts, samples.into_vec(), label_set_cache, t)?;
             Ok((alerts_left(alerts, &made)?, made))
         }
         Outcome::Failed => {
@@ -67,13 +67,13 @@ fn make(
     limit: u64,
     alerts: &PlainList<Alert>,
     samples: Vec<Sample>,
-    namer: &mut Namer,
+    label_set_cache: &mut LabelSetCache,
     t: Ns,
 ) -> Result<RuleOutcome, AllocError>
     ensures { IfOk result (λ made. made ≡ outcome_of limit (made_by rule.now.kind rule.now.hold alerts.now t) (final_elements rule.now samples.items)) }
 {
     let exceeded = is_exceeded(limit, samples.len());
-    let samples = final_samples(rule, samples, namer)?;
+    let samples = final_samples(rule, samples, label_set_cache)?;
     if has_same_neighbours(&samples) {
         return Ok(RuleOutcome::Failed(Cause::SameLabels));
     }
@@ -110,24 +110,24 @@ fn made_by(
 fn final_samples(
     rule: &Rule,
     mut samples: Vec<Sample>,
-    namer: &mut Namer,
+    label_set_cache: &mut LabelSetCache,
 ) -> Result<Vec<Sample>, AllocError>
     ensures moved { IfOk result (λ sorted. IsPermutation (map (named rule.now) samples.items) sorted.items) }
     ensures in_order { IfOk result (λ sorted. IsSorted sample_cmp sorted.items) }
 {
-    namer.begin(rule)?;
-    name_samples(&mut samples, namer)?;
-    namer.end();
+    label_set_cache.begin(rule)?;
+    name_samples(&mut samples, label_set_cache)?;
+    label_set_cache.end();
     sort_samples(&mut samples);
     Ok(samples)
 }
 
 // Puts each sample under the final label set that the cache gives it.
-fn name_samples(samples: &mut [Sample], namer: &mut Namer) -> Result<(), AllocError>
-    ensures { OnOk result (samples.new ≡ map (named_by namer.old) samples.old) }
+fn name_samples(samples: &mut [Sample], label_set_cache: &mut LabelSetCache) -> Result<(), AllocError>
+    ensures { OnOk result (samples.new ≡ map (named_by label_set_cache.old) samples.old) }
 {
     for sample in samples.iter_mut() {
-        sample.labels = namer.named(&sample.labels)?;
+        sample.labels = label_set_cache.named(&sample.labels)?;
     }
     Ok(())
 }

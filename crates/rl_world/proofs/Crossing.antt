@@ -26,7 +26,7 @@ use Rattle.rl_rules.proofs.rule.RuleKind.TheSendSync as kind
 use Rattle.rl_world.proofs.opened.OpenEvaluation.TheSendSync as opening
 use Rattle.rl_query.proofs.Crossing as queries
 use Rattle.rl_rules.proofs.Crossing as groups
-use Rattle.rl_world.specs.contracts.evaluating.RuleMemory as RuleMemory
+use Rattle.rl_world.specs.contracts.evaluating.RuleCache as RuleCache
 use Rattle.rl_world.specs.contracts.item.Item as Item
 use Rattle.rl_world.specs.contracts.opened.OpenEvaluation as OpenEvaluation
 use Rattle.rl_world.specs.contracts.book.Book as Book
@@ -35,8 +35,8 @@ use Rattle.rl_world.specs.contracts.book.Book.TheInside as inside
 Item-send : IsSend Item.the_row
 Item-send = search (groups.crosses, sendable, heap.crosses) depth 20
 
-RuleMemory-send : IsSend RuleMemory.the_row
-RuleMemory-send =
+RuleCache-send : IsSend RuleCache.the_row
+RuleCache-send =
     search (outcome.the_field_send, partial.the_send, partial.the_sync, kind.the_field_send, labels.the_send, text.the_send, queries.crosses, groups.crosses, sendable, heap.crosses) depth 30
 
 fields-send : (T : RattleType) (g : Sink.Ghosts T.Denot) → IsSend T → IsSend (inside.the_row T g)
@@ -44,8 +44,8 @@ fields-send T g s =
     let group : IsSend (Shared.the_field Group.the_row).row = search (groups.crosses, sendable, heap.crosses) depth 20 in
     let terms : IsSend (Shared.the_field (PlainList.the_row Term.the_row)).row = search (queries.crosses, groups.crosses, sendable, heap.crosses) depth 20 in
     let alerts : IsSend (Vec.the_field (PlainList.the_row Alert.the_row) Global.the_row allocator.ghosts).row = search (alert.the_send, groups.crosses, sendable, heap.crosses) depth 20 in
-    let memory = RuleMemory-send in
-    let memories : IsSend (Vec.the_field RuleMemory.the_row Global.the_row allocator.ghosts).row = search (memory, sendable, heap.crosses) depth 20 in
+    let memory = RuleCache-send in
+    let caches : IsSend (Vec.the_field RuleCache.the_row Global.the_row allocator.ghosts).row = search (memory, sendable, heap.crosses) depth 20 in
     let item = Item-send in
     let items : IsSend (Vec.the_field Item.the_row Global.the_row allocator.ghosts).row = search (item, sendable, heap.crosses) depth 20 in
     let evaluations : IsSend (Vec.the_field (Shared.the_row Evaluation.the_row) Global.the_row allocator.ghosts).row = search (groups.crosses, sendable, heap.crosses) depth 20 in
@@ -54,7 +54,7 @@ fields-send T g s =
     let number : IsSend (Field.u64-field).row = search sendable depth 20 in
     let size : IsSend (Field.usize-field).row = search sendable depth 20 in
     recorded_send (inside.the_field T g).row _ _ (inside.the_type T g).to_one (struct_send (shape (inside.the_type T g))
-    (global.the_field_send, (group, (group, (terms, (number, (size, (number, (alerts, (memories, (items, (evaluations, (opened, (sinks, tt))))))))))))))
+    (global.the_field_send, (group, (group, (terms, (number, (size, (number, (alerts, (caches, (items, (evaluations, (opened, (sinks, tt))))))))))))))
 
 pub Book-send : (T : RattleType) (g : Sink.Ghosts T.Denot) → IsSend T → IsSend (Book.the_row T g)
 Book-send T g s = view_send _ _ _ _ _ (fields-send T g s)

@@ -8,7 +8,7 @@ ghost use Rattle.std.specs.List.{AllByRecursion, list_all};
 ghost use Rattle.std.specs.Option.{option_copied};
 
 use crate::editing::alerts_edited;
-use crate::evaluating::{RuleMemory, ShardAnswer, evaluate, terms_of_group};
+use crate::evaluating::{RuleCache, ShardAnswer, evaluate, terms_of_group};
 use crate::fault::{BookError, BookFault};
 use crate::item::Item;
 use crate::offering::{catch_up_all, offer_all};
@@ -39,7 +39,7 @@ pub struct Book<S: Sink> {
     // What the history left to each rule.
     alerts: Vec<PlainList<Alert>>,
     // What is kept for each rule from one evaluation to the next.
-    memories: Vec<RuleMemory>,
+    caches: Vec<RuleCache>,
     // Edits and evaluations in order, and the evaluations alone.
     items: Vec<Item>,
     evaluations: Vec<Shared<Evaluation>>,
@@ -103,7 +103,7 @@ impl<S: Sink> Book<S> {
             shards,
             records,
             alerts: Vec::new(alloc),
-            memories: Vec::new(alloc),
+            caches: Vec::new(alloc),
             items: Vec::new(alloc),
             evaluations: Vec::new(alloc),
             opened: None,
@@ -203,9 +203,9 @@ impl<S: Sink> Book<S> {
         ensures err { OnErr result (self.new ≡ self.old) }
     {
         let number = self.evaluations.len() as u64;
-        let mut memories = mem::replace(&mut self.memories, Vec::new(self.alloc));
-        let evaluated = self.evaluated(&mut memories);
-        self.memories = memories;
+        let mut caches = mem::replace(&mut self.caches, Vec::new(self.alloc));
+        let evaluated = self.evaluated(&mut caches);
+        self.caches = caches;
         let (evaluation, offers, alerts) = evaluated?;
         let item = Item::Evaluated(evaluation.try_copy()?);
         let mut behind = Vec::with_capacity(self.alloc, self.sinks.len())?;
@@ -225,7 +225,7 @@ impl<S: Sink> Book<S> {
     // The evaluation that a commit adds, its copy for the caller, and the alerts that it leaves to the rules.
     fn evaluated(
         &self,
-        memories: &mut Vec<RuleMemory>,
+        caches: &mut Vec<RuleCache>,
     ) -> Result<
         (
             Shared<Evaluation>,
@@ -253,7 +253,7 @@ impl<S: Sink> Book<S> {
             terms,
             &self.alerts,
             opened,
-            memories,
+            caches,
         )?;
         let offers = evaluation.try_copy()?;
         Ok((evaluation, offers, alerts))

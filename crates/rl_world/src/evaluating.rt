@@ -12,11 +12,11 @@ ghost use Rattle.rl_world.specs.Kept.{evaluation_from, merged_from, merged_terms
 ghost use Rattle.rl_world.specs.ShardAnswers.{IsKept, HasTerm, most_shards};
 
 use crate::opened::{Gathered, OpenEvaluation};
-use rl_aggregate::{Finisher, Partial, merge};
+use rl_aggregate::{OutcomeCache, Partial, merge};
 use rl_labels::Ns;
 use rl_plain::{PlainList, Shared, TryCopy};
 use rl_query::{Query, Term};
-use rl_rules::{Alert, Evaluation, Group, Namer, Rule, RuleResult, step_rule};
+use rl_rules::{Alert, Evaluation, Group, LabelSetCache, Rule, RuleResult, step_rule};
 use std::alloc::{AllocError, Global};
 
 /// What a book has of each shard: the partials of the group's terms, once the shard was asked.
@@ -24,9 +24,9 @@ pub(crate) type ShardAnswer = Option<Gathered<PlainList<Shared<Partial>>>>;
 
 /// What is kept for a rule from one evaluation to the next: the outcome of its query and the final label sets.
 #[derive(Drop)]
-pub(crate) struct RuleMemory {
-    finisher: Finisher,
-    namer: Namer,
+pub(crate) struct RuleCache {
+    outcome_cache: OutcomeCache,
+    label_set_cache: LabelSetCache,
 }
 
 /// The terms of the group's rules, in their order.
@@ -55,7 +55,7 @@ pub(crate) fn evaluate(
     terms: usize,
     alerts: &[PlainList<Alert>],
     opened: &OpenEvaluation<PlainList<Shared<Partial>>>,
-    memories: &mut Vec<RuleMemory>,
+    caches: &mut Vec<RuleCache>,
 ) -> Result<(Shared<Evaluation>, Vec<PlainList<Alert>>), AllocError>
     requires terms { terms ≡ length (group_terms group.now) }
     requires shards { length opened.now.gathered ≤ most_shards }
@@ -64,7 +64,7 @@ pub(crate) fn evaluate(
     ensures alerts { IfOk result (λ made. made.1.items ≡ alerts_then alerts.now made.0.outcomes) }
 {
     let answers = opened.gathered.as_slice();
-    let (outcomes, left) = group_results(alloc, group, terms, opened.t, alerts, answers, memories)?;
+    let (outcomes, left) = group_results(alloc, group, terms, opened.t, alerts, answers, caches)?;
     let places = places(alloc, answers)?;
     let name = group.name.try_copy()?;
     let evaluation = Evaluation {
@@ -85,7 +85,7 @@ fn group_results(
     t: Ns,
     alerts: &[PlainList<Alert>],
     answers: &[ShardAnswer],
-    memories: &mut Vec<RuleMemory>,
+    caches: &mut Vec<RuleCache>,
 ) -> Result<(Vec<RuleResult>, Vec<PlainList<Alert>>), AllocError>
     requires terms { terms ≡ length (group_terms group.now) }
     requires shards { length answers.now ≤ most_shards }
@@ -97,11 +97,11 @@ fn group_results(
     if let [answered] = answers {
         if let Some(answer) = answered {
             let partials = answer.shown.as_slice();
-            return results(alloc, group.limit, t, rules, alerts, partials, memories);
+            return results(alloc, group.limit, t, rules, alerts, partials, caches);
         }
     }
     let partials = merged_terms(alloc, answers, terms)?;
-    results(alloc, group.limit, t, rules, alerts, &partials, memories)
+    results(alloc, group.limit, t, rules, alerts, &partials, caches)
 }
 
 // Where the journals of the shards that were asked have the question.
@@ -175,7 +175,7 @@ fn results(
     rules: &[Rule],
     alerts: &[PlainList<Alert>],
     partials: &[Shared<Partial>],
-    memories: &mut Vec<RuleMemory>,
+    caches: &mut Vec<RuleCache>,
 ) -> Result<(Vec<RuleResult>, Vec<PlainList<Alert>>), AllocError>
     requires terms { length partials.now ≡ length (flat_map (λ rule. terms_of rule.query) rules.now) }
     requires limited { AllByRecursion IsLimited partials.now }
@@ -187,11 +187,11 @@ fn results(
     let none = PlainList::new(alloc);
     let mut rest = partials;
     let mut known = alerts;
-    fill(alloc, memories, rules.len())?;
+    fill(alloc, caches, rules.len())?;
     for (index, rule) in rules.iter().enumerate() {
         let (own, others) = rest.split_at(count_terms(&rule.query));
         let (had, later) = first_alerts(known, &none);
-        let (result, kept) = result_of(alloc, limit, t, rule, had, own, &mut memories[index])?;
+        let (result, kept) = result_of(alloc, limit, t, rule, had, own, &mut caches[index])?;
         results.push(result)?;
         left.push(kept)?;
         rest = others;
@@ -201,13 +201,13 @@ fn results(
 }
 
 // Adds caches until there are `count`.
-fn fill(alloc: Global, memories: &mut Vec<RuleMemory>, count: usize) -> Result<(), AllocError>
-    ensures { OnOk result (count ≤ length memories.new.items) }
+fn fill(alloc: Global, caches: &mut Vec<RuleCache>, count: usize) -> Result<(), AllocError>
+    ensures { OnOk result (count ≤ length caches.new.items) }
 {
-    for _ in memories.len()..count {
-        memories.push(RuleMemory {
-            finisher: Finisher::new(),
-            namer: Namer::new(alloc),
+    for _ in caches.len()..count {
+        caches.push(RuleCache {
+            outcome_cache: OutcomeCache::new(),
+            label_set_cache: LabelSetCache::new(alloc),
         })?;
     }
     Ok(())
@@ -243,16 +243,16 @@ fn result_of(
     rule: &Rule,
     alerts: &PlainList<Alert>,
     partials: &[Shared<Partial>],
-    memory: &mut RuleMemory,
+    memory: &mut RuleCache,
 ) -> Result<(RuleResult, PlainList<Alert>), AllocError>
     requires terms { length partials.now ≡ length (terms_of rule.now.query) }
     requires limited { AllByRecursion IsLimited partials.now }
     ensures result { IfOk result (λ made. made.0 ≡ result_of limit t rule.now alerts.now (finished rule.now.query partials.now)) }
     ensures left { IfOk result (λ made. made.1 ≡ alerts_left alerts.now made.0.outcome) }
 {
-    let outcome = memory.finisher.finish(alloc, &rule.query, partials)?;
+    let outcome = memory.outcome_cache.finish(alloc, &rule.query, partials)?;
     let had = alerts.try_copy()?;
-    let (left, outcome) = step_rule(rule, limit, had, outcome, &mut memory.namer, t)?;
+    let (left, outcome) = step_rule(rule, limit, had, outcome, &mut memory.label_set_cache, t)?;
     let name = rule.name.try_copy()?;
     let annotations = rule.annotations.try_copy()?;
     let result = RuleResult {

@@ -13,5 +13,5 @@ invariant-loop-index l = record {
   left : l.left.items ++ alerts_then l.known (results_from l.limit l.t (drop l.index l.rules) l.known l.rest) ≡ alerts_then l.alerts (results_from l.limit l.t l.rules l.alerts l.partials);
   each : length l.rest ≡ length (flat_map (λ rule. terms_of rule.query) (drop l.index l.rules));
   limited : AllByRecursion IsLimited l.rest;
-  many : length l.rules ≤ length l.memories.items;
+  many : length l.rules ≤ length l.caches.items;
 }

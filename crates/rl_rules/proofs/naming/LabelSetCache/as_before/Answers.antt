@@ -2,7 +2,7 @@
 use Rattle.std.proofs.Common.{◌≡◌, sym, subst}
 use Rattle.std.specs.Prelude.{IfSome}
 use Rattle.rl_rules.specs.Naming.{Naming, AreFinal, final_by}
-use Rattle.rl_rules.proofs.naming.Namer.as_before.Goals as goal
+use Rattle.rl_rules.proofs.naming.LabelSetCache.as_before.Goals as goal
 
 pub returns-then-is_some-clause-named : goal.returns-then-is_some-clause-named
 returns-then-is_some-clause-named c =

@@ -3,7 +3,7 @@ use Rattle.std.proofs.Common.{sym, ap, subst, ◌∙◌}
 use Rattle.rl_labels.specs.LabelSet.{LabelSet}
 use Rattle.rl_rules.specs.Naming.{Naming, AreFinal, final_by}
 use Rattle.rl_rules.proofs.Finals.{final_more}
-use Rattle.rl_rules.proofs.naming.Namer.named.Goals as goal
+use Rattle.rl_rules.proofs.naming.LabelSetCache.named.Goals as goal
 
 pub known_or_made-requires : goal.known_or_made-requires
 known_or_made-requires c =
