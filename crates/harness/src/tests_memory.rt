@@ -16,11 +16,11 @@ fn sizes(alloc: Global) -> Result<(usize, usize), FrontError> {
 
 #[test]
 fn an_input(rt: HostRuntime) {
-    let mut got = sizes(rt.alloc());
-    if got == Err(FrontError::Memory) {
-        got = sizes(rt.alloc());
+    let mut found = sizes(rt.alloc());
+    if found == Err(FrontError::Memory) {
+        found = sizes(rt.alloc());
     }
-    is(&rt, got, Ok((1, 10)), 0);
+    is(&rt, found, Ok((1, 10)), 0);
 }
 
 const COMMANDS: &str =
@@ -77,8 +77,8 @@ fn committed<W: Asked>(world: &mut W, t: u64) -> Option<(u64, u64)> {
 fn behind<W: Asked>(rt: &impl Abort, world: &mut W) -> u64 {
     let mut all = 0u64;
     for number in 0..3u64 {
-        let (got, behind) = committed(world, number * 10 + 10).unwrap_or((u64::MAX, 0));
-        is(rt, got, number, 0);
+        let (found, behind) = committed(world, number * 10 + 10).unwrap_or((u64::MAX, 0));
+        is(rt, found, number, 0);
         is(
             rt,
             world.count(0, 0),

@@ -34,8 +34,8 @@ impl<R: Read> Read for Slow<R> {
 }
 
 // How many bytes the commands have after the first character; no such number where memory ran out.
-fn rest(got: Result<Front, FrontError>) -> Result<usize, FrontFault> {
-    match got {
+fn rest(found: Result<Front, FrontError>) -> Result<usize, FrontFault> {
+    match found {
         Ok(front) => Ok(front.commands.as_str().trim_start_matches('é').len()),
         Err(FrontError::Fault(fault)) => Err(fault),
         Err(FrontError::Memory) => Ok(usize::MAX),

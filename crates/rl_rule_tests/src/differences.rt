@@ -10,13 +10,13 @@ use std::cmp::Ordering;
 pub(crate) fn push_differences(
     text: &mut String,
     wanted: &Outcome<'_>,
-    got: &Outcome<'_>,
+    given: &Outcome<'_>,
 ) -> Result<(), AllocError> {
-    if wanted.failed.is_none() && got.failed.is_none() {
-        return push_pairs(text, &wanted.rows, &got.rows);
+    if wanted.failed.is_none() && given.failed.is_none() {
+        return push_pairs(text, &wanted.rows, &given.rows);
     }
     push_side(text, "wanted", wanted)?;
-    push_side(text, "got", got)
+    push_side(text, "got", given)
 }
 
 /// Adds all of a side.
@@ -77,10 +77,10 @@ fn state_name(state: AlertState) -> &'static str {
 }
 
 // Adds the rows of both sides that differ. Both are in the order of the label sets.
-fn push_pairs(text: &mut String, wanted: &[Row<'_>], got: &[Row<'_>]) -> Result<(), AllocError> {
+fn push_pairs(text: &mut String, wanted: &[Row<'_>], given: &[Row<'_>]) -> Result<(), AllocError> {
     let (mut here, mut there) = (0usize, 0usize);
-    for _ in 0..wanted.len().saturating_add(got.len()) {
-        let (one, other) = (wanted.get(here).copied(), got.get(there).copied());
+    for _ in 0..wanted.len().saturating_add(given.len()) {
+        let (one, other) = (wanted.get(here).copied(), given.get(there).copied());
         let order = order_of(one, other);
         match order {
             Ordering::Less => push_pair(text, one, None)?,
@@ -94,8 +94,8 @@ fn push_pairs(text: &mut String, wanted: &[Row<'_>], got: &[Row<'_>]) -> Result<
 }
 
 // Which side has the next label set. One that is at its end comes after the other.
-fn order_of(wanted: Option<Row<'_>>, got: Option<Row<'_>>) -> Ordering {
-    match (wanted, got) {
+fn order_of(wanted: Option<Row<'_>>, given: Option<Row<'_>>) -> Ordering {
+    match (wanted, given) {
         (Some(one), Some(other)) => one.labels.cmp(other.labels),
         (None, Some(_)) => Ordering::Greater,
         (Some(_), None) => Ordering::Less,
@@ -107,16 +107,16 @@ fn order_of(wanted: Option<Row<'_>>, got: Option<Row<'_>>) -> Ordering {
 fn push_pair(
     text: &mut String,
     wanted: Option<Row<'_>>,
-    got: Option<Row<'_>>,
+    given: Option<Row<'_>>,
 ) -> Result<(), AllocError> {
-    let (is_same, annotated) = match (wanted, got) {
-        (Some(wanted), Some(got)) => (meets(&wanted, &got), wanted.annotations.is_some()),
+    let (is_same, annotated) = match (wanted, given) {
+        (Some(wanted), Some(given)) => (meets(&wanted, &given), wanted.annotations.is_some()),
         (Some(wanted), None) => (false, wanted.annotations.is_some()),
-        (None, got) => (got.is_none(), false),
+        (None, given) => (given.is_none(), false),
     };
     if is_same {
         return Ok(());
     }
     push_line(text, "wanted", wanted, annotated)?;
-    push_line(text, "got", got, annotated)
+    push_line(text, "got", given, annotated)
 }

@@ -15,7 +15,7 @@ use Rattle.rl_session.specs.PushForms.{EntryForm}
 use Rattle.rl_session.specs.Reading.{Reads, ReadsAll}
 use Rattle.rl_session.specs.Session.{IsExecuted, AreLinesExecuted}
 use Rattle.rl_session.specs.declared.output.Answer.TheVariants.{Refused, Ended}
-use Rattle.rl_session.specs.declared.output.Got.TheVariants as gots
+use Rattle.rl_session.specs.declared.output.CommandResult.TheVariants as command_results
 use Rattle.rl_session.specs.declared.front.fault.FrontFault.TheVariants as fronts
 
 cut_round_a_mark : IsCut (codes "d\n%%\nc") (codes "d\n", codes "c")
@@ -47,10 +47,10 @@ refused_by_the_second_shard = refl
 module _ {E : Type 0} (calls : Calls E) where
   push_without_memory : (engine : E) (json : List ℕ) (form : EntryForm) → entries_of json ≡ Ok (form ∷ []) → IsExecuted calls engine (Some (pushes json)) (codes "accepted 0 refused 1\n  0 Memory\n") Refused engine
   unfolding digits
-  push_without_memory engine json form read = (gots.Unpushed 1, subst (λ read. IsForPush calls engine read (gots.Unpushed 1) engine) (sym read) (refl, refl), (refl, refl))
+  push_without_memory engine json form read = (command_results.Unpushed 1, subst (λ read. IsForPush calls engine read (command_results.Unpushed 1) engine) (sym read) (refl, refl), (refl, refl))
 
   evaluation_refused : (old new : E) (group : List ℕ) → number_named group (calls.groups old) ≡ Some 0 → calls.evaluates old 0 5 (Err refusals.Memory) new → IsExecuted calls old (Some (evaluates 5 group)) (codes "refused Memory\n") Refused new
-  evaluation_refused old new group named evaluated = (gots.Evaluated (Err refusals.Memory), subst (λ number. IsForEvaluation calls old 5 number (gots.Evaluated (Err refusals.Memory)) new) (sym named) (evaluated, tt), (refl, refl))
+  evaluation_refused old new group named evaluated = (command_results.Evaluated (Err refusals.Memory), subst (λ number. IsForEvaluation calls old 5 number (command_results.Evaluated (Err refusals.Memory)) new) (sym named) (evaluated, tt), (refl, refl))
 
   tick_that_goes_on : (old mid new : E) → calls.is_due old 0 9 true → calls.evaluates old 0 9 (Err refusals.JournalFull) mid → calls.is_due mid 1 9 true → calls.evaluates mid 1 9 (Err refusals.Memory) new
       → EvaluatesDue calls old 9 0 2 (Err refusals.JournalFull ∷ Err refusals.Memory ∷ []) new

@@ -21,8 +21,8 @@ use Rattle.rl_session.specs.PushForms.{EntryForm, entry_form}
 use Rattle.rl_session.specs.declared.edit.EditRefusal.{EditRefusal}
 use Rattle.rl_session.specs.declared.edit.EditRefusal.TheVariants as causes
 use Rattle.rl_session.specs.declared.push.PushFault.{PushFault}
-use Rattle.rl_session.specs.declared.output.Got.{Got}
-use Rattle.rl_session.specs.declared.output.Got.TheVariants as gots
+use Rattle.rl_session.specs.declared.output.CommandResult.{CommandResult}
+use Rattle.rl_session.specs.declared.output.CommandResult.TheVariants as command_results
 
 -- an edit that was refused by the engine
 abbrev pub refusal_of_edit : Result ⊤ Refusal → Result ⊤ EditRefusal
@@ -41,23 +41,23 @@ module _ {E : Type 0} (calls : Calls E) where
   PushesAll old entries answers new = ⊥
 
   -- of a body with entries each is handed in, or none where memory runs out; of another nothing is asked
-  abbrev pub IsForPush : E → Result (List EntryForm) PushFault → Got → E → Type 0
-  IsForPush old read (gots.Unread errors.Memory) new = new ≡ old
-  IsForPush old (Ok forms) (gots.Pushed answers) new = (entries : List Entry) × (map entry_form entries ≡ forms) × PushesAll old entries answers.items new
-  IsForPush old (Ok forms) (gots.Unpushed count) new = (count ≡ length forms) × (new ≡ old)
-  IsForPush old (Err fault) (gots.Unread (errors.Fault other)) new = (other ≡ fault) × (new ≡ old)
-  IsForPush old read got new = ⊥
+  abbrev pub IsForPush : E → Result (List EntryForm) PushFault → CommandResult → E → Type 0
+  IsForPush old read (command_results.Unread errors.Memory) new = new ≡ old
+  IsForPush old (Ok forms) (command_results.Pushed answers) new = (entries : List Entry) × (map entry_form entries ≡ forms) × PushesAll old entries answers.items new
+  IsForPush old (Ok forms) (command_results.Unpushed count) new = (count ≡ length forms) × (new ≡ old)
+  IsForPush old (Err fault) (command_results.Unread (errors.Fault other)) new = (other ≡ fault) × (new ≡ old)
+  IsForPush old read outcome new = ⊥
 
   -- each shard is asked for a step
-  abbrev pub IsForAll : E → ShardStep → Got → E → Type 0
-  IsForAll old step (gots.Asked result) new = calls.asks_all old step result new
-  IsForAll old step got new = ⊥
+  abbrev pub IsForAll : E → ShardStep → CommandResult → E → Type 0
+  IsForAll old step (command_results.Asked result) new = calls.asks_all old step result new
+  IsForAll old step outcome new = ⊥
 
   -- each shard is asked to receive a request with the selector's sieve, if the text is such a selector
-  abbrev pub IsForDelete : E → (id start end created : ℕ) → List ℕ → Got → E → Type 0
-  IsForDelete old id start end created selector (gots.Asked result) new = (sieve : Sieve) × SelectsIn selector (Ok sieve) × calls.asks_all old (shard_steps.Delete id sieve start end created) result new
-  IsForDelete old id start end created selector (gots.NoSelector error) new = SelectsIn selector (Err error) × (new ≡ old)
-  IsForDelete old id start end created selector got new = ⊥
+  abbrev pub IsForDelete : E → (id start end created : ℕ) → List ℕ → CommandResult → E → Type 0
+  IsForDelete old id start end created selector (command_results.Asked result) new = (sieve : Sieve) × SelectsIn selector (Ok sieve) × calls.asks_all old (shard_steps.Delete id sieve start end created) result new
+  IsForDelete old id start end created selector (command_results.NoSelector error) new = SelectsIn selector (Err error) × (new ≡ old)
+  IsForDelete old id start end created selector outcome new = ⊥
 
   -- a group is evaluated, and what is answered is of that moment
   abbrev pub EvaluatesAt : E → ℕ → ℕ → Result Committed Refusal → E → Type 0
@@ -78,22 +78,22 @@ module _ {E : Type 0} (calls : Calls E) where
   TakesTurn old now group before after new = (due : Bool) × (more : List (Result Committed Refusal)) × calls.is_due old group now due × IsTurn due old now group (λ mid rest. (rest ≡ []) × (new ≡ mid)) more × (after ≡ before ++ more)
 
   -- all groups are; or none where memory runs out
-  abbrev pub IsForTick : E → ℕ → Got → E → Type 0
-  IsForTick old now (gots.Ticked results) new = EvaluatesDue old now 0 (length (calls.groups old)) results.items new
-  IsForTick old now (gots.Evaluated (Err refusal)) new = (refusal ≡ refusals.Memory) × (new ≡ old)
-  IsForTick old now got new = ⊥
+  abbrev pub IsForTick : E → ℕ → CommandResult → E → Type 0
+  IsForTick old now (command_results.Ticked results) new = EvaluatesDue old now 0 (length (calls.groups old)) results.items new
+  IsForTick old now (command_results.Evaluated (Err refusal)) new = (refusal ≡ refusals.Memory) × (new ≡ old)
+  IsForTick old now outcome new = ⊥
 
   -- the group at the number is evaluated, if there is one
-  abbrev pub IsForEvaluation : E → ℕ → Option ℕ → Got → E → Type 0
-  IsForEvaluation old t (Some group) (gots.Evaluated answer) new = EvaluatesAt old group t answer new
-  IsForEvaluation old t None gots.Refused new = new ≡ old
-  IsForEvaluation old t number got new = ⊥
+  abbrev pub IsForEvaluation : E → ℕ → Option ℕ → CommandResult → E → Type 0
+  IsForEvaluation old t (Some group) (command_results.Evaluated answer) new = EvaluatesAt old group t answer new
+  IsForEvaluation old t None command_results.Refused new = new ≡ old
+  IsForEvaluation old t number outcome new = ⊥
 
   -- the sinks of the group at the number catch up, if there is one
-  abbrev pub IsForCatchUp : E → Option ℕ → Got → E → Type 0
-  IsForCatchUp old (Some group) (gots.CaughtUp answer) new = calls.catches_up old group answer new
-  IsForCatchUp old None gots.Refused new = new ≡ old
-  IsForCatchUp old number got new = ⊥
+  abbrev pub IsForCatchUp : E → Option ℕ → CommandResult → E → Type 0
+  IsForCatchUp old (Some group) (command_results.CaughtUp answer) new = calls.catches_up old group answer new
+  IsForCatchUp old None command_results.Refused new = new ≡ old
+  IsForCatchUp old number outcome new = ⊥
 
   -- the group at the number is edited, if there is one
   abbrev pub PutsAt : E → Option ℕ → Group → Result ⊤ EditRefusal → E → Type 0
@@ -108,9 +108,9 @@ module _ {E : Type 0} (calls : Calls E) where
   EditsRead old (Ok to) result new = PutsGroup old to result new
   EditsRead old (Err refusal) result new = (result ≡ Err refusal) × (new ≡ old)
 
-  abbrev pub IsForEdit : E → List ℕ → Got → E → Type 0
-  IsForEdit old document (gots.Edited result) new = (read : Result Group EditRefusal) × GivesOneGroup document read × EditsRead old read result new
-  IsForEdit old document got new = ⊥
+  abbrev pub IsForEdit : E → List ℕ → CommandResult → E → Type 0
+  IsForEdit old document (command_results.Edited result) new = (read : Result Group EditRefusal) × GivesOneGroup document read × EditsRead old read result new
+  IsForEdit old document outcome new = ⊥
 
   -- what the sink of the group at the number has, if there is such a group
   abbrev pub IsForShow : E → Option ℕ → ℕ → Option Shown → Type 0

@@ -13,8 +13,8 @@ use Rattle.rl_session.specs.declared.engine.Partly.{Partly}
 use Rattle.rl_session.specs.Engine.{Shown, kept_text}
 use Rattle.rl_session.specs.declared.output.Answer.{Answer}
 use Rattle.rl_session.specs.declared.output.Answer.TheVariants.{Taken, Refused}
-use Rattle.rl_session.specs.declared.output.Got.{Got}
-use Rattle.rl_session.specs.declared.output.Got.TheVariants as gots
+use Rattle.rl_session.specs.declared.output.CommandResult.{CommandResult}
+use Rattle.rl_session.specs.declared.output.CommandResult.TheVariants as command_results
 
 -- the line of a refusal
 abbrev pub refusal_line : List ℕ → List ℕ
@@ -116,31 +116,31 @@ shown_answer None = Refused
 shown_answer (Some sink) = Taken
 
 -- what is printed of a command's result
-abbrev pub printed : Got → List ℕ
-printed gots.Refused = refusal_line (codes "BadCommand")
-printed (gots.Unread error) = bad_push_line (push_error_name error)
-printed (gots.Pushed replies) = pushed_text replies.items
-printed (gots.Unpushed count) = pushed_text (none_pushed count)
-printed (gots.NoSelector error) = refusal_line (query_error_name error)
-printed (gots.Asked result) = asked_text result
-printed (gots.Edited result) = edited_text result
-printed (gots.Evaluated result) = evaluated_text result
-printed (gots.CaughtUp result) = caught_up_text result
-printed (gots.Ticked results) = ticked_text results.items
+abbrev pub printed : CommandResult → List ℕ
+printed command_results.Refused = refusal_line (codes "BadCommand")
+printed (command_results.Unread error) = bad_push_line (push_error_name error)
+printed (command_results.Pushed replies) = pushed_text replies.items
+printed (command_results.Unpushed count) = pushed_text (none_pushed count)
+printed (command_results.NoSelector error) = refusal_line (query_error_name error)
+printed (command_results.Asked result) = asked_text result
+printed (command_results.Edited result) = edited_text result
+printed (command_results.Evaluated result) = evaluated_text result
+printed (command_results.CaughtUp result) = caught_up_text result
+printed (command_results.Ticked results) = ticked_text results.items
 
 -- taken, unless some of it was refused
 abbrev pub answer_of : Bool → Answer
 answer_of refused = if refused then Refused else Taken
 
 -- what becomes of the command
-abbrev pub answer_to : Got → Answer
-answer_to (gots.Pushed replies) = answer_of (list_any is_refused replies.items)
-answer_to (gots.Unpushed count) = answer_of (nat_lt 0 count)
-answer_to (gots.Asked result) = answer_of (is_refused_ask result)
-answer_to (gots.Edited result) = answer_of (is_err result)
-answer_to (gots.Evaluated result) = answer_of (is_err result)
-answer_to (gots.CaughtUp result) = answer_of (is_err result)
-answer_to (gots.Ticked results) = answer_of (list_any is_err results.items)
+abbrev pub answer_to : CommandResult → Answer
+answer_to (command_results.Pushed replies) = answer_of (list_any is_refused replies.items)
+answer_to (command_results.Unpushed count) = answer_of (nat_lt 0 count)
+answer_to (command_results.Asked result) = answer_of (is_refused_ask result)
+answer_to (command_results.Edited result) = answer_of (is_err result)
+answer_to (command_results.Evaluated result) = answer_of (is_err result)
+answer_to (command_results.CaughtUp result) = answer_of (is_err result)
+answer_to (command_results.Ticked results) = answer_of (list_any is_err results.items)
 answer_to _ = Refused
 
 abbrev pub not_closed_line : List ℕ → List ℕ

@@ -17,8 +17,8 @@ use Rattle.rl_session.specs.declared.session.Status.{Status}
 use Rattle.rl_session.specs.declared.session.Status.TheVariants as statuses
 use Rattle.rl_session.specs.declared.output.Answer.{Answer}
 use Rattle.rl_session.specs.declared.output.Answer.TheVariants.{Taken, Refused, Ended}
-use Rattle.rl_session.specs.declared.output.Got.{Got}
-use Rattle.rl_session.specs.declared.output.Got.TheVariants as gots
+use Rattle.rl_session.specs.declared.output.CommandResult.{CommandResult}
+use Rattle.rl_session.specs.declared.output.CommandResult.TheVariants as command_results
 
 abbrev pub is_end : Answer → Bool
 is_end Ended = true
@@ -33,8 +33,8 @@ abbrev pub ended_by : Result ℕ Refusal → Bool → Status
 ended_by (Ok failures) refused = if nat_lt 0 failures then statuses.Unwritten else (if refused then statuses.Refused else statuses.Taken)
 ended_by (Err refusal) refused = statuses.Refused
 
-abbrev pub IsPrinted : Got → List ℕ → Answer → Type 0
-IsPrinted got text answer = (text ≡ printed got) × (answer ≡ answer_to got)
+abbrev pub IsPrinted : CommandResult → List ℕ → Answer → Type 0
+IsPrinted outcome text answer = (text ≡ printed outcome) × (answer ≡ answer_to outcome)
 
 -- what is shown of a sink prints, and what becomes of the command
 abbrev pub IsShown : Option Shown → List ℕ → Answer → Type 0
@@ -48,18 +48,18 @@ IsRestExecuted mid here first AreExecuted text refused new = (rest : List ℕ) �
 module _ {E : Type 0} (calls : Calls E) where
   -- a command: what it prints, and what becomes of it, follows from the engine's result for its own words
   abbrev pub IsExecuted : E → Option Asked → List ℕ → Answer → E → Type 0
-  IsExecuted old None text answer new = IsPrinted gots.Refused text answer × (new ≡ old)
-  IsExecuted old (Some (pushes json)) text answer new = (got : Got) × IsForPush calls old (entries_of json) got new × IsPrinted got text answer
-  IsExecuted old (Some cuts) text answer new = (got : Got) × IsForAll calls old shard_steps.Cut got new × IsPrinted got text answer
-  IsExecuted old (Some flushes) text answer new = (got : Got) × IsForAll calls old shard_steps.Flush got new × IsPrinted got text answer
-  IsExecuted old (Some (deletes id start end created selector)) text answer new = (got : Got) × IsForDelete calls old id start end created selector got new × IsPrinted got text answer
-  IsExecuted old (Some (cancels id)) text answer new = (got : Got) × IsForAll calls old (shard_steps.Cancel id) got new × IsPrinted got text answer
-  IsExecuted old (Some (processes id now)) text answer new = (got : Got) × IsForAll calls old (shard_steps.Process id now) got new × IsPrinted got text answer
-  IsExecuted old (Some (retains now)) text answer new = (got : Got) × IsForAll calls old (shard_steps.Retain now) got new × IsPrinted got text answer
-  IsExecuted old (Some (edits document)) text answer new = (got : Got) × IsForEdit calls old document got new × IsPrinted got text answer
-  IsExecuted old (Some (ticks now)) text answer new = (got : Got) × IsForTick calls old now got new × IsPrinted got text answer
-  IsExecuted old (Some (evaluates t group)) text answer new = (got : Got) × IsForEvaluation calls old t (number_named group (calls.groups old)) got new × IsPrinted got text answer
-  IsExecuted old (Some (pumps group)) text answer new = (got : Got) × IsForCatchUp calls old (number_named group (calls.groups old)) got new × IsPrinted got text answer
+  IsExecuted old None text answer new = IsPrinted command_results.Refused text answer × (new ≡ old)
+  IsExecuted old (Some (pushes json)) text answer new = (outcome : CommandResult) × IsForPush calls old (entries_of json) outcome new × IsPrinted outcome text answer
+  IsExecuted old (Some cuts) text answer new = (outcome : CommandResult) × IsForAll calls old shard_steps.Cut outcome new × IsPrinted outcome text answer
+  IsExecuted old (Some flushes) text answer new = (outcome : CommandResult) × IsForAll calls old shard_steps.Flush outcome new × IsPrinted outcome text answer
+  IsExecuted old (Some (deletes id start end created selector)) text answer new = (outcome : CommandResult) × IsForDelete calls old id start end created selector outcome new × IsPrinted outcome text answer
+  IsExecuted old (Some (cancels id)) text answer new = (outcome : CommandResult) × IsForAll calls old (shard_steps.Cancel id) outcome new × IsPrinted outcome text answer
+  IsExecuted old (Some (processes id now)) text answer new = (outcome : CommandResult) × IsForAll calls old (shard_steps.Process id now) outcome new × IsPrinted outcome text answer
+  IsExecuted old (Some (retains now)) text answer new = (outcome : CommandResult) × IsForAll calls old (shard_steps.Retain now) outcome new × IsPrinted outcome text answer
+  IsExecuted old (Some (edits document)) text answer new = (outcome : CommandResult) × IsForEdit calls old document outcome new × IsPrinted outcome text answer
+  IsExecuted old (Some (ticks now)) text answer new = (outcome : CommandResult) × IsForTick calls old now outcome new × IsPrinted outcome text answer
+  IsExecuted old (Some (evaluates t group)) text answer new = (outcome : CommandResult) × IsForEvaluation calls old t (number_named group (calls.groups old)) outcome new × IsPrinted outcome text answer
+  IsExecuted old (Some (pumps group)) text answer new = (outcome : CommandResult) × IsForCatchUp calls old (number_named group (calls.groups old)) outcome new × IsPrinted outcome text answer
   IsExecuted old (Some (shows sink group)) text answer new = (shown : Option Shown) × IsForShow calls old (number_named group (calls.groups old)) sink shown × IsShown shown text answer × (new ≡ old)
   IsExecuted old (Some ends) text answer new = (text ≡ []) × (answer ≡ Ended) × (new ≡ old)
 

@@ -7,7 +7,7 @@ ghost use Rattle.rl_session.specs.PushBody.{entries_of};
 use crate::edit::{EditRefusal, read_group};
 use crate::engine::Engine;
 use crate::push::PushReader;
-use crate::output::Got;
+use crate::output::CommandResult;
 use rl_labels::{Entry, Ns};
 use rl_plain::Shared;
 use rl_query::{QueryError, Sieve};
@@ -23,17 +23,17 @@ pub(crate) fn push<E: Engine>(
     reader: &mut PushReader,
     engine: &mut E,
     json: &str,
-) -> Got
+) -> CommandResult
     ensures { IsForPush E.calls engine.old (entries_of json.now) result engine.new }
 {
     let entries = match reader.read(json.as_bytes()) {
         Ok(entries) => entries,
-        Err(error) => return Got::Unread(error),
+        Err(error) => return CommandResult::Unread(error),
     };
     let count = entries.len();
     match push_all(alloc, engine, entries) {
-        Ok(answers) => Got::Pushed(answers),
-        Err(AllocError) => Got::Unpushed(count),
+        Ok(answers) => CommandResult::Pushed(answers),
+        Err(AllocError) => CommandResult::Unpushed(count),
     }
 }
 
@@ -67,10 +67,10 @@ fn share(alloc: Global, entries: Vec<Entry>) -> Result<Vec<Shared<Entry>>, Alloc
 }
 
 /// Asks each shard for a step.
-pub(crate) fn ask_all<E: Engine>(engine: &mut E, step: ShardStep) -> Got
+pub(crate) fn ask_all<E: Engine>(engine: &mut E, step: ShardStep) -> CommandResult
     ensures { IsForAll E.calls engine.old step result engine.new }
 {
-    Got::Asked(engine.ask_all(step))
+    CommandResult::Asked(engine.ask_all(step))
 }
 
 /// Asks each shard to receive a request, if the selector is one that a delete may have.
@@ -82,18 +82,18 @@ pub(crate) fn delete<E: Engine>(
     end: Ns,
     created: Ns,
     selector: &str,
-) -> Got
+) -> CommandResult
     ensures { IsForDelete E.calls engine.old id start end created selector.now result engine.new }
 {
     match read_sieve(alloc, selector) {
-        Ok(sieve) => Got::Asked(engine.ask_all(ShardStep::Delete {
+        Ok(sieve) => CommandResult::Asked(engine.ask_all(ShardStep::Delete {
             id,
             sieve,
             start,
             end,
             created,
         })),
-        Err(error) => Got::NoSelector(error),
+        Err(error) => CommandResult::NoSelector(error),
     }
 }
 
@@ -106,22 +106,22 @@ fn read_sieve(alloc: Global, selector: &str) -> Result<Shared<Sieve>, QueryError
 }
 
 /// Evaluates the group with the name.
-pub(crate) fn eval<E: Engine>(engine: &mut E, t: Ns, name: &str) -> Got
+pub(crate) fn eval<E: Engine>(engine: &mut E, t: Ns, name: &str) -> CommandResult
     ensures { IsForEvaluation E.calls engine.old t (number_named name.now (E.calls.groups engine.old)) result engine.new }
 {
     match engine.group(name) {
-        Some(group) => Got::Evaluated(engine.evaluate(group, t)),
-        None => Got::Refused,
+        Some(group) => CommandResult::Evaluated(engine.evaluate(group, t)),
+        None => CommandResult::Refused,
     }
 }
 
 /// Evaluates each group that is due, in their order. With no room for what they may give it evaluates none.
-pub(crate) fn tick<E: Engine>(alloc: Global, engine: &mut E, now: Ns) -> Got
+pub(crate) fn tick<E: Engine>(alloc: Global, engine: &mut E, now: Ns) -> CommandResult
     ensures { IsForTick E.calls engine.old now result engine.new }
 {
     match Vec::with_capacity(alloc, engine.groups()) {
-        Ok(results) => Got::Ticked(evaluate_due(engine, now, results)),
-        Err(AllocError) => Got::Evaluated(Err(Refusal::Memory)),
+        Ok(results) => CommandResult::Ticked(evaluate_due(engine, now, results)),
+        Err(AllocError) => CommandResult::Evaluated(Err(Refusal::Memory)),
     }
 }
 
@@ -160,22 +160,22 @@ fn evaluate_if_due<E: Engine>(
 }
 
 /// Pumps the sinks of the group with the name, and offers each what it has not taken.
-pub(crate) fn catch_up<E: Engine>(engine: &mut E, name: &str) -> Got
+pub(crate) fn catch_up<E: Engine>(engine: &mut E, name: &str) -> CommandResult
     ensures { IsForCatchUp E.calls engine.old (number_named name.now (E.calls.groups engine.old)) result engine.new }
 {
     match engine.group(name) {
-        Some(group) => Got::CaughtUp(engine.catch_up(group)),
-        None => Got::Refused,
+        Some(group) => CommandResult::CaughtUp(engine.catch_up(group)),
+        None => CommandResult::Refused,
     }
 }
 
 /// Puts the one group of a document instead of the group with its name.
-pub(crate) fn edit<E: Engine>(alloc: Global, engine: &mut E, document: &str) -> Got
+pub(crate) fn edit<E: Engine>(alloc: Global, engine: &mut E, document: &str) -> CommandResult
     ensures { IsForEdit E.calls engine.old document.now result engine.new }
 {
     match read_group(alloc, document) {
-        Ok(to) => Got::Edited(put_group(engine, to)),
-        Err(refusal) => Got::Edited(Err(refusal)),
+        Ok(to) => CommandResult::Edited(put_group(engine, to)),
+        Err(refusal) => CommandResult::Edited(Err(refusal)),
     }
 }
 

@@ -30,7 +30,7 @@ pub(crate) enum Answer {
 
 /// The result of a command, but for a sink that is shown.
 #[derive(Drop)]
-pub(crate) enum Got {
+pub(crate) enum CommandResult {
     // No command, or no such group or sink.
     Refused,
     // A push body that gave no entries.
@@ -54,18 +54,18 @@ pub(crate) enum Got {
 }
 
 // What becomes of a command by its result.
-fn answer_to(got: &Got) -> Answer
-    ensures { result ≡ answer_to got.now }
+fn answer_to(outcome: &CommandResult) -> Answer
+    ensures { result ≡ answer_to outcome.now }
 {
-    match got {
-        Got::Pushed(answers) => answer_of(has_refused(answers)),
-        Got::Unpushed(count) => answer_of(*count > 0),
-        Got::Asked(asked) => answer_of(!matches!(asked, Ok(None))),
-        Got::Edited(result) => answer_of(result.is_err()),
-        Got::Evaluated(result) => answer_of(result.is_err()),
-        Got::Ticked(results) => answer_of(has_failed(results)),
-        Got::CaughtUp(result) => answer_of(result.is_err()),
-        Got::Refused | Got::Unread(_) | Got::NoSelector(_) => Answer::Refused,
+    match outcome {
+        CommandResult::Pushed(answers) => answer_of(has_refused(answers)),
+        CommandResult::Unpushed(count) => answer_of(*count > 0),
+        CommandResult::Asked(asked) => answer_of(!matches!(asked, Ok(None))),
+        CommandResult::Edited(result) => answer_of(result.is_err()),
+        CommandResult::Evaluated(result) => answer_of(result.is_err()),
+        CommandResult::Ticked(results) => answer_of(has_failed(results)),
+        CommandResult::CaughtUp(result) => answer_of(result.is_err()),
+        CommandResult::Refused | CommandResult::Unread(_) | CommandResult::NoSelector(_) => Answer::Refused,
     }
 }
 
@@ -92,30 +92,30 @@ fn answer_of(refused: bool) -> Answer
 }
 
 /// Prints the result of a command. What becomes of the command.
-pub(crate) fn write_result<W: Write>(got: &Got, out: &mut W) -> io::Result<Answer>
-    ensures text { OnOk result (Appends (W.contents out.old) (W.contents out.new) (printed got.now)) }
-    ensures answer { IfOk result (λ answer. answer ≡ answer_to got.now) }
+pub(crate) fn write_result<W: Write>(outcome: &CommandResult, out: &mut W) -> io::Result<Answer>
+    ensures text { OnOk result (Appends (W.contents out.old) (W.contents out.new) (printed outcome.now)) }
+    ensures answer { IfOk result (λ answer. answer ≡ answer_to outcome.now) }
 {
-    print(got, out)?;
-    Ok(answer_to(got))
+    print(outcome, out)?;
+    Ok(answer_to(outcome))
 }
 
 // Prints the result of a command.
-fn print<W: Write>(got: &Got, out: &mut W) -> io::Result<()>
-    ensures { OnOk result (Appends (W.contents out.old) (W.contents out.new) (printed got.now)) }
+fn print<W: Write>(outcome: &CommandResult, out: &mut W) -> io::Result<()>
+    ensures { OnOk result (Appends (W.contents out.old) (W.contents out.new) (printed outcome.now)) }
 {
-    match got {
-        Got::Refused => refuse(out, "BadCommand"),
-        Got::Unread(error) => refuse_push(out, push_error_name(*error)),
-        Got::Pushed(answers) => write_pushed(answers, out),
-        Got::Unpushed(count) => write_none_pushed(*count, out),
-        Got::NoSelector(error) => refuse(out, query_error_name(*error)),
-        Got::Asked(asked) => write_asked(asked, out),
-        Got::Edited(Ok(())) => out.write_all(b"ok\n"),
-        Got::Edited(Err(refusal)) => refuse(out, edit_refusal_name(*refusal)),
-        Got::Evaluated(result) => write_evaluated(result, out),
-        Got::Ticked(results) => write_ticked(results, out),
-        Got::CaughtUp(result) => write_caught_up(result, out),
+    match outcome {
+        CommandResult::Refused => refuse(out, "BadCommand"),
+        CommandResult::Unread(error) => refuse_push(out, push_error_name(*error)),
+        CommandResult::Pushed(answers) => write_pushed(answers, out),
+        CommandResult::Unpushed(count) => write_none_pushed(*count, out),
+        CommandResult::NoSelector(error) => refuse(out, query_error_name(*error)),
+        CommandResult::Asked(asked) => write_asked(asked, out),
+        CommandResult::Edited(Ok(())) => out.write_all(b"ok\n"),
+        CommandResult::Edited(Err(refusal)) => refuse(out, edit_refusal_name(*refusal)),
+        CommandResult::Evaluated(result) => write_evaluated(result, out),
+        CommandResult::Ticked(results) => write_ticked(results, out),
+        CommandResult::CaughtUp(result) => write_caught_up(result, out),
     }
 }
 

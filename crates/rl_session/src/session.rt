@@ -10,7 +10,7 @@ use crate::command::{Command, is_blank, read_command};
 use crate::engine::Engine;
 use crate::front::first_line;
 use crate::push::PushReader;
-use crate::output::{Answer, Got, write_result, write_closed};
+use crate::output::{Answer, CommandResult, write_result, write_closed};
 use rl_shard::ShardStep;
 use rl_world::Refusal;
 use std::alloc::{AllocError, AllocFailed, Global};
@@ -174,12 +174,12 @@ fn answer_command<E: Engine, W: Write>(
     ensures { Executes E.calls engine.old (command_of line.now) (W.contents out.old) result (W.contents out.new) engine.new }
 {
     match read_command(line) {
-        Some(command) => obey(alloc, reader, engine, command, out),
-        None => write_result(&Got::Refused, out),
+        Some(command) => execute(alloc, reader, engine, command, out),
+        None => write_result(&CommandResult::Refused, out),
     }
 }
 
-fn obey<E: Engine, W: Write>(
+fn execute<E: Engine, W: Write>(
     alloc: Global,
     reader: &mut PushReader,
     engine: &mut E,
@@ -199,8 +199,8 @@ fn obey<E: Engine, W: Write>(
             created,
             selector,
         } => {
-            let got = delete(alloc, engine, id, start, end, created, selector);
-            write_result(&got, out)
+            let outcome = delete(alloc, engine, id, start, end, created, selector);
+            write_result(&outcome, out)
         }
         Command::Cancel { id } => write_result(&ask_all(engine, ShardStep::Cancel { id }), out),
         Command::Process { id, now } => {
@@ -222,7 +222,7 @@ fn show<E: Engine, W: Write>(engine: &E, sink: usize, name: &str, out: &mut W) -
 {
     match engine.group(name) {
         Some(group) => show_of(engine, group, sink, out),
-        None => write_result(&Got::Refused, out),
+        None => write_result(&CommandResult::Refused, out),
     }
 }
 
@@ -238,6 +238,6 @@ fn show_of<E: Engine, W: Write>(
     if engine.show(group, sink, out)? {
         Ok(Answer::Taken)
     } else {
-        write_result(&Got::Refused, out)
+        write_result(&CommandResult::Refused, out)
     }
 }

@@ -159,7 +159,7 @@ fn push_step(
 ) -> Result<(), Trouble> {
     match word {
         "empty" => push_value(output, &here.totals.is_empty()),
-        "get" => push_got(output, &here.totals, &copy.totals, rest),
+        "get" => push_finished(output, &here.totals, &copy.totals, rest),
         "same" => push_same(output, query, here, copy),
         "show" => push_partial(output, query, here),
         _ => Err(Trouble::BadInput),
@@ -167,7 +167,7 @@ fn push_step(
 }
 
 // Writes the totals at a label set, and whether they and their values are the copy's.
-fn push_got(output: &mut String, here: &Totals, copy: &Totals, labels: &str) -> Result<(), Trouble> {
+fn push_finished(output: &mut String, here: &Totals, copy: &Totals, labels: &str) -> Result<(), Trouble> {
     let (here, copy) = both_at(*output.allocator(), here, copy, labels)?;
     push_total(output, here)?;
     push_total(output, copy)?;
