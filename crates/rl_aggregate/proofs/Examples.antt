@@ -6,7 +6,7 @@ use Rattle.std.specs.FinMap.Entries.{find}
 use Rattle.std.proofs.Common.{ap}
 use Rattle.rl_labels.specs.Name.{name_cmp}
 use Rattle.rl_labels.specs.LabelSet.{Pair, is_empty, proper_set, labels_of-proper_set}
-use Rattle.rl_aggregate.specs.InRange.{Element}
+use Rattle.rl_aggregate.specs.InRange.{Contribution}
 use Rattle.rl_aggregate.specs.Partials.{has_error, total_of, partial_of}
 
 -- {app="a"}, and {__error__="E",app="a"}
@@ -26,11 +26,11 @@ error : has_error (proper_set wrong_pairs tt) ≡ true
 error = ap error_among (labels_of-proper_set wrong_pairs tt)
 
 -- a line of 5 bytes with an error is counted as one, and in no total
-abbrev wrong : List Element
+abbrev wrong : List Contribution
 wrong = record { labels = proper_set wrong_pairs tt; bytes = 5 } ∷ []
 
 counted_as_an_error : partial_of wrong ≡ record { errors = 1; totals = from_entries [] }
 counted_as_an_error = λ i. record {
   errors = 0 + cond (error i) 1 0;
-  totals = from_entries (map (λ element. (element.labels, total_of wrong element.labels)) (cond (not (error i)) wrong []));
+  totals = from_entries (map (λ contribution. (contribution.labels, total_of wrong contribution.labels)) (cond (not (error i)) wrong []));
 }

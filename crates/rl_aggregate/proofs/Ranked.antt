@@ -26,7 +26,7 @@ use Rattle.rl_labels.specs.laws.TextLaws.{label_set_cmp_total, label_set_cmp-IsA
 use Rattle.rl_query.specs.declared.aggregation.Grouping.{Grouping}
 use Rattle.rl_query.specs.declared.aggregation.VectorOperator.TheVariants.{Count}
 use Rattle.rl_aggregate.specs.GroupsMap.{GroupsMap, with_value, numerator_at}
-use Rattle.rl_aggregate.specs.Grouping.{group_of, is_in, part, groups, group_value, element_of, rank_cmp, comes_before, sample_cmp, is_among_first, rises}
+use Rattle.rl_aggregate.specs.Grouping.{group_of, is_in, part, groups, group_value, sample_of, rank_cmp, comes_before, sample_cmp, is_among_first, rises}
 use Rattle.rl_aggregate.specs.laws.Groups.{get-groups, groups-push, numerator-next, rises-filter}
 use Rattle.rl_aggregate.specs.laws.Totals.{label_set_eq-cmp}
 use Rattle.rl_aggregate.specs.declared.outcome.Fraction.{Fraction}
@@ -254,29 +254,29 @@ same_option None (Some w) one above below = absurd (omega (arith, one))
 same_option (Some v) None one above below = absurd (omega (arith, one))
 same_option (Some v) (Some w) one above below = λ i. Some (record { numerator = above i; denominator = below i })
 
-elements_again : (samples : List Sample) → map element_of (pairs samples) ≡ samples
-elements_again [] = refl
-elements_again (sample ∷ samples) = ap (λ rest. sample ∷ rest) (elements_again samples)
+samples_again : (samples : List Sample) → map sample_of (pairs samples) ≡ samples
+samples_again [] = refl
+samples_again (sample ∷ samples) = ap (λ rest. sample ∷ rest) (samples_again samples)
 
 -- vectors whose label sets rise and whose sums are all equal are one
 same_vector : (samples others : List Sample) → T (is_sorted label_set_cmp (pairs samples)) → T (is_sorted label_set_cmp (pairs others)) → IsDistinct ties_with (label_sets samples) → IsDistinct ties_with (label_sets others) → ((f : Sample → ℕ) → sum_by f samples ≡ sum_by f others) → samples ≡ others
 same_vector samples others up up_too differ differ_too sums =
     let found : (f : Fraction → ℕ) (q : LabelSet) → number_of f (find label_set_cmp q (pairs samples)) ≡ number_of f (find label_set_cmp q (pairs others)) = λ f q.
     sym (sum_found f q samples differ) ∙ sums (λ s. cond (ties_with q s.labels) (f s.value) 0) ∙ sum_found f q others differ_too in
-    sym (elements_again samples)
-    ∙ ap (map element_of) (same_entries label_set_cmp label_set_cmp_total label_set_cmp-IsAntisymmetric (pairs samples) (pairs others) up up_too (λ q. same_option _ _ (found (λ _. 1) q) (found (λ v. v.numerator) q) (found (λ v. v.denominator) q)))
-    ∙ elements_again others
+    sym (samples_again samples)
+    ∙ ap (map sample_of) (same_entries label_set_cmp label_set_cmp_total label_set_cmp-IsAntisymmetric (pairs samples) (pairs others) up up_too (λ q. same_option _ _ (found (λ _. 1) q) (found (λ v. v.numerator) q) (found (λ v. v.denominator) q)))
+    ∙ samples_again others
 
-pairs-filter : (p : Sample → Bool) (samples : List Sample) → filter (λ e. p (element_of e)) (pairs samples) ≡ pairs (filter p samples)
+pairs-filter : (p : Sample → Bool) (samples : List Sample) → filter (λ e. p (sample_of e)) (pairs samples) ≡ pairs (filter p samples)
 pairs-filter p [] = refl
 pairs-filter p (sample ∷ samples) =
-    elim (p sample) as (λ b. cond b ((sample.labels, sample.value) ∷ filter (λ e. p (element_of e)) (pairs samples)) (filter (λ e. p (element_of e)) (pairs samples)) ≡ pairs (cond b (sample ∷ filter p samples) (filter p samples))) [
+    elim (p sample) as (λ b. cond b ((sample.labels, sample.value) ∷ filter (λ e. p (sample_of e)) (pairs samples)) (filter (λ e. p (sample_of e)) (pairs samples)) ≡ pairs (cond b (sample ∷ filter p samples) (filter p samples))) [
       | true ↦ ap (λ rest. (sample.labels, sample.value) ∷ rest) (pairs-filter p samples)
       | false ↦ pairs-filter p samples
     ]
 
 kept_differ : (p : Sample → Bool) (samples : List Sample) → IsDistinct ties_with (label_sets samples) → IsDistinct ties_with (label_sets (filter p samples))
-kept_differ p samples differ = subst (λ es. IsDistinct ties_with (keys_of es)) (pairs-filter p samples) (IsDistinct-keys_filter ties_with (λ e. p (element_of e)) (pairs samples) differ)
+kept_differ p samples differ = subst (λ es. IsDistinct ties_with (keys_of es)) (pairs-filter p samples) (IsDistinct-keys_filter ties_with (λ e. p (sample_of e)) (pairs samples) differ)
 
 -- label sets that are sorted and differ rise
 sorted_rise : (samples : List Sample) → IsSorted sample_cmp samples → IsDistinct ties_with (label_sets samples) → IsStrictlySortedBy label_set_cmp (label_sets samples)

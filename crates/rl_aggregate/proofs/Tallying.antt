@@ -17,10 +17,10 @@ use Rattle.rl_labels.specs.LabelText.{label_set_cmp, label_set_eq}
 use Rattle.rl_labels.specs.laws.TextLaws.{label_set_cmp_total, label_set_eq-true, label_set_eq_itself}
 use Rattle.rl_pipeline.specs.Running as through
 use Rattle.rl_query.specs.declared.stages.Stage.{Stage}
-use Rattle.rl_aggregate.specs.InRange.{Element}
+use Rattle.rl_aggregate.specs.InRange.{Contribution}
 use Rattle.rl_aggregate.specs.Limited.{IsWithin}
 use Rattle.rl_aggregate.specs.Partials.{has_error, total_of, totals_of, partial_of, both_totals, merge, counts_for, TotalFits}
-use Rattle.rl_aggregate.specs.Tallies.{elements_of, with_run, HasRoom}
+use Rattle.rl_aggregate.specs.Tallies.{contributions_of, with_run, HasRoom}
 use Rattle.rl_aggregate.specs.TotalsMap.{TotalsMap, no_total, plus, total_at, added}
 use Rattle.rl_aggregate.specs.declared.total.Total.{Total}
 use Rattle.rl_aggregate.specs.declared.partial.Partial.{Partial}
@@ -114,14 +114,14 @@ module _ (k : LabelSet) where
       ]
 
   module _ (bytes : ℕ) where
-    abbrev one : Element
+    abbrev one : Contribution
     one = record { labels = k; bytes = bytes }
 
     abbrev one_total : Total
     one_total = record { count = 1; bytes = bytes }
 
     errors_of-one : (wrong : Bool) → has_error k ≡ wrong → count_by (λ e. has_error e.labels) (one ∷ []) ≡ cond wrong 1 0
-    errors_of-one wrong is = omega (arith, sum_by-cons (λ (e : Element). cond (has_error e.labels) 1 0) one [], ap {B = ℕ} (λ b. cond b 1 0) is)
+    errors_of-one wrong is = omega (arith, sum_by-cons (λ (e : Contribution). cond (has_error e.labels) 1 0) one [], ap {B = ℕ} (λ b. cond b 1 0) is)
 
     counts_itself : has_error k ≡ false → counts_for k one ≡ true
     counts_itself good = and_from _ _ (label_set_eq_itself k) (ap not good)
@@ -160,7 +160,7 @@ module _ (k : LabelSet) where
 
   -- a line that stays with these labels
   pub line_stays : (stages : List Stage) (labels : LabelSet) (text : List ℕ) (bytes : ℕ) (found : Partial) → Some k ≡ through.run stages text labels → bytes ≡ length text
-      → with_run k (record { count = 1; bytes = bytes }) found ≡ merge found (partial_of (elements_of stages labels text))
+      → with_run k (record { count = 1; bytes = bytes }) found ≡ merge found (partial_of (contributions_of stages labels text))
   line_stays stages labels text bytes found ran is =
       ap (λ n. with_run k (record { count = 1; bytes = n }) found) is
       ∙ with_run-one (length text) found
@@ -205,7 +205,7 @@ pub room-less : (found : Partial) → HasRoom 1 found → HasRoom 0 found
 room-less found room = (room.0, omega (arith, room.1), room.2)
 
 -- a line that does not stay adds nothing
-pub line_leaves : (stages : List Stage) (labels : LabelSet) (text : List ℕ) (found : Partial) → None ≡ through.run stages text labels → found ≡ merge found (partial_of (elements_of stages labels text))
+pub line_leaves : (stages : List Stage) (labels : LabelSet) (text : List ℕ) (found : Partial) → None ≡ through.run stages text labels → found ≡ merge found (partial_of (contributions_of stages labels text))
 line_leaves stages labels text found ran =
     sym (merge-nothing found)
     ∙ ap (λ o. merge found (partial_of (map (λ (following : LabelSet). record { labels = following; bytes = length text }) (option_to_list o)))) ran

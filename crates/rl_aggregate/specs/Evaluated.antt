@@ -12,7 +12,7 @@ use Rattle.rl_query.specs.declared.query.RangeFunction.{RangeFunction}
 use Rattle.rl_query.specs.declared.query.RangeFunction.TheVariants as functions
 use Rattle.rl_aggregate.specs.Absence.{one, absence, absent_sample}
 use Rattle.rl_aggregate.specs.Grouping.{aggregated_by}
-use Rattle.rl_aggregate.specs.InRange.{Element, in_range}
+use Rattle.rl_aggregate.specs.InRange.{Contribution, in_range}
 use Rattle.rl_aggregate.specs.Partials.{has_error, partial}
 use Rattle.rl_aggregate.specs.Ratios.{ratios, tested}
 use Rattle.rl_aggregate.specs.TotalsMap.{TotalsMap}
@@ -71,10 +71,10 @@ abbrev pub have_errors : List Partial → Bool
 have_errors partials = list_any (λ partial. nat_lt 0 partial.errors) partials
 
 -- absent_over_time of the lines of a range: an error in any line fails it; else it has its sample where there is no line, and none where there is one
-abbrev pub absent_of : List Element → List Matcher → Outcome
-absent_of elements matchers =
-    if nat_lt 0 (count_by (λ element. has_error element.labels) elements) then outcomes.Failed
-    else outcomes.Vector (if length elements == 0 then absent_sample matchers ∷ [] else [])
+abbrev pub absent_of : List Contribution → List Matcher → Outcome
+absent_of contributions matchers =
+    if nat_lt 0 (count_by (λ contribution. has_error contribution.labels) contributions) then outcomes.Failed
+    else outcomes.Vector (if length contributions == 0 then absent_sample matchers ∷ [] else [])
 
 abbrev pub terms_of : Query → List Term
 terms_of query = query.left ∷ option_to_list query.over

@@ -67,12 +67,12 @@ abbrev pub groups : VectorOperator → Grouping → List Sample → GroupsMap
 groups operator grouping samples = from_entries (map (λ sample. (group_of grouping sample.labels, group_value operator (part grouping (group_of grouping sample.labels) samples))) samples)
 
 -- a sample with these labels and this value
-abbrev pub element_of : LabelSet × Fraction → Sample
-element_of entry = record { labels = entry.0; value = entry.1 }
+abbrev pub sample_of : LabelSet × Fraction → Sample
+sample_of entry = record { labels = entry.0; value = entry.1 }
 
 -- a sample for each group, in the order of their labels
 abbrev pub grouped : VectorOperator → Grouping → List Sample → List Sample
-grouped operator grouping samples = map element_of (entries (groups operator grouping samples))
+grouped operator grouping samples = map sample_of (entries (groups operator grouping samples))
 
 -- the order of ranks: a greater value first, and of equal values a lesser label set
 abbrev pub rank_cmp : Sample → Sample → Ordering

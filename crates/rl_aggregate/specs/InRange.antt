@@ -18,13 +18,13 @@ abbrev pub in_window : ℕ → ℕ → ℕ → Bool
 in_window seconds t timestamp = nat_lt t (timestamp + seconds * second) && nat_le timestamp t
 
 -- what an entry counts as: its labels, and the bytes of its line
-pub record Element : Type 0 where
+pub record Contribution : Type 0 where
   pub labels : LabelSet
   pub bytes : ℕ
 
 -- of an entry whose line stays: the labels that the line has after the stages
-abbrev pub element : List Stage → Entry → Element
-element stages entry = record { labels = unwrap_or (run stages entry.line entry.labels) no_labels; bytes = length entry.line }
+abbrev pub contribution : List Stage → Entry → Contribution
+contribution stages entry = record { labels = unwrap_or (run stages entry.line entry.labels) no_labels; bytes = length entry.line }
 
 -- the line stays after the stages
 abbrev pub stays : List Stage → Entry → Bool
@@ -38,5 +38,5 @@ is_selected term t entry = in_window term.range.seconds t entry.timestamp && sel
 abbrev pub is_in_range : Term → ℕ → Entry → Bool
 is_in_range term t entry = is_selected term t entry && stays term.range.stages entry
 
-abbrev pub in_range : List Entry → Term → ℕ → List Element
-in_range entries term t = map (element term.range.stages) (filter (is_in_range term t) entries)
+abbrev pub in_range : List Entry → Term → ℕ → List Contribution
+in_range entries term t = map (contribution term.range.stages) (filter (is_in_range term t) entries)

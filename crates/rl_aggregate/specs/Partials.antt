@@ -6,7 +6,7 @@ use Rattle.rl_labels.specs.LabelSet.{LabelSet, value_of, is_empty}
 use Rattle.rl_labels.specs.LabelText.{label_set_eq}
 use Rattle.rl_labels.specs.declared.entry.Entry.{Entry}
 use Rattle.rl_query.specs.declared.query.Term.{Term}
-use Rattle.rl_aggregate.specs.InRange.{Element, in_range}
+use Rattle.rl_aggregate.specs.InRange.{Contribution, in_range}
 use Rattle.rl_aggregate.specs.TotalsMap.{TotalsMap, plus, total_at}
 use Rattle.rl_aggregate.specs.declared.total.Total.{Total}
 use Rattle.rl_aggregate.specs.declared.partial.Partial.{Partial}
@@ -16,20 +16,20 @@ abbrev pub has_error : LabelSet → Bool
 has_error labels = not (is_empty (value_of labels (codes "__error__")))
 
 -- the line has these labels, and no error
-abbrev pub counts_for : LabelSet → Element → Bool
-counts_for labels element = label_set_eq labels element.labels && not (has_error element.labels)
+abbrev pub counts_for : LabelSet → Contribution → Bool
+counts_for labels contribution = label_set_eq labels contribution.labels && not (has_error contribution.labels)
 
 -- how many lines have the labels, and their bytes
-abbrev pub total_of : List Element → LabelSet → Total
-total_of elements labels = record { count = count_by (counts_for labels) elements; bytes = sum_by (λ element. if counts_for labels element then element.bytes else 0) elements }
+abbrev pub total_of : List Contribution → LabelSet → Total
+total_of contributions labels = record { count = count_by (counts_for labels) contributions; bytes = sum_by (λ contribution. if counts_for labels contribution then contribution.bytes else 0) contributions }
 
 -- the total of each label set that a line without an error has
-abbrev pub totals_of : List Element → TotalsMap
-totals_of elements = from_entries (map (λ element. (element.labels, total_of elements element.labels)) (filter (λ element. not (has_error element.labels)) elements))
+abbrev pub totals_of : List Contribution → TotalsMap
+totals_of contributions = from_entries (map (λ contribution. (contribution.labels, total_of contributions contribution.labels)) (filter (λ contribution. not (has_error contribution.labels)) contributions))
 
 -- the number of errors, and the totals
-abbrev pub partial_of : List Element → Partial
-partial_of elements = record { errors = count_by (λ element. has_error element.labels) elements; totals = totals_of elements }
+abbrev pub partial_of : List Contribution → Partial
+partial_of contributions = record { errors = count_by (λ contribution. has_error contribution.labels) contributions; totals = totals_of contributions }
 
 abbrev pub partial : List Entry → Term → ℕ → Partial
 partial entries term t = partial_of (in_range entries term t)

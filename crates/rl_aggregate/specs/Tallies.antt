@@ -6,7 +6,7 @@ use Rattle.rl_pipeline.specs.Running.{run}
 use Rattle.rl_query.specs.declared.query.Term.{Term}
 use Rattle.rl_query.specs.declared.stages.Stage.{Stage}
 use Rattle.rl_query.specs.contracts.stages.Stage as stage
-use Rattle.rl_aggregate.specs.InRange.{Element}
+use Rattle.rl_aggregate.specs.InRange.{Contribution}
 use Rattle.rl_aggregate.specs.Limited.{IsWithin}
 use Rattle.rl_aggregate.specs.Partials.{has_error, merge, most_entries, partial_of}
 use Rattle.rl_aggregate.specs.TotalsMap.{TotalsMap, added, totals_code}
@@ -35,12 +35,12 @@ abbrev pub nothing_counted : List Stage → TallyView
 nothing_counted stages = record { running = stages; found = partial_of [] }
 
 -- what a line counts as after stages: nothing, or one item with the labels that it has there
-abbrev pub elements_of : List Stage → LabelSet → List ℕ → List Element
-elements_of stages labels text = map (λ found. record { labels = found; bytes = length text }) (option_to_list (run stages text labels))
+abbrev pub contributions_of : List Stage → LabelSet → List ℕ → List Contribution
+contributions_of stages labels text = map (λ found. record { labels = found; bytes = length text }) (option_to_list (run stages text labels))
 
 -- a tally of one line more
 abbrev pub with_line : LabelSet → List ℕ → TallyView → TallyView
-with_line labels text tally = record { running = tally.running; found = merge tally.found (partial_of (elements_of tally.running labels text)) }
+with_line labels text tally = record { running = tally.running; found = merge tally.found (partial_of (contributions_of tally.running labels text)) }
 
 -- what lines with these labels make of a partial, by how many they are and their bytes
 abbrev pub with_run : LabelSet → Total → Partial → Partial

@@ -25,5 +25,5 @@ pub record AreOfOneTerm (n : ℕ) (samples : List Sample) : Type 0 where
   pub order : rises samples ≡ true
   pub divisors : have_divisor n samples ≡ true
   pub divisor : n ≤ longest_range
-  pub elements : length samples ≤ 2 ^ 30
+  pub few : length samples ≤ 2 ^ 30
   pub sum : total samples < 2 ^ 46

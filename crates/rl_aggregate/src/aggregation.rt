@@ -63,5 +63,5 @@ fn grouped(
         labels = group_of(alloc, grouping, &none, &labels, &sample.labels)?;
         groups.add(operator, &labels, sample.value)?;
     }
-    groups.elements(alloc)
+    groups.samples(alloc)
 }

@@ -2,7 +2,7 @@
 ghost use Rattle.std.specs.Prelude.{◌≡◌, ◌<◌, ◌^◌, map as map_list, IfOk, OnOk};
 ghost use Rattle.std.specs.FinMap as map;
 ghost use Rattle.rl_aggregate.specs.GroupsMap.{first_value, next_value, with_value, numerator_at};
-ghost use Rattle.rl_aggregate.specs.Grouping.{element_of};
+ghost use Rattle.rl_aggregate.specs.Grouping.{sample_of};
 
 use crate::outcome::{Fraction, Sample};
 use rl_labels::Labels;
@@ -76,18 +76,18 @@ impl Groups {
     }
 
     // A sample for each group, in the order of their labels.
-    pub(crate) fn elements(&self, alloc: Global) -> Result<Vec<Sample>, AllocError>
-        ensures { IfOk result (λ made. made.items ≡ map_list element_of (map.entries self.now)) }
+    pub(crate) fn samples(&self, alloc: Global) -> Result<Vec<Sample>, AllocError>
+        ensures { IfOk result (λ made. made.items ≡ map_list sample_of (map.entries self.now)) }
     {
-        let mut elements = Vec::with_capacity(alloc, self.by_labels.len())?;
+        let mut samples = Vec::with_capacity(alloc, self.by_labels.len())?;
         for (labels, value) in self.by_labels.iter() {
             let labels = labels.try_copy()?;
-            elements.push(Sample {
+            samples.push(Sample {
                 labels,
                 value: *value,
             })?;
         }
-        Ok(elements)
+        Ok(samples)
     }
 }
 

@@ -14,7 +14,7 @@ use Rattle.rl_query.specs.declared.token.Token.TheVariants as tokens
 use Rattle.rl_query.specs.declared.token.Token.{Token}
 use Rattle.rl_query_text.proofs.Parentheses.{IsOpened, inside_room, opened_is, opened_read}
 use Rattle.rl_selector_text.proofs.Finding.{Finds, found, fault, then, by_test, of_option, next_found, stands_as}
-use Rattle.rl_selector_text.proofs.Productions.{First, first_at, text_found, named_found, follows, follows_found, IsSoundElement, IsCompleteElement, listed_found, listed_is, first_listed, stood, stand_split, stand_then, next_is, expected_found, expected_is, only_sign}
+use Rattle.rl_selector_text.proofs.Productions.{First, first_at, text_found, named_found, follows, follows_found, IsSoundItem, IsCompleteItem, listed_found, listed_is, first_listed, stood, stand_split, stand_then, next_is, expected_found, expected_is, only_sign}
 use Rattle.rl_selector_text.proofs.TestProductions.{only_word}
 use Rattle.rl_query_text.specs.AggregationReading.{back_at, ended_at, front_at, grouped_at, groups_loudly, grouping_at, is_operator_word, label_name, named_at, names_in, nested, operator_at, top_at, topk_at}
 use Rattle.rl_selector_text.specs.Fronts.{expected, is_sign, next}
@@ -37,7 +37,7 @@ name_tokens name = tokens.Word name ∷ []
 label_found : (offset : ℕ) (token : Token) → Finds (λ name. (token ≡ tokens.Word name) × (is_name name ≡ true)) (label_name offset token)
 label_found offset token = then _ (named_found offset token) (λ name shown. by_test (is_name name) (λ is. found (shown, is)) (λ _. fault))
 
-named_read : IsSoundElement name_tokens is_name signs.CloseParenthesis named_at
+named_read : IsSoundItem name_tokens is_name signs.CloseParenthesis named_at
 unfolding named_at
 named_read lexemes =
     then _ (next_found lexemes) (λ first a.
@@ -46,7 +46,7 @@ named_read lexemes =
     then _ (follows_found signs.CloseParenthesis sign.0.token _) (λ more shown.
     found (stand_then (name_tokens name) (follows signs.CloseParenthesis more ∷ []) lexemes first.1 sign.1 (stands_as lexemes first.1 label.0 a) (stands_as first.1 sign.1 shown b), label.1)))))
 
-named_is : IsCompleteElement name_tokens is_name signs.CloseParenthesis named_at
+named_is : IsCompleteItem name_tokens is_name signs.CloseParenthesis named_at
 unfolding named_at
 named_is lexemes name true rest stand proper = rw (stood (tokens.Word name ∷ tokens.Sign signs.Comma ∷ []) lexemes rest stand, proper) refl
 named_is lexemes name false rest stand proper = rw (stood (tokens.Word name ∷ tokens.Sign signs.CloseParenthesis ∷ []) lexemes rest stand, proper) refl

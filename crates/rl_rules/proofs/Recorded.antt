@@ -25,7 +25,7 @@ use Rattle.rl_rules.specs.declared.evaluation.RuleOutcome.{RuleOutcome}
 use Rattle.rl_rules.specs.declared.evaluation.RuleOutcome.TheVariants as made
 use Rattle.rl_rules.specs.declared.evaluation.Cause.TheVariants as causes
 use Rattle.rl_rules.specs.Naming.{Naming, final_by}
-use Rattle.rl_rules.specs.Outcomes.{final_labels, final_elements, has_same_labels, is_exceeded, in_order, outcome_of}
+use Rattle.rl_rules.specs.Outcomes.{final_labels, final_samples, has_same_labels, is_exceeded, in_order, outcome_of}
 use Rattle.rl_rules.specs.Recording.{named, named_by, sample_cmp, has_same_neighbours}
 
 -- the first of some items are changed, and then the next one
@@ -60,18 +60,18 @@ no_neighbours [] h = refl
 no_neighbours (sample ∷ []) h = refl
 no_neighbours (sample ∷ next ∷ samples) h = absurd (omega arith)
 
-abbrev Element : Type 0
-Element = LabelSet × Fraction
+abbrev FinalSample : Type 0
+FinalSample = LabelSet × Fraction
 
 -- samples as pairs, and back
-abbrev pairs : List Sample → List Element
+abbrev pairs : List Sample → List FinalSample
 pairs = map (λ sample. (sample.labels, sample.value))
 
-final-pairs : (rule : Rule) (samples : List Sample) → final_elements rule samples ≡ pairs (map (named rule) samples)
+final-pairs : (rule : Rule) (samples : List Sample) → final_samples rule samples ≡ pairs (map (named rule) samples)
 final-pairs rule [] = refl
 final-pairs rule (sample ∷ samples) = ap (λ es. (final_labels rule sample.labels, sample.value) ∷ es) (final-pairs rule samples)
 
-back_again : (samples : List Sample) → map (λ (element : Element). record { labels = element.0; value = element.1 }) (pairs samples) ≡ samples
+back_again : (samples : List Sample) → map (λ (sample : FinalSample). record { labels = sample.0; value = sample.1 }) (pairs samples) ≡ samples
 back_again [] = refl
 back_again (sample ∷ samples) = ap (λ ss. sample ∷ ss) (back_again samples)
 
@@ -86,22 +86,22 @@ flips : (s t : LabelSet) → ties s t ≡ ties t s
 flips = (eq_by_cmp_equiv label_set_cmp_total).symm
 
 -- no two samples have one label set where the sets differ
-none_after : (s : LabelSet) (es : List Element) → AllByRecursion (λ t. ties s t ≡ false) (keys_of es) → list_any (λ other. label_set_eq s other.0) es ≡ false
+none_after : (s : LabelSet) (es : List FinalSample) → AllByRecursion (λ t. ties s t ≡ false) (keys_of es) → list_any (λ other. label_set_eq s other.0) es ≡ false
 none_after s [] h = refl
 none_after s (e ∷ es) h = or_from _ _ (same-ties s e.0 ∙ h.0) (none_after s es h.1)
 
-all_after : (s : LabelSet) (es : List Element) → list_any (λ other. label_set_eq s other.0) es ≡ false → AllByRecursion (λ t. ties s t ≡ false) (keys_of es)
+all_after : (s : LabelSet) (es : List FinalSample) → list_any (λ other. label_set_eq s other.0) es ≡ false → AllByRecursion (λ t. ties s t ≡ false) (keys_of es)
 all_after s [] h = tt
 all_after s (e ∷ es) h =
     let parts = or_parts (label_set_eq s e.0) (list_any (λ other. label_set_eq s other.0) es) h in
     (sym (same-ties s e.0) ∙ parts.0, all_after s es parts.1)
 
-none_same : (es : List Element) → IsDistinct ties (keys_of es) → has_same_labels es ≡ false
+none_same : (es : List FinalSample) → IsDistinct ties (keys_of es) → has_same_labels es ≡ false
 unfolding IsDistinct
 none_same [] h = refl
 none_same (e ∷ es) h = or_from _ _ (none_after e.0 es h.0) (none_same es h.1)
 
-all_differ : (es : List Element) → has_same_labels es ≡ false → IsDistinct ties (keys_of es)
+all_differ : (es : List FinalSample) → has_same_labels es ≡ false → IsDistinct ties (keys_of es)
 unfolding IsDistinct
 all_differ [] h = tt
 all_differ (e ∷ es) h =
@@ -147,28 +147,28 @@ same_option None (Some x) to back = back x refl
 same_option (Some x) p to back = sym (to x refl)
 
 -- samples whose label sets rise are those of the map of any permutation of them
-in_map : (es fs : List Element) → IsPermutation es fs → IsDistinct ties (keys_of es) → IsStrictlySortedBy label_set_cmp (keys_of fs) → entries (from_entries {R = label_set_cmp} es) ≡ fs
+in_map : (es fs : List FinalSample) → IsPermutation es fs → IsDistinct ties (keys_of es) → IsStrictlySortedBy label_set_cmp (keys_of fs) → entries (from_entries {R = label_set_cmp} es) ≡ fs
 in_map es fs moved differ up =
     ap entries (same_map label_set_cmp_total label_set_cmp-IsAntisymmetric _ _ (λ q. get-of_tree label_set_cmp_total es q ∙ same_option _ _ (found es fs q moved (IsDistinct-from_sorted label_set_cmp (keys_of fs) up)) (found fs es q (IsPermutation-sym es fs moved) differ) ∙ sym (get-of_tree label_set_cmp_total fs q)))
     ∙ entries-of_tree label_set_cmp_total label_set_cmp-IsAntisymmetric fs up
   where
-    found : (es fs : List Element) (q : LabelSet) → IsPermutation es fs → IsDistinct ties (keys_of fs) → (v : Fraction) → lookup (ties q) es ≡ Some v → lookup (ties q) fs ≡ Some v
+    found : (es fs : List FinalSample) (q : LabelSet) → IsPermutation es fs → IsDistinct ties (keys_of fs) → (v : Fraction) → lookup (ties q) es ≡ Some v → lookup (ties q) fs ≡ Some v
     found es fs q moved differ v is = lookup-from_Contains (eq_by_cmp_equiv label_set_cmp_total) q v fs differ (Contains-permutation es fs (q, v) moved (Contains-from_lookup (λ s t tied. label_set_eq-true s t (same-ties s t ∙ tied)) q v es is))
 
 -- a permutation of samples with different label sets has different ones
 still_differ : (samples others : List Sample) → IsPermutation samples others → IsDistinct ties (keys_of (pairs samples)) → IsDistinct ties (keys_of (pairs others))
-still_differ samples others moved = IsDistinct-IsPermutation ties flips _ _ (IsPermutation-map (λ (e : Element). e.0) _ _ (IsPermutation-map (λ (s : Sample). (s.labels, s.value)) samples others moved))
+still_differ samples others moved = IsDistinct-IsPermutation ties flips _ _ (IsPermutation-map (λ (e : FinalSample). e.0) _ _ (IsPermutation-map (λ (s : Sample). (s.labels, s.value)) samples others moved))
 
 -- two tests decide which of the three is made of samples
 module _ (rule : Rule) (limit : ℕ) (make : List Sample → RuleOutcome) (samples : List Sample) (exceeded : Bool) (count : is_exceeded limit (length samples) ≡ exceeded) where
   chosen : (b : Bool) → has_same_labels (pairs (map (named rule) samples)) ≡ b
-      → outcome_of limit make (final_elements rule samples) ≡ cond b (made.Failed causes.SameLabels) (cond exceeded (made.Failed causes.LimitExceeded) (make (in_order (pairs (map (named rule) samples)))))
+      → outcome_of limit make (final_samples rule samples) ≡ cond b (made.Failed causes.SameLabels) (cond exceeded (made.Failed causes.LimitExceeded) (make (in_order (pairs (map (named rule) samples)))))
   chosen b is =
-      (λ i. cond (has_same_labels (final-pairs rule samples i)) (made.Failed causes.SameLabels) (cond (is_exceeded limit (length-map {B = Element} samples (λ sample. (final_labels rule sample.labels, sample.value)) i)) (made.Failed causes.LimitExceeded) (make (in_order (final-pairs rule samples i)))))
+      (λ i. cond (has_same_labels (final-pairs rule samples i)) (made.Failed causes.SameLabels) (cond (is_exceeded limit (length-map {B = FinalSample} samples (λ sample. (final_labels rule sample.labels, sample.value)) i)) (made.Failed causes.LimitExceeded) (make (in_order (final-pairs rule samples i)))))
       ∙ (λ i. cond (is i) (made.Failed causes.SameLabels) (cond (count i) (made.Failed causes.LimitExceeded) (make (in_order (pairs (map (named rule) samples))))))
 
   -- two neighbours with one label set: the rule fails
-  pub same_recorded : (sorted : List Sample) → IsPermutation (map (named rule) samples) sorted → has_same_neighbours sorted ≡ true → made.Failed causes.SameLabels ≡ outcome_of limit make (final_elements rule samples)
+  pub same_recorded : (sorted : List Sample) → IsPermutation (map (named rule) samples) sorted → has_same_neighbours sorted ≡ true → made.Failed causes.SameLabels ≡ outcome_of limit make (final_samples rule samples)
   same_recorded sorted moved neighbours =
       let ours = map (named rule) samples in
       let found : has_same_labels (pairs ours) ≡ true = true_from_ne_false _ (λ none. false≢true (sym (apart sorted (still_differ ours sorted moved (all_differ (pairs ours) none))) ∙ neighbours)) in
@@ -176,10 +176,10 @@ module _ (rule : Rule) (limit : ℕ) (make : List Sample → RuleOutcome) (sampl
 
   -- none: it fails for its limit, or what is made is made of the samples of the map
   pub order_recorded : (sorted : List Sample) → IsPermutation (map (named rule) samples) sorted → IsSorted sample_cmp sorted → has_same_neighbours sorted ≡ false
-      → cond exceeded (made.Failed causes.LimitExceeded) (make sorted) ≡ outcome_of limit make (final_elements rule samples)
+      → cond exceeded (made.Failed causes.LimitExceeded) (make sorted) ≡ outcome_of limit make (final_samples rule samples)
   order_recorded sorted moved up neighbours =
       let ours = map (named rule) samples in
       let higher = rise sorted up neighbours in
       let differ = still_differ sorted ours (IsPermutation-sym ours sorted moved) (IsDistinct-from_sorted label_set_cmp _ higher) in
-      let listed : in_order (pairs ours) ≡ sorted = ap (map (λ (element : Element). record { labels = element.0; value = element.1 })) (in_map (pairs ours) (pairs sorted) (IsPermutation-map (λ (s : Sample). (s.labels, s.value)) ours sorted moved) differ higher) ∙ back_again sorted in
+      let listed : in_order (pairs ours) ≡ sorted = ap (map (λ (sample : FinalSample). record { labels = sample.0; value = sample.1 })) (in_map (pairs ours) (pairs sorted) (IsPermutation-map (λ (s : Sample). (s.labels, s.value)) ours sorted moved) differ higher) ∙ back_again sorted in
       sym (chosen false (none_same (pairs ours) differ) ∙ ap (λ ss. cond exceeded (made.Failed causes.LimitExceeded) (make ss)) listed)

@@ -38,17 +38,17 @@ abbrev pub final_labels : Rule → LabelSet → LabelSet
 final_labels rule labels = with_label (with_pairs labels rule.labels) (name_label rule.kind) rule.name
 
 -- the samples under their final label sets
-abbrev pub final_elements : Rule → List Sample → List (LabelSet × Fraction)
-final_elements rule samples = map (λ sample. (final_labels rule sample.labels, sample.value)) samples
+abbrev pub final_samples : Rule → List Sample → List (LabelSet × Fraction)
+final_samples rule samples = map (λ sample. (final_labels rule sample.labels, sample.value)) samples
 
 -- two of the samples have one label set
 abbrev pub has_same_labels : List (LabelSet × Fraction) → Bool
 has_same_labels [] = false
-has_same_labels (element ∷ elements) = list_any (λ other. label_set_eq element.0 other.0) elements || has_same_labels elements
+has_same_labels (sample ∷ samples) = list_any (λ other. label_set_eq sample.0 other.0) samples || has_same_labels samples
 
 -- as samples, in the order of their label sets
 abbrev pub in_order : List (LabelSet × Fraction) → List Sample
-in_order elements = map (λ element. record { labels = element.0; value = element.1 }) (entries (from_entries {R = label_set_cmp} elements))
+in_order samples = map (λ sample. record { labels = sample.0; value = sample.1 }) (entries (from_entries {R = label_set_cmp} samples))
 
 -- `count` samples are more than the limit; 0 is no limit
 abbrev pub is_exceeded : ℕ → ℕ → Bool
@@ -61,13 +61,13 @@ made_by kinds.Alerting hold alerts t samples = made.Alerts (alerts_after hold t 
 
 -- what is made of samples, if they are not too many and no two have one label set
 abbrev pub outcome_of : ℕ → (List Sample → RuleOutcome) → List (LabelSet × Fraction) → RuleOutcome
-outcome_of limit make elements =
-    if has_same_labels elements then made.Failed causes.SameLabels
-    else (if is_exceeded limit (length elements) then made.Failed causes.LimitExceeded else make (in_order elements))
+outcome_of limit make samples =
+    if has_same_labels samples then made.Failed causes.SameLabels
+    else (if is_exceeded limit (length samples) then made.Failed causes.LimitExceeded else make (in_order samples))
 
 -- what a rule of a group with this limit, which has these alerts, makes of an outcome at a moment
 abbrev pub rule_outcome : Rule → ℕ → List Alert → Outcome → ℕ → RuleOutcome
-rule_outcome rule limit alerts (outcomes.Vector samples) t = outcome_of limit (made_by rule.kind rule.hold alerts t) (final_elements rule samples)
+rule_outcome rule limit alerts (outcomes.Vector samples) t = outcome_of limit (made_by rule.kind rule.hold alerts t) (final_samples rule samples)
 rule_outcome rule limit alerts outcomes.Failed t = made.Failed causes.PipelineError
 
 -- the alerts that a rule keeps where it failed: none where its samples were too many

@@ -1,7 +1,7 @@
 //! What a rule makes of the outcome of its query.
 ghost use Rattle.std.specs.Prelude.{◌≡◌, map, IfOk, OnOk, Ok};
 ghost use Rattle.std.specs.List.Sorted.{IsPermutation, IsSorted};
-ghost use Rattle.rl_rules.specs.Outcomes.{rule_step, rule_outcome, outcome_of, made_by, alerts_left, kept_at, final_elements, is_exceeded};
+ghost use Rattle.rl_rules.specs.Outcomes.{rule_step, rule_outcome, outcome_of, made_by, alerts_left, kept_at, final_samples, is_exceeded};
 ghost use Rattle.rl_rules.specs.Recording.{named, named_by, sample_cmp, has_same_neighbours};
 
 use crate::alert::Alert;
@@ -70,7 +70,7 @@ fn make(
     label_set_cache: &mut LabelSetCache,
     t: Ns,
 ) -> Result<RuleOutcome, AllocError>
-    ensures { IfOk result (λ made. made ≡ outcome_of limit (made_by rule.now.kind rule.now.hold alerts.now t) (final_elements rule.now samples.items)) }
+    ensures { IfOk result (λ made. made ≡ outcome_of limit (made_by rule.now.kind rule.now.hold alerts.now t) (final_samples rule.now samples.items)) }
 {
     let exceeded = is_exceeded(limit, samples.len());
     let samples = final_samples(rule, samples, label_set_cache)?;

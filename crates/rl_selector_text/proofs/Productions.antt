@@ -23,7 +23,7 @@ use Rattle.rl_selector_text.specs.Standing.{Stand, operator_sign, is_matcher, ma
 use Rattle.rl_selector_text.specs.Grammar.{matchers_tokens, IsSelector}
 use Rattle.rl_selector_text.specs.Lexing.{sign_at}
 use Rattle.rl_selector_text.specs.Fronts.{is_sign, next, expected, name_of, content_of, operator_of, checked_matcher, row_at, matcher_at}
-use Rattle.rl_selector_text.specs.Parsing.{element_at, listed_at, some_matcher, selector_at}
+use Rattle.rl_selector_text.specs.Parsing.{item_at, listed_at, some_matcher, selector_at}
 use Rattle.rl_query.specs.Tables.{sign_text}
 use Rattle.rl_selector_text.proofs.Finding.{Finds, found, fault, itself, then, by_test, checked, next_found, stands_as}
 
@@ -176,19 +176,19 @@ pub follows_found : (close : Sign) (t : Token) (e : Stop) → Finds (λ more. t 
 follows_found close t e = by_test (is_sign signs.Comma t) (λ is. found (only_sign signs.Comma t is)) (λ _. by_test (is_sign close t) (λ is. found (only_sign close t is)) (λ _. fault))
 
 -- an item that is read stands there with the sign after it, and is proper
-abbrev pub IsSoundElement : {A : Type 0} → (A → List Token) → (A → Bool) → Sign → (List Lexeme → Result (A × Bool × List Lexeme) Stop) → Type 0
-IsSoundElement {A} of_one proper close element = (lexemes : List Lexeme) → Finds (λ x. Stand (of_one x.0 ++ follows close x.1 ∷ []) lexemes x.2 × (proper x.0 ≡ true)) (element lexemes)
+abbrev pub IsSoundItem : {A : Type 0} → (A → List Token) → (A → Bool) → Sign → (List Lexeme → Result (A × Bool × List Lexeme) Stop) → Type 0
+IsSoundItem {A} of_one proper close item = (lexemes : List Lexeme) → Finds (λ x. Stand (of_one x.0 ++ follows close x.1 ∷ []) lexemes x.2 × (proper x.0 ≡ true)) (item lexemes)
 
 -- and one that stands there is read
-abbrev pub IsCompleteElement : {A : Type 0} → (A → List Token) → (A → Bool) → Sign → (List Lexeme → Result (A × Bool × List Lexeme) Stop) → Type 0
-IsCompleteElement {A} of_one proper close element = (lexemes : List Lexeme) (x : A) (more : Bool) (rest : List Lexeme) → Stand (of_one x ++ follows close more ∷ []) lexemes rest → proper x ≡ true → element lexemes ≡ Ok (x, more, rest)
+abbrev pub IsCompleteItem : {A : Type 0} → (A → List Token) → (A → Bool) → Sign → (List Lexeme → Result (A × Bool × List Lexeme) Stop) → Type 0
+IsCompleteItem {A} of_one proper close item = (lexemes : List Lexeme) (x : A) (more : Bool) (rest : List Lexeme) → Stand (of_one x ++ follows close more ∷ []) lexemes rest → proper x ≡ true → item lexemes ≡ Ok (x, more, rest)
 
 -- items, one at least, by the tokens of all
 abbrev pub AreListed : {A : Type 0} → (List A → List Token) → (A → Bool) → List A → List Lexeme → List Lexeme → Type 0
 AreListed all proper xs lexemes rest = Stand (all xs) lexemes rest × (list_all proper xs ≡ true) × (1 ≤ length xs)
 
 -- the sign that closes the list stands after those of the last
-module _ {A : Type 0} (of_one : A → List Token) (proper : A → Bool) (close : Sign) (element : List Lexeme → Result (A × Bool × List Lexeme) Stop) (all : List A → List Token)
+module _ {A : Type 0} (of_one : A → List Token) (proper : A → Bool) (close : Sign) (item : List Lexeme → Result (A × Bool × List Lexeme) Stop) (all : List A → List Token)
     (last : (x : A) → all (x ∷ []) ≡ of_one x ++ follows close false ∷ []) (more : (x y : A) (ys : List A) → all (x ∷ y ∷ ys) ≡ of_one x ++ follows close true ∷ all (y ∷ ys)) where
   join : (x : A) (others : List A) (lexemes following rest : List Lexeme) → Stand (of_one x ++ follows close true ∷ []) lexemes following → proper x ≡ true → AreListed all proper others following rest → AreListed all proper (x ∷ others) lexemes rest
   join x [] lexemes following rest stand is others = absurd (omega (arith, others.2))
@@ -196,7 +196,7 @@ module _ {A : Type 0} (of_one : A → List Token) (proper : A → Bool) (close :
       let both = stand_then (of_one x ++ follows close true ∷ []) (all (y ∷ ys)) lexemes following rest stand others.0 in
       (subst (λ ts. Stand ts lexemes rest) (append_assoc (of_one x) (follows close true ∷ []) _ ∙ sym (more x y ys)) both, and_from (proper x) _ is others.1, omega arith)
 
-  pub listed_found : IsSoundElement of_one proper close element → (most : ℕ) (lexemes : List Lexeme) → Finds (λ x. AreListed all proper x.0 lexemes x.1) (listed_at element most lexemes)
+  pub listed_found : IsSoundItem of_one proper close item → (most : ℕ) (lexemes : List Lexeme) → Finds (λ x. AreListed all proper x.0 lexemes x.1) (listed_at item most lexemes)
   unfolding listed_at
   listed_found sound zero lexemes = fault
   listed_found sound (suc most) lexemes = then _ (sound lexemes) (λ first one. by_test first.1
@@ -208,7 +208,7 @@ module _ {A : Type 0} (of_one : A → List Token) (proper : A → Bool) (close :
   few_listed x [] = omega (arith, ap length (last x), length-append (of_one x) (follows close false ∷ []))
   few_listed x (y ∷ ys) = omega (arith, ap length (more x y ys), length-append (of_one x) (follows close true ∷ all (y ∷ ys)), few_listed y ys)
 
-  listed_within : IsCompleteElement of_one proper close element → (most : ℕ) (x : A) (xs : List A) (lexemes rest : List Lexeme) → Stand (all (x ∷ xs)) lexemes rest → list_all proper (x ∷ xs) ≡ true → length (x ∷ xs) ≤ most → listed_at element most lexemes ≡ Ok (x ∷ xs, rest)
+  listed_within : IsCompleteItem of_one proper close item → (most : ℕ) (x : A) (xs : List A) (lexemes rest : List Lexeme) → Stand (all (x ∷ xs)) lexemes rest → list_all proper (x ∷ xs) ≡ true → length (x ∷ xs) ≤ most → listed_at item most lexemes ≡ Ok (x ∷ xs, rest)
   unfolding listed_at
   listed_within complete zero x xs lexemes rest stand are few = absurd (omega (arith, few))
   listed_within complete (suc most) x [] lexemes rest stand are few = rw (complete lexemes x false rest (subst (λ ts. Stand ts lexemes rest) (last x) stand) (and_parts (proper x) true are).0) refl
@@ -217,7 +217,7 @@ module _ {A : Type 0} (of_one : A → List Token) (proper : A → Bool) (close :
       let split = stand_split (of_one x ++ follows close true ∷ []) (all (y ∷ ys)) lexemes rest (subst (λ ts. Stand ts lexemes rest) (more x y ys ∙ sym (append_assoc (of_one x) (follows close true ∷ []) _)) stand) in
       rw (complete lexemes x true split.0 split.1 parts.0, listed_within complete most y ys split.0 rest split.2 parts.1 (omega (arith, few))) refl
 
-  pub listed_is : IsCompleteElement of_one proper close element → (x : A) (xs : List A) (lexemes rest : List Lexeme) → Stand (all (x ∷ xs)) lexemes rest → list_all proper (x ∷ xs) ≡ true → listed_at element (length lexemes) lexemes ≡ Ok (x ∷ xs, rest)
+  pub listed_is : IsCompleteItem of_one proper close item → (x : A) (xs : List A) (lexemes rest : List Lexeme) → Stand (all (x ∷ xs)) lexemes rest → list_all proper (x ∷ xs) ≡ true → listed_at item (length lexemes) lexemes ≡ Ok (x ∷ xs, rest)
   listed_is complete x xs lexemes rest stand are = listed_within complete (length lexemes) x xs lexemes rest stand are (omega (arith, few_listed x xs, stand_length _ lexemes rest stand))
 
   -- the tokens of the first stand at the front
@@ -227,20 +227,20 @@ module _ {A : Type 0} (of_one : A → List Token) (proper : A → Bool) (close :
 
 -- A selector.
 
-element_found : IsSoundElement matcher_tokens is_matcher signs.CloseBrace element_at
-unfolding element_at
-element_found lexemes =
+item_found : IsSoundItem matcher_tokens is_matcher signs.CloseBrace item_at
+unfolding item_at
+item_found lexemes =
     then _ (matcher_found lexemes) (λ matcher is.
     then _ (next_found matcher.1) (λ sign stand.
     then _ (follows_found signs.CloseBrace sign.0.token _) (λ more shown.
     found (stand_then (matcher_tokens matcher.0) (follows signs.CloseBrace more ∷ []) lexemes matcher.1 sign.1 is.stand (stands_as matcher.1 sign.1 shown stand), is.proper))))
 
-element_is : IsCompleteElement matcher_tokens is_matcher signs.CloseBrace element_at
-unfolding element_at
-element_is lexemes m true rest stand is =
+item_is : IsCompleteItem matcher_tokens is_matcher signs.CloseBrace item_at
+unfolding item_at
+item_is lexemes m true rest stand is =
     let split = stand_split (matcher_tokens m) (tokens.Sign signs.Comma ∷ []) lexemes rest stand in
     rw (matcher_is m lexemes split.0 split.1 is, stood (tokens.Sign signs.Comma ∷ []) split.0 rest split.2) refl
-element_is lexemes m false rest stand is =
+item_is lexemes m false rest stand is =
     let split = stand_split (matcher_tokens m) (tokens.Sign signs.CloseBrace ∷ []) lexemes rest stand in
     rw (matcher_is m lexemes split.0 split.1 is, stood (tokens.Sign signs.CloseBrace ∷ []) split.0 rest split.2) refl
 
@@ -249,7 +249,7 @@ unfolding selector_at
 selector_found lexemes braced opened =
     then _ (next_found braced) (λ first _.
     then _ (itself (some_matcher first.0.offset first.0.token)) (λ _ _.
-    then _ (listed_found matcher_tokens is_matcher signs.CloseBrace element_at matchers_tokens (λ _. refl) (λ _ _ _. refl) element_found (length braced) braced) (λ read are.
+    then _ (listed_found matcher_tokens is_matcher signs.CloseBrace item_at matchers_tokens (λ _. refl) (λ _ _ _. refl) item_found (length braced) braced) (λ read are.
     then _ (checked (has_real_form read.0) read.0 (stop faults.NoRealMatcher (offset_of read.1))) (λ matchers is.
     let stand = stand_then (tokens.Sign signs.OpenBrace ∷ []) (matchers_tokens read.0) lexemes braced read.1 opened are.0 in
     found (subst (λ ms. IsSelector ms lexemes read.1) is.1 (record { stand = stand; proper = are.1; real = is.0 }))))))
@@ -259,7 +259,7 @@ unfolding selector_at
 selector_is [] lexemes rest is = absurd (true≢false (sym is.real))
 selector_is (m ∷ ms) lexemes rest is =
     let split = stand_split (tokens.Sign signs.OpenBrace ∷ []) (matchers_tokens (m ∷ ms)) lexemes rest is.stand in
-    let listed = first_listed matcher_tokens is_matcher signs.CloseBrace element_at matchers_tokens (λ _. refl) (λ _ _ _. refl) m ms in
+    let listed = first_listed matcher_tokens is_matcher signs.CloseBrace item_at matchers_tokens (λ _. refl) (λ _ _ _. refl) m ms in
     let first = next_is (tokens.Word m.name) (tokens.Sign (operator_sign m.op) ∷ tokens.Text m.value ∷ listed.0) split.0 rest (subst (λ ts. Stand ts split.0 rest) listed.1 split.2) in
-    let read = listed_is matcher_tokens is_matcher signs.CloseBrace element_at matchers_tokens (λ _. refl) (λ _ _ _. refl) element_is m ms split.0 rest split.2 is.proper in
+    let read = listed_is matcher_tokens is_matcher signs.CloseBrace item_at matchers_tokens (λ _. refl) (λ _ _ _. refl) item_is m ms split.0 rest split.2 is.proper in
     (split.0, expected_is signs.OpenBrace positions.Elsewhere lexemes split.0 split.1, rw (first.is, read, is.real) refl)

@@ -29,23 +29,23 @@ abbrev pub goes_on : ℕ → Token → Result Bool Stop
 goes_on offset token = if is_sign signs.Comma token then Ok true else (if is_sign signs.CloseBrace token then Ok false else Err (refusal positions.Elsewhere offset token))
 
 -- a matcher, and whether another follows
-unfoldable pub element_at : List Lexeme → Result (MatcherForm × Bool × List Lexeme) Stop
-element_at lexemes = do
+unfoldable pub item_at : List Lexeme → Result (MatcherForm × Bool × List Lexeme) Stop
+item_at lexemes = do
   matcher ← matcher_at lexemes
   lexeme ← next matcher.1
   more ← goes_on lexeme.0.offset lexeme.0.token
   Ok (matcher.0, more, lexeme.1)
 
 -- at most `most` items joined by commas, up to what closes them; each says whether another follows
-unfoldable pub listed_at : {A : Type 0} → (element : List Lexeme → Result (A × Bool × List Lexeme) Stop) → ℕ → List Lexeme → Result (List A × List Lexeme) Stop
-listed_at element zero lexemes = Err (syntax 0)
-listed_at element (suc most) lexemes = do
-  first ← element lexemes
-  if first.1 then (listed_at element most first.2 >>= λ others. Ok (first.0 ∷ others.0, others.1)) else Ok (first.0 ∷ [], first.2)
+unfoldable pub listed_at : {A : Type 0} → (item : List Lexeme → Result (A × Bool × List Lexeme) Stop) → ℕ → List Lexeme → Result (List A × List Lexeme) Stop
+listed_at item zero lexemes = Err (syntax 0)
+listed_at item (suc most) lexemes = do
+  first ← item lexemes
+  if first.1 then (listed_at item most first.2 >>= λ others. Ok (first.0 ∷ others.0, others.1)) else Ok (first.0 ∷ [], first.2)
 
 -- the matchers of a selector
 abbrev pub matchers_at : ℕ → List Lexeme → Result (List MatcherForm × List Lexeme) Stop
-matchers_at = listed_at element_at
+matchers_at = listed_at item_at
 
 -- a selector that closes at once has no matcher
 abbrev pub some_matcher : ℕ → Token → Result (Unit {0}) Stop

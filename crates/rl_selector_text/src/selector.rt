@@ -3,7 +3,7 @@ ghost use Rattle.std.specs.Prelude.{◌≡◌, ◌-◌, ◌<◌, Ok, Err, IfOk, 
 ghost use Rattle.rl_query.specs.Form.{matcher_form};
 ghost use Rattle.rl_plain.specs.Answers.{Gives};
 ghost use Rattle.rl_selector_text.specs.Fronts.{refusal, next, is_sign, matcher_at};
-ghost use Rattle.rl_selector_text.specs.Parsing.{goes_on, element_at, matchers_at, some_matcher, real_matchers, selector_at};
+ghost use Rattle.rl_selector_text.specs.Parsing.{goes_on, item_at, matchers_at, some_matcher, real_matchers, selector_at};
 ghost use Rattle.rl_query.specs.Limits.{has_real_matcher};
 
 use crate::front::{Position, is_sign, matcher_at, next, refusal};
@@ -29,9 +29,9 @@ fn goes_on(lexeme: &Lexeme) -> Result<bool, Stop>
 }
 
 // A matcher, and whether another follows.
-#[tactic(auto, unfolding(crate::specs::Parsing::element_at))]
-fn element_at(lexemes: &[Lexeme]) -> Result<(Matcher, bool, &[Lexeme]), Stopped>
-    ensures { Gives (λ x. (matcher_form x.0, x.1, x.2.now)) result (element_at lexemes.now) }
+#[tactic(auto, unfolding(crate::specs::Parsing::item_at))]
+fn item_at(lexemes: &[Lexeme]) -> Result<(Matcher, bool, &[Lexeme]), Stopped>
+    ensures { Gives (λ x. (matcher_form x.0, x.1, x.2.now)) result (item_at lexemes.now) }
 {
     let (matcher, rest) = matcher_at(lexemes)?;
     let (lexeme, rest) = next(rest)?;
@@ -46,7 +46,7 @@ fn matchers_at(alloc: Global, lexemes: &[Lexeme]) -> Result<(Vec<Matcher>, &[Lex
     let mut matchers = Vec::new(alloc);
     let mut rest = lexemes;
     for _turn in 0..lexemes.len() {
-        let (matcher, more, following) = element_at(rest)?;
+        let (matcher, more, following) = item_at(rest)?;
         matchers.push(matcher)?;
         if !more {
             return Ok((matchers, following));

@@ -18,7 +18,7 @@ use Rattle.rl_query.specs.declared.query.Selector.{Selector}
 use Rattle.rl_query.specs.declared.stages.Stage.{Stage}
 use Rattle.rl_chunks.specs.declared.line.Line.{Line}
 use Rattle.rl_aggregate.specs.Counter.{CounterView, counted_entry, counted_line}
-use Rattle.rl_aggregate.specs.InRange.{element, in_window, is_in_range, second, stays}
+use Rattle.rl_aggregate.specs.InRange.{contribution, in_window, is_in_range, second, stays}
 use Rattle.rl_aggregate.specs.Partials.{partial, partial_of}
 use Rattle.rl_aggregate.specs.Tallies.{IsAlike, TallyView, nothing_counted, with_line}
 use Rattle.rl_aggregate.specs.declared.partial.Partial.{Partial}
@@ -338,7 +338,7 @@ module _ (first : Term) (terms : List Term) (streams : StreamsView) (requests : 
           let stages = term.range.stages in
           let held = keys streams.held in
           let both = λ (e : Entry). (in_window first.range.seconds u e.timestamp && not (covered requests.now e)) && stays stages e in
-          let found = λ (es : List Entry). partial_of (map (element stages) es) in
+          let found = λ (es : List Entry). partial_of (map (contribution stages) es) in
           let tests = same_of_entries requests range t after.lasts u later within once.order ended.noticed in
           ap (λ es. found (filter (stays stages) es)) (filter_same passes (λ e. in_window first.range.seconds u e.timestamp && not (covered requests.now e)) once.order tests)
           ∙ ap found (filter-both (λ e. in_window first.range.seconds u e.timestamp && not (covered requests.now e)) (stays stages) once.order)

@@ -11,7 +11,7 @@ use Rattle.rl_query.specs.declared.stages.Stage.{Stage}
 use Rattle.rl_aggregate.specs.InRange.{in_window}
 use Rattle.rl_aggregate.specs.Limited.{IsWithin}
 use Rattle.rl_aggregate.specs.Partials.{merge, partial, partial_of}
-use Rattle.rl_aggregate.specs.Tallies.{elements_of}
+use Rattle.rl_aggregate.specs.Tallies.{contributions_of}
 use Rattle.rl_aggregate.specs.declared.partial.Partial.{Partial}
 use Rattle.rl_deletes.specs.Deletes.{RequestsView, covered, covered_line}
 use Rattle.rl_parts.specs.Rewriting.{uncovered}
@@ -31,7 +31,7 @@ IsStartOf seconds t start = (timestamp : ℕ) → in_window seconds t timestamp 
 
 -- what a line makes of a partial after stages
 abbrev pub counting : List Stage → Partial → LabelSet × Line → Partial
-counting stages found line = merge found (partial_of (elements_of stages line.0 line.1.text))
+counting stages found line = merge found (partial_of (contributions_of stages line.0 line.1.text))
 
 -- what it makes of it under requests: one that a received request covers changes nothing
 abbrev pub counting_shown : RequestsView → List Stage → Partial → LabelSet × Line → Partial

@@ -14,7 +14,7 @@ use Rattle.rl_query.specs.declared.query.Term.{Term}
 use Rattle.rl_query.specs.declared.query.RangeFunction.TheVariants as functions
 use Rattle.rl_aggregate.specs.Absence.{absence, absent_sample}
 use Rattle.rl_aggregate.specs.Evaluated.{samples_by, range_value, absent_of}
-use Rattle.rl_aggregate.specs.InRange.{Element, in_range}
+use Rattle.rl_aggregate.specs.InRange.{Contribution, in_range}
 use Rattle.rl_aggregate.specs.Partials.{has_error, counts_for, total_of, totals_of, partial}
 use Rattle.rl_aggregate.specs.laws.Totals.{same_totals, get-totals_of}
 use Rattle.rl_aggregate.specs.declared.total.Total.{Total}
@@ -25,7 +25,7 @@ no_totals : totals_of [] ≡ empty {X = Total} {R = label_set_cmp}
 no_totals = same_totals (totals_of []) empty (λ q. get-totals_of [] q ∙ sym (get-empty label_set_cmp q))
 
 -- where a line has no error there are totals
-some_total : (e : Element) (es : List Element) → has_error e.labels ≡ false → len (totals_of (e ∷ es)) ≡ 0 → ⊥
+some_total : (e : Contribution) (es : List Contribution) → has_error e.labels ≡ false → len (totals_of (e ∷ es)) ≡ 0 → ⊥
 some_total e es good none =
     let counts : counts_for e.labels e ≡ true = rw (label_set_eq_itself e.labels, good) refl in
     let found : get (totals_of (e ∷ es)) e.labels ≡ Some (total_of (e ∷ es) e.labels) = get-totals_of (e ∷ es) e.labels ∙ ap (λ b. cond (b || list_any (counts_for e.labels) es) (Some (total_of (e ∷ es) e.labels)) None) counts in
@@ -36,7 +36,7 @@ more : (n : ℕ) → (suc n == 0) ≡ false
 more n = grind (arith, nat_tests)
 
 -- without an error there are totals exactly where there are lines
-pub len-totals_of : (es : List Element) → count_by (λ e. has_error e.labels) es ≡ 0 → (len (totals_of es) == 0) ≡ (length es == 0)
+pub len-totals_of : (es : List Contribution) → count_by (λ e. has_error e.labels) es ≡ 0 → (len (totals_of es) == 0) ≡ (length es == 0)
 len-totals_of [] good = ap (λ m. len m == 0) no_totals ∙ ap (λ n. n == 0) (len-empty label_set_cmp Total)
 len-totals_of (e ∷ es) good = counted (len (totals_of (e ∷ es))) refl ∙ sym (more (length es))
   where
@@ -51,8 +51,8 @@ len-totals_of (e ∷ es) good = counted (len (totals_of (e ∷ es))) refl ∙ sy
     counted (suc n) is = more n
 
 -- so an absence of totals is one of lines
-pub absent-elements : (term : Term) (entries : List Entry) (t : ℕ) → term.function ≡ functions.AbsentOverTime → range_value term (partial entries term t) ≡ absent_of (in_range entries term t) term.range.selector.matchers
-absent-elements term entries t is =
+pub absent-contributions : (term : Term) (entries : List Entry) (t : ℕ) → term.function ≡ functions.AbsentOverTime → range_value term (partial entries term t) ≡ absent_of (in_range entries term t) term.range.selector.matchers
+absent-contributions term entries t is =
     let es = in_range entries term t in
     let matchers = term.range.selector.matchers in
     let errors = count_by (λ e. has_error e.labels) es in

@@ -126,14 +126,14 @@ of_totals function seconds partial short limited =
       order = rises-made made es ∙ true_from _ (entries_sorted partial.totals);
       divisors = divisor-made made (term_divisor function seconds) (same_divisor function seconds) es;
       divisor = divisor-short function seconds short;
-      elements = omega (arith, length-map es (sample function seconds), len-entries partial.totals, limited.sets);
+      few = omega (arith, length-map es (sample function seconds), len-entries partial.totals, limited.sets);
       sum = omega (arith, total-made made es, numerators-small function seconds partial limited);
     }
 
 of_absence : (matchers : List Matcher) (totals : TotalsMap) → AreOfOneTerm 1 (absence matchers totals)
 of_absence matchers totals = elim (len totals == 0) as (λ b. AreOfOneTerm 1 (cond b (absent_sample matchers ∷ []) [])) [
-  | true ↦ record { order = refl; divisors = refl; divisor = omega arith; elements = omega arith; sum = omega (arith, sum_by-cons (λ s. s.value.numerator) (absent_sample matchers) []) }
-  | false ↦ record { order = refl; divisors = refl; divisor = omega arith; elements = omega arith; sum = omega arith }
+  | true ↦ record { order = refl; divisors = refl; divisor = omega arith; few = omega arith; sum = omega (arith, sum_by-cons (λ s. s.value.numerator) (absent_sample matchers) []) }
+  | false ↦ record { order = refl; divisors = refl; divisor = omega arith; few = omega arith; sum = omega arith }
 ]
 
 -- what a range aggregation gives of totals within the limits is within the bounds of one term
@@ -168,8 +168,8 @@ of_one_term-aggregated_by n aggregations samples are = record {
   order = rises-aggregated_by aggregations samples are.order;
   divisors = have_divisor-aggregated_by n aggregations samples are.divisors;
   divisor = divisor_by-short aggregations n are.divisor;
-  elements = omega (arith, length-aggregated_by aggregations samples, are.elements);
-  sum = omega (arith, total-aggregated_by (2 ^ 46 - 1) aggregations samples (omega (arith, are.sum)) (omega (arith, are.elements)));
+  few = omega (arith, length-aggregated_by aggregations samples, are.few);
+  sum = omega (arith, total-aggregated_by (2 ^ 46 - 1) aggregations samples (omega (arith, are.sum)) (omega (arith, are.few)));
 }
 
 -- and so is each of its samples

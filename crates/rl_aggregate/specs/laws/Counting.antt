@@ -15,31 +15,31 @@ use Rattle.rl_pipeline.specs.Running.{run}
 use Rattle.rl_query.specs.declared.query.Term.{Term}
 use Rattle.rl_query.specs.declared.stages.Stage.{Stage}
 use Rattle.rl_aggregate.specs.Counter.{counted_entry, with_entry}
-use Rattle.rl_aggregate.specs.InRange.{Element, element, stays, in_window, is_selected}
+use Rattle.rl_aggregate.specs.InRange.{Contribution, contribution, stays, in_window, is_selected}
 use Rattle.rl_aggregate.specs.Partials.{partial, partial_of}
-use Rattle.rl_aggregate.specs.Tallies.{IsAlike, TallyView, elements_of, nothing_counted, with_line}
+use Rattle.rl_aggregate.specs.Tallies.{IsAlike, TallyView, contributions_of, nothing_counted, with_line}
 use Rattle.rl_aggregate.specs.laws.Totals.{kept-permuted, partial_of-append}
 
 -- what the lines of entries count as that stay
-abbrev pub stayed : List Stage → List Entry → List Element
-stayed stages entries = map (element stages) (filter (stays stages) entries)
+abbrev pub stayed : List Stage → List Entry → List Contribution
+stayed stages entries = map (contribution stages) (filter (stays stages) entries)
 
 -- the first of them
-stayed-cons : (stages : List Stage) (e : Entry) (es : List Entry) → elements_of stages e.labels e.line ++ stayed stages es ≡ stayed stages (e ∷ es)
+stayed-cons : (stages : List Stage) (e : Entry) (es : List Entry) → contributions_of stages e.labels e.line ++ stayed stages es ≡ stayed stages (e ∷ es)
 stayed-cons stages e es =
-    elim (run stages e.line e.labels) as (λ found. run stages e.line e.labels ≡ found → map (λ (following : LabelSet). record { labels = following; bytes = length e.line }) (option_to_list found) ++ stayed stages es ≡ map (element stages) (cond (is_some found) (e ∷ filter (stays stages) es) (filter (stays stages) es))) [
+    elim (run stages e.line e.labels) as (λ found. run stages e.line e.labels ≡ found → map (λ (following : LabelSet). record { labels = following; bytes = length e.line }) (option_to_list found) ++ stayed stages es ≡ map (contribution stages) (cond (is_some found) (e ∷ filter (stays stages) es) (filter (stays stages) es))) [
       | None ↦ λ _. refl
       | Some following ↦ λ is. λ i. record { labels = unwrap_or (sym is i) no_labels; bytes = length e.line } ∷ stayed stages es
     ] refl
 
 -- a tally of some lines, and then of those of entries
-counted_after : (stages : List Stage) (elements : List Element) (entries : List Entry) → fold with_entry (record { running = stages; found = partial_of elements }) entries ≡ record { running = stages; found = partial_of (elements ++ stayed stages entries) }
-counted_after stages elements [] = λ i. record { running = stages; found = partial_of (sym (append-nil elements) i) }
-counted_after stages elements (e ∷ es) =
-    let one = elements_of stages e.labels e.line in
-    (λ i. fold with_entry (record { running = stages; found = sym (partial_of-append elements one) i }) es)
-    ∙ counted_after stages (elements ++ one) es
-    ∙ (λ i. record { running = stages; found = partial_of ((append_assoc elements one (stayed stages es) ∙ ap (λ rest. elements ++ rest) (stayed-cons stages e es)) i) })
+counted_after : (stages : List Stage) (contributions : List Contribution) (entries : List Entry) → fold with_entry (record { running = stages; found = partial_of contributions }) entries ≡ record { running = stages; found = partial_of (contributions ++ stayed stages entries) }
+counted_after stages contributions [] = λ i. record { running = stages; found = partial_of (sym (append-nil contributions) i) }
+counted_after stages contributions (e ∷ es) =
+    let one = contributions_of stages e.labels e.line in
+    (λ i. fold with_entry (record { running = stages; found = sym (partial_of-append contributions one) i }) es)
+    ∙ counted_after stages (contributions ++ one) es
+    ∙ (λ i. record { running = stages; found = partial_of ((append_assoc contributions one (stayed stages es) ∙ ap (λ rest. contributions ++ rest) (stayed-cons stages e es)) i) })
 
 -- a tally of the lines of entries has what those that stay add up to
 pub counted_entries : (stages : List Stage) (entries : List Entry) → fold with_entry (nothing_counted stages) entries ≡ record { running = stages; found = partial_of (stayed stages entries) }
@@ -64,11 +64,11 @@ filter-again p q (x ∷ xs) =
 
 -- entries that are not selected do not count
 pub partial-selected : (entries : List Entry) (term : Term) (t : ℕ) → partial (filter (is_selected term t) entries) term t ≡ partial entries term t
-partial-selected entries term t = ap (λ es. partial_of (map (element term.range.stages) es)) (filter-again (is_selected term t) (stays term.range.stages) entries)
+partial-selected entries term t = ap (λ es. partial_of (map (contribution term.range.stages) es)) (filter-again (is_selected term t) (stays term.range.stages) entries)
 
 -- and the lines that stay of those that are selected are all that count
 pub partial-stayed : (entries : List Entry) (term : Term) (t : ℕ) → partial_of (stayed term.range.stages (filter (is_selected term t) entries)) ≡ partial entries term t
-partial-stayed entries term t = ap (λ es. partial_of (map (element term.range.stages) es)) (filter-both (is_selected term t) (stays term.range.stages) entries)
+partial-stayed entries term t = ap (λ es. partial_of (map (contribution term.range.stages) es)) (filter-both (is_selected term t) (stays term.range.stages) entries)
 
 -- also in another order, for each term that reads the same lines as the one by which they are selected
 pub partial-visited : (lead term : Term) (t : ℕ) (entries order : List Entry) → IsAlike lead term → IsPermutation (filter (is_selected lead t) entries) order → partial_of (stayed term.range.stages order) ≡ partial entries term t

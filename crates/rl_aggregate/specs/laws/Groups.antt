@@ -22,7 +22,7 @@ use Rattle.rl_query.specs.declared.aggregation.VectorOperator.{VectorOperator}
 use Rattle.rl_query.specs.declared.aggregation.VectorOperator.TheVariants.{Sum, Count, Min, Max, Topk}
 use Rattle.rl_query.specs.declared.aggregation.Aggregation.{Aggregation}
 use Rattle.rl_aggregate.specs.GroupsMap.{GroupsMap, first_value, next_value, with_value, numerator_at}
-use Rattle.rl_aggregate.specs.Grouping.{group_of, is_in, part, total, least, greatest, group_value, groups, element_of, grouped, is_among_first, aggregated, aggregated_by, rises, have_divisor, divisor_after, divisor_by}
+use Rattle.rl_aggregate.specs.Grouping.{group_of, is_in, part, total, least, greatest, group_value, groups, sample_of, grouped, is_among_first, aggregated, aggregated_by, rises, have_divisor, divisor_after, divisor_by}
 use Rattle.rl_aggregate.specs.laws.Totals.{label_set_eq-cmp}
 use Rattle.rl_aggregate.specs.declared.outcome.Fraction.{Fraction}
 use Rattle.rl_aggregate.specs.declared.outcome.Sample.{Sample}
@@ -99,9 +99,9 @@ group_value-with operator g q samples other = by_part (part g q samples) (list_a
     any_part [] = refl
     any_part (sample ∷ samples) = elim (is_in g q sample) as (λ b. (b || list_any (is_in g q) samples) ≡ not (is_empty (cond b (sample ∷ part g q samples) (part g q samples)))) [ true ↦ refl | false ↦ any_part samples ]
 
-    by_part : (elements : List Sample) (b : Bool) → b ≡ not (is_empty elements) → group_value operator (elements ++ other ∷ []) ≡ with_value operator (cond b (Some (group_value operator elements)) None) other.value
+    by_part : (few : List Sample) (b : Bool) → b ≡ not (is_empty few) → group_value operator (few ++ other ∷ []) ≡ with_value operator (cond b (Some (group_value operator few)) None) other.value
     by_part [] b is = group_value-first operator other ∙ ap (λ b. with_value operator (cond b (Some (group_value operator [])) None) other.value) (sym is)
-    by_part (sample ∷ elements) b is = group_value-push operator sample elements other ∙ ap (λ b. with_value operator (cond b (Some (group_value operator (sample ∷ elements))) None) other.value) (sym is)
+    by_part (sample ∷ few) b is = group_value-push operator sample few other ∙ ap (λ b. with_value operator (cond b (Some (group_value operator (sample ∷ few))) None) other.value) (sym is)
 
 -- one more sample changes the value of its group
 pub groups-push : (operator : VectorOperator) (g : Grouping) (samples : List Sample) (other : Sample) → groups operator g (samples ++ other ∷ []) ≡ insert (groups operator g samples) (group_of g other.labels) (with_value operator (get (groups operator g samples) (group_of g other.labels)) other.value)
@@ -153,31 +153,31 @@ find_lower k l (e ∷ es) lower below =
     let parts = and_parts (is_lt (label_set_cmp l e.0)) (below_all label_set_cmp l es) below in
     ap (λ o. cond (is_eq o) (Some e.1) (find label_set_cmp k es)) (label_set_cmp_total.trans k l e.0 lower (less _ parts.0)) ∙ find_lower k l es lower parts.1
 
-total-put : (k : LabelSet) (v : Fraction) (es : List Entry) → is_sorted label_set_cmp es ≡ true → total (map element_of (put label_set_cmp k v es)) + numerator_at (find label_set_cmp k es) ≡ total (map element_of es) + v.numerator
-total-put k v [] sorted = omega (arith, sum_by-cons (λ s. s.value.numerator) (element_of (k, v)) [])
+total-put : (k : LabelSet) (v : Fraction) (es : List Entry) → is_sorted label_set_cmp es ≡ true → total (map sample_of (put label_set_cmp k v es)) + numerator_at (find label_set_cmp k es) ≡ total (map sample_of es) + v.numerator
+total-put k v [] sorted = omega (arith, sum_by-cons (λ s. s.value.numerator) (sample_of (k, v)) [])
 total-put k v (e ∷ es) sorted =
     let parts = and_parts (below_all label_set_cmp e.0 es) (is_sorted label_set_cmp es) sorted in
-    let first = sum_by-cons (λ s. s.value.numerator) (element_of e) (map element_of es) in
-    elim (label_set_cmp k e.0) as (λ o. label_set_cmp k e.0 ≡ o → total (map element_of (by_order o ((k, v) ∷ e ∷ es) ((e.0, v) ∷ es) (e ∷ put label_set_cmp k v es))) + numerator_at (cond (is_eq o) (Some e.1) (find label_set_cmp k es)) ≡ total (map element_of (e ∷ es)) + v.numerator) [
-      | Less ↦ λ lower. omega (arith, ap numerator_at (find_lower k e.0 es lower parts.0), sum_by-cons (λ s. s.value.numerator) (element_of (k, v)) (map element_of (e ∷ es)))
-      | Equal ↦ λ _. omega (arith, first, sum_by-cons (λ s. s.value.numerator) (element_of (e.0, v)) (map element_of es))
-      | Greater ↦ λ _. omega (arith, first, sum_by-cons (λ s. s.value.numerator) (element_of e) (map element_of (put label_set_cmp k v es)), total-put k v es parts.1)
+    let first = sum_by-cons (λ s. s.value.numerator) (sample_of e) (map sample_of es) in
+    elim (label_set_cmp k e.0) as (λ o. label_set_cmp k e.0 ≡ o → total (map sample_of (by_order o ((k, v) ∷ e ∷ es) ((e.0, v) ∷ es) (e ∷ put label_set_cmp k v es))) + numerator_at (cond (is_eq o) (Some e.1) (find label_set_cmp k es)) ≡ total (map sample_of (e ∷ es)) + v.numerator) [
+      | Less ↦ λ lower. omega (arith, ap numerator_at (find_lower k e.0 es lower parts.0), sum_by-cons (λ s. s.value.numerator) (sample_of (k, v)) (map sample_of (e ∷ es)))
+      | Equal ↦ λ _. omega (arith, first, sum_by-cons (λ s. s.value.numerator) (sample_of (e.0, v)) (map sample_of es))
+      | Greater ↦ λ _. omega (arith, first, sum_by-cons (λ s. s.value.numerator) (sample_of e) (map sample_of (put label_set_cmp k v es)), total-put k v es parts.1)
     ] refl
 
-numerator-find : (k : LabelSet) (es : List Entry) → numerator_at (find label_set_cmp k es) ≤ total (map element_of es)
+numerator-find : (k : LabelSet) (es : List Entry) → numerator_at (find label_set_cmp k es) ≤ total (map sample_of es)
 numerator-find k [] = omega arith
 numerator-find k (e ∷ es) =
-    let first = sum_by-cons (λ s. s.value.numerator) (element_of e) (map element_of es) in
-    elim (eq_by_cmp label_set_cmp k e.0) as (λ b. numerator_at (cond b (Some e.1) (find label_set_cmp k es)) ≤ total (map element_of (e ∷ es))) [
+    let first = sum_by-cons (λ s. s.value.numerator) (sample_of e) (map sample_of es) in
+    elim (eq_by_cmp label_set_cmp k e.0) as (λ b. numerator_at (cond b (Some e.1) (find label_set_cmp k es)) ≤ total (map sample_of (e ∷ es))) [
       | true ↦ omega (arith, first)
       | false ↦ omega (arith, first, numerator-find k es)
     ]
 
-have_divisor-put : (n : ℕ) (k : LabelSet) (v : Fraction) (es : List Entry) → (v.denominator == n) ≡ true → have_divisor n (map element_of es) ≡ true → have_divisor n (map element_of (put label_set_cmp k v es)) ≡ true
+have_divisor-put : (n : ℕ) (k : LabelSet) (v : Fraction) (es : List Entry) → (v.denominator == n) ≡ true → have_divisor n (map sample_of es) ≡ true → have_divisor n (map sample_of (put label_set_cmp k v es)) ≡ true
 have_divisor-put n k v [] fits all = and_from _ _ fits refl
 have_divisor-put n k v (e ∷ es) fits all =
-    let parts = and_parts (e.1.denominator == n) (have_divisor n (map element_of es)) all in
-    elim (label_set_cmp k e.0) as (λ o. have_divisor n (map element_of (by_order o ((k, v) ∷ e ∷ es) ((e.0, v) ∷ es) (e ∷ put label_set_cmp k v es))) ≡ true) [
+    let parts = and_parts (e.1.denominator == n) (have_divisor n (map sample_of es)) all in
+    elim (label_set_cmp k e.0) as (λ o. have_divisor n (map sample_of (by_order o ((k, v) ∷ e ∷ es) ((e.0, v) ∷ es) (e ∷ put label_set_cmp k v es))) ≡ true) [
       | Less ↦ and_from _ _ fits all
       | Equal ↦ and_from _ _ fits parts.1
       | Greater ↦ and_from _ _ parts.0 (have_divisor-put n k v es fits parts.1)
@@ -188,10 +188,10 @@ abbrev has_divisor : ℕ → Option Fraction → Bool
 has_divisor n None = true
 has_divisor n (Some value) = value.denominator == n
 
-has_divisor-find : (n : ℕ) (k : LabelSet) (es : List Entry) → have_divisor n (map element_of es) ≡ true → has_divisor n (find label_set_cmp k es) ≡ true
+has_divisor-find : (n : ℕ) (k : LabelSet) (es : List Entry) → have_divisor n (map sample_of es) ≡ true → has_divisor n (find label_set_cmp k es) ≡ true
 has_divisor-find n k [] all = refl
 has_divisor-find n k (e ∷ es) all =
-    let parts = and_parts (e.1.denominator == n) (have_divisor n (map element_of es)) all in
+    let parts = and_parts (e.1.denominator == n) (have_divisor n (map sample_of es)) all in
     elim (eq_by_cmp label_set_cmp k e.0) as (λ b. has_divisor n (cond b (Some e.1) (find label_set_cmp k es)) ≡ true) [
       | true ↦ parts.0
       | false ↦ has_divisor-find n k es parts.1
@@ -229,7 +229,7 @@ numerator-with_value (Topk k) (Some group) value = omega arith
 -- VECTORS OF GROUPS
 
 -- samples made of entries are those entries
-back_again : (es : List Entry) → map (λ sample. (sample.labels, sample.value)) (map element_of es) ≡ es
+back_again : (es : List Entry) → map (λ sample. (sample.labels, sample.value)) (map sample_of es) ≡ es
 back_again [] = refl
 back_again (e ∷ es) = ap (λ rest. e ∷ rest) (back_again es)
 
@@ -272,15 +272,15 @@ rises-aggregated_by (aggregation ∷ aggregations) samples up = rises-aggregated
 
 have_divisor-grouped : (n : ℕ) (operator : VectorOperator) (grouping : Grouping) (samples : List Sample) → have_divisor n samples ≡ true → have_divisor (divisor_after operator n) (grouped operator grouping samples) ≡ true
 have_divisor-grouped n operator grouping samples =
-    groups_hold operator grouping (λ done m. have_divisor n done ≡ true → have_divisor (divisor_after operator n) (map element_of (entries m)) ≡ true)
-    (λ _. ap (λ es. have_divisor (divisor_after operator n) (map element_of es)) no_entries)
+    groups_hold operator grouping (λ done m. have_divisor n done ≡ true → have_divisor (divisor_after operator n) (map sample_of (entries m)) ≡ true)
+    (λ _. ap (λ es. have_divisor (divisor_after operator n) (map sample_of es)) no_entries)
     (λ done other m held one.
     let parts = and_parts (have_divisor n done) (have_divisor n (other ∷ [])) (sym (list_all-append (λ s. s.value.denominator == n) done (other ∷ [])) ∙ one) in
     let before = held parts.0 in
     let key = group_of grouping other.labels in
     let found = ap (has_divisor (divisor_after operator n)) (get-entries m key) ∙ has_divisor-find (divisor_after operator n) key (entries m) before in
     let value = with_value operator (get m key) other.value in
-    ap (λ es. have_divisor (divisor_after operator n) (map element_of es)) (entries-insert label_set_cmp_total m key value)
+    ap (λ es. have_divisor (divisor_after operator n) (map sample_of es)) (entries-insert label_set_cmp_total m key value)
     ∙ have_divisor-put (divisor_after operator n) key value (entries m) (divisor-with_value n operator (get m key) other.value found (and_parts (other.value.denominator == n) true parts.1).0) before)
     samples
 
@@ -310,7 +310,7 @@ length-grouped operator grouping samples =
     let m = groups operator grouping samples in
     omega (
       arith,
-      length-map (entries m) element_of,
+      length-map (entries m) sample_of,
       len-entries m,
       groups_hold operator grouping (λ done m. len m ≤ length done) (omega (arith, len-empty label_set_cmp Fraction)) (λ done other m held.
           let key = group_of grouping other.labels in
@@ -339,11 +339,11 @@ most_total Count samples = length samples
 most_total _ samples = total samples
 
 pub most_total-within : (n : ℕ) (operator : VectorOperator) (samples : List Sample) → total samples ≤ n → length samples ≤ n → most_total operator samples ≤ n
-most_total-within n Sum samples values elements = values
-most_total-within n Count samples values elements = elements
-most_total-within n Min samples values elements = values
-most_total-within n Max samples values elements = values
-most_total-within n (Topk k) samples values elements = values
+most_total-within n Sum samples values few = values
+most_total-within n Count samples values few = few
+most_total-within n Min samples values few = values
+most_total-within n Max samples values few = values
+most_total-within n (Topk k) samples values few = values
 
 most_total-push : (operator : VectorOperator) (samples : List Sample) (other : Sample) → most_total operator (samples ++ other ∷ []) ≡ most_total operator samples + most_of operator other.value
 most_total-push Sum samples other = sum_by_push (λ s. s.value.numerator) samples other
@@ -354,14 +354,14 @@ most_total-push (Topk k) samples other = sum_by_push (λ s. s.value.numerator) s
 
 total-grouped : (operator : VectorOperator) (grouping : Grouping) (samples : List Sample) → total (grouped operator grouping samples) ≤ most_total operator samples
 total-grouped operator grouping samples =
-    groups_hold operator grouping (λ done m. total (map element_of (entries m)) ≤ most_total operator done)
-    (omega (arith, ap (λ es. total (map element_of es)) no_entries))
+    groups_hold operator grouping (λ done m. total (map sample_of (entries m)) ≤ most_total operator done)
+    (omega (arith, ap (λ es. total (map sample_of es)) no_entries))
     (λ done other m held.
     let key = group_of grouping other.labels in
     let value = with_value operator (get m key) other.value in
     omega (
       arith,
-      ap (λ es. total (map element_of es)) (entries-insert label_set_cmp_total m key value),
+      ap (λ es. total (map sample_of es)) (entries-insert label_set_cmp_total m key value),
       total-put key value (entries m) (true_from _ (entries_sorted m)),
       numerator-with_value operator (get m key) other.value,
       ap numerator_at (get-entries m key),
@@ -401,11 +401,11 @@ total-aggregated (Topk k) grouping samples = total-filter (is_among_first k grou
 
 -- so they stay within a bound of both
 pub total-aggregated_by : (n : ℕ) (aggregations : List Aggregation) (samples : List Sample) → total samples ≤ n → length samples ≤ n → total (aggregated_by aggregations samples) ≤ n
-total-aggregated_by n [] samples values elements = values
-total-aggregated_by n (aggregation ∷ aggregations) samples values elements =
+total-aggregated_by n [] samples values few = values
+total-aggregated_by n (aggregation ∷ aggregations) samples values few =
     let inner = aggregated_by aggregations samples in
     omega (
       arith,
       total-aggregated aggregation.operator aggregation.grouping inner,
-      most_total-within n aggregation.operator inner (total-aggregated_by n aggregations samples values elements) (omega (arith, length-aggregated_by aggregations samples)),
+      most_total-within n aggregation.operator inner (total-aggregated_by n aggregations samples values few) (omega (arith, length-aggregated_by aggregations samples)),
     )

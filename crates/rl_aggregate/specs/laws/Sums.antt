@@ -19,7 +19,7 @@ use Rattle.rl_labels.specs.LabelText.{label_set_cmp}
 use Rattle.rl_labels.specs.laws.TextLaws.{label_set_cmp_total, label_set_eq-true, label_set_eq_itself}
 use Rattle.rl_labels.specs.declared.entry.Entry.{Entry}
 use Rattle.rl_query.specs.declared.query.Term.{Term}
-use Rattle.rl_aggregate.specs.InRange.{Element, element, is_in_range, in_range}
+use Rattle.rl_aggregate.specs.InRange.{Contribution, contribution, is_in_range, in_range}
 use Rattle.rl_aggregate.specs.Limited.{sum_of, IsLimited}
 use Rattle.rl_aggregate.specs.Partials.{has_error, counts_for, total_of, totals_of, partial, partial_of, both_totals}
 use Rattle.rl_aggregate.specs.TotalsMap.{TotalsMap, no_total, plus, total_at}
@@ -235,7 +235,7 @@ module _ (f : Total → ℕ) (nothing : f no_total ≡ 0) where
 
 -- no totals add up to nothing
 pub sum_of-empty : (f : Total → ℕ) → sum_of f empty ≤ 0
-sum_of-empty f = sum_by-shared (λ (e : Element). e.labels) (λ e. 0) [] f empty (λ q v is. absurd (none-some v (sym (get-empty label_set_cmp q) ∙ is)))
+sum_of-empty f = sum_by-shared (λ (e : Contribution). e.labels) (λ e. 0) [] f empty (λ q v is. absurd (none-some v (sym (get-empty label_set_cmp q) ∙ is)))
 
 pub counts-both_totals : (a b : TotalsMap) → sum_of (λ total. total.count) (both_totals a b) ≤ sum_of (λ total. total.count) a + sum_of (λ total. total.count) b
 counts-both_totals = sum_of-both_totals (λ total. total.count) refl (λ x y. refl)
@@ -244,7 +244,7 @@ pub bytes-both_totals : (a b : TotalsMap) → sum_of (λ total. total.bytes) (bo
 bytes-both_totals = sum_of-both_totals (λ total. total.bytes) refl (λ x y. refl)
 
 -- what counts for a label set has it, and no error
-counts_as : (q : LabelSet) (n : ℕ) (e : Element) → cond (counts_for q e) n 0 ≡ cond (eq_by_cmp label_set_cmp q e.labels) (cond (has_error e.labels) 0 n) 0
+counts_as : (q : LabelSet) (n : ℕ) (e : Contribution) → cond (counts_for q e) n 0 ≡ cond (eq_by_cmp label_set_cmp q e.labels) (cond (has_error e.labels) 0 n) 0
 counts_as q n e = ap (λ b. cond (b && not (has_error e.labels)) n 0) (label_set_eq-cmp q e.labels) ∙ split (eq_by_cmp label_set_cmp q e.labels) (has_error e.labels)
   where
     split : (b c : Bool) → cond (b && not c) n 0 ≡ cond b (cond c 0 n) 0
@@ -253,7 +253,7 @@ counts_as q n e = ap (λ b. cond (b && not (has_error e.labels)) n 0) (label_set
     split false c = refl
 
 -- a number of the totals of lines is at most that of the lines without an error
-sum_of-totals_of : (number : Element → ℕ) (f : Total → ℕ) (es : List Element) → ((q : LabelSet) → f (total_of es q) ≡ sum_by (λ e. cond (counts_for q e) (number e) 0) es) → sum_of f (totals_of es) ≤ sum_by (λ e. cond (has_error e.labels) 0 (number e)) es
+sum_of-totals_of : (number : Contribution → ℕ) (f : Total → ℕ) (es : List Contribution) → ((q : LabelSet) → f (total_of es q) ≡ sum_by (λ e. cond (counts_for q e) (number e) 0) es) → sum_of f (totals_of es) ≤ sum_by (λ e. cond (has_error e.labels) 0 (number e)) es
 sum_of-totals_of number f es adds = sum_by-shared (λ e. e.labels) (λ e. cond (has_error e.labels) 0 (number e)) es f (totals_of es) (λ q v is. omega (
   arith,
   ap f (sym (ap (λ t. unwrap_or t no_total) is) ∙ total_at-totals_of es q),
@@ -262,7 +262,7 @@ sum_of-totals_of number f es adds = sum_by-shared (λ e. e.labels) (λ e. cond (
 ))
 
 -- a line has an error or none
-with_or_without : (es : List Element) → sum_by (λ e. cond (has_error e.labels) 0 1) es + count_by (λ e. has_error e.labels) es ≤ length es
+with_or_without : (es : List Contribution) → sum_by (λ e. cond (has_error e.labels) 0 1) es + count_by (λ e. has_error e.labels) es ≤ length es
 with_or_without es = omega (
   arith,
   sum_by-both (λ e. cond (has_error e.labels) 0 1) (λ e. cond (has_error e.labels) 1 0) es,
@@ -275,10 +275,10 @@ with_or_without es = omega (
     one false = omega arith
 
 -- how much lines add up to
-pub len-partial_of : (es : List Element) → len (partial_of es).totals ≤ length es
+pub len-partial_of : (es : List Contribution) → len (partial_of es).totals ≤ length es
 len-partial_of es =
     let good = filter (λ e. not (has_error e.labels)) es in
-    let entry : Element → LabelSet × Total = λ e. (e.labels, total_of es e.labels) in
+    let entry : Contribution → LabelSet × Total = λ e. (e.labels, total_of es e.labels) in
     omega (
       arith,
       len-from_entries (map entry good),
@@ -287,10 +287,10 @@ len-partial_of es =
       count_by-le-length (λ e. not (has_error e.labels)) es,
     )
 
-pub counts-partial_of : (es : List Element) → (partial_of es).errors + sum_of (λ total. total.count) (partial_of es).totals ≤ length es
+pub counts-partial_of : (es : List Contribution) → (partial_of es).errors + sum_of (λ total. total.count) (partial_of es).totals ≤ length es
 counts-partial_of es = omega (arith, sum_of-totals_of (λ e. 1) (λ total. total.count) es (λ q. refl), with_or_without es)
 
-pub bytes-partial_of : (es : List Element) → sum_of (λ total. total.bytes) (partial_of es).totals ≤ sum_by (λ e. e.bytes) es
+pub bytes-partial_of : (es : List Contribution) → sum_of (λ total. total.bytes) (partial_of es).totals ≤ sum_by (λ e. e.bytes) es
 bytes-partial_of es = omega (
   arith,
   sum_of-totals_of (λ e. e.bytes) (λ total. total.bytes) es (λ q. refl),
@@ -304,7 +304,7 @@ bytes-partial_of es = omega (
 fewer-in_range : (stored : List Entry) (term : Term) (t : ℕ) → length (in_range stored term t) ≤ length stored
 fewer-in_range stored term t = omega (
   arith,
-  length-map (filter (is_in_range term t) stored) (element term.range.stages),
+  length-map (filter (is_in_range term t) stored) (contribution term.range.stages),
   length-filter (is_in_range term t) stored,
   count_by-le-length (is_in_range term t) stored,
 )

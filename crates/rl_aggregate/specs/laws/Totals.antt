@@ -22,7 +22,7 @@ use Rattle.rl_labels.specs.laws.TextLaws.{label_set_cmp_total, label_set_cmp-IsA
 use Rattle.rl_labels.specs.declared.entry.Entry.{Entry}
 use Rattle.rl_query.specs.declared.query.Term.{Term}
 use Rattle.rl_query.specs.declared.stages.Stage.{Stage}
-use Rattle.rl_aggregate.specs.InRange.{Element, element, is_in_range, in_range}
+use Rattle.rl_aggregate.specs.InRange.{Contribution, contribution, is_in_range, in_range}
 use Rattle.rl_aggregate.specs.TotalsMap.{TotalsMap, no_total, plus, total_at}
 use Rattle.rl_aggregate.specs.Partials.{has_error, counts_for, total_of, totals_of, partial_of, partial, both_totals, merge, most_entries, Fits}
 use Rattle.rl_aggregate.specs.declared.total.Total.{Total}
@@ -37,7 +37,7 @@ pub same_totals : (a b : TotalsMap) → ((q : LabelSet) → get a q ≡ get b q)
 same_totals a b alike = same_map label_set_cmp_total label_set_cmp-IsAntisymmetric a b alike
 
 -- a look-up among one total for each label set of the lines that pass
-find_made : (f : LabelSet → Total) (p : Element → Bool) (q : LabelSet) (es : List Element) → find label_set_cmp q (map (λ e. (e.labels, f e.labels)) (filter p es)) ≡ cond (list_any (λ e. label_set_eq q e.labels && p e) es) (Some (f q)) None
+find_made : (f : LabelSet → Total) (p : Contribution → Bool) (q : LabelSet) (es : List Contribution) → find label_set_cmp q (map (λ e. (e.labels, f e.labels)) (filter p es)) ≡ cond (list_any (λ e. label_set_eq q e.labels && p e) es) (Some (f q)) None
 find_made f p q [] = refl
 find_made f p q (e ∷ es) =
     let rest = find_made f p q es in
@@ -52,7 +52,7 @@ find_made f p q (e ∷ es) =
     ]
 
 -- totals have what their lines add up to, where one counts
-pub get-totals_of : (es : List Element) (q : LabelSet) → get (totals_of es) q ≡ cond (list_any (counts_for q) es) (Some (total_of es q)) None
+pub get-totals_of : (es : List Contribution) (q : LabelSet) → get (totals_of es) q ≡ cond (list_any (counts_for q) es) (Some (total_of es q)) None
 get-totals_of es q = get-from_entries label_set_cmp_total _ q ∙ find_made (total_of es) (λ e. not (has_error e.labels)) q es
 
 -- a look-up among one total for each of some label sets
@@ -82,23 +82,23 @@ total_at-both_totals a b q = ap (λ t. unwrap_or t no_total) (get-both_totals a 
     summed (Some x) y = refl
 
 -- no line counts, and the total is none
-total_of-none : (es : List Element) (q : LabelSet) → list_any (counts_for q) es ≡ false → total_of es q ≡ no_total
+total_of-none : (es : List Contribution) (q : LabelSet) → list_any (counts_for q) es ≡ false → total_of es q ≡ no_total
 total_of-none es q none = λ i. record { count = counted es none i; bytes = weighed es none i }
   where
-    counted : (es : List Element) → list_any (counts_for q) es ≡ false → count_by (counts_for q) es ≡ 0
+    counted : (es : List Contribution) → list_any (counts_for q) es ≡ false → count_by (counts_for q) es ≡ 0
     counted [] none = refl
     counted (e ∷ es) none =
         let parts = or_parts (counts_for q e) (list_any (counts_for q) es) none in
         sum_by-cons (λ x. cond (counts_for q x) 1 0) e es ∙ (λ i. cond (parts.0 i) 1 0 + counted es parts.1 i)
 
-    weighed : (es : List Element) → list_any (counts_for q) es ≡ false → sum_by (λ x. cond (counts_for q x) x.bytes 0) es ≡ 0
+    weighed : (es : List Contribution) → list_any (counts_for q) es ≡ false → sum_by (λ x. cond (counts_for q x) x.bytes 0) es ≡ 0
     weighed [] none = refl
     weighed (e ∷ es) none =
         let parts = or_parts (counts_for q e) (list_any (counts_for q) es) none in
         sum_by-cons (λ x. cond (counts_for q x) x.bytes 0) e es ∙ (λ i. cond (parts.0 i) e.bytes 0 + weighed es parts.1 i)
 
 -- so the total at a label set is what the lines add up to, also where none counts
-pub total_at-totals_of : (es : List Element) (q : LabelSet) → total_at (totals_of es) q ≡ total_of es q
+pub total_at-totals_of : (es : List Contribution) (q : LabelSet) → total_at (totals_of es) q ≡ total_of es q
 total_at-totals_of es q =
     ap (λ t. unwrap_or t no_total) (get-totals_of es q)
     ∙ elim (list_any (counts_for q) es) as (λ b. list_any (counts_for q) es ≡ b → unwrap_or (cond b (Some (total_of es q)) None) no_total ≡ total_of es q) [
@@ -107,13 +107,13 @@ total_at-totals_of es q =
     ] refl
 
 -- what a list followed by another adds up to
-pub total_of-append : (es fs : List Element) (q : LabelSet) → total_of (es ++ fs) q ≡ plus (total_of es q) (total_of fs q)
+pub total_of-append : (es fs : List Contribution) (q : LabelSet) → total_of (es ++ fs) q ≡ plus (total_of es q) (total_of fs q)
 total_of-append es fs q = λ i. record {
   count = sum_by-append (λ x. cond (counts_for q x) 1 0) es fs i;
   bytes = sum_by-append (λ x. cond (counts_for q x) x.bytes 0) es fs i;
 }
 
-pub totals_of-append : (es fs : List Element) → totals_of (es ++ fs) ≡ both_totals (totals_of es) (totals_of fs)
+pub totals_of-append : (es fs : List Contribution) → totals_of (es ++ fs) ≡ both_totals (totals_of es) (totals_of fs)
 totals_of-append es fs = same_totals _ _ (λ q.
     let here = list_any (counts_for q) es in
     let there = list_any (counts_for q) fs in
@@ -122,10 +122,10 @@ totals_of-append es fs = same_totals _ _ (λ q.
     ∙ (λ i. cond (sym (found es q) i || sym (found fs q) i) (Some (plus (sym (total_at-totals_of es q) i) (sym (total_at-totals_of fs q) i))) None)
     ∙ sym (get-both_totals (totals_of es) (totals_of fs) q))
   where
-    found : (es : List Element) (q : LabelSet) → is_some (get (totals_of es) q) ≡ list_any (counts_for q) es
+    found : (es : List Contribution) (q : LabelSet) → is_some (get (totals_of es) q) ≡ list_any (counts_for q) es
     found es q = ap (λ t. is_some t) (get-totals_of es q) ∙ elim (list_any (counts_for q) es) as (λ b. is_some (cond b (Some (total_of es q)) None) ≡ b) [ true ↦ refl | false ↦ refl ]
 
-pub partial_of-append : (es fs : List Element) → partial_of (es ++ fs) ≡ merge (partial_of es) (partial_of fs)
+pub partial_of-append : (es fs : List Contribution) → partial_of (es ++ fs) ≡ merge (partial_of es) (partial_of fs)
 partial_of-append es fs = λ i. record {
   errors = sum_by-append (λ e. cond (has_error e.labels) 1 0) es fs i;
   totals = totals_of-append es fs i;
@@ -133,48 +133,48 @@ partial_of-append es fs = λ i. record {
 
 pub in_range-append : (first second : List Entry) (term : Term) (t : ℕ) → in_range (first ++ second) term t ≡ in_range first term t ++ in_range second term t
 in_range-append first second term t =
-    ap (map (element term.range.stages)) (filter-append (is_in_range term t) first second) ∙ map-append (element term.range.stages) (filter (is_in_range term t) first) (filter (is_in_range term t) second)
+    ap (map (contribution term.range.stages)) (filter-append (is_in_range term t) first second) ∙ map-append (contribution term.range.stages) (filter (is_in_range term t) first) (filter (is_in_range term t) second)
 
 -- the partial of one list of entries followed by another is the merge of their partials
 pub partial-append : (first second : List Entry) (term : Term) (t : ℕ) → partial (first ++ second) term t ≡ merge (partial first term t) (partial second term t)
 partial-append first second term t = ap partial_of (in_range-append first second term t) ∙ partial_of-append (in_range first term t) (in_range second term t)
 
 -- a sum over the lines of entries that are kept is one over the entries
-sum_by-kept : (f : Element → ℕ) (keep : Entry → Bool) (stages : List Stage) (entries : List Entry) → sum_by f (map (element stages) (filter keep entries)) ≡ sum_by (λ e. cond (keep e) (f (element stages e)) 0) entries
+sum_by-kept : (f : Contribution → ℕ) (keep : Entry → Bool) (stages : List Stage) (entries : List Entry) → sum_by f (map (contribution stages) (filter keep entries)) ≡ sum_by (λ e. cond (keep e) (f (contribution stages e)) 0) entries
 sum_by-kept f keep stages [] = refl
 sum_by-kept f keep stages (e ∷ es) =
-    elim (keep e) as (λ b. sum_by f (map (element stages) (cond b (e ∷ filter keep es) (filter keep es))) ≡ cond b (f (element stages e)) 0 + sum_by (λ x. cond (keep x) (f (element stages x)) 0) es) [
-      | true ↦ sum_by-cons f (element stages e) (map (element stages) (filter keep es)) ∙ ap (λ n. f (element stages e) + n) (sum_by-kept f keep stages es)
+    elim (keep e) as (λ b. sum_by f (map (contribution stages) (cond b (e ∷ filter keep es) (filter keep es))) ≡ cond b (f (contribution stages e)) 0 + sum_by (λ x. cond (keep x) (f (contribution stages x)) 0) es) [
+      | true ↦ sum_by-cons f (contribution stages e) (map (contribution stages) (filter keep es)) ∙ ap (λ n. f (contribution stages e) + n) (sum_by-kept f keep stages es)
       | false ↦ omega (arith, sum_by-kept f keep stages es)
     ]
-    ∙ sym (sum_by-cons (λ x. cond (keep x) (f (element stages x)) 0) e es)
+    ∙ sym (sum_by-cons (λ x. cond (keep x) (f (contribution stages x)) 0) e es)
 
 -- a test of their lines is one of the entries
-list_any-kept : (p : Element → Bool) (keep : Entry → Bool) (stages : List Stage) (entries : List Entry) → list_any p (map (element stages) (filter keep entries)) ≡ list_any (λ e. keep e && p (element stages e)) entries
+list_any-kept : (p : Contribution → Bool) (keep : Entry → Bool) (stages : List Stage) (entries : List Entry) → list_any p (map (contribution stages) (filter keep entries)) ≡ list_any (λ e. keep e && p (contribution stages e)) entries
 list_any-kept p keep stages [] = refl
 list_any-kept p keep stages (e ∷ es) =
-    elim (keep e) as (λ b. list_any p (map (element stages) (cond b (e ∷ filter keep es) (filter keep es))) ≡ ((b && p (element stages e)) || list_any (λ x. keep x && p (element stages x)) es)) [
-      | true ↦ ap (λ b. p (element stages e) || b) (list_any-kept p keep stages es)
+    elim (keep e) as (λ b. list_any p (map (contribution stages) (cond b (e ∷ filter keep es) (filter keep es))) ≡ ((b && p (contribution stages e)) || list_any (λ x. keep x && p (contribution stages x)) es)) [
+      | true ↦ ap (λ b. p (contribution stages e) || b) (list_any-kept p keep stages es)
       | false ↦ list_any-kept p keep stages es
     ]
 
-sum_by-permuted : (f : Element → ℕ) (keep : Entry → Bool) (stages : List Stage) (entries others : List Entry) → IsPermutation entries others → sum_by f (map (element stages) (filter keep entries)) ≡ sum_by f (map (element stages) (filter keep others))
+sum_by-permuted : (f : Contribution → ℕ) (keep : Entry → Bool) (stages : List Stage) (entries others : List Entry) → IsPermutation entries others → sum_by f (map (contribution stages) (filter keep entries)) ≡ sum_by f (map (contribution stages) (filter keep others))
 sum_by-permuted f keep stages entries others moved =
     sum_by-kept f keep stages entries
-    ∙ sym (sum_by-IsPermutation (λ e. cond (keep e) (f (element stages e)) 0) entries others moved)
+    ∙ sym (sum_by-IsPermutation (λ e. cond (keep e) (f (contribution stages e)) 0) entries others moved)
     ∙ sym (sum_by-kept f keep stages others)
 
-list_any-permuted : (p : Element → Bool) (keep : Entry → Bool) (stages : List Stage) (entries others : List Entry) → IsPermutation entries others → list_any p (map (element stages) (filter keep entries)) ≡ list_any p (map (element stages) (filter keep others))
+list_any-permuted : (p : Contribution → Bool) (keep : Entry → Bool) (stages : List Stage) (entries others : List Entry) → IsPermutation entries others → list_any p (map (contribution stages) (filter keep entries)) ≡ list_any p (map (contribution stages) (filter keep others))
 list_any-permuted p keep stages entries others moved =
     list_any-kept p keep stages entries
-    ∙ list_any-IsPermutation (λ e. keep e && p (element stages e)) entries others moved
+    ∙ list_any-IsPermutation (λ e. keep e && p (contribution stages e)) entries others moved
     ∙ sym (list_any-kept p keep stages others)
 
 -- the order of the entries of which some are kept does not matter
-pub kept-permuted : (keep : Entry → Bool) (stages : List Stage) (entries others : List Entry) → IsPermutation entries others → partial_of (map (element stages) (filter keep entries)) ≡ partial_of (map (element stages) (filter keep others))
+pub kept-permuted : (keep : Entry → Bool) (stages : List Stage) (entries others : List Entry) → IsPermutation entries others → partial_of (map (contribution stages) (filter keep entries)) ≡ partial_of (map (contribution stages) (filter keep others))
 kept-permuted keep stages entries others moved =
-    let es = map (element stages) (filter keep entries) in
-    let fs = map (element stages) (filter keep others) in
+    let es = map (contribution stages) (filter keep entries) in
+    let fs = map (contribution stages) (filter keep others) in
     let same : totals_of es ≡ totals_of fs = same_totals _ _ (λ q.
     let total : total_of es q ≡ total_of fs q = λ i. record {
       count = sum_by-permuted (λ x. cond (counts_for q x) 1 0) keep stages entries others moved i;
@@ -190,11 +190,11 @@ pub partial-permuted : (entries others : List Entry) (term : Term) (t : ℕ) →
 partial-permuted entries others term t moved = kept-permuted (is_in_range term t) term.range.stages entries others moved
 
 -- a sum over the lines of a range, each of them within a bound
-pub sum_by-within : (f : Element → ℕ) (m : ℕ) (entries : List Entry) (term : Term) (t : ℕ) → ((e : Entry) → f (element term.range.stages e) ≤ m) → sum_by f (in_range entries term t) ≤ length entries * m
+pub sum_by-within : (f : Contribution → ℕ) (m : ℕ) (entries : List Entry) (term : Term) (t : ℕ) → ((e : Entry) → f (contribution term.range.stages e) ≤ m) → sum_by f (in_range entries term t) ≤ length entries * m
 sum_by-within f m [] term t within = omega arith
 sum_by-within f m (e ∷ es) term t within =
-    elim (is_in_range term t e) as (λ b. sum_by f (map (element term.range.stages) (cond b (e ∷ filter (is_in_range term t) es) (filter (is_in_range term t) es))) ≤ length (e ∷ es) * m) [
-      | true ↦ omega (arith, sum_by-cons f (element term.range.stages e) (in_range es term t), sum_by-within f m es term t within, within e)
+    elim (is_in_range term t e) as (λ b. sum_by f (map (contribution term.range.stages) (cond b (e ∷ filter (is_in_range term t) es) (filter (is_in_range term t) es))) ≤ length (e ∷ es) * m) [
+      | true ↦ omega (arith, sum_by-cons f (contribution term.range.stages e) (in_range es term t), sum_by-within f m es term t within, within e)
       | false ↦ omega (arith, sum_by-within f m es term t within)
     ]
 
@@ -205,20 +205,20 @@ cond-within false n m h = omega arith
 
 -- how large a partial's numbers are
 pub errors-within : (entries : List Entry) (term : Term) (t : ℕ) → (partial entries term t).errors ≤ length entries
-errors-within entries term t = omega (arith, sum_by-within (λ e. cond (has_error e.labels) 1 0) 1 entries term t (λ e. cond-within (has_error (element term.range.stages e).labels) 1 1 (omega arith)))
+errors-within entries term t = omega (arith, sum_by-within (λ e. cond (has_error e.labels) 1 0) 1 entries term t (λ e. cond-within (has_error (contribution term.range.stages e).labels) 1 1 (omega arith)))
 
 pub count-within : (entries : List Entry) (term : Term) (t : ℕ) (q : LabelSet) → (total_at (partial entries term t).totals q).count ≤ length entries
 count-within entries term t q = omega (
   arith,
   ap (λ total. total.count) (total_at-totals_of (in_range entries term t) q),
-  sum_by-within (λ e. cond (counts_for q e) 1 0) 1 entries term t (λ e. cond-within (counts_for q (element term.range.stages e)) 1 1 (omega arith)),
+  sum_by-within (λ e. cond (counts_for q e) 1 0) 1 entries term t (λ e. cond-within (counts_for q (contribution term.range.stages e)) 1 1 (omega arith)),
 )
 
 pub bytes-within : (entries : List Entry) (term : Term) (t : ℕ) (q : LabelSet) → (total_at (partial entries term t).totals q).bytes ≤ length entries * longest_line
 bytes-within entries term t q = omega (
   arith,
   ap (λ total. total.bytes) (total_at-totals_of (in_range entries term t) q),
-  sum_by-within (λ e. cond (counts_for q e) e.bytes 0) longest_line entries term t (λ e. cond-within (counts_for q (element term.range.stages e)) (length e.line) longest_line e.fits),
+  sum_by-within (λ e. cond (counts_for q e) e.bytes 0) longest_line entries term t (λ e. cond-within (counts_for q (contribution term.range.stages e)) (length e.line) longest_line e.fits),
 )
 
 -- the merge of the partials of few enough entries fits

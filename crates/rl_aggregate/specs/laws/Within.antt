@@ -9,10 +9,10 @@ use Rattle.rl_labels.specs.declared.entry.Entry.{Entry}
 use Rattle.rl_pipeline.specs.Running.{run}
 use Rattle.rl_query.specs.declared.query.Term.{Term}
 use Rattle.rl_query.specs.declared.stages.Stage.{Stage}
-use Rattle.rl_aggregate.specs.InRange.{Element}
+use Rattle.rl_aggregate.specs.InRange.{Contribution}
 use Rattle.rl_aggregate.specs.Limited.{IsWithin}
 use Rattle.rl_aggregate.specs.Partials.{merge, partial, partial_of}
-use Rattle.rl_aggregate.specs.Tallies.{elements_of}
+use Rattle.rl_aggregate.specs.Tallies.{contributions_of}
 use Rattle.rl_aggregate.specs.declared.partial.Partial.{Partial}
 use Rattle.rl_aggregate.specs.laws.Sums.{len-both_totals, counts-both_totals, bytes-both_totals, len-partial, counts-partial, bytes-partial, len-partial_of, counts-partial_of, bytes-partial_of}
 
@@ -41,23 +41,23 @@ within-partial entries term t = record {
 }
 
 -- a line counts once at most, with its bytes
-abbrev made : List ℕ → Option LabelSet → List Element
+abbrev made : List ℕ → Option LabelSet → List Contribution
 made text found = map (λ following. record { labels = following; bytes = length text }) (option_to_list found)
 
-few_elements : (text : List ℕ) (found : Option LabelSet) → (length (made text found) ≤ 1) × (sum_by (λ (e : Element). e.bytes) (made text found) ≤ length text)
-few_elements text None = (omega arith, omega arith)
-few_elements text (Some following) = (omega arith, omega (arith, sum_by-cons (λ (e : Element). e.bytes) (record { labels = following; bytes = length text }) []))
+few_contributions : (text : List ℕ) (found : Option LabelSet) → (length (made text found) ≤ 1) × (sum_by (λ (e : Contribution). e.bytes) (made text found) ≤ length text)
+few_contributions text None = (omega arith, omega arith)
+few_contributions text (Some following) = (omega arith, omega (arith, sum_by-cons (λ (e : Contribution). e.bytes) (record { labels = following; bytes = length text }) []))
 
 -- one line, if it stays
-within-one : (stages : List Stage) (labels : LabelSet) (text : List ℕ) → length text ≤ longest_line → IsWithin 1 (partial_of (elements_of stages labels text))
+within-one : (stages : List Stage) (labels : LabelSet) (text : List ℕ) → length text ≤ longest_line → IsWithin 1 (partial_of (contributions_of stages labels text))
 within-one stages labels text fits =
-    let es = elements_of stages labels text in
-    let few = few_elements text (run stages text labels) in record {
+    let es = contributions_of stages labels text in
+    let few = few_contributions text (run stages text labels) in record {
       sets = omega (arith, len-partial_of es, few.0);
       counts = omega (arith, counts-partial_of es, few.0);
       bytes = omega (arith, bytes-partial_of es, few.1, fits);
     }
 
 -- one line more
-pub within-line : (lines : ℕ) (found : Partial) (stages : List Stage) (labels : LabelSet) (text : List ℕ) → length text ≤ longest_line → IsWithin lines found → IsWithin (lines + 1) (merge found (partial_of (elements_of stages labels text)))
-within-line lines found stages labels text fits within = within-merge lines 1 found (partial_of (elements_of stages labels text)) within (within-one stages labels text fits)
+pub within-line : (lines : ℕ) (found : Partial) (stages : List Stage) (labels : LabelSet) (text : List ℕ) → length text ≤ longest_line → IsWithin lines found → IsWithin (lines + 1) (merge found (partial_of (contributions_of stages labels text)))
+within-line lines found stages labels text fits within = within-merge lines 1 found (partial_of (contributions_of stages labels text)) within (within-one stages labels text fits)
