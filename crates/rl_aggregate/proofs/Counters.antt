@@ -6,7 +6,7 @@ use Rattle.rl_labels.specs.LabelSet.{LabelSet}
 use Rattle.rl_query.specs.declared.stages.Stage.{Stage}
 use Rattle.rl_aggregate.specs.Counter.{IsCounter}
 use Rattle.rl_aggregate.specs.Limited.{IsWithin}
-use Rattle.rl_aggregate.specs.Tallies.{TallyView, nothing_counted, with_line, HasRoom}
+use Rattle.rl_aggregate.specs.Accumulators.{AccumulatorView, nothing_counted, with_line, HasRoom}
 use Rattle.rl_aggregate.specs.laws.Sums.{len-partial_of, counts-partial_of, bytes-partial_of}
 use Rattle.rl_aggregate.specs.laws.Within.{within-more, within-line}
 
@@ -26,13 +26,13 @@ all_partly P Q f keeps weaker (x ∷ xs) zero all = all_weaker P Q weaker (x ∷
 all_partly P Q f keeps weaker (x ∷ xs) (suc i) all = (keeps x all.0, all_partly P Q f keeps weaker xs i all.1)
 
 -- a line was counted in the tallies up to an index
-pub partly_counted : (labels : LabelSet) (text : List ℕ) → length text ≤ longest_line → (tallies : List TallyView) (i : ℕ) (lines : ℕ) → AllByRecursion (λ tally. IsWithin lines tally.found) tallies
-    → AllByRecursion (λ tally. IsWithin (lines + 1) tally.found) (map (with_line labels text) (take i tallies) ++ drop i tallies)
-partly_counted labels text fits tallies i lines all =
-    all_partly (λ (tally : TallyView). IsWithin lines tally.found) (λ (tally : TallyView). IsWithin (lines + 1) tally.found) (with_line labels text)
-    (λ tally within. within-line lines tally.found tally.running labels text fits within)
-    (λ tally within. within-more lines (lines + 1) tally.found (omega arith) within)
-    tallies i all
+pub partly_counted : (labels : LabelSet) (text : List ℕ) → length text ≤ longest_line → (accumulators : List AccumulatorView) (i : ℕ) (lines : ℕ) → AllByRecursion (λ accumulator. IsWithin lines accumulator.found) accumulators
+    → AllByRecursion (λ accumulator. IsWithin (lines + 1) accumulator.found) (map (with_line labels text) (take i accumulators) ++ drop i accumulators)
+partly_counted labels text fits accumulators i lines all =
+    all_partly (λ (accumulator : AccumulatorView). IsWithin lines accumulator.found) (λ (accumulator : AccumulatorView). IsWithin (lines + 1) accumulator.found) (with_line labels text)
+    (λ accumulator within. within-line lines accumulator.found accumulator.running labels text fits within)
+    (λ accumulator within. within-more lines (lines + 1) accumulator.found (omega arith) within)
+    accumulators i all
 
 -- nothing is within anything
 nothing-within : (stages : List Stage) (lines : ℕ) → IsWithin lines (nothing_counted stages).found
@@ -42,7 +42,7 @@ nothing-within stages lines = record {
   bytes = omega (arith, bytes-partial_of []);
 }
 
-pub all_nothing : (lines : ℕ) (pipelines : List (List Stage)) → AllByRecursion (λ tally. IsWithin lines tally.found) (map nothing_counted pipelines)
+pub all_nothing : (lines : ℕ) (pipelines : List (List Stage)) → AllByRecursion (λ accumulator. IsWithin lines accumulator.found) (map nothing_counted pipelines)
 all_nothing lines [] = tt
 all_nothing lines (stages ∷ others) = (nothing-within stages lines, all_nothing lines others)
 
@@ -51,30 +51,30 @@ pub some_left : (left : ℕ) → (left ≡ 0 → ⊥) → 1 ≤ left
 some_left zero some = absurd (some refl)
 some_left (suc left) some = omega arith
 
-module _ {most left : ℕ} {tallies : List TallyView} (counter : IsCounter most left tallies) where
+module _ {most left : ℕ} {accumulators : List AccumulatorView} (counter : IsCounter most left accumulators) where
   -- each tally has room
-  pub counter-room : AllByRecursion (λ tally. HasRoom 0 tally.found) tallies
+  pub counter-room : AllByRecursion (λ accumulator. HasRoom 0 accumulator.found) accumulators
   counter-room =
       let few = counter.few in
-      all_weaker (λ (tally : TallyView). IsWithin (most - left) tally.found) (λ (tally : TallyView). HasRoom 0 tally.found) (λ tally within. (most - left, omega (arith, few), within)) tallies counter.within
+      all_weaker (λ (accumulator : AccumulatorView). IsWithin (most - left) accumulator.found) (λ (accumulator : AccumulatorView). HasRoom 0 accumulator.found) (λ accumulator within. (most - left, omega (arith, few), within)) accumulators counter.within
 
   -- for a line more, where one may come
-  pub counter-room-more : 1 ≤ left → AllByRecursion (λ tally. HasRoom 1 tally.found) tallies
+  pub counter-room-more : 1 ≤ left → AllByRecursion (λ accumulator. HasRoom 1 accumulator.found) accumulators
   counter-room-more some =
       let few = counter.few in
       let less = counter.fewer in
-      all_weaker (λ (tally : TallyView). IsWithin (most - left) tally.found) (λ (tally : TallyView). HasRoom 1 tally.found) (λ tally within. (most - left, omega (arith, few, less, some), within)) tallies counter.within
+      all_weaker (λ (accumulator : AccumulatorView). IsWithin (most - left) accumulator.found) (λ (accumulator : AccumulatorView). HasRoom 1 accumulator.found) (λ accumulator within. (most - left, omega (arith, few, less, some), within)) accumulators counter.within
 
   -- and is a counter of one line more
-  pub counter-more : 1 ≤ left → (more : List TallyView) → AllByRecursion (λ tally. IsWithin (most - left + 1) tally.found) more → IsCounter most (left - 1) more
+  pub counter-more : 1 ≤ left → (more : List AccumulatorView) → AllByRecursion (λ accumulator. IsWithin (most - left + 1) accumulator.found) more → IsCounter most (left - 1) more
   counter-more some more within =
       let less = counter.fewer in
       let lines : most - left + 1 ≡ most - (left - 1) = omega (arith, less, some) in record {
         few = counter.few;
         fewer = omega (arith, less);
-        within = subst (λ n. AllByRecursion (λ (tally : TallyView). IsWithin n tally.found) more) lines within;
+        within = subst (λ n. AllByRecursion (λ (accumulator : AccumulatorView). IsWithin n accumulator.found) more) lines within;
       }
 
   -- all that was counted is within what may be counted
-  pub counter-within : AllByRecursion (IsWithin most) (map (λ tally. tally.found) tallies)
-  counter-within = all_after (λ (tally : TallyView). IsWithin (most - left) tally.found) (IsWithin most) (λ tally. tally.found) (λ tally within. within-more (most - left) most tally.found (omega arith) within) tallies counter.within
+  pub counter-within : AllByRecursion (IsWithin most) (map (λ accumulator. accumulator.found) accumulators)
+  counter-within = all_after (λ (accumulator : AccumulatorView). IsWithin (most - left) accumulator.found) (IsWithin most) (λ accumulator. accumulator.found) (λ accumulator within. within-more (most - left) most accumulator.found (omega arith) within) accumulators counter.within

@@ -8,6 +8,6 @@ pub mod Maps
 pub mod Merging
 pub mod Ranked
 pub mod Scratched
-pub mod Tallying
+pub mod Accumulating
 pub mod Thresholds
 mod Examples

@@ -13,10 +13,10 @@ use Rattle.rl_labels.specs.LabelText.{label_set_cmp, label_set_eq}
 use Rattle.rl_labels.specs.laws.TextLaws.{label_set_cmp_total, label_set_cmp-IsAntisymmetric, label_set_eq-true, label_set_eq_itself}
 use Rattle.rl_aggregate.specs.TotalsMap.{TotalsMap, no_total, plus, total_at, added}
 use Rattle.rl_plain.specs.laws.TreeMaps.{get-of_tree, one_set, entries-of_tree}
-use Rattle.rl_aggregate.specs.declared.total.Total.{Total}
+use Rattle.rl_aggregate.specs.declared.total.Volume.{Volume}
 
 abbrev pub Entries : Type 0
-Entries = List (LabelSet × Total)
+Entries = List (LabelSet × Volume)
 
 -- the totals that entries make
 abbrev pub totals_in : Entries → TotalsMap
@@ -31,7 +31,7 @@ pub found_in : (totals : TotalsMap) (es : Entries) (k : LabelSet) → totals_in 
 found_in totals es k view known = sym (ap is_some (get-of_tree label_set_cmp_total es k)) ∙ ap (λ m. contains_key m k) view ∙ known
 
 -- a total set to the sum of the one before and another is one added
-pub one_added : (totals : TotalsMap) (es fs : Entries) (k : LabelSet) (before : Option Total) (total : Total) → totals_in es ≡ totals → before ≡ lookup (is_at (label_set_cmp k)) es → ((q : LabelSet) → lookup (is_at (label_set_cmp q)) fs ≡ cond (is_at (label_set_cmp k) q) (Some (plus (unwrap_or before no_total) total)) (lookup (is_at (label_set_cmp q)) es)) → totals_in fs ≡ added totals k total
+pub one_added : (totals : TotalsMap) (es fs : Entries) (k : LabelSet) (before : Option Volume) (total : Volume) → totals_in es ≡ totals → before ≡ lookup (is_at (label_set_cmp k)) es → ((q : LabelSet) → lookup (is_at (label_set_cmp q)) fs ≡ cond (is_at (label_set_cmp k) q) (Some (plus (unwrap_or before no_total) total)) (lookup (is_at (label_set_cmp q)) es)) → totals_in fs ≡ added totals k total
 one_added totals es fs k before total view was answers =
     one_set label_set_cmp_total label_set_cmp-IsAntisymmetric es fs k _ answers
     ∙ (λ i. insert (view i) k (plus (unwrap_or (was i) no_total) total))
@@ -46,12 +46,12 @@ same_entries_in es fs ordered others same =
 pub labels_decided : (a b : LabelSet) → Decides (label_set_eq a b) (a ≡ b)
 labels_decided a b = (label_set_eq-true a b, λ same. subst (λ o. label_set_eq a o ≡ true) same (label_set_eq_itself a))
 
-pub total_decided : (a b : Total) → Decides (nat_eq a.count b.count && nat_eq a.bytes b.bytes) (a ≡ b)
+pub total_decided : (a b : Volume) → Decides (nat_eq a.count b.count && nat_eq a.bytes b.bytes) (a ≡ b)
 total_decided a b = (
   (λ is.
       let parts = and_parts (nat_eq a.count b.count) (nat_eq a.bytes b.bytes) is in
       let count : a.count ≡ b.count = grind (arith, nat_tests, parts.0) in
       let bytes : a.bytes ≡ b.bytes = grind (arith, nat_tests, parts.1) in
       λ i. record { count = count i; bytes = bytes i }),
-  (λ same. subst (λ (o : Total). nat_eq a.count o.count && nat_eq a.bytes o.bytes ≡ true) same (and_from (nat_eq a.count a.count) (nat_eq a.bytes a.bytes) (eq-eqb a.count a.count refl) (eq-eqb a.bytes a.bytes refl))),
+  (λ same. subst (λ (o : Volume). nat_eq a.count o.count && nat_eq a.bytes o.bytes ≡ true) same (and_from (nat_eq a.count a.count) (nat_eq a.bytes a.bytes) (eq-eqb a.count a.count refl) (eq-eqb a.bytes a.bytes refl))),
 )

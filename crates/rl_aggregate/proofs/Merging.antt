@@ -14,33 +14,33 @@ use Rattle.std.proofs.lemmas.Float.{T_from_true}
 use Rattle.rl_labels.specs.laws.TextLaws.{label_set_cmp_total, label_set_eq-true, label_set_eq_itself}
 use Rattle.rl_aggregate.specs.laws.Totals.{label_set_eq-cmp}
 use Rattle.rl_aggregate.specs.TotalsMap.{TotalsMap, no_total, plus, total_at, added, HasAll}
-use Rattle.rl_aggregate.specs.declared.total.Total.{Total}
+use Rattle.rl_aggregate.specs.declared.total.Volume.{Volume}
 use Rattle.rl_aggregate.proofs.Maps.{Entries, totals_in}
 
 -- the sum of two totals, of which either may be missing
-abbrev pub joined : Option Total → Option Total → Option Total
+abbrev pub joined : Option Volume → Option Volume → Option Volume
 joined a b = cond (is_some a || is_some b) (Some (plus (unwrap_or a no_total) (unwrap_or b no_total))) None
 
 -- the first, or else the second
-abbrev pub either : Option Total → Option Total → Option Total
+abbrev pub either : Option Volume → Option Volume → Option Volume
 either None b = b
 either (Some a) b = Some a
 
-pub either-None : (a : Option Total) → either a None ≡ a
+pub either-None : (a : Option Volume) → either a None ≡ a
 either-None None = refl
 either-None (Some a) = refl
 
-plus-none : (total : Total) → plus total no_total ≡ total
+plus-none : (total : Volume) → plus total no_total ≡ total
 plus-none total =
     let count : total.count + 0 ≡ total.count = omega arith in
     let bytes : total.bytes + 0 ≡ total.bytes = omega arith in
     λ i. record { count = count i; bytes = bytes i }
 
-pub joined-None : (a : Option Total) → joined a None ≡ a
+pub joined-None : (a : Option Volume) → joined a None ≡ a
 joined-None None = refl
 joined-None (Some a) = ap (λ t. Some t) (plus-none a)
 
-pub joined-Some : (a : Option Total) (b : Total) → joined a (Some b) ≡ Some (plus (unwrap_or a no_total) b)
+pub joined-Some : (a : Option Volume) (b : Volume) → joined a (Some b) ≡ Some (plus (unwrap_or a no_total) b)
 joined-Some None b = refl
 joined-Some (Some a) b = refl
 
@@ -61,20 +61,20 @@ same_key : (q k : LabelSet) → eq_by_cmp label_set_cmp q k ≡ true → q ≡ k
 same_key q k is = label_set_eq-true q k (label_set_eq-cmp q k ∙ is)
 
 -- a look-up by the first entry's label set
-find_first : (k : LabelSet) (v : Total) (es : Entries) → find label_set_cmp k ((k, v) ∷ es) ≡ Some v
+find_first : (k : LabelSet) (v : Volume) (es : Entries) → find label_set_cmp k ((k, v) ∷ es) ≡ Some v
 find_first k v es = ap (λ b. cond b (Some v) (find label_set_cmp k es)) (sym (label_set_eq-cmp k k) ∙ label_set_eq_itself k)
 
 -- a label set that is first in order does not stand again
-find_again : (k : LabelSet) (v : Total) (rest : Entries) (q : LabelSet) → T (is_sorted label_set_cmp ((k, v) ∷ rest)) → q ≡ k → find label_set_cmp q rest ≡ None
+find_again : (k : LabelSet) (v : Volume) (rest : Entries) (q : LabelSet) → T (is_sorted label_set_cmp ((k, v) ∷ rest)) → q ≡ k → find label_set_cmp q rest ≡ None
 find_again k v rest q sorted same =
     ap (λ s. find label_set_cmp s rest) same ∙ find_below k rest (and_parts (below_all label_set_cmp k rest) (is_sorted label_set_cmp rest) (true_from _ sorted)).0
 
 -- the rest of entries in order is in order
-pub sorted_rest : (k : LabelSet) (v : Total) (rest : Entries) → T (is_sorted label_set_cmp ((k, v) ∷ rest)) → T (is_sorted label_set_cmp rest)
+pub sorted_rest : (k : LabelSet) (v : Volume) (rest : Entries) → T (is_sorted label_set_cmp ((k, v) ∷ rest)) → T (is_sorted label_set_cmp rest)
 sorted_rest k v rest sorted = T_from_true _ (and_parts (below_all label_set_cmp k rest) (is_sorted label_set_cmp rest) (true_from _ sorted)).1
 
 -- one entry goes from the rest into the totals, and the sums of both stay
-pub joined-added : (m : TotalsMap) (k : LabelSet) (v : Total) (rest : Entries) (q : LabelSet) → T (is_sorted label_set_cmp ((k, v) ∷ rest)) → joined (get (added m k v) q) (find label_set_cmp q rest) ≡ joined (get m q) (find label_set_cmp q ((k, v) ∷ rest))
+pub joined-added : (m : TotalsMap) (k : LabelSet) (v : Volume) (rest : Entries) (q : LabelSet) → T (is_sorted label_set_cmp ((k, v) ∷ rest)) → joined (get (added m k v) q) (find label_set_cmp q rest) ≡ joined (get m q) (find label_set_cmp q ((k, v) ∷ rest))
 joined-added m k v rest q sorted =
     ap (λ t. joined t (find label_set_cmp q rest)) (get-insert label_set_cmp_total m k (plus (total_at m k) v) q)
     ∙ elim (eq_by_cmp label_set_cmp q k) as (λ b. eq_by_cmp label_set_cmp q k ≡ b → joined (cond b (Some (plus (total_at m k) v)) (get m q)) (find label_set_cmp q rest) ≡ joined (get m q) (cond b (Some v) (find label_set_cmp q rest))) [
@@ -88,12 +88,12 @@ joined-added m k v rest q sorted =
     ] refl
 
 -- what the next entry makes of a total is what both have
-pub total_at-next : (m both : TotalsMap) (k : LabelSet) (v : Total) (rest : Entries) → joined (get m k) (find label_set_cmp k ((k, v) ∷ rest)) ≡ get both k → plus (total_at m k) v ≡ total_at both k
+pub total_at-next : (m both : TotalsMap) (k : LabelSet) (v : Volume) (rest : Entries) → joined (get m k) (find label_set_cmp k ((k, v) ∷ rest)) ≡ get both k → plus (total_at m k) v ≡ total_at both k
 total_at-next m both k v rest is =
     ap (λ t. unwrap_or t no_total) (sym (joined-Some (get m k) v) ∙ ap (joined (get m k)) (sym (find_first k v rest)) ∙ is)
 
 -- one entry goes from the rest into a copy, and what either has stays
-pub either-inserted : (m : TotalsMap) (k : LabelSet) (v : Total) (rest : Entries) (q : LabelSet) → T (is_sorted label_set_cmp ((k, v) ∷ rest)) → either (find label_set_cmp q rest) (get (insert m k v) q) ≡ either (find label_set_cmp q ((k, v) ∷ rest)) (get m q)
+pub either-inserted : (m : TotalsMap) (k : LabelSet) (v : Volume) (rest : Entries) (q : LabelSet) → T (is_sorted label_set_cmp ((k, v) ∷ rest)) → either (find label_set_cmp q rest) (get (insert m k v) q) ≡ either (find label_set_cmp q ((k, v) ∷ rest)) (get m q)
 either-inserted m k v rest q sorted =
     ap (either (find label_set_cmp q rest)) (get-insert label_set_cmp_total m k v q)
     ∙ elim (eq_by_cmp label_set_cmp q k) as (λ b. eq_by_cmp label_set_cmp q k ≡ b → either (find label_set_cmp q rest) (cond b (Some v) (get m q)) ≡ either (cond b (Some v) (find label_set_cmp q rest)) (get m q)) [
@@ -112,11 +112,11 @@ AreKnown totals es = (q : LabelSet) → IsTrue (is_some (find label_set_cmp q es
 pub known-all : (totals others : TotalsMap) (es : Entries) → totals_in es ≡ others → HasAll totals others → AreKnown totals es
 known-all totals others es view all = λ q there. all q (ap is_some (sym (find-entries others es q view)) ∙ there)
 
-pub known-first : (totals : TotalsMap) (k : LabelSet) (v : Total) (rest : Entries) → AreKnown totals ((k, v) ∷ rest) → IsTrue (contains_key totals k)
+pub known-first : (totals : TotalsMap) (k : LabelSet) (v : Volume) (rest : Entries) → AreKnown totals ((k, v) ∷ rest) → IsTrue (contains_key totals k)
 known-first totals k v rest known = known k (ap is_some (find_first k v rest))
 
 -- also when one has gone in
-pub known-rest : (totals : TotalsMap) (k : LabelSet) (v : Total) (rest : Entries) → AreKnown totals ((k, v) ∷ rest) → AreKnown (added totals k v) rest
+pub known-rest : (totals : TotalsMap) (k : LabelSet) (v : Volume) (rest : Entries) → AreKnown totals ((k, v) ∷ rest) → AreKnown (added totals k v) rest
 known-rest totals k v rest known = λ q there.
     ap is_some (get-insert label_set_cmp_total totals k (plus (total_at totals k) v) q)
     ∙ elim (eq_by_cmp label_set_cmp q k) as (λ b. (is_some (cond b (Some v) (find label_set_cmp q rest)) ≡ true → is_some (get totals q) ≡ true) → is_some (cond b (Some (plus (total_at totals k) v)) (get totals q)) ≡ true) [

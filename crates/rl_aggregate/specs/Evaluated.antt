@@ -16,7 +16,7 @@ use Rattle.rl_aggregate.specs.InRange.{Contribution, in_range}
 use Rattle.rl_aggregate.specs.Partials.{has_error, partial}
 use Rattle.rl_aggregate.specs.Ratios.{ratios, tested}
 use Rattle.rl_aggregate.specs.TotalsMap.{TotalsMap}
-use Rattle.rl_aggregate.specs.declared.total.Total.{Total}
+use Rattle.rl_aggregate.specs.declared.total.Volume.{Volume}
 use Rattle.rl_aggregate.specs.declared.partial.Partial.{Partial}
 use Rattle.rl_aggregate.specs.declared.outcome.Fraction.{Fraction}
 use Rattle.rl_aggregate.specs.declared.outcome.Sample.{Sample}
@@ -24,14 +24,14 @@ use Rattle.rl_aggregate.specs.declared.outcome.Outcome.{Outcome}
 use Rattle.rl_aggregate.specs.declared.outcome.Outcome.TheVariants as outcomes
 
 -- what a range aggregation gives of a total over a range, never reduced
-abbrev pub fraction : RangeFunction → (seconds : ℕ) → Total → Fraction
+abbrev pub fraction : RangeFunction → (seconds : ℕ) → Volume → Fraction
 fraction functions.CountOverTime seconds total = record { numerator = total.count; denominator = 1 }
 fraction functions.Rate seconds total = record { numerator = total.count; denominator = seconds }
 fraction functions.BytesOverTime seconds total = record { numerator = total.bytes; denominator = 1 }
 fraction functions.BytesRate seconds total = record { numerator = total.bytes; denominator = seconds }
 fraction functions.AbsentOverTime seconds total = one
 
-abbrev pub sample : RangeFunction → (seconds : ℕ) → LabelSet × Total → Sample
+abbrev pub sample : RangeFunction → (seconds : ℕ) → LabelSet × Volume → Sample
 sample function seconds entry = record { labels = entry.0; value = fraction function seconds entry.1 }
 
 -- a sample for each label set, in their order

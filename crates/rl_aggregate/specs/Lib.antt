@@ -7,7 +7,7 @@ pub mod InRange
 pub mod Limited
 pub mod Partials
 pub mod Ratios
-pub mod Tallies
+pub mod Accumulators
 pub mod TotalsMap
 pub mod Vectors
 pub mod Waiting

@@ -4,11 +4,11 @@ use Rattle.std.specs.List.{sum_by}
 use Rattle.std.specs.FinMap.{entries, len}
 use Rattle.rl_labels.specs.EntryParts.{longest_line}
 use Rattle.rl_aggregate.specs.TotalsMap.{TotalsMap}
-use Rattle.rl_aggregate.specs.declared.total.Total.{Total}
+use Rattle.rl_aggregate.specs.declared.total.Volume.{Volume}
 use Rattle.rl_aggregate.specs.declared.partial.Partial.{Partial}
 
 -- a number of each total, of all label sets together
-abbrev pub sum_of : (Total → ℕ) → TotalsMap → ℕ
+abbrev pub sum_of : (Volume → ℕ) → TotalsMap → ℕ
 sum_of number totals = sum_by (λ entry. number entry.1) (entries totals)
 
 -- label sets and numbers that a given number of lines give at most, of all label sets together

@@ -8,7 +8,7 @@ use Rattle.rl_labels.specs.declared.entry.Entry.{Entry}
 use Rattle.rl_query.specs.declared.query.Term.{Term}
 use Rattle.rl_aggregate.specs.InRange.{Contribution, in_range}
 use Rattle.rl_aggregate.specs.TotalsMap.{TotalsMap, plus, total_at}
-use Rattle.rl_aggregate.specs.declared.total.Total.{Total}
+use Rattle.rl_aggregate.specs.declared.total.Volume.{Volume}
 use Rattle.rl_aggregate.specs.declared.partial.Partial.{Partial}
 
 -- a pipeline could not make sense of the line
@@ -20,7 +20,7 @@ abbrev pub counts_for : LabelSet → Contribution → Bool
 counts_for labels contribution = label_set_eq labels contribution.labels && not (has_error contribution.labels)
 
 -- how many lines have the labels, and their bytes
-abbrev pub total_of : List Contribution → LabelSet → Total
+abbrev pub total_of : List Contribution → LabelSet → Volume
 total_of contributions labels = record { count = count_by (counts_for labels) contributions; bytes = sum_by (λ contribution. if counts_for labels contribution then contribution.bytes else 0) contributions }
 
 -- the total of each label set that a line without an error has
@@ -50,8 +50,8 @@ abbrev pub most_entries : ℕ
 most_entries = 281479271743489
 
 -- a number of 64 bits holds each number of the total
-abbrev pub TotalFits : Total → Type 0
-TotalFits total = (total.count < 2 ^ 64) × (total.bytes < 2 ^ 64)
+abbrev pub VolumeFits : Volume → Type 0
+VolumeFits total = (total.count < 2 ^ 64) × (total.bytes < 2 ^ 64)
 
 abbrev pub Fits : Partial → Type 0
-Fits partial = (partial.errors < 2 ^ 64) × ((labels : LabelSet) → TotalFits (total_at partial.totals labels))
+Fits partial = (partial.errors < 2 ^ 64) × ((labels : LabelSet) → VolumeFits (total_at partial.totals labels))

@@ -5,27 +5,27 @@ use Rattle.std.specs.Option.{unwrap_or}
 use Rattle.std.specs.FinMap.{FinMap, get, insert, contains_key, code}
 use Rattle.rl_labels.specs.LabelSet.{LabelSet, label_set_code}
 use Rattle.rl_labels.specs.LabelText.{label_set_cmp}
-use Rattle.rl_aggregate.specs.declared.total.Total.{Total}
+use Rattle.rl_aggregate.specs.declared.total.Volume.{Volume}
 
 abbrev pub TotalsMap : Type 0
-TotalsMap = FinMap label_set_cmp Total
+TotalsMap = FinMap label_set_cmp Volume
 
 -- totals as numbers, for a store
 abbrev pub totals_code : Coded TotalsMap
 totals_code = code label_set_code (code_by (ℕ × ℕ) (coded× coded_ℕ coded_ℕ) (λ t. (t.count, t.bytes)) (λ p. record { count = p.0; bytes = p.1 }) (λ _. refl))
 
-abbrev pub no_total : Total
+abbrev pub no_total : Volume
 no_total = record { count = 0; bytes = 0 }
 
-abbrev pub plus : Total → Total → Total
+abbrev pub plus : Volume → Volume → Volume
 plus a b = record { count = a.count + b.count; bytes = a.bytes + b.bytes }
 
 -- the total of a label set, 0 where there is none
-abbrev pub total_at : TotalsMap → LabelSet → Total
+abbrev pub total_at : TotalsMap → LabelSet → Volume
 total_at totals labels = unwrap_or (get totals labels) no_total
 
 -- the totals with one added at a label set
-abbrev pub added : TotalsMap → LabelSet → Total → TotalsMap
+abbrev pub added : TotalsMap → LabelSet → Volume → TotalsMap
 added totals labels total = insert totals labels (plus (total_at totals labels) total)
 
 -- the first totals have each label set that the others have

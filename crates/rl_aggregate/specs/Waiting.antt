@@ -1,9 +1,9 @@
 -- Lines of one stream that wait to be added to what was counted.
 use Rattle.std.specs.Prelude.{◌≤◌, ◌*◌, Option, None, Some, IfSome}
 use Rattle.rl_labels.specs.EntryParts.{longest_line}
-use Rattle.rl_aggregate.specs.Tallies.{with_run}
+use Rattle.rl_aggregate.specs.Accumulators.{with_run}
 use Rattle.rl_aggregate.specs.declared.partial.Partial.{Partial}
-use Rattle.rl_aggregate.specs.declared.tally.Run.{Run}
+use Rattle.rl_aggregate.specs.declared.accumulator.Run.{Run}
 
 -- what was found with what waits, if anything does
 abbrev pub with_waiting : Option Run → Partial → Partial

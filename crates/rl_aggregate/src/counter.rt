@@ -5,10 +5,10 @@ ghost use Rattle.rl_labels.specs.EntryParts.{longest_line};
 ghost use Rattle.rl_aggregate.specs.Counter.{counted_line};
 ghost use Rattle.rl_aggregate.specs.Limited.{IsWithin};
 ghost use Rattle.rl_aggregate.specs.Partials.{most_entries};
-ghost use Rattle.rl_aggregate.specs.Tallies.{nothing_counted, with_line, HasRoom};
+ghost use Rattle.rl_aggregate.specs.Accumulators.{nothing_counted, with_line, HasRoom};
 
 use crate::partial::Partial;
-use crate::tally::Tally;
+use crate::accumulator::Accumulator;
 use rl_labels::Labels;
 use rl_labels::entry::MAX_LINE_LEN;
 use rl_pipeline::{Line, Meter, Pipeline};
@@ -22,7 +22,7 @@ pub struct Counter<'a> {
     most: u64,
     left: u64,
     is_over: bool,
-    tallies: Vec<Tally<'a>>,
+    accumulators: Vec<Accumulator<'a>>,
 }
 
 impl<'a> Model for Counter<'a> {
@@ -32,9 +32,9 @@ impl<'a> Model for Counter<'a> {
 
     ghost coded = { counter_code };
 
-    ghost view = { λ a. record { most = a.most; left = a.left; is_over = a.is_over; tallies = a.tallies.items } };
+    ghost view = { λ a. record { most = a.most; left = a.left; is_over = a.is_over; accumulators = a.accumulators.items } };
 
-    ghost invariant = { λ a. IsCounter a.most a.left a.tallies.items };
+    ghost invariant = { λ a. IsCounter a.most a.left a.accumulators.items };
 }
 
 impl<'a> Counter<'a> {
@@ -45,14 +45,14 @@ impl<'a> Counter<'a> {
         most: u64,
     ) -> Result<Counter<'a>, AllocError>
         requires few { most ≤ most_entries }
-        ensures { IfOk result (λ counter. counter ≡ record { most = most; left = most; is_over = false; tallies = map nothing_counted pipelines.now }) }
+        ensures { IfOk result (λ counter. counter ≡ record { most = most; left = most; is_over = false; accumulators = map nothing_counted pipelines.now }) }
     {
-        let tallies = tallies_of(alloc, pipelines)?;
+        let accumulators = accumulators_of(alloc, pipelines)?;
         Ok(Counter {
             most,
             left: most,
             is_over: false,
-            tallies,
+            accumulators,
         })
     }
 
@@ -65,7 +65,7 @@ impl<'a> Counter<'a> {
             return Ok(());
         }
         self.left -= 1;
-        count_in_each(&mut self.tallies, labels, text)
+        count_in_each(&mut self.accumulators, labels, text)
     }
 
     /// Whether a line came that it may not count.
@@ -77,47 +77,47 @@ impl<'a> Counter<'a> {
 
     /// What each pipeline has counted. Whatever lines came, it is within what `most` lines add up to.
     pub fn partials(self, alloc: Global) -> Result<Vec<Partial>, AllocError>
-        ensures found { IfOk result (λ partials. partials.items ≡ map (λ tally. tally.found) self.entry.tallies) }
+        ensures found { IfOk result (λ partials. partials.items ≡ map (λ accumulator. accumulator.found) self.entry.accumulators) }
         ensures within { IfOk result (λ partials. AllByRecursion (IsWithin self.entry.most) partials.items) }
     {
-        partials_of(alloc, self.tallies)
+        partials_of(alloc, self.accumulators)
     }
 }
 
 // A tally of each pipeline, in which nothing is counted.
-fn tallies_of<'a>(alloc: Global, pipelines: &'a [Pipeline]) -> Result<Vec<Tally<'a>>, AllocError>
-    ensures { IfOk result (λ tallies. tallies.items ≡ map nothing_counted pipelines.now) }
+fn accumulators_of<'a>(alloc: Global, pipelines: &'a [Pipeline]) -> Result<Vec<Accumulator<'a>>, AllocError>
+    ensures { IfOk result (λ accumulators. accumulators.items ≡ map nothing_counted pipelines.now) }
 {
-    let mut tallies = Vec::with_capacity(alloc, pipelines.len())?;
+    let mut accumulators = Vec::with_capacity(alloc, pipelines.len())?;
     for pipeline in pipelines {
-        tallies.push(Tally::new(alloc, pipeline)?)?;
+        accumulators.push(Accumulator::new(alloc, pipeline)?)?;
     }
-    Ok(tallies)
+    Ok(accumulators)
 }
 
 // Counts a line in each tally, as far as it stays there.
-fn count_in_each(tallies: &mut [Tally<'_>], labels: &Labels, text: &str) -> Result<(), AllocError>
-    requires room { AllByRecursion (λ tally. HasRoom 1 tally.found) tallies.old }
+fn count_in_each(accumulators: &mut [Accumulator<'_>], labels: &Labels, text: &str) -> Result<(), AllocError>
+    requires room { AllByRecursion (λ accumulator. HasRoom 1 accumulator.found) accumulators.old }
     requires fits { length text.now ≤ longest_line }
-    ensures counted { OnOk result (tallies.new ≡ map (with_line labels.now text.now) tallies.old) }
-    ensures within { (lines : ℕ) → AllByRecursion (λ tally. IsWithin lines tally.found) tallies.old → AllByRecursion (λ tally. IsWithin (lines + 1) tally.found) tallies.new }
+    ensures counted { OnOk result (accumulators.new ≡ map (with_line labels.now text.now) accumulators.old) }
+    ensures within { (lines : ℕ) → AllByRecursion (λ accumulator. IsWithin lines accumulator.found) accumulators.old → AllByRecursion (λ accumulator. IsWithin (lines + 1) accumulator.found) accumulators.new }
 {
     let mut meter = Meter::new();
     let mut line = Line::new(labels, text);
-    for index in 0..tallies.len() {
-        tallies[index].count(&mut meter, &mut line, labels, text)?;
+    for index in 0..accumulators.len() {
+        accumulators[index].count(&mut meter, &mut line, labels, text)?;
     }
     Ok(())
 }
 
 // What was counted in each.
-fn partials_of(alloc: Global, tallies: Vec<Tally<'_>>) -> Result<Vec<Partial>, AllocError>
-    requires { AllByRecursion (λ tally. HasRoom 0 tally.found) tallies.items }
-    ensures { IfOk result (λ partials. partials.items ≡ map (λ tally. tally.found) tallies.entry.items) }
+fn partials_of(alloc: Global, accumulators: Vec<Accumulator<'_>>) -> Result<Vec<Partial>, AllocError>
+    requires { AllByRecursion (λ accumulator. HasRoom 0 accumulator.found) accumulators.items }
+    ensures { IfOk result (λ partials. partials.items ≡ map (λ accumulator. accumulator.found) accumulators.entry.items) }
 {
-    let mut partials = Vec::with_capacity(alloc, tallies.len())?;
-    for tally in tallies {
-        partials.push(tally.partial()?)?;
+    let mut partials = Vec::with_capacity(alloc, accumulators.len())?;
+    for accumulator in accumulators {
+        partials.push(accumulator.partial()?)?;
     }
     Ok(partials)
 }

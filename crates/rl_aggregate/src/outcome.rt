@@ -1,7 +1,7 @@
 //! What a query gives at a moment: a vector, or nothing for an error in a line.
 ghost use Rattle.std.specs.Prelude.{◌≡◌, IfOk, IsOk};
 
-use crate::total::Total;
+use crate::total::Volume;
 use rl_labels::Labels;
 use rl_plain::{PlainList, Same, TryCopy};
 use rl_query::RangeFunction;
@@ -40,7 +40,7 @@ impl Fraction {
     };
 
     /// What a range aggregation gives of a total over a range in seconds. `absent_over_time` gives 1/1.
-    pub fn of(function: RangeFunction, seconds: u64, total: Total) -> Fraction
+    pub fn of(function: RangeFunction, seconds: u64, total: Volume) -> Fraction
         ensures { result ≡ fraction function seconds total }
     {
         match function {

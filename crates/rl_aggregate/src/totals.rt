@@ -5,14 +5,14 @@ ghost use Rattle.std.specs.BTreeMap.{is_at};
 ghost use Rattle.std.specs.FinMap as map;
 ghost use Rattle.std.specs.Option.{unwrap_or};
 ghost use Rattle.rl_aggregate.specs.TotalsMap.{added, no_total, plus, total_at, HasAll};
-ghost use Rattle.rl_aggregate.specs.Partials.{TotalFits, both_totals};
+ghost use Rattle.rl_aggregate.specs.Partials.{VolumeFits, both_totals};
 ghost use Rattle.rl_aggregate.specs.Evaluated.{samples};
 ghost use Rattle.rl_aggregate.specs.Limited.{sum_of};
 ghost use Rattle.rl_labels.specs.LabelSet.{LabelSet};
 ghost use Rattle.rl_labels.specs.LabelText.{label_set_cmp};
 
 use crate::outcome::{Fraction, Sample};
-use crate::total::Total;
+use crate::total::Volume;
 use rl_labels::Labels;
 use rl_plain::{Same, TryCopy};
 use rl_query::Term;
@@ -21,13 +21,13 @@ use std::collections::BTreeMap;
 use std::marker::Model;
 
 // What nothing adds up to.
-const NOTHING: Total = Total { count: 0, bytes: 0 };
+const NOTHING: Volume = Volume { count: 0, bytes: 0 };
 
 /// Totals by label set. Contracts see a finite map.
 #[derive(Drop)]
 pub struct Totals {
     alloc: Global,
-    by_labels: BTreeMap<Labels, Total>,
+    by_labels: BTreeMap<Labels, Volume>,
 }
 
 impl Model for Totals {
@@ -66,15 +66,15 @@ impl Totals {
     }
 
     /// The total of a label set, if there is one.
-    pub fn get(&self, labels: &Labels) -> Option<Total>
+    pub fn get(&self, labels: &Labels) -> Option<Volume>
         ensures { result ≡ map.get self.now labels.now }
     {
         self.by_labels.get(labels).copied()
     }
 
     /// Adds a total at a label set. Takes memory for a label set that is new alone; refused, the totals stay as they were.
-    pub fn add(&mut self, labels: &Labels, total: Total) -> Result<(), AllocError>
-        requires { TotalFits (plus (total_at self.old labels.now) total) }
+    pub fn add(&mut self, labels: &Labels, total: Volume) -> Result<(), AllocError>
+        requires { VolumeFits (plus (total_at self.old labels.now) total) }
         ensures ok { OnOk result (self.new ≡ added self.old labels.now total) }
         ensures err { OnErr result (self.new ≡ self.old) }
         ensures known { IsTrue (map.contains_key self.old labels.now) → IsOk result }
@@ -83,8 +83,8 @@ impl Totals {
     }
 
     // Like `add`, with a label set that is owned.
-    pub(crate) fn add_owned(&mut self, labels: Labels, total: Total) -> Result<(), AllocError>
-        requires { TotalFits (plus (total_at self.old labels) total) }
+    pub(crate) fn add_owned(&mut self, labels: Labels, total: Volume) -> Result<(), AllocError>
+        requires { VolumeFits (plus (total_at self.old labels) total) }
         ensures ok { OnOk result (self.new ≡ added self.old labels total) }
         ensures err { OnErr result (self.new ≡ self.old) }
     {
@@ -93,7 +93,7 @@ impl Totals {
 
     // Adds each total of the others at its label set.
     pub(crate) fn add_all(&mut self, others: &Totals) -> Result<(), AllocError>
-        requires { (labels : LabelSet) → TotalFits (plus (total_at self.old labels) (total_at others.now labels)) }
+        requires { (labels : LabelSet) → VolumeFits (plus (total_at self.old labels) (total_at others.now labels)) }
         ensures ok { OnOk result (self.new ≡ both_totals self.old others.now) }
         ensures known { HasAll self.old others.now → IsOk result }
     {
@@ -104,7 +104,7 @@ impl Totals {
     }
 
     // The sum of all totals, as far as 64 bits hold it.
-    pub(crate) fn sum(&self) -> Total
+    pub(crate) fn sum(&self) -> Volume
         ensures count { result.count ≡ min (sum_of (λ total. total.count) self.now) (2 ^ 64 - 1) }
         ensures bytes { result.bytes ≡ min (sum_of (λ total. total.bytes) self.now) (2 ^ 64 - 1) }
     {
@@ -114,7 +114,7 @@ impl Totals {
             count = count.saturating_add(total.count);
             bytes = bytes.saturating_add(total.bytes);
         }
-        Total { count, bytes }
+        Volume { count, bytes }
     }
 
     // A sample for each label set, in their order.
@@ -133,11 +133,11 @@ impl Totals {
 
 // Adds a total at a label set, by a copy that shares it. Where none can be made, it is added if the label set is there.
 fn add_shared(
-    by_labels: &mut BTreeMap<Labels, Total>,
+    by_labels: &mut BTreeMap<Labels, Volume>,
     labels: &Labels,
-    total: Total,
+    total: Volume,
 ) -> Result<(), AllocError>
-    requires { TotalFits (plus (unwrap_or (tree.get label_set_cmp by_labels.old labels.now) no_total) total) }
+    requires { VolumeFits (plus (unwrap_or (tree.get label_set_cmp by_labels.old labels.now) no_total) total) }
     ensures ok { OnOk result ((q : LabelSet) → tree.get label_set_cmp by_labels.new q ≡ (if is_at (label_set_cmp labels.now) q then Some (plus (unwrap_or (tree.get label_set_cmp by_labels.old labels.now) no_total) total) else tree.get label_set_cmp by_labels.old q)) }
     ensures err { OnErr result (by_labels.new.entries ≡ by_labels.old.entries) }
     ensures known { IsSome (tree.get label_set_cmp by_labels.old labels.now) → IsOk result }
@@ -150,11 +150,11 @@ fn add_shared(
 
 // Adds a total at a label set, which is sought once.
 fn add_at(
-    by_labels: &mut BTreeMap<Labels, Total>,
+    by_labels: &mut BTreeMap<Labels, Volume>,
     labels: Labels,
-    total: Total,
+    total: Volume,
 ) -> Result<(), AllocError>
-    requires { TotalFits (plus (unwrap_or (tree.get label_set_cmp by_labels.old labels) no_total) total) }
+    requires { VolumeFits (plus (unwrap_or (tree.get label_set_cmp by_labels.old labels) no_total) total) }
     ensures ok { OnOk result ((q : LabelSet) → tree.get label_set_cmp by_labels.new q ≡ (if is_at (label_set_cmp labels) q then Some (plus (unwrap_or (tree.get label_set_cmp by_labels.old labels) no_total) total) else tree.get label_set_cmp by_labels.old q)) }
     ensures err { OnErr result (by_labels.new.entries ≡ by_labels.old.entries) }
     ensures known { IsSome (tree.get label_set_cmp by_labels.old labels) → IsOk result }
@@ -167,11 +167,11 @@ fn add_at(
 
 // Adds a total at a label set that is there already. Takes no memory.
 fn add_known(
-    by_labels: &mut BTreeMap<Labels, Total>,
+    by_labels: &mut BTreeMap<Labels, Volume>,
     labels: &Labels,
-    total: Total,
+    total: Volume,
 ) -> Result<(), AllocError>
-    requires { TotalFits (plus (unwrap_or (tree.get label_set_cmp by_labels.old labels.now) no_total) total) }
+    requires { VolumeFits (plus (unwrap_or (tree.get label_set_cmp by_labels.old labels.now) no_total) total) }
     ensures ok { OnOk result ((q : LabelSet) → tree.get label_set_cmp by_labels.new q ≡ (if is_at (label_set_cmp labels.now) q then Some (plus (unwrap_or (tree.get label_set_cmp by_labels.old labels.now) no_total) total) else tree.get label_set_cmp by_labels.old q)) }
     ensures err { OnErr result (by_labels.new.entries ≡ by_labels.old.entries) }
     ensures known { IsSome (tree.get label_set_cmp by_labels.old labels.now) → IsOk result }

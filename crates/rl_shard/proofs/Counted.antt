@@ -20,7 +20,7 @@ use Rattle.rl_chunks.specs.declared.line.Line.{Line}
 use Rattle.rl_aggregate.specs.Counter.{CounterView, counted_entry, counted_line}
 use Rattle.rl_aggregate.specs.InRange.{contribution, in_window, is_in_range, second, stays}
 use Rattle.rl_aggregate.specs.Partials.{partial, partial_of}
-use Rattle.rl_aggregate.specs.Tallies.{IsAlike, TallyView, nothing_counted, with_line}
+use Rattle.rl_aggregate.specs.Accumulators.{IsAlike, AccumulatorView, nothing_counted, with_line}
 use Rattle.rl_aggregate.specs.declared.partial.Partial.{Partial}
 use Rattle.rl_aggregate.specs.laws.Counting.{filter-both, new_counter_counts, stayed}
 use Rattle.rl_aggregate.specs.laws.Totals.{kept-permuted}
@@ -202,13 +202,13 @@ of_reading reads.Damaged = tt
 of_reading reads.Memory = tt
 
 -- over any store: what counters of lines become, and what tallies and partials do
-abbrev tallies_line : TallyView → LabelSet × Line → TallyView
-tallies_line tally line = with_line line.0 line.1.text tally
+abbrev accumulators_line : AccumulatorView → LabelSet × Line → AccumulatorView
+accumulators_line accumulator line = with_line line.0 line.1.text accumulator
 
 module _ (counter : CounterView) (line : LabelSet × Line) where
   -- a counter after a line that it may not count, and after one that it may
   abbrev following : Bool → CounterView
-  following over = cond over (record { most = counter.most; left = counter.left; is_over = true; tallies = counter.tallies }) (record { most = counter.most; left = counter.left - 1; is_over = counter.is_over; tallies = map (with_line line.0 line.1.text) counter.tallies })
+  following over = cond over (record { most = counter.most; left = counter.left; is_over = true; accumulators = counter.accumulators }) (record { most = counter.most; left = counter.left - 1; is_over = counter.is_over; accumulators = map (with_line line.0 line.1.text) counter.accumulators })
 
   most_after : (over : Bool) → (following over).most ≡ counter.most
   most_after true = refl
@@ -227,31 +227,31 @@ most_stays : (counter : CounterView) (lines : List (LabelSet × Line)) → (fold
 most_stays counter [] = refl
 most_stays counter (line ∷ lines) = most_stays (counted_line line.0 line.1.text counter) lines ∙ most_after counter line (counter.left == 0 || nat_lt longest_line (length line.1.text))
 
-same_tallies : (tallies : List TallyView) → tallies ≡ map (λ tally. tally) tallies
-same_tallies [] = refl
-same_tallies (tally ∷ tallies) = ap (λ rest. tally ∷ rest) (same_tallies tallies)
+same_accumulators : (accumulators : List AccumulatorView) → accumulators ≡ map (λ accumulator. accumulator) accumulators
+same_accumulators [] = refl
+same_accumulators (accumulator ∷ accumulators) = ap (λ rest. accumulator ∷ rest) (same_accumulators accumulators)
 
 -- one to which none came has counted all lines in each tally
 pub all_counted : (counter : CounterView) (lines : List (LabelSet × Line)) → (fold counts_any counter lines).is_over ≡ false
-    → (fold counts_any counter lines).tallies ≡ map (λ tally. fold tallies_line tally lines) counter.tallies
-all_counted counter [] not_over = same_tallies counter.tallies
+    → (fold counts_any counter lines).accumulators ≡ map (λ accumulator. fold accumulators_line accumulator lines) counter.accumulators
+all_counted counter [] not_over = same_accumulators counter.accumulators
 all_counted counter (line ∷ lines) not_over = by (all_counted (following counter line false) lines) (counter.left == 0 || nat_lt longest_line (length line.1.text)) not_over
   where
     by : ((fold counts_any (following counter line false) lines).is_over ≡ false
-        → (fold counts_any (following counter line false) lines).tallies ≡ map (λ tally. fold tallies_line tally lines) (following counter line false).tallies)
+        → (fold counts_any (following counter line false) lines).accumulators ≡ map (λ accumulator. fold accumulators_line accumulator lines) (following counter line false).accumulators)
         → (over : Bool) → (fold counts_any (following counter line over) lines).is_over ≡ false
-        → (fold counts_any (following counter line over) lines).tallies ≡ map (λ tally. fold tallies_line tally (line ∷ lines)) counter.tallies
+        → (fold counts_any (following counter line over) lines).accumulators ≡ map (λ accumulator. fold accumulators_line accumulator (line ∷ lines)) counter.accumulators
     by others true none = absurd (true≢false (sym (stays_over (following counter line true) lines refl) ∙ none))
-    by others false none = others none ∙ map-map (λ tally. fold tallies_line tally lines) (with_line line.0 line.1.text) counter.tallies
+    by others false none = others none ∙ map-map (λ accumulator. fold accumulators_line accumulator lines) (with_line line.0 line.1.text) counter.accumulators
 
 -- a tally has what its stages make of the lines
-tallied : (stages : List Stage) (found : Partial) (lines : List (LabelSet × Line)) → (fold tallies_line (record { running = stages; found = found }) lines).found ≡ fold (counting stages) found lines
+tallied : (stages : List Stage) (found : Partial) (lines : List (LabelSet × Line)) → (fold accumulators_line (record { running = stages; found = found }) lines).found ≡ fold (counting stages) found lines
 tallied stages found [] = refl
 tallied stages found (line ∷ lines) = tallied stages (counting stages found line) lines
 
 -- so of terms that read the same lines as the first of them
 pub read_all : (first : Term) (terms : List Term) (rows : List Row) (requests : RequestsView) (t : ℕ) (lines : List (List (LabelSet × Line))) → AllByRecursion (IsAlike first) terms → AllZip (AreOfRow first.range.selector.matchers (start_at first.range.seconds t) t) rows lines
-    → AllZip (λ (term : Term) found. IsRead rows requests term.range t found) terms (map (λ (tally : TallyView). tally.found) (map (λ tally. fold tallies_line tally (filter (is_shown requests) (flat_map (λ of_row. of_row) lines))) (map nothing_counted (map (λ (term : Term). term.range.stages) terms))))
+    → AllZip (λ (term : Term) found. IsRead rows requests term.range t found) terms (map (λ (accumulator : AccumulatorView). accumulator.found) (map (λ accumulator. fold accumulators_line accumulator (filter (is_shown requests) (flat_map (λ of_row. of_row) lines))) (map nothing_counted (map (λ (term : Term). term.range.stages) terms))))
 read_all first [] rows requests t lines alike each = tt
 read_all first (term ∷ terms) rows requests t lines alike each = (
   record {
@@ -275,7 +275,7 @@ all_mapped P f (x ∷ xs) all = (all.0, all_mapped P f xs all.1)
 
 -- a counter in which nothing is counted, and what counts lines in it
 abbrev pub none_counted : ℕ → List (List Stage) → CounterView
-none_counted most pipelines = record { most = most; left = most; is_over = false; tallies = map nothing_counted pipelines }
+none_counted most pipelines = record { most = most; left = most; is_over = false; accumulators = map nothing_counted pipelines }
 
 -- the first two tests are of a line and of a moment, and the window is of what is asked for
 reorder : (selected asked in_window shown stays : Bool) → (in_window ≡ true → asked ≡ true) → ((selected && asked) && ((in_window && shown) && stays)) ≡ (shown && ((in_window && selected) && stays))
@@ -309,7 +309,7 @@ module _ (first : Term) (terms : List Term) (streams : StreamsView) (requests : 
     ended : Ends requests range t none.counter (to - t) (map answered once.order) after
     ended = subst (Ends requests range t none.counter (to - t) (map answered once.order)) (sym once.answered) (ends requests range t none.counter (to - t) (map answered once.order))
 
-    counted_once : after.counter ≡ record { most = streams.limits.entries; left = streams.limits.entries - length order; is_over = false; tallies = map (λ stages. record { running = stages; found = partial_of (stayed stages order) }) pipelines }
+    counted_once : after.counter ≡ record { most = streams.limits.entries; left = streams.limits.entries - length order; is_over = false; accumulators = map (λ stages. record { running = stages; found = partial_of (stayed stages order) }) pipelines }
     counted_once =
         ended.counted
         ∙ ap (fold counts_any none.counter) (filter_map (is_counted requests range t) answered once.order)
@@ -320,7 +320,7 @@ module _ (first : Term) (terms : List Term) (streams : StreamsView) (requests : 
     pub not_over : after.counter.is_over ≡ false
     not_over = ap (λ (counter : CounterView). counter.is_over) counted_once
 
-    found_by : (pipelines : List (List Stage)) → map (λ (tally : TallyView). tally.found) (map (λ stages. record { running = stages; found = partial_of (stayed stages order) }) pipelines) ≡ map (λ stages. partial_of (stayed stages order)) pipelines
+    found_by : (pipelines : List (List Stage)) → map (λ (accumulator : AccumulatorView). accumulator.found) (map (λ stages. record { running = stages; found = partial_of (stayed stages order) }) pipelines) ≡ map (λ stages. partial_of (stayed stages order)) pipelines
     found_by [] = refl
     found_by (stages ∷ others) = ap (λ rest. partial_of (stayed stages order) ∷ rest) (found_by others)
 
@@ -353,9 +353,9 @@ module _ (first : Term) (terms : List Term) (streams : StreamsView) (requests : 
       found_all (term ∷ terms) alike = λ i. found_of term alike.0 i ∷ found_all terms alike.1 i
 
       -- so each term has its partial at that moment
-      pub exact_all : map (λ (tally : TallyView). tally.found) after.counter.tallies ≡ map (λ term. partial (shown streams requests.now) term u) terms
+      pub exact_all : map (λ (accumulator : AccumulatorView). accumulator.found) after.counter.accumulators ≡ map (λ term. partial (shown streams requests.now) term u) terms
       exact_all =
-          ap (λ (counter : CounterView). map (λ (tally : TallyView). tally.found) counter.tallies) counted_once
+          ap (λ (counter : CounterView). map (λ (accumulator : AccumulatorView). accumulator.found) counter.accumulators) counted_once
           ∙ found_by pipelines
           ∙ map-map (λ stages. partial_of (stayed stages order)) (λ (term : Term). term.range.stages) terms
           ∙ found_all terms alike
@@ -372,7 +372,7 @@ module _ (first : Term) (terms : List Term) (streams : StreamsView) (requests : 
     most_is = ap (λ (counter : CounterView). counter.most) ended_counted.counted ∙ most_stays none.counter (filter (is_counted requests range t) all)
 
     -- over any store each was read, where no line came that may not be counted
-    pub read_each : (u : ℕ) → IsStartOf first.range.seconds t start → 0 < range → t ≤ u → u ≤ t + after.lasts → t ≤ to → after.counter.is_over ≡ false → AllZip (λ (term : Term) found. IsRead streams.rows requests.now term.range u found) terms (map (λ (tally : TallyView). tally.found) after.counter.tallies)
+    pub read_each : (u : ℕ) → IsStartOf first.range.seconds t start → 0 < range → t ≤ u → u ≤ t + after.lasts → t ≤ to → after.counter.is_over ≡ false → AllZip (λ (term : Term) found. IsRead streams.rows requests.now term.range u found) terms (map (λ (accumulator : AccumulatorView). accumulator.found) after.counter.accumulators)
     read_each u starts some later within short not_over =
         let low = start_at first.range.seconds u in
         let fewer = ended_counted.fewer in
@@ -383,7 +383,7 @@ module _ (first : Term) (terms : List Term) (streams : StreamsView) (requests : 
         ∙ filter-both (is_between low u) (is_shown requests.now) all
         ∙ (λ i. filter (λ (line : LabelSet × Line). sym (starts_at first.range.seconds u line.1.timestamp) i && is_shown requests.now line) all)
         ∙ filter_same (λ (line : LabelSet × Line). in_window first.range.seconds u line.1.timestamp && is_shown requests.now line) (is_counted requests range t) all (same_all requests range t after.lasts u later within all ended_counted.noticed) in
-        let tallies = ap (λ (counter : CounterView). counter.tallies) ended_counted.counted ∙ all_counted none.counter (filter (is_counted requests range t) all) (ap (λ (counter : CounterView). counter.is_over) (sym ended_counted.counted) ∙ not_over) in
-        subst (λ tallies. AllZip (λ (term : Term) found. IsRead streams.rows requests.now term.range u found) terms (map (λ (tally : TallyView). tally.found) tallies))
-        (ap (λ lines. map (λ tally. fold tallies_line tally lines) (map nothing_counted pipelines)) same ∙ sym tallies)
+        let accumulators = ap (λ (counter : CounterView). counter.accumulators) ended_counted.counted ∙ all_counted none.counter (filter (is_counted requests range t) all) (ap (λ (counter : CounterView). counter.is_over) (sym ended_counted.counted) ∙ not_over) in
+        subst (λ accumulators. AllZip (λ (term : Term) found. IsRead streams.rows requests.now term.range u found) terms (map (λ (accumulator : AccumulatorView). accumulator.found) accumulators))
+        (ap (λ lines. map (λ accumulator. fold accumulators_line accumulator lines) (map nothing_counted pipelines)) same ∙ sym accumulators)
         (read_all first terms streams.rows requests.now u lines alike each)

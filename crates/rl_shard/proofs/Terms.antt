@@ -12,7 +12,7 @@ use Rattle.rl_aggregate.specs.Limited.{IsWithin}
 use Rattle.rl_aggregate.specs.Partials.{partial, partial_of}
 use Rattle.rl_aggregate.specs.declared.partial.Partial.{Partial}
 use Rattle.std.proofs.lemmas.Option.{slice_get-map, slice_get_within}
-use Rattle.rl_aggregate.specs.Tallies.{IsAlike}
+use Rattle.rl_aggregate.specs.Accumulators.{IsAlike}
 use Rattle.rl_parts.specs.laws.VisitorLaws.{AllZip-append}
 use Rattle.rl_parts.specs.laws.UseLaws.{Looked-then}
 use Rattle.rl_streams.specs.StreamsState.{StreamsView, Looks}

@@ -11,7 +11,7 @@ use Rattle.rl_query.specs.declared.stages.Stage.{Stage}
 use Rattle.rl_aggregate.specs.InRange.{in_window}
 use Rattle.rl_aggregate.specs.Limited.{IsWithin}
 use Rattle.rl_aggregate.specs.Partials.{merge, partial, partial_of}
-use Rattle.rl_aggregate.specs.Tallies.{contributions_of}
+use Rattle.rl_aggregate.specs.Accumulators.{contributions_of}
 use Rattle.rl_aggregate.specs.declared.partial.Partial.{Partial}
 use Rattle.rl_deletes.specs.Deletes.{RequestsView, covered, covered_line}
 use Rattle.rl_parts.specs.Rewriting.{uncovered}

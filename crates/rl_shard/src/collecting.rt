@@ -5,7 +5,7 @@ ghost use Rattle.std.specs.List.{AllByRecursion, AllZip};
 ghost use Rattle.std.specs.Option.{option_map};
 ghost use Rattle.rl_deletes.specs.Deletes.{RequestsView};
 ghost use Rattle.rl_query.specs.Limits.{longest_range};
-ghost use Rattle.rl_aggregate.specs.Tallies.{IsAlike};
+ghost use Rattle.rl_aggregate.specs.Accumulators.{IsAlike};
 ghost use Rattle.rl_streams.specs.StreamsState.{Looks, StreamsView};
 ghost use Rattle.rl_shard.specs.Collecting.{shown, ArePartialsOf, IsOfReading, IsPartialOf, IsStartOf};
 ghost use Rattle.rl_shard.specs.ShardFault.{HasCause};

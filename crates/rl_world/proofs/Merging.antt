@@ -11,7 +11,7 @@ use Rattle.rl_aggregate.specs.laws.Totals.{same_totals, get-both_totals}
 use Rattle.rl_aggregate.specs.Limited.{IsLimited, IsWithin}
 use Rattle.rl_aggregate.specs.Partials.{both_totals, merge, most_entries, Fits}
 use Rattle.rl_aggregate.specs.TotalsMap.{no_total, plus, total_at}
-use Rattle.rl_aggregate.specs.declared.total.Total.{Total}
+use Rattle.rl_aggregate.specs.declared.total.Volume.{Volume}
 use Rattle.rl_aggregate.specs.declared.partial.Partial.{Partial}
 use Rattle.rl_world.specs.Kept.{no_partial, merged_from, merged_terms}
 use Rattle.rl_world.specs.ShardAnswers.{IsKept, HasTerm, most_in_shard, most_shards}
@@ -27,7 +27,7 @@ merge-into_nothing partial =
     ∙ alone (get partial.totals q)) in
     λ i. record { errors = errors i; totals = totals i }
   where
-    alone : (t : Option Total) → cond (is_some t) (Some (plus no_total (unwrap_or t no_total))) None ≡ t
+    alone : (t : Option Volume) → cond (is_some t) (Some (plus no_total (unwrap_or t no_total))) None ≡ t
     alone None = refl
     alone (Some total) =
         let count : 0 + total.count ≡ total.count = omega arith in
@@ -37,7 +37,7 @@ merge-into_nothing partial =
 -- no entry gives the numbers of no partial
 pub within-none : IsWithin 0 no_partial
 within-none = record {
-  sets = omega (arith, len-empty label_set_cmp Total);
+  sets = omega (arith, len-empty label_set_cmp Volume);
   counts = omega (arith, sum_of-empty (λ total. total.count));
   bytes = omega (arith, sum_of-empty (λ total. total.bytes));
 }

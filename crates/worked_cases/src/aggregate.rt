@@ -5,7 +5,7 @@ use crate::given::{labels_in, list_in, moment_in, number_in, words_of};
 use crate::query::query_in;
 use crate::output::push_value;
 use crate::trouble::Trouble;
-use rl_aggregate::{Fraction, Outcome, Partial, Sample, Total, Totals, finish, merge, scratch};
+use rl_aggregate::{Fraction, Outcome, Partial, Sample, Volume, Totals, finish, merge, scratch};
 use rl_labels::{Entry, Labels, Ns};
 use rl_plain::{Same, Shared, TryCopy};
 use rl_query::{Query, RangeFunction, Term};
@@ -13,7 +13,7 @@ use std::alloc::Global;
 use std::mem;
 
 // The total of no entry.
-const NOTHING: Total = Total { count: 0, bytes: 0 };
+const NOTHING: Volume = Volume { count: 0, bytes: 0 };
 
 pub(crate) fn answer(output: &mut String, directive: &str, input: &str) -> Result<(), Trouble> {
     let (query, rest) = input.split_once('\n').ok_or(Trouble::BadInput)?;
@@ -88,10 +88,10 @@ fn push_samples(output: &mut String, samples: &[Sample], totals: &Totals) -> Res
     Ok(())
 }
 
-fn push_sample(output: &mut String, sample: &Sample, total: Option<Total>) -> Result<(), Trouble> {
+fn push_sample(output: &mut String, sample: &Sample, total: Option<Volume>) -> Result<(), Trouble> {
     let (labels, value) = (&sample.labels, sample.value);
     let (numerator, denominator) = (value.numerator, value.denominator);
-    let Total { count, bytes } = total.unwrap_or(NOTHING);
+    let Volume { count, bytes } = total.unwrap_or(NOTHING);
     write!(output, "{labels} {numerator}/{denominator}")?;
     writeln!(output, ", {count} entries of {bytes} bytes")?;
     Ok(())
@@ -182,7 +182,7 @@ fn both_at(
     here: &Totals,
     copy: &Totals,
     labels: &str,
-) -> Result<(Option<Total>, Option<Total>), Trouble> {
+) -> Result<(Option<Volume>, Option<Volume>), Trouble> {
     let labels = labels_in(alloc, labels)?;
     Ok((here.get(&labels), copy.get(&labels)))
 }
@@ -200,15 +200,15 @@ fn push_same(
     push_value(output, &compared(&here, &copy)?)
 }
 
-fn push_total(output: &mut String, total: Option<Total>) -> Result<(), Trouble> {
+fn push_total(output: &mut String, total: Option<Volume>) -> Result<(), Trouble> {
     match total {
-        Some(Total { count, bytes }) => write!(output, "{count} of {bytes} bytes; ")?,
+        Some(Volume { count, bytes }) => write!(output, "{count} of {bytes} bytes; ")?,
         None => write!(output, "none; ")?,
     }
     Ok(())
 }
 
-fn value_of(total: Option<Total>) -> Option<Fraction> {
+fn value_of(total: Option<Volume>) -> Option<Fraction> {
     Some(Fraction::of(RangeFunction::CountOverTime, 5, total?))
 }
 
@@ -218,10 +218,10 @@ fn add(alloc: Global, totals: &mut Totals, text: &str) -> Result<(), Trouble> {
     let (count, bytes) = words_of(total);
     let (count, bytes) = (number_in(count)?, number_in(bytes)?);
     let labels = labels_in(alloc, labels)?;
-    add_at(totals, &labels, Total { count, bytes })
+    add_at(totals, &labels, Volume { count, bytes })
 }
 
-fn add_at(totals: &mut Totals, labels: &Labels, total: Total) -> Result<(), Trouble> {
+fn add_at(totals: &mut Totals, labels: &Labels, total: Volume) -> Result<(), Trouble> {
     let old = totals.get(labels).unwrap_or(NOTHING);
     if old.count.checked_add(total.count).is_none()
         || old.bytes.checked_add(total.bytes).is_none()

@@ -17,11 +17,11 @@ use Rattle.rl_aggregate.specs.Evaluated.{samples_by, range_value, absent_of}
 use Rattle.rl_aggregate.specs.InRange.{Contribution, in_range}
 use Rattle.rl_aggregate.specs.Partials.{has_error, counts_for, total_of, totals_of, partial}
 use Rattle.rl_aggregate.specs.laws.Totals.{same_totals, get-totals_of}
-use Rattle.rl_aggregate.specs.declared.total.Total.{Total}
+use Rattle.rl_aggregate.specs.declared.total.Volume.{Volume}
 use Rattle.rl_aggregate.specs.declared.outcome.Outcome.TheVariants as outcomes
 
 -- without lines there are no totals
-no_totals : totals_of [] ≡ empty {X = Total} {R = label_set_cmp}
+no_totals : totals_of [] ≡ empty {X = Volume} {R = label_set_cmp}
 no_totals = same_totals (totals_of []) empty (λ q. get-totals_of [] q ∙ sym (get-empty label_set_cmp q))
 
 -- where a line has no error there are totals
@@ -37,7 +37,7 @@ more n = grind (arith, nat_tests)
 
 -- without an error there are totals exactly where there are lines
 pub len-totals_of : (es : List Contribution) → count_by (λ e. has_error e.labels) es ≡ 0 → (len (totals_of es) == 0) ≡ (length es == 0)
-len-totals_of [] good = ap (λ m. len m == 0) no_totals ∙ ap (λ n. n == 0) (len-empty label_set_cmp Total)
+len-totals_of [] good = ap (λ m. len m == 0) no_totals ∙ ap (λ n. n == 0) (len-empty label_set_cmp Volume)
 len-totals_of (e ∷ es) good = counted (len (totals_of (e ∷ es))) refl ∙ sym (more (length es))
   where
     own : has_error e.labels ≡ false

@@ -32,7 +32,7 @@ use Rattle.rl_aggregate.specs.Ratios.{partner, quotient, ratios}
 use Rattle.rl_aggregate.specs.TotalsMap.{TotalsMap, no_total}
 use Rattle.rl_aggregate.specs.Vectors.{AreInOrder, IsOfOneTerm, IsOfQuery, AreOfOneTerm}
 use Rattle.rl_aggregate.specs.laws.Groups.{rises-aggregated_by, have_divisor-aggregated_by, length-aggregated_by, total-aggregated_by}
-use Rattle.rl_aggregate.specs.declared.total.Total.{Total}
+use Rattle.rl_aggregate.specs.declared.total.Volume.{Volume}
 use Rattle.rl_aggregate.specs.declared.outcome.Fraction.{Fraction}
 use Rattle.rl_aggregate.specs.declared.outcome.Sample.{Sample}
 use Rattle.rl_aggregate.specs.declared.partial.Partial.{Partial}
@@ -64,23 +64,23 @@ order-rises (s ∷ ss) up =
 -- VECTORS OF ONE TERM
 
 -- a sample for each entry
-abbrev vector : (Total → Fraction) → List (LabelSet × Total) → List Sample
+abbrev vector : (Volume → Fraction) → List (LabelSet × Volume) → List Sample
 vector made es = map (λ e. record { labels = e.0; value = made e.1 }) es
 
-below_made : (made : Total → Fraction) (labels : LabelSet) (es : List (LabelSet × Total)) → below_all label_set_cmp labels (map (λ (s : Sample). (s.labels, s.value)) (vector made es)) ≡ below_all label_set_cmp labels es
+below_made : (made : Volume → Fraction) (labels : LabelSet) (es : List (LabelSet × Volume)) → below_all label_set_cmp labels (map (λ (s : Sample). (s.labels, s.value)) (vector made es)) ≡ below_all label_set_cmp labels es
 below_made made labels [] = refl
 below_made made labels (e ∷ es) = ap (λ b. is_lt (label_set_cmp labels e.0) && b) (below_made made labels es)
 
 -- samples of entries rise where the entries do
-rises-made : (made : Total → Fraction) (es : List (LabelSet × Total)) → rises (vector made es) ≡ is_sorted label_set_cmp es
+rises-made : (made : Volume → Fraction) (es : List (LabelSet × Volume)) → rises (vector made es) ≡ is_sorted label_set_cmp es
 rises-made made [] = refl
 rises-made made (e ∷ es) = λ i. below_made made e.0 es i && rises-made made es i
 
-divisor-made : (made : Total → Fraction) (n : ℕ) → ((total : Total) → (made total).denominator ≡ n) → (es : List (LabelSet × Total)) → have_divisor n (vector made es) ≡ true
+divisor-made : (made : Volume → Fraction) (n : ℕ) → ((total : Volume) → (made total).denominator ≡ n) → (es : List (LabelSet × Volume)) → have_divisor n (vector made es) ≡ true
 divisor-made made n same [] = refl
 divisor-made made n same (e ∷ es) = and_from _ _ (eq-eqb _ n (same e.1)) (divisor-made made n same es)
 
-total-made : (made : Total → Fraction) (es : List (LabelSet × Total)) → total (vector made es) ≡ sum_by (λ e. (made e.1).numerator) es
+total-made : (made : Volume → Fraction) (es : List (LabelSet × Volume)) → total (vector made es) ≡ sum_by (λ e. (made e.1).numerator) es
 total-made made [] = refl
 total-made made (e ∷ es) = omega (
   arith,
@@ -89,7 +89,7 @@ total-made made (e ∷ es) = omega (
   total-made made es,
 )
 
-ones : (es : List (LabelSet × Total)) → sum_by (λ e. 1) es ≡ length es
+ones : (es : List (LabelSet × Volume)) → sum_by (λ e. 1) es ≡ length es
 ones [] = refl
 ones (e ∷ es) = omega (arith, sum_by-cons (λ e. 1) e es, ones es)
 
@@ -97,7 +97,7 @@ ones (e ∷ es) = omega (arith, sum_by-cons (λ e. 1) e es, ones es)
 abbrev pub term_divisor : RangeFunction → (seconds : ℕ) → ℕ
 term_divisor function seconds = (fraction function seconds no_total).denominator
 
-same_divisor : (function : RangeFunction) (seconds : ℕ) (total : Total) → (fraction function seconds total).denominator ≡ term_divisor function seconds
+same_divisor : (function : RangeFunction) (seconds : ℕ) (total : Volume) → (fraction function seconds total).denominator ≡ term_divisor function seconds
 same_divisor CountOverTime seconds total = refl
 same_divisor Rate seconds total = refl
 same_divisor BytesOverTime seconds total = refl

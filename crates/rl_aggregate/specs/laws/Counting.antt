@@ -17,7 +17,7 @@ use Rattle.rl_query.specs.declared.stages.Stage.{Stage}
 use Rattle.rl_aggregate.specs.Counter.{counted_entry, with_entry}
 use Rattle.rl_aggregate.specs.InRange.{Contribution, contribution, stays, in_window, is_selected}
 use Rattle.rl_aggregate.specs.Partials.{partial, partial_of}
-use Rattle.rl_aggregate.specs.Tallies.{IsAlike, TallyView, contributions_of, nothing_counted, with_line}
+use Rattle.rl_aggregate.specs.Accumulators.{IsAlike, AccumulatorView, contributions_of, nothing_counted, with_line}
 use Rattle.rl_aggregate.specs.laws.Totals.{kept-permuted, partial_of-append}
 
 -- what the lines of entries count as that stay
@@ -78,33 +78,33 @@ partial-visited lead term t entries order alike moved =
     ∙ (λ i. partial_of (stayed stages (filter (λ e. in_window (sym alike.0 i) t e.timestamp && selects (sym alike.1 i).matchers e.labels) entries)))
     ∙ partial-stayed entries term t
 
-same_tallies : (tallies : List TallyView) → map (λ tally. tally) tallies ≡ tallies
-same_tallies [] = refl
-same_tallies (tally ∷ tallies) = ap (λ rest. tally ∷ rest) (same_tallies tallies)
+same_accumulators : (accumulators : List AccumulatorView) → map (λ accumulator. accumulator) accumulators ≡ accumulators
+same_accumulators [] = refl
+same_accumulators (accumulator ∷ accumulators) = ap (λ rest. accumulator ∷ rest) (same_accumulators accumulators)
 
 -- a line of an entry that still may come is counted
 may_come : (left : ℕ) (e : Entry) → 1 ≤ left → (left == 0 || nat_lt longest_line (length e.line)) ≡ false
 may_come left e some = λ i. ne_eqb left 0 (λ none. absurd (omega (arith, some, none))) i || le-ltb longest_line (length e.line) e.fits i
 
 -- a counter that may count them all counts the lines of entries in each tally
-pub counter_counts : (most left : ℕ) (tallies : List TallyView) (entries : List Entry) → length entries ≤ left
-    → fold counted_entry (record { most = most; left = left; is_over = false; tallies = tallies }) entries ≡ record { most = most; left = left - length entries; is_over = false; tallies = map (λ tally. fold with_entry tally entries) tallies }
-counter_counts most left tallies [] few =
+pub counter_counts : (most left : ℕ) (accumulators : List AccumulatorView) (entries : List Entry) → length entries ≤ left
+    → fold counted_entry (record { most = most; left = left; is_over = false; accumulators = accumulators }) entries ≡ record { most = most; left = left - length entries; is_over = false; accumulators = map (λ accumulator. fold with_entry accumulator entries) accumulators }
+counter_counts most left accumulators [] few =
     let none : left ≡ left - 0 = omega arith in
-    λ i. record { most = most; left = none i; is_over = false; tallies = sym (same_tallies tallies) i }
-counter_counts most left tallies (e ∷ es) few =
-    let one = map (with_line e.labels e.line) tallies in
+    λ i. record { most = most; left = none i; is_over = false; accumulators = sym (same_accumulators accumulators) i }
+counter_counts most left accumulators (e ∷ es) few =
+    let one = map (with_line e.labels e.line) accumulators in
     let others : (left - 1) - length es ≡ left - length (e ∷ es) = omega arith in
-    ap (λ over. fold counted_entry (cond over (record { most = most; left = left; is_over = true; tallies = tallies }) (record { most = most; left = left - 1; is_over = false; tallies = one })) es) (may_come left e (omega (arith, few)))
+    ap (λ over. fold counted_entry (cond over (record { most = most; left = left; is_over = true; accumulators = accumulators }) (record { most = most; left = left - 1; is_over = false; accumulators = one })) es) (may_come left e (omega (arith, few)))
     ∙ counter_counts most (left - 1) one es (omega (arith, few))
-    ∙ (λ i. record { most = most; left = others i; is_over = false; tallies = map-map (λ tally. fold with_entry tally es) (with_line e.labels e.line) tallies i })
+    ∙ (λ i. record { most = most; left = others i; is_over = false; accumulators = map-map (λ accumulator. fold with_entry accumulator es) (with_line e.labels e.line) accumulators i })
 
 -- so of one in which nothing is counted
 pub new_counter_counts : (most : ℕ) (pipelines : List (List Stage)) (entries : List Entry) → length entries ≤ most
-    → fold counted_entry (record { most = most; left = most; is_over = false; tallies = map nothing_counted pipelines }) entries ≡ record { most = most; left = most - length entries; is_over = false; tallies = map (λ stages. record { running = stages; found = partial_of (stayed stages entries) }) pipelines }
+    → fold counted_entry (record { most = most; left = most; is_over = false; accumulators = map nothing_counted pipelines }) entries ≡ record { most = most; left = most - length entries; is_over = false; accumulators = map (λ stages. record { running = stages; found = partial_of (stayed stages entries) }) pipelines }
 new_counter_counts most pipelines entries few =
     counter_counts most most (map nothing_counted pipelines) entries few
-    ∙ (λ i. record { most = most; left = most - length entries; is_over = false; tallies = (map-map (λ tally. fold with_entry tally entries) nothing_counted pipelines ∙ each pipelines) i })
+    ∙ (λ i. record { most = most; left = most - length entries; is_over = false; accumulators = (map-map (λ accumulator. fold with_entry accumulator entries) nothing_counted pipelines ∙ each pipelines) i })
   where
     each : (pipelines : List (List Stage)) → map (λ stages. fold with_entry (nothing_counted stages) entries) pipelines ≡ map (λ stages. record { running = stages; found = partial_of (stayed stages entries) }) pipelines
     each [] = refl

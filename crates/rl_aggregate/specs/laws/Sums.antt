@@ -24,7 +24,7 @@ use Rattle.rl_aggregate.specs.Limited.{sum_of, IsLimited}
 use Rattle.rl_aggregate.specs.Partials.{has_error, counts_for, total_of, totals_of, partial, partial_of, both_totals}
 use Rattle.rl_aggregate.specs.TotalsMap.{TotalsMap, no_total, plus, total_at}
 use Rattle.rl_aggregate.specs.laws.Totals.{label_set_eq-cmp, total_at-both_totals, total_at-totals_of, sum_by-within}
-use Rattle.rl_aggregate.specs.declared.total.Total.{Total}
+use Rattle.rl_aggregate.specs.declared.total.Volume.{Volume}
 
 before_apart : (s t : LabelSet) → is_lt (label_set_cmp s t) ≡ true → eq_by_cmp label_set_cmp t s ≡ false
 before_apart s t before = elim (label_set_cmp s t) as (λ o. label_set_cmp s t ≡ o → is_lt o ≡ true → eq_by_cmp label_set_cmp t s ≡ false) [
@@ -150,7 +150,7 @@ module _ {X : Type 0} where
 pub len-both_totals : (a b : TotalsMap) → len (both_totals a b) ≤ len a + len b
 len-both_totals a b =
     let both = keys a ++ keys b in
-    let entry : LabelSet → LabelSet × Total = λ labels. (labels, plus (total_at a labels) (total_at b labels)) in
+    let entry : LabelSet → LabelSet × Volume = λ labels. (labels, plus (total_at a labels) (total_at b labels)) in
     omega (
       arith,
       len-from_entries (map entry both),
@@ -162,20 +162,20 @@ len-both_totals a b =
       len-entries b,
     )
 
-module _ (f : Total → ℕ) (nothing : f no_total ≡ 0) where
+module _ (f : Volume → ℕ) (nothing : f no_total ≡ 0) where
   -- the number at a label set
-  abbrev at : List (LabelSet × Total) → LabelSet → ℕ
+  abbrev at : List (LabelSet × Volume) → LabelSet → ℕ
   at es q = f (unwrap_or (find label_set_cmp q es) no_total)
 
-  at_none : (fs : List (LabelSet × Total)) → sum_by (λ e. at [] e.0) fs ≡ 0
+  at_none : (fs : List (LabelSet × Volume)) → sum_by (λ e. at [] e.0) fs ≡ 0
   at_none [] = refl
   at_none (e ∷ fs) = sum_by-cons (λ e. at [] e.0) e fs ∙ (λ i. nothing i + at_none fs i)
 
-  at_first : (b : Bool) (v : Total) (rest : Option Total) → f (unwrap_or (cond b (Some v) rest) no_total) ≤ cond b (f v) 0 + f (unwrap_or rest no_total)
+  at_first : (b : Bool) (v : Volume) (rest : Option Volume) → f (unwrap_or (cond b (Some v) rest) no_total) ≤ cond b (f v) 0 + f (unwrap_or rest no_total)
   at_first true v rest = omega arith
   at_first false v rest = omega arith
 
-  at_more : (k : LabelSet) (v : Total) (es fs : List (LabelSet × Total)) → sum_by (λ e. at ((k, v) ∷ es) e.0) fs ≤ sum_by (λ e. cond (eq_by_cmp label_set_cmp e.0 k) (f v) 0) fs + sum_by (λ e. at es e.0) fs
+  at_more : (k : LabelSet) (v : Volume) (es fs : List (LabelSet × Volume)) → sum_by (λ e. at ((k, v) ∷ es) e.0) fs ≤ sum_by (λ e. cond (eq_by_cmp label_set_cmp e.0 k) (f v) 0) fs + sum_by (λ e. at es e.0) fs
   at_more k v es [] = omega arith
   at_more k v es (e ∷ fs) = omega (
     arith,
@@ -187,7 +187,7 @@ module _ (f : Total → ℕ) (nothing : f no_total ≡ 0) where
   )
 
   -- the numbers at label sets in order are at most all
-  sum_at-le : (es fs : List (LabelSet × Total)) → is_sorted label_set_cmp fs ≡ true → sum_by (λ e. at es e.0) fs ≤ sum_by (λ e. f e.1) es
+  sum_at-le : (es fs : List (LabelSet × Volume)) → is_sorted label_set_cmp fs ≡ true → sum_by (λ e. at es e.0) fs ≤ sum_by (λ e. f e.1) es
   sum_at-le [] fs rises = omega (arith, at_none fs)
   sum_at-le (e ∷ es) fs rises = omega (arith, at_more e.0 e.1 es fs, once e.0 (f e.1) fs rises, sum_at-le es fs rises, sum_by-cons (λ e. f e.1) e es)
 
@@ -202,7 +202,7 @@ module _ (f : Total → ℕ) (nothing : f no_total ≡ 0) where
       part true n = omega arith
       part false n = omega arith
 
-      at-le : (es : List (LabelSet × Total)) (q : LabelSet) → at es q ≤ sum_by (λ e. f e.1) es
+      at-le : (es : List (LabelSet × Volume)) (q : LabelSet) → at es q ≤ sum_by (λ e. f e.1) es
       at-le [] q = omega (arith, nothing)
       at-le (e ∷ es) q = omega (
         arith,
@@ -212,11 +212,11 @@ module _ (f : Total → ℕ) (nothing : f no_total ≡ 0) where
         at-le es q,
       )
 
-  total_at-found : (m : TotalsMap) (q : LabelSet) (v : Total) → get m q ≡ Some v → total_at m q ≡ v
+  total_at-found : (m : TotalsMap) (q : LabelSet) (v : Volume) → get m q ≡ Some v → total_at m q ≡ v
   total_at-found m q v is = ap (λ t. unwrap_or t no_total) is
 
   -- merged totals have at most the sum of both
-  pub sum_of-both_totals : ((x y : Total) → f (plus x y) ≡ f x + f y) → (a b : TotalsMap) → sum_of f (both_totals a b) ≤ sum_of f a + sum_of f b
+  pub sum_of-both_totals : ((x y : Volume) → f (plus x y) ≡ f x + f y) → (a b : TotalsMap) → sum_of f (both_totals a b) ≤ sum_of f a + sum_of f b
   sum_of-both_totals adds a b =
       let m = both_totals a b in
       omega (
@@ -234,7 +234,7 @@ module _ (f : Total → ℕ) (nothing : f no_total ≡ 0) where
       )
 
 -- no totals add up to nothing
-pub sum_of-empty : (f : Total → ℕ) → sum_of f empty ≤ 0
+pub sum_of-empty : (f : Volume → ℕ) → sum_of f empty ≤ 0
 sum_of-empty f = sum_by-shared (λ (e : Contribution). e.labels) (λ e. 0) [] f empty (λ q v is. absurd (none-some v (sym (get-empty label_set_cmp q) ∙ is)))
 
 pub counts-both_totals : (a b : TotalsMap) → sum_of (λ total. total.count) (both_totals a b) ≤ sum_of (λ total. total.count) a + sum_of (λ total. total.count) b
@@ -253,7 +253,7 @@ counts_as q n e = ap (λ b. cond (b && not (has_error e.labels)) n 0) (label_set
     split false c = refl
 
 -- a number of the totals of lines is at most that of the lines without an error
-sum_of-totals_of : (number : Contribution → ℕ) (f : Total → ℕ) (es : List Contribution) → ((q : LabelSet) → f (total_of es q) ≡ sum_by (λ e. cond (counts_for q e) (number e) 0) es) → sum_of f (totals_of es) ≤ sum_by (λ e. cond (has_error e.labels) 0 (number e)) es
+sum_of-totals_of : (number : Contribution → ℕ) (f : Volume → ℕ) (es : List Contribution) → ((q : LabelSet) → f (total_of es q) ≡ sum_by (λ e. cond (counts_for q e) (number e) 0) es) → sum_of f (totals_of es) ≤ sum_by (λ e. cond (has_error e.labels) 0 (number e)) es
 sum_of-totals_of number f es adds = sum_by-shared (λ e. e.labels) (λ e. cond (has_error e.labels) 0 (number e)) es f (totals_of es) (λ q v is. omega (
   arith,
   ap f (sym (ap (λ t. unwrap_or t no_total) is) ∙ total_at-totals_of es q),
@@ -278,7 +278,7 @@ with_or_without es = omega (
 pub len-partial_of : (es : List Contribution) → len (partial_of es).totals ≤ length es
 len-partial_of es =
     let good = filter (λ e. not (has_error e.labels)) es in
-    let entry : Contribution → LabelSet × Total = λ e. (e.labels, total_of es e.labels) in
+    let entry : Contribution → LabelSet × Volume = λ e. (e.labels, total_of es e.labels) in
     omega (
       arith,
       len-from_entries (map entry good),

@@ -25,7 +25,7 @@ use Rattle.rl_query.specs.declared.stages.Stage.{Stage}
 use Rattle.rl_aggregate.specs.InRange.{Contribution, contribution, is_in_range, in_range}
 use Rattle.rl_aggregate.specs.TotalsMap.{TotalsMap, no_total, plus, total_at}
 use Rattle.rl_aggregate.specs.Partials.{has_error, counts_for, total_of, totals_of, partial_of, partial, both_totals, merge, most_entries, Fits}
-use Rattle.rl_aggregate.specs.declared.total.Total.{Total}
+use Rattle.rl_aggregate.specs.declared.total.Volume.{Volume}
 use Rattle.rl_aggregate.specs.declared.partial.Partial.{Partial}
 
 -- the two tests of equal label sets are one
@@ -37,7 +37,7 @@ pub same_totals : (a b : TotalsMap) → ((q : LabelSet) → get a q ≡ get b q)
 same_totals a b alike = same_map label_set_cmp_total label_set_cmp-IsAntisymmetric a b alike
 
 -- a look-up among one total for each label set of the lines that pass
-find_made : (f : LabelSet → Total) (p : Contribution → Bool) (q : LabelSet) (es : List Contribution) → find label_set_cmp q (map (λ e. (e.labels, f e.labels)) (filter p es)) ≡ cond (list_any (λ e. label_set_eq q e.labels && p e) es) (Some (f q)) None
+find_made : (f : LabelSet → Volume) (p : Contribution → Bool) (q : LabelSet) (es : List Contribution) → find label_set_cmp q (map (λ e. (e.labels, f e.labels)) (filter p es)) ≡ cond (list_any (λ e. label_set_eq q e.labels && p e) es) (Some (f q)) None
 find_made f p q [] = refl
 find_made f p q (e ∷ es) =
     let rest = find_made f p q es in
@@ -56,7 +56,7 @@ pub get-totals_of : (es : List Contribution) (q : LabelSet) → get (totals_of e
 get-totals_of es q = get-from_entries label_set_cmp_total _ q ∙ find_made (total_of es) (λ e. not (has_error e.labels)) q es
 
 -- a look-up among one total for each of some label sets
-find_keyed : (f : LabelSet → Total) (q : LabelSet) (ks : List LabelSet) → find label_set_cmp q (map (λ k. (k, f k)) ks) ≡ cond (list_any (eq_by_cmp label_set_cmp q) ks) (Some (f q)) None
+find_keyed : (f : LabelSet → Volume) (q : LabelSet) (ks : List LabelSet) → find label_set_cmp q (map (λ k. (k, f k)) ks) ≡ cond (list_any (eq_by_cmp label_set_cmp q) ks) (Some (f q)) None
 find_keyed f q [] = refl
 find_keyed f q (k ∷ ks) =
     elim (eq_by_cmp label_set_cmp q k) as (λ b. eq_by_cmp label_set_cmp q k ≡ b → cond b (Some (f k)) (find label_set_cmp q (map (λ k. (k, f k)) ks)) ≡ cond (b || list_any (eq_by_cmp label_set_cmp q) ks) (Some (f q)) None) [
@@ -76,7 +76,7 @@ get-both_totals a b q =
 pub total_at-both_totals : (a b : TotalsMap) (q : LabelSet) → total_at (both_totals a b) q ≡ plus (total_at a q) (total_at b q)
 total_at-both_totals a b q = ap (λ t. unwrap_or t no_total) (get-both_totals a b q) ∙ summed (get a q) (get b q)
   where
-    summed : (x y : Option Total) → unwrap_or (cond (is_some x || is_some y) (Some (plus (unwrap_or x no_total) (unwrap_or y no_total))) None) no_total ≡ plus (unwrap_or x no_total) (unwrap_or y no_total)
+    summed : (x y : Option Volume) → unwrap_or (cond (is_some x || is_some y) (Some (plus (unwrap_or x no_total) (unwrap_or y no_total))) None) no_total ≡ plus (unwrap_or x no_total) (unwrap_or y no_total)
     summed None None = refl
     summed None (Some y) = refl
     summed (Some x) y = refl

@@ -12,7 +12,7 @@ use Rattle.rl_query.specs.declared.stages.Stage.{Stage}
 use Rattle.rl_aggregate.specs.InRange.{Contribution}
 use Rattle.rl_aggregate.specs.Limited.{IsWithin}
 use Rattle.rl_aggregate.specs.Partials.{merge, partial, partial_of}
-use Rattle.rl_aggregate.specs.Tallies.{contributions_of}
+use Rattle.rl_aggregate.specs.Accumulators.{contributions_of}
 use Rattle.rl_aggregate.specs.declared.partial.Partial.{Partial}
 use Rattle.rl_aggregate.specs.laws.Sums.{len-both_totals, counts-both_totals, bytes-both_totals, len-partial, counts-partial, bytes-partial, len-partial_of, counts-partial_of, bytes-partial_of}
 

@@ -6,7 +6,7 @@ use Rattle.std.proofs.lemmas.Slice.Zip.{AllZip-long}
 use Rattle.rl_query.specs.declared.query.Term.{Term}
 use Rattle.rl_aggregate.specs.InRange.{second}
 use Rattle.rl_aggregate.specs.Limited.{IsWithin}
-use Rattle.rl_aggregate.specs.Tallies.{IsAlike, nothing_counted}
+use Rattle.rl_aggregate.specs.Accumulators.{IsAlike, nothing_counted}
 use Rattle.rl_streams.specs.Asking.{AreVisited, AreVisitedOnce}
 use Rattle.rl_shard.specs.Collecting.{IsRead}
 use Rattle.rl_shard.specs.declared.lines.Lines.{Lines}
@@ -22,7 +22,7 @@ returns-then-is_over-clause-cause g c =
     let requests = c.args.requests in
     let range = first.range.seconds * second in
     let counter : c.in_ok-counter.counter ≡ none_counted streams.limits.entries (map (λ (term : Term). term.range.stages) terms) =
-    c.in_ok-counter.ensures ∙ (λ i. record { most = (c.limits.ensures i).entries; left = (c.limits.ensures i).entries; is_over = false; tallies = map nothing_counted (stages i) }) in
+    c.in_ok-counter.ensures ∙ (λ i. record { most = (c.limits.ensures i).entries; left = (c.limits.ensures i).entries; is_over = false; accumulators = map nothing_counted (stages i) }) in
     let alike = all_mapped (IsAlike first) (λ (term : Bor Term). term.now) c.args.terms.now c.requires.alike in
     not_true streams.seen.honest (λ honest.
     let once = subst (λ (lines : Lines). AreVisitedOnce first.range.selector.matchers c.start_of-start.result c.args.to streams.held counts lines c.each.new.visitor) (λ i. visitor requests range c.args.t (counter i) (c.get.ensures.value i - c.get-2.ensures.value i)) (c.in_ok-each.ensures.right honest) in
@@ -41,7 +41,7 @@ returns-clause-partials g c u later within =
     let range = first.range.seconds * second in
     let some : 0 < range = let least = first.range.in_range.0 in omega (arith, least) in
     let counter : c.in_ok-counter.counter ≡ none_counted streams.limits.entries (map (λ (term : Term). term.range.stages) terms) =
-    c.in_ok-counter.ensures ∙ (λ i. record { most = (c.limits.ensures i).entries; left = (c.limits.ensures i).entries; is_over = false; tallies = map nothing_counted (stages i) }) in
+    c.in_ok-counter.ensures ∙ (λ i. record { most = (c.limits.ensures i).entries; left = (c.limits.ensures i).entries; is_over = false; accumulators = map nothing_counted (stages i) }) in
     let alike = all_mapped (IsAlike first) (λ (term : Bor Term). term.now) c.args.terms.now c.requires.alike in
     let answered = subst (λ (lines : Lines). AreVisited counts first.range.selector.matchers start c.args.to streams.rows lines after) (λ i. visitor requests range c.args.t (counter i) (c.get.ensures.value i - c.get-2.ensures.value i)) c.in_ok-each.ensures.answered in
     let not_over = sym c.is_over.ensures ∙ c.if-is_over.false in

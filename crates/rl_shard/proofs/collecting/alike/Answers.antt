@@ -3,7 +3,7 @@ use Rattle.std.proofs.Common.{◌≡◌, Some, Bor, slice_get, sym, ap, subst, �
 use Rattle.std.specs.List.{AllByRecursion}
 use Rattle.std.specs.Option.{option_map}
 use Rattle.rl_query.specs.declared.query.Term.{Term}
-use Rattle.rl_aggregate.specs.Tallies.{IsAlike}
+use Rattle.rl_aggregate.specs.Accumulators.{IsAlike}
 use Rattle.rl_shard.proofs.Terms.{alike_more, first_stays}
 use Rattle.rl_shard.proofs.collecting.alike.Goals as goal
 use Rattle.rl_shard.proofs.collecting.alike.Goals.{then-may_join+in_ok-push-2, else-may_join}

@@ -6,7 +6,7 @@ use Rattle.std.proofs.lemmas.List.{length-map}
 use Rattle.std.proofs.lemmas.Option.{slice_get_read}
 use Rattle.rl_aggregate.specs.declared.partial.Partial.{Partial}
 use Rattle.rl_query.specs.declared.query.Term.{Term}
-use Rattle.rl_aggregate.specs.Tallies.{IsAlike}
+use Rattle.rl_aggregate.specs.Accumulators.{IsAlike}
 use Rattle.rl_shard.specs.Collecting.{ArePartialsOf, IsPartialOf}
 use Rattle.rl_shard.proofs.Keeping.{all_stand, are_kept_after}
 use Rattle.rl_shard.proofs.Terms.{known_at, known_within}

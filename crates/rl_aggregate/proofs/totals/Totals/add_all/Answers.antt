@@ -5,7 +5,7 @@ use Rattle.std.specs.FinMap as map
 use Rattle.std.specs.FinMap.Entries.{find, is_sorted}
 use Rattle.rl_labels.specs.LabelText.{label_set_cmp}
 use Rattle.rl_aggregate.specs.laws.Totals.{get-both_totals, total_at-both_totals, same_totals}
-use Rattle.rl_aggregate.specs.Partials.{both_totals, TotalFits}
+use Rattle.rl_aggregate.specs.Partials.{both_totals, VolumeFits}
 use Rattle.rl_plain.specs.laws.TreeMaps.{sorted_entries}
 use Rattle.rl_aggregate.proofs.Merging.{joined, joined-None, joined-added, sorted_rest, total_at-next, find-entries, AreKnown, known-all, known-first, known-rest}
 use Rattle.rl_aggregate.proofs.totals.Totals.add_all.Goals as goal
@@ -28,7 +28,7 @@ add-requires c =
     let v = c.in-Some.total.now in
     let both = both_totals c.args.self.now c.args.others.now in
     let sum = ap (λ t. joined (map.get c.loop-labels.self k) (find label_set_cmp k t)) (sym c.in-Some.ensures.steps) ∙ c.loop-labels.invariant.sums k in
-    subst TotalFits (sym (total_at-next c.loop-labels.self both k v c.next.new.self sum ∙ total_at-both_totals c.args.self.now c.args.others.now k)) (c.requires k)
+    subst VolumeFits (sym (total_at-next c.loop-labels.self both k v c.next.new.self sum ∙ total_at-both_totals c.args.self.now c.args.others.now k)) (c.requires k)
 
 pub loop-labels-preserved : goal.loop-labels-preserved
 loop-labels-preserved c =

@@ -6,15 +6,15 @@ use Rattle.std.specs.Map.{lookup}
 use Rattle.std.specs.Option.{unwrap_or}
 use Rattle.rl_labels.specs.LabelText.{label_set_cmp}
 use Rattle.rl_aggregate.specs.TotalsMap.{no_total, total_at}
-use Rattle.rl_aggregate.specs.declared.total.Total.{Total}
+use Rattle.rl_aggregate.specs.declared.total.Volume.{Volume}
 use Rattle.rl_aggregate.proofs.Maps.{totals_in, total_at-totals_in, one_added}
 use Rattle.rl_aggregate.proofs.totals.Totals.add_owned.Goals as goal
 
 pub add_at-requires : goal.add_at-requires
 add_at-requires c =
     let there : total_at c.args.self.now c.args.labels ≡ unwrap_or (lookup (is_at (label_set_cmp c.args.labels)) c.self.inside.by_labels.entries) no_total = ap (λ m. total_at m c.args.labels) (sym c.self.view_is) ∙ total_at-totals_in c.self.inside.by_labels.entries c.args.labels in (
-      omega (arith, c.requires.0, ap (λ (t : Total). t.count) there),
-      omega (arith, c.requires.1, ap (λ (t : Total). t.bytes) there),
+      omega (arith, c.requires.0, ap (λ (t : Volume). t.count) there),
+      omega (arith, c.requires.1, ap (λ (t : Volume). t.bytes) there),
     )
 
 pub returns-clause-ok : goal.returns-clause-ok

@@ -1,11 +1,11 @@
 -- A line with the labels of those that wait has room beside them, and all of them are counted as one after the other.
 use Rattle.std.proofs.Common.{sym, ap, subst, ◌∙◌, arith}
 use Rattle.rl_labels.specs.laws.TextLaws.{label_set_eq-true}
-use Rattle.rl_aggregate.specs.Tallies.{with_run, HasRoom}
+use Rattle.rl_aggregate.specs.Accumulators.{with_run, HasRoom}
 use Rattle.rl_aggregate.specs.Waiting.{with_waiting, IsRun}
-use Rattle.rl_aggregate.specs.declared.total.Total.{Total}
-use Rattle.rl_aggregate.proofs.Tallying.{with_run-more, run-fewer}
-use Rattle.rl_aggregate.proofs.tally.add_line.Goals as goal
+use Rattle.rl_aggregate.specs.declared.total.Volume.{Volume}
+use Rattle.rl_aggregate.proofs.Accumulating.{with_run-more, run-fewer}
+use Rattle.rl_aggregate.proofs.accumulator.add_line.Goals as goal
 
 pub overflow_add-run : goal.overflow_add-run
 overflow_add-run c =
@@ -23,7 +23,7 @@ overflow_add-run-then-eq c =
 pub returns-then-eq-clause-ok : goal.returns-then-eq-clause-ok
 returns-then-eq-clause-ok c =
     let run = c.in-Some.run' in
-    let one : Total = record { count = 1; bytes = c.args.bytes } in
+    let one : Volume = record { count = 1; bytes = c.args.bytes } in
     with_run-more run.labels c.args.found.now run.total one
     ∙ ap (λ labels. with_run labels one (with_run run.labels run.total c.args.found.now)) (label_set_eq-true run.labels c.args.labels.now (sym c.if-eq.ensures))
     ∙ ap (λ waiting. with_run c.args.labels.now one (with_waiting waiting c.args.found.now)) (sym c.in-Some.is)

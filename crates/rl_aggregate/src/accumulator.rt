@@ -1,13 +1,13 @@
 //! What lines add up to after the stages of one pipeline.
 ghost use Rattle.std.specs.Prelude.{◌≡◌, ◌≤◌, ◌+◌, ◌<◌, ◌^◌, false, length, None, IfOk, OnOk, OnErr};
 ghost use Rattle.rl_labels.specs.EntryParts.{longest_line};
-ghost use Rattle.rl_aggregate.specs.Partials.{has_error, TotalFits};
-ghost use Rattle.rl_aggregate.specs.Tallies.{nothing_counted, with_line, with_run, HasRoom};
+ghost use Rattle.rl_aggregate.specs.Partials.{has_error, VolumeFits};
+ghost use Rattle.rl_aggregate.specs.Accumulators.{nothing_counted, with_line, with_run, HasRoom};
 ghost use Rattle.rl_aggregate.specs.TotalsMap.{plus, total_at};
 ghost use Rattle.rl_aggregate.specs.Waiting.{with_waiting, IsRun};
 
 use crate::partial::Partial;
-use crate::total::Total;
+use crate::total::Volume;
 use rl_labels::Labels;
 use rl_labels::labels::ERROR_LABEL;
 use rl_pipeline::{Line, Meter, Pipeline, Running};
@@ -18,7 +18,7 @@ use std::marker::Model;
 // What sends lines through the stages of a pipeline, and what they add up to so far. Where lines keep their labels, those of
 // one stream wait to be added at once. Contracts see the stages, and what all lines add up to.
 #[derive(Drop)]
-pub(crate) struct Tally<'a> {
+pub(crate) struct Accumulator<'a> {
     running: Running<'a>,
     is_plain: bool,
     found: Partial,
@@ -29,17 +29,17 @@ pub(crate) struct Tally<'a> {
 #[derive(Drop)]
 pub(crate) struct Run {
     labels: Labels,
-    total: Total,
+    total: Volume,
 }
 
-impl<'a> Model for Tally<'a> {
+impl<'a> Model for Accumulator<'a> {
     ghost use Rattle.std.specs.Prelude.{◌≡◌, true};
     ghost use Rattle.rl_pipeline.specs.Running.{IsPlain};
-    ghost use Rattle.rl_aggregate.specs.Tallies.{TallyView, tally_code};
+    ghost use Rattle.rl_aggregate.specs.Accumulators.{AccumulatorView, accumulator_code};
 
-    ghost Value = { TallyView };
+    ghost Value = { AccumulatorView };
 
-    ghost coded = { tally_code };
+    ghost coded = { accumulator_code };
 
     ghost use Rattle.rl_aggregate.specs.Waiting.{with_waiting, IsRun};
 
@@ -48,14 +48,14 @@ impl<'a> Model for Tally<'a> {
     ghost invariant = { λ a. (a.is_plain ≡ true → IsPlain a.running) × IsRun a.waiting };
 }
 
-impl<'a> Tally<'a> {
+impl<'a> Accumulator<'a> {
     // Nothing counted.
-    pub(crate) fn new(alloc: Global, pipeline: &'a Pipeline) -> Result<Tally<'a>, AllocError>
-        ensures { IfOk result (λ tally. tally ≡ nothing_counted pipeline.now) }
+    pub(crate) fn new(alloc: Global, pipeline: &'a Pipeline) -> Result<Accumulator<'a>, AllocError>
+        ensures { IfOk result (λ accumulator. accumulator ≡ nothing_counted pipeline.now) }
     {
         let running = pipeline.running()?;
         let is_plain = running.is_plain();
-        Ok(Tally {
+        Ok(Accumulator {
             running,
             is_plain,
             found: Partial::empty(alloc),
@@ -132,7 +132,7 @@ fn add_line(
     }
     let labels = labels.try_copy()?;
     add_waiting(found, waiting)?;
-    let total = Total { count: 1, bytes };
+    let total = Volume { count: 1, bytes };
     *waiting = Some(Run { labels, total });
     Ok(())
 }
@@ -155,9 +155,9 @@ fn add_waiting(found: &mut Partial, waiting: &mut Option<Run>) -> Result<(), All
 }
 
 // Adds lines with these labels.
-fn add_run(found: &mut Partial, labels: &Labels, total: Total) -> Result<(), AllocError>
+fn add_run(found: &mut Partial, labels: &Labels, total: Volume) -> Result<(), AllocError>
     requires errors { found.old.errors + total.count < 2 ^ 64 }
-    requires totals { has_error labels.now ≡ false → TotalFits (plus (total_at found.old.totals labels.now) total) }
+    requires totals { has_error labels.now ≡ false → VolumeFits (plus (total_at found.old.totals labels.now) total) }
     ensures ok { OnOk result (found.new ≡ with_run labels.now total found.old) }
     ensures err { OnErr result (found.new ≡ found.old) }
 {
@@ -179,7 +179,7 @@ fn add_one(found: &mut Partial, labels: Labels, bytes: u64) -> Result<(), AllocE
         found.errors += 1;
         return Ok(());
     }
-    found.totals.add_owned(labels, Total { count: 1, bytes })
+    found.totals.add_owned(labels, Volume { count: 1, bytes })
 }
 
 // Whether a pipeline could not make sense of the line.

@@ -1,9 +1,9 @@
 -- Lines that wait have room, because what was found with them is within what may be counted.
 use Rattle.std.proofs.Common.{subst}
-use Rattle.rl_aggregate.specs.Tallies.{HasRoom}
+use Rattle.rl_aggregate.specs.Accumulators.{HasRoom}
 use Rattle.rl_aggregate.specs.Waiting.{with_waiting}
-use Rattle.rl_aggregate.proofs.Tallying.{run-errors, run-totals}
-use Rattle.rl_aggregate.proofs.tally.add_waiting.Goals as goal
+use Rattle.rl_aggregate.proofs.Accumulating.{run-errors, run-totals}
+use Rattle.rl_aggregate.proofs.accumulator.add_waiting.Goals as goal
 
 pub add_run-requires-clause-errors : goal.add_run-requires-clause-errors
 add_run-requires-clause-errors c =

@@ -19,10 +19,10 @@ use Rattle.rl_pipeline.specs.Running as through
 use Rattle.rl_query.specs.declared.stages.Stage.{Stage}
 use Rattle.rl_aggregate.specs.InRange.{Contribution}
 use Rattle.rl_aggregate.specs.Limited.{IsWithin}
-use Rattle.rl_aggregate.specs.Partials.{has_error, total_of, totals_of, partial_of, both_totals, merge, counts_for, TotalFits}
-use Rattle.rl_aggregate.specs.Tallies.{contributions_of, with_run, HasRoom}
+use Rattle.rl_aggregate.specs.Partials.{has_error, total_of, totals_of, partial_of, both_totals, merge, counts_for, VolumeFits}
+use Rattle.rl_aggregate.specs.Accumulators.{contributions_of, with_run, HasRoom}
 use Rattle.rl_aggregate.specs.TotalsMap.{TotalsMap, no_total, plus, total_at, added}
-use Rattle.rl_aggregate.specs.declared.total.Total.{Total}
+use Rattle.rl_aggregate.specs.declared.total.Volume.{Volume}
 use Rattle.rl_aggregate.specs.declared.partial.Partial.{Partial}
 use Rattle.rl_aggregate.specs.laws.Sums.{total_at-sum_of}
 use Rattle.rl_aggregate.specs.laws.Totals.{label_set_eq-cmp, same_totals, get-totals_of, get-both_totals}
@@ -53,7 +53,7 @@ both_totals-empty : (totals : TotalsMap) → both_totals totals empty ≡ totals
 both_totals-empty totals = same_totals _ _ (λ q. get-both_totals totals empty q ∙ ap (joined (get totals q)) (get-empty label_set_cmp q) ∙ joined-None (get totals q))
 
 -- merged with one, they have it added
-both_totals-one : (totals : TotalsMap) (k : LabelSet) (v : Total) → both_totals totals (insert empty k v) ≡ added totals k v
+both_totals-one : (totals : TotalsMap) (k : LabelSet) (v : Volume) → both_totals totals (insert empty k v) ≡ added totals k v
 both_totals-one totals k v = same_totals _ _ (λ q.
     get-both_totals totals (insert empty k v) q
     ∙ ap (joined (get totals q)) (get-insert label_set_cmp_total empty k v q ∙ ap (cond (eq_by_cmp label_set_cmp q k) (Some v)) (get-empty label_set_cmp q))
@@ -74,20 +74,20 @@ same_labels : (k : LabelSet) → eq_by_cmp label_set_cmp k k ≡ true
 same_labels k = sym (label_set_eq-cmp k k) ∙ label_set_eq_itself k
 
 -- what is added at a label set stands there
-get-added : (totals : TotalsMap) (k : LabelSet) (v : Total) → get (added totals k v) k ≡ Some (plus (total_at totals k) v)
+get-added : (totals : TotalsMap) (k : LabelSet) (v : Volume) → get (added totals k v) k ≡ Some (plus (total_at totals k) v)
 get-added totals k v = get-insert label_set_cmp_total totals k (plus (total_at totals k) v) k ∙ ap (λ b. cond b (Some (plus (total_at totals k) v)) (get totals k)) (same_labels k)
 
-pub total_at-added : (totals : TotalsMap) (k : LabelSet) (v : Total) → total_at (added totals k v) k ≡ plus (total_at totals k) v
+pub total_at-added : (totals : TotalsMap) (k : LabelSet) (v : Volume) → total_at (added totals k v) k ≡ plus (total_at totals k) v
 total_at-added totals k v = ap (λ t. unwrap_or t no_total) (get-added totals k v)
 
-plus_more : (a b c : Total) → plus (plus a b) c ≡ plus a (plus b c)
+plus_more : (a b c : Volume) → plus (plus a b) c ≡ plus a (plus b c)
 plus_more a b c =
     let count : a.count + b.count + c.count ≡ a.count + (b.count + c.count) = omega arith in
     let bytes : a.bytes + b.bytes + c.bytes ≡ a.bytes + (b.bytes + c.bytes) = omega arith in
     λ i. record { count = count i; bytes = bytes i }
 
 -- added one after the other, or both at once
-added-twice : (totals : TotalsMap) (k : LabelSet) (v w : Total) → added (added totals k v) k w ≡ added totals k (plus v w)
+added-twice : (totals : TotalsMap) (k : LabelSet) (v w : Volume) → added (added totals k v) k w ≡ added totals k (plus v w)
 added-twice totals k v w =
     let first = added totals k v in
     let sum = plus (total_at totals k) v in
@@ -101,11 +101,11 @@ added-twice totals k v w =
 
 module _ (k : LabelSet) where
   -- lines with these labels, with an error or without one
-  abbrev by_error : Bool → Total → Partial → Partial
+  abbrev by_error : Bool → Volume → Partial → Partial
   by_error wrong v found = cond wrong (record { errors = found.errors + v.count; totals = found.totals }) (record { errors = found.errors; totals = added found.totals k v })
 
   -- lines with equal labels, counted one after the other or at once
-  pub with_run-more : (found : Partial) (v w : Total) → with_run k (plus v w) found ≡ with_run k w (with_run k v found)
+  pub with_run-more : (found : Partial) (v w : Volume) → with_run k (plus v w) found ≡ with_run k w (with_run k v found)
   with_run-more found v w =
       let errors : found.errors + (v.count + w.count) ≡ found.errors + v.count + w.count = omega arith in
       elim (has_error k) as (λ b. by_error b (plus v w) found ≡ by_error b w (by_error b v found)) [
@@ -117,7 +117,7 @@ module _ (k : LabelSet) where
     abbrev one : Contribution
     one = record { labels = k; bytes = bytes }
 
-    abbrev one_total : Total
+    abbrev one_total : Volume
     one_total = record { count = 1; bytes = bytes }
 
     errors_of-one : (wrong : Bool) → has_error k ≡ wrong → count_by (λ e. has_error e.labels) (one ∷ []) ≡ cond wrong 1 0
@@ -167,20 +167,20 @@ module _ (k : LabelSet) where
       ∙ ap (λ o. merge found (partial_of (map (λ (following : LabelSet). record { labels = following; bytes = length text }) (option_to_list o)))) ran
 
   -- lines that were counted are no more than all
-  pub run-fewer : (lines : ℕ) (v : Total) (found : Partial) → IsWithin lines (with_run k v found) → v.count ≤ lines
+  pub run-fewer : (lines : ℕ) (v : Volume) (found : Partial) → IsWithin lines (with_run k v found) → v.count ≤ lines
   run-fewer lines v found = elim (has_error k) as (λ b. IsWithin lines (by_error b v found) → v.count ≤ lines) [
     | true ↦ λ within. let counts = within.counts in omega (arith, counts)
     | false ↦ λ within. let counts = within.counts in omega (arith, counts, total_at-sum_of (λ t. t.count) refl (added found.totals k v) k, ap (λ t. t.count) (total_at-added found.totals k v))
   ]
 
   -- so they can be added
-  pub run-errors : (v : Total) (found : Partial) → HasRoom 0 (with_run k v found) → found.errors + v.count < 2 ^ 64
+  pub run-errors : (v : Volume) (found : Partial) → HasRoom 0 (with_run k v found) → found.errors + v.count < 2 ^ 64
   run-errors v found room = elim (has_error k) as (λ b. IsWithin room.0 (by_error b v found) → found.errors + v.count < 2 ^ 64) [
     | true ↦ λ within. let counts = within.counts in omega (arith, counts, room.1)
     | false ↦ λ within. let counts = within.counts in omega (arith, counts, room.1, total_at-sum_of (λ t. t.count) refl (added found.totals k v) k, ap (λ t. t.count) (total_at-added found.totals k v))
   ] room.2
 
-  pub run-totals : (v : Total) (found : Partial) → has_error k ≡ false → HasRoom 0 (with_run k v found) → TotalFits (plus (total_at found.totals k) v)
+  pub run-totals : (v : Volume) (found : Partial) → has_error k ≡ false → HasRoom 0 (with_run k v found) → VolumeFits (plus (total_at found.totals k) v)
   run-totals v found good room =
       let within : IsWithin room.0 (record { errors = found.errors; totals = added found.totals k v }) = subst (λ b. IsWithin room.0 (by_error b v found)) good room.2 in
       let sum = total_at-added found.totals k v in
@@ -191,7 +191,7 @@ module _ (k : LabelSet) where
       )
 
   -- and so can one line
-  pub one-totals : (bytes : ℕ) (found : Partial) → bytes ≤ longest_line → HasRoom 1 found → TotalFits (plus (total_at found.totals k) (record { count = 1; bytes = bytes }))
+  pub one-totals : (bytes : ℕ) (found : Partial) → bytes ≤ longest_line → HasRoom 1 found → VolumeFits (plus (total_at found.totals k) (record { count = 1; bytes = bytes }))
   one-totals bytes found fits room =
       let within = room.2 in
       let counts = within.counts in

@@ -3,11 +3,11 @@ use Rattle.std.proofs.Common.{◌≡◌, cond, None, Some, length, refl, sym, ap
 use Rattle.std.proofs.lemmas.Result.{on_ok_weaker}
 use Rattle.rl_pipeline.specs.Lines.{StreamLine}
 use Rattle.rl_pipeline.specs.Running.{run}
-use Rattle.rl_aggregate.specs.Tallies.{with_line, with_run}
+use Rattle.rl_aggregate.specs.Accumulators.{with_line, with_run}
 use Rattle.rl_aggregate.specs.Waiting.{with_waiting}
-use Rattle.rl_aggregate.specs.declared.total.Total.{Total}
-use Rattle.rl_aggregate.proofs.Tallying.{line_stays, line_leaves}
-use Rattle.rl_aggregate.proofs.tally.Tally.count.Goals as goal
+use Rattle.rl_aggregate.specs.declared.total.Volume.{Volume}
+use Rattle.rl_aggregate.proofs.Accumulating.{line_stays, line_leaves}
+use Rattle.rl_aggregate.proofs.accumulator.Accumulator.count.Goals as goal
 
 pub returns-then-keeps-clause-ok : goal.returns-then-keeps-clause-ok
 returns-then-keeps-clause-ok c =
@@ -43,7 +43,7 @@ returns-clause-ok c =
     let text = c.args.text.now in
     let stages = c.self.inside.running in
     let following = c.in-Some.following in
-    let one : Total = record { count = 1; bytes = length text } in
+    let one : Volume = record { count = 1; bytes = length text } in
     let ran : Some following ≡ run stages text labels = sym c.in-Some.is ∙ c.in_ok-following.ensures.run ∙ ap (λ (line : StreamLine). run stages line.text line.labels) c.requires.line in
     on_ok_weaker c.add_one.result (λ ok.
     (λ i. record { running = c.in_ok-following.ensures.same i; found = with_waiting (c.in_ok-add_waiting.ensures.none i) c.add_one.new.found })

@@ -1,7 +1,0 @@
--- A tally of each pipeline so far.
-use Rattle.std.proofs.Common.{◌≡◌, map, take}
-use Rattle.rl_aggregate.specs.Tallies.{nothing_counted}
-use Rattle.rl_aggregate.proofs.counter.tallies_of.Given as goal
-
-abbrev pub invariant-loop-pipeline : goal.invariant-loop-pipeline
-invariant-loop-pipeline l = l.tallies.items ≡ map nothing_counted (take l.pipeline-index l.pipelines)
