@@ -10,7 +10,7 @@ use crate::partial::Partial;
 use crate::total::Volume;
 use rl_labels::Labels;
 use rl_labels::labels::ERROR_LABEL;
-use rl_pipeline::{Line, Meter, Pipeline, Running};
+use rl_pipeline::{ParsedLine, Meter, Pipeline, Running};
 use rl_plain::TryCopy;
 use std::alloc::{AllocError, Global};
 use std::marker::Model;
@@ -67,7 +67,7 @@ impl<'a> Accumulator<'a> {
     pub(crate) fn count(
         &mut self,
         meter: &mut Meter,
-        line: &mut Line<'_>,
+        line: &mut ParsedLine<'_>,
         labels: &Labels,
         text: &str,
     ) -> Result<(), AllocError>

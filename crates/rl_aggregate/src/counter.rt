@@ -11,7 +11,7 @@ use crate::partial::Partial;
 use crate::accumulator::Accumulator;
 use rl_labels::Labels;
 use rl_labels::entry::MAX_LINE_LEN;
-use rl_pipeline::{Line, Meter, Pipeline};
+use rl_pipeline::{ParsedLine, Meter, Pipeline};
 use std::alloc::{AllocError, Global};
 use std::marker::Model;
 
@@ -103,7 +103,7 @@ fn count_in_each(accumulators: &mut [Accumulator<'_>], labels: &Labels, text: &s
     ensures within { (lines : ℕ) → AllByRecursion (λ accumulator. IsWithin lines accumulator.found) accumulators.old → AllByRecursion (λ accumulator. IsWithin (lines + 1) accumulator.found) accumulators.new }
 {
     let mut meter = Meter::new();
-    let mut line = Line::new(labels, text);
+    let mut line = ParsedLine::new(labels, text);
     for index in 0..accumulators.len() {
         accumulators[index].count(&mut meter, &mut line, labels, text)?;
     }

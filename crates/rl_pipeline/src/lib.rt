@@ -6,7 +6,7 @@
 //! - `filter`: `FilterCode`, a built line filter. `search`: `Search`, which asks many lines for one filter.
 //! - `json_labels`, `logfmt`: what the parsers find in a line. `lent`: texts that a line lends. `extracting`: the labels that it becomes. `parsing`: either of both.
 //! - `label_tests`: built label tests. `testing`: what asks many lines for them. `comparing`: tests by quantity, and `holds`, the comparison of numbers.
-//! - `line`: `Line`, which several pipelines have read once. `draft`: the labels of a line on its way through the stages. `meter`: `Meter`, which counts the runs.
+//! - `line`: `ParsedLine`, which several pipelines have read once. `draft`: the labels of a line on its way through the stages. `meter`: `Meter`, which counts the runs.
 //! - `pipeline`: `Pipeline`, built stages. `running`: `Running`, which sends many lines through them with one set of caches.
 //! - `sieve`: `SieveCode`, a built sieve. `sending`: what may be sent to another thread.
 #![tactic(auto)]
@@ -31,7 +31,7 @@ pub(crate) mod testing;
 
 pub use comparing::holds;
 pub use filter::FilterCode;
-pub use line::Line;
+pub use line::ParsedLine;
 pub use meter::Meter;
 pub use parsing::parsed;
 pub use pipeline::Pipeline;

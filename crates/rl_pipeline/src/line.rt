@@ -9,14 +9,14 @@ use std::marker::Model;
 /// A line of a stream, and what parsers found in it, so that each reads it once for all pipelines. Contracts see the labels
 /// of the stream and the bytes of the line.
 #[derive(Drop)]
-pub struct Line<'a> {
+pub struct ParsedLine<'a> {
     labels: &'a Labels,
     text: &'a str,
     json: Option<LabelsBuilder>,
     logfmt: Option<LabelsBuilder>,
 }
 
-impl<'a> Model for Line<'a> {
+impl<'a> Model for ParsedLine<'a> {
     ghost use Rattle.std.specs.Prelude.{IfSome};
     ghost use Rattle.rl_pipeline.specs.Lines.{StreamLine, line_code};
     ghost use Rattle.rl_pipeline.specs.Parsed.{json_labels, logfmt_labels};
@@ -31,12 +31,12 @@ impl<'a> Model for Line<'a> {
     ghost invariant = { λ a. (IfSome a.json (λ found. found ≡ json_labels a.labels.now a.text.now)) × (IfSome a.logfmt (λ found. found ≡ logfmt_labels a.labels.now a.text.now)) };
 }
 
-impl<'a> Line<'a> {
+impl<'a> ParsedLine<'a> {
     /// A line that no parser has read.
-    pub fn new(labels: &'a Labels, text: &'a str) -> Line<'a>
+    pub fn new(labels: &'a Labels, text: &'a str) -> ParsedLine<'a>
         ensures { result ≡ record { labels = labels.now; text = text.now } }
     {
-        Line {
+        ParsedLine {
             labels,
             text,
             json: None,

@@ -7,7 +7,7 @@ ghost use Rattle.rl_pipeline.specs.Steps.{code_stage};
 
 use crate::filter::FilterCode;
 use crate::label_tests::TestsCode;
-use crate::line::Line;
+use crate::line::ParsedLine;
 use crate::meter::Meter;
 use crate::running::Running;
 use rl_labels::Labels;
@@ -84,7 +84,7 @@ impl Pipeline {
     {
         meter.count_run();
         let mut running = self.running()?;
-        running.labels_of(&mut Line::new(labels, line))
+        running.labels_of(&mut ParsedLine::new(labels, line))
     }
 }
 

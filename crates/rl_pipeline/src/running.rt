@@ -7,7 +7,7 @@ ghost use Rattle.rl_pipeline.specs.Running.{where_true, run, keeps, lets_pass, k
 ghost use Rattle.rl_pipeline.specs.Steps.{code_stage, step_stage};
 
 use crate::draft::Draft;
-use crate::line::Line;
+use crate::line::ParsedLine;
 use crate::meter::Meter;
 use crate::parsing::ParserRunning;
 use crate::pipeline::StageCode;
@@ -88,7 +88,7 @@ impl<'a> Running<'a> {
         ensures left_out { keeps self.old line.now ≡ false → IsOk result }
         ensures same { self.new ≡ self.old }
     {
-        let mut line = Line::new(labels, line);
+        let mut line = ParsedLine::new(labels, line);
         self.run_shared(meter, &mut line)
     }
 
@@ -96,7 +96,7 @@ impl<'a> Running<'a> {
     pub fn run_shared(
         &mut self,
         meter: &mut Meter,
-        line: &mut Line<'_>,
+        line: &mut ParsedLine<'_>,
     ) -> Result<Option<Labels>, AllocError>
         ensures run { IfOk result (λ found. found ≡ run self.old line.old.text line.old.labels) }
         ensures counted { meter.new ≡ with_run meter.old }
@@ -110,7 +110,7 @@ impl<'a> Running<'a> {
 
     // As `run_shared`, and nothing is counted.
     #[tactic(auto, using(crate::proofs::Stages::filters_first))]
-    pub(crate) fn labels_of(&mut self, line: &mut Line<'_>) -> Result<Option<Labels>, AllocError>
+    pub(crate) fn labels_of(&mut self, line: &mut ParsedLine<'_>) -> Result<Option<Labels>, AllocError>
         ensures run { IfOk result (λ found. found ≡ run self.old line.old.text line.old.labels) }
         ensures left_out { keeps self.old line.old.text ≡ false → IsOk result }
         ensures same { self.new ≡ self.old }
@@ -182,7 +182,7 @@ fn lets_pass(step: &mut Step<'_>, line: &str) -> bool
 fn send(
     alloc: Global,
     steps: &mut [Step<'_>],
-    line: &mut Line<'_>,
+    line: &mut ParsedLine<'_>,
 ) -> Result<Option<Labels>, AllocError>
     ensures sent { IfOk result (λ found. found ≡ labels_after (map step_stage steps.old) line.old.text line.old.labels) }
     ensures same { steps.new ≡ steps.old }
@@ -197,7 +197,7 @@ fn send_after(
     alloc: Global,
     steps: &mut [Step<'_>],
     position: usize,
-    line: &mut Line<'_>,
+    line: &mut ParsedLine<'_>,
 ) -> Result<Option<Labels>, AllocError>
     ensures sent { IfOk result (λ found. found ≡ labels_after (map step_stage (drop position steps.old)) line.old.text line.old.labels) }
     ensures same { steps.new ≡ steps.old }
@@ -215,7 +215,7 @@ fn send_after(
 }
 
 // Reads the line by a stage that is a parser, unless one read it so before.
-fn read_by(alloc: Global, step: &mut Step<'_>, line: &mut Line<'_>) -> Result<(), AllocError>
+fn read_by(alloc: Global, step: &mut Step<'_>, line: &mut ParsedLine<'_>) -> Result<(), AllocError>
     ensures same { step.new ≡ step.old }
     ensures line { line.new ≡ line.old }
 {
@@ -231,7 +231,7 @@ fn read_by(alloc: Global, step: &mut Step<'_>, line: &mut Line<'_>) -> Result<()
 }
 
 // What a stage that is a parser found in the line.
-fn found_by<'l>(step: &Step<'_>, line: &'l Line<'_>) -> Option<&'l LabelsBuilder>
+fn found_by<'l>(step: &Step<'_>, line: &'l ParsedLine<'_>) -> Option<&'l LabelsBuilder>
     ensures { IfSome result (λ found. kept_run (step_stage step.now) line.now.text line.now.labels ≡ Some found.now) }
 {
     match step {

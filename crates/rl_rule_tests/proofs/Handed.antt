@@ -12,7 +12,7 @@ use Rattle.rl_world.specs.BookCalls.{books_from}
 use Rattle.rl_world.specs.WorldState.{BookState}
 use Rattle.rl_world.specs.declared.fault.Refusal.{Refusal}
 use Rattle.rl_session.specs.Names.{push_refusal}
-use Rattle.rl_rule_tests.specs.declared.lines.Line.{Line}
+use Rattle.rl_rule_tests.specs.declared.lines.TestLine.{TestLine}
 use Rattle.rl_rule_tests.specs.declared.lines.Stream.{Stream}
 use Rattle.rl_rule_tests.specs.Playing.{moment_of, IsHanded, IsHandedParts, IsTextOf, Ruler}
 
@@ -20,7 +20,7 @@ pub parts_handed : {E : Type 0} (ruler : Ruler E) (old new : E) (labels : LabelS
     → entry_fault labels text ≡ None → entry.labels ≡ labels → entry.timestamp ≡ moment → entry.line ≡ text → ruler.pushes old entry answer new → refused ≡ is_some (push_refusal answer) → IsHandedParts ruler old labels moment text refused new
 parts_handed ruler old new labels moment text entry answer refused fault of_labels at line pushed report = rw fault (entry, of_labels, at, line, answer, pushed, report)
 
-pub line_handed : {E : Type 0} (ruler : Ruler E) (old new : E) (stream : Stream) (line : Line) (labels : LabelSet) (moment : ℕ) (text : List ℕ) (refused : Bool)
+pub line_handed : {E : Type 0} (ruler : Ruler E) (old new : E) (stream : Stream) (line : TestLine) (labels : LabelSet) (moment : ℕ) (text : List ℕ) (refused : Bool)
     → moment_of line.moment line.before ≡ Some moment → IsTextOf line text → labels ≡ stream.labels → IsHandedParts ruler old labels moment text refused new → IsHanded ruler old (stream, line) refused new
 line_handed ruler old new stream line labels moment text refused fits is same handed = rw fits (text, is, subst (λ labels. IsHandedParts ruler old labels moment text refused new) same handed)
 

@@ -25,7 +25,7 @@ use Rattle.rl_rule_tests.specs.declared.document.Edit.{Edit}
 use Rattle.rl_rule_tests.specs.declared.document.Span.{Span}
 use Rattle.rl_rule_tests.specs.declared.document.Test.{Test}
 use Rattle.rl_rule_tests.specs.declared.part.Steps.{Steps}
-use Rattle.rl_rule_tests.specs.declared.lines.Line.{Line}
+use Rattle.rl_rule_tests.specs.declared.lines.TestLine.{TestLine}
 use Rattle.rl_rule_tests.specs.declared.lines.Repeat.{Repeat}
 use Rattle.rl_rule_tests.specs.declared.lines.Stream.{Stream}
 use Rattle.rl_rule_tests.specs.declared.wanted.Wanted.{Wanted}
@@ -209,22 +209,22 @@ pub record IsRepeat (kind : RuleKind) (rule : List ℕ) (table : Members) (repea
 
 -- the line with a number, from 0, of those at the moment with an index: the last has the moment itself, and each one before it a
 -- nanosecond less
-abbrev pub line_at : Repeat → (index number : ℕ) → Line
+abbrev pub line_at : Repeat → (index number : ℕ) → TestLine
 line_at repeat index number = record { moment = sum_up_to repeat.steps.from (min (index * repeat.steps.step) (2 ^ 64 - 1)); before = repeat.times - number - 1; number = Some (sum_up_to index 1); text = repeat.line }
 
-abbrev pub lines_from : Repeat → (index number left : ℕ) → List Line
+abbrev pub lines_from : Repeat → (index number left : ℕ) → List TestLine
 lines_from repeat index number zero = []
 lines_from repeat index number (suc left) = line_at repeat index number ∷ lines_from repeat index (number + 1) left
 
-abbrev pub lines_at : Repeat → ℕ → List Line
+abbrev pub lines_at : Repeat → ℕ → List TestLine
 lines_at repeat index = lines_from repeat index 0 repeat.times
 
-abbrev pub repeated_from : Repeat → (index left : ℕ) → List Line
+abbrev pub repeated_from : Repeat → (index left : ℕ) → List TestLine
 repeated_from repeat index zero = []
 repeated_from repeat index (suc left) = lines_at repeat index ++ repeated_from repeat (index + 1) left
 
 -- the lines that stand for a repeated one, moment after moment
-abbrev pub repeated_lines : Repeat → List Line
+abbrev pub repeated_lines : Repeat → List TestLine
 repeated_lines repeat = repeated_from repeat 0 repeat.steps.count
 
 -- the keys of a stream

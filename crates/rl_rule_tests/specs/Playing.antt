@@ -30,7 +30,7 @@ use Rattle.rl_rule_tests.specs.declared.events.Event.{Event}
 use Rattle.rl_rule_tests.specs.declared.events.What.{What}
 use Rattle.rl_rule_tests.specs.declared.events.What.TheVariants as whats
 use Rattle.rl_rule_tests.specs.declared.playing.Moment.{Moment}
-use Rattle.rl_rule_tests.specs.declared.lines.Line.{Line}
+use Rattle.rl_rule_tests.specs.declared.lines.TestLine.{TestLine}
 use Rattle.rl_rule_tests.specs.declared.lines.Stream.{Stream}
 use Rattle.rl_rule_tests.specs.Counting.{Counts, one_failed, one_failed_if, IsCounted}
 use Rattle.rl_rule_tests.specs.Happening.{event_cmp, happenings}
@@ -76,7 +76,7 @@ abbrev pub moment_of : ℕ → ℕ → Option ℕ
 moment_of at before = if nat_le (sum_up_to start_of_tests at - before) greatest_moment then Some (sum_up_to start_of_tests at - before) else None
 
 -- the text of a line; what stands for `{n}` is not specified
-abbrev pub IsTextOf : Line → List ℕ → Type 0
+abbrev pub IsTextOf : TestLine → List ℕ → Type 0
 IsTextOf line text = line.number ≡ None → text ≡ line.text.now
 
 -- nothing has been given yet at a later moment
@@ -84,10 +84,10 @@ abbrev pub arrived : {E : Type 0} → ℕ → Stage E → Stage E
 arrived at stage = record { engine = stage.engine; at = if nat_lt stage.at at then at else stage.at; given = if nat_lt stage.at at then [] else stage.given; counts = stage.counts }
 
 -- the line of an event, and its stream
-abbrev pub line_of : Stream → ℕ → Option (Stream × Line)
+abbrev pub line_of : Stream → ℕ → Option (Stream × TestLine)
 line_of stream index = option_map (λ line. (stream, line)) (slice_get stream.lines.items index)
 
-abbrev pub line_at : Test → Event → Option (Stream × Line)
+abbrev pub line_at : Test → Event → Option (Stream × TestLine)
 line_at test event = option_and_then (λ stream. line_of stream event.line) (slice_get test.streams.items event.number)
 
 -- one of the evaluations is of the group
@@ -118,7 +118,7 @@ module _ {E : Type 0} (ruler : Ruler E) where
       (λ _. (refused ≡ true) × (new ≡ old))
 
   -- a line of a stream is handed to it
-  abbrev pub IsHanded : E → Stream × Line → Bool → E → Type 0
+  abbrev pub IsHanded : E → Stream × TestLine → Bool → E → Type 0
   IsHanded old line refused new =
       MatchOption (moment_of line.1.moment line.1.before)
       ((refused ≡ true) × (new ≡ old))
@@ -145,7 +145,7 @@ module _ {E : Type 0} (ruler : Ruler E) where
   IsEvaluatedOnce old number moment false new = (answer : Result Committed Refusal) × ruler.evaluates old.engine number moment answer new.engine × IsGiven answer old new × (new.at ≡ old.at)
 
   -- the line of an event, if there is one, is handed in
-  abbrev pub HandsLine : Counted E → Option (Stream × Line) → Counted E → Type 0
+  abbrev pub HandsLine : Counted E → Option (Stream × TestLine) → Counted E → Type 0
   HandsLine old None new = new ≡ old
   HandsLine old (Some line) new = (refused : Bool) × IsHanded old.engine line refused new.engine × (new.counts ≡ one_failed_if refused old.counts)
 
@@ -161,7 +161,7 @@ module _ {E : Type 0} (ruler : Ruler E) where
 
   -- what an event makes of a test that has come to its moment
   abbrev pub HappensBy : List Group → Test → Stage E → Event → What → Stage E → Type 0
-  HappensBy groups test old event whats.Line new = HandsLine (counted old) (line_at test event) (counted new) × IsStill old new
+  HappensBy groups test old event whats.TestLine new = HandsLine (counted old) (line_at test event) (counted new) × IsStill old new
   HappensBy groups test old event whats.Edit new = PutsGroups (counted old) (slice_get test.edits.items event.number) (counted new) × IsStill old new
   HappensBy groups test old event whats.Evaluation new = Evaluates old event.number (slice_get groups event.number) (moment_of event.at 0) new
   HappensBy groups test old event whats.Check new = Checks (slice_get test.checks.items event.number) old.given old.counts new.counts × (new.engine ≡ old.engine) × IsStill old new

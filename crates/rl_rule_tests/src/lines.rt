@@ -10,7 +10,7 @@ use rl_labels::Labels;
 pub(crate) struct Stream<'a> {
     pub(crate) labels: Labels,
     pub(crate) late: u64,
-    pub(crate) lines: Vec<Line<'a>>,
+    pub(crate) lines: Vec<TestLine<'a>>,
     // What stands for more lines, until it is written out.
     pub(crate) repeats: Vec<Repeat<'a>>,
     ghost of_stream: { IsTrue (are_stream_labels labels) },
@@ -18,7 +18,7 @@ pub(crate) struct Stream<'a> {
 
 /// A line, whose time lies `before` nanoseconds before its moment. A repeated one has its moment's number, from 1, for `{n}`.
 #[derive(Clone, Copy)]
-pub(crate) struct Line<'a> {
+pub(crate) struct TestLine<'a> {
     pub(crate) moment: u64,
     pub(crate) before: u64,
     pub(crate) number: Option<u64>,

@@ -10,7 +10,7 @@ use crate::differences::{push_differences, push_side};
 use crate::document::{Check, Edit, Span, Test};
 use crate::events::{Event, What, events_of};
 use crate::judging::{agree, given, is_named, results_of};
-use crate::lines::{Line, Stream};
+use crate::lines::{TestLine, Stream};
 use crate::rows::Outcome;
 use crate::report::Report;
 use crate::wanted::wanted_of;
@@ -158,7 +158,7 @@ fn play_event<E: Engine>(
 {
     arrive(moment, event.at);
     match event.what {
-        What::Line => play_line(alloc, engine, test, event, report),
+        What::TestLine => play_line(alloc, engine, test, event, report),
         What::Edit => play_edit(engine, test, event, report),
         What::Evaluation => play_evaluation(engine, groups, test.name, event, moment, report),
         What::Check => play_check(alloc, groups, test, event, &moment.given, report),
@@ -212,7 +212,7 @@ fn push_line<E: Engine>(
     alloc: Global,
     engine: &mut E,
     stream: &Stream<'_>,
-    line: Line<'_>,
+    line: TestLine<'_>,
 ) -> Result<Option<&'static str>, AllocError>
     ensures { IfOk result (λ why. IsHanded (ruler_of E.calls) engine.old (stream.now, line.entry) (is_some why) engine.new) }
 {
@@ -226,7 +226,7 @@ fn push_line<E: Engine>(
 }
 
 // The text of a line, with its number where it has one.
-fn text_of(alloc: Global, line: Line<'_>) -> Result<PlainText, AllocError>
+fn text_of(alloc: Global, line: TestLine<'_>) -> Result<PlainText, AllocError>
     ensures { IfOk result (IsTextOf line.entry) }
 {
     let Some(number) = line.number else {

@@ -7,7 +7,7 @@ ghost use Rattle.rl_rules.specs.Document.{tables_at};
 ghost use Rattle.rl_rule_tests.specs.Document.{lines_at, repeated_lines, times_in, IsExpansion, IsRepeat, IsStream, IsUnexpanded};
 
 use crate::fault::{TestsError, within};
-use crate::lines::{Line, Repeat, Stream};
+use crate::lines::{TestLine, Repeat, Stream};
 use crate::part::{Item, Part, nanoseconds_in};
 use std::alloc::Global;
 
@@ -43,7 +43,7 @@ impl<'a> Item<'a> for Stream<'a> {
     }
 }
 
-fn push_written<'a>(part: Part<'a>, lines: &mut Vec<Line<'a>>) -> Result<(), TestsError> {
+fn push_written<'a>(part: Part<'a>, lines: &mut Vec<TestLine<'a>>) -> Result<(), TestsError> {
     let Some(text) = part.text("lines")? else {
         return Ok(());
     };
@@ -63,12 +63,12 @@ fn push_written<'a>(part: Part<'a>, lines: &mut Vec<Line<'a>>) -> Result<(), Tes
 }
 
 // The line that is written after its time and blanks.
-fn line_in(line: &str) -> Option<Line<'_>> {
+fn line_in(line: &str) -> Option<TestLine<'_>> {
     let (time, text) = match line.find(|letter: char| letter == ' ' || letter == '\t') {
         Some(end) => line.split_at(end),
         None => (line, ""),
     };
-    Some(Line {
+    Some(TestLine {
         moment: nanoseconds_in(time)?,
         before: 0,
         number: None,
@@ -156,7 +156,7 @@ fn expand(stream: Stream<'_>) -> Result<Stream<'_>, TestsError>
     })
 }
 
-fn push_repeats<'a>(lines: &mut Vec<Line<'a>>, repeats: &[Repeat<'a>]) -> Result<(), TestsError>
+fn push_repeats<'a>(lines: &mut Vec<TestLine<'a>>, repeats: &[Repeat<'a>]) -> Result<(), TestsError>
     ensures { OnOk result (lines.new.items ≡ lines.old.items ++ flat_map repeated_lines repeats.now) }
 {
     for repeat in repeats {
@@ -165,7 +165,7 @@ fn push_repeats<'a>(lines: &mut Vec<Line<'a>>, repeats: &[Repeat<'a>]) -> Result
     Ok(())
 }
 
-fn push_repeated<'a>(lines: &mut Vec<Line<'a>>, repeat: Repeat<'a>) -> Result<(), TestsError>
+fn push_repeated<'a>(lines: &mut Vec<TestLine<'a>>, repeat: Repeat<'a>) -> Result<(), TestsError>
     ensures { OnOk result (lines.new.items ≡ lines.old.items ++ repeated_lines repeat.entry) }
 {
     for index in 0..repeat.steps.count {
@@ -176,7 +176,7 @@ fn push_repeated<'a>(lines: &mut Vec<Line<'a>>, repeat: Repeat<'a>) -> Result<()
 
 // Adds the repeated lines at a moment. The last has the moment itself, and each one before it a nanosecond less.
 fn push_moment<'a>(
-    lines: &mut Vec<Line<'a>>,
+    lines: &mut Vec<TestLine<'a>>,
     repeat: Repeat<'a>,
     index: u64,
 ) -> Result<(), TestsError>
@@ -184,7 +184,7 @@ fn push_moment<'a>(
 {
     let Repeat { steps, times, line } = repeat;
     for number in 0..times {
-        lines.push(Line {
+        lines.push(TestLine {
             moment: steps.from.saturating_add(index.saturating_mul(steps.step)),
             before: times - number - 1,
             number: Some(index.saturating_add(1)),

@@ -34,7 +34,7 @@ use Rattle.rl_streams.specs.StreamRows.{Row}
 use Rattle.rl_streams.specs.StreamsState.{StreamsView}
 use Rattle.rl_shard.specs.Collecting.{counting, counting_shown, shown, IsOfReading, IsRead, IsStartOf}
 use Rattle.rl_shard.specs.ShardFault.{HasCause, fault_of_read}
-use Rattle.rl_shard.specs.declared.lines.Lines.{Lines}
+use Rattle.rl_shard.specs.declared.lines.LineCounter.{LineCounter}
 use Rattle.rl_shard.proofs.Windows.{and_true, both_true, filter_flat, filter_map, filter_same, is_between, narrow_rows, start_at, starts_at, starts_before}
 
 pub not_true : (b : Bool) → (b ≡ true → ⊥) → b ≡ false
@@ -61,7 +61,7 @@ abbrev pub is_shown : RequestsView → LabelSet × Line → Bool
 is_shown requests line = not (covered_line requests line.0 line.1.timestamp line.1.text)
 
 -- a line is handed to what counts, and to what counts any
-abbrev pub counts : Lines → LabelSet × Line → Lines
+abbrev pub counts : LineCounter → LabelSet × Line → LineCounter
 counts lines line =
     cond (nat_lt lines.t line.1.timestamp) (record { counter = lines.counter; requests = lines.requests; range = lines.range; t = lines.t; lasts = min lines.lasts (line.1.timestamp - lines.t - 1) })
     (cond (nat_le lines.range (lines.t - line.1.timestamp)) lines
@@ -72,7 +72,7 @@ abbrev counts_any : CounterView → LabelSet × Line → CounterView
 counts_any counter line = counted_line line.0 line.1.text counter
 
 module _ (requests : Bor RequestsView) (range t : ℕ) where
-  abbrev pub visitor : CounterView → ℕ → Lines
+  abbrev pub visitor : CounterView → ℕ → LineCounter
   visitor counter lasts = record { counter = counter; requests = requests; range = range; t = t; lasts = lasts }
 
   -- the line is of the window, and it is shown
@@ -84,7 +84,7 @@ module _ (requests : Bor RequestsView) (range t : ℕ) where
     pub ahead : nat_lt t line.1.timestamp ≡ true → t + lasts < line.1.timestamp
     pub within : is_counted line ≡ true → lasts + (t - line.1.timestamp) < range
 
-  pub record Ends (counter : CounterView) (lasts : ℕ) (lines : List (LabelSet × Line)) (after : Lines) : Type 0 where
+  pub record Ends (counter : CounterView) (lasts : ℕ) (lines : List (LabelSet × Line)) (after : LineCounter) : Type 0 where
     pub counted : after.counter ≡ fold counts_any counter (filter is_counted lines)
     pub fewer : after.lasts ≤ lasts
     pub noticed : AllByRecursion (Noticed after.lasts) lines
@@ -288,14 +288,14 @@ reorder selected asked true shown stays reaches = ap (λ b. (selected && b) && (
     by false true stays = refl
     by false false stays = refl
 
-module _ (first : Term) (terms : List Term) (streams : StreamsView) (requests : Bor RequestsView) (t start to : ℕ) (after : Lines) (alike : AllByRecursion (IsAlike first) terms) where
+module _ (first : Term) (terms : List Term) (streams : StreamsView) (requests : Bor RequestsView) (t start to : ℕ) (after : LineCounter) (alike : AllByRecursion (IsAlike first) terms) where
   abbrev pub pipelines : List (List Stage)
   pipelines = map (λ (term : Term). term.range.stages) terms
 
   abbrev range : ℕ
   range = first.range.seconds * second
 
-  abbrev none : Lines
+  abbrev none : LineCounter
   none = visitor requests range t (none_counted streams.limits.entries pipelines) (to - t)
 
   module _ (few : length (keys streams.held) ≤ streams.limits.entries) (once : AreVisitedOnce first.range.selector.matchers start to streams.held counts none after) where

@@ -12,7 +12,7 @@ ghost use Rattle.rl_shard.specs.ShardFault.{HasCause};
 ghost use Rattle.rl_shard.specs.Standing.{AreKept, StandsFor};
 
 use crate::kept::KeptRanges;
-use crate::lines::Lines;
+use crate::lines::LineCounter;
 use crate::step::ShardFault;
 use rl_aggregate::{Counter, Partial, pipelines_of};
 use rl_chunks::Store;
@@ -128,7 +128,7 @@ fn add_up<S: Store>(
     let pipelines = pipelines_of(alloc, terms)?;
     show_few(streams, requests);
     let counter = Counter::new(alloc, &pipelines, streams.limits().entries)?;
-    let mut lines = Lines {
+    let mut lines = LineCounter {
         counter,
         requests,
         range: first.range.seconds * SECOND,

@@ -12,7 +12,7 @@ use std::alloc::AllocError;
 // Counts each visited line of the window of `range` nanoseconds that ends at `t`, but for those that a received request covers.
 // The windows that end at most `lasts` nanoseconds after `t` have the same visited lines.
 #[derive(Drop)]
-pub(crate) struct Lines<'a, 'b> {
+pub(crate) struct LineCounter<'a, 'b> {
     pub(crate) counter: Counter<'a>,
     pub(crate) requests: &'b Requests,
     pub(crate) range: u64,
@@ -20,7 +20,7 @@ pub(crate) struct Lines<'a, 'b> {
     pub(crate) lasts: u64,
 }
 
-impl<'a, 'b> Visitor for Lines<'a, 'b> {
+impl<'a, 'b> Visitor for LineCounter<'a, 'b> {
     ghost visiting = { λ lines line. if nat_lt lines.t line.1.timestamp then record { counter = lines.counter; requests = lines.requests; range = lines.range; t = lines.t; lasts = min lines.lasts (line.1.timestamp - lines.t - 1) } else (if nat_le lines.range (lines.t - line.1.timestamp) then lines else (if covered_line lines.requests.now line.0 line.1.timestamp line.1.text then lines else record { counter = counted_line line.0 line.1.text lines.counter; requests = lines.requests; range = lines.range; t = lines.t; lasts = min lines.lasts (lines.range - (lines.t - line.1.timestamp) - 1) })) };
 
     fn take(&mut self, labels: &Labels, timestamp: Ns, text: &str) -> Result<(), AllocError> {

@@ -4,7 +4,7 @@ ghost use Rattle.rl_parts.specs.StoreUse.{ReadCause, Right};
 ghost use Rattle.rl_streams.specs.Asking.{left};
 ghost use Rattle.rl_streams.specs.StreamsState.{order_of, Looks};
 
-use crate::lines::Lines;
+use crate::lines::WaitingLines;
 use crate::streams::Streams;
 use rl_chunks::{Line, Store};
 use rl_labels::{Labels, Ns, SelectorCode};
@@ -21,7 +21,7 @@ pub struct Cursor<'a, S: Store> {
     // Where the next stream stands.
     position: usize,
     // Lines of the streams before it, which wait here.
-    lines: Lines,
+    lines: WaitingLines,
 }
 
 // Asks streams from the index on, until lines wait or no stream is left. A stream that was not read to its end is asked again.
@@ -31,7 +31,7 @@ fn fill<S: Store>(
     from: Ns,
     to: Ns,
     position: &mut usize,
-    lines: &mut Lines,
+    lines: &mut WaitingLines,
 ) -> Result<(), ReadFault>
     ensures same { Looks streams.old streams.new }
     ensures cause { IfErr result (ReadCause streams.old.seen streams.new.seen) }
@@ -61,7 +61,7 @@ impl<'a, S: Store> Cursor<'a, S> {
         selector: &'a SelectorCode,
         from: Ns,
         to: Ns,
-        lines: Lines,
+        lines: WaitingLines,
     ) -> Self
         ensures same_reference { result.streams.ghost_name ≡ streams.entry.ghost_name }
         ensures streams { result.streams.now ≡ streams.old }

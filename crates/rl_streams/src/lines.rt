@@ -11,12 +11,12 @@ use std::marker::Model;
 
 // Lines with their labels, the next one first. Lines of one stream share their labels.
 #[derive(Drop)]
-pub(crate) struct Lines {
+pub(crate) struct WaitingLines {
     alloc: Global,
     lines: VecDeque<(Shared<Labels>, Line)>,
 }
 
-impl Model for Lines {
+impl Model for WaitingLines {
     ghost use Rattle.std.specs.Prelude.{List};
     ghost use Rattle.rl_labels.specs.LabelSet.{LabelSet};
     ghost use Rattle.rl_chunks.specs.declared.line.Line.{Line};
@@ -47,12 +47,12 @@ fn shared(
     Shared::new(alloc, labels.try_copy()?)
 }
 
-impl Lines {
+impl WaitingLines {
     // None wait.
-    pub(crate) fn new(alloc: Global) -> Lines
+    pub(crate) fn new(alloc: Global) -> WaitingLines
         ensures { result ≡ [] }
     {
-        Lines {
+        WaitingLines {
             alloc,
             lines: VecDeque::new(alloc),
         }
@@ -80,7 +80,7 @@ impl Lines {
     }
 }
 
-impl Visitor for Lines {
+impl Visitor for WaitingLines {
     ghost use Rattle.std.specs.Prelude.{◌++◌};
 
     ghost visiting = { λ lines line. lines ++ line ∷ [] };

@@ -4,7 +4,7 @@ ghost use Rattle.rl_chunks.specs.StoreState.{greatest};
 
 use crate::adding::{age_refusal, position_of, put};
 use crate::cursor::Cursor;
-use crate::lines::Lines;
+use crate::lines::WaitingLines;
 use crate::refusal::AddRefusal;
 use crate::selections::Selections;
 use crate::{cutting, flushing, reading, rewriting};
@@ -207,7 +207,7 @@ impl<S: Store> Streams<S> {
         ensures asks { (result.selector.now ≡ selector.now) × (result.from ≡ from) × (result.to ≡ to) }
         ensures left { self.old.seen.honest ≡ true → AreVisitedOnce selector.now from to self.old.held (λ lines line. lines ++ line ∷ []) [] (left_in result) }
     {
-        let lines = Lines::new(self.alloc);
+        let lines = WaitingLines::new(self.alloc);
         Cursor::new(self, selector, from, to, lines)
     }
 
@@ -225,7 +225,7 @@ impl<S: Store> Streams<S> {
         selector: &SelectorCode,
         from: Ns,
         to: Ns,
-        lines: &mut Lines,
+        lines: &mut WaitingLines,
     ) -> Result<(), ReadFault>
         requires { position < length (order_of self.old) }
         ensures same { Looks self.old self.new }

@@ -83,7 +83,7 @@ fn push_spot(text: &mut String, spot: Spot<'_>) -> Result<(), OutOfMemory> {
 
 /// A line without its line feed, cut in two at a byte.
 #[derive(Clone, Copy)]
-pub(crate) struct Line<'a> {
+pub(crate) struct CutLine<'a> {
     pub(crate) before: &'a str,
     pub(crate) following: &'a str,
 }
@@ -98,7 +98,7 @@ pub(crate) fn cut_at(text: &str, location: usize) -> (&str, &str) {
 }
 
 /// The line that has the byte, or the last one where the text is no longer.
-pub(crate) fn line_at(text: &str, location: usize) -> Line<'_> {
+pub(crate) fn line_at(text: &str, location: usize) -> CutLine<'_> {
     let (front, back) = cut_at(text, location);
     let before = match front.rsplit_once('\n') {
         Some((_, before)) => before,
@@ -108,11 +108,11 @@ pub(crate) fn line_at(text: &str, location: usize) -> Line<'_> {
         Some((following, _)) => following,
         None => back,
     };
-    Line { before, following }
+    CutLine { before, following }
 }
 
 /// Writes the line after two spaces, and below it a caret under the byte.
-pub(crate) fn push_line(text: &mut String, line: Line<'_>) -> Result<(), OutOfMemory> {
+pub(crate) fn push_line(text: &mut String, line: CutLine<'_>) -> Result<(), OutOfMemory> {
     writeln!(text, "  {}{}", line.before, line.following)?;
     text.push_str("  ")?;
     for letter in line.before.chars() {

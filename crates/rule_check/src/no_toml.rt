@@ -1,6 +1,6 @@
 //! A text that is no TOML document.
 
-use crate::location::{Line, cut_at, line_at, push_line};
+use crate::location::{CutLine, cut_at, line_at, push_line};
 use crate::findings::{Findings, OutOfMemory};
 use crate::values::is_duration;
 use std::fmt::Write;
@@ -48,13 +48,13 @@ pub(crate) fn push_no_toml(
 }
 
 // The line after its lead.
-fn push_led_line(findings: &mut Findings, lead: &str, line: Line<'_>) -> Result<(), OutOfMemory> {
+fn push_led_line(findings: &mut Findings, lead: &str, line: CutLine<'_>) -> Result<(), OutOfMemory> {
     let mut before = String::from_str(*findings.text.allocator(), lead)?;
     before.push_str(line.before)?;
     let following = line.following.strip_suffix('\r').unwrap_or(line.following);
     push_line(
         &mut findings.text,
-        Line {
+        CutLine {
             before: before.as_str(),
             following,
         },
@@ -62,7 +62,7 @@ fn push_led_line(findings: &mut Findings, lead: &str, line: Line<'_>) -> Result<
 }
 
 // The word that the byte is in as a text, if it is a duration.
-fn push_near_text(findings: &mut Findings, line: Line<'_>) -> Result<(), OutOfMemory> {
+fn push_near_text(findings: &mut Findings, line: CutLine<'_>) -> Result<(), OutOfMemory> {
     let mut word = String::new(*findings.text.allocator());
     word.push_str(last_word(line.before))?;
     word.push_str(first_word(line.following))?;

@@ -9,7 +9,7 @@ use Rattle.rl_aggregate.specs.Limited.{IsWithin}
 use Rattle.rl_aggregate.specs.Accumulators.{IsAlike, nothing_counted}
 use Rattle.rl_streams.specs.Asking.{AreVisited, AreVisitedOnce}
 use Rattle.rl_shard.specs.Collecting.{IsRead}
-use Rattle.rl_shard.specs.declared.lines.Lines.{Lines}
+use Rattle.rl_shard.specs.declared.lines.LineCounter.{LineCounter}
 use Rattle.rl_shard.proofs.Counted.{all_mapped, counts, exact_all, most_is, none_counted, not_over, not_true, read_each, visitor}
 use Rattle.rl_shard.proofs.collecting.add_up.Goals as goal
 
@@ -25,7 +25,7 @@ returns-then-is_over-clause-cause g c =
     c.in_ok-counter.ensures ∙ (λ i. record { most = (c.limits.ensures i).entries; left = (c.limits.ensures i).entries; is_over = false; accumulators = map nothing_counted (stages i) }) in
     let alike = all_mapped (IsAlike first) (λ (term : Bor Term). term.now) c.args.terms.now c.requires.alike in
     not_true streams.seen.honest (λ honest.
-    let once = subst (λ (lines : Lines). AreVisitedOnce first.range.selector.matchers c.start_of-start.result c.args.to streams.held counts lines c.each.new.visitor) (λ i. visitor requests range c.args.t (counter i) (c.get.ensures.value i - c.get-2.ensures.value i)) (c.in_ok-each.ensures.right honest) in
+    let once = subst (λ (lines : LineCounter). AreVisitedOnce first.range.selector.matchers c.start_of-start.result c.args.to streams.held counts lines c.each.new.visitor) (λ i. visitor requests range c.args.t (counter i) (c.get.ensures.value i - c.get-2.ensures.value i)) (c.in_ok-each.ensures.right honest) in
     true≢false (sym c.if-is_over.true ∙ c.is_over.ensures ∙ not_over first terms streams requests c.args.t c.start_of-start.result c.args.to c.each.new.visitor alike c.show_few.ensures.held once))
 
 pub returns-clause-partials : goal.returns-clause-partials
@@ -43,7 +43,7 @@ returns-clause-partials g c u later within =
     let counter : c.in_ok-counter.counter ≡ none_counted streams.limits.entries (map (λ (term : Term). term.range.stages) terms) =
     c.in_ok-counter.ensures ∙ (λ i. record { most = (c.limits.ensures i).entries; left = (c.limits.ensures i).entries; is_over = false; accumulators = map nothing_counted (stages i) }) in
     let alike = all_mapped (IsAlike first) (λ (term : Bor Term). term.now) c.args.terms.now c.requires.alike in
-    let answered = subst (λ (lines : Lines). AreVisited counts first.range.selector.matchers start c.args.to streams.rows lines after) (λ i. visitor requests range c.args.t (counter i) (c.get.ensures.value i - c.get-2.ensures.value i)) c.in_ok-each.ensures.answered in
+    let answered = subst (λ (lines : LineCounter). AreVisited counts first.range.selector.matchers start c.args.to streams.rows lines after) (λ i. visitor requests range c.args.t (counter i) (c.get.ensures.value i - c.get-2.ensures.value i)) c.in_ok-each.ensures.answered in
     let not_over = sym c.is_over.ensures ∙ c.if-is_over.false in
     let found = c.in_ok-partials.ensures.found in
     let read = subst (AllZip (λ (term : Term) found. IsRead streams.rows requests.now term.range u found) terms) (sym found) (read_each first terms streams requests c.args.t start c.args.to after alike answered u starts some later within c.requires.to not_over) in
@@ -52,6 +52,6 @@ returns-clause-partials g c u later within =
       within = subst (λ most. AllByRecursion (IsWithin most) c.in_ok-partials.partials.items) (most_is first terms streams requests c.args.t start c.args.to after alike answered) c.in_ok-partials.ensures.within;
       read = read;
       exact = λ honest.
-          let once = subst (λ (lines : Lines). AreVisitedOnce first.range.selector.matchers start c.args.to streams.held counts lines after) (λ i. visitor requests range c.args.t (counter i) (c.get.ensures.value i - c.get-2.ensures.value i)) (c.in_ok-each.ensures.right honest) in
+          let once = subst (λ (lines : LineCounter). AreVisitedOnce first.range.selector.matchers start c.args.to streams.held counts lines after) (λ i. visitor requests range c.args.t (counter i) (c.get.ensures.value i - c.get-2.ensures.value i)) (c.in_ok-each.ensures.right honest) in
           found ∙ exact_all first terms streams requests c.args.t start c.args.to after alike c.show_few.ensures.held once u starts some later within c.requires.to;
     }
