@@ -10,8 +10,8 @@ no_other_answer e = cc
 no_other_fault : Gives {X = Bool} {Y = Bool} {F = ℕ} (λ b. b) (Err (Fault 1)) (Err 2) → ⊥
 no_other_fault e = cc
 
-want_of_memory : Gives {X = Bool} {Y = Bool} {F = ℕ} (λ b. b) (Err Memory) (Ok true)
-want_of_memory = tt
+out_of_memory : Gives {X = Bool} {Y = Bool} {F = ℕ} (λ b. b) (Err Memory) (Ok true)
+out_of_memory = tt
 
 no_other_answer_without_memory : Answers {X = Bool} {F = ℕ} (λ b. b) (Ok true) (Ok false) → ⊥
 no_other_answer_without_memory e = cc
