@@ -26,7 +26,12 @@ const PUSH: &str = r#"{"streams":[{"stream":{"app":"a"},"values":[["5000000000",
 pub const WRITTEN: &str = "{__name__=\"c\",app=\"a\"} 1 10000000000\n# end 1\n";
 
 /// Asserts that an answer is the one that is wanted.
-pub(crate) fn is<T: PartialEq + std::fmt::Debug + Drop>(rt: &impl Abort, found: T, want: T, at: u64) {
+pub(crate) fn is<T: PartialEq + std::fmt::Debug + Drop>(
+    rt: &impl Abort,
+    found: T,
+    want: T,
+    at: u64,
+) {
     assert!(rt; found == want, "at {at}: {found:?} and not {want:?}");
 }
 

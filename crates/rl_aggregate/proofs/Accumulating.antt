@@ -22,7 +22,7 @@ use Rattle.rl_aggregate.specs.Limited.{IsWithin}
 use Rattle.rl_aggregate.specs.Partials.{has_error, total_of, totals_of, partial_of, both_totals, merge, counts_for, VolumeFits}
 use Rattle.rl_aggregate.specs.Accumulators.{contributions_of, with_run, HasRoom}
 use Rattle.rl_aggregate.specs.TotalsMap.{TotalsMap, no_total, plus, total_at, added}
-use Rattle.rl_aggregate.specs.declared.total.Volume.{Volume}
+use Rattle.rl_aggregate.specs.declared.volume.Volume.{Volume}
 use Rattle.rl_aggregate.specs.declared.partial.Partial.{Partial}
 use Rattle.rl_aggregate.specs.laws.Sums.{total_at-sum_of}
 use Rattle.rl_aggregate.specs.laws.Totals.{label_set_eq-cmp, same_totals, get-totals_of, get-both_totals}

@@ -13,7 +13,7 @@ use Rattle.rl_labels.specs.LabelText.{label_set_cmp, label_set_eq}
 use Rattle.rl_labels.specs.laws.TextLaws.{label_set_cmp_total, label_set_cmp-IsAntisymmetric, label_set_eq-true, label_set_eq_itself}
 use Rattle.rl_aggregate.specs.TotalsMap.{TotalsMap, no_total, plus, total_at, added}
 use Rattle.rl_plain.specs.laws.TreeMaps.{get-of_tree, one_set, entries-of_tree}
-use Rattle.rl_aggregate.specs.declared.total.Volume.{Volume}
+use Rattle.rl_aggregate.specs.declared.volume.Volume.{Volume}
 
 abbrev pub Entries : Type 0
 Entries = List (LabelSet × Volume)

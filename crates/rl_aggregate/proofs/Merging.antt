@@ -14,7 +14,7 @@ use Rattle.std.proofs.lemmas.Float.{T_from_true}
 use Rattle.rl_labels.specs.laws.TextLaws.{label_set_cmp_total, label_set_eq-true, label_set_eq_itself}
 use Rattle.rl_aggregate.specs.laws.Totals.{label_set_eq-cmp}
 use Rattle.rl_aggregate.specs.TotalsMap.{TotalsMap, no_total, plus, total_at, added, HasAll}
-use Rattle.rl_aggregate.specs.declared.total.Volume.{Volume}
+use Rattle.rl_aggregate.specs.declared.volume.Volume.{Volume}
 use Rattle.rl_aggregate.proofs.Maps.{Entries, totals_in}
 
 -- the sum of two totals, of which either may be missing

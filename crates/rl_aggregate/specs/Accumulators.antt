@@ -10,7 +10,7 @@ use Rattle.rl_aggregate.specs.InRange.{Contribution}
 use Rattle.rl_aggregate.specs.Limited.{IsWithin}
 use Rattle.rl_aggregate.specs.Partials.{has_error, merge, most_entries, partial_of}
 use Rattle.rl_aggregate.specs.TotalsMap.{TotalsMap, added, totals_code}
-use Rattle.rl_aggregate.specs.declared.total.Volume.{Volume}
+use Rattle.rl_aggregate.specs.declared.volume.Volume.{Volume}
 use Rattle.rl_aggregate.specs.declared.partial.Partial.{Partial}
 
 -- two terms have the same streams and the same window

@@ -4,7 +4,7 @@ use Rattle.std.specs.List.{sum_by}
 use Rattle.std.specs.FinMap.{entries, len}
 use Rattle.rl_labels.specs.EntryParts.{longest_line}
 use Rattle.rl_aggregate.specs.TotalsMap.{TotalsMap}
-use Rattle.rl_aggregate.specs.declared.total.Volume.{Volume}
+use Rattle.rl_aggregate.specs.declared.volume.Volume.{Volume}
 use Rattle.rl_aggregate.specs.declared.partial.Partial.{Partial}
 
 -- a number of each total, of all label sets together

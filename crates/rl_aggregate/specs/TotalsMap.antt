@@ -5,7 +5,7 @@ use Rattle.std.specs.Option.{unwrap_or}
 use Rattle.std.specs.FinMap.{FinMap, get, insert, contains_key, code}
 use Rattle.rl_labels.specs.LabelSet.{LabelSet, label_set_code}
 use Rattle.rl_labels.specs.LabelText.{label_set_cmp}
-use Rattle.rl_aggregate.specs.declared.total.Volume.{Volume}
+use Rattle.rl_aggregate.specs.declared.volume.Volume.{Volume}
 
 abbrev pub TotalsMap : Type 0
 TotalsMap = FinMap label_set_cmp Volume

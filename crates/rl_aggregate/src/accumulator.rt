@@ -7,10 +7,10 @@ ghost use Rattle.rl_aggregate.specs.TotalsMap.{plus, total_at};
 ghost use Rattle.rl_aggregate.specs.Waiting.{with_waiting, IsRun};
 
 use crate::partial::Partial;
-use crate::total::Volume;
+use crate::volume::Volume;
 use rl_labels::Labels;
 use rl_labels::labels::ERROR_LABEL;
-use rl_pipeline::{ParsedLine, Meter, Pipeline, Running};
+use rl_pipeline::{Meter, ParsedLine, Pipeline, Running};
 use rl_plain::TryCopy;
 use std::alloc::{AllocError, Global};
 use std::marker::Model;

@@ -7,11 +7,11 @@ ghost use Rattle.rl_aggregate.specs.Limited.{IsWithin};
 ghost use Rattle.rl_aggregate.specs.Partials.{most_entries};
 ghost use Rattle.rl_aggregate.specs.Accumulators.{nothing_counted, with_line, HasRoom};
 
-use crate::partial::Partial;
 use crate::accumulator::Accumulator;
+use crate::partial::Partial;
 use rl_labels::Labels;
 use rl_labels::entry::MAX_LINE_LEN;
-use rl_pipeline::{ParsedLine, Meter, Pipeline};
+use rl_pipeline::{Meter, ParsedLine, Pipeline};
 use std::alloc::{AllocError, Global};
 use std::marker::Model;
 
@@ -85,7 +85,10 @@ impl<'a> Counter<'a> {
 }
 
 // A tally of each pipeline, in which nothing is counted.
-fn accumulators_of<'a>(alloc: Global, pipelines: &'a [Pipeline]) -> Result<Vec<Accumulator<'a>>, AllocError>
+fn accumulators_of<'a>(
+    alloc: Global,
+    pipelines: &'a [Pipeline],
+) -> Result<Vec<Accumulator<'a>>, AllocError>
     ensures { IfOk result (λ accumulators. accumulators.items ≡ map nothing_counted pipelines.now) }
 {
     let mut accumulators = Vec::with_capacity(alloc, pipelines.len())?;
@@ -96,7 +99,11 @@ fn accumulators_of<'a>(alloc: Global, pipelines: &'a [Pipeline]) -> Result<Vec<A
 }
 
 // Counts a line in each tally, as far as it stays there.
-fn count_in_each(accumulators: &mut [Accumulator<'_>], labels: &Labels, text: &str) -> Result<(), AllocError>
+fn count_in_each(
+    accumulators: &mut [Accumulator<'_>],
+    labels: &Labels,
+    text: &str,
+) -> Result<(), AllocError>
     requires room { AllByRecursion (λ accumulator. HasRoom 1 accumulator.found) accumulators.old }
     requires fits { length text.now ≤ longest_line }
     ensures counted { OnOk result (accumulators.new ≡ map (with_line labels.now text.now) accumulators.old) }
@@ -111,7 +118,10 @@ fn count_in_each(accumulators: &mut [Accumulator<'_>], labels: &Labels, text: &s
 }
 
 // What was counted in each.
-fn partials_of(alloc: Global, accumulators: Vec<Accumulator<'_>>) -> Result<Vec<Partial>, AllocError>
+fn partials_of(
+    alloc: Global,
+    accumulators: Vec<Accumulator<'_>>,
+) -> Result<Vec<Partial>, AllocError>
     requires { AllByRecursion (λ accumulator. HasRoom 0 accumulator.found) accumulators.items }
     ensures { IfOk result (λ partials. partials.items ≡ map (λ accumulator. accumulator.found) accumulators.entry.items) }
 {

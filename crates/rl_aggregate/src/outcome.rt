@@ -1,7 +1,7 @@
 //! What a query gives at a moment: a vector, or nothing for an error in a line.
 ghost use Rattle.std.specs.Prelude.{◌≡◌, IfOk, IsOk};
 
-use crate::total::Volume;
+use crate::volume::Volume;
 use rl_labels::Labels;
 use rl_plain::{PlainList, Same, TryCopy};
 use rl_query::RangeFunction;

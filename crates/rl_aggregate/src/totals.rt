@@ -12,7 +12,7 @@ ghost use Rattle.rl_labels.specs.LabelSet.{LabelSet};
 ghost use Rattle.rl_labels.specs.LabelText.{label_set_cmp};
 
 use crate::outcome::{Fraction, Sample};
-use crate::total::Volume;
+use crate::volume::Volume;
 use rl_labels::Labels;
 use rl_plain::{Same, TryCopy};
 use rl_query::Term;

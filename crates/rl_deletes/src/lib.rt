@@ -17,5 +17,5 @@ pub mod sending;
 pub use active::ActiveRequest;
 pub use fault::{CancelFault, ProcessFault, ReceiveError, ReceiveFault};
 pub use horizon::Horizon;
-pub use request::{RequestStatus, Request};
+pub use request::{Request, RequestStatus};
 pub use requests::{MOST_REQUESTS, Requests};

@@ -9,7 +9,7 @@ ghost use Rattle.rl_deletes.specs.Deletes.{asked, cancel_fault, cancelled, cover
 
 use crate::active::ActiveRequest;
 use crate::fault::{CancelFault, ProcessFault, ReceiveError, ReceiveFault};
-use crate::request::{RequestStatus, Request};
+use crate::request::{Request, RequestStatus};
 use rl_labels::{Covers, Entry, Labels, Limits, Ns};
 use rl_plain::{OrMemory, Shared};
 use rl_query::Sieve;

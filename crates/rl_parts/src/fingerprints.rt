@@ -23,7 +23,10 @@ pub(crate) fn fingerprint_of(timestamp: Ns, text: &str) -> u64
 }
 
 // The fingerprints of entries, in rising order.
-pub(crate) fn fingerprints_of(alloc: Global, entries: &[StoredEntry]) -> Result<PlainList<u64>, AllocError>
+pub(crate) fn fingerprints_of(
+    alloc: Global,
+    entries: &[StoredEntry],
+) -> Result<PlainList<u64>, AllocError>
     ensures { IfOk result (λ fingerprints. AreFingerprints entries.now fingerprints) }
 {
     let mut fingerprints = Vec::with_capacity(alloc, entries.len())?;

@@ -8,9 +8,9 @@ ghost use Rattle.rl_parts.specs.StoreUse.{Grown, IsKept, FlushCause};
 ghost use Rattle.rl_parts.specs.Changes.{AreNoted, unwritten_count};
 
 use crate::fault::FlushFault;
-use crate::stored::StoredEntry;
 use crate::fingerprints::fingerprints_of;
 use crate::part::{Part, Written};
+use crate::stored::StoredEntry;
 use rl_chunks::{AsLine, Store, StoreFault, encode};
 use rl_labels::{Labels, Ns};
 use rl_plain::PlainList;

@@ -10,17 +10,17 @@
 
 pub mod fault;
 pub mod fetching;
-mod flushing;
-mod visiting_lines;
-mod stored;
 mod fingerprints;
+mod flushing;
 pub mod part;
 pub mod plan;
 mod rewriting;
 mod sealing;
 mod searching;
 pub mod sending;
+mod stored;
 pub mod stream;
+mod visiting_lines;
 pub mod visitor;
 
 pub use fault::{FlushFault, ReadFault, RewriteFault};

@@ -1,11 +1,11 @@
 //! Sealed entries of a stream, in memory or in a store.
 use crate::fault::{FlushFault, ReadFault, RewriteFault};
 use crate::flushing::write_entries;
-use crate::visiting_lines::{visit_all, visit_written};
-use crate::stored::StoredEntry;
 use crate::plan::Change;
 use crate::rewriting::{rewrite_here, rewrite_written};
 use crate::searching::{has_entry, has_written};
+use crate::stored::StoredEntry;
+use crate::visiting_lines::{visit_all, visit_written};
 use crate::visitor::Visitor;
 use rl_chunks::Store;
 use rl_labels::{Covers, Entry, Labels, Ns};

@@ -7,8 +7,8 @@ ghost use Rattle.rl_parts.specs.StoreUse.{Grown, IsKept};
 ghost use Rattle.rl_parts.specs.StreamParts.{IsPart};
 
 use crate::fault::RewriteFault;
-use crate::stored::StoredEntry;
 use crate::part::Part;
+use crate::stored::StoredEntry;
 use crate::stream::Stream;
 use rl_chunks::Store;
 use rl_labels::{Covers, Labels, Ns};

@@ -17,9 +17,9 @@ ghost use Rattle.rl_parts.specs.declared.part.Location.TheVariants.{InStore};
 use crate::fault::{ReadFault, RewriteFault};
 use crate::fetching::fetch;
 use crate::flushing::write_entries;
-use crate::stored::StoredEntry;
 use crate::part::{Part, Written};
 use crate::plan::Change;
+use crate::stored::StoredEntry;
 use rl_chunks::{Line, Store};
 use rl_labels::{Covers, Entry, Labels, Ns};
 use rl_plain::{PlainList, Shared, TryCopy};
@@ -132,7 +132,11 @@ fn read_again<S: Store>(
     ensures right { (labels : LabelSet) (next : ℕ) → IsPart labels (unwritten written.now.entries.value) → IsRange written.now.entries.value written.now.first written.now.last → AreFingerprints written.now.entries.value written.now.fingerprints → IsNoteOf (S.seen store.old) next (chunk_of labels written.now.entries.value) (record { number = written.now.number; digest = written.now.digest }) → (S.seen store.old).honest ≡ true → Right result (λ lines. lines.items ≡ map line_of written.now.entries.value) }
 {
     let chunk = fetch(alloc, store, written.number, &written.digest)?;
-    if !are_of_part(chunk.lines.as_slice(), written.fingerprints.len(), written.last) {
+    if !are_of_part(
+        chunk.lines.as_slice(),
+        written.fingerprints.len(),
+        written.last,
+    ) {
         return Err(ReadFault::Damaged);
     }
     Ok(chunk.lines.into_vec())

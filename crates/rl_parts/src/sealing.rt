@@ -6,8 +6,8 @@ ghost use Rattle.rl_parts.specs.StreamParts.{IsRun, unwritten};
 ghost use Rattle.rl_parts.specs.PartState.{timestamp_at};
 ghost use Rattle.rl_parts.specs.StreamState.{BelongsAt, IsPut};
 
-use crate::stored::StoredEntry;
 use crate::part::Part;
+use crate::stored::StoredEntry;
 use rl_chunks::AsLine;
 use rl_labels::{Entry, Ns};
 use rl_plain::Shared;
@@ -72,7 +72,11 @@ fn sealed_past(sealed_to: Option<Ns>, head: &[StoredEntry]) -> Option<Ns>
 }
 
 // Makes a part of a head. There is room for the part.
-pub(crate) fn seal_head(parts: &mut Vec<Part>, head: &mut Vec<StoredEntry>, sealed_to: &mut Option<Ns>)
+pub(crate) fn seal_head(
+    parts: &mut Vec<Part>,
+    head: &mut Vec<StoredEntry>,
+    sealed_to: &mut Option<Ns>,
+)
     requires { vec_len parts.old < vec_capacity parts.old }
     ensures parts { parts.new.items ≡ parts.old.items ++ unwritten head.old.items ∷ [] }
     ensures head { head.new.items ≡ [] }

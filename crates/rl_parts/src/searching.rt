@@ -12,10 +12,10 @@ ghost use Rattle.rl_parts.specs.Reading.{IsApart, IsOutside, IsReadAs, IsWith, I
 
 use crate::fault::ReadFault;
 use crate::fetching::fetch;
-use crate::stored::StoredEntry;
-use crate::fingerprints::{has_fingerprint, fingerprint_of};
+use crate::fingerprints::{fingerprint_of, has_fingerprint};
 use crate::part::{Part, Written};
 use crate::sealing::search;
+use crate::stored::StoredEntry;
 use rl_chunks::{Line, Store};
 use rl_labels::{Entry, Ns};
 use std::alloc::Global;

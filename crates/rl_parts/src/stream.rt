@@ -3,13 +3,13 @@ ghost use Rattle.std.specs.Prelude.{◌≡◌, ℕ, ◌<◌, ◌≤◌, ◌^◌,
 
 use crate::fault::{FlushFault, ReadFault, RewriteFault};
 use crate::flushing::write_parts;
-use crate::visiting_lines::{visit_all, visit_parts};
-use crate::stored::{StoredEntry, with_labels};
 use crate::part::Part;
 use crate::plan::{Plan, carry, count_parts, plan_parts};
 use crate::rewriting::uncovered;
 use crate::sealing::{later, put, seal_head};
 use crate::searching::{any_here, any_there, has_entry, is_above};
+use crate::stored::{StoredEntry, with_labels};
+use crate::visiting_lines::{visit_all, visit_parts};
 use crate::visitor::Visitor;
 use rl_chunks::Store;
 use rl_labels::{Covers, Entry, Labels, Ns};

@@ -37,7 +37,7 @@ fn visit_line<L: AsLine, T: Visitor>(
 {
     let timestamp = line.timestamp();
     if is_within(from, to, timestamp) {
-        return visitor.take(labels, timestamp, line.text());
+        return visitor.visit(labels, timestamp, line.text());
     }
     Ok(())
 }

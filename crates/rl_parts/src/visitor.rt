@@ -12,6 +12,6 @@ pub trait Visitor {
     ghost visiting: { Self → LabelSet × Line → Self };
 
     /// Visits one more line. The text is lent for the call alone.
-    fn take(&mut self, labels: &Labels, timestamp: Ns, text: &str) -> Result<(), AllocError>
+    fn visit(&mut self, labels: &Labels, timestamp: Ns, text: &str) -> Result<(), AllocError>
         ensures { OnOk result (self.new ≡ visiting self.old (labels.now, record { timestamp = timestamp; text = text.now })) };
 }

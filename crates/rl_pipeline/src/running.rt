@@ -110,7 +110,10 @@ impl<'a> Running<'a> {
 
     // As `run_shared`, and nothing is counted.
     #[tactic(auto, using(crate::proofs::Stages::filters_first))]
-    pub(crate) fn labels_of(&mut self, line: &mut ParsedLine<'_>) -> Result<Option<Labels>, AllocError>
+    pub(crate) fn labels_of(
+        &mut self,
+        line: &mut ParsedLine<'_>,
+    ) -> Result<Option<Labels>, AllocError>
         ensures run { IfOk result (λ found. found ≡ run self.old line.old.text line.old.labels) }
         ensures left_out { keeps self.old line.old.text ≡ false → IsOk result }
         ensures same { self.new ≡ self.old }

@@ -20,7 +20,7 @@ use Rattle.rl_rule_tests.specs.Judging.{is_named}
 
 -- a line arrives after its moment by what its stream is late
 abbrev pub line_event : ℕ → ℕ → ℕ × TestLine → Event
-line_event number late line = record { at = sum_up_to line.1.moment late; what = whats.TestLine; number = number; line = line.0 }
+line_event number late line = record { at = sum_up_to line.1.moment late; what = whats.Line; number = number; line = line.0 }
 
 abbrev pub stream_events : ℕ × Stream → List Event
 stream_events stream = map (line_event stream.0 stream.1.late) (enumerate_from 0 stream.1.lines.items)
@@ -94,7 +94,7 @@ happenings groups test =
 
 -- at one moment lines come first, then edits, evaluations and checks
 abbrev pub rank : What → ℕ
-rank whats.TestLine = 0
+rank whats.Line = 0
 rank whats.Edit = 1
 rank whats.Evaluation = 2
 rank whats.Check = 3

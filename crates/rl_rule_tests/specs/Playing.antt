@@ -161,7 +161,7 @@ module _ {E : Type 0} (ruler : Ruler E) where
 
   -- what an event makes of a test that has come to its moment
   abbrev pub HappensBy : List Group → Test → Stage E → Event → What → Stage E → Type 0
-  HappensBy groups test old event whats.TestLine new = HandsLine (counted old) (line_at test event) (counted new) × IsStill old new
+  HappensBy groups test old event whats.Line new = HandsLine (counted old) (line_at test event) (counted new) × IsStill old new
   HappensBy groups test old event whats.Edit new = PutsGroups (counted old) (slice_get test.edits.items event.number) (counted new) × IsStill old new
   HappensBy groups test old event whats.Evaluation new = Evaluates old event.number (slice_get groups event.number) (moment_of event.at 0) new
   HappensBy groups test old event whats.Check new = Checks (slice_get test.checks.items event.number) old.given old.counts new.counts × (new.engine ≡ old.engine) × IsStill old new

@@ -18,7 +18,7 @@ const NANOSECONDS: u64 = 1_000_000_000;
 #[derive(Clone, Copy)]
 pub(crate) enum What {
     /// A line of a stream.
-    TestLine,
+    Line,
     Edit,
     /// The evaluation of a group.
     Evaluation,
@@ -69,7 +69,7 @@ fn rank(what: What) -> u8
     ensures { result ≡ rank what }
 {
     match what {
-        What::TestLine => 0,
+        What::Line => 0,
         What::Edit => 1,
         What::Evaluation => 2,
         What::Check => 3,
@@ -90,7 +90,7 @@ fn push_lines(events: &mut Vec<Event>, number: usize, stream: &Stream<'_>) -> Re
 {
     for (index, line) in stream.lines.iter().enumerate() {
         let at = line.moment.saturating_add(stream.late);
-        push(events, at, What::TestLine, number, index)?;
+        push(events, at, What::Line, number, index)?;
     }
     Ok(())
 }

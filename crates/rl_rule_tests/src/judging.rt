@@ -11,7 +11,7 @@ use crate::rows::{Outcome, Row};
 use rl_aggregate::Sample;
 use rl_labels::Labels;
 use rl_plain::Shared;
-use rl_rules::{Alert, Cause, Evaluation, AlertState, RuleOutcome, RuleResult};
+use rl_rules::{Alert, AlertState, Cause, Evaluation, RuleOutcome, RuleResult};
 use std::alloc::{AllocError, Global};
 
 /// What the rules of a check gave, of these evaluations. More than one may have its name.

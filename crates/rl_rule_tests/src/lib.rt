@@ -16,9 +16,9 @@ mod lines;
 mod number;
 mod part;
 mod playing;
+mod report;
 mod rows;
 mod streams;
-mod report;
 mod wanted;
 
 pub use document::{Document, Edit, Test, read_document, read_table};

@@ -10,9 +10,9 @@ use crate::differences::{push_differences, push_side};
 use crate::document::{Check, Edit, Span, Test};
 use crate::events::{Event, What, events_of};
 use crate::judging::{agree, given, is_named, results_of};
-use crate::lines::{TestLine, Stream};
-use crate::rows::Outcome;
+use crate::lines::{Stream, TestLine};
 use crate::report::Report;
+use crate::rows::Outcome;
 use crate::wanted::wanted_of;
 use rl_chunks::MemStore;
 use rl_labels::{DEFAULT_LIMITS, Entry, Labels, Limits, Ns};
@@ -54,7 +54,11 @@ pub fn play(
 }
 
 // Reports evaluations that are asked for of groups that are not there.
-fn report_spans<E: Engine>(engine: &E, test: &Test<'_>, report: &mut Report) -> Result<(), AllocError>
+fn report_spans<E: Engine>(
+    engine: &E,
+    test: &Test<'_>,
+    report: &mut Report,
+) -> Result<(), AllocError>
     ensures { OnOk result (Chain (AsksOfNobody (ruler_of E.calls) engine.now) (counts_of report.old) test.now.spans.items (counts_of report.new)) }
 {
     for span in &test.spans {
@@ -158,7 +162,7 @@ fn play_event<E: Engine>(
 {
     arrive(moment, event.at);
     match event.what {
-        What::TestLine => play_line(alloc, engine, test, event, report),
+        What::Line => play_line(alloc, engine, test, event, report),
         What::Edit => play_edit(engine, test, event, report),
         What::Evaluation => play_evaluation(engine, groups, test.name, event, moment, report),
         What::Check => play_check(alloc, groups, test, event, &moment.given, report),

@@ -4,7 +4,7 @@ ghost use Rattle.rl_rule_tests.specs.Judging.{form, IsInOrder, IsOutcome};
 
 use crate::number::Number;
 use rl_labels::Labels;
-use rl_rules::{Cause, AlertState};
+use rl_rules::{AlertState, Cause};
 use std::alloc::AllocError;
 
 /// An alert or a sample. Of what is wanted it has no state, value or annotations where these are not looked at.

@@ -7,7 +7,7 @@ ghost use Rattle.rl_rules.specs.Document.{tables_at};
 ghost use Rattle.rl_rule_tests.specs.Document.{lines_at, repeated_lines, times_in, IsExpansion, IsRepeat, IsStream, IsUnexpanded};
 
 use crate::fault::{TestsError, within};
-use crate::lines::{TestLine, Repeat, Stream};
+use crate::lines::{Repeat, Stream, TestLine};
 use crate::part::{Item, Part, nanoseconds_in};
 use std::alloc::Global;
 

@@ -13,7 +13,7 @@ use crate::part::{Item, Part};
 use crate::rows::{Outcome, Row};
 use rl_labels::Labels;
 use rl_rules::naming::{ALERT_LABEL, NAME_LABEL};
-use rl_rules::{Cause, AlertState, RuleKind};
+use rl_rules::{AlertState, Cause, RuleKind};
 use std::alloc::{AllocError, Global};
 
 /// A row that is wanted. What it has not is not looked at.

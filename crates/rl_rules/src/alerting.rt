@@ -86,7 +86,11 @@ fn standing(hold: u64, t: Ns, sample: &Sample, before: Option<&Alert>) -> Result
         value: sample.value,
         active_at,
         fired: if due { fired_of(t, before) } else { None },
-        state: if due { AlertState::Firing } else { AlertState::Pending },
+        state: if due {
+            AlertState::Firing
+        } else {
+            AlertState::Pending
+        },
     })
 }
 

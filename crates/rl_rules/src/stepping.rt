@@ -123,7 +123,10 @@ fn final_samples(
 }
 
 // Puts each sample under the final label set that the cache gives it.
-fn name_samples(samples: &mut [Sample], label_set_cache: &mut LabelSetCache) -> Result<(), AllocError>
+fn name_samples(
+    samples: &mut [Sample],
+    label_set_cache: &mut LabelSetCache,
+) -> Result<(), AllocError>
     ensures { OnOk result (samples.new ≡ map (named_by label_set_cache.old) samples.old) }
 {
     for sample in samples.iter_mut() {

@@ -6,8 +6,8 @@ ghost use Rattle.rl_session.specs.PushBody.{entries_of};
 
 use crate::edit::{EditRefusal, read_group};
 use crate::engine::Engine;
-use crate::push::PushReader;
 use crate::output::CommandResult;
+use crate::push::PushReader;
 use rl_labels::{Entry, Ns};
 use rl_plain::Shared;
 use rl_query::{QueryError, Sieve};

@@ -13,9 +13,9 @@ mod edit;
 pub mod engine;
 pub mod front;
 pub mod names;
+mod output;
 pub mod push;
 pub mod session;
-mod output;
 pub mod world_engine;
 
 pub use command::{Command, is_blank, read_command};

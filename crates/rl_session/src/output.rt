@@ -3,7 +3,7 @@ ghost use Rattle.std.specs.Prelude.{◌≡◌, flat_map, Some, OnOk, IfOk, is_er
 ghost use Rattle.std.specs.List.{list_any};
 ghost use Rattle.std.specs.Option.{option_map};
 ghost use Rattle.std.specs.Io.KnownBytes.{Appends};
-ghost use Rattle.rl_session.specs.Printed.{refusal_line, bad_push_line, counts_line, entry_line, entry_lines, is_refused, evaluated_text, ticked_text, pushed_text, none_pushed, asked_text, decided_text, partly_line, number_text, after_line, caught_up_text, committed_text, printed, answer_of, answer_to, closed_text, not_closed_line};
+ghost use Rattle.rl_session.specs.Printed.{refusal_line, bad_push_line, counts_line, entry_line, entry_lines, is_refused, evaluated_text, ticked_text, pushed_text, none_pushed, asked_text, decided_text, partly_line, number_text, behind_line, caught_up_text, committed_text, printed, answer_of, answer_to, closed_text, not_closed_line};
 
 use crate::edit::EditRefusal;
 use crate::engine::Partly;
@@ -65,7 +65,8 @@ fn answer_to(outcome: &CommandResult) -> Answer
         CommandResult::Evaluated(result) => answer_of(result.is_err()),
         CommandResult::Ticked(results) => answer_of(has_failed(results)),
         CommandResult::CaughtUp(result) => answer_of(result.is_err()),
-        CommandResult::Refused | CommandResult::Unread(_) | CommandResult::NoSelector(_) => Answer::Refused,
+        CommandResult::Refused | CommandResult::Unread(_) | CommandResult::NoSelector(_) =>
+            Answer::Refused,
     }
 }
 
@@ -248,29 +249,32 @@ fn write_committed<W: Write>(committed: &Committed, out: &mut W) -> io::Result<(
     ensures { OnOk result (Appends (W.contents out.old) (W.contents out.new) (committed_text committed.now)) }
 {
     write_tail(out, committed.evaluation.get())?;
-    write_after(committed.following.as_slice(), out)
+    write_behind(committed.behind.as_slice(), out)
 }
 
 // Prints which sinks are behind, or that none is.
-fn write_caught_up<W: Write>(caught: &Result<PlainList<u64>, Refusal>, out: &mut W) -> io::Result<()>
+fn write_caught_up<W: Write>(
+    caught: &Result<PlainList<u64>, Refusal>,
+    out: &mut W,
+) -> io::Result<()>
     ensures { OnOk result (Appends (W.contents out.old) (W.contents out.new) (caught_up_text caught.now)) }
 {
     match caught {
-        Ok(following) if following.is_empty() => out.write_all(b"ok\n"),
-        Ok(following) => write_after(following.as_slice(), out),
+        Ok(behind) if behind.is_empty() => out.write_all(b"ok\n"),
+        Ok(behind) => write_behind(behind.as_slice(), out),
         Err(refusal) => refuse(out, refusal_name(*refusal)),
     }
 }
 
 // Prints the numbers of the sinks that are behind, if some are.
-fn write_after<W: Write>(following: &[u64], out: &mut W) -> io::Result<()>
-    ensures { OnOk result (Appends (W.contents out.old) (W.contents out.new) (after_line following.now)) }
+fn write_behind<W: Write>(behind: &[u64], out: &mut W) -> io::Result<()>
+    ensures { OnOk result (Appends (W.contents out.old) (W.contents out.new) (behind_line behind.now)) }
 {
-    if following.is_empty() {
+    if behind.is_empty() {
         return Ok(());
     }
     out.write_all(b"behind")?;
-    write_numbers(following, out)?;
+    write_numbers(behind, out)?;
     out.write_all(b"\n")
 }
 

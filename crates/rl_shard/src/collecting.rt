@@ -167,7 +167,11 @@ fn start_of(seconds: u64, t: Ns) -> Ns
 }
 
 // A term, and some later ones that read the same lines; each range once.
-fn alike<'a>(alloc: Global, term: &'a Term, following: &'a [Term]) -> Result<Vec<&'a Term>, AllocError>
+fn alike<'a>(
+    alloc: Global,
+    term: &'a Term,
+    following: &'a [Term],
+) -> Result<Vec<&'a Term>, AllocError>
     ensures alike { IfOk result (λ terms. AllByRecursion (λ other. IsAlike term.now other.now) terms.items) }
     ensures first { IfOk result (λ terms. option_map (λ one. one.now.range) (slice_get terms.items 0) ≡ Some term.now.range) }
 {

@@ -23,7 +23,7 @@ pub(crate) struct LineCounter<'a, 'b> {
 impl<'a, 'b> Visitor for LineCounter<'a, 'b> {
     ghost visiting = { λ lines line. if nat_lt lines.t line.1.timestamp then record { counter = lines.counter; requests = lines.requests; range = lines.range; t = lines.t; lasts = min lines.lasts (line.1.timestamp - lines.t - 1) } else (if nat_le lines.range (lines.t - line.1.timestamp) then lines else (if covered_line lines.requests.now line.0 line.1.timestamp line.1.text then lines else record { counter = counted_line line.0 line.1.text lines.counter; requests = lines.requests; range = lines.range; t = lines.t; lasts = min lines.lasts (lines.range - (lines.t - line.1.timestamp) - 1) })) };
 
-    fn take(&mut self, labels: &Labels, timestamp: Ns, text: &str) -> Result<(), AllocError> {
+    fn visit(&mut self, labels: &Labels, timestamp: Ns, text: &str) -> Result<(), AllocError> {
         if timestamp > self.t {
             let ahead = timestamp.get() - self.t.get();
             self.lasts = self.lasts.min(ahead - 1);

@@ -10,7 +10,7 @@ use crate::target::{InMemory, TextTarget};
 use rl_aggregate::{Fraction, Sample};
 use rl_labels::{Labels, Ns};
 use rl_plain::PlainText;
-use rl_rules::{Alert, Cause, Evaluation, AlertState, RuleKind, RuleOutcome, RuleResult};
+use rl_rules::{Alert, AlertState, Cause, Evaluation, RuleKind, RuleOutcome, RuleResult};
 use std::alloc::{AllocError, Global};
 use std::io;
 use std::io::Write;

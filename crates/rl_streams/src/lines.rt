@@ -85,7 +85,7 @@ impl Visitor for WaitingLines {
 
     ghost visiting = { λ lines line. lines ++ line ∷ [] };
 
-    fn take(&mut self, labels: &Labels, timestamp: Ns, text: &str) -> Result<(), AllocError> {
+    fn visit(&mut self, labels: &Labels, timestamp: Ns, text: &str) -> Result<(), AllocError> {
         let labels = shared(self.alloc, self.lines.back(), labels)?;
         let text = PlainText::from_str(self.alloc, text)?;
         self.lines.push_back((labels, Line { timestamp, text }))?;

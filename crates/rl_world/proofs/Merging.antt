@@ -11,7 +11,7 @@ use Rattle.rl_aggregate.specs.laws.Totals.{same_totals, get-both_totals}
 use Rattle.rl_aggregate.specs.Limited.{IsLimited, IsWithin}
 use Rattle.rl_aggregate.specs.Partials.{both_totals, merge, most_entries, Fits}
 use Rattle.rl_aggregate.specs.TotalsMap.{no_total, plus, total_at}
-use Rattle.rl_aggregate.specs.declared.total.Volume.{Volume}
+use Rattle.rl_aggregate.specs.declared.volume.Volume.{Volume}
 use Rattle.rl_aggregate.specs.declared.partial.Partial.{Partial}
 use Rattle.rl_world.specs.Kept.{no_partial, merged_from, merged_terms}
 use Rattle.rl_world.specs.ShardAnswers.{IsKept, HasTerm, most_in_shard, most_shards}

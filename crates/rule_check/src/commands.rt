@@ -1,11 +1,11 @@
 //! Command lines of a session, and why one is no command.
 
+use crate::findings::{Findings, OutOfMemory};
+use crate::location::Location;
 use crate::near::is_near;
 use crate::no_toml::Standing;
-use crate::location::Location;
 use crate::queries::push_query_fault;
 use crate::report::push_refusal;
-use crate::findings::{Findings, OutOfMemory};
 use crate::values::push_name;
 use rl_query::QueryError;
 use rl_rules::{Group, RulesError, read_rules};
@@ -71,7 +71,9 @@ pub(crate) fn push_command(
         }
     };
     if findings.count > before && line.ends_with('\r') {
-        findings.text.push_str("  in its place: the line without the carriage return at its end\n")?;
+        findings.text.push_str(
+            "  in its place: the line without the carriage return at its end\n",
+        )?;
     }
     Ok(ends)
 }
@@ -93,7 +95,8 @@ fn push_asked(
         Command::Show { sink, group } => {
             if sink > LAST_SINK {
                 findings.begin(location)?;
-                findings.text
+                findings
+                    .text
                     .push_str("a group has sink 0, and with --sinks all 1 and 2\n")?;
             }
             push_unnamed(findings, known, location, group)
@@ -119,7 +122,11 @@ fn push_body(
     }
 }
 
-fn push_selector(findings: &mut Findings, location: &Location<'_>, selector: &str) -> Result<(), OutOfMemory> {
+fn push_selector(
+    findings: &mut Findings,
+    location: &Location<'_>,
+    selector: &str,
+) -> Result<(), OutOfMemory> {
     match parse_delete(*findings.text.allocator(), selector) {
         Ok(_) => Ok(()),
         Err(QueryError::Memory) => Err(OutOfMemory),
@@ -188,7 +195,11 @@ fn push_unnamed(
 }
 
 // Why a line is no command.
-fn push_no_command(findings: &mut Findings, location: &Location<'_>, line: &str) -> Result<(), OutOfMemory> {
+fn push_no_command(
+    findings: &mut Findings,
+    location: &Location<'_>,
+    line: &str,
+) -> Result<(), OutOfMemory> {
     let word = match line.split_once(' ') {
         Some((word, _)) => word,
         None => line,

@@ -1,10 +1,10 @@
 //! Each fault of a document, in the order of its groups and rules.
 
-use crate::keys::{Key, Owner};
-use crate::names::{push_labels, push_name_fault, push_rule_name_fault, spot_of};
-use crate::location::Location;
-use crate::queries::push_query;
 use crate::findings::{Findings, OutOfMemory};
+use crate::keys::{Key, Owner};
+use crate::location::Location;
+use crate::names::{push_labels, push_name_fault, push_rule_name_fault, spot_of};
+use crate::queries::push_query;
 use crate::values::{items_at, push_name, push_value, text_at};
 use rl_rules::reading::{MOST_GROUPS, MOST_RULES};
 use std::collections::BTreeSet;
@@ -23,7 +23,10 @@ pub(crate) fn push_faults(
     if items.len() > MOST_GROUPS {
         let count = items.len();
         findings.begin(location)?;
-        writeln!(findings.text, "{count} groups, where {MOST_GROUPS} are allowed")?;
+        writeln!(
+            findings.text,
+            "{count} groups, where {MOST_GROUPS} are allowed"
+        )?;
     }
     let mut names = BTreeSet::new(*findings.text.allocator());
     for (number, item) in items.iter().enumerate() {
@@ -49,7 +52,10 @@ fn push_group(
     if items.len() > MOST_RULES {
         let count = items.len();
         findings.begin(location)?;
-        writeln!(findings.text, "{count} rules, where {MOST_RULES} are allowed")?;
+        writeln!(
+            findings.text,
+            "{count} rules, where {MOST_RULES} are allowed"
+        )?;
     }
     for (number, item) in items.iter().enumerate() {
         if let Some(rule) = item.as_table() {
@@ -140,7 +146,12 @@ fn push_unknown(
     Ok(())
 }
 
-fn push_missing(findings: &mut Findings, location: &Location<'_>, owner: Owner, key: &Key) -> Result<(), OutOfMemory> {
+fn push_missing(
+    findings: &mut Findings,
+    location: &Location<'_>,
+    owner: Owner,
+    key: &Key,
+) -> Result<(), OutOfMemory> {
     findings.begin(location)?;
     writeln!(findings.text, "the key {} is missing", owner.missing(key))?;
     Ok(())

@@ -1,8 +1,8 @@
 //! What a ruler has near what it refuses in a query, and near what LogQL has beside the language.
 
-use crate::no_toml::{first_word, last_word};
-use crate::location::cut_at;
 use crate::findings::OutOfMemory;
+use crate::location::cut_at;
+use crate::no_toml::{first_word, last_word};
 use rl_query::{QueryFault, RangeFunction};
 use std::fmt::Write;
 
@@ -10,7 +10,11 @@ use std::fmt::Write;
 const SECONDS: &str = "whole seconds, as [5m]";
 
 /// Writes what a ruler has near the fault of a query, if it has something.
-pub(crate) fn push_hint(text: &mut String, query: &str, fault: QueryFault) -> Result<(), OutOfMemory> {
+pub(crate) fn push_hint(
+    text: &mut String,
+    query: &str,
+    fault: QueryFault,
+) -> Result<(), OutOfMemory> {
     match fault {
         QueryFault::Syntax(location) => {
             let (front, back) = cut_at(query, location);

@@ -1,8 +1,8 @@
 //! What a ruler takes and what looks like a mistake.
 
 use crate::doubt::{Doubt, doubt_of};
-use crate::location::{Location, Spot, push_names, push_location};
 use crate::findings::OutOfMemory;
+use crate::location::{Location, Spot, push_location, push_names};
 use rl_plain::{PlainText, Same};
 use rl_query::{Query, RangeFunction, Term};
 use rl_rules::naming::{ALERT_LABEL, NAME_LABEL};
@@ -82,7 +82,11 @@ fn compares_nothing(query: &Query) -> bool {
     query.test.is_none() && !(is_absence && query.over.is_none())
 }
 
-fn push_doubts(text: &mut String, location: &Location<'_>, query: &Query) -> Result<(), OutOfMemory> {
+fn push_doubts(
+    text: &mut String,
+    location: &Location<'_>,
+    query: &Query,
+) -> Result<(), OutOfMemory> {
     push_doubt(text, location, &query.left)?;
     match &query.over {
         Some(over) => push_doubt(text, location, over),
@@ -109,7 +113,11 @@ fn push_doubt(text: &mut String, location: &Location<'_>, term: &Term) -> Result
 }
 
 // A label over which the rule's name stands.
-fn push_overwritten(text: &mut String, location: &Location<'_>, rule: &Rule) -> Result<(), OutOfMemory> {
+fn push_overwritten(
+    text: &mut String,
+    location: &Location<'_>,
+    rule: &Rule,
+) -> Result<(), OutOfMemory> {
     let own = match rule.kind {
         RuleKind::Recording => NAME_LABEL,
         RuleKind::Alerting => ALERT_LABEL,

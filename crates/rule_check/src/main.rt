@@ -12,28 +12,28 @@
 mod commands;
 mod doubt;
 mod faults;
+mod findings;
 mod hint;
 mod keys;
 mod lint;
+mod location;
 mod names;
 mod near;
 mod no_toml;
 mod options;
-mod location;
 mod print;
 mod queries;
 mod report;
 mod session;
-mod findings;
 mod values;
 
+use findings::{OutOfMemory, Report};
 use options::{HELP, Input, Options, Stop, read_options};
 use report::report_of;
 use session::session_report;
 use std::io::ErrorKind;
 use std::process::ExitCode;
 use std::{fs, io};
-use findings::{Report, OutOfMemory};
 
 fn main(rt: HostRuntime) -> ExitCode {
     match read_options(&rt) {

@@ -1,8 +1,8 @@
 //! Names of groups and rules, and the labels of rules.
 
+use crate::findings::{Findings, OutOfMemory};
 use crate::keys::Owner;
 use crate::location::{Location, Spot};
-use crate::findings::{Findings, OutOfMemory};
 use crate::values::{push_quoted, text_at};
 use rl_labels::Labels;
 use rl_labels::labels::is_label_name;
@@ -73,7 +73,11 @@ pub(crate) fn push_rule_name_fault(
     }
 }
 
-fn push_metric_fault(findings: &mut Findings, location: &Location<'_>, rule: &Table) -> Result<(), OutOfMemory> {
+fn push_metric_fault(
+    findings: &mut Findings,
+    location: &Location<'_>,
+    rule: &Table,
+) -> Result<(), OutOfMemory> {
     let Some(name) = text_at(rule, "record") else {
         return Ok(());
     };
@@ -117,7 +121,10 @@ pub(crate) fn push_labels(
     let alloc = *findings.text.allocator();
     if findings.count == before && !make_labels(alloc, table)? {
         findings.begin(location)?;
-        writeln!(findings.text, "{key} have more than 4096 bytes as a label text")?;
+        writeln!(
+            findings.text,
+            "{key} have more than 4096 bytes as a label text"
+        )?;
     }
     Ok(())
 }

@@ -1,7 +1,7 @@
 //! A text that is no TOML document.
 
-use crate::location::{CutLine, cut_at, line_at, push_line};
 use crate::findings::{Findings, OutOfMemory};
+use crate::location::{CutLine, cut_at, line_at, push_line};
 use crate::values::is_duration;
 use std::fmt::Write;
 use toml::de::Error;
@@ -48,7 +48,11 @@ pub(crate) fn push_no_toml(
 }
 
 // The line after its lead.
-fn push_led_line(findings: &mut Findings, lead: &str, line: CutLine<'_>) -> Result<(), OutOfMemory> {
+fn push_led_line(
+    findings: &mut Findings,
+    lead: &str,
+    line: CutLine<'_>,
+) -> Result<(), OutOfMemory> {
     let mut before = String::from_str(*findings.text.allocator(), lead)?;
     before.push_str(line.before)?;
     let following = line.following.strip_suffix('\r').unwrap_or(line.following);

@@ -1,14 +1,18 @@
 //! The query of a rule, and why it is refused.
 
+use crate::findings::{Findings, OutOfMemory};
 use crate::hint::push_hint;
 use crate::location::{Location, line_at, push_line};
-use crate::findings::{Findings, OutOfMemory};
 use rl_query::{QueryError, QueryFault};
 use rl_query_text::parse;
 use std::fmt::Write;
 
 /// The fault of a query, if it has one: the line in which it is, a caret under the byte, and what a ruler has near it.
-pub(crate) fn push_query(findings: &mut Findings, location: &Location<'_>, query: &str) -> Result<(), OutOfMemory> {
+pub(crate) fn push_query(
+    findings: &mut Findings,
+    location: &Location<'_>,
+    query: &str,
+) -> Result<(), OutOfMemory> {
     match parse(*findings.text.allocator(), query) {
         Ok(_) => Ok(()),
         Err(QueryError::Memory) => Err(OutOfMemory),

@@ -1,11 +1,11 @@
 //! What is reported of a rule file.
 
 use crate::faults::push_faults;
+use crate::findings::{Findings, OutOfMemory, Report};
 use crate::lint::push_lints;
-use crate::no_toml::{ALONE, Standing, push_no_toml};
 use crate::location::Location;
+use crate::no_toml::{ALONE, Standing, push_no_toml};
 use crate::print::push_groups;
-use crate::findings::{Report, Findings, OutOfMemory};
 use rl_rules::{Group, RulesError, RulesFault, read_rules};
 use std::alloc::Global;
 use std::fmt::Write;

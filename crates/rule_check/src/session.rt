@@ -1,9 +1,9 @@
 //! What is reported of the input of a session: rules, a line `%%`, and commands.
 
 use crate::commands::{Known, push_command};
+use crate::findings::{Findings, OutOfMemory, Report};
 use crate::location::Location;
 use crate::report::{ending, push_counts, push_rules};
-use crate::findings::{Report, Findings, OutOfMemory};
 use rl_rules::Group;
 use rl_session::front::{MAX_INPUT_LEN, split_front};
 use rl_session::{FrontFault, PushReader, is_blank};
@@ -45,7 +45,12 @@ fn push_front_fault(findings: &mut Findings, fault: FrontFault) -> Result<(), Ou
     Ok(())
 }
 
-fn push_text(alloc: Global, findings: &mut Findings, text: &str, prints: bool) -> Result<(), OutOfMemory> {
+fn push_text(
+    alloc: Global,
+    findings: &mut Findings,
+    text: &str,
+    prints: bool,
+) -> Result<(), OutOfMemory> {
     let Some((document, commands)) = split_front(text) else {
         return push_front_fault(findings, FrontFault::NoMark);
     };

@@ -1,8 +1,8 @@
 //! What stands at a key, and what is wanted there.
 
+use crate::findings::{Findings, OutOfMemory};
 use crate::keys::{Key, Kind};
 use crate::location::Location;
-use crate::findings::{Findings, OutOfMemory};
 use rl_query::duration::{LONGEST_RANGE, duration_of};
 use std::fmt::Write;
 use toml::{Table, Value};
@@ -45,7 +45,12 @@ pub(crate) fn push_value(
     }
 }
 
-fn push_text(findings: &mut Findings, location: &Location<'_>, name: &str, value: &Value) -> Result<(), OutOfMemory> {
+fn push_text(
+    findings: &mut Findings,
+    location: &Location<'_>,
+    name: &str,
+    value: &Value,
+) -> Result<(), OutOfMemory> {
     if value.is_str() {
         return Ok(());
     }
@@ -160,7 +165,12 @@ fn push_near_number(findings: &mut Findings, text: &str, most: u64) -> Result<()
     }
 }
 
-fn push_texts(findings: &mut Findings, location: &Location<'_>, name: &str, value: &Value) -> Result<(), OutOfMemory> {
+fn push_texts(
+    findings: &mut Findings,
+    location: &Location<'_>,
+    name: &str,
+    value: &Value,
+) -> Result<(), OutOfMemory> {
     let Some(table) = value.as_table() else {
         push_misfit(findings, location, name, value)?;
         findings.text.push_str("a table of texts is wanted\n")?;

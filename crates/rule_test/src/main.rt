@@ -9,7 +9,7 @@ mod options;
 
 use files::{read_edits, read_file, read_groups};
 use options::read_options;
-use rl_rule_tests::{TestsError, Report, play, read_document, read_table};
+use rl_rule_tests::{Report, TestsError, play, read_document, read_table};
 use std::alloc::{AllocError, AllocFailed};
 use std::process::ExitCode;
 
@@ -64,7 +64,10 @@ fn report_stop(rt: &HostRuntime, stop: Stop) -> ExitCode {
     let (report, status) = match &stop {
         Stop::Help(text) => (print!(rt; "{text}"), 0),
         Stop::BadOptions => (eprintln!(rt; "rule_test: bad options"), 2),
-        Stop::Fault { location, what } if location.is_empty() => (eprintln!(rt; "rule_test: {what}"), 2),
+        Stop::Fault { location, what } if location.is_empty() => (
+            eprintln!(rt; "rule_test: {what}"),
+            2,
+        ),
         Stop::Fault { location, what } => (eprintln!(rt; "rule_test: {location}: {what}"), 2),
         Stop::Unread(file) => (eprintln!(rt; "rule_test: {file} cannot be read"), 3),
         Stop::Memory => (eprintln!(rt; "rule_test: out of memory"), 3),

@@ -2,10 +2,10 @@
 ghost use Rattle.std.specs.Prelude.{◌≤◌, length, IfOk};
 
 use crate::given::{labels_in, list_in, moment_in, number_in, words_of};
-use crate::query::query_in;
 use crate::output::push_value;
+use crate::query::query_in;
 use crate::trouble::Trouble;
-use rl_aggregate::{Fraction, Outcome, Partial, Sample, Volume, Totals, finish, merge, scratch};
+use rl_aggregate::{Fraction, Outcome, Partial, Sample, Totals, Volume, finish, merge, scratch};
 use rl_labels::{Entry, Labels, Ns};
 use rl_plain::{Same, Shared, TryCopy};
 use rl_query::{Query, RangeFunction, Term};
@@ -23,7 +23,12 @@ pub(crate) fn answer(output: &mut String, directive: &str, input: &str) -> Resul
     ended
 }
 
-fn of_query(output: &mut String, directive: &str, query: &Query, rest: &str) -> Result<(), Trouble> {
+fn of_query(
+    output: &mut String,
+    directive: &str,
+    query: &Query,
+    rest: &str,
+) -> Result<(), Trouble> {
     match directive {
         "range" => push_range(output, query, rest),
         "partial" => push_steps(output, query, rest),
@@ -167,7 +172,12 @@ fn push_step(
 }
 
 // Writes the totals at a label set, and whether they and their values are the copy's.
-fn push_finished(output: &mut String, here: &Totals, copy: &Totals, labels: &str) -> Result<(), Trouble> {
+fn push_finished(
+    output: &mut String,
+    here: &Totals,
+    copy: &Totals,
+    labels: &str,
+) -> Result<(), Trouble> {
     let (here, copy) = both_at(*output.allocator(), here, copy, labels)?;
     push_total(output, here)?;
     push_total(output, copy)?;

@@ -4,7 +4,7 @@
 ghost use Rattle.std.specs.Prelude.{◌≤◌};
 
 use crate::given::number_in;
-use crate::output::{push_value, push_refused};
+use crate::output::{push_refused, push_value};
 use crate::trouble::Trouble;
 use rl_chunks::{Chunk, decode, encode};
 use rl_plain::OrMemory;

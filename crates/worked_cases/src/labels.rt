@@ -4,7 +4,7 @@
 //! the label `a`, whatever signs the value has.
 use crate::compared::compared;
 use crate::given::{Read, labels_in, list_in, moment_in, number_in, raw_limits_in, words_of};
-use crate::output::{push_value, push_debug, push_fault_text, push_refused};
+use crate::output::{push_debug, push_fault_text, push_refused, push_value};
 use crate::trouble::Trouble;
 use rl_labels::entry::MAX_LINE_LEN;
 use rl_labels::labels::{ERROR_LABEL, MAX_TEXT_LEN, is_label_name};

@@ -16,7 +16,10 @@ pub(crate) fn push_debug<T: Debug>(output: &mut String, value: &T) -> Result<(),
 }
 
 /// A fault as it is, and in words.
-pub(crate) fn push_fault_text<F: Debug + Display>(output: &mut String, fault: &F) -> Result<(), Trouble> {
+pub(crate) fn push_fault_text<F: Debug + Display>(
+    output: &mut String,
+    fault: &F,
+) -> Result<(), Trouble> {
     writeln!(output, "{fault:?}: {fault}")?;
     Ok(())
 }

@@ -4,8 +4,8 @@
 //! `json` and `logfmt` have the label set of a stream, which gets the error `E`, and its lines. `runs` has a query before these.
 //! `covers` has a delete selector, and an entry in each other line.
 use crate::given::{Read, entry_in, labels_in};
-use crate::query::query_in;
 use crate::output::push_value;
+use crate::query::query_in;
 use crate::trouble::Trouble;
 use rl_labels::labels::{ERROR_LABEL, is_label_name};
 use rl_labels::{Covers, Labels};
@@ -26,7 +26,12 @@ pub(crate) fn answer(output: &mut String, directive: &str, input: &str) -> Resul
 }
 
 // The labels that each line of a stream has after the parser, where an error is set before it.
-fn following(output: &mut String, parser: Parser, labels: &str, lines: &str) -> Result<(), Trouble> {
+fn following(
+    output: &mut String,
+    parser: Parser,
+    labels: &str,
+    lines: &str,
+) -> Result<(), Trouble> {
     let labels = faulty_labels(*output.allocator(), labels)?;
     for line in lines.split('\n') {
         push_parsed(output, parser, &labels, line)?;

@@ -3,7 +3,7 @@
 //! A list of numbers is `7,8`; `-` is an empty list, or no number. A pair has `=` between its halves.
 use crate::compared::compared;
 use crate::given::{Read, list_in, number_in, words_of};
-use crate::output::{push_value, push_debug};
+use crate::output::{push_debug, push_value};
 use crate::trouble::Trouble;
 use rl_plain::{PlainList, PlainText};
 use std::alloc::Global;

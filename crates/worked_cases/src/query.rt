@@ -1,7 +1,7 @@
 //! Query texts that no rule file shows: what they are read as, what their faults say, and the texts of delete requests.
 use crate::compared::{halves, matched};
 use crate::given::Read;
-use crate::output::{push_value, push_debug};
+use crate::output::{push_debug, push_value};
 use crate::trouble::Trouble;
 use rl_query::{Query, QueryError, QueryFault, Sieve, Stage, print};
 use rl_query_text::parse;

@@ -8,7 +8,7 @@ ghost use Rattle.std.specs.List.{AllByRecursion};
 ghost use Rattle.rl_world.specs.BookCalls.{IsFresh};
 
 use crate::given::{limits_in, number_in};
-use crate::output::{push_value, push_fault_text};
+use crate::output::{push_fault_text, push_value};
 use crate::trouble::Trouble;
 use crate::world::{Kept, stores_of};
 use rl_labels::{Entry, Limits};

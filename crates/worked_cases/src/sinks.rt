@@ -8,7 +8,7 @@ use crate::output::{push_debug, push_fault_text};
 use crate::trouble::Trouble;
 use rl_aggregate::{Fraction, Sample};
 use rl_plain::{PlainList, PlainText};
-use rl_rules::{Alert, Cause, Evaluation, AlertState, RuleKind, RuleOutcome, RuleResult};
+use rl_rules::{Alert, AlertState, Cause, Evaluation, RuleKind, RuleOutcome, RuleResult};
 use rl_sinks::{Notifier, Recorder, Sink, SinkFault, SinkKind, Tail, evaluation_text};
 use std::alloc::{AllocError, AllocFailed, Global};
 

@@ -4,8 +4,8 @@
 //! `1=flip:9`, `2=cut:3`, `3=swap:7`. Each line after it is a call: `push` and `holds` with an entry, `horizon` with a
 //! moment, `cut`, `flush`, `len`, `reads`, `chunks`, `each` with labels and two moments, `walk` with labels, by a cursor.
 use crate::given::{Read, entry_in, limits_in, list_in, moment_in, number_in, words_of};
-use crate::streams_random::random;
 use crate::output::push_value;
+use crate::streams_random::random;
 use crate::trouble::Trouble;
 use rl_chunks::{MemStore, Spoil, SpoilStore};
 use rl_labels::{Labels, MatchOp, Matcher, Ns, SelectorCode};
@@ -149,7 +149,7 @@ impl Model for Visited {
 impl Visitor for Visited {
     ghost visiting = { λ output _. output };
 
-    fn take(&mut self, labels: &Labels, timestamp: Ns, text: &str) -> Result<(), AllocError> {
+    fn visit(&mut self, labels: &Labels, timestamp: Ns, text: &str) -> Result<(), AllocError> {
         push_line(&mut self.text, labels, timestamp, text)
     }
 }

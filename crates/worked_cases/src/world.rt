@@ -12,8 +12,8 @@ ghost use Rattle.rl_world.specs.BookCalls.{IsFresh};
 ghost use Rattle.rl_world.specs.ShardAnswers.{most_shards};
 
 use crate::given::{Read, limits_in, number_in, words_of};
-use crate::streams::plan_in;
 use crate::output::push_value;
+use crate::streams::plan_in;
 use crate::trouble::Trouble;
 use crate::world_steps::{Asking, push_lines};
 use rl_chunks::{MemStore, SpoilStore};

@@ -2,8 +2,8 @@
 ghost use Rattle.std.specs.Prelude.{◌≡◌};
 
 use crate::given::{Read, moment_in, number_in, words_of};
-use crate::shard;
 use crate::output::push_value;
+use crate::shard;
 use crate::trouble::Trouble;
 use crate::world::{Kept, Sunk};
 use rl_plain::{PlainList, Same};
@@ -221,7 +221,11 @@ fn look_at(
 }
 
 // How many chunks the store of a shard has, and how often it was read.
-fn push_store(output: &mut String, world: &World<Kept, Sunk>, number: usize) -> Result<(), Trouble> {
+fn push_store(
+    output: &mut String,
+    world: &World<Kept, Sunk>,
+    number: usize,
+) -> Result<(), Trouble> {
     let Some(shard) = world.shard(number) else {
         return push_value(output, &"None");
     };
@@ -252,7 +256,12 @@ fn push_count(output: &mut String, before: &str, group: &Group) -> Result<(), Tr
 }
 
 // How many texts a sink has taken, and one that it keeps.
-fn push_kept(output: &mut String, book: &Book<Sunk>, sink: usize, index: u64) -> Result<(), Trouble> {
+fn push_kept(
+    output: &mut String,
+    book: &Book<Sunk>,
+    sink: usize,
+    index: u64,
+) -> Result<(), Trouble> {
     let (count, text) = (book.sink_count(sink), book.sink_text(sink, index));
     writeln!(output, "{count:?} {text:?}")?;
     Ok(())

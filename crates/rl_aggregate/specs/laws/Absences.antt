@@ -17,7 +17,7 @@ use Rattle.rl_aggregate.specs.Evaluated.{samples_by, range_value, absent_of}
 use Rattle.rl_aggregate.specs.InRange.{Contribution, in_range}
 use Rattle.rl_aggregate.specs.Partials.{has_error, counts_for, total_of, totals_of, partial}
 use Rattle.rl_aggregate.specs.laws.Totals.{same_totals, get-totals_of}
-use Rattle.rl_aggregate.specs.declared.total.Volume.{Volume}
+use Rattle.rl_aggregate.specs.declared.volume.Volume.{Volume}
 use Rattle.rl_aggregate.specs.declared.outcome.Outcome.TheVariants as outcomes
 
 -- without lines there are no totals

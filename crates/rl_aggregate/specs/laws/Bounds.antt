@@ -32,7 +32,7 @@ use Rattle.rl_aggregate.specs.Ratios.{partner, quotient, ratios}
 use Rattle.rl_aggregate.specs.TotalsMap.{TotalsMap, no_total}
 use Rattle.rl_aggregate.specs.Vectors.{AreInOrder, IsOfOneTerm, IsOfQuery, AreOfOneTerm}
 use Rattle.rl_aggregate.specs.laws.Groups.{rises-aggregated_by, have_divisor-aggregated_by, length-aggregated_by, total-aggregated_by}
-use Rattle.rl_aggregate.specs.declared.total.Volume.{Volume}
+use Rattle.rl_aggregate.specs.declared.volume.Volume.{Volume}
 use Rattle.rl_aggregate.specs.declared.outcome.Fraction.{Fraction}
 use Rattle.rl_aggregate.specs.declared.outcome.Sample.{Sample}
 use Rattle.rl_aggregate.specs.declared.partial.Partial.{Partial}

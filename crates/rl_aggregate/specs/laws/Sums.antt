@@ -24,7 +24,7 @@ use Rattle.rl_aggregate.specs.Limited.{sum_of, IsLimited}
 use Rattle.rl_aggregate.specs.Partials.{has_error, counts_for, total_of, totals_of, partial, partial_of, both_totals}
 use Rattle.rl_aggregate.specs.TotalsMap.{TotalsMap, no_total, plus, total_at}
 use Rattle.rl_aggregate.specs.laws.Totals.{label_set_eq-cmp, total_at-both_totals, total_at-totals_of, sum_by-within}
-use Rattle.rl_aggregate.specs.declared.total.Volume.{Volume}
+use Rattle.rl_aggregate.specs.declared.volume.Volume.{Volume}
 
 before_apart : (s t : LabelSet) → is_lt (label_set_cmp s t) ≡ true → eq_by_cmp label_set_cmp t s ≡ false
 before_apart s t before = elim (label_set_cmp s t) as (λ o. label_set_cmp s t ≡ o → is_lt o ≡ true → eq_by_cmp label_set_cmp t s ≡ false) [

@@ -25,7 +25,7 @@ use Rattle.rl_query.specs.declared.stages.Stage.{Stage}
 use Rattle.rl_aggregate.specs.InRange.{Contribution, contribution, is_in_range, in_range}
 use Rattle.rl_aggregate.specs.TotalsMap.{TotalsMap, no_total, plus, total_at}
 use Rattle.rl_aggregate.specs.Partials.{has_error, counts_for, total_of, totals_of, partial_of, partial, both_totals, merge, most_entries, Fits}
-use Rattle.rl_aggregate.specs.declared.total.Volume.{Volume}
+use Rattle.rl_aggregate.specs.declared.volume.Volume.{Volume}
 use Rattle.rl_aggregate.specs.declared.partial.Partial.{Partial}
 
 -- the two tests of equal label sets are one

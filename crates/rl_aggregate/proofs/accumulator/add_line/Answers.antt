@@ -3,7 +3,7 @@ use Rattle.std.proofs.Common.{sym, ap, subst, ◌∙◌, arith}
 use Rattle.rl_labels.specs.laws.TextLaws.{label_set_eq-true}
 use Rattle.rl_aggregate.specs.Accumulators.{with_run, HasRoom}
 use Rattle.rl_aggregate.specs.Waiting.{with_waiting, IsRun}
-use Rattle.rl_aggregate.specs.declared.total.Volume.{Volume}
+use Rattle.rl_aggregate.specs.declared.volume.Volume.{Volume}
 use Rattle.rl_aggregate.proofs.Accumulating.{with_run-more, run-fewer}
 use Rattle.rl_aggregate.proofs.accumulator.add_line.Goals as goal
 

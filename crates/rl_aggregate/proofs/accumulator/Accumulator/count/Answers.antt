@@ -5,7 +5,7 @@ use Rattle.rl_pipeline.specs.Lines.{StreamLine}
 use Rattle.rl_pipeline.specs.Running.{run}
 use Rattle.rl_aggregate.specs.Accumulators.{with_line, with_run}
 use Rattle.rl_aggregate.specs.Waiting.{with_waiting}
-use Rattle.rl_aggregate.specs.declared.total.Volume.{Volume}
+use Rattle.rl_aggregate.specs.declared.volume.Volume.{Volume}
 use Rattle.rl_aggregate.proofs.Accumulating.{line_stays, line_leaves}
 use Rattle.rl_aggregate.proofs.accumulator.Accumulator.count.Goals as goal
 

@@ -6,7 +6,7 @@ use Rattle.std.specs.Map.{lookup}
 use Rattle.std.specs.Option.{unwrap_or}
 use Rattle.rl_labels.specs.LabelText.{label_set_cmp}
 use Rattle.rl_aggregate.specs.TotalsMap.{no_total, total_at}
-use Rattle.rl_aggregate.specs.declared.total.Volume.{Volume}
+use Rattle.rl_aggregate.specs.declared.volume.Volume.{Volume}
 use Rattle.rl_aggregate.proofs.Maps.{totals_in, total_at-totals_in, found_in, one_added}
 use Rattle.rl_aggregate.proofs.totals.Totals.add.Goals as goal
 
