@@ -30,7 +30,7 @@ pub use counter::Counter;
 pub use finishing::OutcomeCache;
 pub use outcome::{Fraction, Outcome, Sample};
 pub use partial::{Partial, merge};
-pub use range::{pipelines_of, scratch, selector_of};
+pub use range::{pipelines_of, scratch};
 pub use totals::Totals;
 pub use vector::finish;
 pub use volume::Volume;

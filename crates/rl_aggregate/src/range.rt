@@ -11,14 +11,11 @@ ghost use Rattle.rl_aggregate.specs.Partials.{partial, most_entries};
 
 use crate::counter::Counter;
 use crate::partial::Partial;
-use rl_labels::{Entry, Labels, Ns, SelectorCode};
+use rl_labels::{Entry, Labels, Ns, SECOND, SelectorCode};
 use rl_pipeline::Pipeline;
 use rl_plain::Shared;
 use rl_query::Term;
 use std::alloc::{AllocError, Global};
-
-// A second, in nanoseconds.
-const SECOND: u64 = 1_000_000_000;
 
 /// What the entries in the term's range at the moment add up to.
 pub fn scratch(
@@ -86,8 +83,8 @@ fn accepts_next(
     }
 }
 
-/// The built selector of a term. Its patterns were built when it was read, so a refusal is one for memory.
-pub fn selector_of(alloc: Global, term: &Term) -> Result<SelectorCode, AllocError>
+// The built selector of a term. Its patterns were built when it was read, so a refusal is one for memory.
+fn selector_of(alloc: Global, term: &Term) -> Result<SelectorCode, AllocError>
     ensures { IfOk result (λ selector. selector ≡ term.now.range.selector.matchers) }
 {
     SelectorCode::build(alloc, term.range.selector.matchers.as_slice()).or(Err(AllocError))

@@ -3,12 +3,9 @@ ghost use Rattle.std.specs.Prelude.{◌≡◌, ◌≤◌};
 ghost use Rattle.rl_labels.specs.Quantity.{greatest_moment};
 ghost use Rattle.rl_deletes.specs.Horizons.{advanced};
 
-use rl_labels::{Covers, Entry, Labels, Ns};
+use rl_labels::{Covers, Entry, Labels, Ns, SECOND};
 use std::alloc::AllocError;
 use std::marker::Model;
-
-// Nanoseconds in a second.
-const SECOND: u64 = 1_000_000_000;
 
 /// The moment below which entries are expired. Contracts see the moment.
 #[derive(Clone, Copy, Debug)]

@@ -10,7 +10,7 @@ ghost use Rattle.rl_deletes.specs.Deletes.{asked, cancel_fault, cancelled, cover
 use crate::active::ActiveRequest;
 use crate::fault::{CancelFault, ProcessFault, ReceiveError, ReceiveFault};
 use crate::request::{Request, RequestStatus};
-use rl_labels::{Covers, Entry, Labels, Limits, Ns};
+use rl_labels::{Covers, Entry, Labels, Limits, Ns, SECOND};
 use rl_plain::{OrMemory, Shared};
 use rl_query::Sieve;
 use std::alloc::{AllocError, Global};
@@ -19,9 +19,6 @@ use std::marker::Model;
 
 /// The most requests, whatever their status.
 pub const MOST_REQUESTS: usize = 65_536;
-
-// Nanoseconds in a second.
-const SECOND: u64 = 1_000_000_000;
 
 /// Delete requests by their numbers. Contracts see a finite map, and how long after its making a request is not processed.
 #[derive(Drop)]

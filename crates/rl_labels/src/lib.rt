@@ -10,7 +10,7 @@
 //! - `short`: texts that lie in the value itself where they are short.
 //! - `decimal`: rows of digits, and `Decimal`. `quantity`: `Duration`, `Size`, and `Signed`, which labels' values are.
 //! - `sending`: built matchers may be sent to another thread.
-//! - `ns`: `Ns`, moments in nanoseconds.
+//! - `ns`: `Ns`, moments in nanoseconds, and `SECOND`.
 //! - `limits`: `Limits`, made from numbers that are in their ranges.
 #![tactic(auto)]
 
@@ -36,7 +36,7 @@ pub use entry::{Entry, EntryFault, RefusedEntry};
 pub use labels::{Labels, LabelsError, LabelsFault};
 pub use limits::{BadLimit, DEFAULT_LIMITS, LimitField, Limits, RawLimits};
 pub use matcher::{MatchOp, Matcher, MatcherCode, MatcherError, MatcherFault};
-pub use ns::Ns;
+pub use ns::{Ns, SECOND};
 pub use quantity::{Duration, DurationPart, DurationUnit, Signed, Size, SizeUnit};
 pub use routing::shard_of;
 pub use selector::SelectorCode;

@@ -5,6 +5,9 @@ use rl_plain::{Same, TryCopy};
 use std::alloc::AllocError;
 use std::marker::Model;
 
+/// A second, in nanoseconds.
+pub const SECOND: u64 = 1_000_000_000;
+
 /// A moment in nanoseconds since the Unix epoch, at most 9,223,372,036,854,775,807. Contracts see it as the number.
 #[derive(Clone, Copy, Debug, PartialEq, Eq, PartialOrd, Ord, Hash)]
 pub struct Ns {

@@ -2,11 +2,9 @@
 ghost use Rattle.std.specs.Prelude.{◌≡◌, IfOk, map, string_bytes, ◌++◌, [], option_map, OnOk, codes};
 ghost use Rattle.rl_query.specs.Form.{filter_form, sieve_form, matcher_form, stage_form, range_form, aggregation_form, term_form, threshold_form, query_form};
 ghost use Rattle.rl_query.specs.Printing.{sieve_text, matchers_text, filter_op_text, filter_print, filters_text, parser_text, stage_print, stages_text, range_text, names_text, grouping_text, parameter_text, aggregation_text, nest_text, bare_text, term_text, over_text, threshold_text, query_text};
-ghost use Rattle.rl_query.specs.declared.filter.Sieve.{Sieve};
 ghost use Rattle.std.specs.List.{flat_map};
 ghost use Rattle.rl_query.specs.MatcherPrinting.{operator_text, matcher_text};
 ghost use Rattle.rl_query.specs.Tables.{operator_word};
-ghost use Rattle.rl_query.specs.declared.query.Term.{Term};
 ghost use Rattle.std.specs.Fmt.{decimal};
 
 use crate::aggregation::{Aggregation, Grouping, Threshold, VectorOperator};

@@ -8,11 +8,10 @@ use crate::document::{Check, Edit, MOST_MOMENTS, Span, Test};
 use crate::judging::is_named;
 use crate::lines::Stream;
 use crate::part::Steps;
+use rl_labels::SECOND;
 use rl_rules::Group;
 use std::alloc::{AllocError, Global};
 use std::cmp::Ordering;
-
-const NANOSECONDS: u64 = 1_000_000_000;
 
 /// What happens. At one moment lines arrive first.
 #[derive(Clone, Copy)]
@@ -181,7 +180,7 @@ fn push_spans(
 fn by_interval(group: &Group, checks: &[Check<'_>]) -> Steps
     ensures { result ≡ interval_steps group.now.interval (last_check checks.now) }
 {
-    let step = group.interval.saturating_mul(NANOSECONDS);
+    let step = group.interval.saturating_mul(SECOND);
     let count = match last_check(checks) {
         Some(last) => last.checked_div(step).unwrap_or(0).saturating_add(1),
         None => 0,

@@ -17,14 +17,11 @@ use crate::step::ShardFault;
 use rl_aggregate::{Counter, Partial, pipelines_of};
 use rl_chunks::Store;
 use rl_deletes::Requests;
-use rl_labels::Ns;
+use rl_labels::{Ns, SECOND};
 use rl_plain::{PlainList, Same, Shared, TryCopy};
 use rl_query::{LogRange, Term};
 use rl_streams::Streams;
 use std::alloc::{AllocError, Global};
-
-// A second, in nanoseconds.
-const SECOND: u64 = 1_000_000_000;
 
 // The most terms that go through the lines together, so that what all of them add up stays near.
 const MOST_TOGETHER: usize = 8;
