@@ -54,7 +54,7 @@ struct Removal {
     // How many lines are taken when all are pushed again.
     taken: u64,
     // How many of its calls report a refusal; the first ones.
-    telling: u64,
+    reporting: u64,
     // How many chunks there are at the end where the store refused a call, for each call; and last, where it refused none.
     chunks: &'static [usize],
 }
@@ -64,7 +64,7 @@ const PROCESS: Removal = Removal {
     is_process: true,
     shown: [311, 311, 621],
     taken: 9,
-    telling: 3,
+    reporting: 3,
     chunks: &[2, 2, 3, 3, 3, 2],
 };
 
@@ -73,7 +73,7 @@ const RETAIN: Removal = Removal {
     is_process: false,
     shown: [621, 310, 310],
     taken: 4,
-    telling: 4,
+    reporting: 4,
     chunks: &[1, 1, 2, 2, 2, 2, 2, 1],
 };
 
@@ -247,7 +247,7 @@ fn removes(
     is(rt, fill(alloc, shard, of.is_process), Some(9), why.1);
     is(rt, shown(alloc, shard), Some(of.shown[0]), why.1);
     is(rt, shard.store().calls, BEFORE, why.1);
-    if why.1 < of.telling {
+    if why.1 < of.reporting {
         refuses(rt, alloc, shard, of, why);
     }
     finishes(rt, alloc, shard, of, why.1);

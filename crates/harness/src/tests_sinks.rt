@@ -49,9 +49,9 @@ fn closes<S: Sink>(sink: &mut S) -> u64 {
 
 // A sink takes three texts. The bits of a plan say after which of them it is pumped, and the last one whether it is closed.
 // How often that failed.
-fn uses<S: Sink>(rt: &impl Abort, sink: &mut S, told: [&Evaluation; 3], plan: u64) -> u64 {
+fn uses<S: Sink>(rt: &impl Abort, sink: &mut S, evaluations: [&Evaluation; 3], plan: u64) -> u64 {
     let (mut rest, mut failed) = (plan, 0u64);
-    for evaluation in told {
+    for evaluation in evaluations {
         is(rt, take(rt, sink, evaluation), Ok(()), plan);
         if rest % 2 > 0 {
             failed = failed.wrapping_add(pumps(rt, sink));
@@ -69,11 +69,11 @@ fn recorder_fails(
     rt: &impl Abort,
     alloc: Global,
     to: &mut Planned,
-    told: [&Evaluation; 3],
+    evaluations: [&Evaluation; 3],
     plan: u64,
 ) -> u64 {
     let mut recorder = Recorder::new(alloc, to, 3);
-    uses(rt, &mut recorder, told, plan)
+    uses(rt, &mut recorder, evaluations, plan)
 }
 
 // A tail is used by a plan, and dropped. How often it failed before that; no such number where memory ran out.
@@ -81,11 +81,11 @@ fn tail_fails(
     rt: &impl Abort,
     alloc: Global,
     to: &mut Planned,
-    told: [&Evaluation; 3],
+    evaluations: [&Evaluation; 3],
     plan: u64,
 ) -> u64 {
     match Tail::new(alloc, to, 2) {
-        Ok(mut tail) => uses(rt, &mut tail, told, plan),
+        Ok(mut tail) => uses(rt, &mut tail, evaluations, plan),
         Err(_) => u64::MAX,
     }
 }
@@ -112,7 +112,7 @@ fn is_written(
 fn plans(
     rt: &impl Abort,
     alloc: Global,
-    told: [&Evaluation; 3],
+    evaluations: [&Evaluation; 3],
     device: (usize, u64, Option<ErrorKind>),
     want: (SinkKind, u64),
 ) {
@@ -120,8 +120,11 @@ fn plans(
     for plan in 0..16 {
         let mut writer = Planned::new(alloc, step, (at, at), kind);
         let (all, failed) = match want.0 {
-            SinkKind::Tail => (LAST, tail_fails(rt, alloc, &mut writer, told, plan)),
-            _ => (THREE, recorder_fails(rt, alloc, &mut writer, told, plan)),
+            SinkKind::Tail => (LAST, tail_fails(rt, alloc, &mut writer, evaluations, plan)),
+            _ => (
+                THREE,
+                recorder_fails(rt, alloc, &mut writer, evaluations, plan),
+            ),
         };
         is_written(rt, &writer, (all, want.1, at), failed, plan > 7);
     }
@@ -131,33 +134,33 @@ fn plans(
 fn goes_on(
     rt: &impl Abort,
     alloc: Global,
-    told: [&Evaluation; 3],
+    evaluations: [&Evaluation; 3],
     step: usize,
     want: (SinkKind, u64),
 ) {
     for at in 0..=want.1 {
         for kind in [FULL, Some(ErrorKind::Interrupted), None] {
-            plans(rt, alloc, told, (step, at, kind), want);
+            plans(rt, alloc, evaluations, (step, at, kind), want);
         }
     }
 }
 
 // Each write of a recorder fails from one on, a byte a write. What came before it is written, and no more: it is closed three
 // times, and its drop tries once.
-fn stops(rt: &impl Abort, alloc: Global, told: [&Evaluation; 3]) {
+fn stops(rt: &impl Abort, alloc: Global, evaluations: [&Evaluation; 3]) {
     for at in 1..83 {
         let mut writer = Planned::new(alloc, 1, (at, 99), FULL);
-        let failed = recorder_fails(rt, alloc, &mut writer, told, 8);
+        let failed = recorder_fails(rt, alloc, &mut writer, evaluations, 8);
         is(rt, writer.text(), front(THREE, at - 1), at);
         is(rt, (failed, writer.calls), (3, at + 3), at);
     }
 }
 
 // How many writes a recorder and a tail make by a step.
-fn all_devices(rt: &impl Abort, alloc: Global, told: [&Evaluation; 3]) {
+fn all_devices(rt: &impl Abort, alloc: Global, evaluations: [&Evaluation; 3]) {
     for (step, recorder, tail) in [(1, 82, 72), (4, 24, 20), (36, 7, 6), (37, 5, 6), (99, 5, 5)] {
-        goes_on(rt, alloc, told, step, (SinkKind::Recorder, recorder));
-        goes_on(rt, alloc, told, step, (SinkKind::Tail, tail));
+        goes_on(rt, alloc, evaluations, step, (SinkKind::Recorder, recorder));
+        goes_on(rt, alloc, evaluations, step, (SinkKind::Tail, tail));
     }
 }
 
@@ -165,9 +168,9 @@ fn all_devices(rt: &impl Abort, alloc: Global, told: [&Evaluation; 3]) {
 fn each_byte_is_written_once(rt: HostRuntime) {
     match (evaluation(rt.alloc(), 10), evaluation(rt.alloc(), 100)) {
         (Some(one), Some(quiet)) => {
-            let told = [one.get(), quiet.get(), one.get()];
-            all_devices(&rt, rt.alloc(), told);
-            stops(&rt, rt.alloc(), told);
+            let evaluations = [one.get(), quiet.get(), one.get()];
+            all_devices(&rt, rt.alloc(), evaluations);
+            stops(&rt, rt.alloc(), evaluations);
         }
         _ => is(&rt, "no evaluations", "two", 0),
     }
@@ -178,13 +181,13 @@ fn is_closed_once(
     rt: &impl Abort,
     alloc: Global,
     to: &mut Planned,
-    told: [&Evaluation; 3],
+    evaluations: [&Evaluation; 3],
     at: u64,
 ) -> bool {
     let Ok(mut tail) = Tail::new(alloc, to, 2) else {
         return false;
     };
-    uses(rt, &mut tail, told, 0);
+    uses(rt, &mut tail, evaluations, 0);
     is(rt, tail.close(), Err(WriteFault), at);
     true
 }
@@ -195,9 +198,9 @@ fn a_dropped_tail_goes_on(rt: HostRuntime) {
     match (evaluation(rt.alloc(), 10), evaluation(rt.alloc(), 100)) {
         (Some(one), Some(quiet)) => {
             for at in 1..73 {
-                let told = [one.get(), quiet.get(), one.get()];
+                let evaluations = [one.get(), quiet.get(), one.get()];
                 let mut writer = Planned::new(rt.alloc(), 1, (at, at), FULL);
-                let closed = is_closed_once(&rt, rt.alloc(), &mut writer, told, at);
+                let closed = is_closed_once(&rt, rt.alloc(), &mut writer, evaluations, at);
                 is(&rt, (closed, writer.calls), (true, 73), at);
                 is(&rt, writer.text(), LAST, at);
             }

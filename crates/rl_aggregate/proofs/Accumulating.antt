@@ -1,4 +1,4 @@
--- One line more in a tally, and lines of one stream at once.
+-- One line more in an accumulator, and lines of one stream at once.
 use Rattle.std.proofs.Common.{◌≡◌, ℕ, ◌+◌, ◌<◌, ◌≤◌, ◌^◌, Bool, true, false, cond, not, ◌&&◌, List, [], ◌∷◌, length, map, codes, Option, None, Some, Bor, refl, sym, ap, subst, ◌∙◌, arith}
 use Rattle.std.specs.Prelude.{option_to_list}
 use Rattle.std.specs.Option.{unwrap_or, is_some, option_copied}

@@ -1,4 +1,4 @@
--- Counters: what each tally has counted is within what the lines that came may add up to.
+-- Counters: what each accumulator has counted is within what the lines that came may add up to.
 use Rattle.std.proofs.Common.{◌≡◌, ℕ, zero, suc, ◌+◌, ◌-◌, ◌≤◌, List, [], ◌∷◌, ◌++◌, length, map, take, drop, refl, subst, arith}
 use Rattle.std.specs.List.{AllByRecursion}
 use Rattle.rl_labels.specs.EntryParts.{longest_line}
@@ -52,7 +52,7 @@ some_left zero some = absurd (some refl)
 some_left (suc left) some = omega arith
 
 module _ {most left : ℕ} {accumulators : List AccumulatorView} (counter : IsCounter most left accumulators) where
-  -- each tally has room
+  -- each accumulator has room
   pub counter-room : AllByRecursion (λ accumulator. HasRoom 0 accumulator.found) accumulators
   counter-room =
       let few = counter.few in

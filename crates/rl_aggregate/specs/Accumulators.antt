@@ -38,7 +38,7 @@ nothing_counted stages = record { running = stages; found = partial_of [] }
 abbrev pub contributions_of : List Stage → LabelSet → List ℕ → List Contribution
 contributions_of stages labels text = map (λ found. record { labels = found; bytes = length text }) (option_to_list (run stages text labels))
 
--- a tally of one line more
+-- an accumulator of one line more
 abbrev pub with_line : LabelSet → List ℕ → AccumulatorView → AccumulatorView
 with_line labels text accumulator = record { running = accumulator.running; found = merge accumulator.found (partial_of (contributions_of accumulator.running labels text)) }
 

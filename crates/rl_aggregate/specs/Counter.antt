@@ -34,7 +34,7 @@ counted_line labels text counter =
 abbrev pub counted_entry : CounterView → Entry → CounterView
 counted_entry counter entry = counted_line entry.labels entry.line counter
 
--- a tally of it
+-- an accumulator of it
 abbrev pub with_entry : AccumulatorView → Entry → AccumulatorView
 with_entry accumulator entry = with_line entry.labels entry.line accumulator
 

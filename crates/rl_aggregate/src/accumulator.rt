@@ -63,7 +63,7 @@ impl<'a> Accumulator<'a> {
         })
     }
 
-    // Counts a line of a stream with these labels, if it stays. Refused, the tally stays as it was.
+    // Counts a line of a stream with these labels, if it stays. Refused, the accumulator stays as it was.
     pub(crate) fn count(
         &mut self,
         meter: &mut Meter,

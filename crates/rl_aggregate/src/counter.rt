@@ -84,7 +84,7 @@ impl<'a> Counter<'a> {
     }
 }
 
-// A tally of each pipeline, in which nothing is counted.
+// An accumulator of each pipeline, in which nothing is counted.
 fn accumulators_of<'a>(
     alloc: Global,
     pipelines: &'a [Pipeline],
@@ -98,7 +98,7 @@ fn accumulators_of<'a>(
     Ok(accumulators)
 }
 
-// Counts a line in each tally, as far as it stays there.
+// Counts a line in each accumulator, as far as it stays there.
 fn count_in_each(
     accumulators: &mut [Accumulator<'_>],
     labels: &Labels,

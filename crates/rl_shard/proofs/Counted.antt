@@ -231,7 +231,7 @@ same_accumulators : (accumulators : List AccumulatorView) → accumulators ≡ m
 same_accumulators [] = refl
 same_accumulators (accumulator ∷ accumulators) = ap (λ rest. accumulator ∷ rest) (same_accumulators accumulators)
 
--- one to which none came has counted all lines in each tally
+-- one to which none came has counted all lines in each accumulator
 pub all_counted : (counter : CounterView) (lines : List (LabelSet × Line)) → (fold counts_any counter lines).is_over ≡ false
     → (fold counts_any counter lines).accumulators ≡ map (λ accumulator. fold accumulators_line accumulator lines) counter.accumulators
 all_counted counter [] not_over = same_accumulators counter.accumulators
@@ -244,7 +244,7 @@ all_counted counter (line ∷ lines) not_over = by (all_counted (following count
     by others true none = absurd (true≢false (sym (stays_over (following counter line true) lines refl) ∙ none))
     by others false none = others none ∙ map-map (λ accumulator. fold accumulators_line accumulator lines) (with_line line.0 line.1.text) counter.accumulators
 
--- a tally has what its stages make of the lines
+-- an accumulator has what its stages make of the lines
 tallied : (stages : List Stage) (found : Partial) (lines : List (LabelSet × Line)) → (fold accumulators_line (record { running = stages; found = found }) lines).found ≡ fold (counting stages) found lines
 tallied stages found [] = refl
 tallied stages found (line ∷ lines) = tallied stages (counting stages found line) lines

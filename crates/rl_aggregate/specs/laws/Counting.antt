@@ -1,4 +1,4 @@
--- The lines of entries, counted one by one: what a tally has of them, and a counter. The order of entries does not matter
+-- The lines of entries, counted one by one: what an accumulator has of them, and a counter. The order of entries does not matter
 -- (`partial-permuted` of the laws of totals), and those that are not selected do not count.
 use Rattle.std.specs.Prelude.{◌≡◌, ℕ, ◌-◌, ◌≤◌, ◌==◌, ◌||◌, nat_lt, Bool, true, false, cond, ◌&&◌, List, [], ◌∷◌, ◌++◌, map, length, None, Some, is_some, option_to_list, refl}
 use Rattle.std.specs.Option.{unwrap_or}
@@ -32,7 +32,7 @@ stayed-cons stages e es =
       | Some following ↦ λ is. λ i. record { labels = unwrap_or (sym is i) no_labels; bytes = length e.line } ∷ stayed stages es
     ] refl
 
--- a tally of some lines, and then of those of entries
+-- an accumulator of some lines, and then of those of entries
 counted_after : (stages : List Stage) (contributions : List Contribution) (entries : List Entry) → fold with_entry (record { running = stages; found = partial_of contributions }) entries ≡ record { running = stages; found = partial_of (contributions ++ stayed stages entries) }
 counted_after stages contributions [] = λ i. record { running = stages; found = partial_of (sym (append-nil contributions) i) }
 counted_after stages contributions (e ∷ es) =
@@ -41,7 +41,7 @@ counted_after stages contributions (e ∷ es) =
     ∙ counted_after stages (contributions ++ one) es
     ∙ (λ i. record { running = stages; found = partial_of ((append_assoc contributions one (stayed stages es) ∙ ap (λ rest. contributions ++ rest) (stayed-cons stages e es)) i) })
 
--- a tally of the lines of entries has what those that stay add up to
+-- an accumulator of the lines of entries has what those that stay add up to
 pub counted_entries : (stages : List Stage) (entries : List Entry) → fold with_entry (nothing_counted stages) entries ≡ record { running = stages; found = partial_of (stayed stages entries) }
 counted_entries stages entries = counted_after stages [] entries
 
@@ -86,7 +86,7 @@ same_accumulators (accumulator ∷ accumulators) = ap (λ rest. accumulator ∷ 
 may_come : (left : ℕ) (e : Entry) → 1 ≤ left → (left == 0 || nat_lt longest_line (length e.line)) ≡ false
 may_come left e some = λ i. ne_eqb left 0 (λ none. absurd (omega (arith, some, none))) i || le-ltb longest_line (length e.line) e.fits i
 
--- a counter that may count them all counts the lines of entries in each tally
+-- a counter that may count them all counts the lines of entries in each accumulator
 pub counter_counts : (most left : ℕ) (accumulators : List AccumulatorView) (entries : List Entry) → length entries ≤ left
     → fold counted_entry (record { most = most; left = left; is_over = false; accumulators = accumulators }) entries ≡ record { most = most; left = left - length entries; is_over = false; accumulators = map (λ accumulator. fold with_entry accumulator entries) accumulators }
 counter_counts most left accumulators [] few =

@@ -1,4 +1,4 @@
--- A tally of each pipeline so far.
+-- An accumulator of each pipeline so far.
 use Rattle.std.proofs.Common.{◌≡◌, map, take}
 use Rattle.rl_aggregate.specs.Accumulators.{nothing_counted}
 use Rattle.rl_aggregate.proofs.counter.accumulators_of.Given as goal

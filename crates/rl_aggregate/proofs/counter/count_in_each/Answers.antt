@@ -1,4 +1,4 @@
--- The line is counted in one tally more; refused, in those before it.
+-- The line is counted in one accumulator more; refused, in those before it.
 use Rattle.std.proofs.Common.{slice_set, sym, ap, subst, ◌+◌, ◌∙◌, arith}
 use Rattle.std.specs.List.{AllByRecursion}
 use Rattle.std.proofs.lemmas.List.{set-get_or}

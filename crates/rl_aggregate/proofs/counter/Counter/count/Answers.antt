@@ -1,4 +1,4 @@
--- Each tally has room for the line, and is within what may be counted with it.
+-- Each accumulator has room for the line, and is within what may be counted with it.
 use Rattle.std.proofs.Common.{◌-◌, sym, subst, arith}
 use Rattle.std.specs.List.{AllByRecursion}
 use Rattle.std.proofs.lemmas.List.{with_items_is}

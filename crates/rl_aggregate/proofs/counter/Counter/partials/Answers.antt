@@ -1,4 +1,4 @@
--- What each tally has counted is within what may be counted.
+-- What each accumulator has counted is within what may be counted.
 use Rattle.std.proofs.Common.{sym, ap, subst}
 use Rattle.std.specs.List.{AllByRecursion}
 use Rattle.std.proofs.lemmas.Result.{IfOk-weaker}
