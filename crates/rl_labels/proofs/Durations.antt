@@ -2,7 +2,7 @@
 use Rattle.std.proofs.Common.{◌≡◌, ◌==◌, ℕ, zero, suc, ◌+◌, ◌<◌, true, false, List, [], ◌∷◌, ◌++◌, length, Option, Some, None, refl, sym, ap, ◌∙◌, append_assoc, length-append, arith}
 use Rattle.std.specs.Option.{option_map, option_and_then}
 use Rattle.std.proofs.lemmas.Bool.{eqb-true, eqb-false}
-use Rattle.rl_labels.specs.declared.quantity.DurationPart.{DurationPart}
+use Rattle.rl_labels.specs.declared.duration.DurationPart.{DurationPart}
 use Rattle.rl_labels.specs.Quantities.{part_at, part_then, parts_of, duration_of}
 
 -- at most `left` parts are left to read, after those so far

@@ -4,13 +4,13 @@ use Rattle.std.specs.List.{prefix_len}
 use Rattle.std.specs.Char.{is_ascii_digit, to_ascii_lowercase}
 use Rattle.rl_labels.specs.Name.{is_text}
 use Rattle.rl_labels.specs.Decimals.{DecimalForm, no_decimal, billionths, decimal_of}
-use Rattle.rl_labels.specs.declared.quantity.DurationUnit.{DurationUnit}
-use Rattle.rl_labels.specs.declared.quantity.DurationUnit.TheVariants as time
-use Rattle.rl_labels.specs.declared.quantity.DurationPart.{DurationPart}
-use Rattle.rl_labels.specs.declared.quantity.SizeUnit.{SizeUnit}
-use Rattle.rl_labels.specs.declared.quantity.SizeUnit.TheVariants as sizes
-use Rattle.rl_labels.specs.declared.quantity.Signed.{Signed}
-use Rattle.rl_labels.specs.declared.quantity.Size.{Size}
+use Rattle.rl_labels.specs.declared.duration.DurationUnit.{DurationUnit}
+use Rattle.rl_labels.specs.declared.duration.DurationUnit.TheVariants as time
+use Rattle.rl_labels.specs.declared.duration.DurationPart.{DurationPart}
+use Rattle.rl_labels.specs.declared.size.SizeUnit.{SizeUnit}
+use Rattle.rl_labels.specs.declared.size.SizeUnit.TheVariants as sizes
+use Rattle.rl_labels.specs.declared.signed.Signed.{Signed}
+use Rattle.rl_labels.specs.declared.size.Size.{Size}
 
 -- nanoseconds
 abbrev pub nanoseconds_in : DurationUnit → ℕ

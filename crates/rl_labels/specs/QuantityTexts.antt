@@ -3,12 +3,12 @@ use Rattle.std.specs.Prelude.{ℕ, zero, suc, ◌+◌, ◌/◌, ◌%◌, ◌^◌
 use Rattle.std.specs.List.{flat_map, list_all}
 use Rattle.std.specs.Fmt.{decimal}
 use Rattle.rl_labels.specs.Decimals.{DecimalForm}
-use Rattle.rl_labels.specs.declared.quantity.DurationUnit.{DurationUnit}
-use Rattle.rl_labels.specs.declared.quantity.DurationUnit.TheVariants as time
-use Rattle.rl_labels.specs.declared.quantity.DurationPart.{DurationPart}
-use Rattle.rl_labels.specs.declared.quantity.SizeUnit.{SizeUnit}
-use Rattle.rl_labels.specs.declared.quantity.SizeUnit.TheVariants as sizes
-use Rattle.rl_labels.specs.declared.quantity.Size.{Size}
+use Rattle.rl_labels.specs.declared.duration.DurationUnit.{DurationUnit}
+use Rattle.rl_labels.specs.declared.duration.DurationUnit.TheVariants as time
+use Rattle.rl_labels.specs.declared.duration.DurationPart.{DurationPart}
+use Rattle.rl_labels.specs.declared.size.SizeUnit.{SizeUnit}
+use Rattle.rl_labels.specs.declared.size.SizeUnit.TheVariants as sizes
+use Rattle.rl_labels.specs.declared.size.Size.{Size}
 
 -- the last k digits of the number n
 abbrev pub digits_text : ℕ → ℕ → List ℕ

@@ -8,7 +8,7 @@
 //! - `matcher`: `Matcher`, and its built code that accepts label sets. `selector`: the code of many that must all accept.
 //! - `covers`: what covers entries, as delete requests do. `routing`: which of several shards a stream goes to.
 //! - `short`: texts that lie in the value itself where they are short.
-//! - `decimal`: rows of digits, and `Decimal`. `quantity`: `Duration`, `Size`, and `Signed`, which labels' values are.
+//! - `decimal`: rows of digits, and `Decimal`. `duration`: `Duration`. `size`: `Size`. `signed`: `Signed`, which labels' values are.
 //! - `sending`: built matchers may be sent to another thread.
 //! - `ns`: `Ns`, moments in nanoseconds, and `SECOND`.
 //! - `limits`: `Limits`, made from numbers that are in their ranges.
@@ -17,26 +17,31 @@
 pub mod builder;
 pub mod covers;
 pub mod decimal;
+pub mod duration;
 pub mod entry;
 mod label_tree;
 pub mod labels;
 pub mod limits;
 pub mod matcher;
 pub mod ns;
-pub mod quantity;
+mod quantity;
 pub mod routing;
 pub mod selector;
 pub mod sending;
 mod short;
+pub mod signed;
+pub mod size;
 
 pub use builder::LabelsBuilder;
 pub use covers::Covers;
 pub use decimal::{Decimal, NotOne, number_of};
+pub use duration::{Duration, DurationPart, DurationUnit};
 pub use entry::{Entry, EntryFault, RefusedEntry};
 pub use labels::{Labels, LabelsError, LabelsFault};
 pub use limits::{BadLimit, DEFAULT_LIMITS, LimitField, Limits, RawLimits};
 pub use matcher::{MatchOp, Matcher, MatcherCode, MatcherError, MatcherFault};
 pub use ns::{Ns, SECOND};
-pub use quantity::{Duration, DurationPart, DurationUnit, Signed, Size, SizeUnit};
 pub use routing::shard_of;
 pub use selector::SelectorCode;
+pub use signed::Signed;
+pub use size::{Size, SizeUnit};

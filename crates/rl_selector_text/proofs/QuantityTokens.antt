@@ -11,11 +11,11 @@ use Rattle.rl_labels.specs.Decimals.{DecimalForm}
 use Rattle.rl_labels.specs.Quantities.{is_byte_of, size_of}
 use Rattle.rl_labels.specs.QuantityTexts.{decimal_text, duration_unit_text, size_unit_text, part_text, duration_text, size_text, is_decimal}
 use Rattle.rl_labels.specs.laws.QuantityLaws.{decimal_bytes, decimal_again, duration_again, size_again, size_no_duration}
-use Rattle.rl_labels.specs.declared.quantity.DurationUnit.{DurationUnit}
-use Rattle.rl_labels.specs.declared.quantity.DurationUnit.TheVariants as time
-use Rattle.rl_labels.specs.declared.quantity.DurationPart.{DurationPart}
-use Rattle.rl_labels.specs.declared.quantity.SizeUnit.{SizeUnit}
-use Rattle.rl_labels.specs.declared.quantity.SizeUnit.TheVariants as sizes
+use Rattle.rl_labels.specs.declared.duration.DurationUnit.{DurationUnit}
+use Rattle.rl_labels.specs.declared.duration.DurationUnit.TheVariants as time
+use Rattle.rl_labels.specs.declared.duration.DurationPart.{DurationPart}
+use Rattle.rl_labels.specs.declared.size.SizeUnit.{SizeUnit}
+use Rattle.rl_labels.specs.declared.size.SizeUnit.TheVariants as sizes
 use Rattle.rl_query.specs.declared.quantity_test.Quantity.{Quantity}
 use Rattle.rl_query.specs.declared.quantity_test.Quantity.TheVariants as quantities
 use Rattle.rl_selector_text.specs.Lexing.{is_number_byte}

@@ -18,12 +18,12 @@ use Rattle.std.proofs.Math.Seq.{take-append_seam, drop-append_seam, drop-append-
 use Rattle.rl_labels.specs.Decimals.{is_row, number_of, DecimalForm, cut_at_point, decimal_of_parts, decimal_of}
 use Rattle.rl_labels.specs.Quantities.{duration_unit, size_unit, is_byte_of, front_of, part_of, part_at, part_then, parts_of, duration_of, without_space, size_of_parts, size_of}
 use Rattle.rl_labels.specs.QuantityTexts.{digits_text, decimal_text, duration_unit_text, size_unit_text, part_text, duration_text, size_text, is_decimal, is_duration, is_size}
-use Rattle.rl_labels.specs.declared.quantity.DurationUnit.{DurationUnit}
-use Rattle.rl_labels.specs.declared.quantity.DurationUnit.TheVariants as time
-use Rattle.rl_labels.specs.declared.quantity.DurationPart.{DurationPart}
-use Rattle.rl_labels.specs.declared.quantity.SizeUnit.{SizeUnit}
-use Rattle.rl_labels.specs.declared.quantity.SizeUnit.TheVariants as sizes
-use Rattle.rl_labels.specs.declared.quantity.Size.{Size}
+use Rattle.rl_labels.specs.declared.duration.DurationUnit.{DurationUnit}
+use Rattle.rl_labels.specs.declared.duration.DurationUnit.TheVariants as time
+use Rattle.rl_labels.specs.declared.duration.DurationPart.{DurationPart}
+use Rattle.rl_labels.specs.declared.size.SizeUnit.{SizeUnit}
+use Rattle.rl_labels.specs.declared.size.SizeUnit.TheVariants as sizes
+use Rattle.rl_labels.specs.declared.size.Size.{Size}
 
 -- The digits of numbers.
 

@@ -1,7 +1,7 @@
 -- A part more, or the last.
 use Rattle.std.proofs.Common.{◌≡◌, ◌+◌, ◌-◌, suc, Some, sym, ap, subst, ◌∙◌, arith}
 use Rattle.rl_labels.proofs.Durations.{Left, all_left, last_there, part_there}
-use Rattle.rl_labels.proofs.quantity.read_parts.Goals as goal
+use Rattle.rl_labels.proofs.duration.read_parts.Goals as goal
 
 pub loop-turn-init : goal.loop-turn-init
 loop-turn-init c = subst (λ parts. Left c.args.text.now parts 8 c.args.text.now) (sym c.requires) (all_left c.args.text.now)
