@@ -5,8 +5,8 @@
 //! - `format`: the forms that a chunk's bytes may have.
 //! - `fault`: `ChunkFault`, why bytes are no chunk.
 //! - `writing`: `encode`. `reading`: `decode`.
-//! - `store`: `Store`, bytes by number, whatever its device does. `mem_store`: `MemStore`, in memory. `spoil_store`:
-//!   `SpoilStore`, which spoils what is read.
+//! - `store`: `Store`, bytes by number, whatever its device does. `mem_store`: `MemStore`, in memory. `dir_store`: `DirStore`,
+//!   in a folder, with `history`, what it was asked to keep. `spoil_store`: `SpoilStore`, which spoils what is read.
 #![tactic(auto)]
 
 pub mod as_line;

@@ -1,4 +1,4 @@
-//! ONE stream's head and chunks over a store: a head of log entries that grows, sealed parts, and parts that the store has.
+//! One stream's head and chunks over a store: a head of log entries that grows, sealed parts, and parts that the store has.
 //!
 //! - `stream`: `Stream`, made of its first entry. It holds entries, seals its head, writes its parts to a store and reads them
 //!   there. `part`: `Part`, sealed entries, in memory or in a store.

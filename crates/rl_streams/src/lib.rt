@@ -1,7 +1,8 @@
-//! The SET of all streams of a shard: one set of log entries, over a store that may have parts of them.
+//! The set of all streams of a shard: one set of log entries, over a store that may have parts of them.
 //!
 //! - `streams`: `Streams`. It takes entries, seals what it holds and writes it to the store, reads it again, and
 //!   removes what is covered.
+//! - `cursor`: `Cursor`, which visits what was asked of the streams line by line.
 //! - `refusal`: `AddRefusal`, why an entry is not taken. `sending`: a probe for what may cross to another thread.
 #![tactic(auto)]
 

@@ -6,7 +6,7 @@
 //!
 //! - `step`: `Step`, `Reply`, `Committed`. `fault`: `BookFault`, `BookError`, `Refusal`. `opened`: an evaluation that is open.
 //! - `item`: `Item`, an edit or an evaluation in the history of a group.
-//! - `book`: `Book`, one group with its sinks. `world`: `World`.
+//! - `book`: `Book`, one group with its sinks. `world`: `World`. `sending`: a probe for what may cross to another thread.
 //! - `aggregate`, `shard`, `rules`, `sinks`: the crates below, passed on.
 #![tactic(auto)]
 
