@@ -94,6 +94,13 @@ impl<E: Engine> Session<E> {
         out.flush()?;
         Ok(status_of(closed, refused))
     }
+
+    /// The engine as the session left it.
+    pub fn into_engine(self) -> E
+        ensures { result ≡ self.engine }
+    {
+        self.engine
+    }
 }
 
 // How a session ends, by its close and whether a line was refused.

@@ -74,6 +74,13 @@ impl<D: Store, S: Sink> WorldEngine<D, S> {
         Ok(WorldEngine { world, shards })
     }
 
+    /// The books of its world, for an end that takes nothing apart but the sinks: the shards are let go.
+    pub fn into_books(self) -> Vec<Book<S>>
+        ensures { result.items ≡ self.books }
+    {
+        self.world.into_books()
+    }
+
     // Answers one step.
     fn answer(&mut self, step: Step) -> Reply
         ensures turned { Turned self.old step result self.new }

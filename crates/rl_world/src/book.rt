@@ -375,6 +375,33 @@ impl<S: Sink> Book<S> {
     {
         close_all(&mut self.sinks)
     }
+
+    /// The sinks. All else is let go as it stands and is not taken apart, so its memory is given back with the process alone.
+    pub fn into_sinks(self) -> Vec<S>
+        ensures { map S.state result.items ≡ self.sinks }
+    {
+        let Book {
+            first,
+            group,
+            terms,
+            alerts,
+            caches,
+            items,
+            evaluations,
+            opened,
+            sinks,
+            ..
+        } = self;
+        mem::forget(first);
+        mem::forget(group);
+        mem::forget(terms);
+        mem::forget(alerts);
+        mem::forget(caches);
+        mem::forget(items);
+        mem::forget(evaluations);
+        mem::forget(opened);
+        sinks
+    }
 }
 
 // Whether `seconds` seconds have passed after a moment.

@@ -18,6 +18,7 @@ use rl_shard::Shard;
 use rl_sinks::Sink;
 use std::alloc::{AllocError, Global};
 use std::marker::Model;
+use std::mem;
 
 /// Shards, and a book for each rule group. The numbers of both are counted from 0. Contracts see a `WorldBooks`.
 #[derive(Drop)]
@@ -140,6 +141,16 @@ impl<D: Store, S: Sink> World<D, S> {
         ensures counted { BooksClosed S.state S.close_answers self.new.books result }
     {
         self.parts.close_sinks()
+    }
+
+    /// The books. The shards are let go as they stand and are not taken apart, so their memory is given back with the process
+    /// alone.
+    pub fn into_books(self) -> Vec<Book<S>>
+        ensures { result.items ≡ self.books }
+    {
+        let WorldParts { shards, books } = self.parts;
+        mem::forget(shards);
+        books
     }
 }
 

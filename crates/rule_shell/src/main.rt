@@ -26,13 +26,15 @@ use rl_session::{
     Front, FrontError, FrontFault, RunError, Session, Status, WorldEngine, read_front,
 };
 use rl_sinks::{Notifier, Recorder, Sink, Tail};
+use rl_world::Book;
 use std::alloc::{AllocError, AllocFailed, Global};
 use std::fs;
 use std::io::{BufWriter, Write};
 use std::process::ExitCode;
 
-// The room for what waits to be written, in bytes: the answer to most commands is written at once.
-const OUTPUT_ROOM: usize = 65_536;
+// The room for what waits to be written, in bytes: the answer to most commands is written at once. The C library goes through
+// all free memory where a block of 65,536 bytes or more is given back, so it stays below.
+const OUTPUT_ROOM: usize = 61_440;
 
 // What ends the program before the commands.
 #[derive(Clone, Copy, Drop)]
@@ -229,5 +231,14 @@ fn run_session<D: Store, S: Sink, W: Write>(
 {
     let engine = WorldEngine::open(alloc, limits, stores, groups, sinks)?;
     let mut session = Session::new(alloc, engine);
-    session.run_commands(commands, out)
+    let ended = session.run_commands(commands, out);
+    drop_sinks(session.into_engine().into_books());
+    ended
+}
+
+// Drops the sinks of each book. Nothing else is taken apart: the process gives its memory back at once.
+fn drop_sinks<S: Sink>(books: Vec<Book<S>>) {
+    for book in books {
+        drop(book.into_sinks());
+    }
 }
