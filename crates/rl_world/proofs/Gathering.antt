@@ -107,14 +107,14 @@ module _ (shards : List ShardView) (books : List BookState) (group number : ℕ)
 
   pub stores_not_gathered : (after : ShardView) (t : ℕ) (terms : List Term) (fault : ShardFault) (refusal : Refusal) → Stored shard.streams after.streams → after.streams.next ≤ greatest → MayCome shard (shard_steps.Collect group terms t) fault after
       → Grown shard.streams.seen shard.streams.next after.streams.seen → journalled after ≡ journalled shard → refusal ≡ refusal_of_shard fault → ShardsTurn shards (steps.Gather group number) (replies.Refused refusal) (slice_set shards number after)
-  stores_not_gathered after t terms fault refusal stored numbers came grown kept offers = inr (record {
+  stores_not_gathered after t terms fault refusal stored numbers came grown kept reported = inr (record {
     before = shard;
     there = shard_there;
     after = after;
     now = refl;
     stored = stored;
     numbers = numbers;
-    as_said = record { terms = terms; t = t; faults = record { kept = kept; fault = fault; offers = offers; cause = came; grown = grown } };
+    as_said = record { terms = terms; t = t; faults = record { kept = kept; fault = fault; reported = reported; cause = came; grown = grown } };
   })
 
   -- what became of the book

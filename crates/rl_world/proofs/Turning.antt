@@ -99,14 +99,14 @@ stores_decided shards number place step reply shard after there stored numbers p
 
 pub stores_faulted : (shards : List ShardView) (number : ℕ) (step : ShardStep) (shard after : ShardView) (fault : ShardFault) (refusal : Refusal) → slice_get shards number ≡ Some shard → Stored shard.streams after.streams → after.streams.next ≤ greatest
     → MayCome shard step fault after → Grown shard.streams.seen shard.streams.next after.streams.seen → journalled after ≡ journalled shard → refusal ≡ refusal_of_shard fault → ShardsTurn shards (steps.Shard number step) (replies.Refused refusal) (slice_set shards number after)
-stores_faulted shards number step shard after fault refusal there stored numbers came grown kept offers = inr (record {
+stores_faulted shards number step shard after fault refusal there stored numbers came grown kept reported = inr (record {
   before = shard;
   there = there;
   after = after;
   now = refl;
   stored = stored;
   numbers = numbers;
-  as_said = record { kept = kept; fault = fault; offers = offers; cause = came; grown = grown };
+  as_said = record { kept = kept; fault = fault; reported = reported; cause = came; grown = grown };
 })
 
 -- of the faults of a shard one is its journal's

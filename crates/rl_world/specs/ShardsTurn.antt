@@ -46,7 +46,7 @@ pub record Decides (place : ℕ) (step : ShardStep) (reply : ShardReply) (before
 pub record Faults (step : ShardStep) (refusal : Refusal) (before after : ShardView) : Type 0 where
   pub kept : journalled after ≡ journalled before
   pub fault : ShardFault
-  pub offers : refusal ≡ refusal_of_shard fault
+  pub reported : refusal ≡ refusal_of_shard fault
   pub cause : MayCome before step fault after
   pub grown : Grown before.streams.seen before.streams.next after.streams.seen
 

@@ -206,7 +206,7 @@ impl<S: Sink> Book<S> {
         let mut caches = mem::replace(&mut self.caches, Vec::new(self.alloc));
         let evaluated = self.evaluated(&mut caches);
         self.caches = caches;
-        let (evaluation, offers, alerts) = evaluated?;
+        let (evaluation, copy, alerts) = evaluated?;
         let item = Item::Evaluated(evaluation.try_copy()?);
         let mut behind = Vec::with_capacity(self.alloc, self.sinks.len())?;
         self.items.reserve(1)?;
@@ -217,7 +217,7 @@ impl<S: Sink> Book<S> {
         offer_all(&mut self.sinks, &self.evaluations, &mut behind);
         Ok(Committed {
             number,
-            evaluation: offers,
+            evaluation: copy,
             behind: PlainList::from_vec(behind),
         })
     }
@@ -255,8 +255,8 @@ impl<S: Sink> Book<S> {
             opened,
             caches,
         )?;
-        let offers = evaluation.try_copy()?;
-        Ok((evaluation, offers, alerts))
+        let copy = evaluation.try_copy()?;
+        Ok((evaluation, copy, alerts))
     }
 
     /// Closes the open evaluation, of which nothing is left.

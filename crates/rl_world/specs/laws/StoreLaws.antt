@@ -140,7 +140,7 @@ silent : (reply : Reply) (before after : ShardView) → is_fault_reply reply ≡
 silent reply before after fault spent damage = record { fault = λ h. absurd (not_both (is_fault_reply reply) h fault); spent = λ h. absurd (not_both (is_spent_reply reply) h spent); damage = λ h. absurd (not_both (is_damage_reply reply) h damage) }
 
 faults_reported : {step : _} (refusal : Refusal) (before after : ShardView) → Faults step refusal before after → Reports (replies.Refused refusal) before after
-faults_reported refusal before after met = subst (λ r. Reports (replies.Refused r) before after) (sym met.offers) (cause_reported met.fault before after met.cause.2)
+faults_reported refusal before after met = subst (λ r. Reports (replies.Refused r) before after) (sym met.reported) (cause_reported met.fault before after met.cause.2)
 
 turn_stores : (old : List ShardView) (step : Step) (reply : Reply) (new : List ShardView) (number : ℕ) (before : ShardView) → ShardsTurn old step reply new → slice_get old number ≡ Some before → StoreTurn number step reply before new
 turn_stores old (steps.Shard shard step) (replies.Decided place reply) new number before asked there = store_asked number shard (steps.Shard shard step) (replies.Decided place reply) before old new (Decides place step reply) refl there asked (silent (replies.Decided place reply) asked.before asked.after refl refl refl)
