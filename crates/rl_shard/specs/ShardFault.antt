@@ -48,9 +48,10 @@ refused adding.Full = Ok replies.Full
 refused (adding.Read fault) = Err (fault_of_read fault)
 
 -- whether a step may meet a fault: one that reads meets the store's and damage, one that writes meets the store's and that the
--- numbers are spent, one that removes entries does both, and each meets a full journal and a lack of memory
+-- numbers are spent, one that removes entries does both, each meets a full journal, and each but a cancel a lack of memory
 abbrev pub may_meet : ShardStep → ShardFault → Bool
 may_meet step faults.JournalFull = true
+may_meet (steps.Cancel id) faults.Memory = false
 may_meet step faults.Memory = true
 may_meet (steps.Push entry) faults.Fault = true
 may_meet (steps.Push entry) faults.Damaged = true
