@@ -5,7 +5,9 @@ ghost use Rattle.rl_sinks.specs.LogState.{log_state};
 ghost use Rattle.rl_world.specs.BookCalls.{IsFresh};
 ghost use Rattle.rl_sinks.specs.declared.sink.SinkKind.TheVariants as kinds;
 
-use crate::tests_given::{Asked, FULL, Planned, catch_up, commit, digits, is, one, opened, two};
+use crate::tests_given::{
+    Asked, FULL, Planned, WRITTEN, catch_up, commit, digits, is, one, opened, two,
+};
 use rl_chunks::MemStore;
 use rl_rules::Evaluation;
 use rl_sinks::{Recorder, Sink, SinkFault, SinkKind};
@@ -180,4 +182,24 @@ fn a_sink_catches_up(rt: HostRuntime) {
         Some(mut world) => catches_up(&rt, &mut world),
         None => is(&rt, "no world", "a world", 0),
     }
+}
+
+// A world whose recorder took a text ends: its books are taken, and then their sinks, which are dropped. How many these are.
+fn ends(alloc: Global, to: &mut Planned) -> Option<usize> {
+    let sinks = one(alloc, one(alloc, Recorder::new(alloc, to, 8))?)?;
+    let mut world = opened(alloc, sinks)?;
+    commit(&mut world, (0, 10))?;
+    let mut dropped = 0usize;
+    for book in world.into_books() {
+        dropped = dropped.wrapping_add(book.into_sinks().len());
+    }
+    Some(dropped)
+}
+
+// An end drops the sinks of each book, which write what they hold and the last line.
+#[test]
+fn an_end_drops_the_sinks(rt: HostRuntime) {
+    let mut writer = Planned::new(rt.alloc(), 99, (0, 0), FULL);
+    let dropped = ends(rt.alloc(), &mut writer);
+    is(&rt, (dropped, writer.text()), (Some(1), WRITTEN), 0);
 }
