@@ -164,7 +164,7 @@ module _ (k : LabelSet) where
   line_stays stages labels text bytes found ran is =
       ap (λ n. with_run k (record { count = 1; bytes = n }) found) is
       ∙ with_run-one (length text) found
-      ∙ ap (λ o. merge found (partial_of (map (λ (following : LabelSet). record { labels = following; bytes = length text }) (option_to_list o)))) ran
+      ∙ ap (λ o. merge found (partial_of (map (λ (labels_after : LabelSet). record { labels = labels_after; bytes = length text }) (option_to_list o)))) ran
 
   -- lines that were counted are no more than all
   pub run-fewer : (lines : ℕ) (v : Volume) (found : Partial) → IsWithin lines (with_run k v found) → v.count ≤ lines
@@ -208,4 +208,4 @@ room-less found room = (room.0, omega (arith, room.1), room.2)
 pub line_leaves : (stages : List Stage) (labels : LabelSet) (text : List ℕ) (found : Partial) → None ≡ through.run stages text labels → found ≡ merge found (partial_of (contributions_of stages labels text))
 line_leaves stages labels text found ran =
     sym (merge-nothing found)
-    ∙ ap (λ o. merge found (partial_of (map (λ (following : LabelSet). record { labels = following; bytes = length text }) (option_to_list o)))) ran
+    ∙ ap (λ o. merge found (partial_of (map (λ (labels_after : LabelSet). record { labels = labels_after; bytes = length text }) (option_to_list o)))) ran

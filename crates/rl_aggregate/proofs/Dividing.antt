@@ -25,27 +25,27 @@ apart_before s t less = label_set_eq-cmp s t ∙ ap is_eq (label_set_cmp_total.a
 
 -- what stands after a label set stands after one before it
 after_more : (s t : LabelSet) (samples : List Sample) → label_set_cmp s t ≡ Less → AreAfter t samples → AreAfter s samples
-after_more s t [] less following = tt
-after_more s t (x ∷ xs) less following = (label_set_cmp_total.trans s t x.labels less following.0, after_more s t xs less following.1)
+after_more s t [] less all_later = tt
+after_more s t (x ∷ xs) less all_later = (label_set_cmp_total.trans s t x.labels less all_later.0, after_more s t xs less all_later.1)
 
 none_after : (sample : Sample) (divisors : List Sample) → AreAfter sample.labels divisors → partner divisors sample ≡ None
-none_after sample [] following = refl
-none_after sample (d ∷ ds) following = ap (λ b. cond b (Some d) (partner ds sample)) (apart_after sample.labels d.labels following.0) ∙ none_after sample ds following.1
+none_after sample [] all_later = refl
+none_after sample (d ∷ ds) all_later = ap (λ b. cond b (Some d) (partner ds sample)) (apart_after sample.labels d.labels all_later.0) ∙ none_after sample ds all_later.1
 
 -- a divisor that stands before all samples divides none
 first_dropped : (first : Sample) (divisors samples : List Sample) → AreAfter first.labels samples → ratios samples divisors ≡ ratios samples (first ∷ divisors)
-first_dropped first divisors [] following = refl
-first_dropped first divisors (x ∷ xs) following =
-    let same : partner divisors x ≡ partner (first ∷ divisors) x = ap (λ b. cond b (Some first) (partner divisors x)) (sym (apart_before x.labels first.labels following.0)) in
+first_dropped first divisors [] all_later = refl
+first_dropped first divisors (x ∷ xs) all_later =
+    let same : partner divisors x ≡ partner (first ∷ divisors) x = ap (λ b. cond b (Some first) (partner divisors x)) (sym (apart_before x.labels first.labels all_later.0)) in
     let value : value_over divisors x ≡ value_over (first ∷ divisors) x = ap (option_and_then (λ d. quotient x.value d.value)) same in
-    λ i. option_to_list (option_map (λ v. record { labels = x.labels; value = v }) (value i)) ++ first_dropped first divisors xs following.1 i
+    λ i. option_to_list (option_map (λ v. record { labels = x.labels; value = v }) (value i)) ++ first_dropped first divisors xs all_later.1 i
 
 -- nor do those that stand before the first sample
 pub ratios-not_before : (sample : Sample) (samples divisors : List Sample) → AreAfter sample.labels samples → ratios (sample ∷ samples) (not_before sample.labels divisors) ≡ ratios (sample ∷ samples) divisors
-ratios-not_before sample samples [] following = refl
-ratios-not_before sample samples (d ∷ ds) following =
+ratios-not_before sample samples [] all_later = refl
+ratios-not_before sample samples (d ∷ ds) all_later =
     elim (label_set_cmp d.labels sample.labels) as (λ o. label_set_cmp d.labels sample.labels ≡ o → ratios (sample ∷ samples) (cond (is_lt o) (not_before sample.labels ds) (d ∷ ds)) ≡ ratios (sample ∷ samples) (d ∷ ds)) [
-      | Less ↦ λ is. ratios-not_before sample samples ds following ∙ first_dropped d ds (sample ∷ samples) (is, after_more d.labels sample.labels samples is following)
+      | Less ↦ λ is. ratios-not_before sample samples ds all_later ∙ first_dropped d ds (sample ∷ samples) (is, after_more d.labels sample.labels samples is all_later)
       | Equal ↦ λ _. refl
       | Greater ↦ λ _. refl
     ] refl
@@ -105,7 +105,7 @@ with_value sample value = option_to_list (option_map (λ v. record { labels = sa
 
 -- one sample more, with the ratios so far
 pub one_divided : (made : List Sample) (sample : Sample) (samples divisors : List Sample) (value : Option Fraction) → AreAfter sample.labels samples → value ≡ value_over (not_before sample.labels divisors) sample → (made ++ with_value sample value) ++ ratios samples (not_before sample.labels divisors) ≡ made ++ ratios (sample ∷ samples) divisors
-one_divided made sample samples divisors value following is =
+one_divided made sample samples divisors value all_later is =
     let rest = not_before sample.labels divisors in
-    let first : made ++ (with_value sample (value_over rest sample) ++ ratios samples rest) ≡ made ++ ratios (sample ∷ samples) divisors = ap (λ all. made ++ all) (ratios-not_before sample samples divisors following) in
+    let first : made ++ (with_value sample (value_over rest sample) ++ ratios samples rest) ≡ made ++ ratios (sample ∷ samples) divisors = ap (λ all. made ++ all) (ratios-not_before sample samples divisors all_later) in
     append_assoc made (with_value sample value) (ratios samples rest) ∙ ap (λ v. made ++ (with_value sample v ++ ratios samples rest)) is ∙ first

@@ -44,10 +44,10 @@ middle P (other ∷ front) sample back h = middle P front sample back h.1
 
 -- samples after one do not come before it
 none_after : (g : Grouping) (q : LabelSet) (sample : Sample) (others : List Sample) → AllByRecursion (λ other. rank_cmp sample other ≡ Less) others → count_by (λ other. comes_before other sample) (part g q others) ≡ 0
-none_after g q sample [] following = refl
-none_after g q sample (other ∷ others) following =
-    let rest = none_after g q sample others following.1 in
-    let after : comes_before other sample ≡ false = ap is_lt (rank_total.antisymm other sample ∙ ap ordering_reverse following.0) in
+none_after g q sample [] all_later = refl
+none_after g q sample (other ∷ others) all_later =
+    let rest = none_after g q sample others all_later.1 in
+    let after : comes_before other sample ≡ false = ap is_lt (rank_total.antisymm other sample ∙ ap ordering_reverse all_later.0) in
     elim (is_in g q other) as (λ b. count_by (λ o. comes_before o sample) (cond b (other ∷ part g q others) (part g q others)) ≡ 0) [
       | true ↦ sum_by-cons (λ o. cond (comes_before o sample) 1 0) other (part g q others) ∙ (λ i. cond (after i) 1 0 + rest i)
       | false ↦ rest

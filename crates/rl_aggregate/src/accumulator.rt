@@ -89,11 +89,11 @@ impl<'a> Accumulator<'a> {
             }
             return Ok(());
         }
-        let Some(following) = self.running.run_shared(meter, line)? else {
+        let Some(labels_after) = self.running.run_shared(meter, line)? else {
             return Ok(());
         };
         add_waiting(&mut self.found, &mut self.waiting)?;
-        add_one(&mut self.found, following, text.len() as u64)
+        add_one(&mut self.found, labels_after, text.len() as u64)
     }
 
     // What was counted.

@@ -14,7 +14,7 @@ use Rattle.std.specs.Ordering.{nat_cmp}
 use Rattle.std.proofs.lemmas.Bool.{true≢false}
 use Rattle.std.proofs.lemmas.Cmp.{nat_cmp_total}
 use Rattle.rl_plain.specs.laws.TreeMaps.{find_lookup, get-of_tree, one_set, sorted_entries}
-use Rattle.rl_deletes.specs.Deletes.{RequestsView, ended, ended_from, if_received, is_received, received_at, with_request, in_status}
+use Rattle.rl_deletes.specs.Deletes.{RequestsView, ended, ended_from, if_received, is_received, received_at, with_request, with_status}
 use Rattle.rl_deletes.specs.Views.{AreBuilt, view_of}
 use Rattle.rl_deletes.specs.laws.Passing.{passes_at, any_alike, any_values}
 use Rattle.rl_deletes.specs.declared.request.RequestStatus.{RequestStatus}
@@ -71,18 +71,18 @@ module _ (cancel : ℕ) (requests active : Tree) (are : AreBuilt cancel requests
         beside false known = passing_received p known
 
 ended_known : (cancel : ℕ) (es fs : Tree) (id : ℕ) (status : RequestStatus) (known : Option Request) → map.get (map_of es) id ≡ known → IsSome (if_received known)
-    → ((q : ℕ) → lookup (is_at (nat_cmp q)) fs ≡ cond (is_at (nat_cmp id) q) (option_map (in_status status) (lookup (is_at (nat_cmp id)) es)) (lookup (is_at (nat_cmp q)) es))
+    → ((q : ℕ) → lookup (is_at (nat_cmp q)) fs ≡ cond (is_at (nat_cmp id) q) (option_map (with_status status) (lookup (is_at (nat_cmp id)) es)) (lookup (is_at (nat_cmp q)) es))
     → view_of cancel fs ≡ ended_from known status (view_of cancel es) id
 ended_known cancel es fs id status None there some answers = absurd (true≢false (sym some))
 ended_known cancel es fs id status (Some request) there some answers =
-    elim (is_received request) as (λ b. IsSome (cond b (Some request) None) → view_of cancel fs ≡ cond b (with_request (view_of cancel es) id (in_status status request)) (view_of cancel es)) [
-      | true ↦ λ _. ap (λ (m : FinMap nat_cmp Request). let all : RequestsView = record { requests = m; cancel = cancel } in all) (one_put es fs id (in_status status request) (λ q.
-          answers q ∙ ap (λ known. cond (is_at (nat_cmp id) q) (option_map (in_status status) known) (lookup (is_at (nat_cmp q)) es)) (found_at es id ∙ there)))
+    elim (is_received request) as (λ b. IsSome (cond b (Some request) None) → view_of cancel fs ≡ cond b (with_request (view_of cancel es) id (with_status status request)) (view_of cancel es)) [
+      | true ↦ λ _. ap (λ (m : FinMap nat_cmp Request). let all : RequestsView = record { requests = m; cancel = cancel } in all) (one_put es fs id (with_status status request) (λ q.
+          answers q ∙ ap (λ known. cond (is_at (nat_cmp id) q) (option_map (with_status status) known) (lookup (is_at (nat_cmp q)) es)) (found_at es id ∙ there)))
       | false ↦ λ none. absurd (true≢false (sym none))
     ] some
 
 -- a tree in which a received request has another status
 pub ended_tree : (cancel : ℕ) (es fs : Tree) (id : ℕ) (status : RequestStatus) → IsSome (received_at (view_of cancel es) id)
-    → ((q : ℕ) → lookup (is_at (nat_cmp q)) fs ≡ cond (is_at (nat_cmp id) q) (option_map (in_status status) (lookup (is_at (nat_cmp id)) es)) (lookup (is_at (nat_cmp q)) es))
+    → ((q : ℕ) → lookup (is_at (nat_cmp q)) fs ≡ cond (is_at (nat_cmp id) q) (option_map (with_status status) (lookup (is_at (nat_cmp id)) es)) (lookup (is_at (nat_cmp q)) es))
     → view_of cancel fs ≡ ended status (view_of cancel es) id
 ended_tree cancel es fs id status = ended_known cancel es fs id status (map.get (map_of es) id) refl

@@ -123,12 +123,12 @@ received all id request = received_beside (map.get all.requests id) all id reque
 
 -- CANCELLING AND PROCESSING
 
-abbrev pub in_status : RequestStatus → Request → Request
-in_status status request = record request { status = status }
+abbrev pub with_status : RequestStatus → Request → Request
+with_status status request = record request { status = status }
 
 abbrev pub ended_from : Option Request → RequestStatus → RequestsView → ℕ → RequestsView
 ended_from None status all id = all
-ended_from (Some request) status all id = if is_received request then with_request all id (in_status status request) else all
+ended_from (Some request) status all id = if is_received request then with_request all id (with_status status request) else all
 
 -- the request with the number has the status from now on, if it was received
 abbrev pub ended : RequestStatus → RequestsView → ℕ → RequestsView

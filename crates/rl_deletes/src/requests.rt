@@ -5,7 +5,7 @@ ghost use Rattle.std.specs.FinMap as map;
 ghost use Rattle.std.specs.Map.{lookup};
 ghost use Rattle.std.specs.Option.{option_map};
 ghost use Rattle.std.specs.Ordering.{nat_cmp};
-ghost use Rattle.rl_deletes.specs.Deletes.{asked, cancel_fault, cancelled, covered_beside, covered_line, ended, is_in_force, no_requests, process_fault, processed, received, received_at, with_request, in_status, IsReceiveAnswer, IsReceiveFault};
+ghost use Rattle.rl_deletes.specs.Deletes.{asked, cancel_fault, cancelled, covered_beside, covered_line, ended, is_in_force, no_requests, process_fault, processed, received, received_at, with_request, with_status, IsReceiveAnswer, IsReceiveFault};
 
 use crate::active::ActiveRequest;
 use crate::fault::{CancelFault, ProcessFault, ReceiveError, ReceiveFault};
@@ -240,7 +240,7 @@ impl Covers for Requests {
 
 // Sets the status of the request with the number.
 fn set_status(requests: &mut BTreeMap<u64, Request>, id: u64, status: RequestStatus)
-    ensures { (q : ℕ) → lookup (is_at (nat_cmp q)) requests.new.entries ≡ cond (is_at (nat_cmp id) q) (option_map (in_status status) (lookup (is_at (nat_cmp id)) requests.old.entries)) (lookup (is_at (nat_cmp q)) requests.old.entries) }
+    ensures { (q : ℕ) → lookup (is_at (nat_cmp q)) requests.new.entries ≡ cond (is_at (nat_cmp id) q) (option_map (with_status status) (lookup (is_at (nat_cmp id)) requests.old.entries)) (lookup (is_at (nat_cmp q)) requests.old.entries) }
 {
     if let Some(request) = requests.get_mut(&id) {
         request.status = status;

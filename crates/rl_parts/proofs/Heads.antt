@@ -51,10 +51,10 @@ entries_sealed parts head = append-nil _ ∙ flat_map-append (λ (part : PartVie
 
 -- one part is sealed, or none
 pub one_sealed : (parts : List PartView) (head : List Entry) → AreSealed parts (parts ++ unwritten head ∷ [])
-one_sealed parts head = record { fresh = unwritten head ∷ []; following = refl; unwritten = refl }
+one_sealed parts head = record { fresh = unwritten head ∷ []; appended = refl; unwritten = refl }
 
 pub none_sealed : (parts : List PartView) → AreSealed parts parts
-none_sealed parts = record { fresh = []; following = sym (append-nil parts); unwritten = refl }
+none_sealed parts = record { fresh = []; appended = sym (append-nil parts); unwritten = refl }
 
 -- no sealed entry is newer than a later timestamp either
 up_to_later : (old new : Option ℕ) (parts : List PartView) → unwrap_or old 0 ≤ unwrap_or new 0 → AreSealedUpTo old parts → AreSealedUpTo new parts

@@ -209,7 +209,7 @@ pub planned_more : (covers : Entry → Bool) (set : LabelSet) (parts : List Part
     → AreRewritten covers set (take (i + 1) parts) first start (carried (take (i + 1) parts) now) away next after
 planned_more covers set parts i p first start changes gone mid seen next after now away within is many so_far grown one more =
     let front : take (i + 1) parts ≡ take i parts ++ p ∷ [] = take_more parts i p within ∙ ap (λ x. take i parts ++ x ∷ []) (sym is) in
-    let all : carried (take i parts ++ p ∷ []) now ≡ carried (take i parts) changes ++ left_by p one.change = ap (carried (take i parts ++ p ∷ [])) one.following ∙ carried_more (take i parts) changes p one.change (omega (arith, length-take i parts, many, within)) in
+    let all : carried (take i parts ++ p ∷ []) now ≡ carried (take i parts) changes ++ left_by p one.change = ap (carried (take i parts ++ p ∷ [])) one.appended ∙ carried_more (take i parts) changes p one.change (omega (arith, length-take i parts, many, within)) in
     subst (λ (ps : List PartView). AreRewritten covers set ps first start (carried ps now) away next after) (sym front)
     (subst (λ (us : List PartView). AreRewritten covers set (take i parts ++ p ∷ []) first start us away next after) (sym all)
     (subst (λ ns. AreRewritten covers set (take i parts ++ p ∷ []) first start (carried (take i parts) changes ++ left_by p one.change) ns next after) (sym one.gone_after)

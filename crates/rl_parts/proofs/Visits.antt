@@ -81,7 +81,7 @@ visited_then : {T : Type 0} (visiting : T → LabelSet × Line → T) (set : Lab
 visited_then visiting set from to xs ys a b c p q = record {
   pieces = p.pieces ++ q.pieces;
   each = AllZip-append (IsPiece set from to) xs p.pieces ys q.pieces p.each q.each;
-  following = q.following ∙ ap (λ t. fold visiting t (flat_map (λ piece. piece) q.pieces)) p.following ∙ sym (fold-append visiting a (flat_map (λ piece. piece) p.pieces) (flat_map (λ piece. piece) q.pieces)) ∙ ap (fold visiting a) (sym (flat_map-append (λ piece. piece) p.pieces q.pieces));
+  becomes = q.becomes ∙ ap (λ t. fold visiting t (flat_map (λ piece. piece) q.pieces)) p.becomes ∙ sym (fold-append visiting a (flat_map (λ piece. piece) p.pieces) (flat_map (λ piece. piece) q.pieces)) ∙ ap (fold visiting a) (sym (flat_map-append (λ piece. piece) p.pieces q.pieces));
 }
 
 -- the piece of one part more
@@ -93,4 +93,4 @@ piece_more visiting set from to parts i p start taken now within is so_far one =
 
 -- one piece
 pub one_piece : {T : Type 0} (visiting : T → LabelSet × Line → T) (set : LabelSet) (from to : ℕ) (p : PartView) (piece : List (LabelSet × Line)) (old new : T) → IsPiece set from to p piece → new ≡ fold visiting old piece → IsVisited visiting set from to (p ∷ []) old new
-one_piece visiting set from to p piece old new is following = record { pieces = piece ∷ []; each = (is, tt); following = following ∙ ap (fold visiting old) (sym (append-nil piece)) }
+one_piece visiting set from to p piece old new is becomes = record { pieces = piece ∷ []; each = (is, tt); becomes = becomes ∙ ap (fold visiting old) (sym (append-nil piece)) }

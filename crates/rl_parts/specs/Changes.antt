@@ -14,7 +14,7 @@ pub record IsInserted (old : List Entry) (entry : Entry) (new : List Entry) : Ty
 -- parts that no store has may have come after the old ones
 pub record AreSealed (old new : List PartView) : Type 0 where
   pub fresh : List PartView
-  pub following : new ≡ old ++ fresh
+  pub appended : new ≡ old ++ fresh
   pub unwritten : notes_of fresh ≡ []
 
 -- the parts of a stream whose head, if it has an entry, becomes one

@@ -71,4 +71,4 @@ IsPiece labels from to part piece = MatchOption part.note (piece ≡ visited_in_
 pub record IsVisited {T : Type 0} (visiting : T → LabelSet × Line → T) (labels : LabelSet) (from to : ℕ) (parts : List PartView) (old new : T) : Type 0 where
   pub pieces : List (List (LabelSet × Line))
   pub each : AllZip (IsPiece labels from to) parts pieces
-  pub following : new ≡ fold visiting old (flat_map (λ piece. piece) pieces)
+  pub becomes : new ≡ fold visiting old (flat_map (λ piece. piece) pieces)

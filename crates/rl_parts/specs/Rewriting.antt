@@ -120,6 +120,6 @@ pub record AreRewritten (covers : Entry → Bool) (labels : LabelSet) (old : Lis
 -- one part more, with what becomes of it and the number that is gone
 pub record IsOneMore (covers : Entry → Bool) (labels : LabelSet) (part : PartView) (first : ℕ) (start : Seen) (next : ℕ) (seen : Seen) (changes now : List Change) (gone gone_now : List ℕ) : Type 0 where
   pub change : Change
-  pub following : now ≡ changes ++ change ∷ []
+  pub appended : now ≡ changes ++ change ∷ []
   pub gone_after : gone_now ≡ gone ++ gone_by part change
   pub rewritten : AreRewritten covers labels (part ∷ []) first start (left_by part change) (gone_by part change) next seen

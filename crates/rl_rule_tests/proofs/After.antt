@@ -7,7 +7,7 @@ use Rattle.toml.specs.Data.{as_table, Members}
 use Rattle.toml.specs.View.{view, items_view}
 use Rattle.toml.specs.declared.value.Value.{Value}
 use Rattle.rl_rules.specs.Document.{tables_of}
-use Rattle.rl_rule_tests.specs.Document.{AreAfter}
+use Rattle.rl_rule_tests.specs.Document.{AreAppended}
 
 -- the items so far, of which those of the tables that are left make those of all
 pub record SoFar {T : Type 0} (Is : Members → T → Type 0) (tables left : List Members) (old new : List T) : Type 0 where
@@ -26,7 +26,7 @@ so_far_next Is tables left next table old new newer item so_far first is grown =
   on = λ rest are. subst (AllZip Is tables) (sym (append_assoc so_far.more (item ∷ []) rest)) (so_far.on (item ∷ rest) (subst (λ tables. AllZip Is tables (item ∷ rest)) (sym first) (is, are)));
 }
 
-pub so_far_all : {T : Type 0} (Is : Members → T → Type 0) (tables : List Members) (old new : List T) → SoFar Is tables [] old new → AreAfter Is tables old new
+pub so_far_all : {T : Type 0} (Is : Members → T → Type 0) (tables : List Members) (old new : List T) → SoFar Is tables [] old new → AreAppended Is tables old new
 so_far_all Is tables old new so_far = (so_far.more, so_far.all, subst (AllZip Is tables) (append-nil so_far.more) (so_far.on [] tt))
 
 -- a table in front

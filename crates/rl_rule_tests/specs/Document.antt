@@ -279,5 +279,5 @@ pub record IsDocument (table : Members) (document : Document) : Type 0 where
   pub tests : AllZip (IsTest kinds.Alerting []) (tables_at (codes "tests") table) document.tests.items
 
 -- items that are what tables say, after others
-abbrev pub AreAfter : {T : Type 0} → (Members → T → Type 0) → List Members → List T → List T → Type 0
-AreAfter {T} Is tables old new = (more : List T) × (new ≡ old ++ more) × AllZip Is tables more
+abbrev pub AreAppended : {T : Type 0} → (Members → T → Type 0) → List Members → List T → List T → Type 0
+AreAppended {T} Is tables old new = (more : List T) × (new ≡ old ++ more) × AllZip Is tables more

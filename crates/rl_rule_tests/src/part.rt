@@ -8,7 +8,7 @@ ghost use Rattle.rl_labels.specs.Name.{is_text};
 ghost use Rattle.rl_rules.specs.Document.{items_in, tables_at};
 ghost use Rattle.rl_rules.specs.Values.{texts_at, texts_of};
 ghost use Rattle.rl_rules.specs.declared.rule.RuleKind.{RuleKind};
-ghost use Rattle.rl_rule_tests.specs.Document.{has_only, lent, text_at, time_at, time_of, with_own, AreAfter, AreLabels, IsSteps};
+ghost use Rattle.rl_rule_tests.specs.Document.{has_only, lent, text_at, time_at, time_of, with_own, AreAppended, AreLabels, IsSteps};
 
 use crate::fault::{TestsError, fault, within};
 use rl_labels::{Duration, Labels, LabelsError};
@@ -151,7 +151,7 @@ impl<'a> Part<'a> {
         array: &str,
         all: &mut Vec<T>,
     ) -> Result<(), TestsError>
-        ensures { OnOk result (AreAfter (T.is self.entry.kind self.entry.rule.now) (tables_at array.now (table_view self.entry.table.now)) all.old.items all.new.items) }
+        ensures { OnOk result (AreAppended (T.is self.entry.kind self.entry.rule.now) (tables_at array.now (table_view self.entry.table.now)) all.old.items all.new.items) }
     {
         for (index, value) in self.items(array)?.iter().enumerate() {
             match self.item(value) {

@@ -95,7 +95,7 @@ fn push_name(text: &mut String, check: &Check<'_>) -> Result<(), AllocError> {
 
 // Adds a time from the start on, as 1m30s.
 fn push_time(text: &mut String, time: u64) -> Result<(), AllocError> {
-    let (all, following) = (time / 1_000_000_000, time % 1_000_000_000);
+    let (all, nanoseconds) = (time / 1_000_000_000, time % 1_000_000_000);
     let (hours, minutes, seconds) = (all / 3_600, all / 60 % 60, all % 60);
     if hours > 0 {
         write!(text, "{hours}h")?;
@@ -103,8 +103,8 @@ fn push_time(text: &mut String, time: u64) -> Result<(), AllocError> {
     if minutes > 0 {
         write!(text, "{minutes}m")?;
     }
-    if following > 0 {
-        let digits = format!(in *text.allocator(); "{following:09}")?;
+    if nanoseconds > 0 {
+        let digits = format!(in *text.allocator(); "{nanoseconds:09}")?;
         return write!(text, "{seconds}.{}s", digits.trim_end_matches('0'));
     }
     if seconds > 0 || time == 0 {

@@ -3,7 +3,7 @@ ghost use Rattle.std.specs.Prelude.{◌≡◌, map, Some, codes, option_and_then
 ghost use Rattle.toml.specs.Data.{get_member};
 ghost use Rattle.toml.specs.View.{table_view};
 ghost use Rattle.rl_rules.specs.Document.{tables_at};
-ghost use Rattle.rl_rule_tests.specs.Document.{cause_text, state_text, text_at, value_of, wanted_keys, AreAfter, IsWanted};
+ghost use Rattle.rl_rule_tests.specs.Document.{cause_text, state_text, text_at, value_of, wanted_keys, AreAppended, IsWanted};
 ghost use Rattle.rl_rule_tests.specs.Judging.{wanted_row, IsOutcome};
 
 use crate::document::Check;
@@ -47,7 +47,7 @@ pub(crate) fn read_wanted<'a>(
     wanted: &mut Vec<Wanted<'a>>,
 ) -> Result<Option<Cause>, TestsError>
     ensures failed { IfOk result (λ failed. text_at (codes "failed") (table_view check.entry.table.now) ≡ option_map cause_text failed) }
-    ensures rows { OnOk result (AreAfter (IsWanted check.entry.kind check.entry.rule.now) (tables_at (codes "wanted") (table_view check.entry.table.now)) wanted.old.items wanted.new.items) }
+    ensures rows { OnOk result (AreAppended (IsWanted check.entry.kind check.entry.rule.now) (tables_at (codes "wanted") (table_view check.entry.table.now)) wanted.old.items wanted.new.items) }
 {
     match (check.has("wanted"), check.text("failed")?) {
         (true, None) => {

@@ -23,7 +23,7 @@ use Rattle.rl_world.specs.declared.step.Reply.{Reply}
 use Rattle.rl_world.specs.declared.step.Reply.TheVariants as replies
 use Rattle.rl_world.specs.declared.step.Step.{Step}
 use Rattle.rl_world.specs.declared.step.Step.TheVariants as steps
-use Rattle.rl_session.specs.WorldEngine.{ReplySaysOf, ReplySays, IsAlike, listed, name_at, open_moment}
+use Rattle.rl_session.specs.WorldEngine.{ReplyFitsMoments, ReplyFits, IsAlike, listed, name_at, open_moment}
 
 -- a world as promises, with the partials that are kept
 abbrev KeptWorld : Type 0
@@ -109,26 +109,26 @@ true_false : true ≡ false → ⊥
 true_false h = cc
 
 -- a step that asks no shard
-reply_says_kept : (old : KeptWorld) (step : Step) (reply : Reply) (new : KeptWorld) → asks_shard step ≡ false → WorldStep partials old step reply new → ReplySaysOf (moments old) (moments new) (λ group. name (slice_get old.histories group)) step reply
-reply_says_kept old (steps.Shard number step) reply new asks turn = absurd (true_false asks)
-reply_says_kept old (steps.Gather group number) reply new asks turn = absurd (true_false asks)
-reply_says_kept old (steps.Edit group to) (replies.Edited place) new asks turn = tt
-reply_says_kept old (steps.Edit group to) (replies.Refused refusal) new asks turn = tt
-reply_says_kept old (steps.Begin group t) replies.Begun new asks turn =
+reply_fits_kept : (old : KeptWorld) (step : Step) (reply : Reply) (new : KeptWorld) → asks_shard step ≡ false → WorldStep partials old step reply new → ReplyFitsMoments (moments old) (moments new) (λ group. name (slice_get old.histories group)) step reply
+reply_fits_kept old (steps.Shard number step) reply new asks turn = absurd (true_false asks)
+reply_fits_kept old (steps.Gather group number) reply new asks turn = absurd (true_false asks)
+reply_fits_kept old (steps.Edit group to) (replies.Edited place) new asks turn = tt
+reply_fits_kept old (steps.Edit group to) (replies.Refused refusal) new asks turn = tt
+reply_fits_kept old (steps.Begin group t) replies.Begun new asks turn =
     ap (λ (world : KeptWorld). moments world group) turn.1.after ∙ ap moment (get_set old.histories group turn.1.history (begun (length old.shards) turn.1.history t) turn.1.there)
-reply_says_kept old (steps.Begin group t) (replies.Refused refusal) new asks turn = tt
-reply_says_kept old (steps.Commit group) (replies.Committed answer) new asks turn =
+reply_fits_kept old (steps.Begin group t) (replies.Refused refusal) new asks turn = tt
+reply_fits_kept old (steps.Commit group) (replies.Committed answer) new asks turn =
     let closing = turn.1 in (
       ap moment closing.there ∙ ap (option_map (λ (opened : OpenEvaluation (List Partial)). opened.t)) closing.open_is ∙ ap (λ (evaluation : Evaluation). Some evaluation.t) (sym closing.evaluation_is),
       ap name closing.there ∙ ap (λ (evaluation : Evaluation). Some evaluation.group) (sym closing.evaluation_is),
     )
-reply_says_kept old (steps.Commit group) (replies.Refused refusal) new asks turn = ap (λ (world : KeptWorld). moments world group) turn.1
-reply_says_kept old (steps.Abandon group) replies.Abandoned new asks turn = tt
-reply_says_kept old (steps.Abandon group) (replies.Refused refusal) new asks (inl refused, same) = abandon_refused (slice_get old.histories group) refusal refused
-reply_says_kept old (steps.Abandon group) (replies.Refused refusal) new asks (inr wanted, same) = absurd (false_true (sym (abandon_never group refusal) ∙ wanted.1))
-reply_says_kept old (steps.CatchUp group) (replies.CaughtUp behind) new asks turn = tt
-reply_says_kept old (steps.CatchUp group) (replies.Refused refusal) new asks turn = tt
-reply_says_kept old step reply new asks turn = absurd turn.1
+reply_fits_kept old (steps.Commit group) (replies.Refused refusal) new asks turn = ap (λ (world : KeptWorld). moments world group) turn.1
+reply_fits_kept old (steps.Abandon group) replies.Abandoned new asks turn = tt
+reply_fits_kept old (steps.Abandon group) (replies.Refused refusal) new asks (inl refused, same) = abandon_refused (slice_get old.histories group) refusal refused
+reply_fits_kept old (steps.Abandon group) (replies.Refused refusal) new asks (inr wanted, same) = absurd (false_true (sym (abandon_never group refusal) ∙ wanted.1))
+reply_fits_kept old (steps.CatchUp group) (replies.CaughtUp behind) new asks turn = tt
+reply_fits_kept old (steps.CatchUp group) (replies.Refused refusal) new asks turn = tt
+reply_fits_kept old step reply new asks turn = absurd turn.1
 
 names_kept : (old : KeptWorld) (step : Step) (reply : Reply) (new : KeptWorld) → asks_shard step ≡ false → WorldStep partials old step reply new → names new.histories ≡ names old.histories
 names_kept old (steps.Shard number step) reply new asks turn = absurd (true_false asks)
@@ -163,36 +163,36 @@ name_seen world group = ap name (slice_get-map (λ (book : BookState). book.hist
     through None = refl
     through (Some book) = refl
 
--- what the reply to a step that asks no shard says
-reply_says_unasked : (old : WorldBooks) (step : Step) (reply : Reply) (new : WorldBooks) → asks_shard step ≡ false → Turned old step reply new → ReplySays old step reply new
-reply_says_unasked old step reply new asks turned =
-    let reply_says = reply_says_kept (kept old) step reply (kept new) asks (turned.on_kept asks) in
+-- what the reply to a step that asks no shard fits
+reply_fits_unasked : (old : WorldBooks) (step : Step) (reply : Reply) (new : WorldBooks) → asks_shard step ≡ false → Turned old step reply new → ReplyFits old step reply new
+reply_fits_unasked old step reply new asks turned =
+    let reply_fits = reply_fits_kept (kept old) step reply (kept new) asks (turned.on_kept asks) in
     let old_moments : moments (kept old) ≡ open_moment old = λ i group. moment_seen old group i in
     let new_moments : moments (kept new) ≡ open_moment new = λ i group. moment_seen new group i in
     let old_names : (λ group. name (slice_get (kept old).histories group)) ≡ name_at old = λ i group. name_seen old group i in
-    subst (λ names. ReplySaysOf (open_moment old) (open_moment new) names step reply) old_names (subst (λ later. ReplySaysOf (open_moment old) later (λ group. name (slice_get (kept old).histories group)) step reply) new_moments (subst (λ former. ReplySaysOf former (moments (kept new)) (λ group. name (slice_get (kept old).histories group)) step reply) old_moments reply_says))
+    subst (λ names. ReplyFitsMoments (open_moment old) (open_moment new) names step reply) old_names (subst (λ later. ReplyFitsMoments (open_moment old) later (λ group. name (slice_get (kept old).histories group)) step reply) new_moments (subst (λ former. ReplyFitsMoments former (moments (kept new)) (λ group. name (slice_get (kept old).histories group)) step reply) old_moments reply_fits))
 
 -- where the world was left as it was
 same_moment : (old new : WorldBooks) (group : ℕ) → kept new ≡ kept old → open_moment new group ≡ open_moment old group
 same_moment old new group same = sym (moment_seen new group) ∙ ap (λ (world : KeptWorld). moments world group) same ∙ moment_seen old group
 
-reply_says : (old : WorldBooks) (step : Step) (reply : Reply) (new : WorldBooks) → Turned old step reply new → ReplySays old step reply new
-reply_says old (steps.Shard number step) (replies.Decided place reply) new turned = tt
-reply_says old (steps.Shard number step) (replies.Refused refusal) new turned = tt
-reply_says old (steps.Gather group number) (replies.Gathered place) new turned =
+reply_fits : (old : WorldBooks) (step : Step) (reply : Reply) (new : WorldBooks) → Turned old step reply new → ReplyFits old step reply new
+reply_fits old (steps.Shard number step) (replies.Decided place reply) new turned = tt
+reply_fits old (steps.Shard number step) (replies.Refused refusal) new turned = tt
+reply_fits old (steps.Gather group number) (replies.Gathered place) new turned =
     let shown = turned.histories in
     let moment_of = λ (book : Option BookState). option_and_then (λ (b : BookState). option_map (λ (o : OpenEvaluation (List Partial)). o.t) b.history.opened) book in
     let after = with_history shown.before (gathered shown.before.history number place shown.shown) in
     ap (λ (books : List BookState). moment_of (slice_get books group)) shown.now ∙ ap moment_of (get_set old.books group shown.before after shown.there)
     ∙ ap (λ o. option_map (λ (opened : OpenEvaluation (List Partial)). opened.t) (option_map (with_shown number place shown.shown) o)) shown.open_is
     ∙ sym (ap moment_of shown.there ∙ ap (option_map (λ (opened : OpenEvaluation (List Partial)). opened.t)) shown.open_is)
-reply_says old (steps.Gather group number) (replies.Refused refusal) new turned = same_moment old new group (turned.refused refusal refl).1
-reply_says old (steps.Edit group to) reply new turned = reply_says_unasked old (steps.Edit group to) reply new refl turned
-reply_says old (steps.Begin group t) reply new turned = reply_says_unasked old (steps.Begin group t) reply new refl turned
-reply_says old (steps.Commit group) reply new turned = reply_says_unasked old (steps.Commit group) reply new refl turned
-reply_says old (steps.Abandon group) reply new turned = reply_says_unasked old (steps.Abandon group) reply new refl turned
-reply_says old (steps.CatchUp group) reply new turned = reply_says_unasked old (steps.CatchUp group) reply new refl turned
-reply_says old step reply new turned = absurd turned.stores
+reply_fits old (steps.Gather group number) (replies.Refused refusal) new turned = same_moment old new group (turned.refused refusal refl).1
+reply_fits old (steps.Edit group to) reply new turned = reply_fits_unasked old (steps.Edit group to) reply new refl turned
+reply_fits old (steps.Begin group t) reply new turned = reply_fits_unasked old (steps.Begin group t) reply new refl turned
+reply_fits old (steps.Commit group) reply new turned = reply_fits_unasked old (steps.Commit group) reply new refl turned
+reply_fits old (steps.Abandon group) reply new turned = reply_fits_unasked old (steps.Abandon group) reply new refl turned
+reply_fits old (steps.CatchUp group) reply new turned = reply_fits_unasked old (steps.CatchUp group) reply new refl turned
+reply_fits old step reply new turned = absurd turned.stores
 
 abbrev book_names : WorldBooks → List (List ℕ)
 book_names world = map (λ (book : BookState). book.history.group.name) world.books
@@ -242,14 +242,14 @@ listed_alike (book ∷ old) (next ∷ new) same counts =
 
 -- what follows of a turn
 pub record Followed (old : WorldBooks) (step : Step) (reply : Reply) (new : WorldBooks) : Type 0 where
-  pub says : ReplySays old step reply new
+  pub fits : ReplyFits old step reply new
   pub alike : IsAlike old new
 
 pub followed : (old : WorldBooks) (step : Step) (reply : Reply) (new : WorldBooks) → Turned old step reply new → Followed old step reply new
 followed old step reply new turned =
     let run : Ran old (step ∷ []) (reply ∷ []) new = (new, turned, refl) in
     record {
-      says = reply_says old step reply new turned;
+      fits = reply_fits old step reply new turned;
       alike = (
         listed_alike old.books new.books (names_stay old step reply new turned) (ran_counts old (step ∷ []) (reply ∷ []) new run),
         shards_stay old.shards step reply new.shards turned.stores,

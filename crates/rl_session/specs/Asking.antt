@@ -46,18 +46,18 @@ module _ {E : Type 0} (calls : Calls E) where
   IsForPush old (Ok forms) (command_results.Pushed answers) new = (entries : List Entry) × (map entry_form entries ≡ forms) × PushesAll old entries answers.items new
   IsForPush old (Ok forms) (command_results.Unpushed count) new = (count ≡ length forms) × (new ≡ old)
   IsForPush old (Err fault) (command_results.Unread (errors.Fault other)) new = (other ≡ fault) × (new ≡ old)
-  IsForPush old read outcome new = ⊥
+  IsForPush old read command_result new = ⊥
 
   -- each shard is asked for a step
   abbrev pub IsForAll : E → ShardStep → CommandResult → E → Type 0
   IsForAll old step (command_results.Asked result) new = calls.asks_all old step result new
-  IsForAll old step outcome new = ⊥
+  IsForAll old step command_result new = ⊥
 
   -- each shard is asked to receive a request with the selector's sieve, if the text is such a selector
   abbrev pub IsForDelete : E → (id start end created : ℕ) → List ℕ → CommandResult → E → Type 0
   IsForDelete old id start end created selector (command_results.Asked result) new = (sieve : Sieve) × SelectsIn selector (Ok sieve) × calls.asks_all old (shard_steps.Delete id sieve start end created) result new
   IsForDelete old id start end created selector (command_results.NoSelector error) new = SelectsIn selector (Err error) × (new ≡ old)
-  IsForDelete old id start end created selector outcome new = ⊥
+  IsForDelete old id start end created selector command_result new = ⊥
 
   -- a group is evaluated, and what is answered is of that moment
   abbrev pub EvaluatesAt : E → ℕ → ℕ → Result Committed Refusal → E → Type 0
@@ -81,19 +81,19 @@ module _ {E : Type 0} (calls : Calls E) where
   abbrev pub IsForTick : E → ℕ → CommandResult → E → Type 0
   IsForTick old now (command_results.Ticked results) new = EvaluatesDue old now 0 (length (calls.groups old)) results.items new
   IsForTick old now (command_results.Evaluated (Err refusal)) new = (refusal ≡ refusals.Memory) × (new ≡ old)
-  IsForTick old now outcome new = ⊥
+  IsForTick old now command_result new = ⊥
 
   -- the group at the number is evaluated, if there is one
   abbrev pub IsForEvaluation : E → ℕ → Option ℕ → CommandResult → E → Type 0
   IsForEvaluation old t (Some group) (command_results.Evaluated answer) new = EvaluatesAt old group t answer new
   IsForEvaluation old t None command_results.Refused new = new ≡ old
-  IsForEvaluation old t number outcome new = ⊥
+  IsForEvaluation old t number command_result new = ⊥
 
   -- the sinks of the group at the number catch up, if there is one
   abbrev pub IsForCatchUp : E → Option ℕ → CommandResult → E → Type 0
   IsForCatchUp old (Some group) (command_results.CaughtUp answer) new = calls.catches_up old group answer new
   IsForCatchUp old None command_results.Refused new = new ≡ old
-  IsForCatchUp old number outcome new = ⊥
+  IsForCatchUp old number command_result new = ⊥
 
   -- the group at the number is edited, if there is one
   abbrev pub PutsAt : E → Option ℕ → Group → Result ⊤ EditRefusal → E → Type 0
@@ -110,7 +110,7 @@ module _ {E : Type 0} (calls : Calls E) where
 
   abbrev pub IsForEdit : E → List ℕ → CommandResult → E → Type 0
   IsForEdit old document (command_results.Edited result) new = (read : Result Group EditRefusal) × GivesOneGroup document read × EditsRead old read result new
-  IsForEdit old document outcome new = ⊥
+  IsForEdit old document command_result new = ⊥
 
   -- what the sink of the group at the number has, if there is such a group
   abbrev pub IsForShow : E → Option ℕ → ℕ → Option Shown → Type 0

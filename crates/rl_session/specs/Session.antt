@@ -34,7 +34,7 @@ ended_by (Ok failures) refused = if nat_lt 0 failures then statuses.Unwritten el
 ended_by (Err refusal) refused = statuses.Refused
 
 abbrev pub IsPrinted : CommandResult → List ℕ → Answer → Type 0
-IsPrinted outcome text answer = (text ≡ printed outcome) × (answer ≡ answer_to outcome)
+IsPrinted command_result text answer = (text ≡ printed command_result) × (answer ≡ answer_to command_result)
 
 -- what is shown of a sink prints, and what becomes of the command
 abbrev pub IsShown : Option Shown → List ℕ → Answer → Type 0
@@ -49,17 +49,17 @@ module _ {E : Type 0} (calls : Calls E) where
   -- a command: what it prints, and what becomes of it, follows from the engine's result for its own words
   abbrev pub IsExecuted : E → Option Asked → List ℕ → Answer → E → Type 0
   IsExecuted old None text answer new = IsPrinted command_results.Refused text answer × (new ≡ old)
-  IsExecuted old (Some (pushes json)) text answer new = (outcome : CommandResult) × IsForPush calls old (entries_of json) outcome new × IsPrinted outcome text answer
-  IsExecuted old (Some cuts) text answer new = (outcome : CommandResult) × IsForAll calls old shard_steps.Cut outcome new × IsPrinted outcome text answer
-  IsExecuted old (Some flushes) text answer new = (outcome : CommandResult) × IsForAll calls old shard_steps.Flush outcome new × IsPrinted outcome text answer
-  IsExecuted old (Some (deletes id start end created selector)) text answer new = (outcome : CommandResult) × IsForDelete calls old id start end created selector outcome new × IsPrinted outcome text answer
-  IsExecuted old (Some (cancels id)) text answer new = (outcome : CommandResult) × IsForAll calls old (shard_steps.Cancel id) outcome new × IsPrinted outcome text answer
-  IsExecuted old (Some (processes id now)) text answer new = (outcome : CommandResult) × IsForAll calls old (shard_steps.Process id now) outcome new × IsPrinted outcome text answer
-  IsExecuted old (Some (retains now)) text answer new = (outcome : CommandResult) × IsForAll calls old (shard_steps.Retain now) outcome new × IsPrinted outcome text answer
-  IsExecuted old (Some (edits document)) text answer new = (outcome : CommandResult) × IsForEdit calls old document outcome new × IsPrinted outcome text answer
-  IsExecuted old (Some (ticks now)) text answer new = (outcome : CommandResult) × IsForTick calls old now outcome new × IsPrinted outcome text answer
-  IsExecuted old (Some (evaluates t group)) text answer new = (outcome : CommandResult) × IsForEvaluation calls old t (number_named group (calls.groups old)) outcome new × IsPrinted outcome text answer
-  IsExecuted old (Some (pumps group)) text answer new = (outcome : CommandResult) × IsForCatchUp calls old (number_named group (calls.groups old)) outcome new × IsPrinted outcome text answer
+  IsExecuted old (Some (pushes json)) text answer new = (command_result : CommandResult) × IsForPush calls old (entries_of json) command_result new × IsPrinted command_result text answer
+  IsExecuted old (Some cuts) text answer new = (command_result : CommandResult) × IsForAll calls old shard_steps.Cut command_result new × IsPrinted command_result text answer
+  IsExecuted old (Some flushes) text answer new = (command_result : CommandResult) × IsForAll calls old shard_steps.Flush command_result new × IsPrinted command_result text answer
+  IsExecuted old (Some (deletes id start end created selector)) text answer new = (command_result : CommandResult) × IsForDelete calls old id start end created selector command_result new × IsPrinted command_result text answer
+  IsExecuted old (Some (cancels id)) text answer new = (command_result : CommandResult) × IsForAll calls old (shard_steps.Cancel id) command_result new × IsPrinted command_result text answer
+  IsExecuted old (Some (processes id now)) text answer new = (command_result : CommandResult) × IsForAll calls old (shard_steps.Process id now) command_result new × IsPrinted command_result text answer
+  IsExecuted old (Some (retains now)) text answer new = (command_result : CommandResult) × IsForAll calls old (shard_steps.Retain now) command_result new × IsPrinted command_result text answer
+  IsExecuted old (Some (edits document)) text answer new = (command_result : CommandResult) × IsForEdit calls old document command_result new × IsPrinted command_result text answer
+  IsExecuted old (Some (ticks now)) text answer new = (command_result : CommandResult) × IsForTick calls old now command_result new × IsPrinted command_result text answer
+  IsExecuted old (Some (evaluates t group)) text answer new = (command_result : CommandResult) × IsForEvaluation calls old t (number_named group (calls.groups old)) command_result new × IsPrinted command_result text answer
+  IsExecuted old (Some (pumps group)) text answer new = (command_result : CommandResult) × IsForCatchUp calls old (number_named group (calls.groups old)) command_result new × IsPrinted command_result text answer
   IsExecuted old (Some (shows sink group)) text answer new = (shown : Option Shown) × IsForShow calls old (number_named group (calls.groups old)) sink shown × IsShown shown text answer × (new ≡ old)
   IsExecuted old (Some ends) text answer new = (text ≡ []) × (answer ≡ Ended) × (new ≡ old)
 

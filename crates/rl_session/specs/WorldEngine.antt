@@ -57,9 +57,9 @@ IsAskedFor old step number (Ok reply) new = (place : ℕ) × Turned old (steps.S
 IsAskedFor old step number (Err partly) new = (partly.done ≡ number) × IsStopped old step number partly.refusal new
 
 -- after a step that was refused nothing is done
-abbrev pub IsAfter : {A F : Type 0} → Result ⊤ F → WorldBooks → (Result A F → WorldBooks → Type 0) → Result A F → WorldBooks → Type 0
-IsAfter (Ok done) mid Next answer new = Next answer new
-IsAfter (Err refusal) mid Next answer new = (answer ≡ Err refusal) × (new ≡ mid)
+abbrev pub IfDoneThen : {A F : Type 0} → Result ⊤ F → WorldBooks → (Result A F → WorldBooks → Type 0) → Result A F → WorldBooks → Type 0
+IfDoneThen (Ok done) mid Next answer new = Next answer new
+IfDoneThen (Err refusal) mid Next answer new = (answer ≡ Err refusal) × (new ≡ mid)
 
 -- shards from one on decide a step in their order, with these replies
 abbrev pub AreDecided : WorldBooks → ShardStep → ℕ → List ShardReply → WorldBooks → Type 0
@@ -108,11 +108,11 @@ IsCommitted old group (Err refusal) new = Turned old (steps.Commit group) (repli
 -- a number of shards are asked in their order, from one on, up to the first refusal
 abbrev pub AreGathered : WorldBooks → ℕ → ℕ → ℕ → Result ⊤ Refusal → WorldBooks → Type 0
 AreGathered old group number zero answer new = (answer ≡ Ok tt) × (new ≡ old)
-AreGathered old group number (suc left) answer new = (first : Result ⊤ Refusal) × (mid : WorldBooks) × IsGathered old group number first mid × IsAfter first mid (AreGathered mid group (suc number) left) answer new
+AreGathered old group number (suc left) answer new = (first : Result ⊤ Refusal) × (mid : WorldBooks) × IsGathered old group number first mid × IfDoneThen first mid (AreGathered mid group (suc number) left) answer new
 
 -- all shards are, and then it is committed
 abbrev pub IsFinished : WorldBooks → ℕ → Result Committed Refusal → WorldBooks → Type 0
-IsFinished old group answer new = (all : Result ⊤ Refusal) × (mid : WorldBooks) × AreGathered old group 0 (length old.shards) all mid × IsAfter all mid (IsCommitted mid group) answer new
+IsFinished old group answer new = (all : Result ⊤ Refusal) × (mid : WorldBooks) × AreGathered old group 0 (length old.shards) all mid × IfDoneThen all mid (IsCommitted mid group) answer new
 
 -- an evaluation that was not committed is abandoned
 abbrev pub IsLeft : WorldBooks → ℕ → Result Committed Refusal → WorldBooks → Type 0
@@ -127,7 +127,7 @@ pub record IsEvaluated (old : WorldBooks) (group t : ℕ) (answer : Result Commi
   pub begun : Result ⊤ Refusal
   pub mid : WorldBooks
   pub begins : IsBegun old group t begun mid
-  pub behind : IsAfter begun mid (IsClosedOff mid group) answer new
+  pub behind : IfDoneThen begun mid (IsClosedOff mid group) answer new
   pub of_group : IfOk answer (λ committed. name_at old group ≡ Some committed.evaluation.group)
 
 -- a catch-up is a step
@@ -162,22 +162,22 @@ abbrev pub IsAlike : WorldBooks → WorldBooks → Type 0
 IsAlike old new = (map listed new.books ≡ map listed old.books) × (length new.shards ≡ length old.shards)
 
 -- what a reply says of the moments of open evaluations before and after, and of the names of groups; other replies never come
-abbrev pub ReplySaysOf : (ℕ → Option ℕ) → (ℕ → Option ℕ) → (ℕ → Option (List ℕ)) → Step → Reply → Type 0
-ReplySaysOf before after name (steps.Shard number step) (replies.Decided place reply) = Unit {0}
-ReplySaysOf before after name (steps.Shard number step) (replies.Refused refusal) = Unit {0}
-ReplySaysOf before after name (steps.Edit group to) (replies.Edited place) = Unit {0}
-ReplySaysOf before after name (steps.Edit group to) (replies.Refused refusal) = Unit {0}
-ReplySaysOf before after name (steps.Begin group t) replies.Begun = after group ≡ Some t
-ReplySaysOf before after name (steps.Begin group t) (replies.Refused refusal) = Unit {0}
-ReplySaysOf before after name (steps.Gather group number) (replies.Gathered place) = after group ≡ before group
-ReplySaysOf before after name (steps.Gather group number) (replies.Refused refusal) = after group ≡ before group
-ReplySaysOf before after name (steps.Commit group) (replies.Committed committed) = (before group ≡ Some committed.evaluation.t) × (name group ≡ Some committed.evaluation.group)
-ReplySaysOf before after name (steps.Commit group) (replies.Refused refusal) = after group ≡ before group
-ReplySaysOf before after name (steps.Abandon group) replies.Abandoned = Unit {0}
-ReplySaysOf before after name (steps.Abandon group) (replies.Refused refusal) = before group ≡ None
-ReplySaysOf before after name (steps.CatchUp group) (replies.CaughtUp behind) = Unit {0}
-ReplySaysOf before after name (steps.CatchUp group) (replies.Refused refusal) = Unit {0}
-ReplySaysOf before after name step reply = ⊥
+abbrev pub ReplyFitsMoments : (ℕ → Option ℕ) → (ℕ → Option ℕ) → (ℕ → Option (List ℕ)) → Step → Reply → Type 0
+ReplyFitsMoments before after name (steps.Shard number step) (replies.Decided place reply) = Unit {0}
+ReplyFitsMoments before after name (steps.Shard number step) (replies.Refused refusal) = Unit {0}
+ReplyFitsMoments before after name (steps.Edit group to) (replies.Edited place) = Unit {0}
+ReplyFitsMoments before after name (steps.Edit group to) (replies.Refused refusal) = Unit {0}
+ReplyFitsMoments before after name (steps.Begin group t) replies.Begun = after group ≡ Some t
+ReplyFitsMoments before after name (steps.Begin group t) (replies.Refused refusal) = Unit {0}
+ReplyFitsMoments before after name (steps.Gather group number) (replies.Gathered place) = after group ≡ before group
+ReplyFitsMoments before after name (steps.Gather group number) (replies.Refused refusal) = after group ≡ before group
+ReplyFitsMoments before after name (steps.Commit group) (replies.Committed committed) = (before group ≡ Some committed.evaluation.t) × (name group ≡ Some committed.evaluation.group)
+ReplyFitsMoments before after name (steps.Commit group) (replies.Refused refusal) = after group ≡ before group
+ReplyFitsMoments before after name (steps.Abandon group) replies.Abandoned = Unit {0}
+ReplyFitsMoments before after name (steps.Abandon group) (replies.Refused refusal) = before group ≡ None
+ReplyFitsMoments before after name (steps.CatchUp group) (replies.CaughtUp behind) = Unit {0}
+ReplyFitsMoments before after name (steps.CatchUp group) (replies.Refused refusal) = Unit {0}
+ReplyFitsMoments before after name step reply = ⊥
 
-abbrev pub ReplySays : WorldBooks → Step → Reply → WorldBooks → Type 0
-ReplySays old step reply new = ReplySaysOf (open_moment old) (open_moment new) (name_at old) step reply
+abbrev pub ReplyFits : WorldBooks → Step → Reply → WorldBooks → Type 0
+ReplyFits old step reply new = ReplyFitsMoments (open_moment old) (open_moment new) (name_at old) step reply

@@ -54,10 +54,10 @@ pub(crate) enum CommandResult {
 }
 
 // What becomes of a command by its result.
-fn answer_to(outcome: &CommandResult) -> Answer
-    ensures { result ≡ answer_to outcome.now }
+fn answer_to(command_result: &CommandResult) -> Answer
+    ensures { result ≡ answer_to command_result.now }
 {
-    match outcome {
+    match command_result {
         CommandResult::Pushed(answers) => answer_of(has_refused(answers)),
         CommandResult::Unpushed(count) => answer_of(*count > 0),
         CommandResult::Asked(asked) => answer_of(!matches!(asked, Ok(None))),
@@ -93,19 +93,22 @@ fn answer_of(refused: bool) -> Answer
 }
 
 /// Prints the result of a command. What becomes of the command.
-pub(crate) fn write_result<W: Write>(outcome: &CommandResult, out: &mut W) -> io::Result<Answer>
-    ensures text { OnOk result (Appends (W.contents out.old) (W.contents out.new) (printed outcome.now)) }
-    ensures answer { IfOk result (λ answer. answer ≡ answer_to outcome.now) }
+pub(crate) fn write_result<W: Write>(
+    command_result: &CommandResult,
+    out: &mut W,
+) -> io::Result<Answer>
+    ensures text { OnOk result (Appends (W.contents out.old) (W.contents out.new) (printed command_result.now)) }
+    ensures answer { IfOk result (λ answer. answer ≡ answer_to command_result.now) }
 {
-    print(outcome, out)?;
-    Ok(answer_to(outcome))
+    print(command_result, out)?;
+    Ok(answer_to(command_result))
 }
 
 // Prints the result of a command.
-fn print<W: Write>(outcome: &CommandResult, out: &mut W) -> io::Result<()>
-    ensures { OnOk result (Appends (W.contents out.old) (W.contents out.new) (printed outcome.now)) }
+fn print<W: Write>(command_result: &CommandResult, out: &mut W) -> io::Result<()>
+    ensures { OnOk result (Appends (W.contents out.old) (W.contents out.new) (printed command_result.now)) }
 {
-    match outcome {
+    match command_result {
         CommandResult::Refused => refuse(out, "BadCommand"),
         CommandResult::Unread(error) => refuse_push(out, push_error_name(*error)),
         CommandResult::Pushed(answers) => write_pushed(answers, out),

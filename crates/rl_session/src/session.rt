@@ -206,8 +206,8 @@ fn execute<E: Engine, W: Write>(
             created,
             selector,
         } => {
-            let outcome = delete(alloc, engine, id, start, end, created, selector);
-            write_result(&outcome, out)
+            let command_result = delete(alloc, engine, id, start, end, created, selector);
+            write_result(&command_result, out)
         }
         Command::Cancel { id } => write_result(&ask_all(engine, ShardStep::Cancel { id }), out),
         Command::Process { id, now } => {

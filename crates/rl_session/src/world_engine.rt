@@ -9,7 +9,7 @@ ghost use Rattle.rl_world.specs.WorldRun.{Turned};
 ghost use Rattle.rl_world.specs.declared.step.Reply.TheVariants as replies;
 ghost use Rattle.rl_world.specs.declared.step.Step.TheVariants as steps;
 ghost use Rattle.rl_session.specs.Engine.{number_named, kept_text};
-ghost use Rattle.rl_session.specs.WorldEngine.{ReplySays, IsAlike, IsAskedFor, IsAskedOfAll, or_else, refusing, IsBegun, IsGathered, AreGathered, IsCommitted, IsFinished, listed, shown_of, name_at, open_moment};
+ghost use Rattle.rl_session.specs.WorldEngine.{ReplyFits, IsAlike, IsAskedFor, IsAskedOfAll, or_else, refusing, IsBegun, IsGathered, AreGathered, IsCommitted, IsFinished, listed, shown_of, name_at, open_moment};
 
 use crate::engine::{Engine, Partly};
 use crate::names::shard_refusal;
@@ -84,7 +84,7 @@ impl<D: Store, S: Sink> WorldEngine<D, S> {
     // Answers one step.
     fn answer(&mut self, step: Step) -> Reply
         ensures turned { Turned self.old step result self.new }
-        ensures reply_says { ReplySays self.old step result self.new }
+        ensures reply_fits { ReplyFits self.old step result self.new }
         ensures alike { IsAlike self.old self.new }
     {
         self.world.answer(step)

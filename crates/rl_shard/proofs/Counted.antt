@@ -25,7 +25,7 @@ use Rattle.rl_aggregate.specs.declared.partial.Partial.{Partial}
 use Rattle.rl_aggregate.specs.laws.Counting.{filter-both, new_counter_counts, stayed}
 use Rattle.rl_aggregate.specs.laws.Totals.{kept-permuted}
 use Rattle.rl_deletes.specs.Deletes.{RequestsView, covered, covered_line}
-use Rattle.rl_parts.specs.Reading.{answered}
+use Rattle.rl_parts.specs.Reading.{visited}
 use Rattle.rl_parts.specs.StoreUse.{ReadCause, Right}
 use Rattle.rl_parts.specs.declared.fault.ReadFault.{ReadFault}
 use Rattle.rl_parts.specs.declared.fault.ReadFault.TheVariants as reads
@@ -172,9 +172,9 @@ module _ (requests : Bor RequestsView) (range t : ℕ) where
     same_all [] all = tt
     same_all (line ∷ lines) all = (same_at line all.0, same_all lines all.1)
 
-    pub same_of_entries : (order : List Entry) → AllByRecursion (Noticed lasts) (map answered order) → AllByRecursion (λ (e : Entry). is_counted (answered e) ≡ (is_in e.timestamp && not (covered requests.now e))) order
+    pub same_of_entries : (order : List Entry) → AllByRecursion (Noticed lasts) (map visited order) → AllByRecursion (λ (e : Entry). is_counted (visited e) ≡ (is_in e.timestamp && not (covered requests.now e))) order
     same_of_entries [] all = tt
-    same_of_entries (e ∷ es) all = (sym (same_at (answered e) all.0), same_of_entries es all.1)
+    same_of_entries (e ∷ es) all = (sym (same_at (visited e) all.0), same_of_entries es all.1)
 
 -- and a partial of the lines that are shown is made by these
 found_shown : (requests : RequestsView) (stages : List Stage) (found : Partial) (lines : List (LabelSet × Line)) → fold (counting_shown requests stages) found lines ≡ fold (counting stages) found (filter (is_shown requests) lines)
@@ -186,7 +186,7 @@ found_shown requests stages found (line ∷ lines) =
     ]
 
 -- a counter, by the lines of entries
-pub counted_all : (counter : CounterView) (order : List Entry) → fold counts_any counter (map answered order) ≡ fold counted_entry counter order
+pub counted_all : (counter : CounterView) (order : List Entry) → fold counts_any counter (map visited order) ≡ fold counted_entry counter order
 counted_all counter [] = refl
 counted_all counter (e ∷ es) = counted_all (counted_entry counter e) es
 
@@ -201,20 +201,20 @@ of_reading reads.Fault = tt
 of_reading reads.Damaged = tt
 of_reading reads.Memory = tt
 
--- over any store: what counters of lines become, and what tallies and partials do
+-- over any store: what counters of lines become, and what accumulators and partials do
 abbrev accumulators_line : AccumulatorView → LabelSet × Line → AccumulatorView
 accumulators_line accumulator line = with_line line.0 line.1.text accumulator
 
 module _ (counter : CounterView) (line : LabelSet × Line) where
   -- a counter after a line that it may not count, and after one that it may
-  abbrev following : Bool → CounterView
-  following over = cond over (record { most = counter.most; left = counter.left; is_over = true; accumulators = counter.accumulators }) (record { most = counter.most; left = counter.left - 1; is_over = counter.is_over; accumulators = map (with_line line.0 line.1.text) counter.accumulators })
+  abbrev counter_after : Bool → CounterView
+  counter_after over = cond over (record { most = counter.most; left = counter.left; is_over = true; accumulators = counter.accumulators }) (record { most = counter.most; left = counter.left - 1; is_over = counter.is_over; accumulators = map (with_line line.0 line.1.text) counter.accumulators })
 
-  most_after : (over : Bool) → (following over).most ≡ counter.most
+  most_after : (over : Bool) → (counter_after over).most ≡ counter.most
   most_after true = refl
   most_after false = refl
 
-  over_after : (over : Bool) → counter.is_over ≡ true → (following over).is_over ≡ true
+  over_after : (over : Bool) → counter.is_over ≡ true → (counter_after over).is_over ≡ true
   over_after true is = refl
   over_after false is = is
 
@@ -235,19 +235,19 @@ same_accumulators (accumulator ∷ accumulators) = ap (λ rest. accumulator ∷ 
 pub all_counted : (counter : CounterView) (lines : List (LabelSet × Line)) → (fold counts_any counter lines).is_over ≡ false
     → (fold counts_any counter lines).accumulators ≡ map (λ accumulator. fold accumulators_line accumulator lines) counter.accumulators
 all_counted counter [] not_over = same_accumulators counter.accumulators
-all_counted counter (line ∷ lines) not_over = by (all_counted (following counter line false) lines) (counter.left == 0 || nat_lt longest_line (length line.1.text)) not_over
+all_counted counter (line ∷ lines) not_over = by (all_counted (counter_after counter line false) lines) (counter.left == 0 || nat_lt longest_line (length line.1.text)) not_over
   where
-    by : ((fold counts_any (following counter line false) lines).is_over ≡ false
-        → (fold counts_any (following counter line false) lines).accumulators ≡ map (λ accumulator. fold accumulators_line accumulator lines) (following counter line false).accumulators)
-        → (over : Bool) → (fold counts_any (following counter line over) lines).is_over ≡ false
-        → (fold counts_any (following counter line over) lines).accumulators ≡ map (λ accumulator. fold accumulators_line accumulator (line ∷ lines)) counter.accumulators
-    by others true none = absurd (true≢false (sym (stays_over (following counter line true) lines refl) ∙ none))
+    by : ((fold counts_any (counter_after counter line false) lines).is_over ≡ false
+        → (fold counts_any (counter_after counter line false) lines).accumulators ≡ map (λ accumulator. fold accumulators_line accumulator lines) (counter_after counter line false).accumulators)
+        → (over : Bool) → (fold counts_any (counter_after counter line over) lines).is_over ≡ false
+        → (fold counts_any (counter_after counter line over) lines).accumulators ≡ map (λ accumulator. fold accumulators_line accumulator (line ∷ lines)) counter.accumulators
+    by others true none = absurd (true≢false (sym (stays_over (counter_after counter line true) lines refl) ∙ none))
     by others false none = others none ∙ map-map (λ accumulator. fold accumulators_line accumulator lines) (with_line line.0 line.1.text) counter.accumulators
 
 -- an accumulator has what its stages make of the lines
-tallied : (stages : List Stage) (found : Partial) (lines : List (LabelSet × Line)) → (fold accumulators_line (record { running = stages; found = found }) lines).found ≡ fold (counting stages) found lines
-tallied stages found [] = refl
-tallied stages found (line ∷ lines) = tallied stages (counting stages found line) lines
+accumulated : (stages : List Stage) (found : Partial) (lines : List (LabelSet × Line)) → (fold accumulators_line (record { running = stages; found = found }) lines).found ≡ fold (counting stages) found lines
+accumulated stages found [] = refl
+accumulated stages found (line ∷ lines) = accumulated stages (counting stages found line) lines
 
 -- so of terms that read the same lines as the first of them
 pub read_all : (first : Term) (terms : List Term) (rows : List Row) (requests : RequestsView) (t : ℕ) (lines : List (List (LabelSet × Line))) → AllByRecursion (IsAlike first) terms → AllZip (AreOfRow first.range.selector.matchers (start_at first.range.seconds t) t) rows lines
@@ -257,11 +257,11 @@ read_all first (term ∷ terms) rows requests t lines alike each = (
   record {
     start = start_at first.range.seconds t;
     starts = subst (λ seconds. IsStartOf seconds t (start_at first.range.seconds t)) (sym alike.0.0) (starts_at first.range.seconds t);
-    answered = record {
+    visited = record {
       lines = lines;
       each = subst (λ (selector : Selector). AllZip (AreOfRow selector.matchers (start_at first.range.seconds t) t) rows lines) (sym alike.0.1) each;
-      answered =
-          tallied term.range.stages (partial_of []) (filter (is_shown requests) (flat_map (λ of_row. of_row) lines))
+      visited =
+          accumulated term.range.stages (partial_of []) (filter (is_shown requests) (flat_map (λ of_row. of_row) lines))
           ∙ sym (found_shown requests term.range.stages (partial_of []) (flat_map (λ of_row. of_row) lines));
     };
   },
@@ -300,19 +300,19 @@ module _ (first : Term) (terms : List Term) (streams : StreamsView) (requests : 
 
   module _ (few : length (keys streams.held) ≤ streams.limits.entries) (once : AreVisitedOnce first.range.selector.matchers start to streams.held counts none after) where
     abbrev passes : Entry → Bool
-    passes e = is_counted requests range t (answered e)
+    passes e = is_counted requests range t (visited e)
 
     -- the entries that were counted
     abbrev pub order : List Entry
     order = filter passes once.order
 
-    ended : Ends requests range t none.counter (to - t) (map answered once.order) after
-    ended = subst (Ends requests range t none.counter (to - t) (map answered once.order)) (sym once.answered) (ends requests range t none.counter (to - t) (map answered once.order))
+    ended : Ends requests range t none.counter (to - t) (map visited once.order) after
+    ended = subst (Ends requests range t none.counter (to - t) (map visited once.order)) (sym once.visited) (ends requests range t none.counter (to - t) (map visited once.order))
 
     counted_once : after.counter ≡ record { most = streams.limits.entries; left = streams.limits.entries - length order; is_over = false; accumulators = map (λ stages. record { running = stages; found = partial_of (stayed stages order) }) pipelines }
     counted_once =
         ended.counted
-        ∙ ap (fold counts_any none.counter) (filter_map (is_counted requests range t) answered once.order)
+        ∙ ap (fold counts_any none.counter) (filter_map (is_counted requests range t) visited once.order)
         ∙ counted_all none.counter order
         ∙ new_counter_counts streams.limits.entries pipelines order (few_asked passes first.range.selector.matchers start to streams.limits.entries (keys streams.held) once.order once.once few)
 
@@ -365,7 +365,7 @@ module _ (first : Term) (terms : List Term) (streams : StreamsView) (requests : 
     all = flat_map (λ of_row. of_row) given.lines
 
     ended_counted : Ends requests range t none.counter (to - t) all after
-    ended_counted = subst (Ends requests range t none.counter (to - t) all) (sym given.answered) (ends requests range t none.counter (to - t) all)
+    ended_counted = subst (Ends requests range t none.counter (to - t) all) (sym given.visited) (ends requests range t none.counter (to - t) all)
 
     -- over any store the limit of lines that may be counted is as before
     pub most_is : after.counter.most ≡ streams.limits.entries

@@ -13,7 +13,7 @@ use Rattle.rl_labels.specs.declared.matcher.Matcher.{Matcher}
 use Rattle.rl_chunks.specs.declared.chunk.Chunk.{Chunk}
 use Rattle.rl_chunks.specs.declared.line.Line.{Line}
 use Rattle.rl_aggregate.specs.InRange.{second}
-use Rattle.rl_parts.specs.Reading.{IsApart, IsPiece, IsReadAs, lines_in_range, answered, visited_in_range}
+use Rattle.rl_parts.specs.Reading.{IsApart, IsPiece, IsReadAs, lines_in_range, visited, visited_in_range}
 use Rattle.rl_parts.specs.StreamParts.{PartView, StreamView}
 use Rattle.rl_streams.specs.Asking.{AreOfParts, AreOfRow}
 use Rattle.rl_streams.specs.StreamRows.{Row}
@@ -82,7 +82,7 @@ module _ (from to low high : ℕ) (above : from ≤ low) (below : high ≤ to) w
   narrow_piece : (labels : LabelSet) (part : PartView) (piece : List (LabelSet × Line)) → IsPiece labels from to part piece → IsPiece labels low high part (filter (is_between low high) piece)
   narrow_piece labels part piece = elim part.note as (λ note. MatchOption note (piece ≡ visited_in_range from to part.entries) (λ note. (IsApart from to part.entries × (piece ≡ [])) ⊎ ((chunk : Chunk) × IsReadAs note.digest chunk × (piece ≡ lines_in_range labels from to chunk.lines)))
       → MatchOption note (filter (is_between low high) piece ≡ visited_in_range low high part.entries) (λ note. (IsApart low high part.entries × (filter (is_between low high) piece ≡ [])) ⊎ ((chunk : Chunk) × IsReadAs note.digest chunk × (filter (is_between low high) piece ≡ lines_in_range labels low high chunk.lines)))) [
-        | None ↦ λ is. ap (filter (is_between low high)) is ∙ narrow_map answered part.entries
+        | None ↦ λ is. ap (filter (is_between low high)) is ∙ narrow_map visited part.entries
         | Some note ↦ ⊎_elim
             (λ apart. inl (narrow_apart part.entries apart.0, ap (filter (is_between low high)) apart.1))
             (λ chunk. inr (chunk.0, chunk.1, (ap (filter (is_between low high)) chunk.2 ∙ narrow_map (λ (line : Line). (labels, line)) chunk.0.lines)))
@@ -101,7 +101,7 @@ module _ (from to low high : ℕ) (above : from ≤ low) (below : high ≤ to) w
     all =
         ap (filter (is_between low high)) are.all
         ∙ filter-append (is_between low high) (flat_map (λ piece. piece) are.pieces) (visited_in_range from to stream.head)
-        ∙ (λ i. filter_flat (is_between low high) are.pieces i ++ narrow_map answered stream.head i);
+        ∙ (λ i. filter_flat (is_between low high) are.pieces i ++ narrow_map visited stream.head i);
   }
 
   narrow_row : (selector : List Matcher) (row : Row) (lines : List (LabelSet × Line)) → AreOfRow selector from to row lines → AreOfRow selector low high row (filter (is_between low high) lines)

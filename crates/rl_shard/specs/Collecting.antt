@@ -41,7 +41,7 @@ counting_shown requests stages found line = if covered_line requests line.0 line
 pub record IsRead (rows : List Row) (requests : RequestsView) (range : LogRange) (t : ℕ) (found : Partial) : Type 0 where
   pub start : ℕ
   pub starts : IsStartOf range.seconds t start
-  pub answered : AreVisited (counting_shown requests range.stages) range.selector.matchers start t rows (partial_of []) found
+  pub visited : AreVisited (counting_shown requests range.stages) range.selector.matchers start t rows (partial_of []) found
 
 -- the entries of streams that no received request covers
 abbrev pub shown : StreamsView → RequestsView → List Entry

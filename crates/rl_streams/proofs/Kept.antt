@@ -19,12 +19,12 @@ all_append P (x ∷ xs) ys h k = (h.0, all_append P xs ys h.1 k)
 pub kept_sealed : (seen : Seen) (next : ℕ) (old new : StreamView) → new.labels ≡ old.labels → AreSealed old.parts new.parts → AreKept seen next old → AreKept seen next new
 kept_sealed seen next old new labels sealed h =
     subst (λ set. AllByRecursion (IsKept seen next set) new.parts) (sym labels)
-    (subst (AllByRecursion (IsKept seen next old.labels)) (sym sealed.following) (AreKept-append seen next old.labels old.parts sealed.fresh h (AreKept-unwritten seen next old.labels sealed.fresh sealed.unwritten)))
+    (subst (AllByRecursion (IsKept seen next old.labels)) (sym sealed.appended) (AreKept-append seen next old.labels old.parts sealed.fresh h (AreKept-unwritten seen next old.labels sealed.fresh sealed.unwritten)))
 
 -- and its numbers stay
 pub numbers_sealed : (old new : StreamView) → AreSealed old.parts new.parts → numbers_of new ≡ numbers_of old
 numbers_sealed old new sealed =
-    ap (λ parts. map (λ note. note.number) (notes_of parts)) sealed.following
+    ap (λ parts. map (λ note. note.number) (notes_of parts)) sealed.appended
     ∙ ap (map (λ note. note.number)) (flat_map-append (λ part. listed part.note) old.parts sealed.fresh ∙ ap (λ l. notes_of old.parts ++ l) sealed.unwritten ∙ append-nil (notes_of old.parts))
 
 -- the numbers of a stream are below the next one

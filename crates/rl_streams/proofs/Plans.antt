@@ -34,7 +34,7 @@ all_weaker P Q f (x ∷ xs) h = (f x h.0, all_weaker P Q f xs h.1)
 
 -- no stream
 pub planned_none : (covers : Entry → Bool) (first : ℕ) (seen : Seen) → ArePlanned covers first seen [] first seen
-planned_none covers first seen = record { sound = tt; visited = tt; numbers = AreRenumbered-none [] first; kept = λ h. tt; right = λ honest h. tt }
+planned_none covers first seen = record { sound = tt; left = tt; numbers = AreRenumbered-none [] first; kept = λ h. tt; right = λ honest h. tt }
 
 -- some streams, and then others
 pub planned_then : (covers : Entry → Bool) (first : ℕ) (before : Seen) (plans : List PlanView) (mid : ℕ) (seen : Seen) (others : List PlanView) (next : ℕ) (after : Seen)
@@ -44,7 +44,7 @@ planned_then covers first before plans mid seen others next after p grown q more
     let later = λ (h : AllByRecursion kept_before (plans ++ others)). all_weaker kept_before (λ plan. AreKept seen mid plan.of) (λ plan. AreKept-grown before seen first mid plan.of grown p.numbers.up) others (all_after kept_before plans others h) in
     record {
       sound = all_append IsSound plans others p.sound q.sound;
-      visited = all_append (λ plan. IsLeftIn covers plan.of plan.becomes) plans others p.visited q.visited;
+      left = all_append (λ plan. IsLeftIn covers plan.of plan.becomes) plans others p.left q.left;
       numbers = subst (λ ns. AreRenumbered ns first next (numbers_after (plans ++ others)) (numbers_gone (plans ++ others))) (sym (flat_map-append (λ (plan : PlanView). note_numbers plan.of.parts) plans others))
           (subst (λ ns. AreRenumbered (numbers_before plans ++ numbers_before others) first next ns (numbers_gone (plans ++ others))) (sym (flat_map-append (λ (plan : PlanView). note_numbers plan.becomes.parts) plans others))
           (subst (λ ns. AreRenumbered (numbers_before plans ++ numbers_before others) first next (numbers_after plans ++ numbers_after others) ns) (sym (flat_map-append (λ (plan : PlanView). plan.gone) plans others))
@@ -131,10 +131,10 @@ joined_rewritten covers (row ∷ rows) (plan ∷ plans) of right =
     (λ i. first i ++ joined_rewritten covers rows plans (others_of row rows plan plans of) right.1 i) ∙ sym (filter-append (λ entry. not (covers entry)) (entries_of row.1) (joined rows))
 
 pub rewritten_left : (covers : Entry → Bool) (rows : List Row) (plans : List PlanView) → AreOf rows plans → AllByRecursion (λ plan. IsLeftIn covers plan.of plan.becomes) plans → AreLeftIn covers rows (rewritten rows plans)
-rewritten_left covers [] plans of visited = tt
-rewritten_left covers (row ∷ rows) [] of visited = absurd (no_plan row rows of)
-rewritten_left covers (row ∷ rows) (plan ∷ plans) of visited =
-    ((refl, subst (λ (s : StreamView). IsLeftIn covers s plan.becomes) (first_of row rows plan plans of) visited.0), rewritten_left covers rows plans (others_of row rows plan plans of) visited.1)
+rewritten_left covers [] plans of left = tt
+rewritten_left covers (row ∷ rows) [] of left = absurd (no_plan row rows of)
+rewritten_left covers (row ∷ rows) (plan ∷ plans) of left =
+    ((refl, subst (λ (s : StreamView). IsLeftIn covers s plan.becomes) (first_of row rows plan plans of) left.0), rewritten_left covers rows plans (others_of row rows plan plans of) left.1)
 
 -- the plan of one stream, by what its making promises
 pub one_planned : (covers : Entry → Bool) (stream : StreamView) (first : ℕ) (before : Seen) (plan : PlanView) (next : ℕ) (seen : Seen) → plan.of ≡ stream → plan.becomes.labels ≡ stream.labels → plan.becomes.newest ≡ stream.newest → All (λ entry. entry.labels ≡ stream.labels) (entries_of plan.becomes)
@@ -152,7 +152,7 @@ one_planned covers stream first before plan next seen of labels newest own fewer
         },
         tt,
       );
-      visited = (subst (λ (s : StreamView). IsLeftIn covers s plan.becomes) back (record { parts = parts; head = head }), tt);
+      left = (subst (λ (s : StreamView). IsLeftIn covers s plan.becomes) back (record { parts = parts; head = head }), tt);
       numbers = subst (λ ns. AreRenumbered ns first next (note_numbers plan.becomes.parts ++ []) (plan.gone ++ [])) (sym (append-nil (note_numbers plan.of.parts)))
           (subst (λ ns. AreRenumbered (note_numbers plan.of.parts) first next ns (plan.gone ++ [])) (sym (append-nil (note_numbers plan.becomes.parts)))
           (subst (λ ns. AreRenumbered (note_numbers plan.of.parts) first next (note_numbers plan.becomes.parts) ns) (sym (append-nil plan.gone))

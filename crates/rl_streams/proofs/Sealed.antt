@@ -14,7 +14,7 @@ pub as_they_were : (rows : List Row) → AreCut rows rows
 as_they_were rows = record { entries = refl; order = refl; newest = refl; streams = λ seen next are. are }
 
 pub none_sealed : (old new : StreamView) → new ≡ old → AreSealed old.parts new.parts
-none_sealed old new same = record { fresh = []; following = ap (λ (stream : StreamView). stream.parts) same ∙ sym (append-nil old.parts); unwritten = refl }
+none_sealed old new same = record { fresh = []; appended = ap (λ (stream : StreamView). stream.parts) same ∙ sym (append-nil old.parts); unwritten = refl }
 
 -- one head more
 pub one_sealed : (first rows : List Row) (i : ℕ) (stream new : StreamView) → AreCut first rows → slice_get (values_of rows) i ≡ Some stream → new.labels ≡ stream.labels → new.newest ≡ stream.newest → entries_of new ≡ entries_of stream → AreSealed stream.parts new.parts

@@ -115,7 +115,7 @@ of_row selector from to stream visiting before after selected (Ok _) (mid, given
     let lines = sealed ++ visited_in_range from to stream.head in (
       lines,
       subst (λ b. MatchBool b (AreOfParts from to stream lines) (lines ≡ [])) (sym selected) (record { pieces = given.pieces; each = given.each; all = refl }),
-      head ∙ ap (λ t. fold visiting t (visited_in_range from to stream.head)) given.following ∙ sym (fold-append visiting before sealed (visited_in_range from to stream.head)),
+      head ∙ ap (λ t. fold visiting t (visited_in_range from to stream.head)) given.becomes ∙ sym (fold-append visiting before sealed (visited_in_range from to stream.head)),
     )
 of_row selector from to stream visiting before after selected (Err fault) given = tt
 

@@ -65,7 +65,7 @@ numbers_gone plans = flat_map (λ plan. plan.gone) plans
 -- plans that were made in turn. Over an honest store that keeps the streams they leave what is not covered
 pub record ArePlanned (covers : Entry → Bool) (first : ℕ) (before : Seen) (plans : List PlanView) (next : ℕ) (seen : Seen) : Type 0 where
   pub sound : AllByRecursion IsSound plans
-  pub visited : AllByRecursion (λ plan. IsLeftIn covers plan.of plan.becomes) plans
+  pub left : AllByRecursion (λ plan. IsLeftIn covers plan.of plan.becomes) plans
   pub numbers : AreRenumbered (numbers_before plans) first next (numbers_after plans) (numbers_gone plans)
   pub kept : AllByRecursion (λ plan. AreKept before first plan.of) plans → AllByRecursion (λ plan. AreKept seen next plan.becomes) plans
   pub right : before.honest ≡ true → AllByRecursion (λ plan. AreKept before first plan.of) plans → AllByRecursion (λ plan. entries_of plan.becomes ≡ uncovered covers (entries_of plan.of)) plans

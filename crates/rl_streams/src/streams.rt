@@ -150,7 +150,7 @@ impl<S: Store> Streams<S> {
         ensures refused { OnErr result (Stays self.old self.new) }
         ensures rewritten { OnOk result (Rewrites self.old self.new) }
         // What is left of a part that the store has follows from bytes with its digest, over any store.
-        ensures visited { OnOk result (AreLeftIn (C.covers covered.now) self.old.rows self.new.rows) }
+        ensures left { OnOk result (AreLeftIn (C.covers covered.now) self.old.rows self.new.rows) }
         ensures right { self.old.seen.honest ≡ true → OnOk result (self.new.held ≡ without (C.covers covered.now) self.old.held) }
         ensures undamaged { self.old.seen.honest ≡ true → IsErrOf result RewriteFault.Damaged → ⊥ }
         ensures cause { IfErr result (RewriteCause self.old.seen self.new.seen self.new.next) }

@@ -67,14 +67,14 @@ is_gathered-kept terms opened number = ap (λ o. is_some (unwrap_or o None)) (sl
   where
     within : (o : Option (Option (Gathered (List Entry)))) → is_some (unwrap_or (option_map (option_map (kept_answer terms opened.t)) o) None) ≡ is_some (unwrap_or o None)
     within None = refl
-    within (Some answered) = is_some-option_map (kept_answer terms opened.t) answered
+    within (Some shard_answer) = is_some-option_map (kept_answer terms opened.t) shard_answer
 
 is_complete-kept : (terms : List Term) (opened : OpenEvaluation (List Entry)) → is_complete (kept_open terms opened) ≡ is_complete opened
 is_complete-kept terms opened = all_kept opened.gathered
   where
     all_kept : (answers : List (Option (Gathered (List Entry)))) → list_all is_some (map (option_map (kept_answer terms opened.t)) answers) ≡ list_all is_some answers
     all_kept [] = refl
-    all_kept (answered ∷ answers) = λ i. is_some-option_map (kept_answer terms opened.t) answered i && all_kept answers i
+    all_kept (shard_answer ∷ answers) = λ i. is_some-option_map (kept_answer terms opened.t) shard_answer i && all_kept answers i
 
 begin-kept : (history : History (List Entry)) (t : ℕ) → begin_fault (kept_history history) t ≡ begin_fault history t
 begin-kept history t = ap (λ b. cond b (Some faults.Busy) (not_later (last_moment history) t)) (is_some-option_map (kept_open (group_terms history.group)) history.opened)

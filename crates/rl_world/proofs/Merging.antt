@@ -90,21 +90,21 @@ pub record IsSumBefore (term : ℕ) (answers : ShardAnswers) (i : ℕ) (sum : Pa
 pub nothing_merged : (term : ℕ) (answers : ShardAnswers) → IsSumBefore term answers 0 no_partial
 nothing_merged term answers = record { all = refl; within = within-none }
 
-module _ (term : ℕ) (answers : ShardAnswers) (i : ℕ) (answered : ShardAnswer) (sum : Partial) (inside : i < length answers) (answer_is : answered ≡ get_or answers i answered) (before : IsSumBefore term answers i sum) where
+module _ (term : ℕ) (answers : ShardAnswers) (i : ℕ) (shard_answer : ShardAnswer) (sum : Partial) (inside : i < length answers) (answer_is : shard_answer ≡ get_or answers i shard_answer) (before : IsSumBefore term answers i sum) where
   -- what the answers from one on add is what it adds first, and then the others
-  first_answer : (own : ShardAnswer) → answered ≡ own → merged_from sum term (flat_map option_to_list (own ∷ drop (i + 1) answers)) ≡ merged_from no_partial term (flat_map option_to_list answers)
+  first_answer : (own : ShardAnswer) → shard_answer ≡ own → merged_from sum term (flat_map option_to_list (own ∷ drop (i + 1) answers)) ≡ merged_from no_partial term (flat_map option_to_list answers)
   first_answer own is =
       ap (λ first. merged_from sum term (flat_map option_to_list (first ∷ drop (i + 1) answers))) (sym is ∙ answer_is)
-      ∙ sym (at_drop_more (λ left. merged_from sum term (flat_map option_to_list left)) answers i answered inside)
+      ∙ sym (at_drop_more (λ left. merged_from sum term (flat_map option_to_list left)) answers i shard_answer inside)
       ∙ before.all
 
   -- a shard that was not asked adds nothing
-  pub not_asked : answered ≡ None → IsSumBefore term answers (i + 1) sum
+  pub not_asked : shard_answer ≡ None → IsSumBefore term answers (i + 1) sum
   not_asked is = record { all = first_answer None is; within = within-more (i * most_in_shard) ((i + 1) * most_in_shard) sum (omega arith) before.within }
 
-  module _ (answer : Gathered (List Partial)) (own : Partial) (each : AllByRecursion (HasTerm term) answers) (is : answered ≡ Some answer) (own_is : own ≡ get_or answer.shown term own) where
+  module _ (answer : Gathered (List Partial)) (own : Partial) (each : AllByRecursion (HasTerm term) answers) (is : shard_answer ≡ Some answer) (own_is : own ≡ get_or answer.shown term own) where
     answer_has : HasTerm term (Some answer)
-    answer_has = subst (HasTerm term) (sym answer_is ∙ is) (All-from_recursion _ answers each i answered inside)
+    answer_has = subst (HasTerm term) (sym answer_is ∙ is) (All-from_recursion _ answers each i shard_answer inside)
 
     own_within : IsWithin most_in_shard own
     own_within = subst (IsWithin most_in_shard) (sym own_is) (All-from_recursion _ answer.shown answer_has.1 term own answer_has.0)
@@ -169,11 +169,11 @@ merged_terms-alone term (suc more) answer all =
     ∙ sym (at_drop_more (λ left. left) answer.shown term no_partial (omega (arith, all)))
 
 -- so the merges of all answers are what the only one has
-pub merged_terms-lone : (terms : ℕ) (answers : ShardAnswers) (answered : ShardAnswer) (answer : Gathered (List Partial)) → length answers < 2 → 1 ≤ length answers → answered ≡ get_or answers 0 answered → answered ≡ Some answer → AllByRecursion (IsKept terms) answers → answer.shown ≡ merged_terms 0 terms (flat_map option_to_list answers)
-merged_terms-lone terms (first ∷ []) answered answer one some is asked kept =
+pub merged_terms-lone : (terms : ℕ) (answers : ShardAnswers) (shard_answer : ShardAnswer) (answer : Gathered (List Partial)) → length answers < 2 → 1 ≤ length answers → shard_answer ≡ get_or answers 0 shard_answer → shard_answer ≡ Some answer → AllByRecursion (IsKept terms) answers → answer.shown ≡ merged_terms 0 terms (flat_map option_to_list answers)
+merged_terms-lone terms (first ∷ []) shard_answer answer one some is asked kept =
     let own : Some answer ≡ first = sym asked ∙ is in
     let has : IsKept terms (Some answer) = subst (IsKept terms) (sym own) kept.0 in
     let all : 0 + terms ≡ length answer.shown = omega (arith, has.each) in
     subst (λ first. answer.shown ≡ merged_terms 0 terms (flat_map option_to_list (first ∷ []))) own (sym (merged_terms-alone 0 terms answer all))
-merged_terms-lone terms [] answered answer one some is asked kept = absurd (omega (arith, some))
-merged_terms-lone terms (first ∷ other ∷ answers) answered answer one some is asked kept = absurd (omega (arith, one))
+merged_terms-lone terms [] shard_answer answer one some is asked kept = absurd (omega (arith, some))
+merged_terms-lone terms (first ∷ other ∷ answers) shard_answer answer one some is asked kept = absurd (omega (arith, one))

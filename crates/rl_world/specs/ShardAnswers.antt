@@ -19,8 +19,8 @@ pub record AreOfOneShard (terms : ℕ) (partials : List Partial) : Type 0 where
 
 -- what an open evaluation has of a shard, if it was asked
 abbrev pub IsKept : ℕ → Option (Gathered (List Partial)) → Type 0
-IsKept terms answered = IfSome answered (λ answer. AreOfOneShard terms answer.shown)
+IsKept terms shard_answer = IfSome shard_answer (λ answer. AreOfOneShard terms answer.shown)
 
 -- that, as far as one term needs it
 abbrev pub HasTerm : ℕ → Option (Gathered (List Partial)) → Type 0
-HasTerm term answered = IfSome answered (λ answer. (term < length answer.shown) × AllByRecursion (IsWithin most_in_shard) answer.shown)
+HasTerm term shard_answer = IfSome shard_answer (λ answer. (term < length answer.shown) × AllByRecursion (IsWithin most_in_shard) answer.shown)

@@ -31,12 +31,12 @@ is_spent_reply (replies.Refused refusals.NumbersSpent) = true
 is_spent_reply reply = false
 
 -- whether a reply to a step that asks the shard says so
-abbrev pub is_answered_so : ℕ → (Reply → Bool) → Step × Reply → Bool
-is_answered_so number reports turn = asks number turn.0 && reports turn.1
+abbrev pub is_reported : ℕ → (Reply → Bool) → Step × Reply → Bool
+is_reported number reports turn = asks number turn.0 && reports turn.1
 
 -- whether one of them does
-abbrev pub was_answered : ℕ → (Reply → Bool) → List (Step × Reply) → Bool
-was_answered number reports turns = list_any (λ turn. is_answered_so number reports turn) turns
+abbrev pub was_reported : ℕ → (Reply → Bool) → List (Step × Reply) → Bool
+was_reported number reports turns = list_any (λ turn. is_reported number reports turn) turns
 
 -- what a run says of the store of a shard: it is as honest as before, and its faults never go down; where none was counted and
 -- more can be, no reply reports one; where one says that the numbers are spent, only the greatest is left; and over an honest
@@ -44,9 +44,9 @@ was_answered number reports turns = list_any (λ turn. is_answered_so number rep
 pub record StoreFollows (number : ℕ) (turns : List (Step × Reply)) (before after : ShardView) : Type 0 where
   pub honest : after.streams.seen.honest ≡ before.streams.seen.honest
   pub faults : FaultsRise before.streams.seen.faults after.streams.seen.faults
-  pub no_fault : after.streams.seen.faults ≡ before.streams.seen.faults → before.streams.seen.faults < greatest → was_answered number is_fault_reply turns ≡ false
-  pub spent : was_answered number is_spent_reply turns ≡ true → after.streams.next ≡ greatest
-  pub undamaged : IsHonest before → was_answered number is_damage_reply turns ≡ false
+  pub no_fault : after.streams.seen.faults ≡ before.streams.seen.faults → before.streams.seen.faults < greatest → was_reported number is_fault_reply turns ≡ false
+  pub spent : was_reported number is_spent_reply turns ≡ true → after.streams.next ≡ greatest
+  pub undamaged : IsHonest before → was_reported number is_damage_reply turns ≡ false
 
 -- the shard is still there, and its store follows
 pub record StoreFollowsIn (number : ℕ) (turns : List (Step × Reply)) (before : ShardView) (shards : List ShardView) : Type 0 where

@@ -94,8 +94,8 @@ fn group_results(
     ensures alerts { IfOk result (λ made. made.1.items ≡ alerts_then alerts.now made.0.items) }
 {
     let rules = group.rules.as_slice();
-    if let [answered] = answers {
-        if let Some(answer) = answered {
+    if let [shard_answer] = answers {
+        if let Some(answer) = shard_answer {
             let partials = answer.shown.as_slice();
             return results(alloc, group.limit, t, rules, alerts, partials, caches);
         }
@@ -109,8 +109,8 @@ fn places(alloc: Global, answers: &[ShardAnswer]) -> Result<Vec<u64>, AllocError
     ensures { IfOk result (λ places. places.items ≡ map (λ answer. answer.place) (flat_map option_to_list answers.now)) }
 {
     let mut places = Vec::with_capacity(alloc, answers.len())?;
-    for answered in answers {
-        if let Some(answer) = answered {
+    for shard_answer in answers {
+        if let Some(answer) = shard_answer {
             places.push(answer.place)?;
         }
     }
@@ -143,8 +143,8 @@ fn merged(alloc: Global, answers: &[ShardAnswer], term: usize) -> Result<Partial
     ensures { IfOk result (λ sum. sum ≡ merged_from no_partial term (flat_map option_to_list answers.now)) }
 {
     let mut sum = None;
-    for answered in answers {
-        if let Some(answer) = answered {
+    for shard_answer in answers {
+        if let Some(answer) = shard_answer {
             let both = merge_first(sum, answer.shown.as_slice()[term].get())?;
             sum = Some(both);
         }
@@ -243,16 +243,16 @@ fn result_of(
     rule: &Rule,
     alerts: &PlainList<Alert>,
     partials: &[Shared<Partial>],
-    memory: &mut RuleCache,
+    cache: &mut RuleCache,
 ) -> Result<(RuleResult, PlainList<Alert>), AllocError>
     requires terms { length partials.now ≡ length (terms_of rule.now.query) }
     requires limited { AllByRecursion IsLimited partials.now }
     ensures result { IfOk result (λ made. made.0 ≡ result_of limit t rule.now alerts.now (finished rule.now.query partials.now)) }
     ensures left { IfOk result (λ made. made.1 ≡ alerts_left alerts.now made.0.outcome) }
 {
-    let outcome = memory.outcome_cache.finish(alloc, &rule.query, partials)?;
+    let outcome = cache.outcome_cache.finish(alloc, &rule.query, partials)?;
     let had = alerts.try_copy()?;
-    let (left, outcome) = step_rule(rule, limit, had, outcome, &mut memory.label_set_cache, t)?;
+    let (left, outcome) = step_rule(rule, limit, had, outcome, &mut cache.label_set_cache, t)?;
     let name = rule.name.try_copy()?;
     let annotations = rule.annotations.try_copy()?;
     let result = RuleResult {

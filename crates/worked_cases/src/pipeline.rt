@@ -17,8 +17,8 @@ use std::mem;
 pub(crate) fn answer(output: &mut String, directive: &str, input: &str) -> Result<(), Trouble> {
     let (first, lines) = input.split_once('\n').ok_or(Trouble::BadInput)?;
     match directive {
-        "json" => following(output, Parser::Json, first, lines),
-        "logfmt" => following(output, Parser::Logfmt, first, lines),
+        "json" => push_after_parser(output, Parser::Json, first, lines),
+        "logfmt" => push_after_parser(output, Parser::Logfmt, first, lines),
         "runs" => runs(output, first, lines),
         "covers" => covers(output, first, lines),
         _ => Err(Trouble::NoSuchDirective),
@@ -26,7 +26,7 @@ pub(crate) fn answer(output: &mut String, directive: &str, input: &str) -> Resul
 }
 
 // The labels that each line of a stream has after the parser, where an error is set before it.
-fn following(
+fn push_after_parser(
     output: &mut String,
     parser: Parser,
     labels: &str,

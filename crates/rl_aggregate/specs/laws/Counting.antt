@@ -27,9 +27,9 @@ stayed stages entries = map (contribution stages) (filter (stays stages) entries
 -- the first of them
 stayed-cons : (stages : List Stage) (e : Entry) (es : List Entry) → contributions_of stages e.labels e.line ++ stayed stages es ≡ stayed stages (e ∷ es)
 stayed-cons stages e es =
-    elim (run stages e.line e.labels) as (λ found. run stages e.line e.labels ≡ found → map (λ (following : LabelSet). record { labels = following; bytes = length e.line }) (option_to_list found) ++ stayed stages es ≡ map (contribution stages) (cond (is_some found) (e ∷ filter (stays stages) es) (filter (stays stages) es))) [
+    elim (run stages e.line e.labels) as (λ found. run stages e.line e.labels ≡ found → map (λ (labels_after : LabelSet). record { labels = labels_after; bytes = length e.line }) (option_to_list found) ++ stayed stages es ≡ map (contribution stages) (cond (is_some found) (e ∷ filter (stays stages) es) (filter (stays stages) es))) [
       | None ↦ λ _. refl
-      | Some following ↦ λ is. λ i. record { labels = unwrap_or (sym is i) no_labels; bytes = length e.line } ∷ stayed stages es
+      | Some labels_after ↦ λ is. λ i. record { labels = unwrap_or (sym is i) no_labels; bytes = length e.line } ∷ stayed stages es
     ] refl
 
 -- an accumulator of some lines, and then of those of entries

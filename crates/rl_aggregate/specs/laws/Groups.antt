@@ -99,9 +99,9 @@ group_value-with operator g q samples other = by_part (part g q samples) (list_a
     any_part [] = refl
     any_part (sample ∷ samples) = elim (is_in g q sample) as (λ b. (b || list_any (is_in g q) samples) ≡ not (is_empty (cond b (sample ∷ part g q samples) (part g q samples)))) [ true ↦ refl | false ↦ any_part samples ]
 
-    by_part : (few : List Sample) (b : Bool) → b ≡ not (is_empty few) → group_value operator (few ++ other ∷ []) ≡ with_value operator (cond b (Some (group_value operator few)) None) other.value
+    by_part : (members : List Sample) (b : Bool) → b ≡ not (is_empty members) → group_value operator (members ++ other ∷ []) ≡ with_value operator (cond b (Some (group_value operator members)) None) other.value
     by_part [] b is = group_value-first operator other ∙ ap (λ b. with_value operator (cond b (Some (group_value operator [])) None) other.value) (sym is)
-    by_part (sample ∷ few) b is = group_value-push operator sample few other ∙ ap (λ b. with_value operator (cond b (Some (group_value operator (sample ∷ few))) None) other.value) (sym is)
+    by_part (sample ∷ members) b is = group_value-push operator sample members other ∙ ap (λ b. with_value operator (cond b (Some (group_value operator (sample ∷ members))) None) other.value) (sym is)
 
 -- one more sample changes the value of its group
 pub groups-push : (operator : VectorOperator) (g : Grouping) (samples : List Sample) (other : Sample) → groups operator g (samples ++ other ∷ []) ≡ insert (groups operator g samples) (group_of g other.labels) (with_value operator (get (groups operator g samples) (group_of g other.labels)) other.value)

@@ -42,11 +42,11 @@ within-partial entries term t = record {
 
 -- a line counts once at most, with its bytes
 abbrev made : List ℕ → Option LabelSet → List Contribution
-made text found = map (λ following. record { labels = following; bytes = length text }) (option_to_list found)
+made text found = map (λ labels_after. record { labels = labels_after; bytes = length text }) (option_to_list found)
 
 few_contributions : (text : List ℕ) (found : Option LabelSet) → (length (made text found) ≤ 1) × (sum_by (λ (e : Contribution). e.bytes) (made text found) ≤ length text)
 few_contributions text None = (omega arith, omega arith)
-few_contributions text (Some following) = (omega arith, omega (arith, sum_by-cons (λ (e : Contribution). e.bytes) (record { labels = following; bytes = length text }) []))
+few_contributions text (Some labels_after) = (omega arith, omega (arith, sum_by-cons (λ (e : Contribution). e.bytes) (record { labels = labels_after; bytes = length text }) []))
 
 -- one line, if it stays
 within-one : (stages : List Stage) (labels : LabelSet) (text : List ℕ) → length text ≤ longest_line → IsWithin 1 (partial_of (contributions_of stages labels text))

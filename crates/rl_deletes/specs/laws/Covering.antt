@@ -7,7 +7,7 @@ use Rattle.std.proofs.Common.{sym, ap, ◌∙◌}
 use Rattle.std.proofs.lemmas.Bool.{true≢false}
 use Rattle.std.proofs.lemmas.Cmp.{nat_cmp_total}
 use Rattle.rl_labels.specs.declared.entry.Entry.{Entry}
-use Rattle.rl_deletes.specs.Deletes.{RequestsView, covered, covered_beside, covers_one, ended, ended_from, if_received, in_status, is_in_force, is_received, received_at, with_request}
+use Rattle.rl_deletes.specs.Deletes.{RequestsView, covered, covered_beside, covers_one, ended, ended_from, if_received, with_status, is_in_force, is_received, received_at, with_request}
 use Rattle.rl_deletes.specs.declared.request.RequestStatus.{RequestStatus}
 use Rattle.rl_deletes.specs.declared.request.Request.{Request}
 use Rattle.rl_deletes.specs.laws.Passing.{passes_at, passing_number, passing_value, same_bool, or_second, tied_one, tied_self}
@@ -90,7 +90,7 @@ module _ (all : RequestsView) (id : ℕ) (entry : Entry) where
       from : (known : Option Request) → IsSome (if_received known) → covered (ended_from known status all id) entry ≡ covered_beside all id entry
       from None some = absurd (true≢false (sym some))
       from (Some request) some =
-          elim (is_received request) as (λ b. IsSome (cond b (Some request) None) → covered (cond b (with_request all id (in_status status request)) all) entry ≡ covered_beside all id entry) [
-            | true ↦ λ _. covered-with_request (in_status status request) ∙ ap (λ b. (b && covers_one request entry) || covered_beside all id entry) over
+          elim (is_received request) as (λ b. IsSome (cond b (Some request) None) → covered (cond b (with_request all id (with_status status request)) all) entry ≡ covered_beside all id entry) [
+            | true ↦ λ _. covered-with_request (with_status status request) ∙ ap (λ b. (b && covers_one request entry) || covered_beside all id entry) over
             | false ↦ λ none. absurd (true≢false (sym none))
           ] some

@@ -54,8 +54,8 @@ module _ {K X : Type 0} (R : K → K → Ordering) (k : K) (v : X) where
       by : (r : Ordering) → (find R k es ≡ None → StandsIn es (k, v) (put R k v es)) → cond (is_eq r) (Some e.1) (find R k es) ≡ None → StandsIn (e ∷ es) (k, v) (by_order r ((k, v) ∷ e ∷ es) ((e.0, v) ∷ es) (e ∷ put R k v es))
       by Less _ none = record { front = []; back = e ∷ es; old = refl; new = refl }
       by Equal _ none = absurd (true≢false (ap is_some none))
-      by Greater following none =
-          let others = following none in
+      by Greater on_rest none =
+          let others = on_rest none in
           record { front = e ∷ others.front; back = others.back; old = ap (λ l. e ∷ l) others.old; new = ap (λ l. e ∷ l) others.new }
 
 module _ {K : Type 0} {R : K → K → Ordering} (o : IsTotalOrder R) where

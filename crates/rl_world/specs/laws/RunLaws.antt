@@ -301,7 +301,7 @@ module _ {X : Type 0} (keeping : Keeping X) where
   replay_unlisted old (step ∷ steps) [] new replay = absurd replay
 
 -- a run whose replies are given without those lists is still a replay
-pub unlisted_replays : (old : WorldBooks) (steps : List Step) (replies offers : List Reply) (new : WorldBooks) → AreHonest old.shards → Ran old steps replies new → offers ≡ map unlisted replies → Replays old steps offers new
-unlisted_replays old steps replies offers new honest run is shown stands =
+pub unlisted_replays : (old : WorldBooks) (steps : List Step) (replies shortened : List Reply) (new : WorldBooks) → AreHonest old.shards → Ran old steps replies new → shortened ≡ map unlisted replies → Replays old steps shortened new
+unlisted_replays old steps replies shortened new honest run is shown stands =
     let replay = ran_replays old steps replies new honest run shown stands in
     (replay.0, replay.1, subst (λ said. Replay lists shown steps said replay.0) (sym is) (replay_unlisted lists shown steps replies replay.0 replay.2))

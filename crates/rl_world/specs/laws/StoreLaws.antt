@@ -9,7 +9,7 @@ use Rattle.rl_shard.specs.ShardState.{ShardView}
 use Rattle.rl_shard.specs.declared.step.ShardFault.{ShardFault}
 use Rattle.rl_shard.specs.declared.step.ShardFault.TheVariants as shard_faults
 use Rattle.rl_world.specs.ShardsTurn.{AreHonest, CollectDecides, CollectFaults, Decides, Faults, IsAsked, ShardsTurn}
-use Rattle.rl_world.specs.Stores.{StoreFollows, StoresFollow, asks, is_answered_so, is_damage_reply, is_fault_reply, is_spent_reply, was_answered}
+use Rattle.rl_world.specs.Stores.{StoreFollows, StoresFollow, asks, is_reported, is_damage_reply, is_fault_reply, is_spent_reply, was_reported}
 use Rattle.rl_world.specs.WorldRun.{Ran}
 use Rattle.rl_world.specs.WorldState.{WorldBooks}
 use Rattle.rl_world.specs.WorldStep.{is_store_refusal, refusal_of_shard}
@@ -184,25 +184,25 @@ one_more number step reply turns before mids news first rest = record {
   follows = record {
     honest = rest.follows.honest ∙ first.honest;
     faults = omega (arith, first.faults, rest.follows.faults);
-    no_fault = λ same more. not_true (was_answered number is_fault_reply ((step, reply) ∷ turns)) (λ offers. fault_answered same more (or_cases (is_answered_so number is_fault_reply (step, reply)) (was_answered number is_fault_reply turns) offers));
-    spent = λ offers. spent_answered (or_cases (is_answered_so number is_spent_reply (step, reply)) (was_answered number is_spent_reply turns) offers);
-    undamaged = λ honest. not_true (was_answered number is_damage_reply ((step, reply) ∷ turns)) (λ offers. damage_answered honest (or_cases (is_answered_so number is_damage_reply (step, reply)) (was_answered number is_damage_reply turns) offers));
+    no_fault = λ same more. not_true (was_reported number is_fault_reply ((step, reply) ∷ turns)) (λ offers. fault_reported same more (or_cases (is_reported number is_fault_reply (step, reply)) (was_reported number is_fault_reply turns) offers));
+    spent = λ offers. spent_reported (or_cases (is_reported number is_spent_reply (step, reply)) (was_reported number is_spent_reply turns) offers);
+    undamaged = λ honest. not_true (was_reported number is_damage_reply ((step, reply) ∷ turns)) (λ offers. damage_reported honest (or_cases (is_reported number is_damage_reply (step, reply)) (was_reported number is_damage_reply turns) offers));
   };
 }
   where
-    fault_answered : rest.after.streams.seen.faults ≡ before.streams.seen.faults → before.streams.seen.faults < greatest → (is_answered_so number is_fault_reply (step, reply) ≡ true) ⊎ (was_answered number is_fault_reply turns ≡ true) → ⊥
-    fault_answered same more (inl offers) = none_came before.streams.seen.faults first.after.streams.seen.faults ((first.reports (and_first (asks number step) (is_fault_reply reply) offers)).fault (and_second (asks number step) (is_fault_reply reply) offers)) (between before.streams.seen.faults first.after.streams.seen.faults rest.after.streams.seen.faults first.faults rest.follows.faults same more) more
-    fault_answered same more (inr offers) =
+    fault_reported : rest.after.streams.seen.faults ≡ before.streams.seen.faults → before.streams.seen.faults < greatest → (is_reported number is_fault_reply (step, reply) ≡ true) ⊎ (was_reported number is_fault_reply turns ≡ true) → ⊥
+    fault_reported same more (inl offers) = none_came before.streams.seen.faults first.after.streams.seen.faults ((first.reports (and_first (asks number step) (is_fault_reply reply) offers)).fault (and_second (asks number step) (is_fault_reply reply) offers)) (between before.streams.seen.faults first.after.streams.seen.faults rest.after.streams.seen.faults first.faults rest.follows.faults same more) more
+    fault_reported same more (inr offers) =
         let as_before = between before.streams.seen.faults first.after.streams.seen.faults rest.after.streams.seen.faults first.faults rest.follows.faults same more in
-        not_both (was_answered number is_fault_reply turns) offers (rest.follows.no_fault (same ∙ sym as_before) (omega (arith, more, as_before)))
+        not_both (was_reported number is_fault_reply turns) offers (rest.follows.no_fault (same ∙ sym as_before) (omega (arith, more, as_before)))
 
-    spent_answered : (is_answered_so number is_spent_reply (step, reply) ≡ true) ⊎ (was_answered number is_spent_reply turns ≡ true) → rest.after.streams.next ≡ greatest
-    spent_answered (inl offers) = rest.stays ((first.reports (and_first (asks number step) (is_spent_reply reply) offers)).spent (and_second (asks number step) (is_spent_reply reply) offers))
-    spent_answered (inr offers) = rest.follows.spent offers
+    spent_reported : (is_reported number is_spent_reply (step, reply) ≡ true) ⊎ (was_reported number is_spent_reply turns ≡ true) → rest.after.streams.next ≡ greatest
+    spent_reported (inl offers) = rest.stays ((first.reports (and_first (asks number step) (is_spent_reply reply) offers)).spent (and_second (asks number step) (is_spent_reply reply) offers))
+    spent_reported (inr offers) = rest.follows.spent offers
 
-    damage_answered : IsHonest before → (is_answered_so number is_damage_reply (step, reply) ≡ true) ⊎ (was_answered number is_damage_reply turns ≡ true) → ⊥
-    damage_answered honest (inl offers) = not_both before.streams.seen.honest honest ((first.reports (and_first (asks number step) (is_damage_reply reply) offers)).damage (and_second (asks number step) (is_damage_reply reply) offers))
-    damage_answered honest (inr offers) = not_both (was_answered number is_damage_reply turns) offers (rest.follows.undamaged (first.honest ∙ honest))
+    damage_reported : IsHonest before → (is_reported number is_damage_reply (step, reply) ≡ true) ⊎ (was_reported number is_damage_reply turns ≡ true) → ⊥
+    damage_reported honest (inl offers) = not_both before.streams.seen.honest honest ((first.reports (and_first (asks number step) (is_damage_reply reply) offers)).damage (and_second (asks number step) (is_damage_reply reply) offers))
+    damage_reported honest (inr offers) = not_both (was_reported number is_damage_reply turns) offers (rest.follows.undamaged (first.honest ∙ honest))
 
 run_stores : (old : WorldBooks) (steps : List Step) (replies : List Reply) (new : WorldBooks) (number : ℕ) (before : ShardView) → Ran old steps replies new → slice_get old.shards number ≡ Some before → FollowsOn number (zip steps replies) before new.shards
 run_stores old [] [] new number before run there = no_turn number before new.shards (ap (λ (world : WorldBooks). slice_get world.shards number) run ∙ there)

@@ -16,5 +16,5 @@ loop-part-preserved g c =
       rewritten = planned_more (g.C.Covers.covers c.args.covered.now) c.args.labels.now c.args.parts.now c.loop-part.part-index c.part-item.result c.args.next.now start c.loop-part.changes.items c.loop-part.gone.items c.loop-part.next seen c.plan_part.new.next after c.plan_part.new.changes.items c.plan_part.new.gone.items
           c.loop-part-test.true c.part-item.is before.many before.rewritten before.grown more c.plan_part.ensures.grown;
       grown = Grown-then start c.args.next.now seen c.loop-part.next after before.rewritten.numbers.up before.grown c.plan_part.ensures.grown;
-      many = omega (arith, before.many, ap length more.following, length-append c.loop-part.changes.items (more.change ∷ []));
+      many = omega (arith, before.many, ap length more.appended, length-append c.loop-part.changes.items (more.change ∷ []));
     }

@@ -43,13 +43,13 @@ returns-clause-partials g c u later within =
     let counter : c.in_ok-counter.counter ≡ none_counted streams.limits.entries (map (λ (term : Term). term.range.stages) terms) =
     c.in_ok-counter.ensures ∙ (λ i. record { most = (c.limits.ensures i).entries; left = (c.limits.ensures i).entries; is_over = false; accumulators = map nothing_counted (stages i) }) in
     let alike = all_mapped (IsAlike first) (λ (term : Bor Term). term.now) c.args.terms.now c.requires.alike in
-    let answered = subst (λ (lines : LineCounter). AreVisited counts first.range.selector.matchers start c.args.to streams.rows lines after) (λ i. visitor requests range c.args.t (counter i) (c.get.ensures.value i - c.get-2.ensures.value i)) c.in_ok-each.ensures.answered in
+    let visited = subst (λ (lines : LineCounter). AreVisited counts first.range.selector.matchers start c.args.to streams.rows lines after) (λ i. visitor requests range c.args.t (counter i) (c.get.ensures.value i - c.get-2.ensures.value i)) c.in_ok-each.ensures.visited in
     let not_over = sym c.is_over.ensures ∙ c.if-is_over.false in
     let found = c.in_ok-partials.ensures.found in
-    let read = subst (AllZip (λ (term : Term) found. IsRead streams.rows requests.now term.range u found) terms) (sym found) (read_each first terms streams requests c.args.t start c.args.to after alike answered u starts some later within c.requires.to not_over) in
+    let read = subst (AllZip (λ (term : Term) found. IsRead streams.rows requests.now term.range u found) terms) (sym found) (read_each first terms streams requests c.args.t start c.args.to after alike visited u starts some later within c.requires.to not_over) in
     record {
       each = AllZip-long (λ (term : Term) found. IsRead streams.rows requests.now term.range u found) terms c.in_ok-partials.partials.items read;
-      within = subst (λ most. AllByRecursion (IsWithin most) c.in_ok-partials.partials.items) (most_is first terms streams requests c.args.t start c.args.to after alike answered) c.in_ok-partials.ensures.within;
+      within = subst (λ most. AllByRecursion (IsWithin most) c.in_ok-partials.partials.items) (most_is first terms streams requests c.args.t start c.args.to after alike visited) c.in_ok-partials.ensures.within;
       read = read;
       exact = λ honest.
           let once = subst (λ (lines : LineCounter). AreVisitedOnce first.range.selector.matchers start c.args.to streams.held counts lines after) (λ i. visitor requests range c.args.t (counter i) (c.get.ensures.value i - c.get-2.ensures.value i)) (c.in_ok-each.ensures.right honest) in

@@ -20,7 +20,7 @@ results-requires-2-clause-limited c =
 
 pub returns-in-Some-clause-results : goal.returns-in-Some-clause-results
 returns-in-Some-clause-results c =
-    let given = c.as_slice-partials.ensures ∙ merged_terms-lone c.args.terms c.args.answers.now c.answered-item.result c.in-Some.answer c.in-len1.len_below c.in-len1.len_at_least c.answered-item.is c.in-Some.is c.requires.answers in
+    let given = c.as_slice-partials.ensures ∙ merged_terms-lone c.args.terms c.args.answers.now c.shard_answer-item.result c.in-Some.answer c.in-len1.len_below c.in-len1.len_at_least c.shard_answer-item.is c.in-Some.is c.requires.answers in
     subst (λ rules. IfOk c.results.result (λ made. made.0.items ≡ results_from c.args.group.now.limit c.args.t rules c.args.alerts.now (merged_terms 0 c.args.terms (flat_map option_to_list c.args.answers.now)))) c.as_slice-rules.ensures (
     subst (λ partials. IfOk c.results.result (λ made. made.0.items ≡ results_from c.args.group.now.limit c.args.t c.as_slice-rules.result.now c.args.alerts.now partials)) given c.results.ensures.results
     )

@@ -33,8 +33,8 @@ returns-in_default-clause-ok c =
     let labels = c.args.labels.now in
     let text = c.args.text.now in
     let stages = c.self.inside.running in
-    let ran : None ≡ run stages text labels = sym c.in_default.is ∙ c.in_ok-following.ensures.run ∙ ap (λ (line : StreamLine). run stages line.text line.labels) c.requires.line in
-    (λ i. record { running = c.in_ok-following.ensures.same i; found = line_leaves stages labels text (with_waiting c.self.inside.waiting c.self.inside.found) ran i })
+    let ran : None ≡ run stages text labels = sym c.in_default.is ∙ c.in_ok-labels_after.ensures.run ∙ ap (λ (line : StreamLine). run stages line.text line.labels) c.requires.line in
+    (λ i. record { running = c.in_ok-labels_after.ensures.same i; found = line_leaves stages labels text (with_waiting c.self.inside.waiting c.self.inside.found) ran i })
     ∙ ap (with_line labels text) c.self.view_is
 
 pub returns-clause-ok : goal.returns-clause-ok
@@ -42,10 +42,10 @@ returns-clause-ok c =
     let labels = c.args.labels.now in
     let text = c.args.text.now in
     let stages = c.self.inside.running in
-    let following = c.in-Some.following in
+    let labels_after = c.in-Some.labels_after in
     let one : Volume = record { count = 1; bytes = length text } in
-    let ran : Some following ≡ run stages text labels = sym c.in-Some.is ∙ c.in_ok-following.ensures.run ∙ ap (λ (line : StreamLine). run stages line.text line.labels) c.requires.line in
+    let ran : Some labels_after ≡ run stages text labels = sym c.in-Some.is ∙ c.in_ok-labels_after.ensures.run ∙ ap (λ (line : StreamLine). run stages line.text line.labels) c.requires.line in
     on_ok_weaker c.add_one.result (λ ok.
-    (λ i. record { running = c.in_ok-following.ensures.same i; found = with_waiting (c.in_ok-add_waiting.ensures.none i) c.add_one.new.found })
-    ∙ (λ i. record { running = stages; found = (ok ∙ ap (with_run following one) c.in_ok-add_waiting.ensures.ok ∙ line_stays following stages labels text (length text) (with_waiting c.self.inside.waiting c.self.inside.found) ran refl) i })
+    (λ i. record { running = c.in_ok-labels_after.ensures.same i; found = with_waiting (c.in_ok-add_waiting.ensures.none i) c.add_one.new.found })
+    ∙ (λ i. record { running = stages; found = (ok ∙ ap (with_run labels_after one) c.in_ok-add_waiting.ensures.ok ∙ line_stays labels_after stages labels text (length text) (with_waiting c.self.inside.waiting c.self.inside.found) ran refl) i })
     ∙ ap (with_line labels text) c.self.view_is) c.add_one.ensures.ok

@@ -4,7 +4,7 @@ use Rattle.std.proofs.lemmas.Grind.{common_steps}
 use Rattle.toml.specs.Data.{as_table}
 use Rattle.toml.specs.View.{items_view, view}
 use Rattle.rl_rules.specs.Document.{tables_of}
-use Rattle.rl_rule_tests.specs.Document.{AreAfter}
+use Rattle.rl_rule_tests.specs.Document.{AreAppended}
 use Rattle.rl_rule_tests.proofs.After.{SoFar, so_far_none, so_far_next, so_far_all, tables_next, some_table}
 use Rattle.rl_rule_tests.proofs.part.Part.push_all.Goals as goal
 
@@ -24,4 +24,4 @@ returns g c =
     let values = c.in_ok-value-items.value-items.now in
     let none : drop c.loop-index.index values ≡ [] = grind (arith, common_steps, c.loop-index-test.false) in
     let all = subst (λ left. SoFar (g.T.Item.is c.args.self.kind c.args.self.rule.now) (tables_of (items_view values)) (tables_of (items_view left)) c.args.all.now.items c.loop-index.all.items) none c.loop-index.invariant in
-    subst (λ items. AreAfter (g.T.Item.is c.args.self.kind c.args.self.rule.now) (tables_of items) c.args.all.now.items c.loop-index.all.items) c.in_ok-value-items.ensures (so_far_all _ _ _ _ all)
+    subst (λ items. AreAppended (g.T.Item.is c.args.self.kind c.args.self.rule.now) (tables_of items) c.args.all.now.items c.loop-index.all.items) c.in_ok-value-items.ensures (so_far_all _ _ _ _ all)

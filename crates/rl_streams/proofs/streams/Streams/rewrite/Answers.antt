@@ -58,8 +58,8 @@ returns-clause-rewritten g c =
     (subst (λ (rs : List Row). Rewrites (view_of s.limits rows before s.next) (view_of s.limits rs after next)) (sym streams)
     (view_rewritten s.limits rows s.next s.count before next seen c.self.invariant.0 made.grown made.next covers plans after made.of made.planned c.carry_out_all.ensures.removed))
 
-pub returns-clause-visited : goal.returns-clause-visited
-returns-clause-visited g c =
+pub returns-clause-left : goal.returns-clause-left
+returns-clause-left g c =
     let s = c.self.inside in
     let rows = s.streams.entries in
     let before = g.S.Store.seen s.store in
@@ -71,7 +71,7 @@ returns-clause-visited g c =
     let covers = g.C.Covers.covers c.args.covered.now in
     let streams : c.carry_out_all.new.streams.entries ≡ rewritten rows plans = c.carry_out_all.ensures.streams in
     subst (λ (old : StreamsView). AreLeftIn covers old.rows c.carry_out_all.new.streams.entries) c.self.view_is
-    (subst (λ (rs : List Row). AreLeftIn covers rows rs) (sym streams) (rewritten_left covers rows plans made.of made.planned.visited))
+    (subst (λ (rs : List Row). AreLeftIn covers rows rs) (sym streams) (rewritten_left covers rows plans made.of made.planned.left))
 
 pub returns-clause-right : goal.returns-clause-right
 returns-clause-right g c =
