@@ -46,7 +46,7 @@ one_more_once entry old new moved is_new once =
     (IsDistinct-cons (eq_by_cmp entry_cmp) entry old (apart_from (eq_by_cmp entry_cmp entry) old is_new) once)
 
 pub inserted : (old : List Entry) (entry : Entry) (new : List Entry) → IsInserted old entry new → IsPermutation (entry ∷ old) new
-inserted old entry new put = subst (IsPermutation (entry ∷ old)) (sym put.is) (IsPermutation-insert old put.position entry)
+inserted old entry new put = subst (IsPermutation (entry ∷ old)) (sym put.is) (IsPermutation-insert old put.index entry)
 
 module _ (rows : List Row) (old : Seen) (next : ℕ) (are : AreStreams rows old next) where
   -- where the store was looked at
