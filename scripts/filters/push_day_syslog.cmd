@@ -1,0 +1,1 @@
+push_lines -d 'Nov 27' '{a="x"}'

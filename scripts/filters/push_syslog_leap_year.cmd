@@ -1,0 +1,1 @@
+push_lines -y 2024 '{a="x"}'

@@ -1,0 +1,1 @@
+push_lines -y 0x7e '{a="x"}'

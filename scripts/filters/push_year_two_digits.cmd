@@ -1,0 +1,1 @@
+push_lines -y 26 '{a="x"}'
