@@ -1,0 +1,1 @@
+push_lines -k t '{a="x"}'
