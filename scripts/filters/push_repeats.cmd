@@ -1,0 +1,1 @@
+push_lines -n 1 '{a="x"}'

@@ -1,0 +1,1 @@
+push_lines -n 1 --spread '{a="x"}'

@@ -1,0 +1,1 @@
+push_lines --spread -n 1 '{a="x"}'

@@ -1,0 +1,1 @@
+push_lines -s -n 1 '{a="x"}'
