@@ -1,0 +1,1 @@
+ticks now 10 1s

@@ -1,0 +1,1 @@
+ticks 0 now 1s
