@@ -1,0 +1,1 @@
+rules_from_yaml
