@@ -180,12 +180,12 @@ reply_fits : (old : WorldBooks) (step : Step) (reply : Reply) (new : WorldBooks)
 reply_fits old (steps.Shard number step) (replies.Decided place reply) new turned = tt
 reply_fits old (steps.Shard number step) (replies.Refused refusal) new turned = tt
 reply_fits old (steps.Gather group number) (replies.Gathered place) new turned =
-    let shown = turned.histories in
+    let turn = turned.stores in
     let moment_of = λ (book : Option BookState). option_and_then (λ (b : BookState). option_map (λ (o : OpenEvaluation (List Partial)). o.t) b.history.opened) book in
-    let after = with_history shown.before (gathered shown.before.history number place shown.shown) in
-    ap (λ (books : List BookState). moment_of (slice_get books group)) shown.now ∙ ap moment_of (get_set old.books group shown.before after shown.there)
-    ∙ ap (λ o. option_map (λ (opened : OpenEvaluation (List Partial)). opened.t) (option_map (with_shown number place shown.shown) o)) shown.open_is
-    ∙ sym (ap moment_of shown.there ∙ ap (option_map (λ (opened : OpenEvaluation (List Partial)). opened.t)) shown.open_is)
+    let after = with_history turn.asked.book (gathered turn.asked.book.history number place turn.partials) in
+    ap (λ (books : List BookState). moment_of (slice_get books group)) turn.kept ∙ ap moment_of (get_set old.books group turn.asked.book after turn.asked.there)
+    ∙ ap (λ o. option_map (λ (opened : OpenEvaluation (List Partial)). opened.t) (option_map (with_shown number place turn.partials) o)) turn.asked.open_is
+    ∙ sym (ap moment_of turn.asked.there ∙ ap (option_map (λ (opened : OpenEvaluation (List Partial)). opened.t)) turn.asked.open_is)
 reply_fits old (steps.Gather group number) (replies.Refused refusal) new turned = same_moment old new group (turned.refused refusal refl).1
 reply_fits old (steps.Edit group to) reply new turned = reply_fits_unasked old (steps.Edit group to) reply new refl turned
 reply_fits old (steps.Begin group t) reply new turned = reply_fits_unasked old (steps.Begin group t) reply new refl turned
@@ -202,11 +202,11 @@ same_names old new same = sym (map_twice (λ (book : BookState). book.history) (
 
 names_stay : (old : WorldBooks) (step : Step) (reply : Reply) (new : WorldBooks) → Turned old step reply new → book_names new ≡ book_names old
 names_stay old step (replies.Refused refusal) new turned = same_names old new (ap (λ (world : KeptWorld). names world.histories) (turned.refused refusal refl).1)
-names_stay old (steps.Shard number step) (replies.Decided place reply) new turned = ap (map (λ (book : BookState). book.history.group.name)) turned.histories
+names_stay old (steps.Shard number step) (replies.Decided place reply) new turned = ap (map (λ (book : BookState). book.history.group.name)) turned.stores.1
 names_stay old (steps.Gather group number) (replies.Gathered place) new turned =
-    let shown = turned.histories in
-    let after = with_history shown.before (gathered shown.before.history number place shown.shown) in
-    ap (map (λ (book : BookState). book.history.group.name)) shown.now ∙ set_alike (λ (book : BookState). book.history.group.name) old.books group shown.before after shown.there refl
+    let turn = turned.stores in
+    let after = with_history turn.asked.book (gathered turn.asked.book.history number place turn.partials) in
+    ap (map (λ (book : BookState). book.history.group.name)) turn.kept ∙ set_alike (λ (book : BookState). book.history.group.name) old.books group turn.asked.book after turn.asked.there refl
 names_stay old (steps.Edit group to) reply new turned = same_names old new (names_kept (kept old) (steps.Edit group to) reply (kept new) refl (turned.on_kept refl))
 names_stay old (steps.Begin group t) reply new turned = same_names old new (names_kept (kept old) (steps.Begin group t) reply (kept new) refl (turned.on_kept refl))
 names_stay old (steps.Commit group) reply new turned = same_names old new (names_kept (kept old) (steps.Commit group) reply (kept new) refl (turned.on_kept refl))
@@ -214,13 +214,13 @@ names_stay old (steps.Abandon group) reply new turned = same_names old new (name
 names_stay old (steps.CatchUp group) reply new turned = same_names old new (names_kept (kept old) (steps.CatchUp group) reply (kept new) refl (turned.on_kept refl))
 names_stay old step reply new turned = absurd turned.stores
 
-shards_stay : (old : List ShardView) (step : Step) (reply : Reply) (new : List ShardView) → ShardsTurn old step reply new → length new ≡ length old
-shards_stay old (steps.Shard number step) (replies.Decided place reply) new turn = ap length turn.now ∙ set_length old number turn.after
+shards_stay : (old : WorldBooks) (step : Step) (reply : Reply) (new : WorldBooks) → ShardsTurn old step reply new → length new.shards ≡ length old.shards
+shards_stay old (steps.Shard number step) (replies.Decided place reply) new turn = ap length turn.0.now ∙ set_length old.shards number turn.0.after
 shards_stay old (steps.Shard number step) (replies.Refused refusal) new (inl unasked) = ap length unasked.1
-shards_stay old (steps.Shard number step) (replies.Refused refusal) new (inr turn) = ap length turn.now ∙ set_length old number turn.after
-shards_stay old (steps.Gather group number) (replies.Gathered place) new turn = ap length turn.now ∙ set_length old number turn.after
+shards_stay old (steps.Shard number step) (replies.Refused refusal) new (inr turn) = ap length turn.0.now ∙ set_length old.shards number turn.0.after
+shards_stay old (steps.Gather group number) (replies.Gathered place) new turn = ap length turn.decided.now ∙ set_length old.shards number turn.decided.after
 shards_stay old (steps.Gather group number) (replies.Refused refusal) new (inl unasked) = ap length unasked.1
-shards_stay old (steps.Gather group number) (replies.Refused refusal) new (inr turn) = ap length turn.now ∙ set_length old number turn.after
+shards_stay old (steps.Gather group number) (replies.Refused refusal) new (inr turn) = ap length turn.met.now ∙ set_length old.shards number turn.met.after
 shards_stay old (steps.Edit group to) reply new turn = ap length turn
 shards_stay old (steps.Begin group t) reply new turn = ap length turn
 shards_stay old (steps.Commit group) reply new turn = ap length turn
@@ -252,6 +252,6 @@ followed old step reply new turned =
       fits = reply_fits old step reply new turned;
       alike = (
         listed_alike old.books new.books (names_stay old step reply new turned) (ran_counts old (step ∷ []) (reply ∷ []) new run),
-        shards_stay old.shards step reply new.shards turned.stores,
+        shards_stay old step reply new turned.stores,
       );
     }

@@ -1,10 +1,8 @@
 -- What a turn of one kind says of a step that is of this kind.
 use Rattle.std.proofs.Common.{◌≡◌, true, false, List, sym, ap, subst, ◌∙◌}
 use Rattle.rl_aggregate.specs.declared.partial.Partial.{Partial}
-use Rattle.rl_shard.specs.ShardState.{ShardView}
 use Rattle.rl_world.specs.ShardsTurn.{AreHonest, ShardsTurn}
-use Rattle.rl_world.specs.WorldRun.{HistoriesTurn}
-use Rattle.rl_world.specs.WorldState.{BookState, WorldBooks, WorldState, world_of}
+use Rattle.rl_world.specs.WorldState.{WorldBooks, WorldState, world_of}
 use Rattle.rl_world.specs.WorldStep.{WorldStep, IfRefused, IsRefused, asks_shard, partials}
 use Rattle.rl_world.specs.declared.step.Step.{Step}
 use Rattle.rl_world.specs.declared.step.Step.TheVariants as steps
@@ -19,16 +17,11 @@ step_refused : (old new : WorldState (List Partial)) (step : Step) (reply : Repl
 step_refused old new step (replies.Refused refusal) turn = turn
 step_refused old new step reply turn = tt
 
--- a step that asks no shard touches none, and says nothing of what one showed
-shards_kept : (old new : List ShardView) (step : Step) (reply : Reply) → asks_shard step ≡ false → new ≡ old → ShardsTurn old step reply new
+-- a step that asks no shard touches none
+shards_kept : (old new : WorldBooks) (step : Step) (reply : Reply) → asks_shard step ≡ false → new.shards ≡ old.shards → ShardsTurn old step reply new
 shards_kept old new (steps.Shard number step) reply free same = absurd (true_false free)
 shards_kept old new (steps.Gather group number) reply free same = absurd (true_false free)
 shards_kept old new step reply free same = same
-
-nothing_shown : (old new : List BookState) (step : Step) (reply : Reply) → asks_shard step ≡ false → HistoriesTurn old step reply new
-nothing_shown old new (steps.Shard number step) reply free = absurd (true_false free)
-nothing_shown old new (steps.Gather group number) reply free = absurd (true_false free)
-nothing_shown old new step reply free = tt
 
 module _ (old new : WorldBooks) (step known : Step) (reply : Reply) (is : step ≡ known) where
   abbrev Steps : Step → Type 0
@@ -47,11 +40,8 @@ module _ (old new : WorldBooks) (step known : Step) (reply : Reply) (is : step �
   pub asked_step : (AreHonest old.shards → Steps known) → AreHonest old.shards → Steps step
   asked_step turn honest = subst Steps (sym is) (turn honest)
 
-  pub asked_stores : ShardsTurn old.shards known reply new.shards → ShardsTurn old.shards step reply new.shards
-  asked_stores turn = subst (λ s. ShardsTurn old.shards s reply new.shards) (sym is) turn
-
-  pub asked_histories : HistoriesTurn old.books known reply new.books → HistoriesTurn old.books step reply new.books
-  asked_histories turn = subst (λ s. HistoriesTurn old.books s reply new.books) (sym is) turn
+  pub asked_stores : ShardsTurn old known reply new → ShardsTurn old step reply new
+  asked_stores turn = subst (λ s. ShardsTurn old s reply new) (sym is) turn
 
   -- of one that asks none
   pub free_refused : Steps known → Refuses step
@@ -63,8 +53,5 @@ module _ (old new : WorldBooks) (step known : Step) (reply : Reply) (is : step �
   pub free_step : Steps known → AreHonest old.shards → Steps step
   free_step turn honest = subst Steps (sym is) turn
 
-  pub free_stores : asks_shard known ≡ false → new.shards ≡ old.shards → ShardsTurn old.shards step reply new.shards
-  free_stores asks same = shards_kept old.shards new.shards step reply (ap asks_shard is ∙ asks) same
-
-  pub free_histories : asks_shard known ≡ false → HistoriesTurn old.books step reply new.books
-  free_histories asks = nothing_shown old.books new.books step reply (ap asks_shard is ∙ asks)
+  pub free_stores : asks_shard known ≡ false → new.shards ≡ old.shards → ShardsTurn old step reply new
+  free_stores asks same = shards_kept old new step reply (ap asks_shard is ∙ asks) same

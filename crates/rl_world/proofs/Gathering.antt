@@ -9,7 +9,8 @@ use Rattle.rl_parts.specs.StoreUse.{Grown}
 use Rattle.rl_shard.specs.ShardFault.{MayCome, Stored}
 use Rattle.rl_shard.specs.ShardState.{ShardView, journalled, visible}
 use Rattle.rl_shard.specs.ShardStep.{recorded, is_journal_full}
-use Rattle.rl_shard.specs.declared.step.ShardReply.{ShardReply}
+use Rattle.rl_shard.specs.declared.step.ShardReply.TheVariants as shard_replies
+use Rattle.rl_shard.specs.declared.step.ShardStep.{ShardStep}
 use Rattle.rl_shard.specs.declared.step.ShardStep.TheVariants as shard_steps
 use Rattle.rl_shard.specs.declared.step.ShardFault.{ShardFault}
 use Rattle.rl_shard.specs.declared.step.ShardFault.TheVariants as shard_faults
@@ -17,9 +18,8 @@ use Rattle.rl_world.specs.BookCalls.{with_history}
 use Rattle.rl_world.specs.Evaluating.{group_terms}
 use Rattle.rl_world.specs.Kept.{partials_of}
 use Rattle.rl_world.specs.History.{gather_fault, gathered}
-use Rattle.rl_world.specs.ShardsTurn.{Decides, ShardsTurn}
-use Rattle.rl_world.specs.WorldRun.{IsShown}
-use Rattle.rl_world.specs.WorldState.{BookState, IsBookOf, world_of}
+use Rattle.rl_world.specs.ShardsTurn.{Decides, Faults, IsAskable, ShardsTurn, collect_for}
+use Rattle.rl_world.specs.WorldState.{BookState, IsBookOf, seen_as, world_of}
 use Rattle.rl_world.specs.WorldStep.{WorldStep, IsRefused, MayRefuse, partials, known, or_else, journal_refusal, refusal_of, refusal_of_shard}
 use Rattle.rl_world.specs.declared.fault.BookFault.{BookFault}
 use Rattle.rl_world.specs.declared.fault.Refusal.{Refusal}
@@ -92,36 +92,54 @@ module _ (shards : List ShardView) (books : List BookState) (group number : ℕ)
       may shard_faults.NumbersSpent came = inr (gather_free free room, refl)
       may shard_faults.Memory came = inr (gather_free free room, refl)
 
-  -- what became of the shards
-  pub stores_gathered : (after : ShardView) (t place : ℕ) (terms : List Term) (reply : ShardReply) → Stored shard.streams after.streams → after.streams.next ≤ greatest → Decides place (shard_steps.Collect group terms t) reply shard after
-      → ShardsTurn shards (steps.Gather group number) (replies.Gathered place) (slice_set shards number after)
-  stores_gathered after t place terms reply stored numbers decides = record {
-    before = shard;
-    there = shard_there;
-    after = after;
-    now = refl;
-    stored = stored;
-    numbers = numbers;
-    as_said = record { terms = terms; t = t; reply = reply; decides = decides };
-  }
+  -- the group has an open evaluation, and no refusal keeps the shard from being asked
+  abbrev askable : (t : ℕ) → gather_fault book.history number ≡ None → is_journal_full (journalled shard) ≡ false → (here : OpenAt book.history.opened t) → IsAskable (seen_as shards books) group number
+  askable t free room here = record { free = gather_free free room; book = book; there = there; opened = here.opened; open_is = here.is }
 
-  pub stores_not_gathered : (after : ShardView) (t : ℕ) (terms : List Term) (fault : ShardFault) (refusal : Refusal) → Stored shard.streams after.streams → after.streams.next ≤ greatest → MayCome shard (shard_steps.Collect group terms t) fault after
-      → Grown shard.streams.seen shard.streams.next after.streams.seen → journalled after ≡ journalled shard → refusal ≡ refusal_of_shard fault → ShardsTurn shards (steps.Gather group number) (replies.Refused refusal) (slice_set shards number after)
-  stores_not_gathered after t terms fault refusal stored numbers came grown kept reported = inr (record {
-    before = shard;
-    there = shard_there;
-    after = after;
-    now = refl;
-    stored = stored;
-    numbers = numbers;
-    as_said = record { terms = terms; t = t; faults = record { kept = kept; fault = fault; reported = reported; cause = came; grown = grown } };
-  })
+  -- what holds of the terms and the moment that were asked about holds of the group's and the evaluation's
+  for_group : (P : ShardStep → Type 0) (t : ℕ) (terms : List Term) (here : OpenAt book.history.opened t) → terms ≡ group_terms book.history.group → P (shard_steps.Collect group terms t) → P (collect_for group book here.opened)
+  for_group P t terms here terms_is holds = subst (λ (n : ℕ). P (shard_steps.Collect group (group_terms book.history.group) n)) (sym here.moment) (subst (λ (ts : List Term). P (shard_steps.Collect group ts t)) terms_is holds)
 
-  -- what became of the book
-  pub book_shown : (after : BookState) (t place : ℕ) (shown : List Partial) → option_map (λ (o : OpenEvaluation (List Partial)). o.t) book.history.opened ≡ Some t → after ≡ with_history book (gathered book.history number place shown) → IsShown books group number place (slice_set books group after)
-  book_shown after t place shown moment after_is =
+  -- the shard decided, and the book keeps what it answered
+  pub stores_gathered : (after_shard : ShardView) (after : BookState) (t place : ℕ) (terms : List Term) (shown : List Partial) → gather_fault book.history number ≡ None → is_journal_full (journalled shard) ≡ false → option_map (λ (o : OpenEvaluation (List Partial)). o.t) book.history.opened ≡ Some t
+      → terms ≡ group_terms book.history.group → Stored shard.streams after_shard.streams → after_shard.streams.next ≤ greatest → Decides place (shard_steps.Collect group terms t) (shard_replies.Collected shown) shard after_shard → after ≡ with_history book (gathered book.history number place shown)
+      → ShardsTurn (seen_as shards books) (steps.Gather group number) (replies.Gathered place) (seen_as (slice_set shards number after_shard) (slice_set books group after))
+  stores_gathered after_shard after t place terms shown free room moment terms_is stored numbers decides after_is =
       let here = open_at book.history.opened t moment in
-      record { before = book; there = there; opened = here.opened; open_is = here.is; shown = shown; now = ap (slice_set books group) after_is }
+      record {
+        asked = askable t free room here;
+        partials = shown;
+        decided = record {
+          before = shard;
+          there = shard_there;
+          after = after_shard;
+          now = refl;
+          stored = stored;
+          numbers = numbers;
+          as_said = for_group (λ step. Decides place step (shard_replies.Collected shown) shard after_shard) t terms here terms_is decides;
+        };
+        kept = ap (slice_set books group) after_is;
+      }
+
+  -- it met a fault
+  pub stores_not_gathered : (after : ShardView) (t : ℕ) (terms : List Term) (fault : ShardFault) (refusal : Refusal) → gather_fault book.history number ≡ None → is_journal_full (journalled shard) ≡ false → option_map (λ (o : OpenEvaluation (List Partial)). o.t) book.history.opened ≡ Some t
+      → terms ≡ group_terms book.history.group → Stored shard.streams after.streams → after.streams.next ≤ greatest → MayCome shard (shard_steps.Collect group terms t) fault after → Grown shard.streams.seen shard.streams.next after.streams.seen
+      → journalled after ≡ journalled shard → refusal ≡ refusal_of_shard fault → ShardsTurn (seen_as shards books) (steps.Gather group number) (replies.Refused refusal) (seen_as (slice_set shards number after) books)
+  stores_not_gathered after t terms fault refusal free room moment terms_is stored numbers came grown kept reported =
+      let here = open_at book.history.opened t moment in
+      inr (record {
+        asked = askable t free room here;
+        met = record {
+          before = shard;
+          there = shard_there;
+          after = after;
+          now = refl;
+          stored = stored;
+          numbers = numbers;
+          as_said = for_group (λ step. Faults step refusal shard after) t terms here terms_is (record { kept = kept; fault = fault; reported = reported; cause = came; grown = grown });
+        };
+        stay = refl;
+      })
 
   -- the shard showed what it has, and the book keeps the partials
   pub gather_turn : (after_shard : ShardView) (after : BookState) (slot t place : ℕ) (terms : List Term) (shown : List Partial) → gather_fault book.history number ≡ None → option_map (λ (o : OpenEvaluation (List Partial)). o.t) book.history.opened ≡ Some t → terms ≡ group_terms book.history.group

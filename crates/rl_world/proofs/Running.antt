@@ -5,7 +5,7 @@ use Rattle.std.proofs.lemmas.List.{append-nil, append_assoc}
 use Rattle.std.proofs.Math.Seq.{drop-append_seam}
 use Rattle.rl_world.specs.Offering.{TookPrefix}
 use Rattle.rl_world.specs.ShardsTurn.{AreHonest, ShardsTurn}
-use Rattle.rl_world.specs.WorldRun.{gained, HistoriesTurn, SinkStep, Turned, Ran}
+use Rattle.rl_world.specs.WorldRun.{gained, SinkStep, Turned, Ran}
 use Rattle.rl_world.specs.WorldState.{BookState, WorldBooks, IsBookOf, world_of}
 use Rattle.rl_world.specs.WorldStep.{WorldStep, IfRefused, IsRefused, asks_shard, partials}
 use Rattle.rl_world.specs.declared.step.Step.{Step}
@@ -15,13 +15,12 @@ use Rattle.rl_world.proofs.Lifting.{lift_step}
 -- what shards and books answer to a step is a turn of their world
 pub turned : (old : WorldBooks) (step : Step) (reply : Reply) (new : WorldBooks) → IfRefused reply (λ refusal. IsRefused (world_of old.shards old.books) step refusal (world_of new.shards new.books))
     → (asks_shard step ≡ false → WorldStep partials (world_of old.shards old.books) step reply (world_of new.shards new.books)) → (AreHonest old.shards → WorldStep partials (world_of old.shards old.books) step reply (world_of new.shards new.books))
-    → SinkStep old.books step reply new.books → ShardsTurn old.shards step reply new.shards → HistoriesTurn old.books step reply new.books → Turned old step reply new
-turned old step reply new refused on_kept turn sinks stores histories = record {
+    → SinkStep old.books step reply new.books → ShardsTurn old step reply new → Turned old step reply new
+turned old step reply new refused on_kept turn sinks stores = record {
   refused = λ refusal is. subst (λ answer. IfRefused answer (λ refusal. IsRefused (world_of old.shards old.books) step refusal (world_of new.shards new.books))) is refused;
   on_kept = on_kept;
   sinks = sinks;
   stores = stores;
-  histories = histories;
   from_scratch = λ honest shown stands. lift_step shown step reply (world_of new.shards new.books) (subst (λ world. WorldStep partials world step reply (world_of new.shards new.books)) stands (turn honest));
 }
 

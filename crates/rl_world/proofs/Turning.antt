@@ -21,7 +21,7 @@ use Rattle.rl_world.specs.BookCalls.{Answers, Refuses, with_history}
 use Rattle.rl_world.specs.History.{begin_fault, commit_fault, abandon_fault, edit_fault, begun, abandoned, edited}
 use Rattle.rl_world.specs.ShardsTurn.{ShardsTurn}
 use Rattle.rl_world.specs.WorldRun.{offers}
-use Rattle.rl_world.specs.WorldState.{BookState, world_of}
+use Rattle.rl_world.specs.WorldState.{BookState, world_of, seen_as}
 use Rattle.rl_world.specs.WorldStep.{WorldStep, IsRefused, MayRefuse, may_fail, partials, known, edit_refusal, journal_refusal, refusal_of, may_want, refusal_of_shard, refusal_of_book}
 use Rattle.rl_world.specs.declared.fault.BookFault.{BookFault}
 use Rattle.rl_plain.specs.declared.refusal.OrMemory.{OrMemory}
@@ -83,31 +83,37 @@ refused_ok (Some f) x h = absurd (ok_apart x f h)
 refused_ok None x h = refl
 
 -- a shard decided a step, or met a fault
-pub stores_decided : (shards : List ShardView) (number place : ℕ) (step : ShardStep) (reply : ShardReply) (shard after : ShardView) → slice_get shards number ≡ Some shard → Stored shard.streams after.streams → after.streams.next ≤ greatest
+pub stores_decided : (shards : List ShardView) (books : List BookState) (number place : ℕ) (step : ShardStep) (reply : ShardReply) (shard after : ShardView) → slice_get shards number ≡ Some shard → Stored shard.streams after.streams → after.streams.next ≤ greatest
     → place ≡ (journalled shard).records → (journalled after).limits ≡ (journalled shard).limits → (journalled after).records ≡ (journalled shard).records + 1 → IsAnswered (journalled shard).limits (journalled shard).state step reply (journalled after).state
     → IsDone (journalled shard).limits (journalled shard).state step shard.streams after.streams → AreRead shard.streams shard.requests step reply
-    → ShardsTurn shards (steps.Shard number step) (replies.Decided place reply) (slice_set shards number after)
-stores_decided shards number place step reply shard after there stored numbers place_is limits records answered done read = record {
-  before = shard;
-  there = there;
-  after = after;
-  now = refl;
-  stored = stored;
-  numbers = numbers;
-  as_said = record { place_is = place_is; limits = limits; records = records; answered = answered; done = done; read = read };
-}
+    → ShardsTurn (seen_as shards books) (steps.Shard number step) (replies.Decided place reply) (seen_as (slice_set shards number after) books)
+stores_decided shards books number place step reply shard after there stored numbers place_is limits records answered done read = (
+  record {
+    before = shard;
+    there = there;
+    after = after;
+    now = refl;
+    stored = stored;
+    numbers = numbers;
+    as_said = record { place_is = place_is; limits = limits; records = records; answered = answered; done = done; read = read };
+  },
+  refl,
+)
 
-pub stores_faulted : (shards : List ShardView) (number : ℕ) (step : ShardStep) (shard after : ShardView) (fault : ShardFault) (refusal : Refusal) → slice_get shards number ≡ Some shard → Stored shard.streams after.streams → after.streams.next ≤ greatest
-    → MayCome shard step fault after → Grown shard.streams.seen shard.streams.next after.streams.seen → journalled after ≡ journalled shard → refusal ≡ refusal_of_shard fault → ShardsTurn shards (steps.Shard number step) (replies.Refused refusal) (slice_set shards number after)
-stores_faulted shards number step shard after fault refusal there stored numbers came grown kept reported = inr (record {
-  before = shard;
-  there = there;
-  after = after;
-  now = refl;
-  stored = stored;
-  numbers = numbers;
-  as_said = record { kept = kept; fault = fault; reported = reported; cause = came; grown = grown };
-})
+pub stores_faulted : (shards : List ShardView) (books : List BookState) (number : ℕ) (step : ShardStep) (shard after : ShardView) (fault : ShardFault) (refusal : Refusal) → slice_get shards number ≡ Some shard → Stored shard.streams after.streams → after.streams.next ≤ greatest
+    → MayCome shard step fault after → Grown shard.streams.seen shard.streams.next after.streams.seen → journalled after ≡ journalled shard → refusal ≡ refusal_of_shard fault → ShardsTurn (seen_as shards books) (steps.Shard number step) (replies.Refused refusal) (seen_as (slice_set shards number after) books)
+stores_faulted shards books number step shard after fault refusal there stored numbers came grown kept reported = inr (
+  record {
+    before = shard;
+    there = there;
+    after = after;
+    now = refl;
+    stored = stored;
+    numbers = numbers;
+    as_said = record { kept = kept; fault = fault; reported = reported; cause = came; grown = grown };
+  },
+  refl,
+)
 
 -- of the faults of a shard one is its journal's
 abbrev is_for_journal : ShardFault → Bool

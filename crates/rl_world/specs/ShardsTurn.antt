@@ -1,19 +1,25 @@
--- What a turn makes of the shards and their stores.
-use Rattle.std.specs.Prelude.{◌≡◌, ◌⊎◌, ℕ, ◌+◌, ◌≤◌, false, List, Some, slice_get, slice_set}
+-- What a turn makes of the shards and their stores, and of the books for which they are asked.
+use Rattle.std.specs.Prelude.{◌≡◌, ◌⊎◌, ℕ, ◌+◌, ◌≤◌, false, List, None, Some, slice_get, slice_set}
 use Rattle.std.specs.List.{AllByRecursion}
 use Rattle.rl_chunks.specs.StoreState.{greatest}
 use Rattle.rl_parts.specs.StoreUse.{Grown}
-use Rattle.rl_query.specs.declared.query.Term.{Term}
+use Rattle.rl_aggregate.specs.declared.partial.Partial.{Partial}
 use Rattle.rl_shard.specs.Collecting.{AreRead}
 use Rattle.rl_shard.specs.ShardFault.{IsDone, IsHonest, MayCome, Stored}
 use Rattle.rl_shard.specs.ShardState.{ShardView, journalled}
 use Rattle.rl_shard.specs.ShardStep.{IsAnswered}
 use Rattle.rl_shard.specs.declared.step.ShardFault.{ShardFault}
 use Rattle.rl_shard.specs.declared.step.ShardReply.{ShardReply}
+use Rattle.rl_shard.specs.declared.step.ShardReply.TheVariants as shard_replies
 use Rattle.rl_shard.specs.declared.step.ShardStep.{ShardStep}
 use Rattle.rl_shard.specs.declared.step.ShardStep.TheVariants as shard_steps
-use Rattle.rl_world.specs.WorldStep.{is_store_refusal, refusal_of_shard}
+use Rattle.rl_world.specs.BookCalls.{with_history}
+use Rattle.rl_world.specs.Evaluating.{group_terms}
+use Rattle.rl_world.specs.History.{gathered}
+use Rattle.rl_world.specs.WorldState.{BookState, WorldBooks, world_of}
+use Rattle.rl_world.specs.WorldStep.{is_store_refusal, refusal_of, refusal_of_shard}
 use Rattle.rl_world.specs.declared.fault.Refusal.{Refusal}
+use Rattle.rl_world.specs.declared.opened.OpenEvaluation.{OpenEvaluation}
 use Rattle.rl_world.specs.declared.step.Step.{Step}
 use Rattle.rl_world.specs.declared.step.Step.TheVariants as steps
 use Rattle.rl_world.specs.declared.step.Reply.{Reply}
@@ -50,30 +56,42 @@ pub record Faults (step : ShardStep) (refusal : Refusal) (before after : ShardVi
   pub cause : MayCome before step fault after
   pub grown : Grown before.streams.seen before.streams.next after.streams.seen
 
--- a shard was asked for a group, about some terms at some moment: it decided that
-pub record CollectDecides (group place : ℕ) (before after : ShardView) : Type 0 where
-  pub terms : List Term
-  pub t : ℕ
-  pub reply : ShardReply
-  pub decides : Decides place (shard_steps.Collect group terms t) reply before after
+-- the step that asks a shard for the open evaluation of a group: about the group's terms, at the evaluation's moment
+abbrev pub collect_for : ℕ → BookState → OpenEvaluation (List Partial) → ShardStep
+collect_for group book opened = shard_steps.Collect group (group_terms book.history.group) opened.t
 
--- or it met a fault
-pub record CollectFaults (group : ℕ) (refusal : Refusal) (before after : ShardView) : Type 0 where
-  pub terms : List Term
-  pub t : ℕ
-  pub faults : Faults (shard_steps.Collect group terms t) refusal before after
+-- a group with an open evaluation, for which no refusal kept the shard from being asked
+pub record IsAskable (old : WorldBooks) (group number : ℕ) : Type 0 where
+  pub free : refusal_of (world_of old.shards old.books) (steps.Gather group number) ≡ None
+  pub book : BookState
+  pub there : slice_get old.books group ≡ Some book
+  pub opened : OpenEvaluation (List Partial)
+  pub open_is : book.history.opened ≡ Some opened
 
--- no shard was asked, and nothing is reported of a store
-abbrev pub IsUnasked : List ShardView → Refusal → List ShardView → Type 0
-IsUnasked old refusal new = (is_store_refusal refusal ≡ false) × (new ≡ old)
+-- the shard decided what it was asked for the group, and the open evaluation keeps what it answered, with the place
+pub record IsGathered (old : WorldBooks) (group number place : ℕ) (new : WorldBooks) : Type 0 where
+  pub asked : IsAskable old group number
+  pub partials : List Partial
+  pub decided : IsAsked old.shards number new.shards (Decides place (collect_for group asked.book asked.opened) (shard_replies.Collected partials))
+  pub kept : new.books ≡ slice_set old.books group (with_history asked.book (gathered asked.book.history number place partials))
 
--- what becomes of the shards and their stores: a step that asks a shard is decided by it, or refused before it was asked or by
--- it, and no other step touches one
-abbrev pub ShardsTurn : List ShardView → Step → Reply → List ShardView → Type 0
-ShardsTurn old (steps.Shard number step) (replies.Decided place reply) new = IsAsked old number new (Decides place step reply)
-ShardsTurn old (steps.Shard number step) (replies.Refused refusal) new = IsUnasked old refusal new ⊎ IsAsked old number new (Faults step refusal)
+-- or it met a fault, and the books stay
+pub record IsNotGathered (old : WorldBooks) (group number : ℕ) (refusal : Refusal) (new : WorldBooks) : Type 0 where
+  pub asked : IsAskable old group number
+  pub met : IsAsked old.shards number new.shards (Faults (collect_for group asked.book asked.opened) refusal)
+  pub stay : new.books ≡ old.books
+
+-- no shard was asked, nothing is reported of a store, and nothing changes
+abbrev pub IsUnasked : WorldBooks → Refusal → WorldBooks → Type 0
+IsUnasked old refusal new = (is_store_refusal refusal ≡ false) × (new.shards ≡ old.shards) × (new.books ≡ old.books)
+
+-- what a turn makes of the shards, of their stores, and of the books for which they are asked: a step that asks a shard is
+-- decided by it, or refused before it was asked or by it, and no other step touches one
+abbrev pub ShardsTurn : WorldBooks → Step → Reply → WorldBooks → Type 0
+ShardsTurn old (steps.Shard number step) (replies.Decided place reply) new = IsAsked old.shards number new.shards (Decides place step reply) × (new.books ≡ old.books)
+ShardsTurn old (steps.Shard number step) (replies.Refused refusal) new = IsUnasked old refusal new ⊎ (IsAsked old.shards number new.shards (Faults step refusal) × (new.books ≡ old.books))
 ShardsTurn old (steps.Shard number step) other new = ⊥
-ShardsTurn old (steps.Gather group number) (replies.Gathered place) new = IsAsked old number new (CollectDecides group place)
-ShardsTurn old (steps.Gather group number) (replies.Refused refusal) new = IsUnasked old refusal new ⊎ IsAsked old number new (CollectFaults group refusal)
+ShardsTurn old (steps.Gather group number) (replies.Gathered place) new = IsGathered old group number place new
+ShardsTurn old (steps.Gather group number) (replies.Refused refusal) new = IsUnasked old refusal new ⊎ IsNotGathered old group number refusal new
 ShardsTurn old (steps.Gather group number) other new = ⊥
-ShardsTurn old step reply new = new ≡ old
+ShardsTurn old step reply new = new.shards ≡ old.shards

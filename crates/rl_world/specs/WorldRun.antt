@@ -1,17 +1,13 @@
 -- A run of steps, and what it makes of the sinks.
 use Rattle.std.specs.Prelude.{◌≡◌, ℕ, false, List, [], ◌∷◌, map, length, drop, Some, slice_get, slice_set}
 use Rattle.rl_labels.specs.declared.entry.Entry.{Entry}
-use Rattle.rl_aggregate.specs.declared.partial.Partial.{Partial}
 use Rattle.rl_rules.specs.declared.evaluation.Evaluation.{Evaluation}
 use Rattle.rl_sinks.specs.SinkState.{SinkState}
-use Rattle.rl_world.specs.BookCalls.{with_history}
-use Rattle.rl_world.specs.History.{gathered}
 use Rattle.rl_world.specs.Offering.{AllOffered, behind_of}
 use Rattle.rl_world.specs.ShardsTurn.{AreHonest, ShardsTurn}
 use Rattle.rl_world.specs.WorldState.{BookState, WorldBooks, WorldState, Stands, world_of}
 use Rattle.rl_world.specs.WorldStep.{WorldStep, IsRefused, Replay, asks_shard, lists, partials}
 use Rattle.rl_world.specs.declared.fault.Refusal.{Refusal}
-use Rattle.rl_world.specs.declared.opened.OpenEvaluation.{OpenEvaluation}
 use Rattle.rl_world.specs.declared.step.Step.{Step}
 use Rattle.rl_world.specs.declared.step.Step.TheVariants as steps
 use Rattle.rl_world.specs.declared.step.Reply.{Reply}
@@ -44,21 +40,6 @@ SinkStep old (steps.Commit group) (replies.Committed answer) new = SinksOffered 
 SinkStep old (steps.CatchUp group) (replies.CaughtUp behind) new = SinksOffered old group behind new
 SinkStep old step reply new = map offers new ≡ map offers old
 
--- a shard was asked for the open evaluation of a group, which keeps what the shard showed
-pub record IsShown (old : List BookState) (group number place : ℕ) (new : List BookState) : Type 0 where
-  pub before : BookState
-  pub there : slice_get old group ≡ Some before
-  pub opened : OpenEvaluation (List Partial)
-  pub open_is : before.history.opened ≡ Some opened
-  pub shown : List Partial
-  pub now : new ≡ slice_set old group (with_history before (gathered before.history number place shown))
-
--- what a step that asks a shard makes of the books: a step of a shard touches none, and a gather adds what was shown
-abbrev pub HistoriesTurn : List BookState → Step → Reply → List BookState → Type 0
-HistoriesTurn old (steps.Shard number step) reply new = new ≡ old
-HistoriesTurn old (steps.Gather group number) (replies.Gathered place) new = IsShown old group number place new
-HistoriesTurn old step reply new = Unit {0}
-
 -- a turn of the world
 pub record Turned (old : WorldBooks) (step : Step) (reply : Reply) (new : WorldBooks) : Type 0 where
   -- over any stores: a step that is refused counts as no step
@@ -67,10 +48,8 @@ pub record Turned (old : WorldBooks) (step : Step) (reply : Reply) (new : WorldB
   pub on_kept : asks_shard step ≡ false → WorldStep partials (world_of old.shards old.books) step reply (world_of new.shards new.books)
   -- over any stores: what it makes of the sinks
   pub sinks : SinkStep old.books step reply new.books
-  -- over any stores: what becomes of the shards and their stores
-  pub stores : ShardsTurn old.shards step reply new.shards
-  -- over any stores: what a step that asks a shard makes of the books
-  pub histories : HistoriesTurn old.books step reply new.books
+  -- over any stores: what becomes of the shards, of their stores, and of the books for which they are asked
+  pub stores : ShardsTurn old step reply new
   -- over honest stores: a step by LogQL from scratch, on any lists that may have been shown
   pub from_scratch : AreHonest old.shards → (shown : WorldState (List Entry)) → Stands (world_of old.shards old.books) shown → (after : WorldState (List Entry)) × Stands (world_of new.shards new.books) after × WorldStep lists shown step reply after
 

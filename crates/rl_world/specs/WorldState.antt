@@ -34,6 +34,9 @@ pub record WorldBooks : Type 0 where
   pub shards : List ShardView
   pub books : List BookState
 
+abbrev pub seen_as : List ShardView → List BookState → WorldBooks
+seen_as shards books = record { shards = shards; books = books }
+
 -- the world that shards and books make up
 abbrev pub world_of : List ShardView → List BookState → WorldState (List Partial)
 world_of shards books = record { shards = map journalled shards; histories = map (λ book. book.history) books }

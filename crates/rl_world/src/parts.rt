@@ -4,8 +4,8 @@ ghost use Rattle.std.specs.List.{AllByRecursion};
 ghost use Rattle.std.proofs.Props.{props};
 ghost use Rattle.rl_world.specs.Closed.{BooksClosed};
 ghost use Rattle.rl_world.specs.ShardsTurn.{AreHonest, ShardsTurn};
-ghost use Rattle.rl_world.specs.WorldRun.{HistoriesTurn, SinkStep};
-ghost use Rattle.rl_world.specs.WorldState.{IsBookOf, with_sinks_closed, world_of};
+ghost use Rattle.rl_world.specs.WorldRun.{SinkStep};
+ghost use Rattle.rl_world.specs.WorldState.{IsBookOf, seen_as, with_sinks_closed, world_of};
 ghost use Rattle.rl_world.specs.WorldStep.{WorldStep, IfRefused, IsRefused, asks_shard, partials};
 
 use crate::book::Book;
@@ -29,8 +29,7 @@ impl<D: Store, S: Sink> WorldParts<D, S> {
         ensures on_kept { asks_shard step ≡ false → WorldStep partials (world_of self.old.shards.items self.old.books.items) step result (world_of self.new.shards.items self.new.books.items) }
         ensures step { AreHonest self.old.shards.items → WorldStep partials (world_of self.old.shards.items self.old.books.items) step result (world_of self.new.shards.items self.new.books.items) }
         ensures sinks { SinkStep self.old.books.items step result self.new.books.items }
-        ensures stores { ShardsTurn self.old.shards.items step result self.new.shards.items }
-        ensures histories { HistoriesTurn self.old.books.items step result self.new.books.items }
+        ensures stores { ShardsTurn (seen_as self.old.shards.items self.old.books.items) step result (seen_as self.new.shards.items self.new.books.items) }
     {
         match step {
             Step::Shard { number, step } => self.shard(number, step),

@@ -11,8 +11,8 @@ ghost use Rattle.rl_shard.specs.declared.step.ShardStep.TheVariants as shard_ste
 ghost use Rattle.rl_world.specs.Kept.{partials_of};
 ghost use Rattle.rl_world.specs.ShardsTurn.{AreHonest, Decides, ShardsTurn};
 ghost use Rattle.rl_world.specs.ShardAnswers.{AreOfOneShard};
-ghost use Rattle.rl_world.specs.WorldRun.{HistoriesTurn, SinkStep};
-ghost use Rattle.rl_world.specs.WorldState.{world_of};
+ghost use Rattle.rl_world.specs.WorldRun.{SinkStep};
+ghost use Rattle.rl_world.specs.WorldState.{seen_as, world_of};
 ghost use Rattle.rl_world.specs.WorldStep.{WorldStep, IfRefused, IsRefused, partials, refusal_of_shard, refusal_of_book};
 ghost use Rattle.rl_world.specs.declared.step.Step.TheVariants as steps;
 
@@ -34,8 +34,7 @@ impl<D: Store, S: Sink> WorldParts<D, S> {
         ensures refused { IfRefused result (λ refusal. IsRefused (world_of self.old.shards.items self.old.books.items) (steps.Shard number step) refusal (world_of self.new.shards.items self.new.books.items)) }
         ensures step { AreHonest self.old.shards.items → WorldStep partials (world_of self.old.shards.items self.old.books.items) (steps.Shard number step) result (world_of self.new.shards.items self.new.books.items) }
         ensures sinks { SinkStep self.old.books.items (steps.Shard number step) result self.new.books.items }
-        ensures stores { ShardsTurn self.old.shards.items (steps.Shard number step) result self.new.shards.items }
-        ensures histories { HistoriesTurn self.old.books.items (steps.Shard number step) result self.new.books.items }
+        ensures stores { ShardsTurn (seen_as self.old.shards.items self.old.books.items) (steps.Shard number step) result (seen_as self.new.shards.items self.new.books.items) }
     {
         if number >= self.shards.len() {
             return Reply::Refused(Refusal::NoSuch);
@@ -87,8 +86,7 @@ impl<D: Store, S: Sink> WorldParts<D, S> {
         ensures refused { IfRefused result (λ refusal. IsRefused (world_of self.old.shards.items self.old.books.items) (steps.Gather group number) refusal (world_of self.new.shards.items self.new.books.items)) }
         ensures step { AreHonest self.old.shards.items → WorldStep partials (world_of self.old.shards.items self.old.books.items) (steps.Gather group number) result (world_of self.new.shards.items self.new.books.items) }
         ensures sinks { SinkStep self.old.books.items (steps.Gather group number) result self.new.books.items }
-        ensures stores { ShardsTurn self.old.shards.items (steps.Gather group number) result self.new.shards.items }
-        ensures histories { HistoriesTurn self.old.books.items (steps.Gather group number) result self.new.books.items }
+        ensures stores { ShardsTurn (seen_as self.old.shards.items self.old.books.items) (steps.Gather group number) result (seen_as self.new.shards.items self.new.books.items) }
     {
         if group >= self.books.len() || number >= self.shards.len() {
             return Reply::Refused(Refusal::NoSuch);

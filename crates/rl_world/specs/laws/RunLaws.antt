@@ -31,7 +31,7 @@ pub ran_replays : (old : WorldBooks) (steps : List Step) (replies : List Reply) 
 ran_replays old [] [] new honest run shown stands = (shown, ap (λ (world : WorldBooks). world_of world.shards world.books) run ∙ stands, refl)
 ran_replays old (step ∷ steps) (reply ∷ replies) new honest run shown stands =
     let first = run.1.from_scratch honest shown stands in
-    let rest = ran_replays run.0 steps replies new (still_honest old.shards step reply run.0.shards run.1.stores honest) run.2 first.0 first.1 in
+    let rest = ran_replays run.0 steps replies new (still_honest old step reply run.0 run.1.stores honest) run.2 first.0 first.1 in
     (rest.0, rest.1, (first.0, first.2, rest.2))
 ran_replays old [] (reply ∷ replies) new honest run shown stands = absurd run
 ran_replays old (step ∷ steps) [] new honest run shown stands = absurd run

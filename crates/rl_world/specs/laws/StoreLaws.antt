@@ -8,7 +8,8 @@ use Rattle.rl_shard.specs.ShardFault.{HasCause, IsHonest}
 use Rattle.rl_shard.specs.ShardState.{ShardView}
 use Rattle.rl_shard.specs.declared.step.ShardFault.{ShardFault}
 use Rattle.rl_shard.specs.declared.step.ShardFault.TheVariants as shard_faults
-use Rattle.rl_world.specs.ShardsTurn.{AreHonest, CollectDecides, CollectFaults, Decides, Faults, IsAsked, ShardsTurn}
+use Rattle.rl_shard.specs.declared.step.ShardReply.TheVariants as shard_replies
+use Rattle.rl_world.specs.ShardsTurn.{AreHonest, Decides, Faults, IsAsked, ShardsTurn, collect_for}
 use Rattle.rl_world.specs.Stores.{StoreFollows, StoresFollow, asks, is_reported, is_damage_reply, is_fault_reply, is_spent_reply, was_reported}
 use Rattle.rl_world.specs.WorldRun.{Ran}
 use Rattle.rl_world.specs.WorldState.{WorldBooks}
@@ -71,14 +72,14 @@ asked_honest : (old : List ShardView) (number : ℕ) (new : List ShardView) (bec
 asked_honest old number new becomes asked all = subst AreHonest (sym asked.now) (honest_set old number asked.before asked.after asked.there asked.stored.honest all)
 
 -- honest stores stay honest
-pub still_honest : (old : List ShardView) (step : Step) (reply : Reply) (new : List ShardView) → ShardsTurn old step reply new → AreHonest old → AreHonest new
-still_honest old (steps.Shard number step) (replies.Decided place reply) new asked all = asked_honest old number new (Decides place step reply) asked all
+pub still_honest : (old : WorldBooks) (step : Step) (reply : Reply) (new : WorldBooks) → ShardsTurn old step reply new → AreHonest old.shards → AreHonest new.shards
+still_honest old (steps.Shard number step) (replies.Decided place reply) new turn all = asked_honest old.shards number new.shards (Decides place step reply) turn.0 all
 still_honest old (steps.Shard number step) (replies.Refused refusal) new (inl unasked) all = subst AreHonest (sym unasked.1) all
-still_honest old (steps.Shard number step) (replies.Refused refusal) new (inr asked) all = asked_honest old number new (Faults step refusal) asked all
+still_honest old (steps.Shard number step) (replies.Refused refusal) new (inr met) all = asked_honest old.shards number new.shards (Faults step refusal) met.0 all
 still_honest old (steps.Shard number step) other new turn all = absurd turn
-still_honest old (steps.Gather group number) (replies.Gathered place) new asked all = asked_honest old number new (CollectDecides group place) asked all
+still_honest old (steps.Gather group number) (replies.Gathered place) new turn all = asked_honest old.shards number new.shards (Decides place (collect_for group turn.asked.book turn.asked.opened) (shard_replies.Collected turn.partials)) turn.decided all
 still_honest old (steps.Gather group number) (replies.Refused refusal) new (inl unasked) all = subst AreHonest (sym unasked.1) all
-still_honest old (steps.Gather group number) (replies.Refused refusal) new (inr asked) all = asked_honest old number new (CollectFaults group refusal) asked all
+still_honest old (steps.Gather group number) (replies.Refused refusal) new (inr turn) all = asked_honest old.shards number new.shards (Faults (collect_for group turn.asked.book turn.asked.opened) refusal) turn.met all
 still_honest old (steps.Gather group number) other new turn all = absurd turn
 still_honest old step reply new same all = subst AreHonest (sym same) all
 
@@ -142,16 +143,22 @@ silent reply before after fault spent damage = record { fault = λ h. absurd (no
 faults_reported : {step : _} (refusal : Refusal) (before after : ShardView) → Faults step refusal before after → Reports (replies.Refused refusal) before after
 faults_reported refusal before after met = subst (λ r. Reports (replies.Refused r) before after) (sym met.reported) (cause_reported met.fault before after met.cause.2)
 
-turn_stores : (old : List ShardView) (step : Step) (reply : Reply) (new : List ShardView) (number : ℕ) (before : ShardView) → ShardsTurn old step reply new → slice_get old number ≡ Some before → StoreTurn number step reply before new
-turn_stores old (steps.Shard shard step) (replies.Decided place reply) new number before asked there = store_asked number shard (steps.Shard shard step) (replies.Decided place reply) before old new (Decides place step reply) refl there asked (silent (replies.Decided place reply) asked.before asked.after refl refl refl)
-turn_stores old (steps.Shard shard step) (replies.Refused refusal) new number before (inl unasked) there = store_kept number (steps.Shard shard step) (replies.Refused refusal) before new (ap (λ l. slice_get l number) unasked.1 ∙ there) (λ h. unreported refusal before before unasked.0)
-turn_stores old (steps.Shard shard step) (replies.Refused refusal) new number before (inr asked) there = store_asked number shard (steps.Shard shard step) (replies.Refused refusal) before old new (Faults step refusal) refl there asked (faults_reported refusal asked.before asked.after asked.as_said)
+turn_stores : (old : WorldBooks) (step : Step) (reply : Reply) (new : WorldBooks) (number : ℕ) (before : ShardView) → ShardsTurn old step reply new → slice_get old.shards number ≡ Some before → StoreTurn number step reply before new.shards
+turn_stores old (steps.Shard shard step) (replies.Decided place reply) new number before turn there =
+    store_asked number shard (steps.Shard shard step) (replies.Decided place reply) before old.shards new.shards (Decides place step reply) refl there turn.0 (silent (replies.Decided place reply) turn.0.before turn.0.after refl refl refl)
+turn_stores old (steps.Shard shard step) (replies.Refused refusal) new number before (inl unasked) there =
+    store_kept number (steps.Shard shard step) (replies.Refused refusal) before new.shards (ap (λ l. slice_get l number) unasked.1 ∙ there) (λ h. unreported refusal before before unasked.0)
+turn_stores old (steps.Shard shard step) (replies.Refused refusal) new number before (inr met) there =
+    store_asked number shard (steps.Shard shard step) (replies.Refused refusal) before old.shards new.shards (Faults step refusal) refl there met.0 (faults_reported refusal met.0.before met.0.after met.0.as_said)
 turn_stores old (steps.Shard shard step) other new number before turn there = absurd turn
-turn_stores old (steps.Gather group shard) (replies.Gathered place) new number before asked there = store_asked number shard (steps.Gather group shard) (replies.Gathered place) before old new (CollectDecides group place) refl there asked (silent (replies.Gathered place) asked.before asked.after refl refl refl)
-turn_stores old (steps.Gather group shard) (replies.Refused refusal) new number before (inl unasked) there = store_kept number (steps.Gather group shard) (replies.Refused refusal) before new (ap (λ l. slice_get l number) unasked.1 ∙ there) (λ h. unreported refusal before before unasked.0)
-turn_stores old (steps.Gather group shard) (replies.Refused refusal) new number before (inr asked) there = store_asked number shard (steps.Gather group shard) (replies.Refused refusal) before old new (CollectFaults group refusal) refl there asked (faults_reported refusal asked.before asked.after asked.as_said.faults)
+turn_stores old (steps.Gather group shard) (replies.Gathered place) new number before turn there =
+    store_asked number shard (steps.Gather group shard) (replies.Gathered place) before old.shards new.shards (Decides place (collect_for group turn.asked.book turn.asked.opened) (shard_replies.Collected turn.partials)) refl there turn.decided (silent (replies.Gathered place) turn.decided.before turn.decided.after refl refl refl)
+turn_stores old (steps.Gather group shard) (replies.Refused refusal) new number before (inl unasked) there =
+    store_kept number (steps.Gather group shard) (replies.Refused refusal) before new.shards (ap (λ l. slice_get l number) unasked.1 ∙ there) (λ h. unreported refusal before before unasked.0)
+turn_stores old (steps.Gather group shard) (replies.Refused refusal) new number before (inr turn) there =
+    store_asked number shard (steps.Gather group shard) (replies.Refused refusal) before old.shards new.shards (Faults (collect_for group turn.asked.book turn.asked.opened) refusal) refl there turn.met (faults_reported refusal turn.met.before turn.met.after turn.met.as_said)
 turn_stores old (steps.Gather group shard) other new number before turn there = absurd turn
-turn_stores old step reply new number before same there = store_kept number step reply before new (ap (λ l. slice_get l number) same ∙ there) (λ h. absurd (true_false (sym h)))
+turn_stores old step reply new number before same there = store_kept number step reply before new.shards (ap (λ l. slice_get l number) same ∙ there) (λ h. absurd (true_false (sym h)))
 
 -- what turns make of the store of one shard
 record FollowsOn (number : ℕ) (turns : List (Step × Reply)) (before : ShardView) (shards : List ShardView) : Type 0 where
@@ -207,7 +214,7 @@ one_more number step reply turns before mids news first rest = record {
 run_stores : (old : WorldBooks) (steps : List Step) (replies : List Reply) (new : WorldBooks) (number : ℕ) (before : ShardView) → Ran old steps replies new → slice_get old.shards number ≡ Some before → FollowsOn number (zip steps replies) before new.shards
 run_stores old [] [] new number before run there = no_turn number before new.shards (ap (λ (world : WorldBooks). slice_get world.shards number) run ∙ there)
 run_stores old (step ∷ steps) (reply ∷ replies) new number before run there =
-    let first = turn_stores old.shards step reply run.0.shards number before run.1.stores there in
+    let first = turn_stores old step reply run.0 number before run.1.stores there in
     one_more number step reply (zip steps replies) before run.0.shards new.shards first (run_stores run.0 steps replies new number first.after run.2 first.there)
 run_stores old [] (reply ∷ replies) new number before run there = absurd run
 run_stores old (step ∷ steps) [] new number before run there = absurd run

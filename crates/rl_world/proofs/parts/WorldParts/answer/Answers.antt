@@ -2,7 +2,7 @@
 use Rattle.std.proofs.Common.{refl}
 use Rattle.rl_world.specs.WorldState.{WorldBooks}
 use Rattle.rl_world.specs.declared.step.Step.TheVariants as steps
-use Rattle.rl_world.proofs.Answering.{asked_refused, asked_kept, asked_step, asked_stores, asked_histories, free_refused, free_kept, free_step, free_stores, free_histories}
+use Rattle.rl_world.proofs.Answering.{asked_refused, asked_kept, asked_step, asked_stores, free_refused, free_kept, free_step, free_stores}
 use Rattle.rl_world.proofs.parts.WorldParts.answer.Goals as goal
 
 pub returns-in-Shard-clause-refused : goal.returns-in-Shard-clause-refused
@@ -29,12 +29,6 @@ returns-in-Shard-clause-stores g c =
     let new : WorldBooks = record { shards = c.shard.new.self.shards.items; books = c.shard.new.self.books.items } in
     asked_stores old new c.args.step (steps.Shard c.in-Shard.number c.in-Shard.step) c.shard.result c.in-Shard.is c.shard.ensures.stores
 
-pub returns-in-Shard-clause-histories : goal.returns-in-Shard-clause-histories
-returns-in-Shard-clause-histories g c =
-    let old : WorldBooks = record { shards = c.args.self.now.shards.items; books = c.args.self.now.books.items } in
-    let new : WorldBooks = record { shards = c.shard.new.self.shards.items; books = c.shard.new.self.books.items } in
-    asked_histories old new c.args.step (steps.Shard c.in-Shard.number c.in-Shard.step) c.shard.result c.in-Shard.is c.shard.ensures.histories
-
 pub returns-in-Edit-clause-refused : goal.returns-in-Edit-clause-refused
 returns-in-Edit-clause-refused g c =
     let old : WorldBooks = record { shards = c.args.self.now.shards.items; books = c.args.self.now.books.items } in
@@ -58,12 +52,6 @@ returns-in-Edit-clause-stores g c =
     let old : WorldBooks = record { shards = c.args.self.now.shards.items; books = c.args.self.now.books.items } in
     let new : WorldBooks = record { shards = c.edit.new.self.shards.items; books = c.edit.new.self.books.items } in
     free_stores old new c.args.step (steps.Edit c.in-Edit.group c.in-Edit.to) c.edit.result c.in-Edit.is refl c.edit.ensures.shards
-
-pub returns-in-Edit-clause-histories : goal.returns-in-Edit-clause-histories
-returns-in-Edit-clause-histories g c =
-    let old : WorldBooks = record { shards = c.args.self.now.shards.items; books = c.args.self.now.books.items } in
-    let new : WorldBooks = record { shards = c.edit.new.self.shards.items; books = c.edit.new.self.books.items } in
-    free_histories old new c.args.step (steps.Edit c.in-Edit.group c.in-Edit.to) c.edit.result c.in-Edit.is refl
 
 pub returns-in-Begin-clause-refused : goal.returns-in-Begin-clause-refused
 returns-in-Begin-clause-refused g c =
@@ -89,12 +77,6 @@ returns-in-Begin-clause-stores g c =
     let new : WorldBooks = record { shards = c.begin.new.self.shards.items; books = c.begin.new.self.books.items } in
     free_stores old new c.args.step (steps.Begin c.in-Begin.group c.in-Begin.t) c.begin.result c.in-Begin.is refl c.begin.ensures.shards
 
-pub returns-in-Begin-clause-histories : goal.returns-in-Begin-clause-histories
-returns-in-Begin-clause-histories g c =
-    let old : WorldBooks = record { shards = c.args.self.now.shards.items; books = c.args.self.now.books.items } in
-    let new : WorldBooks = record { shards = c.begin.new.self.shards.items; books = c.begin.new.self.books.items } in
-    free_histories old new c.args.step (steps.Begin c.in-Begin.group c.in-Begin.t) c.begin.result c.in-Begin.is refl
-
 pub returns-in-Gather-clause-refused : goal.returns-in-Gather-clause-refused
 returns-in-Gather-clause-refused g c =
     let old : WorldBooks = record { shards = c.args.self.now.shards.items; books = c.args.self.now.books.items } in
@@ -118,12 +100,6 @@ returns-in-Gather-clause-stores g c =
     let old : WorldBooks = record { shards = c.args.self.now.shards.items; books = c.args.self.now.books.items } in
     let new : WorldBooks = record { shards = c.gather.new.self.shards.items; books = c.gather.new.self.books.items } in
     asked_stores old new c.args.step (steps.Gather c.in-Gather.group c.in-Gather.number) c.gather.result c.in-Gather.is c.gather.ensures.stores
-
-pub returns-in-Gather-clause-histories : goal.returns-in-Gather-clause-histories
-returns-in-Gather-clause-histories g c =
-    let old : WorldBooks = record { shards = c.args.self.now.shards.items; books = c.args.self.now.books.items } in
-    let new : WorldBooks = record { shards = c.gather.new.self.shards.items; books = c.gather.new.self.books.items } in
-    asked_histories old new c.args.step (steps.Gather c.in-Gather.group c.in-Gather.number) c.gather.result c.in-Gather.is c.gather.ensures.histories
 
 pub returns-in-Commit-clause-refused : goal.returns-in-Commit-clause-refused
 returns-in-Commit-clause-refused g c =
@@ -149,12 +125,6 @@ returns-in-Commit-clause-stores g c =
     let new : WorldBooks = record { shards = c.commit.new.self.shards.items; books = c.commit.new.self.books.items } in
     free_stores old new c.args.step (steps.Commit c.in-Commit.group) c.commit.result c.in-Commit.is refl c.commit.ensures.shards
 
-pub returns-in-Commit-clause-histories : goal.returns-in-Commit-clause-histories
-returns-in-Commit-clause-histories g c =
-    let old : WorldBooks = record { shards = c.args.self.now.shards.items; books = c.args.self.now.books.items } in
-    let new : WorldBooks = record { shards = c.commit.new.self.shards.items; books = c.commit.new.self.books.items } in
-    free_histories old new c.args.step (steps.Commit c.in-Commit.group) c.commit.result c.in-Commit.is refl
-
 pub returns-in-Abandon-clause-refused : goal.returns-in-Abandon-clause-refused
 returns-in-Abandon-clause-refused g c =
     let old : WorldBooks = record { shards = c.args.self.now.shards.items; books = c.args.self.now.books.items } in
@@ -179,12 +149,6 @@ returns-in-Abandon-clause-stores g c =
     let new : WorldBooks = record { shards = c.abandon.new.self.shards.items; books = c.abandon.new.self.books.items } in
     free_stores old new c.args.step (steps.Abandon c.in-Abandon.group) c.abandon.result c.in-Abandon.is refl c.abandon.ensures.shards
 
-pub returns-in-Abandon-clause-histories : goal.returns-in-Abandon-clause-histories
-returns-in-Abandon-clause-histories g c =
-    let old : WorldBooks = record { shards = c.args.self.now.shards.items; books = c.args.self.now.books.items } in
-    let new : WorldBooks = record { shards = c.abandon.new.self.shards.items; books = c.abandon.new.self.books.items } in
-    free_histories old new c.args.step (steps.Abandon c.in-Abandon.group) c.abandon.result c.in-Abandon.is refl
-
 pub returns-in-CatchUp-clause-refused : goal.returns-in-CatchUp-clause-refused
 returns-in-CatchUp-clause-refused g c =
     let old : WorldBooks = record { shards = c.args.self.now.shards.items; books = c.args.self.now.books.items } in
@@ -208,9 +172,3 @@ returns-in-CatchUp-clause-stores g c =
     let old : WorldBooks = record { shards = c.args.self.now.shards.items; books = c.args.self.now.books.items } in
     let new : WorldBooks = record { shards = c.catch_up.new.self.shards.items; books = c.catch_up.new.self.books.items } in
     free_stores old new c.args.step (steps.CatchUp c.in-CatchUp.group) c.catch_up.result c.in-CatchUp.is refl c.catch_up.ensures.shards
-
-pub returns-in-CatchUp-clause-histories : goal.returns-in-CatchUp-clause-histories
-returns-in-CatchUp-clause-histories g c =
-    let old : WorldBooks = record { shards = c.args.self.now.shards.items; books = c.args.self.now.books.items } in
-    let new : WorldBooks = record { shards = c.catch_up.new.self.shards.items; books = c.catch_up.new.self.books.items } in
-    free_histories old new c.args.step (steps.CatchUp c.in-CatchUp.group) c.catch_up.result c.in-CatchUp.is refl

@@ -4,12 +4,11 @@ use Rattle.std.proofs.lemmas.Option.{slice_get_read}
 use Rattle.rl_shard.specs.ShardFault.{IsHonest}
 use Rattle.rl_shard.specs.ShardState.{journalled}
 use Rattle.rl_shard.specs.ShardStep.{is_journal_full}
-use Rattle.rl_shard.specs.declared.step.ShardReply.TheVariants as shard_replies
 use Rattle.rl_world.specs.BookCalls.{with_history}
 use Rattle.rl_world.specs.History.{gather_fault, gathered}
 use Rattle.rl_world.specs.WorldRun.{offers}
 use Rattle.rl_world.specs.WorldState.{BookState, IsBookOf}
-use Rattle.rl_world.proofs.Gathering.{book_shown, fits_put, fits_both, gather_refused, gather_turn, same_read, stores_gathered, stores_not_gathered}
+use Rattle.rl_world.proofs.Gathering.{fits_put, fits_both, gather_refused, gather_turn, same_read, stores_gathered, stores_not_gathered}
 use Rattle.rl_world.proofs.Turning.{each_at, refused_ok, offers_same}
 use Rattle.rl_world.proofs.parts.WorldParts.gather.Goals as goal
 
@@ -37,7 +36,11 @@ returns-in-Err-ask-clause-stores g c =
     let shard = c.index_mut.result.now in
     let there = slice_get_read books c.len.result c.args.group book (omega (arith, c.len.ensures, c.args.self.now.books.ok.0)) c.if-group-len.false c.index-book.ensures in
     let shard_there = slice_get_read shards c.len-else-group-len.result c.args.number shard (omega (arith, c.len-else-group-len.ensures, c.args.self.now.shards.ok.0)) c.if-number-len.false c.index_mut.ensures.value in
-    stores_not_gathered shards books c.args.group c.args.number book shard there shard_there c.ask.new.shard c.in-Ok.t c.in-Ok-try_copy.terms c.in-Err-ask.fault c.refusal_of_shard.result c.ask.ensures.stored c.ask.ensures.numbers c.in-Err-ask.ensures.may_come c.in-Err-ask.ensures.grown c.in-Err-ask.ensures.kept c.refusal_of_shard.ensures
+    let free : gather_fault book.history c.args.number ≡ None = refused_ok (gather_fault book.history c.args.number) c.in-Ok.t c.in-Ok.ensures.answer in
+    let first = slice_get_read shards c.len-else-group-len.result c.args.number c.index.result.now (omega (arith, c.len-else-group-len.ensures, c.args.self.now.shards.ok.0)) c.if-number-len.false c.index.ensures in
+    let room = ap (λ s. is_journal_full (journalled s)) (same_read shards c.args.number shard c.index.result.now shard_there first) ∙ sym c.is_journal_full.ensures ∙ c.if-is_journal_full.false in
+    stores_not_gathered shards books c.args.group c.args.number book shard there shard_there c.ask.new.shard c.in-Ok.t c.in-Ok-try_copy.terms c.in-Err-ask.fault c.refusal_of_shard.result free room c.in-Ok.ensures.moment (c.in-Ok-try_copy.ensures ∙ c.terms.ensures) c.ask.ensures.stored c.ask.ensures.numbers c.in-Err-ask.ensures.may_come c.in-Err-ask.ensures.grown
+    c.in-Err-ask.ensures.kept c.refusal_of_shard.ensures
 
 pub invariant_of-self-2 : goal.invariant_of-self-2
 invariant_of-self-2 g c =
@@ -74,20 +77,13 @@ returns-in-Ok-put_partials-clause-stores g c =
     let shard = c.index_mut.result.now in
     let there = slice_get_read books c.len.result c.args.group book (omega (arith, c.len.ensures, c.args.self.now.books.ok.0)) c.if-group-len.false c.index-book.ensures in
     let shard_there = slice_get_read shards c.len-else-group-len.result c.args.number shard (omega (arith, c.len-else-group-len.ensures, c.args.self.now.shards.ok.0)) c.if-number-len.false c.index_mut.ensures.value in
-    stores_gathered shards books c.args.group c.args.number book shard there shard_there c.ask.new.shard c.in-Ok.t c.in-Ok-ask.answer.0 c.in-Ok-try_copy.terms (shard_replies.Collected c.in-Ok-ask.answer.1) c.ask.ensures.stored c.ask.ensures.numbers c.in-Ok-ask.ensures.decides
-
-pub returns-in-Ok-put_partials-clause-histories : goal.returns-in-Ok-put_partials-clause-histories
-returns-in-Ok-put_partials-clause-histories g c =
-    let shards = c.args.self.now.shards.items in
-    let books = c.args.self.now.books.items in
-    let book = c.index-book.result.now in
-    let shard = c.index_mut.result.now in
-    let there = slice_get_read books c.len.result c.args.group book (omega (arith, c.len.ensures, c.args.self.now.books.ok.0)) c.if-group-len.false c.index-book.ensures in
-    let shard_there = slice_get_read shards c.len-else-group-len.result c.args.number shard (omega (arith, c.len-else-group-len.ensures, c.args.self.now.shards.ok.0)) c.if-number-len.false c.index_mut.ensures.value in
+    let free : gather_fault book.history c.args.number ≡ None = refused_ok (gather_fault book.history c.args.number) c.in-Ok.t c.in-Ok.ensures.answer in
+    let first = slice_get_read shards c.len-else-group-len.result c.args.number c.index.result.now (omega (arith, c.len-else-group-len.ensures, c.args.self.now.shards.ok.0)) c.if-number-len.false c.index.ensures in
+    let room = ap (λ s. is_journal_full (journalled s)) (same_read shards c.args.number shard c.index.result.now shard_there first) ∙ sym c.is_journal_full.ensures ∙ c.if-is_journal_full.false in
     let again = slice_get_read books c.len.result c.args.group c.index_mut-book.result.now (omega (arith, c.len.ensures, c.args.self.now.books.ok.0)) c.if-group-len.false c.index_mut-book.ensures.value in
     let one = same_read books c.args.group c.index_mut-book.result.now book again there in
     let put = subst (λ (b : BookState). c.put_partials.new.self ≡ with_history b (gathered b.history c.args.number c.in-Ok-ask.answer.0 c.in-Ok-ask.answer.1)) one c.in-Ok-put_partials.ensures.ok in
-    book_shown shards books c.args.group c.args.number book shard there shard_there c.put_partials.new.self c.in-Ok.t c.in-Ok-ask.answer.0 c.in-Ok-ask.answer.1 c.in-Ok.ensures.moment put
+    stores_gathered shards books c.args.group c.args.number book shard there shard_there c.ask.new.shard c.put_partials.new.self c.in-Ok.t c.in-Ok-ask.answer.0 c.in-Ok-try_copy.terms c.in-Ok-ask.answer.1 free room c.in-Ok.ensures.moment (c.in-Ok-try_copy.ensures ∙ c.terms.ensures) c.ask.ensures.stored c.ask.ensures.numbers c.in-Ok-ask.ensures.decides put
 
 pub returns-in-Ok-put_partials-clause-sinks : goal.returns-in-Ok-put_partials-clause-sinks
 returns-in-Ok-put_partials-clause-sinks g c =

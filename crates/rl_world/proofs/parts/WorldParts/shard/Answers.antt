@@ -20,7 +20,7 @@ pub returns-in-Ok-clause-stores : goal.returns-in-Ok-clause-stores
 returns-in-Ok-clause-stores g c =
     let shards = c.args.self.now.shards.items in
     let there = slice_get_read shards c.len.result c.args.number c.index_mut-shard.result.now (omega (arith, c.len.ensures, c.args.self.now.shards.ok.0)) (grind (arith, nat_tests, c.if-number-len.false)) c.index_mut-shard.ensures.value in
-    stores_decided shards c.args.number c.in-Ok.place c.args.step c.in-Ok.reply c.index_mut-shard.result.now c.apply.new.self there c.apply.ensures.stored c.apply.ensures.numbers c.in-Ok.ensures.place c.in-Ok.ensures.record.0 c.in-Ok.ensures.record.1 c.in-Ok.ensures.answered c.in-Ok.ensures.done c.in-Ok.ensures.read
+    stores_decided shards c.args.self.now.books.items c.args.number c.in-Ok.place c.args.step c.in-Ok.reply c.index_mut-shard.result.now c.apply.new.self there c.apply.ensures.stored c.apply.ensures.numbers c.in-Ok.ensures.place c.in-Ok.ensures.record.0 c.in-Ok.ensures.record.1 c.in-Ok.ensures.answered c.in-Ok.ensures.done c.in-Ok.ensures.read
 
 pub returns-in-Err-clause-refused : goal.returns-in-Err-clause-refused
 returns-in-Err-clause-refused g c =
@@ -35,4 +35,4 @@ pub returns-in-Err-clause-stores : goal.returns-in-Err-clause-stores
 returns-in-Err-clause-stores g c =
     let shards = c.args.self.now.shards.items in
     let there = slice_get_read shards c.len.result c.args.number c.index_mut-shard.result.now (omega (arith, c.len.ensures, c.args.self.now.shards.ok.0)) (grind (arith, nat_tests, c.if-number-len.false)) c.index_mut-shard.ensures.value in
-    stores_faulted shards c.args.number c.args.step c.index_mut-shard.result.now c.apply.new.self c.in-Err.fault c.refusal_of_shard.result there c.apply.ensures.stored c.apply.ensures.numbers c.in-Err.ensures.may_come c.in-Err.ensures.grown c.in-Err.ensures.kept c.refusal_of_shard.ensures
+    stores_faulted shards c.args.self.now.books.items c.args.number c.args.step c.index_mut-shard.result.now c.apply.new.self c.in-Err.fault c.refusal_of_shard.result there c.apply.ensures.stored c.apply.ensures.numbers c.in-Err.ensures.may_come c.in-Err.ensures.grown c.in-Err.ensures.kept c.refusal_of_shard.ensures

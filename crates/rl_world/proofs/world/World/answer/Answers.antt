@@ -9,7 +9,7 @@ pub returns-clause-turned : goal.returns-clause-turned
 returns-clause-turned g c =
     let old : WorldBooks = record { shards = c.self.inside.parts.shards.items; books = c.self.inside.parts.books.items } in
     let new : WorldBooks = record { shards = c.answer.new.self.shards.items; books = c.answer.new.self.books.items } in
-    subst (λ world. Turned world c.args.step c.answer.result new) c.self.view_is (turned old c.args.step c.answer.result new c.answer.ensures.refused c.answer.ensures.on_kept c.answer.ensures.step c.answer.ensures.sinks c.answer.ensures.stores c.answer.ensures.histories)
+    subst (λ world. Turned world c.args.step c.answer.result new) c.self.view_is (turned old c.args.step c.answer.result new c.answer.ensures.refused c.answer.ensures.on_kept c.answer.ensures.step c.answer.ensures.sinks c.answer.ensures.stores)
 
 pub returns-clause-prefixes : goal.returns-clause-prefixes
 returns-clause-prefixes g c = each_prefix (length c.answer.new.self.shards.items) c.answer.new.self.books.items c.answer.new.self.books_fit

@@ -18,7 +18,7 @@ loop-step-preserved g c =
       capacity = omega (arith, kept.capacity, c.push_reserved.ensures.capacity);
       room = omega (arith, kept.room, ap length next, c.push_reserved.ensures.len, c.push_reserved.ensures.capacity);
       so_far = run_next c.args.self.now c.args.out.now.items loop.yielded mid loop.out.items c.in-Some.step c.answer-reply.result new c.push_reserved.new.self.items
-          kept.so_far (turned mid c.in-Some.step c.answer-reply.result new c.answer-reply.ensures.refused c.answer-reply.ensures.on_kept c.answer-reply.ensures.step c.answer-reply.ensures.sinks c.answer-reply.ensures.stores c.answer-reply.ensures.histories) c.push_reserved.ensures.items;
+          kept.so_far (turned mid c.in-Some.step c.answer-reply.result new c.answer-reply.ensures.refused c.answer-reply.ensures.on_kept c.answer-reply.ensures.step c.answer-reply.ensures.sinks c.answer-reply.ensures.stores) c.push_reserved.ensures.items;
     }
 
 pub returns-clause-turns : goal.returns-clause-turns
