@@ -127,7 +127,7 @@ pub record IsEvaluated (old : WorldBooks) (group t : ℕ) (answer : Result Commi
   pub begun : Result ⊤ Refusal
   pub mid : WorldBooks
   pub begins : IsBegun old group t begun mid
-  pub behind : IfDoneThen begun mid (IsClosedOff mid group) answer new
+  pub following : IfDoneThen begun mid (IsClosedOff mid group) answer new
   pub of_group : IfOk answer (λ committed. name_at old group ≡ Some committed.evaluation.group)
 
 -- a catch-up is a step
