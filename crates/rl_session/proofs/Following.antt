@@ -7,7 +7,6 @@ use Rattle.rl_labels.specs.Name.{is_text}
 use Rattle.rl_aggregate.specs.declared.partial.Partial.{Partial}
 use Rattle.rl_rules.specs.declared.evaluation.Evaluation.{Evaluation}
 use Rattle.rl_rules.specs.declared.rule.Group.{Group}
-use Rattle.rl_shard.specs.ShardState.{ShardView}
 use Rattle.rl_world.specs.BookCalls.{with_history}
 use Rattle.rl_world.specs.History.{History, begun, gathered, with_shown, committed, edited, abandoned, edit_fault, abandon_fault}
 use Rattle.rl_world.specs.ShardsTurn.{ShardsTurn}
