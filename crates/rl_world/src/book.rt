@@ -351,6 +351,20 @@ impl<S: Sink> Book<S> {
         Some(evaluation.get())
     }
 
+    /// How many evaluations were committed.
+    pub fn evaluations(&self) -> u64
+        ensures { result ≡ length self.now.history.evaluations }
+    {
+        self.evaluations.len() as u64
+    }
+
+    /// How many sinks it has.
+    pub fn sinks(&self) -> usize
+        ensures { result ≡ length self.now.sinks }
+    {
+        self.sinks.len()
+    }
+
     /// How many texts a sink has taken, if there is such a sink.
     pub fn sink_count(&self, sink: usize) -> Option<u64>
         ensures count { result ≡ option_map (λ sink. sink.count) (slice_get self.now.sinks sink) }
