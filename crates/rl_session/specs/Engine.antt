@@ -45,6 +45,20 @@ pub record Calls (E : Type 0) : Type 1 where
   -- its sinks are closed: how many of them could not write all
   pub closes : E → Result ℕ Refusal → E → Type 0
 
+-- each call is one of the engine below
+abbrev pub calls_below : {E S : Type 0} → (S → E) → Calls E → Calls S
+calls_below below calls = record {
+  groups = λ s. calls.groups (below s);
+  pushes = λ old entry answer new. calls.pushes (below old) entry answer (below new);
+  asks_all = λ old step result new. calls.asks_all (below old) step result (below new);
+  edits = λ old group to result new. calls.edits (below old) group to result (below new);
+  evaluates = λ old group t answer new. calls.evaluates (below old) group t answer (below new);
+  catches_up = λ old group result new. calls.catches_up (below old) group result (below new);
+  is_due = λ s group now due. calls.is_due (below s) group now due;
+  shows = λ s group sink shown. calls.shows (below s) group sink shown;
+  closes = λ old result new. calls.closes (below old) result (below new);
+}
+
 -- the number of the first group with a name, if there is one
 abbrev pub number_named : List ℕ → List Listed → Option ℕ
 number_named name [] = None

@@ -1,7 +1,8 @@
 //! Sessions: rules, a mark and commands as they are read, and what the commands print.
 //!
 //! - `front`: `read_front`, what stands before the mark and after it. `push`: `PushReader` and `read_push`, entries from JSON.
-//! - `engine`: `Engine`, what evaluates the groups. `world_engine`: `WorldEngine`, a world on one thread.
+//! - `engine`: `Engine`, what evaluates the groups. `world_engine`: `WorldEngine`, a world on one thread. `pumping`: `Pumping`, an
+//!   engine whose sinks catch up after each evaluation.
 //! - `command`: `Command`, one line. `edit`: the group of an edit. `asking`: what commands ask of an engine, and their results.
 //! - `output`: what is printed of that. `session`: `Session`, many lines.
 //! - `names`: the names of faults and refusals.
@@ -14,6 +15,7 @@ pub mod engine;
 pub mod front;
 pub mod names;
 mod output;
+pub mod pumping;
 pub mod push;
 pub mod session;
 pub mod world_engine;
@@ -21,6 +23,7 @@ pub mod world_engine;
 pub use command::{Command, is_blank, read_command};
 pub use engine::{Engine, Partly};
 pub use front::{Commands, Front, FrontError, FrontFault, read_front};
+pub use pumping::Pumping;
 pub use push::{PushError, PushFault, PushReader, read_push};
 pub use session::{RunError, Session, Status};
 pub use world_engine::WorldEngine;

@@ -74,6 +74,13 @@ impl<D: Store, S: Sink> WorldEngine<D, S> {
         Ok(WorldEngine { world, shards })
     }
 
+    /// Its world, as it is now.
+    pub fn world(&self) -> &World<D, S>
+        ensures { result.now ≡ self.now }
+    {
+        &self.world
+    }
+
     /// The books of its world, for an end that takes nothing apart but the sinks: the shards are let go.
     pub fn into_books(self) -> Vec<Book<S>>
         ensures { result.items ≡ self.books }
