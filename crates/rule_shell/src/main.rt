@@ -1,7 +1,8 @@
 //! The program: rules, a mark and commands from standard input, and what the commands print.
 //!
 //! What a session is stands in `rl_session`; here are the status, the stores and the sinks of the process.
-//! `options` reads its options. `output` is standard output for a sink in a box.
+//! `options` reads its options. `output` is standard output for a sink in a box. `folder` keeps a folder for one run. `counting`,
+//! `tally` and `counted` count what the engine and the stores do, and print it.
 #![tactic(auto)]
 
 ghost use Rattle.std.specs.Prelude.{◌≡◌, ◌≤◌, length, map, IfOk};
@@ -12,24 +13,30 @@ ghost use Rattle.rl_world.specs.ShardAnswers.{most_shards};
 ghost use Rattle.rule_shell.specs.Statuses.{status_number, stop_at};
 ghost use Rattle.rule_shell.specs.declared.Stop.TheVariants.{Failed};
 
+mod counted;
+mod counting;
+mod folder;
 mod options;
 mod output;
+mod tally;
 
-use options::{Options, SinkOptions, read_options};
+use counted::Counted;
+use counting::Counting;
+use folder::{FolderFault, claim_folder, release_folder};
+use options::{Options, Plan, SinkOptions, read_options};
 use output::Output;
 use rl_chunks::{DirStore, MemStore, Store};
-use rl_labels::Limits;
 use rl_plain::PlainText;
 use rl_rules::Group;
 use rl_session::names::front_fault_name;
 use rl_session::{
-    Front, FrontError, FrontFault, RunError, Session, Status, WorldEngine, read_front,
+    Front, FrontError, FrontFault, Pumping, RunError, Session, Status, WorldEngine, read_front,
 };
 use rl_sinks::{Notifier, Recorder, Sink, Tail};
-use rl_world::Book;
+use rl_world::{Book, World};
 use std::alloc::{AllocError, AllocFailed, Global};
 use std::fs;
-use std::io::{BufWriter, Write};
+use std::io::{self, BufWriter, Write};
 use std::process::ExitCode;
 
 // The room for what waits to be written, in bytes: the answer to most commands is written at once. The C library goes through
@@ -40,6 +47,7 @@ const OUTPUT_ROOM: usize = 61_440;
 #[derive(Clone, Copy, Drop)]
 enum Stop {
     BadOptions,
+    BadFolder(FolderFault),
     BadInput(FrontFault),
     // Reading, writing or memory failed.
     Failed,
@@ -73,6 +81,12 @@ fn main(rt: HostRuntime) -> ExitCode {
 fn report_stop(rt: &HostRuntime, stop: Stop) {
     let _ = match stop {
         Stop::BadOptions => eprintln!(rt; "rule_shell: bad options"),
+        Stop::BadFolder(FolderFault::NotEmpty) => eprintln!(rt; "rule_shell: bad folder NotEmpty"),
+        Stop::BadFolder(FolderFault::InUse) => {
+            eprintln!(rt;
+                "rule_shell: bad folder InUse: another run has it, or one was cut off; then remove the folder"
+            )
+        }
         Stop::BadInput(fault) => {
             eprintln!(rt; "rule_shell: bad input {}", front_fault_name(fault))
         }
@@ -87,14 +101,36 @@ fn exit_code(ended: Result<Status, Stop>) -> ExitCode
     ExitCode::from(match ended {
         Ok(Status::Taken) => 0,
         Ok(Status::Refused) => 1,
-        Err(Stop::BadOptions) | Err(Stop::BadInput(_)) => 2,
+        Err(Stop::BadOptions) | Err(Stop::BadFolder(_)) | Err(Stop::BadInput(_)) => 2,
         Ok(Status::Unwritten) | Err(Stop::Failed) => 3,
     })
 }
 
-// Reads the options and the input, and runs the commands.
+// Reads the options and the input, and runs the commands. A folder that has to be new is kept for the run meanwhile.
 fn run(rt: &HostRuntime) -> Result<Status, Stop> {
     let options = read_options(rt)?;
+    match claim(rt, &options)? {
+        Some(lock) => {
+            let ended = run_input(rt, options);
+            release_folder(rt, &lock);
+            ended
+        }
+        None => run_input(rt, options),
+    }
+}
+
+// Takes the folder of the run, if there is one that has to be new.
+fn claim(rt: &HostRuntime, options: &Options) -> Result<Option<PlainText>, Stop> {
+    match &options.store {
+        Some(folder) if options.is_new => Ok(Some(claim_folder(rt, folder.as_str())?)),
+        _ => Ok(None),
+    }
+}
+
+// Reads the input, and runs the commands.
+fn run_input(rt: &HostRuntime, options: Options) -> Result<Status, Stop>
+    requires { (1 ≤ options.shards) × (options.shards ≤ most_shards) }
+{
     let mut reader = rt.reader();
     match read_front(rt.alloc(), &mut reader) {
         Ok(front) => run_front(rt, options, front),
@@ -117,27 +153,27 @@ fn run_front(rt: &HostRuntime, options: Options, front: Front) -> Result<Status,
     requires { (1 ≤ options.shards) × (options.shards ≤ most_shards) }
 {
     let Options {
-        limits,
         shards,
         store,
-        sinks,
+        is_new: _,
+        plan,
     } = options;
     match store {
         Some(folder) => {
             let stores = folder_stores(rt, folder.as_str(), shards)?;
-            run_over(rt, limits, stores, sinks, front)
+            run_over(rt, plan, stores, front)
         }
-        None => run_over(rt, limits, memory_stores(rt.alloc(), shards)?, sinks, front),
+        None => run_over(rt, plan, memory_stores(rt.alloc(), shards)?, front),
     }
 }
 
 // A store in memory for each shard.
-fn memory_stores(alloc: Global, shards: usize) -> Result<Vec<MemStore>, Stop>
+fn memory_stores(alloc: Global, shards: usize) -> Result<Vec<Counted<MemStore>>, Stop>
     ensures { IfOk result (λ stores. length stores.items ≡ shards) }
 {
     let mut stores = Vec::with_capacity(alloc, shards)?;
     for _ in 0..shards {
-        stores.push(MemStore::new(alloc))?;
+        stores.push(Counted::new(MemStore::new(alloc)))?;
     }
     Ok(stores)
 }
@@ -147,13 +183,13 @@ fn folder_stores(
     rt: &HostRuntime,
     folder: &str,
     shards: usize,
-) -> Result<Vec<DirStore<HostRuntime>>, Stop>
+) -> Result<Vec<Counted<DirStore<HostRuntime>>>, Stop>
     ensures { IfOk result (λ stores. length stores.items ≡ shards) }
 {
     let mut stores = Vec::with_capacity(rt.alloc(), shards)?;
     for number in 0..shards {
         let store = folder_store(rt, folder, number)?;
-        stores.push(store)?;
+        stores.push(Counted::new(store))?;
     }
     Ok(stores)
 }
@@ -174,15 +210,14 @@ fn folder_store(
 // Runs the commands over the stores, with sinks of its own for each group.
 fn run_over<D: Store>(
     rt: &HostRuntime,
-    limits: Limits,
-    stores: Vec<D>,
-    sinks_asked: SinkOptions,
+    plan: Plan,
+    stores: Vec<Counted<D>>,
     front: Front,
 ) -> Result<Status, Stop>
     requires { (1 ≤ length stores.items) × (length stores.items ≤ most_shards) }
 {
     let alloc = rt.alloc();
-    let SinkOptions { all, cap, tail } = sinks_asked;
+    let SinkOptions { all, cap, tail } = plan.sinks;
     let Front { groups, commands } = front;
     let mut sinks = Vec::with_capacity(alloc, groups.len())?;
     for _ in 0..groups.len() {
@@ -200,15 +235,7 @@ fn run_over<D: Store>(
     }
     let out = BufWriter::with_capacity(alloc, OUTPUT_ROOM, Output::new(*rt));
     let mut out = out.map_err(|_| Stop::Failed)?;
-    match run_session(
-        alloc,
-        limits,
-        stores,
-        groups,
-        commands.as_str(),
-        sinks,
-        &mut out,
-    ) {
+    match run_session(rt, plan, stores, groups, commands.as_str(), sinks, &mut out) {
         Ok(status) => Ok(status),
         Err(RunError::WriteFault) | Err(RunError::Memory) => Err(Stop::Failed),
     }
@@ -216,9 +243,9 @@ fn run_over<D: Store>(
 
 // Runs the commands over a new world.
 fn run_session<D: Store, S: Sink, W: Write>(
-    alloc: Global,
-    limits: Limits,
-    stores: Vec<D>,
+    rt: &HostRuntime,
+    plan: Plan,
+    stores: Vec<Counted<D>>,
     groups: Vec<Group>,
     commands: &str,
     sinks: Vec<Vec<S>>,
@@ -229,11 +256,55 @@ fn run_session<D: Store, S: Sink, W: Write>(
     requires lists { length sinks.items ≡ length groups.items }
     requires fresh { AllByRecursion (λ own. AllByRecursion IsFresh (map S.state own.items)) sinks.items }
 {
-    let engine = WorldEngine::open(alloc, limits, stores, groups, sinks)?;
+    let alloc = rt.alloc();
+    let shards = stores.len();
+    let engine = WorldEngine::open(alloc, plan.limits, stores, groups, sinks)?;
+    let engine = Counting::new(alloc, Pumping::new(engine, plan.pumps));
     let mut session = Session::new(alloc, engine);
     let ended = session.run_commands(commands, out);
-    drop_sinks(session.into_engine().into_books());
+    let (engine, tally) = session.into_engine().into_parts();
+    let engine = engine.into_engine();
+    if plan.summary {
+        let _ = tally.print(rt);
+        let _ = print_rest(rt, engine.world(), shards);
+    }
+    drop_sinks(engine.into_books());
     ended
+}
+
+// Prints which sinks are behind, and how many chunks were written and read.
+fn print_rest<D: Store, S: Sink>(
+    rt: &HostRuntime,
+    world: &World<Counted<D>, S>,
+    shards: usize,
+) -> io::Result<()> {
+    for group in 0..world.groups() {
+        if let Some(book) = world.book(group) {
+            print_behind(rt, book)?;
+        }
+    }
+    let mut written = 0u64;
+    let mut read = 0u64;
+    for number in 0..shards {
+        if let Some(shard) = world.shard(number) {
+            written = written.saturating_add(shard.store().written());
+            read = read.saturating_add(shard.store().read());
+        }
+    }
+    eprintln!(rt; "chunks: {written} written, {read} read")
+}
+
+// Prints which sinks of a group are behind, and by how many evaluations.
+fn print_behind<S: Sink>(rt: &HostRuntime, book: &Book<S>) -> io::Result<()> {
+    let group = book.group().name.as_str();
+    for number in 0..book.sinks() {
+        let taken = book.sink_count(number).unwrap_or(0);
+        let left = book.evaluations().saturating_sub(taken);
+        if left > 0 {
+            eprintln!(rt; "sink {number} of group {group}: behind by {left}")?;
+        }
+    }
+    Ok(())
 }
 
 // Drops the sinks of each book. Nothing else is taken apart: the process gives its memory back at once.

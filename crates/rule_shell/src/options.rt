@@ -7,7 +7,7 @@ ghost use Rattle.rule_shell.specs.Options.{number_or, limits_asked, number_asked
 
 use crate::Stop;
 use clap::error::ErrorKind as OptionsFault;
-use clap::{Arg, ArgMatches, Command};
+use clap::{Arg, ArgAction, ArgMatches, Command};
 use rl_labels::{DEFAULT_LIMITS, Limits, RawLimits, number_of};
 use rl_plain::PlainText;
 use std::alloc::Global;
@@ -27,6 +27,9 @@ const OPTIONS: [&str; 10] = [
     "cap",
     "tail",
 ];
+
+// Each has no value, and stands at most once.
+const FLAGS: [&str; 3] = ["pump", "summary", "new"];
 
 // The most shards, the most texts that may wait in a sink, and the most that a tail keeps; and how many where none is asked for.
 const MOST_SHARDS: u64 = 16;
@@ -50,14 +53,26 @@ pub(crate) struct SinkOptions {
     pub(crate) tail: usize,
 }
 
+/// What is asked of a run besides its stores.
+#[derive(Clone, Copy)]
+pub(crate) struct Plan {
+    pub(crate) limits: Limits,
+    pub(crate) sinks: SinkOptions,
+    // After each evaluation the sinks of its group catch up.
+    pub(crate) pumps: bool,
+    // At the end it is printed what the run did.
+    pub(crate) summary: bool,
+}
+
 /// What the options ask for.
 #[derive(Drop)]
 pub(crate) struct Options {
-    pub(crate) limits: Limits,
     pub(crate) shards: usize,
     // The folder for the chunks of all shards; without one they stay in memory.
     pub(crate) store: Option<PlainText>,
-    pub(crate) sinks: SinkOptions,
+    // The folder has to be empty, and no other run may have it.
+    pub(crate) is_new: bool,
+    pub(crate) plan: Plan,
 }
 
 /// Reads the options.
@@ -85,6 +100,10 @@ fn options_in<'a>(alloc: Global, words: &'a [String]) -> Result<Options, Stop>
     for name in OPTIONS {
         command = command.arg(Arg::new(alloc, name).long(name))?;
     }
+    for name in FLAGS {
+        let flag = Arg::new(alloc, name).long(name);
+        command = command.arg(flag.action(ArgAction::SetTrue))?;
+    }
     match command.try_get_matches_from(words) {
         Ok(matches) => options_of(alloc, &matches),
         Err(error) => Err(stop_of(error.kind())),
@@ -105,19 +124,32 @@ fn stop_of(kind: OptionsFault) -> Stop
 fn options_of(alloc: Global, matches: &ArgMatches<'_>) -> Result<Options, Stop>
     ensures { IfOk result (λ options. (1 ≤ options.shards) × (options.shards ≤ most_shards)) }
 {
-    let limits = limits_of(matches)?;
     let shards = number_in(matches, "shards", 1, MOST_SHARDS)?;
-    let sinks = sinks_of(matches)?;
+    let plan = plan_of(matches)?;
+    let is_new = matches.get_flag("new");
     let store = match matches.get_str("store") {
         Some("") => return Err(Stop::BadOptions),
         Some(folder) => Some(PlainText::from_str(alloc, folder)?),
+        None if is_new => return Err(Stop::BadOptions),
         None => None,
     };
     Ok(Options {
-        limits,
         shards,
         store,
+        is_new,
+        plan,
+    })
+}
+
+// What is asked of the run besides its stores.
+fn plan_of(matches: &ArgMatches<'_>) -> Result<Plan, Stop> {
+    let limits = limits_of(matches)?;
+    let sinks = sinks_of(matches)?;
+    Ok(Plan {
+        limits,
         sinks,
+        pumps: matches.get_flag("pump"),
+        summary: matches.get_flag("summary"),
     })
 }
 
