@@ -1,6 +1,6 @@
 -- What a test file has: at the keys of its tables.
-use Rattle.std.specs.Prelude.{◌≡◌, ℕ, Bool, true, ◌&&◌, IsTrue, zero, suc, ◌+◌, ◌-◌, ◌*◌, ◌^◌, min, ◌/◌, ◌≤◌, ◌==◌, nat_le, ℤ, pos, negsuc, position, take, drop, List, [], ◌∷◌, ◌++◌, Option, None, Some, Ok, codes, if◌then◌else◌}
-use Rattle.std.specs.Option.{option_and_then, option_map, option_or, unwrap_or}
+use Rattle.std.specs.Prelude.{◌≡◌, ℕ, Bool, true, ◌&&◌, IsTrue, zero, suc, ◌+◌, ◌-◌, ◌*◌, ◌^◌, min, ◌/◌, ◌≤◌, ◌==◌, nat_le, ℤ, pos, negsuc, position, is_some, take, drop, List, [], ◌∷◌, ◌++◌, Option, None, Some, Ok, codes, if◌then◌else◌}
+use Rattle.std.specs.Option.{MatchOption, option_and_then, option_map, option_or}
 use Rattle.std.specs.List.{flat_map, list_any, AllZip}
 use denote.Ref.{Bor}
 use Rattle.toml.specs.Data.{Data, string, integer, as_str, get_member, Members, no_members, member}
@@ -43,9 +43,10 @@ abbrev pub has_only : List (List ℕ) → Members → Bool
 has_only keys no_members = true
 has_only keys (member name value members) = list_any (λ key. is_text key name) keys && has_only keys members
 
--- a text that may be there, lent
-abbrev pub lent : Option (Bor (List ℕ)) → Option (List ℕ)
-lent text = option_map (λ text. text.now) text
+-- what stands at a key that may be missing: nothing where nothing is read, and else the text that is read
+abbrev pub IsTextIf : List ℕ → Members → Option (Bor (List ℕ)) → Type 0
+IsTextIf key table None = get_member key table ≡ None
+IsTextIf key table (Some text) = text_at key table ≡ Some text.now
 
 -- the longest time, 30 days, in nanoseconds
 abbrev pub longest_time : ℕ
@@ -92,7 +93,8 @@ state_text states.Resolved = codes "resolved"
 
 -- an alert has a state, a sample has none
 abbrev pub IsState : RuleKind → Members → Option AlertState → Type 0
-IsState kinds.Alerting table state = text_at (codes "state") table ≡ option_map state_text state
+IsState kinds.Alerting table (Some state) = text_at (codes "state") table ≡ Some (state_text state)
+IsState kinds.Alerting table None = ⊥
 IsState kinds.Recording table state = state ≡ None
 
 -- VALUES
@@ -147,12 +149,18 @@ pub record IsWanted (kind : RuleKind) (rule : List ℕ) (table : Members) (row :
   pub labels : AreLabels (codes "labels") (Some (name_label kind, rule)) table row.labels
   pub state : IsState kind table row.state
   pub value : option_map (λ number. number.fraction) row.value ≡ option_and_then value_of (get_member (codes "value") table)
+  pub value_read : is_some row.value ≡ is_some (get_member (codes "value") table)
   pub annotations : AreLabelsIf (codes "annotations") table row.annotations
 
 abbrev pub cause_text : Cause → List ℕ
 cause_text causes.PipelineError = codes "PipelineError"
 cause_text causes.SameLabels = codes "SameLabels"
 cause_text causes.LimitExceeded = codes "LimitExceeded"
+
+-- why a rule is wanted to fail, if it is
+abbrev pub IsCauseIf : Members → Option Cause → Type 0
+IsCauseIf table None = get_member (codes "failed") table ≡ None
+IsCauseIf table (Some cause) = text_at (codes "failed") table ≡ Some (cause_text cause)
 
 -- the keys of a check, of rules of a kind
 abbrev pub check_keys : RuleKind → List (List ℕ)
@@ -163,9 +171,9 @@ pub record IsCheck (kind : RuleKind) (rule : List ℕ) (table : Members) (check 
   pub known : IsTrue (has_only (check_keys kind) table)
   pub of_kind : check.kind ≡ kind
   pub name : text_at (name_key kind) table ≡ Some check.name.now
-  pub group : text_at (codes "group") table ≡ lent check.group
+  pub group : IsTextIf (codes "group") table check.group
   pub at : time_at (codes "at") table ≡ Some check.at
-  pub failed : text_at (codes "failed") table ≡ option_map cause_text check.failed
+  pub failed : IsCauseIf table check.failed
   pub rows : AllZip (IsWanted kind check.name.now) (tables_at (codes "wanted") table) check.wanted.items
 
 -- TESTS
@@ -177,7 +185,7 @@ span_keys = codes "group" ∷ codes "from" ∷ codes "to" ∷ codes "step" ∷ [
 -- when groups are evaluated
 pub record IsSpan (kind : RuleKind) (rule : List ℕ) (table : Members) (span : Span) : Type 0 where
   pub known : IsTrue (has_only span_keys table)
-  pub group : text_at (codes "group") table ≡ lent span.group
+  pub group : IsTextIf (codes "group") table span.group
   pub steps : IsSteps table span.steps
 
 -- the keys of an edit
@@ -192,9 +200,9 @@ pub record IsEdit (kind : RuleKind) (rule : List ℕ) (table : Members) (edit : 
   pub unread : edit.groups.items ≡ []
 
 -- how often a line stands at each moment, once where that is not given
-abbrev pub times_in : Option Data → ℕ
-times_in (Some (integer (pos number))) = number
-times_in _ = 1
+abbrev pub IsTimes : Option Data → ℕ → Type 0
+IsTimes None times = times ≡ 1
+IsTimes (Some value) times = (value ≡ integer (pos times)) × (1 ≤ times) × (times ≤ 1000)
 
 -- the keys of lines that repeat
 abbrev pub repeat_keys : List (List ℕ)
@@ -204,7 +212,7 @@ repeat_keys = codes "from" ∷ codes "to" ∷ codes "step" ∷ codes "line" ∷ 
 pub record IsRepeat (kind : RuleKind) (rule : List ℕ) (table : Members) (repeat : Repeat) : Type 0 where
   pub known : IsTrue (has_only repeat_keys table)
   pub steps : IsSteps table repeat.steps
-  pub times : repeat.times ≡ times_in (get_member (codes "times") table)
+  pub times : IsTimes (get_member (codes "times") table) repeat.times
   pub line : text_at (codes "line") table ≡ Some repeat.line.now
 
 -- the line with a number, from 0, of those at the moment with an index: the last has the moment itself, and each one before it a
@@ -231,11 +239,15 @@ repeated_lines repeat = repeated_from repeat 0 repeat.steps.count
 abbrev pub stream_keys : List (List ℕ)
 stream_keys = codes "labels" ∷ codes "late" ∷ codes "lines" ∷ codes "repeat" ∷ []
 
+-- the time at a key that may be missing, or none
+abbrev pub IsTimeIf : List ℕ → Members → ℕ → Type 0
+IsTimeIf key table time = MatchOption (get_member key table) (time ≡ 0) (λ _. time_at key table ≡ Some time)
+
 -- a stream before its repeated lines are written out; which ones `lines` stands for is not specified
 pub record IsUnexpanded (kind : RuleKind) (rule : List ℕ) (table : Members) (stream : Stream) : Type 0 where
   pub known : IsTrue (has_only stream_keys table)
   pub labels : AreLabels (codes "labels") None table stream.labels
-  pub late : stream.late ≡ unwrap_or (time_at (codes "late") table) 0
+  pub late : IsTimeIf (codes "late") table stream.late
   pub repeats : AllZip (IsRepeat kind rule) (tables_at (codes "repeat") table) stream.repeats.items
 
 -- the repeated lines follow the others

@@ -8,7 +8,9 @@ use Rattle.rl_labels.specs.LabelSet.{LabelSet}
 use Rattle.rl_labels.specs.Name.{is_text}
 use Rattle.rl_labels.specs.Quantity.{greatest_moment}
 use Rattle.rl_labels.specs.declared.entry.Entry.{Entry}
+use Rattle.rl_labels.specs.LimitRanges.{raw_limits}
 use Rattle.rl_labels.specs.declared.limits.Limits.{Limits}
+use Rattle.rl_labels.specs.declared.limits.RawLimits.{RawLimits}
 use Rattle.rl_chunks.specs.StoreState.{Seen}
 use Rattle.rl_chunks.specs.declared.mem_store.MemStore.{MemStore}
 use Rattle.rl_rules.specs.declared.evaluation.Evaluation.{Evaluation}
@@ -180,6 +182,10 @@ module _ {E : Type 0} (ruler : Ruler E) where
   pub record AsksOfNobody (engine : E) (old : Counts) (span : Span) (new : Counts) : Type 0 where
     pub counted_so : new ≡ one_failed_if (is_of_nobody engine span) old
 
+-- the limits of a ruler for which no others are asked
+abbrev pub default_limits : RawLimits
+default_limits = record { entries = 67108864; chunk_entries = 1024; chunk_age = 7200; cancel = 86400; keep = 0; cache = 0; records = 1048576; first_blob = 0 }
+
 -- one store in memory
 abbrev pub IsOneStore : List MemStore → Type 0
 IsOneStore stores = (store : MemStore) × (stores ≡ store ∷ [])
@@ -187,6 +193,7 @@ IsOneStore stores = (store : MemStore) × (stores ≡ store ∷ [])
 -- a ruler with one shard over an honest store, that holds nothing, and with these groups without sinks
 pub record IsFreshRuler (groups : List Group) (world : WorldBooks) : Type 0 where
   pub limits : Limits
+  pub limits_are : raw_limits limits ≡ default_limits
   pub seen : Seen
   pub honest : seen.honest ≡ true
   pub shards : world.shards ≡ opened_over limits seen ∷ []

@@ -8,7 +8,7 @@ ghost use Rattle.rl_labels.specs.Name.{is_text};
 ghost use Rattle.rl_rules.specs.Document.{items_in, tables_at};
 ghost use Rattle.rl_rules.specs.Values.{texts_at, texts_of};
 ghost use Rattle.rl_rules.specs.declared.rule.RuleKind.{RuleKind};
-ghost use Rattle.rl_rule_tests.specs.Document.{has_only, lent, text_at, time_at, time_of, with_own, AreAppended, AreLabels, IsSteps};
+ghost use Rattle.rl_rule_tests.specs.Document.{has_only, text_at, time_at, time_of, with_own, AreAppended, AreLabels, IsSteps, IsTextIf};
 
 use crate::fault::{TestsError, fault, within};
 use rl_labels::{Duration, Labels, LabelsError};
@@ -85,7 +85,7 @@ impl<'a> Part<'a> {
 
     /// The text at a key, if there is one.
     pub(crate) fn text(self, key: &str) -> Result<Option<&'a str>, TestsError>
-        ensures { IfOk result (λ text. lent text ≡ text_at key.now (table_view self.entry.table.now)) }
+        ensures { IfOk result (λ text. IsTextIf key.now (table_view self.entry.table.now) text) }
     {
         match self.value_at(key) {
             None => Ok(None),

@@ -4,7 +4,7 @@ ghost use Rattle.std.specs.List.{flat_map, AllZip};
 ghost use Rattle.toml.specs.Data.{get_member};
 ghost use Rattle.toml.specs.View.{table_view};
 ghost use Rattle.rl_rules.specs.Document.{tables_at};
-ghost use Rattle.rl_rule_tests.specs.Document.{lines_at, repeated_lines, times_in, IsExpansion, IsRepeat, IsStream, IsUnexpanded};
+ghost use Rattle.rl_rule_tests.specs.Document.{lines_at, repeated_lines, IsExpansion, IsRepeat, IsStream, IsTimes, IsUnexpanded};
 
 use crate::fault::{TestsError, within};
 use crate::lines::{Repeat, Stream, TestLine};
@@ -90,7 +90,7 @@ impl<'a> Item<'a> for Repeat<'a> {
 
 // How often a line stands at each moment.
 fn read_times(part: Part<'_>) -> Result<u64, TestsError>
-    ensures { IfOk result (λ times. times ≡ times_in (get_member (codes "times") (table_view part.entry.table.now))) }
+    ensures { IfOk result (IsTimes (get_member (codes "times") (table_view part.entry.table.now))) }
 {
     let Some(value) = part.value_at("times") else {
         return Ok(1);

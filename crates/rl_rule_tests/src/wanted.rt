@@ -1,9 +1,9 @@
 //! What is wanted of a rule, as a test file has it.
-ghost use Rattle.std.specs.Prelude.{◌≡◌, map, Some, codes, option_and_then, option_map, IfOk, OnOk};
+ghost use Rattle.std.specs.Prelude.{◌≡◌, map, Some, is_some, codes, option_and_then, option_map, IfOk, OnOk};
 ghost use Rattle.toml.specs.Data.{get_member};
 ghost use Rattle.toml.specs.View.{table_view};
 ghost use Rattle.rl_rules.specs.Document.{tables_at};
-ghost use Rattle.rl_rule_tests.specs.Document.{cause_text, state_text, text_at, value_of, wanted_keys, AreAppended, IsWanted};
+ghost use Rattle.rl_rule_tests.specs.Document.{state_text, text_at, value_of, wanted_keys, AreAppended, IsCauseIf, IsWanted};
 ghost use Rattle.rl_rule_tests.specs.Judging.{wanted_row, IsOutcome};
 
 use crate::document::Check;
@@ -46,7 +46,7 @@ pub(crate) fn read_wanted<'a>(
     check: Part<'a>,
     wanted: &mut Vec<Wanted<'a>>,
 ) -> Result<Option<Cause>, TestsError>
-    ensures failed { IfOk result (λ failed. text_at (codes "failed") (table_view check.entry.table.now) ≡ option_map cause_text failed) }
+    ensures failed { IfOk result (IsCauseIf (table_view check.entry.table.now)) }
     ensures rows { OnOk result (AreAppended (IsWanted check.entry.kind check.entry.rule.now) (tables_at (codes "wanted") (table_view check.entry.table.now)) wanted.old.items wanted.new.items) }
 {
     match (check.has("wanted"), check.text("failed")?) {
@@ -113,7 +113,8 @@ fn read_state(part: Part<'_>) -> Result<AlertState, TestsError>
 }
 
 fn read_value<'a>(part: Part<'a>) -> Result<Option<Number<'a>>, TestsError>
-    ensures { IfOk result (λ value. option_map (λ number. number.fraction) value ≡ option_and_then value_of (get_member (codes "value") (table_view part.entry.table.now))) }
+    ensures value { IfOk result (λ value. option_map (λ number. number.fraction) value ≡ option_and_then value_of (get_member (codes "value") (table_view part.entry.table.now))) }
+    ensures read { IfOk result (λ value. is_some value ≡ is_some (get_member (codes "value") (table_view part.entry.table.now))) }
 {
     let Some(value) = part.value_at("value") else {
         return Ok(None);

@@ -10,6 +10,7 @@ returns c =
     let store = c.in_ok-stores.ensures in
     record {
       limits = c.in-Ok.limits;
+      limits_are = c.in-Ok.ensures.same;
       seen = mem_seen store.0;
       honest = refl;
       shards = c.in_ok-ruler.ensures.shards ∙ ap (map (λ one. opened_over c.in-Ok.limits (mem_seen one))) store.1;
