@@ -7,11 +7,13 @@ use crate::no_toml::Standing;
 use crate::queries::push_query_fault;
 use crate::report::push_refusal;
 use crate::values::push_name;
+use crate::waiting::Evaluations;
 use rl_query::QueryError;
 use rl_rules::{Group, RulesError, read_rules};
 use rl_selector_text::parse_delete;
 use rl_session::names::push_error_name;
 use rl_session::{Command, PushError, PushReader, read_command};
+use std::alloc::Global;
 use std::fmt::Write;
 
 // The greatest number of a sink, where a group has sinks of all kinds.
@@ -43,11 +45,28 @@ const WANTED: [(&str, &str); 13] = [
     ("end", "stands alone"),
 ];
 
-/// What is known while commands are looked at: the groups, where the rules are taken, and the memory of a reader.
+/// What is known while commands are looked at: the groups, where the rules are taken, their evaluations, and the memory of a reader.
 #[derive(Drop)]
 pub(crate) struct Known<'a> {
-    pub(crate) groups: Option<&'a [Group]>,
-    pub(crate) reader: PushReader,
+    groups: Option<&'a [Group]>,
+    evaluations: Evaluations<'a>,
+    reader: PushReader,
+}
+
+impl<'a> Known<'a> {
+    /// What is known before the first command.
+    pub(crate) fn new(
+        alloc: Global,
+        groups: Option<&'a [Group]>,
+        cap: Option<u64>,
+    ) -> Result<Self, OutOfMemory> {
+        let evaluations = Evaluations::new(alloc, groups.unwrap_or(&[]), cap)?;
+        Ok(Known {
+            groups,
+            evaluations,
+            reader: PushReader::new(alloc),
+        })
+    }
 }
 
 /// The faults of a line that is not blank, and whether it ends the session.
@@ -90,8 +109,15 @@ fn push_asked(
         Command::Push(body) => push_body(findings, known, location, body),
         Command::Edit(document) => push_edit(findings, known, location, number, document),
         Command::Delete { selector, .. } => push_selector(findings, location, selector),
-        Command::Eval { group, .. } => push_unnamed(findings, known, location, group),
-        Command::Pump(group) => push_unnamed(findings, known, location, group),
+        Command::Eval { t, group } => {
+            push_unnamed(findings, known, location, group)?;
+            known.evaluations.eval(findings, location, t, group)
+        }
+        Command::Tick { now } => known.evaluations.tick(findings, location, now),
+        Command::Pump(group) => {
+            known.evaluations.pump(group);
+            push_unnamed(findings, known, location, group)
+        }
         Command::Show { sink, group } => {
             if sink > LAST_SINK {
                 findings.begin(location)?;
@@ -133,7 +159,7 @@ fn push_selector(
         Err(QueryError::Fault(fault)) => {
             findings.begin(location)?;
             findings.text.push_str("the selector: ")?;
-            push_query_fault(&mut findings.text, selector, fault)
+            push_query_fault(findings, selector, fault)
         }
     }
 }
@@ -141,14 +167,17 @@ fn push_selector(
 // The faults of the rule file of an edit, which has one group with the name of another.
 fn push_edit(
     findings: &mut Findings,
-    known: &Known<'_>,
+    known: &mut Known<'_>,
     location: &Location<'_>,
     number: usize,
     document: &str,
 ) -> Result<(), OutOfMemory> {
     match read_rules(*findings.text.allocator(), document) {
         Ok(groups) => match groups.as_slice() {
-            [group] => push_unnamed(findings, known, location, group.name.as_str()),
+            [group] => {
+                known.evaluations.edit(group);
+                push_unnamed(findings, known, location, group.name.as_str())
+            }
             groups => {
                 findings.begin(location)?;
                 let count = groups.len();

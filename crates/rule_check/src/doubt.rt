@@ -54,8 +54,8 @@ fn after_stage<'a>(
     Ok(Known { is_parsed, doubt })
 }
 
-// The tests that are joined, from left to right.
-fn leaves_of(alloc: Global, tests: &LabelTests) -> Result<Vec<&LabelTest>, OutOfMemory> {
+/// The tests that are joined, from left to right.
+pub(crate) fn leaves_of(alloc: Global, tests: &LabelTests) -> Result<Vec<&LabelTest>, OutOfMemory> {
     let mut leaves = Vec::new(alloc);
     let mut waiting = Vec::new(alloc);
     waiting.push(tests)?;

@@ -75,7 +75,7 @@ fn push_same_name(
         return Ok(());
     };
     if !names.insert(String::from_str(*findings.text.allocator(), name)?)? {
-        findings.begin(location)?;
+        findings.begin(&location.of_key("name"))?;
         findings.text.push_str("two groups have this name\n")?;
     }
     Ok(())
@@ -100,7 +100,7 @@ fn push_rule(
         push_labels(findings, &location, rule, "annotations", "annotation")?;
     }
     match text_at(rule, "expr") {
-        Some(query) => push_query(findings, &location, query),
+        Some(query) => push_query(findings, &location.of_key("expr"), query),
         None => Ok(()),
     }
 }
@@ -114,7 +114,7 @@ fn push_keys(
 ) -> Result<(), OutOfMemory> {
     for key in owner.keys() {
         if let Some(value) = table.get(key.name) {
-            push_value(findings, location, key, value)?;
+            push_value(findings, &location.of_key(key.name), key, value)?;
         }
     }
     for name in table.keys() {
@@ -136,11 +136,11 @@ fn push_unknown(
     owner: Owner,
     name: &str,
 ) -> Result<(), OutOfMemory> {
-    findings.begin(location)?;
+    findings.begin(&location.of_key(name))?;
     write!(findings.text, "{} has no key ", owner.as_str())?;
     push_name(&mut findings.text, name)?;
     findings.text.push('\n')?;
-    if let Some(hint) = owner.near(name) {
+    if let Some(hint) = owner.near(name, findings.is_full) {
         writeln!(findings.text, "  in its place: {hint}")?;
     }
     Ok(())

@@ -1,5 +1,7 @@
 //! The tables of a rule file: which keys they may have, and what stands there.
 
+use crate::near::is_near;
+
 /// A table of a rule file.
 #[derive(Clone, Copy)]
 pub(crate) enum Owner {
@@ -136,15 +138,48 @@ impl Owner {
         }
     }
 
-    /// What is lawful near a key that it may not have, if something is.
-    pub(crate) fn near(self, name: &str) -> Option<&'static str> {
+    /// What is lawful near a key that it may not have, if something is: where all is said, also in the place of other words.
+    pub(crate) fn near(self, name: &str, is_full: bool) -> Option<&'static str> {
         match (self, name) {
             (Owner::Recording, "for" | "annotations") => {
                 Some("an alerting rule, with alert in place of record")
             }
             (Owner::Recording, "alert") => Some("two rules"),
             (Owner::Alerting, _) if name.eq_ignore_ascii_case("record") => Some("record"),
-            _ => near_key(self.keys(), name),
+            _ => match near_key(self.keys(), name) {
+                None if is_full => self.meant_by(name),
+                near => near,
+            },
+        }
+    }
+
+    // What is meant by a key that is written wrongly, or that other rulers have.
+    fn meant_by(self, name: &str) -> Option<&'static str> {
+        for key in self.keys() {
+            if is_near(key.name, name) || (name.len() > 2 && key.name.starts_with(name)) {
+                return Some(key.name);
+            }
+        }
+        match (self, name) {
+            (Owner::Recording | Owner::Alerting, "query" | "expression") => Some("expr"),
+            (Owner::Alerting, _) if is_near("record", name) => Some("record"),
+            (Owner::Alerting, "duration" | "hold") => Some("for"),
+            (Owner::Alerting, "severity" | "team" | "priority") => {
+                Some("a key of labels, as labels = { severity = \"page\" }")
+            }
+            (Owner::Alerting, "summary" | "description" | "runbook_url") => {
+                Some("a key of annotations, as annotations = { summary = \"errors\" }")
+            }
+            (Owner::Alerting, "keep_firing_for") => {
+                Some("nothing: an alert is resolved at the first evaluation without its series")
+            }
+            (Owner::File, "rules" | "name" | "interval" | "limit") => {
+                Some("a key of a group, below [[groups]]")
+            }
+            (Owner::Group, "alert" | "record" | "expr" | "for" | "labels" | "annotations") => {
+                Some("a key of a rule, below [[groups.rules]]")
+            }
+            _ => None,
         }
     }
 }
@@ -152,14 +187,14 @@ impl Owner {
 // The key that is the name in another case, or with an s more or less.
 fn near_key(keys: &[Key], name: &str) -> Option<&'static str> {
     for key in keys {
-        if is_near(key.name, name) {
+        if is_variant(key.name, name) {
             return Some(key.name);
         }
     }
     None
 }
 
-fn is_near(key: &str, name: &str) -> bool {
+fn is_variant(key: &str, name: &str) -> bool {
     key.eq_ignore_ascii_case(name) || is_plural(key, name) || is_plural(name, key)
 }
 

@@ -1,35 +1,49 @@
-//! The rule checker: reports what a ruler would do with a rule file, or with the input of a session.
+//! The rule checker: reports what a ruler would do with rule files, or with the input of a session.
 //!
 //! - `options`: the command line. `report`: what is reported of a rule file. `print`: the groups that `--print` asks for.
 //! - `faults`: each fault of a document, table by table. `keys`: what its tables have. `values`: what stands at a key.
 //!   `names`: names and labels. `queries`: the query of a rule. `no_toml`: a text that is no document.
-//! - `session`: what is reported of the input of a session. `commands`: its command lines. `near`: words that are nearly equal.
-//! - `hint`: what a ruler has near a query that it refuses. `lint`: what is taken and looks like a mistake.
-//!   `doubt`: lines that would fail a rule.
-//! - `location`: where a fault is. `findings`: what is reported so far.
+//! - `session`: what is reported of the input of a session. `commands`: its command lines. `waiting`: evaluations that no
+//!   pump follows. `near`: words that are nearly equal.
+//! - `hint` and `advice`: what a ruler has near a query that it refuses. `stop`: the tokens around the fault. `opened`: what is
+//!   not closed. `amounts`: numbers and signs. `pattern`: a regular expression that is none.
+//! - `lint`: what is taken and looks like a mistake. `meaning`: rules that give something else than they seem to. `doubt`: lines
+//!   that would fail a rule. `fraction`: tests that no fraction of JSON passes. `grouping`: labels that samples have.
+//! - `location`: where a fault is. `layout`: the lines of a document. `findings`: what is reported so far.
 #![tactic(auto)]
 
+mod advice;
+mod amounts;
 mod commands;
 mod doubt;
 mod faults;
 mod findings;
+mod fraction;
+mod grouping;
 mod hint;
 mod keys;
+mod layout;
 mod lint;
 mod location;
+mod meaning;
 mod names;
 mod near;
 mod no_toml;
+mod opened;
 mod options;
+mod pattern;
 mod print;
 mod queries;
 mod report;
 mod session;
+mod stop;
 mod values;
+mod waiting;
 
-use findings::{OutOfMemory, Report};
-use options::{HELP, Input, Options, Stop, read_options};
+use findings::{Manner, OutOfMemory, Report};
+use options::{HELP, Input, Options, STANDARD_INPUT, Stop, read_options};
 use report::report_of;
+use rl_plain::PlainText;
 use session::session_report;
 use std::io::ErrorKind;
 use std::process::ExitCode;
@@ -72,18 +86,23 @@ fn print_help(rt: &HostRuntime) -> io::Result<()> {
 
 // Reports what a ruler would do with the input, and whether it would take it.
 fn run(rt: &HostRuntime, options: Options) -> io::Result<bool> {
-    let Options { prints, input } = options;
+    let Options {
+        prints,
+        is_strict,
+        cap,
+        input,
+    } = options;
+    let manner = Manner {
+        prints,
+        is_strict,
+        name: None,
+        is_one_of_several: false,
+    };
     match input {
-        Input::Standard => {
-            let read = io::read_to_string(rt.alloc(), rt.reader());
-            print_rules(rt, "the file", read, prints)
-        }
-        Input::File(path) => {
-            let read = fs::read_to_string(rt, path.as_str());
-            print_rules(rt, path.as_str(), read, prints)
-        }
+        Input::Standard => print_standard(rt, "the file", manner),
+        Input::Files(paths) => print_files(rt, &paths, manner),
         Input::Session(path) => match fs::read(rt, path.as_str()) {
-            Ok(bytes) => print_report(rt, session_report(rt.alloc(), bytes, prints)),
+            Ok(bytes) => print_report(rt, session_report(rt.alloc(), bytes, manner, cap)),
             Err(_) => {
                 eprintln!(rt; "rule_check: {path} cannot be read", path = path.as_str())?;
                 Ok(false)
@@ -92,15 +111,45 @@ fn run(rt: &HostRuntime, options: Options) -> io::Result<bool> {
     }
 }
 
+// Reports what a ruler would do with each of the files, and whether it would take all.
+fn print_files(rt: &HostRuntime, paths: &[PlainText], manner: Manner<'_>) -> io::Result<bool> {
+    let mut is_taken = true;
+    for path in paths {
+        let manner = Manner {
+            prints: manner.prints,
+            is_strict: manner.is_strict,
+            name: Some(path.as_str()),
+            is_one_of_several: paths.len() > 1,
+        };
+        if !print_file(rt, path.as_str(), manner)? {
+            is_taken = false;
+        }
+    }
+    Ok(is_taken)
+}
+
+fn print_file(rt: &HostRuntime, path: &str, manner: Manner<'_>) -> io::Result<bool> {
+    if path == STANDARD_INPUT {
+        return print_standard(rt, "standard input", manner);
+    }
+    let read = fs::read_to_string(rt, path);
+    print_rules(rt, path, read, manner)
+}
+
+fn print_standard(rt: &HostRuntime, name: &str, manner: Manner<'_>) -> io::Result<bool> {
+    let read = io::read_to_string(rt.alloc(), rt.reader());
+    print_rules(rt, name, read, manner)
+}
+
 // Reports what a ruler would do with a rule file that was read. What cannot be read is reported on standard error.
 fn print_rules(
     rt: &HostRuntime,
     name: &str,
     read: io::Result<String>,
-    prints: bool,
+    manner: Manner<'_>,
 ) -> io::Result<bool> {
     match read {
-        Ok(file) => print_report(rt, report_of(rt.alloc(), file.as_str(), prints)),
+        Ok(file) => print_report(rt, report_of(rt.alloc(), file.as_str(), manner)),
         Err(error) if error.kind() == ErrorKind::InvalidData => {
             eprintln!(rt; "rule_check: {name} is no UTF-8 text")?;
             Ok(false)

@@ -45,7 +45,7 @@ pub(crate) fn push_name_fault(
     if is_name(name) {
         return Ok(());
     }
-    findings.begin(location)?;
+    findings.begin(&location.of_key(key))?;
     if name.is_empty() {
         writeln!(findings.text, "{key} is empty")?;
     } else if name.len() > LONGEST_NAME {
@@ -84,7 +84,7 @@ fn push_metric_fault(
     if is_metric_name(name) {
         return Ok(());
     }
-    findings.begin(location)?;
+    findings.begin(&location.of_key("record"))?;
     push_quoted(&mut findings.text, name)?;
     findings.text.push_str(
         " is no name of a metric, which has letters, digits, _ and :, and no digit first\n",
@@ -114,6 +114,7 @@ pub(crate) fn push_labels(
     let Some(table) = rule.get(key).and_then(|value| value.as_table()) else {
         return Ok(());
     };
+    let location = &location.of_key(key);
     let before = findings.count;
     for name in table.keys() {
         push_label_name(findings, location, word, name.as_str())?;

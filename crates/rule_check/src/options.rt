@@ -1,7 +1,9 @@
 //! The command line.
 
+use clap::builder::ValueRange;
 use clap::error::ErrorKind as OptionsFault;
 use clap::{Arg, ArgAction, ArgMatches, Command};
+use rl_labels::number_of;
 use rl_plain::PlainText;
 use std::alloc::{AllocError, AllocFailed, Global};
 use std::env;
@@ -22,13 +24,24 @@ pub(crate) const HELP: [&str; 11] = [
     "and 2 where the command line is bad.",
 ];
 
+// How many texts wait in a sink where a session is not asked for otherwise, and at most.
+const WAITING: u64 = 1024;
+
+const MOST_WAITING: u64 = 1_048_576;
+
+// The most digits of a number.
+const MOST_DIGITS: usize = 19;
+
+/// The path that stands for standard input.
+pub(crate) const STANDARD_INPUT: &str = "-";
+
 /// What is checked.
 #[derive(Drop)]
 pub(crate) enum Input {
     // A rule file from standard input.
     Standard,
-    // A rule file by its path.
-    File(PlainText),
+    // Rule files by their paths.
+    Files(Vec<PlainText>),
     // The input of a session by its path.
     Session(PlainText),
 }
@@ -37,6 +50,9 @@ pub(crate) enum Input {
 #[derive(Drop)]
 pub(crate) struct Options {
     pub(crate) prints: bool,
+    pub(crate) is_strict: bool,
+    // How many texts wait in a sink of a session at most, where a ruler does not pump by itself.
+    pub(crate) cap: Option<u64>,
     pub(crate) input: Input,
 }
 
@@ -77,16 +93,21 @@ fn words_of(rt: &HostRuntime) -> Result<Vec<String>, Stop> {
 }
 
 fn options_in<'a>(alloc: Global, words: &'a [String]) -> Result<Options, Stop> {
-    let print = Arg::new(alloc, "print").long("print");
-    let print = print.action(ArgAction::SetTrue);
     let session = Arg::new(alloc, "session").long("session");
-    let command = Command::new(alloc, "rule_check").arg(print)?;
-    let command = command.arg(session)?;
-    let command = command.arg(Arg::new(alloc, "file"))?;
+    let cap = Arg::new(alloc, "cap").long("cap");
+    let files = Arg::new(alloc, "file").num_args(ValueRange::new(1..));
+    let command = Command::new(alloc, "rule_check").arg(flag(alloc, "print"))?;
+    let command = command.arg(flag(alloc, "strict"))?;
+    let command = command.arg(flag(alloc, "pump"))?;
+    let command = command.arg(session)?.arg(cap)?.arg(files)?;
     match command.try_get_matches_from(words) {
         Ok(matches) => options_of(alloc, &matches),
         Err(error) => Err(stop_of(error.kind())),
     }
+}
+
+fn flag<'a>(alloc: Global, name: &'a str) -> Arg<'a> {
+    Arg::new(alloc, name).long(name).action(ArgAction::SetTrue)
 }
 
 // Why the program stops at what clap refuses.
@@ -99,12 +120,41 @@ fn stop_of(kind: OptionsFault) -> Stop {
 }
 
 fn options_of(alloc: Global, matches: &ArgMatches<'_>) -> Result<Options, Stop> {
-    let prints = matches.get_flag("print");
-    let input = match (matches.get_str("session"), matches.get_str("file")) {
+    let cap = cap_of(matches)?;
+    let input = match (matches.get_str("session"), matches.get_strs("file")) {
         (None, None) => Input::Standard,
-        (None, Some(path)) => Input::File(PlainText::from_str(alloc, path)?),
+        (None, Some(paths)) => Input::Files(files_of(alloc, paths)?),
         (Some(path), None) => Input::Session(PlainText::from_str(alloc, path)?),
         (Some(_), Some(_)) => return Err(Stop::BadOptions),
     };
-    Ok(Options { prints, input })
+    Ok(Options {
+        prints: matches.get_flag("print"),
+        is_strict: matches.get_flag("strict"),
+        cap,
+        input,
+    })
+}
+
+fn files_of(alloc: Global, paths: &[&str]) -> Result<Vec<PlainText>, Stop> {
+    let mut files = Vec::new(alloc);
+    for path in paths {
+        files.push(PlainText::from_str(alloc, path)?)?;
+    }
+    Ok(files)
+}
+
+// How many texts wait in a sink at most. A ruler that pumps after each evaluation has no such limit.
+fn cap_of(matches: &ArgMatches<'_>) -> Result<Option<u64>, Stop> {
+    let cap = match matches.get_str("cap") {
+        Some(text) => number_of(text.as_bytes(), MOST_DIGITS),
+        None => Some(WAITING),
+    };
+    match cap {
+        Some(cap) if cap >= 1 && cap <= MOST_WAITING => Ok(if matches.get_flag("pump") {
+            None
+        } else {
+            Some(cap)
+        }),
+        _ => Err(Stop::BadOptions),
+    }
 }

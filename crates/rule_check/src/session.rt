@@ -1,12 +1,11 @@
 //! What is reported of the input of a session: rules, a line `%%`, and commands.
 
 use crate::commands::{Known, push_command};
-use crate::findings::{Findings, OutOfMemory, Report};
+use crate::findings::{Findings, Manner, OutOfMemory, Report};
 use crate::location::Location;
 use crate::report::{ending, push_counts, push_rules};
-use rl_rules::Group;
 use rl_session::front::{MAX_INPUT_LEN, split_front};
-use rl_session::{FrontFault, PushReader, is_blank};
+use rl_session::{FrontFault, is_blank};
 use std::alloc::Global;
 use std::fmt::Write;
 
@@ -14,18 +13,15 @@ use std::fmt::Write;
 pub(crate) fn session_report(
     alloc: Global,
     bytes: Vec<u8>,
-    prints: bool,
+    manner: Manner<'_>,
+    cap: Option<u64>,
 ) -> Result<Report, OutOfMemory> {
-    let mut findings = Findings::new(alloc);
+    let mut findings = Findings::new(alloc, true);
     match text_of(bytes) {
-        Ok(text) => push_text(alloc, &mut findings, text.as_str(), prints)?,
+        Ok(text) => push_text(&mut findings, text.as_str(), manner.prints, cap)?,
         Err(fault) => push_front_fault(&mut findings, fault)?,
     }
-    let Findings { text, count } = findings;
-    Ok(Report {
-        text,
-        is_taken: count == 0,
-    })
+    Ok(findings.into_report(manner.is_strict))
 }
 
 // The text that the bytes are.
@@ -46,18 +42,19 @@ fn push_front_fault(findings: &mut Findings, fault: FrontFault) -> Result<(), Ou
 }
 
 fn push_text(
-    alloc: Global,
     findings: &mut Findings,
     text: &str,
     prints: bool,
+    cap: Option<u64>,
 ) -> Result<(), OutOfMemory> {
     let Some((document, commands)) = split_front(text) else {
         return push_front_fault(findings, FrontFault::NoMark);
     };
-    let groups = push_rules(alloc, findings, document, prints)?;
+    let groups = push_rules(findings, &Location::whole(None), document, prints)?;
     let feeds = document.bytes().filter(|byte| *byte == b'\n').count();
     let first = feeds.saturating_add(2);
-    let count = push_commands(alloc, findings, groups.as_deref(), first, commands)?;
+    let mut known = Known::new(*findings.text.allocator(), groups.as_deref(), cap)?;
+    let count = push_commands(findings, &mut known, first, commands)?;
     if let Some(groups) = &groups {
         if findings.count == 0 {
             push_counts(&mut findings.text, groups)?;
@@ -69,22 +66,17 @@ fn push_text(
 
 // The faults of the commands, and how many lines are not blank, up to `end`.
 fn push_commands(
-    alloc: Global,
     findings: &mut Findings,
-    groups: Option<&[Group]>,
+    known: &mut Known<'_>,
     first: usize,
     commands: &str,
 ) -> Result<usize, OutOfMemory> {
-    let mut known = Known {
-        groups,
-        reader: PushReader::new(alloc),
-    };
     let mut number = first;
     let mut count = 0usize;
     for line in commands.split('\n') {
         if !is_blank(line) {
             count = count.saturating_add(1);
-            if push_command(findings, &mut known, number, line)? {
+            if push_command(findings, known, number, line)? {
                 break;
             }
         }
