@@ -1,5 +1,5 @@
 //! What several tests are given.
-ghost use Rattle.std.specs.Prelude.{◌≡◌, ◌+◌, ◌∷◌, [], IfSome, OnErr, OnOk, length, map, min};
+ghost use Rattle.std.specs.Prelude.{◌≡◌, ◌∷◌, [], IfErr, IfSome, length, map};
 ghost use Rattle.std.specs.List.{AllByRecursion};
 ghost use Rattle.rl_world.specs.BookCalls.{IsFresh};
 
@@ -268,10 +268,12 @@ pub struct Failing {
     pub calls: u64,
     /// How often it refused.
     pub refusals: u64,
+    // How often its device failed, up to the greatest number.
+    faults: u64,
 }
 
 impl Failing {
-    ghost use Rattle.rl_chunks.specs.StoreState.{greatest};
+    ghost use Rattle.rl_chunks.specs.StoreState.{faults_after};
 
     pub(crate) fn new(alloc: Global, at: u64, why: StoreFault) -> Failing {
         Failing {
@@ -280,14 +282,15 @@ impl Failing {
             why,
             calls: 0,
             refusals: 0,
+            faults: 0,
         }
     }
 
-    // Counts a call, and refuses it by plan.
-    fn called(&mut self) -> Result<(), StoreFault>
+    // Counts a call, and refuses it by plan, for this reason.
+    fn called(&mut self, why: StoreFault) -> Result<(), StoreFault>
         ensures inner { self.new.inner ≡ self.old.inner }
-        ensures passes { OnOk result (self.new.refusals ≡ self.old.refusals) }
-        ensures refused { OnErr result (self.new.refusals ≡ min (self.old.refusals + 1) greatest) }
+        ensures why { IfErr result (λ fault. fault ≡ why) }
+        ensures counted { self.new.faults ≡ faults_after result self.old.faults }
     {
         let call = self.calls;
         self.calls = call.wrapping_add(1);
@@ -295,7 +298,13 @@ impl Failing {
             return Ok(());
         }
         self.refusals = self.refusals.saturating_add(1);
-        Err(self.why)
+        match why {
+            StoreFault::Fault => {
+                self.faults = self.faults.saturating_add(1);
+                Err(StoreFault::Fault)
+            }
+            StoreFault::Memory => Err(StoreFault::Memory),
+        }
     }
 }
 
@@ -303,21 +312,21 @@ impl Store for Failing {
     ghost use Rattle.std.specs.Prelude.{true};
     ghost use Rattle.rl_chunks.specs.MemState.{blobs_of};
 
-    ghost seen = { λ store. record { blobs = blobs_of store.inner; honest = true; reads = store.inner.reads; faults = store.refusals } };
+    ghost seen = { λ store. record { blobs = blobs_of store.inner; honest = true; reads = store.inner.reads; faults = store.faults } };
 
     fn put(&mut self, number: u64, bytes: Vec<u8>) -> Result<(), StoreFault> {
-        self.called()?;
+        self.called(self.why)?;
         self.inner.put(number, bytes)
     }
 
     fn get(&mut self, number: u64) -> Result<Option<Vec<u8>>, StoreFault> {
         let found = self.inner.get(number);
-        self.called()?;
+        self.called(self.why)?;
         found
     }
 
     fn remove(&mut self, number: u64) -> Result<(), StoreFault> {
-        self.called()?;
+        self.called(StoreFault::Fault)?;
         self.inner.remove(number)
     }
 }

@@ -1,6 +1,6 @@
 //! A store in a folder.
-ghost use Rattle.std.specs.Prelude.{◌≡◌, ◌<◌, ◌⊎◌};
-ghost use Rattle.rl_chunks.specs.StoreState.{MayRise, IsCounted};
+ghost use Rattle.std.specs.Prelude.{◌≡◌, Err};
+ghost use Rattle.rl_chunks.specs.StoreState.{faults_after};
 
 use crate::history::History;
 use crate::store::{Store, StoreFault};
@@ -23,8 +23,7 @@ pub struct DirStore<R> {
 
 // Why the device refused. It is counted unless memory ran out.
 fn refusal(faults: &mut u64, error: &io::Error) -> StoreFault
-    ensures rise { MayRise faults.old faults.new }
-    ensures counted { IsCounted faults.old faults.new result }
+    ensures { faults.new ≡ faults_after {A = Unit} (Err result) faults.old }
 {
     if error.kind() == ErrorKind::OutOfMemory {
         return StoreFault::Memory;
@@ -87,6 +86,7 @@ impl<R> DirStore<R> {
         ensures blobs { blobs_in result.history.value ≡ map.empty }
         ensures reads { result.reads ≡ 0 }
         ensures faults { result.faults ≡ 0 }
+        ensures folder { result.folder ≡ folder }
     {
         DirStore {
             rt,
@@ -142,8 +142,9 @@ impl<R: Files + Drop> Store for DirStore<R> {
 
     fn remove(&mut self, number: u64) -> Result<(), StoreFault> {
         let removed = remove_file(&self.rt, &self.folder, number);
-        if let Err(error) = removed {
-            return Err(refusal(&mut self.faults, &error));
+        if removed.is_err() {
+            self.faults = self.faults.saturating_add(1);
+            return Err(StoreFault::Fault);
         }
         let before = mem::replace(&mut self.history, Snapshot::of(&History::Nothing));
         self.history = Snapshot::of(&History::Removed { number, before });

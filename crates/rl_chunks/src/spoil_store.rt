@@ -71,10 +71,10 @@ impl<S> SpoilStore<S> {
 }
 
 impl<S: Store> Store for SpoilStore<S> {
-    ghost use Rattle.std.specs.Prelude.{◌≡◌, true, IfOk, IfErr};
+    ghost use Rattle.std.specs.Prelude.{◌≡◌, true, IfOk};
     ghost use Rattle.std.specs.Option.{option_map};
     ghost use Rattle.std.specs.FinMap as map;
-    ghost use Rattle.rl_chunks.specs.StoreState.{IsRead, HasCause};
+    ghost use Rattle.rl_chunks.specs.StoreState.{IsRead, faults_after};
     ghost use Rattle.rl_chunks.specs.Spoiling.{spoil_seen, spoil_at, spoilt};
 
     ghost seen = { λ store. spoil_seen (S.seen store.inner) store.plan store.reads };
@@ -87,7 +87,7 @@ impl<S: Store> Store for SpoilStore<S> {
     fn get(&mut self, number: u64) -> Result<Option<Vec<u8>>, StoreFault>
         ensures found { (spoil_seen (S.seen self.old.inner) self.old.plan self.old.reads).honest ≡ true → IfOk result (λ bytes. option_map (λ b. b.items) bytes ≡ map.get (S.seen self.old.inner).blobs number) }
         ensures read { IsRead (spoil_seen (S.seen self.old.inner) self.old.plan self.old.reads) (spoil_seen (S.seen self.new.inner) self.new.plan self.new.reads) }
-        ensures cause { IfErr result (HasCause (spoil_seen (S.seen self.old.inner) self.old.plan self.old.reads) (spoil_seen (S.seen self.new.inner) self.new.plan self.new.reads)) }
+        ensures counted { (S.seen self.new.inner).faults ≡ faults_after result (S.seen self.old.inner).faults }
         ensures spoilt { (S.seen self.old.inner).honest ≡ true → IfOk result (λ bytes. option_map (λ b. b.items) bytes ≡ spoilt (spoil_at self.old.plan self.old.reads) (S.seen self.old.inner).blobs number) }
     {
         let spoil = spoil_at(self.plan.as_slice(), self.reads);

@@ -2,8 +2,8 @@
 ghost use Rattle.std.specs.Prelude.{◌≡◌, ℕ, Option, List, true, OnOk, OnErr, IfOk, IfErr};
 ghost use Rattle.std.specs.Option.{option_map};
 ghost use Rattle.std.specs.FinMap as map;
-ghost use Rattle.rl_chunks.specs.StoreState.{Seen, KeepsReads, IsRead, LeavesOthers, HasCause};
-ghost use Rattle.rl_chunks.specs.declared.store.StoreFault.TheVariants.{Memory};
+ghost use Rattle.rl_chunks.specs.StoreState.{Seen, KeepsReads, IsRead, LeavesOthers, faults_after};
+ghost use Rattle.rl_chunks.specs.declared.store.StoreFault.TheVariants.{Fault, Memory};
 
 use std::alloc::{AllocError, AllocFailed};
 use thiserror::Error;
@@ -43,18 +43,19 @@ pub trait Store: Drop {
         ensures ok { OnOk result ((seen self.new).blobs ≡ map.insert (seen self.old).blobs number bytes.items) }
         ensures err { OnErr result (LeavesOthers number (seen self.old).blobs (seen self.new).blobs) }
         ensures keeps { KeepsReads (seen self.old) (seen self.new) }
-        ensures cause { IfErr result (HasCause (seen self.old) (seen self.new)) };
+        ensures counted { (seen self.new).faults ≡ faults_after result (seen self.old).faults };
 
     /// The bytes of the number, if there are any. It counts as a read with any answer.
     fn get(&mut self, number: u64) -> Result<Option<Vec<u8>>, StoreFault>
         ensures found { (seen self.old).honest ≡ true → IfOk result (λ bytes. option_map (λ b. b.items) bytes ≡ map.get (seen self.old).blobs number) }
         ensures read { IsRead (seen self.old) (seen self.new) }
-        ensures cause { IfErr result (HasCause (seen self.old) (seen self.new)) };
+        ensures counted { (seen self.new).faults ≡ faults_after result (seen self.old).faults };
 
-    /// Takes away what the number has. A refusal may take it away too.
+    /// Takes away what the number has. A refusal may take it away too. It is the device's, also where that lacked memory.
     fn remove(&mut self, number: u64) -> Result<(), StoreFault>
         ensures ok { OnOk result ((seen self.new).blobs ≡ map.remove (seen self.old).blobs number) }
         ensures err { OnErr result (LeavesOthers number (seen self.old).blobs (seen self.new).blobs) }
         ensures keeps { KeepsReads (seen self.old) (seen self.new) }
-        ensures cause { IfErr result (HasCause (seen self.old) (seen self.new)) };
+        ensures device { IfErr result (λ fault. fault ≡ Fault) }
+        ensures counted { (seen self.new).faults ≡ faults_after result (seen self.old).faults };
 }
