@@ -17,7 +17,7 @@ use Rattle.rl_chunks.specs.EntryLines.{line_of}
 use Rattle.rl_chunks.specs.declared.line.Line.{Line}
 use Rattle.rl_parts.specs.StreamParts.{Note, PartView}
 use Rattle.rl_parts.specs.StreamState.{AreSealedUpTo}
-use Rattle.rl_parts.specs.Reading.{IsWithout, in_memory, in_store}
+use Rattle.rl_parts.specs.Reading.{IsOutside, IsWithout, in_memory, in_store}
 use Rattle.rl_parts.proofs.Heads.{one_after}
 
 no_true : {P : Type 0} → false ≡ true → P
@@ -156,6 +156,23 @@ of_rest parts head q no_head no_memory found visited =
         | inr late ↦ absurd (no_head late)
       ],
     )
+
+-- what stands neither in the head nor in memory is not among what stands here
+pub not_here : (parts : List PartView) (head : List Entry) (q : Entry) → (Contains head q → ⊥) → (Contains (flat_map in_memory parts) q → ⊥) → Contains (flat_map in_memory parts ++ head) q → ⊥
+not_here parts head q no_head no_memory there = elim (Contains-append_cases (flat_map in_memory parts) head q there) [ inl memory ↦ no_memory memory | inr late ↦ no_head late ]
+
+-- no store has an entry whose time no written part reaches
+pub none_there : (parts : List PartView) (entry : Entry) → AllByRecursion (IsOutside entry.timestamp entry.timestamp) parts → Contains (flat_map in_store parts) entry → ⊥
+none_there [] entry out there = nothing entry there
+none_there (part ∷ parts) entry out there = elim (Contains-append_cases (in_store part) (flat_map in_store parts) entry there) [
+  | inl here ↦ at part.note out.0 here
+  | inr late ↦ none_there parts entry out.1 late
+]
+  where
+    at : (note : Option Note) → IsOutside entry.timestamp entry.timestamp (record { entries = part.entries; note = note }) → Contains (in_store (record { entries = part.entries; note = note })) entry → ⊥
+    at None apart h = nothing entry h
+    at (Some note) (inl before) h = let lt = All-contains (λ e. e.timestamp < entry.timestamp) part.entries entry before h in omega arith
+    at (Some note) (inr after) h = let lt = All-contains (λ e. entry.timestamp < e.timestamp) part.entries entry after h in omega arith
 
 -- one more that is so
 pub one_more : {A : Type 0} (P : A → Type 0) (xs : List A) (i : ℕ) (x : A) → i < length xs → x ≡ get_or xs i x → AllByRecursion P (take i xs) → P x → AllByRecursion P (take (i + 1) xs)

@@ -128,7 +128,7 @@ pub read_is : (set : LabelSet) (lines : List Line) (read entries : List Entry) �
 read_is set lines read entries are of same = same_by_line set read entries are.own (recursion_from_All (λ entry. entry.labels ≡ set) entries of) (are.same ∙ same)
 
 -- a part that stays
-pub rewritten_stays : (covers : Entry → Bool) (set : LabelSet) (part : PartView) (first : ℕ) (start seen : Seen) → Grown start first seen → IsPart set part → IsLeft covers set part (part ∷ []) → (start.honest ≡ true → IsKept start first set part → uncovered covers part.entries ≡ part.entries)
+pub rewritten_stays : (covers : Entry → Bool) (set : LabelSet) (part : PartView) (first : ℕ) (start seen : Seen) → Grown start first first seen → IsPart set part → IsLeft covers set part (part ∷ []) → (start.honest ≡ true → IsKept start first set part → uncovered covers part.entries ≡ part.entries)
     → AreRewritten covers set (part ∷ []) first start (part ∷ []) [] first seen
 rewritten_stays covers set part first start seen grown is left right = record {
   numbers = AreRenumbered-none (note_numbers (part ∷ [])) first;
@@ -136,7 +136,7 @@ rewritten_stays covers set part first start seen grown is left right = record {
   sealed = (is, tt);
   fewer = omega arith;
   up_to = λ top h. h;
-  kept = λ h. (IsKept-grown start seen first first set grown (omega arith) part h.0, tt);
+  kept = λ h. (IsKept-grown start seen first first first set grown (omega arith) part h.0, tt);
   right = λ honest kept. append-nil part.entries ∙ sym (right honest kept.0) ∙ ap (uncovered covers) (sym (append-nil part.entries));
 }
 
@@ -175,9 +175,9 @@ left_then covers set xs ys us vs p q = record {
 
 -- some parts, and then others
 pub rewritten_then : (covers : Entry → Bool) (set : LabelSet) (xs : List PartView) (first : ℕ) (start : Seen) (us : List PartView) (gone : List ℕ) (mid : ℕ) (seen : Seen) (ys vs : List PartView) (away : List ℕ) (next : ℕ) (after : Seen)
-    → AreRewritten covers set xs first start us gone mid seen → Grown start first seen → AreRewritten covers set ys mid seen vs away next after → Grown seen mid after → AreRewritten covers set (xs ++ ys) first start (us ++ vs) (gone ++ away) next after
+    → AreRewritten covers set xs first start us gone mid seen → Grown start first mid seen → AreRewritten covers set ys mid seen vs away next after → Grown seen mid next after → AreRewritten covers set (xs ++ ys) first start (us ++ vs) (gone ++ away) next after
 rewritten_then covers set xs first start us gone mid seen ys vs away next after p grown q more =
-    let later = λ (h : AllByRecursion (IsKept start first set) (xs ++ ys)). each_part (IsKept start first set) (IsKept seen mid set) (IsKept-grown start seen first mid set grown p.numbers.up) ys (all_after (IsKept start first set) xs ys h) in
+    let later = λ (h : AllByRecursion (IsKept start first set) (xs ++ ys)). each_part (IsKept start first set) (IsKept seen mid set) (IsKept-grown start seen first mid mid set grown p.numbers.up) ys (all_after (IsKept start first set) xs ys h) in
     record {
       numbers = subst (λ ns. AreRenumbered ns first next (note_numbers (us ++ vs)) (gone ++ away)) (sym (numbers-append xs ys))
           (subst (λ ns. AreRenumbered (note_numbers xs ++ note_numbers ys) first next ns (gone ++ away)) (sym (numbers-append us vs))
@@ -187,7 +187,7 @@ rewritten_then covers set xs first start us gone mid seen ys vs away next after 
       fewer = omega (arith, p.fewer, q.fewer, ap length (entries_in-append us vs), ap length (entries_in-append xs ys), length-append (entries_in us) (entries_in vs), length-append (entries_in xs) (entries_in ys));
       up_to = λ top h. all_both (λ part. All (λ entry. entry.timestamp ≤ unwrap_or top 0) part.entries) us vs (p.up_to top (all_front (λ part. All (λ entry. entry.timestamp ≤ unwrap_or top 0) part.entries) xs ys h)) (q.up_to top (all_after (λ part. All (λ entry. entry.timestamp ≤ unwrap_or top 0) part.entries) xs ys h));
       kept = λ h. all_both (IsKept after next set) us vs
-          (each_part (IsKept seen mid set) (IsKept after next set) (IsKept-grown seen after mid next set more q.numbers.up) us (p.kept (all_front (IsKept start first set) xs ys h)))
+          (each_part (IsKept seen mid set) (IsKept after next set) (IsKept-grown seen after mid next next set more q.numbers.up) us (p.kept (all_front (IsKept start first set) xs ys h)))
           (q.kept (later h));
       right = λ honest h.
           entries_in-append us vs
@@ -205,7 +205,7 @@ carried_more (p ∷ parts) (c ∷ changes) part change many =
 
 -- one part more is planned
 pub planned_more : (covers : Entry → Bool) (set : LabelSet) (parts : List PartView) (i : ℕ) (p : PartView) (first : ℕ) (start : Seen) (changes : List Change) (gone : List ℕ) (mid : ℕ) (seen : Seen) (next : ℕ) (after : Seen) (now : List Change) (away : List ℕ) → i < length parts → p ≡ get_or parts i p → length changes ≡ i
-    → AreRewritten covers set (take i parts) first start (carried (take i parts) changes) gone mid seen → Grown start first seen → IsOneMore covers set p mid seen next after changes now gone away → Grown seen mid after
+    → AreRewritten covers set (take i parts) first start (carried (take i parts) changes) gone mid seen → Grown start first mid seen → IsOneMore covers set p mid seen next after changes now gone away → Grown seen mid next after
     → AreRewritten covers set (take (i + 1) parts) first start (carried (take (i + 1) parts) now) away next after
 planned_more covers set parts i p first start changes gone mid seen next after now away within is many so_far grown one more =
     let front : take (i + 1) parts ≡ take i parts ++ p ∷ [] = take_more parts i p within ∙ ap (λ x. take i parts ++ x ∷ []) (sym is) in
@@ -231,7 +231,7 @@ fingerprints_len entries fingerprints are = length_permutation (fingerprints_of 
 pub here_rewritten : (covers : Entry → Bool) (set : LabelSet) (entries : List Entry) (change : Change) (first : ℕ) (start : Seen) → IsPart set (unwritten entries) → IsChangedHere covers entries change
     → AreRewritten covers set (unwritten entries ∷ []) first start (left_by (unwritten entries) change) (gone_by (unwritten entries) change) first start
 here_rewritten covers set entries Stays first start is none =
-    rewritten_stays covers set (unwritten entries) first start start (Grown-none start first) is (append-nil entries ∙ sym none, refl) (λ honest kept. none)
+    rewritten_stays covers set (unwritten entries) first start start (Grown-none start first first) is (append-nil entries ∙ sym none, refl) (λ honest kept. none)
 here_rewritten covers set entries Goes first start is all =
     rewritten_to covers set (unwritten entries) first start [] first start (omega arith) (sym (range-none first)) (sym all, refl) tt (omega arith) (λ top h. tt) tt (λ honest kept. sym all)
 here_rewritten covers set entries (Becomes now) first start is some =

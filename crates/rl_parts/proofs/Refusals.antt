@@ -6,8 +6,7 @@ use Rattle.std.proofs.lemmas.List.Elements.{All-from_recursion}
 use Rattle.rl_labels.specs.LabelSet.{LabelSet}
 use Rattle.rl_chunks.specs.StoreState.{Seen}
 use Rattle.rl_parts.specs.StreamParts.{PartView}
-use Rattle.rl_parts.specs.StoreUse.{Right, Looked, IsKept, ReadCause, FlushCause}
-use Rattle.rl_parts.specs.Rewriting.{RewriteCause}
+use Rattle.rl_parts.specs.StoreUse.{Right, Looked, IsKept}
 use Rattle.rl_parts.specs.RewriteFaults.{unread, unput}
 use Rattle.rl_parts.specs.declared.fault.FlushFault.{FlushFault}
 use Rattle.rl_parts.specs.declared.fault.FlushFault.TheVariants as flushes
@@ -42,17 +41,6 @@ ok_then P Q f (Err fault) h = tt
 pub on_ok_then : {A E P Q : Type 0} → (P → Q) → (result : Result A E) → OnOk result P → OnOk result Q
 on_ok_then f (Ok answer) h = f h
 on_ok_then f (Err fault) h = tt
-
--- a fault of a read or of a write has its cause where a stream is rewritten, too
-pub unread_cause : (old new : Seen) (next : ℕ) (fault : ReadFault) → ReadCause old new fault → RewriteCause old new next (unread fault)
-unread_cause old new next reads.Fault cause = cause
-unread_cause old new next reads.Damaged cause = tt
-unread_cause old new next reads.Memory cause = tt
-
-pub unput_cause : (old new : Seen) (next : ℕ) (fault : FlushFault) → FlushCause old new next fault → RewriteCause old new next (unput fault)
-unput_cause old new next flushes.Fault cause = cause
-unput_cause old new next flushes.NumbersSpent cause = cause
-unput_cause old new next flushes.Memory cause = tt
 
 -- nothing is damaged where a read was right, and where nothing was read
 pub unread_right : {A : Type 0} (P : A → Type 0) (fault : ReadFault) → Right {A = A} (Err fault) P → unread fault ≡ rewrites.Damaged → ⊥

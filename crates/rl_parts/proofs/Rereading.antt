@@ -27,7 +27,7 @@ noted entries note = record { entries = entries; note = Some note }
 
 -- none of its range of time may be covered
 pub unread_stays : (covers : Entry → Bool) (set : LabelSet) (entries : List Entry) (note : Note) (from to first : ℕ) (start : Seen) → IsPart set (unwritten entries) → IsRange entries from to
-    → ((entry : Entry) → entry.labels ≡ set → from ≤ entry.timestamp → entry.timestamp ≤ to → covers entry ≡ false) → Grown start first start
+    → ((entry : Entry) → entry.labels ≡ set → from ≤ entry.timestamp → entry.timestamp ≤ to → covers entry ≡ false) → Grown start first first start
     → AreRewritten covers set (noted entries note ∷ []) first start (noted entries note ∷ []) [] first start
 unread_stays covers set entries note from to first start is range none grown =
     let all : All (λ entry. covers entry ≡ false) entries = λ k d within.
@@ -73,24 +73,28 @@ module _ (covers : Entry → Bool) (set : LabelSet) (entries : List Entry) (note
       let here = ap (λ (l : Line). l.timestamp) (get_or-map line_of read k d (line_of d) within) in
       omega (arith, line, here)
 
+  -- what is left is less
+  some_covered : (left : List Entry) → left ≡ uncovered covers read → length left < length read → length (uncovered covers read) < length read
+  some_covered left of less = omega (arith, ap length of, less)
+
   -- none of what was read is covered
-  pub read_stays : (seen : Seen) → Grown start first seen → uncovered covers read ≡ read → AreRewritten covers set (noted entries note ∷ []) first start (noted entries note ∷ []) [] first seen
+  pub read_stays : (seen : Seen) → Grown start first first seen → uncovered covers read ≡ read → AreRewritten covers set (noted entries note ∷ []) first start (noted entries note ∷ []) [] first seen
   read_stays seen grown none = rewritten_stays covers set (noted entries note) first start seen grown is_part (inr (read, read_as, inl (none, refl))) (λ honest kept. subst (λ es. uncovered covers es ≡ es) (same honest kept) none)
 
   -- all is covered
   pub read_goes : (seen : Seen) → uncovered covers read ≡ [] → AreRewritten covers set (noted entries note ∷ []) first start [] (note_numbers (noted entries note ∷ [])) first seen
   read_goes seen all =
-      rewritten_to covers set (noted entries note) first start [] first seen (omega arith) (sym (range-none first)) (inr (read, read_as, inr (sym all))) tt (omega arith) (λ top h. tt) tt (λ honest kept. sym all ∙ ap (uncovered covers) (same honest kept))
+      rewritten_to covers set (noted entries note) first start [] first seen (omega arith) (sym (range-none first)) (inr (read, read_as, inr (some_covered [] (sym all) (omega (arith, as_many, is.some)), sym all))) tt (omega arith) (λ top h. tt) tt (λ honest kept. sym all ∙ ap (uncovered covers) (same honest kept))
 
   -- what is left is a part that is written under the next number
-  pub read_becomes : (left : List Entry) (now : Note) (next : ℕ) (seen : Seen) → left ≡ uncovered covers read → 0 < length left → now.number ≡ first → next ≡ first + 1 → IsNoteOf seen next (chunk_of set left) now
+  pub read_becomes : (left : List Entry) (now : Note) (next : ℕ) (seen : Seen) → left ≡ uncovered covers read → 0 < length left → length left < length read → now.number ≡ first → next ≡ first + 1 → IsNoteOf seen next (chunk_of set left) now
       → AreRewritten covers set (noted entries note ∷ []) first start (noted left now ∷ []) (note_numbers (noted entries note ∷ [])) next seen
-  read_becomes left now next seen of some number up kept =
+  read_becomes left now next seen of some less number up kept =
       let one : next - first ≡ 1 = omega (arith, up) in
       let part : IsPart set (unwritten left) = subst (λ es. IsPart set (unwritten es)) (sym of) (part_left covers set read read_part (omega (arith, some, ap length of))) in
       let fewer = filter_le (λ entry. not (covers entry)) read in
       rewritten_to covers set (noted entries note) first start (noted left now ∷ []) next seen (omega (arith, up)) (ap (λ n. n ∷ []) number ∙ sym (ap (range_with_len first) one))
-      (inr (read, read_as, inr (append-nil left ∙ of))) (record { run = part.run; some = part.some; few = part.few }, tt)
+      (inr (read, read_as, inr (some_covered left of less, append-nil left ∙ of))) (record { run = part.run; some = part.some; few = part.few }, tt)
       (omega (arith, ap length (append-nil left), ap length of, fewer, as_many))
       (λ top h. (
         subst (All (λ entry. entry.timestamp ≤ unwrap_or top 0)) (sym of) (All-filter (λ entry. not (covers entry)) (λ entry. entry.timestamp ≤ unwrap_or top 0) read

@@ -12,7 +12,7 @@ use Rattle.rl_parts.specs.StoreUse.{Grown, IsKept}
 use Rattle.rl_parts.specs.Changes.{AreNoted, unwritten_count, with_notes}
 use Rattle.rl_parts.specs.StreamState.{IsInOrder}
 use Rattle.rl_parts.specs.laws.NoteLaws.{with_notes-keeps, AreNoted-more, AreNoted-rest}
-use Rattle.rl_parts.specs.laws.UseLaws.{Grown-then, each_part, IsKept-grown}
+use Rattle.rl_parts.specs.laws.UseLaws.{each_part, IsKept-grown}
 
 -- one part was given the next number
 pub one_noted : (part : PartView) (entries : List Entry) (first next : ℕ) (note : Note) → unwritten entries ≡ part → note.number ≡ first → next ≡ first + 1 → AreNoted (part ∷ []) first (record { entries = entries; note = Some note } ∷ []) next
@@ -32,7 +32,6 @@ pub record Goes (labels : LabelSet) (old : List PartView) (first : ℕ) (start :
   pub noted : AreNoted (take i old) first (take i now) next
   pub rest : drop i now ≡ drop i old
   pub kept : AllByRecursion (IsKept start first labels) old → AllByRecursion (IsKept seen next labels) now
-  pub grown : Grown start first seen
 
 module _ (labels : LabelSet) (old : List PartView) (first : ℕ) (start : Seen) (i : ℕ) (now : List PartView) (next : ℕ) (seen : Seen) (goes : Goes labels old first start i now next seen) where
   -- the part at the index is as it was
@@ -45,13 +44,12 @@ module _ (labels : LabelSet) (old : List PartView) (first : ℕ) (start : Seen) 
   is_part p within is are = subst (IsPart labels) (sym (is ∙ untouched p)) (All-from_recursion (IsPart labels) old are i p within)
 
   -- one part more, also where it was refused
-  pub turn : (p q : PartView) (later : ℕ) (after : Seen) → unwritten_count (take i now) ≡ 0 → i < length old → p ≡ get_or now i p → AreNoted (p ∷ []) next (q ∷ []) later
-      → (IsKept seen next labels p → IsKept after later labels q) → Grown seen next after → Goes labels old first start (i + 1) (set now i q) later after
-  turn p q later after all within is noted kept grown =
+  pub turn : (p q : PartView) (later end : ℕ) (after : Seen) → unwritten_count (take i now) ≡ 0 → i < length old → p ≡ get_or now i p → AreNoted (p ∷ []) next (q ∷ []) later
+      → (IsKept seen next labels p → IsKept after later labels q) → Grown seen next end after → Goes labels old first start (i + 1) (set now i q) later after
+  turn p q later end after all within is noted kept grown =
       let low : i < length now = omega (arith, goes.many) in
       let front : take (i + 1) old ≡ take i old ++ p ∷ [] = take_more old i p within ∙ ap (λ x. take i old ++ x ∷ []) (sym (is ∙ untouched p)) in
       let up : next ≤ later = omega (arith, noted.many) in
-      let so_far : first ≤ next = omega (arith, goes.noted.many) in
       record {
         many = length-set now i q ∙ goes.many;
         noted = subst (λ xs. AreNoted xs first (take (i + 1) (set now i q)) later) (sym front)
@@ -60,8 +58,7 @@ module _ (labels : LabelSet) (old : List PartView) (first : ℕ) (start : Seen) 
         kept = λ were.
             let are : AllByRecursion (IsKept seen next labels) now = goes.kept were in
             let here : IsKept seen next labels p = subst (IsKept seen next labels) (sym is) (All-from_recursion (IsKept seen next labels) now are i p low) in
-            each_set (IsKept after later labels) now i q (each_part (IsKept seen next labels) (IsKept after later labels) (IsKept-grown seen after next later labels grown up) now are) (kept here);
-        grown = Grown-then start first seen next after so_far goes.grown grown;
+            each_set (IsKept after later labels) now i q (each_part (IsKept seen next labels) (IsKept after later labels) (IsKept-grown seen after next end later labels grown up) now are) (kept here);
       }
 
   -- the whole list
@@ -83,8 +80,8 @@ all_written now i q within all some =
     ap unwritten_count (take_more_set now i q within) ∙ omega arith
 
 -- before the first
-pub goes_none : (labels : LabelSet) (old : List PartView) (first : ℕ) (start : Seen) → Grown start first start → Goes labels old first start 0 old first start
-goes_none labels old first start none = record { many = refl; noted = record { notes = []; few = omega arith; given = refl; numbers = refl; many = omega arith }; rest = refl; kept = λ h. h; grown = none }
+pub goes_none : (labels : LabelSet) (old : List PartView) (first : ℕ) (start : Seen) → Goes labels old first start 0 old first start
+goes_none labels old first start = record { many = refl; noted = record { notes = []; few = omega arith; given = refl; numbers = refl; many = omega arith }; rest = refl; kept = λ h. h }
 
 -- a stream stays in order while its parts are written
 pub in_order_noted : (labels : LabelSet) (old new : List PartView) (head : List Entry) (newest : ℕ) (top : Option ℕ) (first next : ℕ) → AreNoted old first new next → IsInOrder (record { labels = labels; parts = old; head = head; newest = newest }) top

@@ -11,6 +11,11 @@ pub record IsInserted (old : List Entry) (entry : Entry) (new : List Entry) : Ty
   pub within : index ≤ length old
   pub is : new ≡ insert old index entry
 
+-- a stream of one entry, which is sealed where a part has no more than one
+pub record IsStarted (most : ℕ) (entry : Entry) (stream : StreamView) : Type 0 where
+  pub parts : stream.parts ≡ (if nat_lt 1 most then [] else unwritten (entry ∷ []) ∷ [])
+  pub head : stream.head ≡ (if nat_lt 1 most then entry ∷ [] else [])
+
 -- parts that no store has may have come after the old ones
 pub record AreSealed (old new : List PartView) : Type 0 where
   pub fresh : List PartView

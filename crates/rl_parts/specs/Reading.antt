@@ -62,6 +62,14 @@ IsWithout entry part = IfSome part.note (λ note. (Contains part.entries entry �
 abbrev pub IsWith : Entry → PartView → Type 0
 IsWith entry part = (note : Note) × (part.note ≡ Some note) × ((chunk : Chunk) × IsReadAs note.digest chunk × Contains chunk.lines (line_of entry))
 
+-- over any store: the entry is in memory, or bytes with the digest of a part are a chunk with its line
+abbrev pub IsFoundIn : Entry → StreamView → Type 0
+IsFoundIn entry stream = Contains (entries_here stream) entry ⊎ ((part : PartView) × Contains stream.parts part × IsWith entry part)
+
+-- over any store: it is not in memory, and no part that a store has is with it
+abbrev pub IsMissingIn : Entry → StreamView → Type 0
+IsMissingIn entry stream = (Contains (entries_here stream) entry → ⊥) × AllByRecursion (IsWithout entry) stream.parts
+
 -- what is visited of a part: its own entries of the range, or those lines of a chunk that bytes with the digest are
 abbrev pub IsPiece : LabelSet → ℕ → ℕ → PartView → List (LabelSet × Line) → Type 0
 IsPiece labels from to part piece = MatchOption part.note (piece ≡ visited_in_range from to part.entries)

@@ -1,5 +1,5 @@
 -- Removing covered entries from a stream: what is left of its parts, and under which numbers.
-use Rattle.std.specs.Prelude.{◌≡◌, ℕ, ◌-◌, ◌<◌, ◌≤◌, ◌⊎◌, length, not, true, false, Bool, List, [], ◌∷◌, ◌++◌, map, Option, refl}
+use Rattle.std.specs.Prelude.{◌≡◌, ℕ, ◌-◌, ◌<◌, ◌≤◌, ◌⊎◌, length, not, true, false, Bool, List, [], ◌∷◌, ◌++◌, map, Option, Result, Ok, Err, refl}
 use Rattle.std.specs.Coded.{Coded, code_by, coded×, coded_ℕ, coded_list}
 use Rattle.std.specs.Option.{MatchOption}
 use Rattle.std.specs.List.{All, AllByRecursion, AllZip, filter, flat_map, range_with_len}
@@ -7,11 +7,11 @@ use Rattle.std.specs.List.Sorted.{IsPermutation}
 use Rattle.rl_labels.specs.LabelSet.{LabelSet}
 use Rattle.rl_labels.specs.declared.entry.Entry.{Entry}
 use Rattle.rl_chunks.specs.EntryLines.{line_of}
-use Rattle.rl_chunks.specs.StoreState.{Seen, greatest}
+use Rattle.rl_chunks.specs.StoreState.{Seen, with_fault}
 use Rattle.rl_chunks.specs.declared.chunk.Chunk.{Chunk}
 use Rattle.rl_chunks.specs.declared.line.Line.{Line}
 use Rattle.rl_parts.specs.StreamParts.{PartView, StreamView, IsPart, notes_of, unwritten, stream_code}
-use Rattle.rl_parts.specs.StoreUse.{FaultCame, IsKept}
+use Rattle.rl_parts.specs.StoreUse.{IsKept}
 use Rattle.rl_parts.specs.StreamState.{AreSealedUpTo}
 use Rattle.rl_parts.specs.Reading.{IsReadAs}
 use Rattle.rl_parts.specs.declared.fault.RewriteFault.{RewriteFault}
@@ -40,9 +40,9 @@ pub record AreOfLines (labels : LabelSet) (lines : List Line) (entries : List En
 abbrev pub AreReadAs : List ℕ → LabelSet → List Entry → Type 0
 AreReadAs digest labels entries = (chunk : Chunk) × IsReadAs digest chunk × AreOfLines labels chunk.lines entries
 
--- no entry is covered, and the part stays; or those are left that are not covered
+-- no entry is covered, and the part stays; or some are, and the others are left
 abbrev pub IsLeftOf : (Entry → Bool) → List Entry → PartView → List PartView → Type 0
-IsLeftOf covers entries part left = ((uncovered covers entries ≡ entries) × (left ≡ part ∷ [])) ⊎ (entries_in left ≡ uncovered covers entries)
+IsLeftOf covers entries part left = ((uncovered covers entries ≡ entries) × (left ≡ part ∷ [])) ⊎ ((length (uncovered covers entries) < length entries) × (entries_in left ≡ uncovered covers entries))
 
 -- what is left of a part: of its own entries, if it is in memory; and if a store has it, the part itself where none of its
 -- entries is covered, or else of entries that bytes with its digest are
@@ -63,12 +63,17 @@ pub record AreRenumbered (old : List ℕ) (first next : ℕ) (new gone : List �
   pub before : IsPermutation old (stay ++ gone)
   pub now : IsPermutation new (stay ++ range_with_len first (next - first))
 
--- a fault of the device was counted in the call, and the numbers are spent where only the greatest is left
-abbrev pub RewriteCause : (old new : Seen) (next : ℕ) → RewriteFault → Type 0
-RewriteCause old new next rewrites.Fault = FaultCame old.faults new.faults
-RewriteCause old new next rewrites.Damaged = Unit {0}
-RewriteCause old new next rewrites.NumbersSpent = next ≡ greatest
-RewriteCause old new next rewrites.Memory = Unit {0}
+-- faults after reads and puts that were refused so: one more where the device failed
+abbrev pub rewrite_faults : RewriteFault → ℕ → ℕ
+rewrite_faults rewrites.Fault faults = with_fault faults
+rewrite_faults rewrites.Damaged faults = faults
+rewrite_faults rewrites.NumbersSpent faults = faults
+rewrite_faults rewrites.Memory faults = faults
+
+-- and after reads and puts that answered so
+abbrev pub after_rewrite : {A : Type 0} → Result A RewriteFault → ℕ → ℕ
+after_rewrite (Ok _) faults = faults
+after_rewrite (Err fault) faults = rewrite_faults fault faults
 
 -- a stream, what it becomes, and the numbers that are no longer used then
 pub record PlanView : Type 0 where

@@ -1,12 +1,12 @@
 -- What the calls of a stream do to a store, and what they rest on of it.
-use Rattle.std.specs.Prelude.{◌≡◌, ℕ, ◌<◌, ◌≤◌, ◌⊎◌, min, true, Some, Result, Ok, Err, IfSome}
+use Rattle.std.specs.Prelude.{◌≡◌, ℕ, ◌+◌, ◌<◌, ◌≤◌, ◌⊎◌, min, true, Some, Result, Ok, Err, IfSome}
 use Rattle.std.specs.List.{AllByRecursion}
 use Rattle.std.specs.FinMap as map
 use Rattle.sha2.specs.Sha256.{sha256}
 use Rattle.rl_labels.specs.LabelSet.{LabelSet}
 use Rattle.rl_chunks.specs.ChunkText.{chunk_text}
 use Rattle.rl_chunks.specs.ChunkReading.{read_chunk}
-use Rattle.rl_chunks.specs.StoreState.{Seen, greatest}
+use Rattle.rl_chunks.specs.StoreState.{Seen, greatest, with_fault}
 use Rattle.rl_chunks.specs.declared.chunk.Chunk.{Chunk}
 use Rattle.rl_chunks.specs.declared.format.Format.TheVariants.{Short}
 use Rattle.rl_parts.specs.StreamParts.{Note, PartView, StreamView, chunk_of}
@@ -27,13 +27,16 @@ FaultCame old new = (min old greatest < min new greatest) ⊎ (greatest ≤ new)
 pub record Looked (old new : Seen) : Type 0 where
   pub blobs : new.blobs ≡ old.blobs
   pub honest : new.honest ≡ old.honest
-  pub faults : FaultsRise old.faults new.faults
 
--- what puts under numbers from `below` on leave
-pub record Grown (old : Seen) (below : ℕ) (new : Seen) : Type 0 where
+-- what puts under numbers from the first on, and below the end, leave
+pub record Grown (old : Seen) (first end : ℕ) (new : Seen) : Type 0 where
   pub honest : new.honest ≡ old.honest
-  pub faults : FaultsRise old.faults new.faults
-  pub others : (number : ℕ) → number < below → map.get new.blobs number ≡ map.get old.blobs number
+  pub others : (number : ℕ) → (number < first) ⊎ (end ≤ number) → map.get new.blobs number ≡ map.get old.blobs number
+
+-- puts under the numbers from the first up to the next; one that was refused may have lost what the next number has
+abbrev pub IsGrown : {A E : Type 0} → Result A E → Seen → ℕ → ℕ → Seen → Type 0
+IsGrown (Ok _) old first next new = Grown old first next new
+IsGrown (Err _) old first next new = Grown old first (next + 1) new
 
 -- a note of this chunk, under a number below the next: its bytes are read as it, and an honest store has them there
 pub record IsNoteOf (seen : Seen) (next : ℕ) (chunk : Chunk) (note : Note) : Type 0 where
@@ -57,14 +60,23 @@ Right (Err reads.Damaged) P = ⊥
 Right (Err reads.Fault) P = Unit {0}
 Right (Err reads.Memory) P = Unit {0}
 
--- a fault of the device was counted in the call
-abbrev pub ReadCause : Seen → Seen → ReadFault → Type 0
-ReadCause old new reads.Fault = FaultCame old.faults new.faults
-ReadCause old new reads.Damaged = Unit {0}
-ReadCause old new reads.Memory = Unit {0}
+-- faults after reads that were refused so: one more where the device failed
+abbrev pub read_faults : ReadFault → ℕ → ℕ
+read_faults reads.Fault faults = with_fault faults
+read_faults reads.Damaged faults = faults
+read_faults reads.Memory faults = faults
 
--- a fault of the device was counted in the call, and the numbers are spent where only the greatest is left
-abbrev pub FlushCause : Seen → Seen → ℕ → FlushFault → Type 0
-FlushCause old new next flushes.Fault = FaultCame old.faults new.faults
-FlushCause old new next flushes.NumbersSpent = next ≡ greatest
-FlushCause old new next flushes.Memory = Unit {0}
+-- and after reads that answered so
+abbrev pub after_read : {A : Type 0} → Result A ReadFault → ℕ → ℕ
+after_read (Ok _) faults = faults
+after_read (Err fault) faults = read_faults fault faults
+
+-- the same of puts
+abbrev pub flush_faults : FlushFault → ℕ → ℕ
+flush_faults flushes.Fault faults = with_fault faults
+flush_faults flushes.NumbersSpent faults = faults
+flush_faults flushes.Memory faults = faults
+
+abbrev pub after_flush : {A : Type 0} → Result A FlushFault → ℕ → ℕ
+after_flush (Ok _) faults = faults
+after_flush (Err fault) faults = flush_faults fault faults

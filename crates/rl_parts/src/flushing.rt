@@ -1,10 +1,11 @@
 //! Parts that are written to a store.
-ghost use Rattle.std.specs.Prelude.{◌≡◌, ℕ, ◌+◌, ◌<◌, length, Some, IfOk, IfErr, OnOk, MatchResult};
+ghost use Rattle.std.specs.Prelude.{◌≡◌, ◌+◌, ◌<◌, length, Some, Err, IfOk, IsErrOf, OnOk, MatchResult};
 ghost use Rattle.std.specs.List.{AllByRecursion};
 ghost use Rattle.std.specs.FinMap as map;
+ghost use Rattle.rl_chunks.specs.StoreState.{greatest};
 ghost use Rattle.rl_parts.specs.StreamParts.{IsPart, unwritten};
 ghost use Rattle.rl_parts.specs.PartState.{IsRange, IsWritten};
-ghost use Rattle.rl_parts.specs.StoreUse.{Grown, IsKept, FlushCause};
+ghost use Rattle.rl_parts.specs.StoreUse.{Grown, IsGrown, IsKept, after_flush};
 ghost use Rattle.rl_parts.specs.Changes.{AreNoted, unwritten_count};
 
 use crate::fault::FlushFault;
@@ -21,8 +22,9 @@ use std::snapshot::Snapshot;
 // Puts bytes under a number.
 fn put_bytes<S: Store>(store: &mut S, number: u64, bytes: Vec<u8>) -> Result<(), FlushFault>
     ensures there { OnOk result (map.get (S.seen store.new).blobs number ≡ Some bytes.items) }
-    ensures grown { Grown (S.seen store.old) number (S.seen store.new) }
-    ensures cause { (next : ℕ) → IfErr result (FlushCause (S.seen store.old) (S.seen store.new) next) }
+    ensures grown { Grown (S.seen store.old) number (number + 1) (S.seen store.new) }
+    ensures counted { (S.seen store.new).faults ≡ after_flush result (S.seen store.old).faults }
+    ensures not_spent { IsErrOf result FlushFault.NumbersSpent → ⊥ }
 {
     match store.put(number, bytes) {
         Ok(()) => Ok(()),
@@ -52,8 +54,10 @@ pub(crate) fn write_entries<S: Store>(
     requires { IsPart labels.now (unwritten entries.now) }
     ensures written { IfOk result (IsWritten (S.seen store.new) labels.now entries.now next.old) }
     ensures next { MatchResult result (λ _. next.new ≡ next.old + 1) (λ _. next.new ≡ next.old) }
-    ensures grown { Grown (S.seen store.old) next.old (S.seen store.new) }
-    ensures cause { IfErr result (FlushCause (S.seen store.old) (S.seen store.new) next.new) }
+    ensures grown { IsGrown result (S.seen store.old) next.old next.new (S.seen store.new) }
+    ensures counted { (S.seen store.new).faults ≡ after_flush result (S.seen store.old).faults }
+    ensures spent_first { next.old ≡ greatest → (result ≡ Err FlushFault.NumbersSpent) × (S.seen store.new ≡ S.seen store.old) }
+    ensures spent { IsErrOf result FlushFault.NumbersSpent → next.new ≡ greatest }
 {
     let number = *next;
     if number == u64::MAX {
@@ -86,9 +90,11 @@ pub(crate) fn write_parts<S: Store>(
     requires { AllByRecursion (IsPart labels.now) parts.old }
     ensures noted { AreNoted parts.old next.old parts.new next.new }
     ensures kept { AllByRecursion (IsKept (S.seen store.old) next.old labels.now) parts.old → AllByRecursion (IsKept (S.seen store.new) next.new labels.now) parts.new }
+    ensures counted_parts { next.new + unwritten_count parts.new ≡ next.old + unwritten_count parts.old }
     ensures all { OnOk result (unwritten_count parts.new ≡ 0) }
-    ensures grown { Grown (S.seen store.old) next.old (S.seen store.new) }
-    ensures cause { IfErr result (FlushCause (S.seen store.old) (S.seen store.new) next.new) }
+    ensures grown { IsGrown result (S.seen store.old) next.old next.new (S.seen store.new) }
+    ensures counted { (S.seen store.new).faults ≡ after_flush result (S.seen store.old).faults }
+    ensures spent { IsErrOf result FlushFault.NumbersSpent → next.new ≡ greatest }
 {
     for index in 0..parts.len() {
         let part = &mut parts[index];

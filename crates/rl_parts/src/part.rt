@@ -54,16 +54,17 @@ impl Model for Part {
 }
 
 impl Part {
-    ghost use Rattle.std.specs.Prelude.{◌≡◌, ℕ, ◌≤◌, length, true, false, Some, [], ◌∷◌, IsTrue, ◌↔◌, IfOk, IfErr, IsErrOf, OnOk, IsSome};
+    ghost use Rattle.std.specs.Prelude.{◌≡◌, ℕ, ◌+◌, ◌≤◌, length, true, false, Ok, Some, [], ◌∷◌, IsTrue, ◌↔◌, IfOk, IsErrOf, OnOk, IsSome};
     ghost use Rattle.std.specs.Option.{option_map};
     ghost use Rattle.std.specs.List.{Contains, fold};
+    ghost use Rattle.rl_chunks.specs.StoreState.{greatest};
     ghost use Rattle.rl_parts.specs.StreamParts.{IsPart, unwritten};
-    ghost use Rattle.rl_parts.specs.StoreUse.{Looked, Grown, IsKept, Right, ReadCause, FlushCause};
+    ghost use Rattle.rl_parts.specs.StoreUse.{Looked, IsGrown, IsKept, Right, after_read, after_flush};
     ghost use Rattle.rl_parts.specs.Reading.{IsOutside, IsWith, IsWithout, IsVisited, in_memory, in_store, visited_in_range};
-    ghost use Rattle.rl_parts.specs.Changes.{AreNoted};
+    ghost use Rattle.rl_parts.specs.Changes.{AreNoted, unwritten_count};
     ghost use Rattle.rl_parts.specs.Fingerprints.{AreFingerprints};
     ghost use Rattle.rl_parts.specs.PartState.{IsRange};
-    ghost use Rattle.rl_parts.specs.Rewriting.{AreRewritten, RewriteCause, gone_by, left_by};
+    ghost use Rattle.rl_parts.specs.Rewriting.{AreRewritten, after_rewrite, gone_by, left_by};
 
     // A part that no store has.
     pub(crate) fn new(entries: Vec<StoredEntry>) -> Part
@@ -115,9 +116,11 @@ impl Part {
         requires { IsPart labels.now self.old }
         ensures noted { AreNoted (self.old ∷ []) next.old (self.new ∷ []) next.new }
         ensures kept { IsKept (S.seen store.old) next.old labels.now self.old → IsKept (S.seen store.new) next.new labels.now self.new }
+        ensures counted_parts { next.new + unwritten_count (self.new ∷ []) ≡ next.old + unwritten_count (self.old ∷ []) }
         ensures written { OnOk result (IsSome self.new.note) }
-        ensures grown { Grown (S.seen store.old) next.old (S.seen store.new) }
-        ensures cause { IfErr result (FlushCause (S.seen store.old) (S.seen store.new) next.new) }
+        ensures grown { IsGrown result (S.seen store.old) next.old next.new (S.seen store.new) }
+        ensures counted { (S.seen store.new).faults ≡ after_flush result (S.seen store.old).faults }
+        ensures spent { IsErrOf result FlushFault.NumbersSpent → next.new ≡ greatest }
     {
         let written = match &self.location {
             Location::InStore(_) => return Ok(()),
@@ -147,8 +150,9 @@ impl Part {
     ) -> Result<bool, ReadFault>
         requires { IsPart entry.now.labels self.now }
         ensures looked { Looked (S.seen store.old) (S.seen store.new) }
-        ensures cause { IfErr result (ReadCause (S.seen store.old) (S.seen store.new)) }
+        ensures counted { (S.seen store.new).faults ≡ after_read result (S.seen store.old).faults }
         ensures unread { IsOutside entry.now.timestamp entry.now.timestamp self.now → S.seen store.new ≡ S.seen store.old }
+        ensures exact { IsOutside entry.now.timestamp entry.now.timestamp self.now → result ≡ Ok false }
         ensures yes { IfOk result (λ found. found ≡ true → IsWith entry.now self.now) }
         ensures no { IfOk result (λ found. found ≡ false → IsWithout entry.now self.now) }
         ensures right { (next : ℕ) → IsKept (S.seen store.old) next entry.now.labels self.now → (S.seen store.old).honest ≡ true → Right result (λ found. IsTrue found ↔ Contains (in_store self.now) entry.now) }
@@ -171,7 +175,7 @@ impl Part {
     ) -> Result<(), ReadFault>
         requires { IsPart labels.now self.now }
         ensures looked { Looked (S.seen store.old) (S.seen store.new) }
-        ensures cause { IfErr result (ReadCause (S.seen store.old) (S.seen store.new)) }
+        ensures counted { (S.seen store.new).faults ≡ after_read result (S.seen store.old).faults }
         ensures unread { IsOutside from to self.now → S.seen store.new ≡ S.seen store.old }
         ensures visited { IsOutside from to self.now → OnOk result (visitor.new ≡ fold T.visiting visitor.old (visited_in_range from to self.now.entries)) }
         ensures piece { OnOk result (IsVisited T.visiting labels.now from to (self.now ∷ []) visitor.old visitor.new) }
@@ -200,8 +204,9 @@ impl Part {
         ensures rewritten { IfOk result (λ change. AreRewritten (C.covers covered.now) labels.now (self.now ∷ []) next.old (S.seen store.old) (left_by self.now change) (gone_by self.now change) next.new (S.seen store.new)) }
         ensures undamaged { IsKept (S.seen store.old) next.old labels.now self.now → (S.seen store.old).honest ≡ true → IsErrOf result RewriteFault.Damaged → ⊥ }
         ensures next { next.old ≤ next.new }
-        ensures grown { Grown (S.seen store.old) next.old (S.seen store.new) }
-        ensures cause { IfErr result (RewriteCause (S.seen store.old) (S.seen store.new) next.new) }
+        ensures grown { IsGrown result (S.seen store.old) next.old next.new (S.seen store.new) }
+        ensures counted { (S.seen store.new).faults ≡ after_rewrite result (S.seen store.old).faults }
+        ensures spent { IsErrOf result RewriteFault.NumbersSpent → next.new ≡ greatest }
     {
         match &self.location {
             Location::Here(entries) => {

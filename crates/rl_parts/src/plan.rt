@@ -1,9 +1,10 @@
 //! Plans of streams without their covered entries. A plan is made over a stream that is only read, and may be refused; it is
 //! carried out without memory, and is not refused.
-ghost use Rattle.std.specs.Prelude.{◌≡◌, ◌+◌, ◌<◌, ◌≤◌, ◌^◌, ◌++◌, [], IfErr, IfOk, IsErrOf, OnOk, length, true, vec_capacity, vec_len};
+ghost use Rattle.std.specs.Prelude.{◌≡◌, ◌+◌, ◌<◌, ◌≤◌, ◌^◌, ◌++◌, [], IfOk, IsErrOf, OnOk, length, true, vec_capacity, vec_len};
 ghost use Rattle.std.specs.List.{AllByRecursion};
-ghost use Rattle.rl_parts.specs.Rewriting.{AreRewritten, IsOneMore, RewriteCause, carried, entries_in, gone_by, left_by};
-ghost use Rattle.rl_parts.specs.StoreUse.{Grown, IsKept};
+ghost use Rattle.rl_chunks.specs.StoreState.{greatest};
+ghost use Rattle.rl_parts.specs.Rewriting.{AreRewritten, IsOneMore, after_rewrite, carried, entries_in, gone_by, left_by};
+ghost use Rattle.rl_parts.specs.StoreUse.{IsGrown, IsKept};
 ghost use Rattle.rl_parts.specs.StreamParts.{IsPart};
 
 use crate::fault::RewriteFault;
@@ -80,8 +81,9 @@ fn plan_part<S: Store, C: Covers>(
     ensures more { OnOk result (IsOneMore (C.covers covered.now) labels.now part.now next.old (S.seen store.old) next.new (S.seen store.new) changes.old.items changes.new.items gone.old.items gone.new.items) }
     ensures undamaged { IsKept (S.seen store.old) next.old labels.now part.now → (S.seen store.old).honest ≡ true → IsErrOf result RewriteFault.Damaged → ⊥ }
     ensures next { next.old ≤ next.new }
-    ensures grown { Grown (S.seen store.old) next.old (S.seen store.new) }
-    ensures cause { IfErr result (RewriteCause (S.seen store.old) (S.seen store.new) next.new) }
+    ensures grown { IsGrown result (S.seen store.old) next.old next.new (S.seen store.new) }
+    ensures counted { (S.seen store.new).faults ≡ after_rewrite result (S.seen store.old).faults }
+    ensures spent { IsErrOf result RewriteFault.NumbersSpent → next.new ≡ greatest }
 {
     let change = part.rewrite(alloc, store, covered, labels, next)?;
     push_gone(gone, part, &change)?;
@@ -102,8 +104,9 @@ pub(crate) fn plan_parts<S: Store, C: Covers>(
     ensures rewritten { IfOk result (λ found. AreRewritten (C.covers covered.now) labels.now parts.now next.old (S.seen store.old) (carried parts.now found.0.items) found.1.items next.new (S.seen store.new)) }
     ensures undamaged { AllByRecursion (IsKept (S.seen store.old) next.old labels.now) parts.now → (S.seen store.old).honest ≡ true → IsErrOf result RewriteFault.Damaged → ⊥ }
     ensures next { next.old ≤ next.new }
-    ensures grown { Grown (S.seen store.old) next.old (S.seen store.new) }
-    ensures cause { IfErr result (RewriteCause (S.seen store.old) (S.seen store.new) next.new) }
+    ensures grown { IsGrown result (S.seen store.old) next.old next.new (S.seen store.new) }
+    ensures counted { (S.seen store.new).faults ≡ after_rewrite result (S.seen store.old).faults }
+    ensures spent { IsErrOf result RewriteFault.NumbersSpent → next.new ≡ greatest }
 {
     let mut changes = Vec::new(alloc);
     let mut gone = Vec::new(alloc);

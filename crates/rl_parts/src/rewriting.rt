@@ -1,16 +1,17 @@
 //! Removing covered entries from the entries of a part.
-ghost use Rattle.std.specs.Prelude.{◌≡◌, ◌<◌, ◌≤◌, ◌++◌, ◌∷◌, [], IsTrue, IfErr, IfOk, IsErrOf, List, OnOk, length, map, true, ℕ};
+ghost use Rattle.std.specs.Prelude.{◌≡◌, ◌<◌, ◌≤◌, ◌++◌, ◌∷◌, [], IsTrue, IfOk, IsErrOf, List, OnOk, length, map, true, ℕ};
 ghost use Rattle.std.specs.List.{All};
 ghost use Rattle.rl_labels.specs.EntryParts.{is_stream, longest_line};
 ghost use Rattle.rl_labels.specs.LabelSet.{LabelSet};
 ghost use Rattle.rl_labels.specs.declared.entry.Entry.{Entry};
 ghost use Rattle.rl_chunks.specs.EntryLines.{line_of};
+ghost use Rattle.rl_chunks.specs.StoreState.{greatest};
 ghost use Rattle.rl_chunks.specs.declared.chunk.Chunk.{Chunk};
 ghost use Rattle.rl_parts.specs.Fingerprints.{AreFingerprints};
 ghost use Rattle.rl_parts.specs.PartState.{IsRange, part_at};
 ghost use Rattle.rl_parts.specs.Reading.{IsReadAs};
-ghost use Rattle.rl_parts.specs.Rewriting.{AreOfLines, AreRewritten, IsChangedHere, RewriteCause, gone_by, left_by, uncovered};
-ghost use Rattle.rl_parts.specs.StoreUse.{Grown, IsNoteOf, Looked, ReadCause, Right};
+ghost use Rattle.rl_parts.specs.Rewriting.{AreOfLines, AreRewritten, IsChangedHere, after_rewrite, gone_by, left_by, uncovered};
+ghost use Rattle.rl_parts.specs.StoreUse.{IsGrown, IsNoteOf, Looked, Right, after_read};
 ghost use Rattle.rl_parts.specs.StreamParts.{IsPart, chunk_of, unwritten};
 ghost use Rattle.rl_parts.specs.declared.part.Location.TheVariants.{InStore};
 
@@ -128,7 +129,7 @@ fn read_again<S: Store>(
     ensures many { IfOk result (λ lines. length lines.items ≡ length written.now.fingerprints) }
     ensures old { IfOk result (λ lines. All (λ line. line.timestamp ≤ written.now.last) lines.items) }
     ensures looked { Looked (S.seen store.old) (S.seen store.new) }
-    ensures cause { IfErr result (ReadCause (S.seen store.old) (S.seen store.new)) }
+    ensures counted { (S.seen store.new).faults ≡ after_read result (S.seen store.old).faults }
     ensures right { (labels : LabelSet) (next : ℕ) → IsPart labels (unwritten written.now.entries.value) → IsRange written.now.entries.value written.now.first written.now.last → AreFingerprints written.now.entries.value written.now.fingerprints → IsNoteOf (S.seen store.old) next (chunk_of labels written.now.entries.value) (record { number = written.now.number; digest = written.now.digest }) → (S.seen store.old).honest ≡ true → Right result (λ lines. lines.items ≡ map line_of written.now.entries.value) }
 {
     let chunk = fetch(alloc, store, written.number, &written.digest)?;
@@ -157,8 +158,9 @@ pub(crate) fn rewrite_written<S: Store, C: Covers>(
     ensures rewritten { IfOk result (λ change. AreRewritten (C.covers covered.now) labels.now (part_at (InStore written.now) ∷ []) next.old (S.seen store.old) (left_by (part_at (InStore written.now)) change) (gone_by (part_at (InStore written.now)) change) next.new (S.seen store.new)) }
     ensures undamaged { IsNoteOf (S.seen store.old) next.old (chunk_of labels.now written.now.entries.value) (record { number = written.now.number; digest = written.now.digest }) → (S.seen store.old).honest ≡ true → IsErrOf result RewriteFault.Damaged → ⊥ }
     ensures next { next.old ≤ next.new }
-    ensures grown { Grown (S.seen store.old) next.old (S.seen store.new) }
-    ensures cause { IfErr result (RewriteCause (S.seen store.old) (S.seen store.new) next.new) }
+    ensures grown { IsGrown result (S.seen store.old) next.old next.new (S.seen store.new) }
+    ensures counted { (S.seen store.new).faults ≡ after_rewrite result (S.seen store.old).faults }
+    ensures spent { IsErrOf result RewriteFault.NumbersSpent → next.new ≡ greatest }
 {
     if !covered.may_cover(labels, written.first, written.last)? {
         return Ok(Change::Stays);

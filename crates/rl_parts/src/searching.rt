@@ -1,5 +1,5 @@
 //! Whether a stream has an entry.
-ghost use Rattle.std.specs.Prelude.{◌≡◌, ℕ, ◌<◌, ◌≤◌, ◌⊎◌, true, false, IsTrue, ◌↔◌, IfOk, IfErr};
+ghost use Rattle.std.specs.Prelude.{◌≡◌, ℕ, ◌<◌, ◌≤◌, ◌⊎◌, true, false, IsTrue, ◌↔◌, IfOk, Ok};
 ghost use Rattle.std.specs.Option.{unwrap_or};
 ghost use Rattle.std.specs.List.{AllByRecursion, Contains, flat_map};
 ghost use Rattle.rl_chunks.specs.EntryLines.{line_of};
@@ -7,7 +7,7 @@ ghost use Rattle.rl_parts.specs.StreamParts.{PartView, IsPart, IsRun, unwritten,
 ghost use Rattle.rl_chunks.specs.declared.chunk.Chunk.{Chunk};
 ghost use Rattle.rl_parts.specs.Fingerprints.{AreFingerprints};
 ghost use Rattle.rl_parts.specs.PartState.{IsRange};
-ghost use Rattle.rl_parts.specs.StoreUse.{Looked, IsKept, IsNoteOf, Right, ReadCause};
+ghost use Rattle.rl_parts.specs.StoreUse.{Looked, IsKept, IsNoteOf, Right, after_read};
 ghost use Rattle.rl_parts.specs.Reading.{IsApart, IsOutside, IsReadAs, IsWith, IsWithout, in_memory, in_store};
 
 use crate::fault::ReadFault;
@@ -95,8 +95,9 @@ pub(crate) fn has_written<S: Store>(
     requires range { IsRange written.now.entries.value written.now.first written.now.last }
     requires fingerprints { AreFingerprints written.now.entries.value written.now.fingerprints }
     ensures looked { Looked (S.seen store.old) (S.seen store.new) }
-    ensures cause { IfErr result (ReadCause (S.seen store.old) (S.seen store.new)) }
+    ensures counted { (S.seen store.new).faults ≡ after_read result (S.seen store.old).faults }
     ensures unread { IsApart entry.now.timestamp entry.now.timestamp written.now.entries.value → S.seen store.new ≡ S.seen store.old }
+    ensures exact { IsApart entry.now.timestamp entry.now.timestamp written.now.entries.value → result ≡ Ok false }
     ensures yes { IfOk result (λ found. found ≡ true → (chunk : Chunk) × IsReadAs written.now.digest chunk × Contains chunk.lines (line_of entry.now)) }
     ensures no { IfOk result (λ found. found ≡ false → (Contains written.now.entries.value entry.now → ⊥) ⊎ ((chunk : Chunk) × IsReadAs written.now.digest chunk × (Contains chunk.lines (line_of entry.now) → ⊥))) }
     ensures right { (next : ℕ) → IsNoteOf (S.seen store.old) next (chunk_of entry.now.labels written.now.entries.value) (record { number = written.now.number; digest = written.now.digest }) → (S.seen store.old).honest ≡ true → Right result (λ found. IsTrue found ↔ Contains written.now.entries.value entry.now) }
@@ -130,8 +131,9 @@ pub(crate) fn any_there<S: Store>(
 ) -> Result<bool, ReadFault>
     requires { AllByRecursion (IsPart entry.now.labels) parts.now }
     ensures looked { Looked (S.seen store.old) (S.seen store.new) }
-    ensures cause { IfErr result (ReadCause (S.seen store.old) (S.seen store.new)) }
+    ensures counted { (S.seen store.new).faults ≡ after_read result (S.seen store.old).faults }
     ensures unread { AllByRecursion (IsOutside entry.now.timestamp entry.now.timestamp) parts.now → S.seen store.new ≡ S.seen store.old }
+    ensures exact { AllByRecursion (IsOutside entry.now.timestamp entry.now.timestamp) parts.now → result ≡ Ok false }
     ensures yes { IfOk result (λ found. found ≡ true → (part : PartView) × Contains parts.now part × IsWith entry.now part) }
     ensures no { IfOk result (λ found. found ≡ false → AllByRecursion (IsWithout entry.now) parts.now) }
     ensures right { (next : ℕ) → AllByRecursion (IsKept (S.seen store.old) next entry.now.labels) parts.now → (S.seen store.old).honest ≡ true → Right result (λ found. IsTrue found ↔ Contains (flat_map in_store parts.now) entry.now) }

@@ -1,5 +1,5 @@
 //! One stream as its parts.
-ghost use Rattle.std.specs.Prelude.{◌≡◌, ℕ, ◌<◌, ◌≤◌, ◌^◌, ◌⊎◌, max, true, false, [], ◌∷◌, length, IsTrue, ◌↔◌, Ok, OnOk, OnErr, IfOk, IfErr, IsErrOf};
+ghost use Rattle.std.specs.Prelude.{◌≡◌, ℕ, ◌+◌, ◌<◌, ◌≤◌, ◌^◌, max, true, false, [], ◌∷◌, length, IsTrue, ◌↔◌, Ok, OnOk, OnErr, IfOk, IsErrOf, MatchResult};
 
 use crate::fault::{FlushFault, ReadFault, RewriteFault};
 use crate::flushing::write_parts;
@@ -49,12 +49,13 @@ impl Model for Stream {
 }
 
 impl Stream {
-    ghost use Rattle.std.specs.List.{All, AllByRecursion, Contains, fold};
-    ghost use Rattle.rl_parts.specs.StreamParts.{PartView, entries_of, notes_of, most_entries};
-    ghost use Rattle.rl_parts.specs.StoreUse.{Looked, Grown, AreKept, Right, ReadCause, FlushCause};
-    ghost use Rattle.rl_parts.specs.Reading.{NoneReaches, IsWith, IsWithout, IsVisited, entries_here, visited_in_range};
-    ghost use Rattle.rl_parts.specs.Changes.{IsInserted, IsHeld, AreSealed, AreNoted, sealed_parts, unwritten_count};
-    ghost use Rattle.rl_parts.specs.Rewriting.{AreLeft, AreRenumbered, RewriteCause, note_numbers, uncovered};
+    ghost use Rattle.std.specs.List.{All, Contains, fold};
+    ghost use Rattle.rl_chunks.specs.StoreState.{greatest};
+    ghost use Rattle.rl_parts.specs.StreamParts.{entries_of, most_entries};
+    ghost use Rattle.rl_parts.specs.StoreUse.{Looked, IsGrown, AreKept, Right, after_read, after_flush};
+    ghost use Rattle.rl_parts.specs.Reading.{NoneReaches, IsFoundIn, IsMissingIn, IsVisited, entries_here, visited_in_range};
+    ghost use Rattle.rl_parts.specs.Changes.{IsStarted, IsInserted, IsHeld, AreSealed, AreNoted, sealed_parts, unwritten_count};
+    ghost use Rattle.rl_parts.specs.Rewriting.{AreLeft, AreRenumbered, after_rewrite, note_numbers, uncovered};
 
     /// A stream of one entry. It is sealed at once where a part has no more than one.
     pub fn start(alloc: Global, entry: Shared<Entry>, most: u64) -> Result<Stream, AllocError>
@@ -63,8 +64,7 @@ impl Stream {
         ensures labels { IfOk result (λ stream. stream.labels ≡ entry.labels) }
         ensures newest { IfOk result (λ stream. stream.newest ≡ entry.timestamp) }
         ensures entries { IfOk result (λ stream. entries_of stream ≡ entry ∷ []) }
-        ensures notes { IfOk result (λ stream. notes_of stream.parts ≡ []) }
-        ensures head { 1 < most → IfOk result (λ stream. stream.parts ≡ []) }
+        ensures shape { IfOk result (IsStarted most entry) }
     {
         let labels = entry.get().labels.try_copy()?;
         let newest = entry.get().timestamp;
@@ -163,10 +163,12 @@ impl Stream {
         ensures head { self.new.head ≡ self.old.head }
         ensures entries { entries_of self.new ≡ entries_of self.old }
         ensures parts { AreNoted self.old.parts next.old self.new.parts next.new }
+        ensures counted_parts { next.new + unwritten_count self.new.parts ≡ next.old + unwritten_count self.old.parts }
         ensures all { OnOk result (unwritten_count self.new.parts ≡ 0) }
         ensures kept { AreKept (S.seen store.old) next.old self.old → AreKept (S.seen store.new) next.new self.new }
-        ensures grown { Grown (S.seen store.old) next.old (S.seen store.new) }
-        ensures cause { IfErr result (FlushCause (S.seen store.old) (S.seen store.new) next.new) }
+        ensures grown { IsGrown result (S.seen store.old) next.old next.new (S.seen store.new) }
+        ensures counted { (S.seen store.new).faults ≡ after_flush result (S.seen store.old).faults }
+        ensures spent { IsErrOf result FlushFault.NumbersSpent → next.new ≡ greatest }
     {
         write_parts(alloc, store, &self.labels, &mut self.parts, next)
     }
@@ -182,12 +184,14 @@ impl Stream {
     ) -> Result<bool, ReadFault>
         requires { entry.now.labels ≡ self.now.labels }
         ensures looked { Looked (S.seen store.old) (S.seen store.new) }
-        ensures cause { IfErr result (ReadCause (S.seen store.old) (S.seen store.new)) }
+        ensures counted { (S.seen store.new).faults ≡ after_read result (S.seen store.old).faults }
         ensures here { Contains (entries_here self.now) entry.now → (result ≡ Ok true) × (S.seen store.new ≡ S.seen store.old) }
         ensures unread { NoneReaches entry.now.timestamp entry.now.timestamp self.now → S.seen store.new ≡ S.seen store.old }
+        // Where no such part has the timestamp the answer is right, whatever the store does.
+        ensures exact { NoneReaches entry.now.timestamp entry.now.timestamp self.now → MatchResult result (λ found. IsTrue found ↔ Contains (entries_of self.now) entry.now) (λ _. ⊥) }
         // What is answered of a part that a store has follows from bytes with the digest, whatever the store does.
-        ensures yes { IfOk result (λ found. found ≡ true → Contains (entries_here self.now) entry.now ⊎ ((part : PartView) × Contains self.now.parts part × IsWith entry.now part)) }
-        ensures no { IfOk result (λ found. found ≡ false → AllByRecursion (IsWithout entry.now) self.now.parts) }
+        ensures yes { IfOk result (λ found. found ≡ true → IsFoundIn entry.now self.now) }
+        ensures no { IfOk result (λ found. found ≡ false → IsMissingIn entry.now self.now) }
         ensures right { (next : ℕ) → AreKept (S.seen store.old) next self.now → (S.seen store.old).honest ≡ true → Right result (λ found. IsTrue found ↔ Contains (entries_of self.now) entry.now) }
     {
         if has_entry(&self.head, entry) {
@@ -213,7 +217,7 @@ impl Stream {
         visitor: &mut T,
     ) -> Result<(), ReadFault>
         ensures looked { Looked (S.seen store.old) (S.seen store.new) }
-        ensures cause { IfErr result (ReadCause (S.seen store.old) (S.seen store.new)) }
+        ensures counted { (S.seen store.new).faults ≡ after_read result (S.seen store.old).faults }
         ensures unread { NoneReaches from to self.now → S.seen store.new ≡ S.seen store.old }
         ensures visited { NoneReaches from to self.now → OnOk result (visitor.new ≡ fold T.visiting visitor.old (visited_in_range from to (entries_of self.now))) }
         // What is visited of a part that a store has follows from bytes with the digest, whatever the store does.
@@ -248,8 +252,9 @@ impl Stream {
         ensures right { (S.seen store.old).honest ≡ true → AreKept (S.seen store.old) next.old self.now → IfOk result (λ plan. entries_of plan.becomes ≡ uncovered (C.covers covered.now) (entries_of self.now)) }
         ensures undamaged { (S.seen store.old).honest ≡ true → AreKept (S.seen store.old) next.old self.now → IsErrOf result RewriteFault.Damaged → ⊥ }
         ensures next { next.old ≤ next.new }
-        ensures grown { Grown (S.seen store.old) next.old (S.seen store.new) }
-        ensures cause { IfErr result (RewriteCause (S.seen store.old) (S.seen store.new) next.new) }
+        ensures grown { IsGrown result (S.seen store.old) next.old next.new (S.seen store.new) }
+        ensures counted { (S.seen store.new).faults ≡ after_rewrite result (S.seen store.old).faults }
+        ensures spent { IsErrOf result RewriteFault.NumbersSpent → next.new ≡ greatest }
     {
         let head = uncovered(alloc, covered, &self.head)?;
         let room = Vec::with_capacity(alloc, self.parts.len())?;

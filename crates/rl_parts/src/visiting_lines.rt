@@ -1,9 +1,9 @@
 //! Lines of a range of time, visited.
-ghost use Rattle.std.specs.Prelude.{◌≡◌, ℕ, nat_le, ◌&&◌, ◌⊎◌, true, List, [], ◌∷◌, map, IfErr, OnOk};
+ghost use Rattle.std.specs.Prelude.{◌≡◌, ℕ, nat_le, ◌&&◌, ◌⊎◌, true, List, [], ◌∷◌, map, OnOk};
 ghost use Rattle.std.specs.List.{AllByRecursion, flat_map, fold};
 ghost use Rattle.rl_parts.specs.StreamParts.{IsPart, unwritten, chunk_of};
 ghost use Rattle.rl_parts.specs.PartState.{IsRange};
-ghost use Rattle.rl_parts.specs.StoreUse.{Looked, IsKept, IsNoteOf, Right, ReadCause};
+ghost use Rattle.rl_parts.specs.StoreUse.{Looked, IsKept, IsNoteOf, Right, after_read};
 ghost use Rattle.rl_parts.specs.Reading.{IsApart, IsOutside, IsReadAs, IsVisited, lines_in_range, visited_in_range};
 ghost use Rattle.rl_labels.specs.LabelSet.{LabelSet};
 ghost use Rattle.rl_chunks.specs.declared.chunk.Chunk.{Chunk};
@@ -71,7 +71,7 @@ pub(crate) fn visit_written<S: Store, T: Visitor>(
     requires part { IsPart labels.now (unwritten written.now.entries.value) }
     requires range { IsRange written.now.entries.value written.now.first written.now.last }
     ensures looked { Looked (S.seen store.old) (S.seen store.new) }
-    ensures cause { IfErr result (ReadCause (S.seen store.old) (S.seen store.new)) }
+    ensures counted { (S.seen store.new).faults ≡ after_read result (S.seen store.old).faults }
     ensures unread { IsApart from to written.now.entries.value → S.seen store.new ≡ S.seen store.old }
     ensures visited { IsApart from to written.now.entries.value → OnOk result (visitor.new ≡ fold T.visiting visitor.old (visited_in_range from to written.now.entries.value)) }
     ensures piece { OnOk result ((piece : List (LabelSet × Line)) × ((IsApart from to written.now.entries.value × (piece ≡ [])) ⊎ ((chunk : Chunk) × IsReadAs written.now.digest chunk × (piece ≡ lines_in_range labels.now from to chunk.lines))) × (visitor.new ≡ fold T.visiting visitor.old piece)) }
@@ -97,7 +97,7 @@ pub(crate) fn visit_parts<S: Store, T: Visitor>(
 ) -> Result<(), ReadFault>
     requires { AllByRecursion (IsPart labels.now) parts.now }
     ensures looked { Looked (S.seen store.old) (S.seen store.new) }
-    ensures cause { IfErr result (ReadCause (S.seen store.old) (S.seen store.new)) }
+    ensures counted { (S.seen store.new).faults ≡ after_read result (S.seen store.old).faults }
     ensures unread { AllByRecursion (IsOutside from to) parts.now → S.seen store.new ≡ S.seen store.old }
     ensures visited { AllByRecursion (IsOutside from to) parts.now → OnOk result (visitor.new ≡ fold T.visiting visitor.old (visited_in_range from to (flat_map (λ part. part.entries) parts.now))) }
     ensures pieces { OnOk result (IsVisited T.visiting labels.now from to parts.now visitor.old visitor.new) }

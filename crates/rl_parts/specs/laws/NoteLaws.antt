@@ -1,5 +1,5 @@
 -- Parts that were given notes: what stays of them, and the numbers that they have.
-use Rattle.std.specs.Prelude.{◌≡◌, ℕ, zero, suc, ◌+◌, ◌-◌, ◌≤◌, List, [], ◌∷◌, ◌++◌, map, length, Option, Some, None, refl}
+use Rattle.std.specs.Prelude.{◌≡◌, ℕ, zero, suc, ◌+◌, ◌-◌, ◌≤◌, List, [], ◌∷◌, ◌++◌, map, length, nat_lt, if◌then◌else◌, Bool, true, false, Option, Some, None, refl}
 use Rattle.std.proofs.Common.{sym, ap, subst, ◌∙◌, arith}
 use Rattle.std.specs.Option.{is_none}
 use Rattle.std.specs.List.{AllByRecursion, filter, flat_map, range_with_len}
@@ -8,8 +8,8 @@ use Rattle.std.proofs.lemmas.List.{length-append, map-append}
 use Rattle.std.proofs.lemmas.List.Elements.{filter-append}
 use Rattle.std.proofs.lemmas.List.Sorted.{IsPermutation-refl, IsPermutation-cons, IsPermutation-trans, IsPermutation-middle, IsPermutation-map}
 use Rattle.rl_labels.specs.declared.entry.Entry.{Entry}
-use Rattle.rl_parts.specs.StreamParts.{Note, PartView, listed, notes_of}
-use Rattle.rl_parts.specs.Changes.{unwritten_count, own_or_next, after_next, with_notes, AreNoted}
+use Rattle.rl_parts.specs.StreamParts.{Note, PartView, StreamView, listed, notes_of, unwritten}
+use Rattle.rl_parts.specs.Changes.{unwritten_count, own_or_next, after_next, with_notes, AreNoted, IsStarted}
 
 -- what is said of entries alone stays
 pub with_notes-keeps : (P : List Entry → Type 0) (parts : List PartView) (notes : List Note) → AllByRecursion (λ part. P part.entries) parts → AllByRecursion (λ part. P part.entries) (with_notes parts notes)
@@ -87,6 +87,10 @@ count-with_notes (part ∷ parts) notes few =
     at others_do None [] h = omega (arith, others_do [] (omega arith))
     at others_do None (note ∷ notes) h = omega (arith, others_do notes (omega (arith, h)))
 
+-- so the next number grows by the parts that were written
+pub many-noted : (old new : List PartView) (first next : ℕ) → AreNoted old first new next → next + unwritten_count new ≡ first + unwritten_count old
+many-noted old new first next p = omega (arith, p.many, count-with_notes old p.notes p.few, ap unwritten_count p.given)
+
 -- numbers one after another
 pub range-append : (first many more : ℕ) → range_with_len first (many + more) ≡ range_with_len first many ++ range_with_len (first + many) more
 range-append first zero more =
@@ -153,3 +157,11 @@ numbers-noted old new first next p =
     subst (λ (ps : List PartView). IsPermutation (map (λ (note : Note). note.number) (notes_of old) ++ range_with_len first (next - first)) (map (λ (note : Note). note.number) (notes_of ps))) (sym p.given)
     (subst (λ ns. IsPermutation ns (map (λ (note : Note). note.number) (notes_of (with_notes old p.notes)))) (map-append (λ (note : Note). note.number) (notes_of old) p.notes ∙ ap (λ ns. map (λ (note : Note). note.number) (notes_of old) ++ ns) fresh)
     (IsPermutation-map (λ (note : Note). note.number) _ _ (notes-with_notes old p.notes p.few)))
+
+-- a stream that was just started has no notes
+pub notes-started : (most : ℕ) (entry : Entry) (stream : StreamView) → IsStarted most entry stream → notes_of stream.parts ≡ []
+notes-started most entry stream started = ap notes_of started.parts ∙ at (nat_lt 1 most)
+  where
+    at : (room : Bool) → notes_of (if room then [] else unwritten (entry ∷ []) ∷ []) ≡ []
+    at true = refl
+    at false = refl

@@ -1,7 +1,8 @@
--- The number has the bytes, and lower numbers what they had.
-use Rattle.std.proofs.Common.{ap, ◌∙◌}
+-- The number has the bytes, and other numbers what they had.
+use Rattle.std.proofs.Common.{sym, ap, subst, ◌∙◌}
 use Rattle.std.specs.FinMap as map
-use Rattle.rl_parts.proofs.Puts.{get_put, get_below, faults_rise}
+use Rattle.rl_chunks.specs.StoreState.{Blobs, LeavesOthers}
+use Rattle.rl_parts.proofs.Puts.{get_put, get_other, one_put}
 use Rattle.rl_parts.proofs.flushing.put_bytes.Goals as goal
 
 pub returns-in-Ok-clause-there : goal.returns-in-Ok-clause-there
@@ -11,9 +12,5 @@ returns-in-Ok-clause-there g c =
 
 pub returns-in-Ok-clause-grown : goal.returns-in-Ok-clause-grown
 returns-in-Ok-clause-grown g c =
-    let blobs = (g.S.Store.seen c.args.store.now).blobs in
-    record {
-      honest = c.in-Ok.ensures.keeps.honest;
-      faults = faults_rise _ _ c.in-Ok.ensures.keeps.faults;
-      others = λ other lt. ap (λ now. map.get now other) c.in-Ok.ensures.ok ∙ get_below blobs c.args.number c.args.bytes.items other lt;
-    }
+    let old = g.S.Store.seen c.args.store.now in
+    one_put old _ c.args.number c.in-Ok.ensures.keeps (subst (λ (now : Blobs). LeavesOthers c.args.number old.blobs now) (sym c.in-Ok.ensures.ok) (get_other old.blobs c.args.number c.args.bytes.items))

@@ -1,7 +1,6 @@
 -- Entries of one stream in order are the lines of a chunk.
 use Rattle.std.proofs.Common.{sym, subst, map}
 use Rattle.std.specs.List.Sorted.{IsStrictlySortedBy}
-use Rattle.std.proofs.lemmas.Result.{err_from_is_err_and}
 use Rattle.rl_chunks.specs.ChunkText.{line_cmp}
 use Rattle.rl_chunks.specs.EntryLines.{line_of}
 use Rattle.rl_parts.proofs.Lines.{stream_of, short_lines, rising_lines}
@@ -15,8 +14,3 @@ encode-requires-clause-short g c = short_lines c.as_slice.result.now
 
 pub encode-requires-clause-rising : goal.encode-requires-clause-rising
 encode-requires-clause-rising g c = subst (λ entries. IsStrictlySortedBy line_cmp (map line_of entries)) (sym c.as_slice.ensures) (rising_lines c.args.labels.now c.args.entries.now c.requires.run)
-
-pub returns-in_err-put_bytes-clause-cause : goal.returns-in_err-put_bytes-clause-cause
-returns-in_err-put_bytes-clause-cause g c =
-    let p = err_from_is_err_and c.from_residual-in_err-put_bytes.result c.from_residual-in_err-put_bytes.ensures.1 in
-    rw (p.1, p.2) (c.in_err-put_bytes.ensures.cause c.args.next.now)

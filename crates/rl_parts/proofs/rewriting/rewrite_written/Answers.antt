@@ -8,7 +8,7 @@ use Rattle.rl_parts.specs.StreamParts.{PartView, IsPart, chunk_of, unwritten}
 use Rattle.rl_parts.specs.StoreUse.{IsNoteOf}
 use Rattle.rl_parts.specs.Rewriting.{AreRewritten, uncovered}
 use Rattle.rl_parts.specs.laws.UseLaws.{Grown-looked, Grown-none}
-use Rattle.rl_parts.proofs.Leaving.{filter_all, fingerprints_len, part_left}
+use Rattle.rl_parts.proofs.Leaving.{filter_all, filter_le, fingerprints_len, part_left}
 use Rattle.rl_parts.proofs.Lines.{stream_of}
 use Rattle.rl_parts.proofs.Rereading.{read_becomes, read_goes, read_part, read_stays, unread_stays}
 use Rattle.rl_parts.proofs.rewriting.rewrite_written.Goals as goal
@@ -18,7 +18,7 @@ returns-then-not-branch-clause-rewritten g c =
     let written = c.args.written.now in
     let start = g.S.Store.seen c.args.store.now in
     unread_stays (g.C.Covers.covers c.args.covered.now) c.args.labels.now written.entries.value (record { number = written.number; digest = written.digest }) written.first written.last c.args.next.now start
-    c.requires.part c.requires.range (c.in_ok-may_cover.ensures c.if-not-branch.true) (Grown-none start c.args.next.now)
+    c.requires.part c.requires.range (c.in_ok-may_cover.ensures c.if-not-branch.true) (Grown-none start c.args.next.now c.args.next.now)
 
 pub uncovered_lines-requires-clause-stream : goal.uncovered_lines-requires-clause-stream
 uncovered_lines-requires-clause-stream g c = stream_of c.args.labels.now c.args.written.now.entries.value c.requires.part.run.labels c.requires.part.some
@@ -37,7 +37,7 @@ returns-then-len-many-clause-rewritten g c =
     read_stays covers c.args.labels.now written.entries.value (record { number = written.number; digest = written.digest }) written.first written.last c.args.next.now start lines.items read c.requires.part c.requires.range c.in_ok-lines.ensures.found are
     (c.in_ok-lines.ensures.many ∙ fingerprints_len written.entries.value written.fingerprints c.requires.fingerprints) c.in_ok-lines.ensures.old
     (λ honest kept. c.in_ok-lines.ensures.right c.args.labels.now c.args.next.now c.requires.part c.requires.range c.requires.fingerprints kept honest)
-    (g.S.Store.seen c.read_again.new.store) (Grown-looked start (g.S.Store.seen c.read_again.new.store) c.args.next.now c.read_again.ensures.looked) none
+    (g.S.Store.seen c.read_again.new.store) (Grown-looked start (g.S.Store.seen c.read_again.new.store) c.args.next.now c.args.next.now c.read_again.ensures.looked) none
 
 pub returns-then-is_empty-clause-rewritten : goal.returns-then-is_empty-clause-rewritten
 returns-then-is_empty-clause-rewritten g c =
@@ -83,12 +83,14 @@ returns-clause-rewritten g c =
     let left : c.in_ok-left.left.items ≡ uncovered covers read = c.in_ok-left.ensures.2 in
     let some : 0 < length c.in_ok-left.left.items = grind (arith, nat_tests, c.in_ok-left.left.ok.0, c.is_empty.ensures, c.if-is_empty.false) in
     let written = c.in_ok-written.written in
+    let fewer : length c.in_ok-left.left.items < length read = omega (arith, ap length left, filter_le (λ entry. not (covers entry)) read, c.in_ok-left.left.ok.0, c.len.ensures, c.len-many.ensures, c.if-len-many.false, lines.ok.0, ap length are.same, length-map read line_of) in
     let is = c.in_ok-written.ensures.written in
     let entries : written.entries.value ≡ c.in_ok-left.left.items = is.entries_are ∙ c.from_vec-left.ensures in
+    let less : length written.entries.value < length read = omega (arith, fewer, ap length entries) in
     let kept : IsNoteOf seen next (chunk_of labels written.entries.value) (record { number = written.number; digest = written.digest }) = subst (λ (es : List Entry). IsNoteOf seen next (chunk_of labels es) (record { number = written.number; digest = written.digest })) (sym is.entries_are)
     (subst (λ n. IsNoteOf seen n (chunk_of labels c.from_vec-left.result) (record { number = written.number; digest = written.digest })) (sym c.in_ok-written.ensures.next) is.note) in
     subst (λ (p : PartView). AreRewritten covers labels (record { entries = old.entries.value; note = Some (record { number = old.number; digest = old.digest }) } ∷ []) c.args.next.now start (p ∷ []) (old.number ∷ []) next seen) (sym c.kept.ensures)
     (read_becomes covers labels old.entries.value (record { number = old.number; digest = old.digest }) old.first old.last c.args.next.now start lines.items read c.requires.part c.requires.range c.in_ok-lines.ensures.found are
     (c.in_ok-lines.ensures.many ∙ fingerprints_len old.entries.value old.fingerprints c.requires.fingerprints) c.in_ok-lines.ensures.old
     (λ honest kept. c.in_ok-lines.ensures.right labels c.args.next.now c.requires.part c.requires.range c.requires.fingerprints kept honest)
-    written.entries.value (record { number = written.number; digest = written.digest }) next seen (entries ∙ left) (omega (arith, some, ap length entries)) is.number_is c.in_ok-written.ensures.next kept)
+    written.entries.value (record { number = written.number; digest = written.digest }) next seen (entries ∙ left) (omega (arith, some, ap length entries)) less is.number_is c.in_ok-written.ensures.next kept)

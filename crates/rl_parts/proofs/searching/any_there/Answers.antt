@@ -32,6 +32,7 @@ loop-part-preserved g c =
     let ts = c.args.entry.now.timestamp in
     record {
       looked = Looked-then start seen (g.S.Store.seen c.has_there.new.store) c.loop-part.invariant.looked c.has_there.ensures.looked;
+      counted = c.in_ok-has_there.ensures.counted ∙ c.loop-part.invariant.counted;
       unread = λ apart. c.has_there.ensures.unread (subst (IsOutside ts ts) (sym c.part-item.is) (All-from_recursion (IsOutside ts ts) c.args.parts.now apart c.loop-part.part-index c.part-item.result c.loop-part-test.true)) ∙ c.loop-part.invariant.unread apart;
       absent = λ next kept honest.
           let here = kept_at start seen next c.args.entry.now.labels c.args.parts.now c.loop-part.part-index c.part-item.result c.loop-part-test.true c.part-item.is c.loop-part.invariant.looked kept in

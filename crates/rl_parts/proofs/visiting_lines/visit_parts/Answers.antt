@@ -25,6 +25,7 @@ loop-part-preserved g c =
     let more = part_more g.T.Visitor.visiting c.args.from c.args.to c.args.parts.now c.loop-part.part-index c.part-item.result c.args.visitor.now c.loop-part.visitor c.visit_lines.new.visitor c.loop-part-test.true c.part-item.is in
     record {
       looked = Looked-then start seen (g.S.Store.seen c.visit_lines.new.store) c.loop-part.invariant.looked c.visit_lines.ensures.looked;
+      counted = c.in_ok-visit_lines.ensures.counted ∙ c.loop-part.invariant.counted;
       unread = λ apart. c.visit_lines.ensures.unread (outside apart) ∙ c.loop-part.invariant.unread apart;
       visited = λ apart. more (c.loop-part.invariant.visited apart) (c.in_ok-visit_lines.ensures.visited (outside apart));
       right = λ next kept honest.

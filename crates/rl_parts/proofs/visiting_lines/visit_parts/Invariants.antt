@@ -8,6 +8,7 @@ use Rattle.rl_parts.proofs.visiting_lines.visit_parts.Given as goal
 abbrev pub invariant-loop-part : goal.invariant-loop-part
 invariant-loop-part g l = record {
   looked : Looked (g.S.Store.seen l.fn.store) (g.S.Store.seen l.store);
+  counted : (g.S.Store.seen l.store).faults ≡ (g.S.Store.seen l.fn.store).faults;
   unread : AllByRecursion (IsOutside l.from l.to) l.parts → g.S.Store.seen l.store ≡ g.S.Store.seen l.fn.store;
   visited : AllByRecursion (IsOutside l.from l.to) l.parts → l.visitor ≡ fold g.T.Visitor.visiting l.fn.visitor (visited_in_range l.from l.to (flat_map (λ part. part.entries) (take l.part-index l.parts)));
   right : (next : ℕ) → AllByRecursion (IsKept (g.S.Store.seen l.fn.store) next l.labels) l.parts → (g.S.Store.seen l.fn.store).honest ≡ true → l.visitor ≡ fold g.T.Visitor.visiting l.fn.visitor (visited_in_range l.from l.to (flat_map (λ part. part.entries) (take l.part-index l.parts)));
