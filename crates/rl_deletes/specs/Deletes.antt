@@ -107,10 +107,10 @@ IsFaultBeside (Some known) count request fault = IsTakenFault request known faul
 abbrev pub IsReceiveFault : RequestsView → ℕ → Request → Option ReceiveFault → Type 0
 IsReceiveFault all id request fault = IsFaultBeside (map.get all.requests id) (map.len all.requests) request fault
 
--- an answer with a fault has that fault; lack of memory says nothing
+-- an answer with a fault has that fault; memory lacks only where there is none
 abbrev pub IsReceiveAnswer : RequestsView → ℕ → Request → Result Unit (OrMemory ReceiveFault) → Type 0
 IsReceiveAnswer all id request (Ok _) = Unit {0}
-IsReceiveAnswer all id request (Err Memory) = Unit {0}
+IsReceiveAnswer all id request (Err Memory) = IsReceiveFault all id request None
 IsReceiveAnswer all id request (Err (Fault fault)) = IsReceiveFault all id request (Some fault)
 
 abbrev pub received_beside : Option Request → RequestsView → ℕ → Request → RequestsView
