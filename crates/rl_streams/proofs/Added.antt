@@ -1,5 +1,5 @@
 -- Streams that hold one entry more: in the stream of its labels, or in a new one.
-use Rattle.std.proofs.Common.{◌≡◌, ℕ, zero, suc, ◌<◌, max, Bool, true, false, cond, Some, None, Option, List, [], ◌∷◌, ◌++◌, length, slice_get, get_or, position, refl, sym, ap, subst, ◌∙◌, is_some, true≢false, append-nil, le_of_suc-le-suc, not-suc-le-zero, arith}
+use Rattle.std.proofs.Common.{◌≡◌, ℕ, zero, suc, ◌<◌, max, Bool, true, false, cond, Some, None, Option, List, [], ◌∷◌, ◌++◌, length, slice_get, get_or, position, inl, inr, refl, sym, ap, subst, ◌∙◌, is_some, true≢false, append-nil, le_of_suc-le-suc, not-suc-le-zero, arith}
 use Rattle.std.specs.Prelude.{◌+◌, ◌*◌, nat_lt, if◌then◌else◌}
 use Rattle.std.specs.List.{AllByRecursion, IsDistinct}
 use Rattle.std.specs.List.Sorted.{IsPermutation}
@@ -19,7 +19,9 @@ use Rattle.rl_labels.specs.LabelText.{label_set_cmp, label_set_eq}
 use Rattle.rl_labels.specs.laws.TextLaws.{label_set_cmp_total, label_set_cmp-IsAntisymmetric, label_set_eq_itself, label_set_eq-true}
 use Rattle.rl_labels.specs.declared.entry.Entry.{Entry}
 use Rattle.rl_labels.specs.declared.limits.Limits.{Limits}
-use Rattle.rl_parts.specs.StreamParts.{StreamView, entries_of, notes_of}
+use Rattle.rl_parts.specs.StreamParts.{StreamView, entries_of}
+use Rattle.rl_parts.specs.Changes.{IsStarted}
+use Rattle.rl_parts.specs.laws.NoteLaws.{notes-started}
 use Rattle.rl_streams.specs.StreamRows.{Row, joined, newest_in, newest_map, newest_at}
 use Rattle.rl_streams.specs.RowSteps.{Gains, AreAdded, AreOthers, IsPositionOf}
 use Rattle.rl_streams.specs.StreamsState.{age_refusal, is_far_behind, half_second}
@@ -55,25 +57,27 @@ newest_missing rows labels others = ap (λ o. unwrap_or o 0) (get-of_tree label_
     none (row ∷ rows) others = ap (λ b. cond b (Some row.1.newest) (lookup (is_at (label_set_cmp labels)) (newest_in rows))) (apart row.0 others.0 (is_eq (label_set_cmp labels row.0)) refl) ∙ none rows others.1
 
 -- the stream of its labels took the entry
-pub added_at : (rows : List Row) (i : ℕ) (entry : Entry) (stream new : StreamView) → IsDistinct label_set_eq (keys_of rows) → slice_get rows i ≡ Some (entry.labels, stream) → Gains stream entry new → AreAdded rows entry (set_value_at rows i new)
-added_at rows i entry stream new apart at gains = record {
+pub added_at : (most : ℕ) (rows : List Row) (i : ℕ) (entry : Entry) (stream new : StreamView) → IsDistinct label_set_eq (keys_of rows) → slice_get rows i ≡ Some (entry.labels, stream) → Gains most stream entry new → AreAdded most rows entry (set_value_at rows i new)
+added_at most rows i entry stream new apart at gains = record {
+  rows = inr (record { position = i; stream = stream; stands = at; now = new; labels = gains.labels; newest = gains.newest; held = gains.held; becomes = refl });
   entries = set_more entries_of (entry ∷ []) rows i entry.labels stream new at (inserted (entries_of stream) entry (entries_of new) gains.entries);
   newest =
       one_set label_set_cmp_total label_set_cmp-IsAntisymmetric (newest_in rows) (newest_in (set_value_at rows i new)) entry.labels new.newest (λ q. lookup_set label_set_cmp_total label_set_cmp-IsAntisymmetric label_set_eq label_set_eq_itself newest_by rows i entry.labels stream new q apart at)
       ∙ ap (insert (newest_map (newest_in rows)) entry.labels) (gains.newest ∙ ap (λ newest. max newest entry.timestamp) (sym (newest_found rows i entry.labels stream apart at)));
   labels = ([], keys_set rows i new ∙ sym (append-nil (keys_of rows)));
-  streams = λ seen next are is_new. streams_gained rows seen next are i entry.labels stream new at entry refl gains (λ honest. sym (held_at entry rows i stream are.own are.apart at) ∙ is_new honest);
+  streams = λ seen next are is_new. streams_gained rows seen next are i entry.labels stream new at most entry refl gains (λ honest. sym (held_at entry rows i stream are.own are.apart at) ∙ is_new honest);
 }
 
 -- a new stream of the entry
-pub added_after : (rows : List Row) (entry : Entry) (stream : StreamView) → AreOthers entry.labels rows → stream.labels ≡ entry.labels → stream.newest ≡ entry.timestamp → entries_of stream ≡ entry ∷ [] → notes_of stream.parts ≡ [] → AreAdded rows entry (rows ++ (entry.labels, stream) ∷ [])
-added_after rows entry stream others labels newest entries notes = record {
+pub added_after : (most : ℕ) (rows : List Row) (entry : Entry) (stream : StreamView) → AreOthers entry.labels rows → stream.labels ≡ entry.labels → stream.newest ≡ entry.timestamp → entries_of stream ≡ entry ∷ [] → IsStarted most entry stream → AreAdded most rows entry (rows ++ (entry.labels, stream) ∷ [])
+added_after most rows entry stream others labels newest entries started = record {
+  rows = inl (record { others = others; stream = stream; labels = labels; newest = newest; started = started; becomes = refl });
   entries = subst (λ l. IsPermutation (l ++ joined rows) (joined (rows ++ (entry.labels, stream) ∷ []))) entries (push_more entries_of rows (entry.labels, stream));
   newest =
       one_set label_set_cmp_total label_set_cmp-IsAntisymmetric (newest_in rows) (newest_in (rows ++ (entry.labels, stream) ∷ [])) entry.labels stream.newest (λ q. lookup_push label_set_cmp_total label_set_cmp-IsAntisymmetric label_set_eq label_set_eq_itself newest_by rows entry.labels stream q others)
       ∙ ap (insert (newest_map (newest_in rows)) entry.labels) (newest ∙ raised_from_0 ∙ ap (λ before. max before entry.timestamp) (sym (newest_missing rows entry.labels others)));
   labels = (entry.labels ∷ [], keys_push rows (entry.labels, stream));
-  streams = λ seen next are is_new. streams_pushed rows seen next are entry stream others entries labels notes;
+  streams = λ seen next are is_new. streams_pushed rows seen next are entry stream others entries labels (notes-started most entry stream started);
 }
   where
     raised_from_0 : entry.timestamp ≡ max 0 entry.timestamp

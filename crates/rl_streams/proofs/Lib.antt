@@ -1,4 +1,5 @@
 pub mod Added
+pub mod Asked
 pub mod Crossing
 pub mod Held
 pub mod Kept

@@ -38,10 +38,10 @@ planned_none covers first seen = record { sound = tt; left = tt; numbers = AreRe
 
 -- some streams, and then others
 pub planned_then : (covers : Entry → Bool) (first : ℕ) (before : Seen) (plans : List PlanView) (mid : ℕ) (seen : Seen) (others : List PlanView) (next : ℕ) (after : Seen)
-    → ArePlanned covers first before plans mid seen → Grown before first seen → ArePlanned covers mid seen others next after → Grown seen mid after → ArePlanned covers first before (plans ++ others) next after
+    → ArePlanned covers first before plans mid seen → Grown before first mid seen → ArePlanned covers mid seen others next after → Grown seen mid next after → ArePlanned covers first before (plans ++ others) next after
 planned_then covers first before plans mid seen others next after p grown q more =
     let kept_before = λ (plan : PlanView). AreKept before first plan.of in
-    let later = λ (h : AllByRecursion kept_before (plans ++ others)). all_weaker kept_before (λ plan. AreKept seen mid plan.of) (λ plan. AreKept-grown before seen first mid plan.of grown p.numbers.up) others (all_after kept_before plans others h) in
+    let later = λ (h : AllByRecursion kept_before (plans ++ others)). all_weaker kept_before (λ plan. AreKept seen mid plan.of) (λ plan. AreKept-grown before seen first mid mid plan.of grown p.numbers.up) others (all_after kept_before plans others h) in
     record {
       sound = all_append IsSound plans others p.sound q.sound;
       left = all_append (λ plan. IsLeftIn covers plan.of plan.becomes) plans others p.left q.left;
@@ -50,7 +50,7 @@ planned_then covers first before plans mid seen others next after p grown q more
           (subst (λ ns. AreRenumbered (numbers_before plans ++ numbers_before others) first next (numbers_after plans ++ numbers_after others) ns) (sym (flat_map-append (λ (plan : PlanView). plan.gone) plans others))
           (AreRenumbered-then (numbers_before plans) (numbers_after plans) (numbers_gone plans) first mid (numbers_before others) (numbers_after others) (numbers_gone others) next p.numbers q.numbers)));
       kept = λ h. all_append (λ plan. AreKept after next plan.becomes) plans others
-          (all_weaker (λ plan. AreKept seen mid plan.becomes) (λ plan. AreKept after next plan.becomes) (λ plan. AreKept-grown seen after mid next plan.becomes more q.numbers.up) plans (p.kept (all_front kept_before plans others h)))
+          (all_weaker (λ plan. AreKept seen mid plan.becomes) (λ plan. AreKept after next plan.becomes) (λ plan. AreKept-grown seen after mid next next plan.becomes more q.numbers.up) plans (p.kept (all_front kept_before plans others h)))
           (q.kept (later h));
       right = λ honest h. all_append (λ plan. entries_of plan.becomes ≡ uncovered covers (entries_of plan.of)) plans others (p.right honest (all_front kept_before plans others h)) (q.right (grown.honest ∙ honest) (later h));
     }

@@ -9,6 +9,7 @@ use Rattle.std.specs.Ordering.{is_eq}
 use Rattle.std.specs.declared.cmp.Ordering.{Ordering}
 use Rattle.std.specs.Cmp.{IsTotalOrder, Equal-is, eq_by_cmp_equiv}
 use Rattle.std.specs.FinMap.{IsAntisymmetric}
+use Rattle.std.proofs.lemmas.List.{length-append}
 use Rattle.std.proofs.lemmas.List.Concat.{flat_map-append}
 use Rattle.std.proofs.lemmas.List.Sorted.{IsPermutation-trans, IsPermutation-append_left, IsPermutation-append_right, IsPermutation-append_comm}
 use Rattle.std.proofs.lemmas.Map.Keys.{IsDistinct-head, IsDistinct-tail}
@@ -82,6 +83,12 @@ module _ {K V : Type 0} where
         subst (λ l. IsPermutation l (f w ++ all_of es)) (append_assoc more (f e.1) (all_of es)) (IsPermutation-append_left (all_of es) (more ++ f e.1) (f w) here)
     set_more more (e ∷ es) (suc i) k v w at moved =
         IsPermutation-trans _ _ _ (in_front more (f e.1) (all_of es)) (IsPermutation-append_right (f e.1) (more ++ all_of es) (all_of (set_value_at es i w)) (set_more more es i k v w at moved))
+
+    -- how much they give in all
+    pub set_long : (rows : List (K × V)) (i : ℕ) (k : K) (v w : V) → slice_get rows i ≡ Some (k, v) → length (all_of (set_value_at rows i w)) + length (f v) ≡ length (all_of rows) + length (f w)
+    set_long [] i k v w at = absurd (not_none (k, v) at)
+    set_long (e ∷ es) zero k v w at = omega (arith, ap (λ (row : K × V). length (f row.1)) (same_some e (k, v) at), length-append (f e.1) (all_of es), length-append (f w) (all_of es))
+    set_long (e ∷ es) (suc i) k v w at = let others = set_long es i k v w at in omega (arith, others, length-append (f e.1) (all_of es), length-append (f e.1) (all_of (set_value_at es i w)))
 
     -- a row more
     pub push_more : (rows : List (K × V)) (row : K × V) → IsPermutation (f row.1 ++ all_of rows) (all_of (rows ++ row ∷ []))

@@ -1,6 +1,6 @@
 -- The indices of the streams that a selector selects, and what is visited of the streams there, one after the other.
 use Rattle.std.proofs.Common.{◌≡◌, ℕ, zero, suc, ◌+◌, ◌<◌, Bool, true, false, Some, List, [], ◌∷◌, ◌++◌, length, map, take, get_or, slice_get, slice_set, refl, sym, ap, subst, ◌∙◌, append-nil, arith}
-use Rattle.std.specs.Prelude.{MatchBool, if◌then◌else◌}
+use Rattle.std.specs.Prelude.{if◌then◌else◌}
 use Rattle.std.specs.List.{AllByRecursion, AllZip, flat_map, fold}
 use Rattle.std.specs.Map.{keys_of, values_of}
 use Rattle.std.specs.Option.{option_map}
@@ -14,11 +14,12 @@ use Rattle.rl_chunks.specs.declared.line.Line.{Line}
 use Rattle.rl_parts.specs.laws.VisitorLaws.{AllZip-append}
 use Rattle.rl_parts.specs.Reading.{visited_in_range}
 use Rattle.rl_parts.specs.StreamParts.{StreamView, entries_of}
-use Rattle.rl_streams.specs.Asking.{visited_of, visited_by, AreOfParts, AreOfRow, AreVisited}
+use Rattle.rl_streams.specs.Asking.{visited_of, visited_by, AreOfRow, AreVisited}
 use Rattle.rl_streams.specs.Selected.{SelectionView, asked_next, selected, AreSelections, IsSelection}
 use Rattle.rl_streams.specs.StreamRows.{Row, newest_in, IsOwn}
 use Rattle.rl_streams.proofs.Plans.{all_weaker}
 use Rattle.rl_streams.proofs.RowChanges.{at_row, not_none, same_some, with_key}
+use Rattle.rl_streams.proofs.Visited.{none_of_row}
 
 -- one stream more
 pub selected_push : (selector : List Matcher) (labels : List LabelSet) (one : LabelSet) → selected selector (labels ++ one ∷ []) ≡ selected selector labels ++ (if selects selector one then length labels ∷ [] else [])
@@ -183,9 +184,6 @@ chosen_there selector rows positions i stream own are lt at =
     let there = subst (λ l. slice_get rows (get_or positions i 0) ≡ Some (l, stream)) (sym labels) row.1 in
     let chosen = selected_there selector rows positions i 0 are lt in
     (there, ap (λ (r : Row). selects selector r.0) (same_some (stream.labels, stream) chosen.0 (sym there ∙ chosen.1)) ∙ chosen.2)
-
-none_of_row : (selector : List Matcher) (from to : ℕ) (row : Row) → selects selector row.0 ≡ false → AreOfRow selector from to row []
-none_of_row selector from to row e = let none : List (LabelSet × Line) = [] in subst (λ b. MatchBool b (AreOfParts from to row.1 none) (none ≡ none)) (sym e) refl
 
 module _ {T : Type 0} (selector : List Matcher) (from to : ℕ) (visiting : T → LabelSet × Line → T) (rows : List Row) (positions : List ℕ) (before after : T) (are : positions ≡ selected selector (keys_of rows)) where
   -- over any store

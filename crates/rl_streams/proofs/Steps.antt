@@ -73,11 +73,11 @@ module _ (rows : List Row) (old : Seen) (next : ℕ) (are : AreStreams rows old 
         }
 
     -- where a stream took an entry
-    joined_gained : (entry : Entry) → Gains stream entry new → IsPermutation (entry ∷ joined rows) (joined (set_value_at rows i new))
-    joined_gained entry gains = set_more entries_of (entry ∷ []) rows i labels stream new at (inserted (entries_of stream) entry (entries_of new) gains.entries)
+    joined_gained : (most : ℕ) (entry : Entry) → Gains most stream entry new → IsPermutation (entry ∷ joined rows) (joined (set_value_at rows i new))
+    joined_gained most entry gains = set_more entries_of (entry ∷ []) rows i labels stream new at (inserted (entries_of stream) entry (entries_of new) gains.entries)
 
-    pub streams_gained : (entry : Entry) → labels ≡ entry.labels → Gains stream entry new → (old.honest ≡ true → is_among entry (entries_of stream) ≡ false) → AreStreams (set_value_at rows i new) old next
-    streams_gained entry of gains is_new =
+    pub streams_gained : (most : ℕ) (entry : Entry) → labels ≡ entry.labels → Gains most stream entry new → (old.honest ≡ true → is_among entry (entries_of stream) ≡ false) → AreStreams (set_value_at rows i new) old next
+    streams_gained most entry of gains is_new =
         let row = at_row IsOwn rows i (labels, stream) are.own at in
         let moved = inserted (entries_of stream) entry (entries_of new) gains.entries in
         record {
@@ -88,15 +88,15 @@ module _ (rows : List Row) (old : Seen) (next : ℕ) (are : AreStreams rows old 
           apart = subst (IsDistinct label_set_eq) (sym (keys_set rows i new)) are.apart;
           kept = all_set (λ row. AreKept old next row.1) rows i labels stream new at are.kept (kept_sealed old next stream new gains.labels gains.parts (at_row (λ row. AreKept old next row.1) rows i (labels, stream) are.kept at));
           numbers = subst (IsDistinct nat_eq) (sym (set_same numbers_of rows i labels stream new at (numbers_sealed stream new gains.parts))) are.numbers;
-          once = λ honest. one_more_once entry (joined rows) (joined (set_value_at rows i new)) (joined_gained entry gains)
+          once = λ honest. one_more_once entry (joined rows) (joined (set_value_at rows i new)) (joined_gained most entry gains)
               (held_at entry rows i stream are.own are.apart (at ∙ ap (λ set. Some (set, stream)) of) ∙ is_new honest) (are.once honest);
         }
 
     -- where the store has more parts of a stream
-    pub streams_noted : (seen : Seen) (later : ℕ) → new.labels ≡ stream.labels → entries_of new ≡ entries_of stream → AreNoted stream.parts next new.parts later → Grown old next seen → next ≤ later → AreKept seen later new → AreStreams (set_value_at rows i new) seen later
-    streams_noted seen later same_labels same gets grown le keeps =
+    pub streams_noted : (seen : Seen) (later : ℕ) → new.labels ≡ stream.labels → entries_of new ≡ entries_of stream → AreNoted stream.parts next new.parts later → (end : ℕ) → Grown old next end seen → next ≤ later → AreKept seen later new → AreStreams (set_value_at rows i new) seen later
+    streams_noted seen later same_labels same gets end grown le keeps =
         let row = at_row IsOwn rows i (labels, stream) are.own at in
-        let kept = all_weaker (λ row. AreKept old next row.1) (λ row. AreKept seen later row.1) (λ row. AreKept-grown old seen next later row.1 grown le) rows are.kept in
+        let kept = all_weaker (λ row. AreKept old next row.1) (λ row. AreKept seen later row.1) (λ row. AreKept-grown old seen next end later row.1 grown le) rows are.kept in
         let fresh = range_with_len next (later - next) in
         let moved : IsPermutation (fresh ++ numbers_of stream) (numbers_of new) =
         IsPermutation-trans _ _ _ (IsPermutation-append_comm fresh (numbers_of stream)) (numbers-noted stream.parts new.parts next later gets) in

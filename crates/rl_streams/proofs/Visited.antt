@@ -1,13 +1,13 @@
 -- What is visited of streams one after the other, and what is read for it.
-use Rattle.std.proofs.Common.{◌≡◌, ℕ, zero, suc, ◌+◌, Bool, true, false, cond, ◌&&◌, ◌↔◌, IsTrue, Contains, Some, None, Option, is_some, List, [], ◌∷◌, ◌++◌, map, filter, slice_get, Result, Ok, Err, refl, sym, ap, subst, ◌∙◌, true≢false}
-use Rattle.std.specs.Prelude.{MatchBool, OnOk, if◌then◌else◌}
+use Rattle.std.proofs.Common.{◌≡◌, ℕ, zero, suc, Bool, true, false, cond, ◌&&◌, ◌↔◌, IsTrue, Contains, Some, None, Option, is_some, List, [], ◌∷◌, ◌++◌, map, filter, slice_get, Result, Ok, Err, refl, sym, ap, subst, ◌∙◌, true≢false, inr}
+use Rattle.std.specs.Prelude.{IfOk, MatchBool, MatchResult, OnOk, if◌then◌else◌}
 use Rattle.std.specs.List.{All, AllByRecursion, IsDistinct, flat_map, fold}
 use Rattle.std.specs.BTreeMap.{is_at}
 use Rattle.std.specs.Ordering.{eq_by_cmp, is_eq}
 use Rattle.std.specs.Cmp.{tied_itself}
 use Rattle.std.specs.FinMap.{get}
 use Rattle.std.proofs.lemmas.List.Sorted.{IsPermutation-sym}
-use Rattle.std.specs.Map.{lookup, values_of}
+use Rattle.std.specs.Map.{lookup, keys_of, values_of}
 use Rattle.std.proofs.lemmas.List.{map-append}
 use Rattle.std.proofs.lemmas.List.Folds.{flat_map-map}
 use Rattle.std.proofs.lemmas.List.Sums.{fold-append}
@@ -25,10 +25,11 @@ use Rattle.rl_chunks.specs.declared.line.Line.{Line}
 use Rattle.rl_parts.specs.StreamParts.{StreamView, entries_of}
 use Rattle.rl_parts.specs.StoreUse.{AreKept, Looked, Right}
 use Rattle.rl_parts.specs.laws.VisitorLaws.{fold-pushed}
-use Rattle.rl_parts.specs.Reading.{is_in_range, visited, visited_in_range, IsVisited}
+use Rattle.rl_parts.specs.Reading.{is_in_range, visited, visited_in_range, IsFoundIn, IsMissingIn, IsVisited}
 use Rattle.rl_parts.specs.declared.fault.ReadFault.{ReadFault}
 use Rattle.rl_parts.specs.declared.fault.ReadFault.TheVariants as reads
-use Rattle.rl_streams.specs.Asking.{is_asked, asked, visited_of, visited_by, visited_at, left, AreOfParts, AreOfRow, AreVisitedOnce, NoneSelected}
+use Rattle.rl_streams.specs.Asking.{is_asked, asked, visited_of, visited_by, visited_at, left, AreOfParts, AreOfRow, AreVisitedOnce, IsVisitedOf, NoneSelected}
+use Rattle.rl_streams.specs.Found.{IsFound, IsMissing, IsStreamOf}
 use Rattle.rl_streams.specs.RowSteps.{AreOthers, IsPositionOf}
 use Rattle.rl_streams.specs.HeldSet.{set_of}
 use Rattle.rl_streams.specs.laws.HeldLaws.{keys-of_distinct}
@@ -63,6 +64,23 @@ module _ (rows : List Row) (i : ℕ) (entry : Entry) (stream : StreamView) (posi
       let row = row_of_position rows i entry.labels stream position at in
       right_then (λ found. IsTrue found ↔ Contains (entries_of stream) entry) (λ found. found ≡ is_among entry (joined rows)) (λ found is. answer_is entry found (entries_of stream) is ∙ sym (held_at entry rows i stream are.own are.apart row)) result
       (right (at_row (λ row. AreKept seen next row.1) rows i (entry.labels, stream) are.kept row))
+
+  -- it stands there
+  pub stream_there : IsStreamOf rows entry.labels stream
+  stream_there = record { position = i; stands = row_of_position rows i entry.labels stream position at }
+
+  -- and what it answers over any store is so of all streams
+  pub yes_at : (result : Result Bool ReadFault) → IfOk result (λ found. found ≡ true → IsFoundIn entry stream) → IfOk result (λ found. found ≡ true → IsFound rows entry)
+  yes_at (Ok found) has = λ e. (stream, stream_there, has e)
+  yes_at (Err _) has = tt
+
+  pub no_at : (result : Result Bool ReadFault) → IfOk result (λ found. found ≡ false → IsMissingIn entry stream) → IfOk result (λ found. found ≡ false → IsMissing rows entry)
+  no_at (Ok found) lacks = λ e. inr (stream, stream_there, lacks e)
+  no_at (Err _) lacks = tt
+
+  pub exact_at : (result : Result Bool ReadFault) → AllByRecursion IsOwn rows → IsDistinct label_set_eq (keys_of rows) → MatchResult result (λ found. IsTrue found ↔ Contains (entries_of stream) entry) (λ _. ⊥) → result ≡ Ok (is_among entry (joined rows))
+  exact_at (Ok found) own apart exact = ap Ok (answer_is entry found (entries_of stream) exact ∙ sym (held_at entry rows i stream own apart (row_of_position rows i entry.labels stream position at)))
+  exact_at (Err _) own apart exact = absurd exact
 
 module _ (selector : List Matcher) (from to : ℕ) where
   -- entries of one stream that are asked for
@@ -109,15 +127,19 @@ visited_once visiting selector from to rows before after own once is = record {
 -- over any store: what is visited of a stream that is selected
 pub of_row : (selector : List Matcher) (from to : ℕ) (stream : StreamView) {T : Type 0} (visiting : T → LabelSet × Line → T) (before after : T) → selects selector stream.labels ≡ true
     → (result : Result (Unit {0}) ReadFault) → OnOk result ((mid : T) × IsVisited visiting stream.labels from to stream.parts before mid × (after ≡ fold visiting mid (visited_in_range from to stream.head)))
-    → OnOk result ((lines : List (LabelSet × Line)) × AreOfRow selector from to (stream.labels, stream) lines × (after ≡ fold visiting before lines))
+    → OnOk result (IsVisitedOf visiting selector from to (stream.labels, stream) before after)
 of_row selector from to stream visiting before after selected (Ok _) (mid, given, head) =
     let sealed = flat_map (λ piece. piece) given.pieces in
-    let lines = sealed ++ visited_in_range from to stream.head in (
-      lines,
-      subst (λ b. MatchBool b (AreOfParts from to stream lines) (lines ≡ [])) (sym selected) (record { pieces = given.pieces; each = given.each; all = refl }),
-      head ∙ ap (λ t. fold visiting t (visited_in_range from to stream.head)) given.becomes ∙ sym (fold-append visiting before sealed (visited_in_range from to stream.head)),
-    )
-of_row selector from to stream visiting before after selected (Err fault) given = tt
+    let lines = sealed ++ visited_in_range from to stream.head in record {
+      lines = lines;
+      of_row = subst (λ b. MatchBool b (AreOfParts from to stream lines) (lines ≡ [])) (sym selected) (record { pieces = given.pieces; each = given.each; all = refl });
+      visited = head ∙ ap (λ t. fold visiting t (visited_in_range from to stream.head)) given.becomes ∙ sym (fold-append visiting before sealed (visited_in_range from to stream.head));
+    }
+of_row selector from to stream visiting before after selected (Err _) given = tt
+
+-- and of one that is not: nothing
+pub none_of_row : (selector : List Matcher) (from to : ℕ) (row : Row) → selects selector row.0 ≡ false → AreOfRow selector from to row []
+none_of_row selector from to row e = let none : List (LabelSet × Line) = [] in subst (λ b. MatchBool b (AreOfParts from to row.1 none) (none ≡ none)) (sym e) refl
 
 -- a stream that is there has a newest timestamp
 after_another : (row : Row) (rows : List Row) (labels : LabelSet) → is_some (lookup (is_at (label_set_cmp labels)) (newest_in rows)) ≡ true → is_some (lookup (is_at (label_set_cmp labels)) (newest_in (row ∷ rows))) ≡ true

@@ -1,6 +1,6 @@
 -- Streams as they are seen, and what is always true of them.
-use Rattle.std.proofs.Common.{◌≡◌, ℕ, ◌+◌, ◌<◌, Bool, true, false, not, List, [], ◌∷◌, length, Result, Ok, Err, refl, sym, ap, subst, ◌∙◌, arith}
-use Rattle.std.specs.Prelude.{OnOk, IsErrOf, MatchBool, nat_le}
+use Rattle.std.proofs.Common.{◌≡◌, ℕ, ◌+◌, ◌<◌, ◌≤◌, Bool, true, false, not, List, [], ◌∷◌, length, Result, Ok, Err, inl, inr, refl, sym, ap, subst, ◌∙◌, true≢false, arith}
+use Rattle.std.specs.Prelude.{None, OnOk, MatchBool, MatchOption, MatchResult, nat_le}
 use Rattle.std.specs.List.{IsDistinct}
 use Rattle.std.specs.FinMap.{contains_key, len}
 use Rattle.std.proofs.lemmas.Bool.Decides.{nat_tests}
@@ -16,7 +16,8 @@ use Rattle.rl_streams.specs.declared.refusal.AddRefusal.TheVariants.{Expired, To
 use Rattle.rl_labels.specs.declared.limits.Limits.{Limits}
 use Rattle.rl_chunks.specs.StoreState.{Seen}
 use Rattle.rl_streams.specs.StreamRows.{Row, joined, newest_in, newest_map, loose_in, unwritten_in, is_among}
-use Rattle.rl_streams.specs.StreamsState.{StreamsView, IsWhole, Cuts, Looks, Takes, IsDecided, view_of}
+use Rattle.rl_streams.specs.StreamsState.{StreamsView, IsWhole, Cuts, Looks, Takes, IsDecided, age_refusal, view_of}
+use Rattle.rl_streams.specs.Found.{IsAnswered, IsAnsweredUnread, IsFound, IsMissing, IsSettled, IsSettledUnread}
 use Rattle.rl_streams.specs.HeldSet.{set_of}
 use Rattle.rl_streams.specs.RowSteps.{AreCut, AreAdded, IsOfferedRight}
 use Rattle.rl_streams.proofs.Steps.{streams_looked}
@@ -51,6 +52,28 @@ taken_new false e = refl
 pub has_room : (limits : Limits) (count : ℕ) → nat_le limits.entries count ≡ false → count < limits.entries
 has_room limits count h = grind (arith, nat_tests, h)
 
+abbrev answer_in : {E : Type 0} → Bool → Result Bool E → Bool
+answer_in other (Ok answer) = answer
+answer_in other (Err _) = other
+
+abbrev refusal_in : {A : Type 0} → AddRefusal → Result A AddRefusal → AddRefusal
+refusal_in other (Ok _) = other
+refusal_in other (Err refusal) = refusal
+
+not_ok : {A : Type 0} (refusal : AddRefusal) (answer : A) → ◌≡◌ {A = Result A AddRefusal} (Err refusal) (Ok answer) → ⊥
+not_ok {A} refusal answer e = true≢false (sym (ap is_answer e))
+  where
+    is_answer : Result A AddRefusal → Bool
+    is_answer (Ok _) = true
+    is_answer (Err _) = false
+
+-- what becomes of an entry, by its age
+abbrev pub IsSettledBy : Result (Unit {0}) AddRefusal → ℕ → Entry → StreamsView → StreamsView → Type 0
+IsSettledBy result horizon entry new old = MatchOption (age_refusal old.limits old.newest horizon entry) (IsSettled result old entry new) (λ refusal. (result ≡ Err refusal) × (new ≡ old))
+
+pub settled_young : (result : Result (Unit {0}) AddRefusal) (horizon : ℕ) (entry : Entry) (new old : StreamsView) → age_refusal old.limits old.newest horizon entry ≡ None → IsSettled result old entry new → IsSettledBy result horizon entry new old
+settled_young result horizon entry new old young is = subst (λ refusal. MatchOption refusal (IsSettled result old entry new) (λ refusal. (result ≡ Err refusal) × (new ≡ old))) (sym young) is
+
 module _ (limits : Limits) (rows new : List Row) (old seen : Seen) (next count : ℕ) (whole : IsWhole limits rows old next count) (looked : Looked old seen) where
   -- streams whose store was looked at
   pub looked_whole : new ≡ rows → IsWhole limits new seen next count
@@ -76,7 +99,7 @@ module _ (limits : Limits) (rows new : List Row) (old seen : Seen) (next count :
     many_held honest = len-of_distinct entry_cmp_total (joined rows) (whole.streams.once honest) ∙ sym whole.counted
 
     -- streams that took an entry
-    pub taken_whole : AreAdded rows entry new → (old.honest ≡ true → is_among entry (joined rows) ≡ false) → count < limits.entries → IsWhole limits new seen next (count + 1)
+    pub taken_whole : AreAdded limits.chunk_entries rows entry new → (old.honest ≡ true → is_among entry (joined rows) ≡ false) → count < limits.entries → IsWhole limits new seen next (count + 1)
     taken_whole added is_new room =
         let longer = length_permutation (entry ∷ joined rows) (joined new) added.entries in
         record {
@@ -85,12 +108,12 @@ module _ (limits : Limits) (rows new : List Row) (old seen : Seen) (next count :
           room = omega (arith, room);
         }
 
-    pub taken_view : AreAdded rows entry new → Takes (view_of limits rows old next) entry (view_of limits new seen next)
-    taken_view added = record { limits = refl; held = set-permuted entry_cmp_total entry_cmp-IsAntisymmetric (entry ∷ joined rows) (joined new) added.entries; newest = added.newest; next = refl; seen = looked }
+    pub taken_view : AreAdded limits.chunk_entries rows entry new → Takes (view_of limits rows old next) entry (view_of limits new seen next)
+    taken_view added = record { limits = refl; held = set-permuted entry_cmp_total entry_cmp-IsAntisymmetric (entry ∷ joined rows) (joined new) added.entries; newest = added.newest; next = refl; rows = added.rows; seen = looked }
 
     -- what was decided, where it was refused
-    pub decided_refused : (refusal : AddRefusal) (is_full : Bool) (to : StreamsView) → old.honest ≡ true → IsOfferedRight (Err refusal) (is_among entry (joined rows)) → (IsErrOf {T = Bool} (Err refusal) Full → is_full ≡ true) → is_full ≡ nat_le limits.entries count → IsDecided {A = Unit {0}} (Err refusal) (view_of limits rows old next) entry to
-    decided_refused Full is_full to honest right full is = (is_held ∙ right, let le = sym is ∙ full refl in let many = many_held honest in grind (arith, nat_tests, le, many))
+    pub decided_refused : (refusal : AddRefusal) (is_full : Bool) (to : StreamsView) → old.honest ≡ true → IsOfferedRight (Err refusal) (is_among entry (joined rows)) → IsAnswered (Err refusal) (IsFound rows entry) (IsMissing rows entry) is_full → is_full ≡ nat_le limits.entries count → IsDecided {A = Unit {0}} (Err refusal) (view_of limits rows old next) entry to
+    decided_refused Full is_full to honest right (_, full) is = (is_held ∙ right, let le = sym is ∙ full in let many = many_held honest in grind (arith, nat_tests, le, many))
     decided_refused (Read reads.Fault) is_full to honest right full is = tt
     decided_refused (Read reads.Damaged) is_full to honest right full is = right
     decided_refused (Read reads.Memory) is_full to honest right full is = tt
@@ -105,5 +128,60 @@ module _ (limits : Limits) (rows new : List Row) (old seen : Seen) (next count :
         was true e = refl
         was false e = e
 
-    pub decided_taken : old.honest ≡ true → IsOfferedRight (Ok true) (is_among entry (joined rows)) → AreAdded rows entry new → count < limits.entries → IsDecided {A = Unit {0}} (Ok tt) (view_of limits rows old next) entry (view_of limits new seen next)
+    pub decided_taken : old.honest ≡ true → IsOfferedRight (Ok true) (is_among entry (joined rows)) → AreAdded limits.chunk_entries rows entry new → count < limits.entries → IsDecided {A = Unit {0}} (Ok tt) (view_of limits rows old next) entry (view_of limits new seen next)
     decided_taken honest right added room = subst (λ b. MatchBool b (Looks before after) ((len before.held < limits.entries) × Takes before entry after)) (sym (is_held ∙ taken_new (is_among entry (joined rows)) right)) (subst (λ n. n < limits.entries) (sym (many_held honest)) room, taken_view added)
+
+    -- over any store: where it was refused, where it was found, and where it was taken
+    pub settled_refused : (refusal : AddRefusal) (is_full : Bool) → IsAnswered (Err refusal) (IsFound rows entry) (IsMissing rows entry) is_full → is_full ≡ nat_le limits.entries count → new ≡ rows → IsSettled {A = Unit {0}} (Err refusal) before entry after
+    settled_refused Full is_full (missing, full) is same =
+        let le = sym is ∙ full in
+        let room : limits.entries ≤ count = grind (arith, nat_tests, le) in
+        (missing, (omega (arith, room, whole.counted), looked_view same))
+    settled_refused (Read _) is_full h is same = looked_view same
+    settled_refused (Expired _) is_full h is same = h
+    settled_refused (TooFarBehind _) is_full h is same = h
+
+    pub settled_held : IsFound rows entry → new ≡ rows → IsSettled {A = Unit {0}} (Ok tt) before entry after
+    settled_held found same = inl (found, looked_view same)
+
+    pub settled_taken : IsMissing rows entry → AreAdded limits.chunk_entries rows entry new → count < limits.entries → IsSettled {A = Unit {0}} (Ok tt) before entry after
+    settled_taken missing added room = inr (missing, (omega (arith, room, whole.counted), taken_view added))
+
+    -- and where no written part reaches it
+    module _ (is_full : Bool) (full : is_full ≡ nat_le limits.entries count) (same_store : seen ≡ old) where
+      abbrev Cases : Result (Unit {0}) AddRefusal → Bool → Bool → Type 0
+      Cases result is_held no_room = MatchBool is_held ((result ≡ Ok tt) × (after ≡ before)) (MatchBool no_room ((result ≡ Err Full) × (after ≡ before)) (MatchResult result (λ _. Takes before entry after × (after.seen ≡ before.seen)) (λ refusal. (refusal ≡ Read reads.Memory) × (after ≡ before))))
+
+      by_cases : (result : Result (Unit {0}) AddRefusal) → Cases result (is_among entry (joined rows)) is_full → IsSettledUnread result before entry after
+      by_cases result is =
+          let room : is_full ≡ nat_le limits.entries (length (joined rows)) = full ∙ ap (nat_le limits.entries) whole.counted in
+          subst (λ b. Cases result b (nat_le limits.entries (length (joined rows)))) (sym is_held) (subst (λ b. Cases result (is_among entry (joined rows)) b) room is)
+
+      same_view : new ≡ rows → after ≡ before
+      same_view same = λ i. view_of limits (same i) (same_store i) next
+
+      pub unread_refused : (refusal : AddRefusal) → IsAnsweredUnread (Err refusal) (is_among entry (joined rows)) is_full → new ≡ rows → IsSettledUnread (Err refusal) before entry after
+      unread_refused refusal answers same = by_cases (Err refusal) (by (is_among entry (joined rows)) is_full answers)
+        where
+          by : (held no_room : Bool) → IsAnsweredUnread (Err refusal) held no_room → Cases (Err refusal) held no_room
+          by true no_room e = absurd (not_ok refusal false e)
+          by false true e = (ap Err (ap (refusal_in refusal) e), same_view same)
+          by false false (inl e) = absurd (not_ok refusal true e)
+          by false false (inr e) = (ap (refusal_in refusal) e, same_view same)
+
+      pub unread_held : IsAnsweredUnread (Ok false) (is_among entry (joined rows)) is_full → new ≡ rows → IsSettledUnread (Ok tt) before entry after
+      unread_held answers same = by_cases (Ok tt) (by (is_among entry (joined rows)) is_full answers)
+        where
+          by : (held no_room : Bool) → IsAnsweredUnread (Ok false) held no_room → Cases (Ok tt) held no_room
+          by true no_room e = (refl, same_view same)
+          by false true e = absurd (not_ok Full false (sym e))
+          by false false (inl e) = absurd (true≢false (sym (ap (answer_in true) e)))
+          by false false (inr e) = absurd (not_ok (Read reads.Memory) false (sym e))
+
+      pub unread_taken : IsAnsweredUnread (Ok true) (is_among entry (joined rows)) is_full → AreAdded limits.chunk_entries rows entry new → IsSettledUnread (Ok tt) before entry after
+      unread_taken answers added = by_cases (Ok tt) (by (is_among entry (joined rows)) is_full answers)
+        where
+          by : (held no_room : Bool) → IsAnsweredUnread (Ok true) held no_room → Cases (Ok tt) held no_room
+          by true no_room e = absurd (true≢false (ap (answer_in true) e))
+          by false true e = absurd (not_ok Full true (sym e))
+          by false false e = (taken_view added, same_store)

@@ -1,30 +1,27 @@
 -- Streams whose parts are written one by one.
-use Rattle.std.proofs.Common.{◌≡◌, ℕ, ◌≤◌, List, [], ◌∷◌, Some, slice_get, length, filter, refl, ◌∙◌, arith}
+use Rattle.std.proofs.Common.{◌≡◌, ℕ, ◌+◌, ◌≤◌, List, [], ◌∷◌, Some, slice_get, length, filter, refl, ◌∙◌, arith}
 use Rattle.std.specs.Map.{values_of}
 use Rattle.std.specs.Option.{is_none}
 use Rattle.indexmap.specs.IndexMap.{set_value_at}
 use Rattle.rl_chunks.specs.StoreState.{Seen}
 use Rattle.rl_parts.specs.StreamParts.{PartView, StreamView, entries_of}
 use Rattle.rl_parts.specs.Changes.{AreNoted, unwritten_count}
-use Rattle.rl_parts.specs.StoreUse.{AreKept, Grown, FlushCause}
-use Rattle.rl_parts.specs.declared.fault.FlushFault.{FlushFault}
-use Rattle.rl_parts.specs.declared.fault.FlushFault.TheVariants as flushes
-use Rattle.rl_parts.specs.laws.UseLaws.{Grown-none, Grown-then, FaultCame-after}
+use Rattle.rl_parts.specs.StoreUse.{AreKept, Grown}
 use Rattle.rl_streams.specs.StreamRows.{Row}
 use Rattle.rl_streams.specs.RowSteps.{AreFlushed}
-use Rattle.rl_streams.proofs.RowChanges.{at_row, with_key, set_by_row_same, set_same, set_each_same}
+use Rattle.rl_streams.proofs.RowChanges.{at_row, with_key, set_by_row_same, set_long, set_same, set_each_same}
 use Rattle.rl_streams.proofs.Steps.{streams_noted}
 
 -- nothing was written
 pub none_written : (rows : List Row) (seen : Seen) (next : ℕ) → AreFlushed rows seen next rows seen next
-none_written rows seen next = record { entries = refl; order = refl; newest = refl; loose = refl; numbers = omega arith; grown = Grown-none seen next; streams = λ are. are }
+none_written rows seen next = record { entries = refl; order = refl; newest = refl; loose = refl; up = omega arith; numbers = refl; streams = λ are. are }
 
 -- the parts of one stream more, or some of them
 pub one_written : (first : List Row) (before : Seen) (start : ℕ) (rows : List Row) (seen : Seen) (next : ℕ) (i : ℕ) (stream new : StreamView) (after : Seen) (later : ℕ)
     → AreFlushed first before start rows seen next → slice_get (values_of rows) i ≡ Some stream → new.labels ≡ stream.labels → new.newest ≡ stream.newest → new.head ≡ stream.head → entries_of new ≡ entries_of stream
-    → AreNoted stream.parts next new.parts later → (AreKept seen next stream → AreKept after later new) → Grown seen next after
+    → AreNoted stream.parts next new.parts later → later + unwritten_count new.parts ≡ next + unwritten_count stream.parts → (AreKept seen next stream → AreKept after later new) → (end : ℕ) → Grown seen next end after
     → AreFlushed first before start (set_value_at rows i new) after later
-one_written first before start rows seen next i stream new after later flushed at labels newest head entries noted keeps grown =
+one_written first before start rows seen next i stream new after later flushed at labels newest head entries noted counted keeps end grown =
     let row = with_key rows i stream at in
     let higher : next ≤ later = omega (arith, noted.many) in
     record {
@@ -32,18 +29,12 @@ one_written first before start rows seen next i stream new after later flushed a
       order = set_by_row_same entries_of rows i stream new at entries ∙ flushed.order;
       newest = set_each_same (λ (s : StreamView). s.newest) rows i row.0 stream new row.1 newest ∙ flushed.newest;
       loose = set_same (λ (s : StreamView). s.head) rows i row.0 stream new row.1 head ∙ flushed.loose;
-      numbers = omega (arith, flushed.numbers, higher);
-      grown = Grown-then before start seen next after flushed.numbers flushed.grown grown;
+      up = omega (arith, flushed.up, higher);
+      numbers = omega (arith, flushed.numbers, counted, set_long (λ (s : StreamView). filter (λ part. is_none part.note) s.parts) rows i row.0 stream new row.1);
       streams = λ are.
           let now = flushed.streams are in
-          streams_noted rows seen next now i row.0 stream new row.1 after later labels entries noted grown higher (keeps (at_row (λ row. AreKept seen next row.1) rows i (row.0, stream) now.kept row.1));
+          streams_noted rows seen next now i row.0 stream new row.1 after later labels entries noted end grown higher (keeps (at_row (λ row. AreKept seen next row.1) rows i (row.0, stream) now.kept row.1));
     }
-
--- a fault that came in the last call came in all of them
-pub cause_of_all : (before : Seen) (start : ℕ) (seen after : Seen) (next : ℕ) (fault : FlushFault) → Grown before start seen → FlushCause seen after next fault → FlushCause before after next fault
-cause_of_all before start seen after next flushes.Fault grown cause = FaultCame-after before.faults seen.faults after.faults grown.faults cause
-cause_of_all before start seen after next flushes.NumbersSpent grown cause = cause
-cause_of_all before start seen after next flushes.Memory grown cause = tt
 
 -- a stream without parts to write
 pub no_parts : (parts : List PartView) → unwritten_count parts ≡ 0 → filter (λ part. is_none part.note) parts ≡ []

@@ -49,6 +49,12 @@ pub record AreOfParts (from to : ℕ) (stream : StreamView) (lines : List (Label
 abbrev pub AreOfRow : List Matcher → ℕ → ℕ → Row → List (LabelSet × Line) → Type 0
 AreOfRow selector from to row lines = MatchBool (selects selector row.0) (AreOfParts from to row.1 lines) (lines ≡ [])
 
+-- such lines of one stream were visited, and this is what the visitor became by them
+pub record IsVisitedOf {T : Type 0} (visiting : T → LabelSet × Line → T) (selector : List Matcher) (from to : ℕ) (row : Row) (before after : T) : Type 0 where
+  pub lines : List (LabelSet × Line)
+  pub of_row : AreOfRow selector from to row lines
+  pub visited : after ≡ fold visiting before lines
+
 -- such lines of each stream in turn were visited, and this is what the visitor became by them
 pub record AreVisited {T : Type 0} (visiting : T → LabelSet × Line → T) (selector : List Matcher) (from to : ℕ) (rows : List Row) (before after : T) : Type 0 where
   pub lines : List (List (LabelSet × Line))

@@ -1,5 +1,6 @@
 pub mod Asking
 pub mod CursorState
+pub mod Found
 pub mod HeldSet
 pub mod Rewritten
 pub mod RowSteps

@@ -1,16 +1,16 @@
 -- Streams without their covered entries: how that is planned for all of them, and what it makes of them.
-use Rattle.std.specs.Prelude.{◌≡◌, ℕ, ◌≤◌, nat_eq, not, Bool, true, false, List, [], ◌∷◌, length, map}
+use Rattle.std.specs.Prelude.{◌≡◌, ℕ, ◌+◌, ◌<◌, ◌≤◌, ◌⊎◌, nat_eq, not, Bool, true, false, List, [], ◌∷◌, length, map, zero, suc, None}
 use Rattle.std.specs.FinMap.{retain_keys}
 use Rattle.std.specs.FinMap as finite
-use Rattle.std.specs.List.{All, AllByRecursion, AllZip, flat_map}
+use Rattle.std.specs.List.{All, AllByRecursion, AllZip, Contains, flat_map, list_any}
 use Rattle.std.specs.Map.{values_of}
 use Rattle.rl_labels.specs.EntryOrder.{EntrySet}
 use Rattle.rl_labels.specs.declared.entry.Entry.{Entry}
-use Rattle.rl_chunks.specs.StoreState.{Seen}
+use Rattle.rl_chunks.specs.StoreState.{Seen, with_fault}
 use Rattle.rl_parts.specs.StreamParts.{StreamView, entries_of}
 use Rattle.rl_parts.specs.StoreUse.{AreKept, FaultsRise, Grown}
 use Rattle.rl_parts.specs.Rewriting.{AreLeft, AreRenumbered, PlanView, note_numbers, uncovered}
-use Rattle.rl_streams.specs.StreamRows.{Row}
+use Rattle.rl_streams.specs.StreamRows.{Row, numbers_in}
 use Rattle.rl_streams.specs.StreamsState.{StreamsView}
 
 -- the entries of a set that are not covered
@@ -26,15 +26,33 @@ pub record Stays (old new : StreamsView) : Type 0 where
   pub loose : new.loose ≡ old.loose
   pub unwritten : new.unwritten ≡ old.unwritten
   pub rows : new.rows ≡ old.rows
-  pub seen : Grown old.seen old.next new.seen
+  pub seen : Grown old.seen old.next (new.next + 1) new.seen
 
--- a call that removes entries: the newest timestamps stay
+-- the number of a part that was given up
+abbrev pub IsGone : List Row → List Row → ℕ → Type 0
+IsGone old new number = Contains (numbers_in old) number × (Contains (numbers_in new) number → ⊥)
+
+-- so many faults more
+abbrev pub with_faults : ℕ → ℕ → ℕ
+with_faults zero faults = faults
+with_faults (suc more) faults = with_faults more (with_fault faults)
+
+-- the number is one of these
+abbrev pub is_one_of : List ℕ → ℕ → Bool
+is_one_of numbers number = list_any (nat_eq number) numbers
+
+-- a call that removes entries: the newest timestamps stay. What the store had of parts that were given up is removed, but for what
+-- it refused to remove, each with one fault more; and nothing else changes below the numbers that were given
 pub record Rewrites (old new : StreamsView) : Type 0 where
   pub limits : new.limits ≡ old.limits
   pub newest : new.newest ≡ old.newest
   pub next : old.next ≤ new.next
   pub honest : new.seen.honest ≡ old.seen.honest
   pub faults : FaultsRise old.seen.faults new.seen.faults
+  pub refused : List ℕ
+  pub counted : new.seen.faults ≡ with_faults (length refused) old.seen.faults
+  pub removed : (number : ℕ) → IsGone old.rows new.rows number → is_one_of refused number ≡ false → finite.get new.seen.blobs number ≡ None
+  pub others : (number : ℕ) → (number < old.next) ⊎ (new.next ≤ number) → (IsGone old.rows new.rows number → ⊥) → finite.get new.seen.blobs number ≡ finite.get old.seen.blobs number
 
 -- what each plan keeps of its stream
 pub record IsSound (plan : PlanView) : Type 0 where
@@ -80,8 +98,11 @@ rewritten [] plans = []
 rewritten (row ∷ rows) [] = row ∷ rows
 rewritten (row ∷ rows) (plan ∷ plans) = (row.0, plan.becomes) ∷ rewritten rows plans
 
--- what removals of these numbers leave
+-- what removals of these numbers leave: nothing under each, but for those that were refused
 pub record AreRemoved (old : Seen) (numbers : List ℕ) (new : Seen) : Type 0 where
   pub honest : new.honest ≡ old.honest
   pub faults : FaultsRise old.faults new.faults
+  pub refused : List ℕ
+  pub counted : new.faults ≡ with_faults (length refused) old.faults
+  pub gone : (number : ℕ) → is_one_of numbers number ≡ true → is_one_of refused number ≡ false → finite.get new.blobs number ≡ None
   pub others : (number : ℕ) → AllByRecursion (λ gone. nat_eq number gone ≡ false) numbers → finite.get new.blobs number ≡ finite.get old.blobs number

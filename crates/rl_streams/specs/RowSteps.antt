@@ -1,17 +1,17 @@
 -- What the calls make of the rows of streams.
-use Rattle.std.specs.Prelude.{◌≡◌, ℕ, ◌≤◌, max, not, Bool, true, false, List, ◌∷◌, ◌++◌, Option, Some, Result, Ok, Err, MatchOption, slice_get}
+use Rattle.std.specs.Prelude.{◌≡◌, ℕ, ◌+◌, ◌≤◌, ◌⊎◌, max, not, Bool, true, false, List, [], ◌∷◌, ◌++◌, length, Option, Some, Result, Ok, Err, MatchOption, slice_get}
 use Rattle.std.specs.List.{AllByRecursion}
 use Rattle.std.specs.List.Sorted.{IsPermutation}
 use Rattle.std.specs.Map.{keys_of}
+use Rattle.indexmap.specs.IndexMap.{set_value_at}
 use Rattle.rl_labels.specs.LabelSet.{LabelSet}
 use Rattle.rl_labels.specs.LabelText.{label_set_eq}
 use Rattle.rl_labels.specs.declared.entry.Entry.{Entry}
 use Rattle.rl_chunks.specs.StoreState.{Seen}
 use Rattle.rl_parts.specs.StreamParts.{StreamView, entries_of}
-use Rattle.rl_parts.specs.StoreUse.{Grown}
-use Rattle.rl_parts.specs.Changes.{IsInserted, AreSealed}
+use Rattle.rl_parts.specs.Changes.{IsStarted, IsInserted, IsHeld, AreSealed}
 use Rattle.rl_parts.specs.declared.fault.ReadFault.TheVariants as reads
-use Rattle.rl_streams.specs.StreamRows.{Row, joined, by_stream, newest_in, loose_in, newest_map, raised, is_among, AreStreams}
+use Rattle.rl_streams.specs.StreamRows.{Row, joined, by_stream, newest_in, loose_in, unwritten_in, newest_map, raised, is_among, AreStreams}
 use Rattle.rl_streams.specs.declared.refusal.AddRefusal.{AddRefusal}
 use Rattle.rl_streams.specs.declared.refusal.AddRefusal.TheVariants.{Expired, TooFarBehind, Full, Read}
 
@@ -36,33 +36,59 @@ pub record AreFlushed (old : List Row) (before : Seen) (first : ℕ) (new : List
   pub order : by_stream new ≡ by_stream old
   pub newest : newest_in new ≡ newest_in old
   pub loose : loose_in new ≡ loose_in old
-  pub numbers : first ≤ next
-  pub grown : Grown before first seen
+  pub up : first ≤ next
+  pub numbers : next + length (unwritten_in new) ≡ first + length (unwritten_in old)
   pub streams : AreStreams old before first → AreStreams new seen next
 
--- the stream has taken the entry
-pub record Gains (old : StreamView) (entry : Entry) (new : StreamView) : Type 0 where
+-- the stream has taken the entry, where a part has at most so many
+pub record Gains (most : ℕ) (old : StreamView) (entry : Entry) (new : StreamView) : Type 0 where
   pub labels : new.labels ≡ old.labels
   pub newest : new.newest ≡ max old.newest entry.timestamp
   pub entries : IsInserted (entries_of old) entry (entries_of new)
   pub parts : AreSealed old.parts new.parts
+  pub held : IsHeld most old entry new
 
 -- where there is one more entry, the stream has taken it, and else it is as it was
-abbrev pub IsOffered : Bool → StreamView → Entry → StreamView → Type 0
-IsOffered true old entry new = Gains old entry new
-IsOffered false old entry new = new ≡ old
+abbrev pub IsOffered : ℕ → Bool → StreamView → Entry → StreamView → Type 0
+IsOffered most true old entry new = Gains most old entry new
+IsOffered most false old entry new = new ≡ old
+
+-- a stream of the entry alone came after the others
+pub record IsBegun (most : ℕ) (old : List Row) (entry : Entry) (new : List Row) : Type 0 where
+  pub others : AreOthers entry.labels old
+  pub stream : StreamView
+  pub labels : stream.labels ≡ entry.labels
+  pub newest : stream.newest ≡ entry.timestamp
+  pub started : IsStarted most entry stream
+  pub becomes : new ≡ old ++ (entry.labels, stream) ∷ []
+
+-- the stream of its labels holds the entry too, and seals its head where that has `most` entries by now; the others are as they were
+pub record IsHeldAt (most : ℕ) (old : List Row) (entry : Entry) (new : List Row) : Type 0 where
+  pub position : ℕ
+  pub stream : StreamView
+  pub stands : slice_get old position ≡ Some (entry.labels, stream)
+  pub now : StreamView
+  pub labels : now.labels ≡ stream.labels
+  pub newest : now.newest ≡ max stream.newest entry.timestamp
+  pub held : IsHeld most stream entry now
+  pub becomes : new ≡ set_value_at old position now
+
+-- the entry begins a stream, or the stream of its labels holds it too
+abbrev pub IsTakenBy : ℕ → List Row → Entry → List Row → Type 0
+IsTakenBy most old entry new = IsBegun most old entry new ⊎ IsHeldAt most old entry new
 
 -- streams that hold one entry more, with its stream's newest timestamp raised to its own
-pub record AreAdded (old : List Row) (entry : Entry) (new : List Row) : Type 0 where
+pub record AreAdded (most : ℕ) (old : List Row) (entry : Entry) (new : List Row) : Type 0 where
+  pub rows : IsTakenBy most old entry new
   pub entries : IsPermutation (entry ∷ joined old) (joined new)
   pub newest : newest_map (newest_in new) ≡ raised (newest_map (newest_in old)) entry.labels entry.timestamp
   pub labels : (more : List LabelSet) × (keys_of new ≡ keys_of old ++ more)
   pub streams : (seen : Seen) (next : ℕ) → AreStreams old seen next → (seen.honest ≡ true → is_among entry (joined old) ≡ false) → AreStreams new seen next
 
 -- where there is one more entry, the streams hold it too, and else they are as they were
-abbrev pub AreOffered : Bool → List Row → Entry → List Row → Type 0
-AreOffered true old entry new = AreAdded old entry new
-AreOffered false old entry new = new ≡ old
+abbrev pub AreOffered : ℕ → Bool → List Row → Entry → List Row → Type 0
+AreOffered most true old entry new = AreAdded most old entry new
+AreOffered most false old entry new = new ≡ old
 
 -- over an honest store: there is one more entry where it was not held. The search for it may fail, but finds nothing damaged
 abbrev pub IsOfferedRight : Result Bool AddRefusal → Bool → Type 0

@@ -12,10 +12,11 @@ use Rattle.rl_labels.specs.contracts.entry.Entry as entry_type
 use Rattle.rl_labels.specs.contracts.limits.Limits as limits_type
 use Rattle.rl_chunks.specs.StoreState.{Blobs, Seen}
 use Rattle.rl_parts.specs.StreamParts.{stream_code}
-use Rattle.rl_parts.specs.StoreUse.{Looked, Grown, ReadCause}
+use Rattle.rl_parts.specs.StoreUse.{Looked, read_faults}
 use Rattle.rl_parts.specs.declared.fault.ReadFault.TheVariants as reads
 use Rattle.rl_streams.specs.HeldSet.{set_of}
 use Rattle.rl_streams.specs.StreamRows.{Row, joined, by_stream, newest_in, loose_in, unwritten_in, newest_map, newest_at, raised, AreStreams}
+use Rattle.rl_streams.specs.RowSteps.{IsTakenBy}
 use Rattle.rl_streams.specs.declared.refusal.AddRefusal.{AddRefusal}
 use Rattle.rl_streams.specs.declared.refusal.AddRefusal.TheVariants.{Expired, TooFarBehind, Full, Read}
 
@@ -83,14 +84,6 @@ age_refusal limits newest horizon entry =
     else (if is_far_behind limits entry (newest_at newest entry.labels) then Some (TooFarBehind (newest_at newest entry.labels))
     else None)
 
--- the answer does not speak of the entry's age
-abbrev pub IsNoAge : {A : Type 0} → Result A AddRefusal → Type 0
-IsNoAge (Ok _) = Unit {0}
-IsNoAge (Err (Expired horizon)) = ⊥
-IsNoAge (Err (TooFarBehind newest)) = ⊥
-IsNoAge (Err Full) = Unit {0}
-IsNoAge (Err (Read _)) = Unit {0}
-
 -- a call that only looks at the store
 pub record Looks (old new : StreamsView) : Type 0 where
   pub limits : new.limits ≡ old.limits
@@ -117,9 +110,10 @@ pub record Takes (old : StreamsView) (entry : Entry) (new : StreamsView) : Type 
   pub held : new.held ≡ insert old.held entry tt
   pub newest : new.newest ≡ raised old.newest entry.labels entry.timestamp
   pub next : new.next ≡ old.next
+  pub rows : IsTakenBy old.limits.chunk_entries old.rows entry new.rows
   pub seen : Looked old.seen new.seen
 
--- a call that puts chunks under numbers from the next one on
+-- a call that gives numbers to parts, from the next one on
 pub record Flushes (old new : StreamsView) : Type 0 where
   pub limits : new.limits ≡ old.limits
   pub held : new.held ≡ old.held
@@ -127,14 +121,20 @@ pub record Flushes (old new : StreamsView) : Type 0 where
   pub next : old.next ≤ new.next
   pub loose : new.loose ≡ old.loose
   pub order : order_of new ≡ order_of old
-  pub seen : Grown old.seen old.next new.seen
+  -- each number was given to one part
+  pub numbers : new.next + new.unwritten ≡ old.next + old.unwritten
 
--- a refusal for a fault of the device came with one
-abbrev pub AddCause : Seen → Seen → AddRefusal → Type 0
-AddCause old new (Expired horizon) = Unit {0}
-AddCause old new (TooFarBehind newest) = Unit {0}
-AddCause old new Full = Unit {0}
-AddCause old new (Read fault) = ReadCause old new fault
+-- faults after an entry was refused so: one more where the device failed
+abbrev pub add_faults : AddRefusal → ℕ → ℕ
+add_faults (Expired horizon) faults = faults
+add_faults (TooFarBehind newest) faults = faults
+add_faults Full faults = faults
+add_faults (Read fault) faults = read_faults fault faults
+
+-- and after such an answer
+abbrev pub after_add : {A : Type 0} → Result A AddRefusal → ℕ → ℕ
+after_add (Ok _) faults = faults
+after_add (Err refusal) faults = add_faults refusal faults
 
 -- what becomes of an entry that is not refused for its age, over an honest store: one that is held changes nothing; for a new one there
 -- must be room. The search for it may fail, but finds nothing damaged

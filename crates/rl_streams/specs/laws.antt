@@ -1,2 +1,3 @@
 -- Laws that the crates above rest on.
 pub mod HeldLaws
+pub mod SettledLaws

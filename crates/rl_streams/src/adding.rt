@@ -1,13 +1,15 @@
 //! How streams take an entry.
-ghost use Rattle.std.specs.Prelude.{◌≡◌, ◌≤◌, ◌⊎◌, ℕ, Bool, true, false, List, IfOk, IfErr, OnOk, OnErr, IsErrOf, is_none};
+ghost use Rattle.std.specs.Prelude.{◌≡◌, ◌≤◌, ℕ, Bool, true, false, List, IfOk, IfErr, OnOk, OnErr, if◌then◌else◌, is_none};
 ghost use Rattle.std.specs.List.{AllByRecursion, IsDistinct};
 ghost use Rattle.std.specs.Map.{keys_of};
 ghost use Rattle.rl_labels.specs.LabelText.{label_set_eq};
 ghost use Rattle.rl_parts.specs.StreamParts.{entries_of, most_entries};
+ghost use Rattle.rl_parts.specs.Reading.{NoneReaches, IsFoundIn, IsMissingIn};
 ghost use Rattle.rl_parts.specs.StoreUse.{Looked, AreKept};
+ghost use Rattle.rl_streams.specs.Found.{IsFound, IsMissing, IsUnreached, IsAnswered, IsAnsweredUnread};
 ghost use Rattle.rl_streams.specs.StreamRows.{joined, newest_in, newest_map, is_among, IsOwn, AreStreams};
 ghost use Rattle.rl_streams.specs.RowSteps.{AreAdded, AreOffered, AreOthers, IsOffered, IsOfferedRight, IsPositionOf};
-ghost use Rattle.rl_streams.specs.StreamsState.{age_refusal, is_far_behind, AddCause, IsNoAge};
+ghost use Rattle.rl_streams.specs.StreamsState.{age_refusal, after_add, is_far_behind};
 ghost use Rattle.rl_streams.specs.declared.refusal.AddRefusal.TheVariants.{Full, Read};
 ghost use Rattle.rl_parts.specs.declared.fault.ReadFault.TheVariants.{Memory};
 
@@ -78,11 +80,10 @@ fn offer<S: Store>(
     requires some { 1 ≤ most }
     requires few { most ≤ most_entries }
     ensures looked { Looked (S.seen store.old) (S.seen store.new) }
-    ensures cause { IfErr result (AddCause (S.seen store.old) (S.seen store.new)) }
-    ensures no_age { IsNoAge result }
-    ensures room { IfOk result (λ more. more ≡ true → is_full ≡ false) }
-    ensures full { IsErrOf result Full → is_full ≡ true }
-    ensures taken { IfOk result (λ more. IsOffered more stream.old entry stream.new) }
+    ensures counted { (S.seen store.new).faults ≡ after_add result (S.seen store.old).faults }
+    ensures answers { IsAnswered result (IsFoundIn entry stream.old) (IsMissingIn entry stream.old) is_full }
+    ensures exact { NoneReaches entry.timestamp entry.timestamp stream.old → IsAnsweredUnread result (is_among entry (entries_of stream.old)) is_full × (S.seen store.new ≡ S.seen store.old) }
+    ensures taken { IfOk result (λ more. IsOffered most more stream.old entry stream.new) }
     ensures refused { OnErr result (stream.new ≡ stream.old) }
     ensures right { (next : ℕ) → AreKept (S.seen store.old) next stream.old → (S.seen store.old).honest ≡ true → IsOfferedRight result (is_among entry (entries_of stream.old)) }
 {
@@ -108,10 +109,9 @@ fn begin(
     requires some { 1 ≤ most }
     requires few { most ≤ most_entries }
     ensures room { OnOk result (is_full ≡ false) }
-    ensures full { IsErrOf result Full → is_full ≡ true }
-    ensures taken { OnOk result (AreAdded streams.old.entries entry streams.new.entries) }
+    ensures taken { OnOk result (AreAdded most streams.old.entries entry streams.new.entries) }
     ensures refused { OnErr result (streams.new.entries ≡ streams.old.entries) }
-    ensures cause { IfErr result (λ refusal. (refusal ≡ Full) ⊎ (refusal ≡ Read Memory)) }
+    ensures cause { IfErr result (λ refusal. refusal ≡ (if is_full then Full else Read Memory)) }
 {
     if is_full {
         return Err(AddRefusal::Full);
@@ -139,11 +139,10 @@ pub(crate) fn put<S: Store>(
     requires some { 1 ≤ most }
     requires few { most ≤ most_entries }
     ensures looked { Looked (S.seen store.old) (S.seen store.new) }
-    ensures cause { IfErr result (AddCause (S.seen store.old) (S.seen store.new)) }
-    ensures no_age { IsNoAge result }
-    ensures room { IfOk result (λ more. more ≡ true → is_full ≡ false) }
-    ensures full { IsErrOf result Full → is_full ≡ true }
-    ensures taken { IfOk result (λ more. AreOffered more streams.old.entries entry streams.new.entries) }
+    ensures counted { (S.seen store.new).faults ≡ after_add result (S.seen store.old).faults }
+    ensures answers { IsAnswered result (IsFound streams.old.entries entry) (IsMissing streams.old.entries entry) is_full }
+    ensures exact { IsUnreached streams.old.entries entry → IsAnsweredUnread result (is_among entry (joined streams.old.entries)) is_full × (S.seen store.new ≡ S.seen store.old) }
+    ensures taken { IfOk result (λ more. AreOffered most more streams.old.entries entry streams.new.entries) }
     ensures refused { OnErr result (streams.new.entries ≡ streams.old.entries) }
     ensures right { (next : ℕ) → AreStreams streams.old.entries (S.seen store.old) next → (S.seen store.old).honest ≡ true → IsOfferedRight result (is_among entry (joined streams.old.entries)) }
 {

@@ -1,7 +1,8 @@
 //! What is asked of streams, given line by line.
-ghost use Rattle.std.specs.Prelude.{◌≡◌, ◌≤◌, [], ◌∷◌, true, length, IfErr, IfOk, MatchOption, OnErr, OnOk};
-ghost use Rattle.rl_parts.specs.StoreUse.{ReadCause, Right};
+ghost use Rattle.std.specs.Prelude.{◌≡◌, ◌≤◌, [], ◌∷◌, true, length, IfOk, MatchOption, OnErr, OnOk};
+ghost use Rattle.rl_parts.specs.StoreUse.{Right, after_read};
 ghost use Rattle.rl_streams.specs.Asking.{left};
+ghost use Rattle.rl_streams.specs.CursorState.{AreAsked};
 ghost use Rattle.rl_streams.specs.StreamsState.{order_of, Looks};
 
 use crate::lines::WaitingLines;
@@ -34,9 +35,10 @@ fn fill<S: Store>(
     lines: &mut WaitingLines,
 ) -> Result<(), ReadFault>
     ensures same { Looks streams.old streams.new }
-    ensures cause { IfErr result (ReadCause streams.old.seen streams.new.seen) }
+    ensures counted { streams.new.seen.faults ≡ after_read result streams.old.seen.faults }
     ensures undamaged { streams.old.seen.honest ≡ true → Right result (λ _. Unit {0}) }
     ensures left { streams.old.seen.honest ≡ true → left selector.now from to (order_of streams.new) position.new lines.new ≡ left selector.now from to (order_of streams.old) position.old lines.old }
+    ensures asked { AreAsked streams.old.rows selector.now from to position.old lines.old position.new lines.new }
     ensures all { OnOk result (lines.new ≡ [] → length (order_of streams.new) ≤ position.new) }
 {
     for next in *position..streams.stream_count() {
@@ -53,7 +55,7 @@ fn fill<S: Store>(
 }
 
 impl<'a, S: Store> Cursor<'a, S> {
-    ghost use Rattle.rl_streams.specs.CursorState.{left_in};
+    ghost use Rattle.rl_streams.specs.CursorState.{left_in, AreAsked, IsGiven};
 
     // What the streams are asked.
     pub(crate) fn new(
@@ -79,12 +81,16 @@ impl<'a, S: Store> Cursor<'a, S> {
         }
     }
 
-    /// The next line with its labels, if one is left. After a refusal as much is left as before.
+    /// The next line with its labels, if one is left. After a refusal as much is left as before, and the stream that was not
+    /// read to its end is asked again.
     pub fn next(&mut self) -> Result<Option<(Shared<Labels>, Line)>, ReadFault>
         ensures same_reference { self.new.streams.ghost_name ≡ self.old.streams.ghost_name }
         ensures asks { (self.new.selector.now ≡ self.old.selector.now) × (self.new.from ≡ self.old.from) × (self.new.to ≡ self.old.to) }
         ensures same { Looks self.old.streams.now self.new.streams.now }
-        ensures cause { IfErr result (ReadCause self.old.streams.now.seen self.new.streams.now.seen) }
+        ensures counted { self.new.streams.now.seen.faults ≡ after_read result self.old.streams.now.seen.faults }
+        // What is given of a part that the store has follows from bytes with its digest, over any store.
+        ensures read { IfOk result (λ found. IsGiven self.old.streams.now.rows self.old.selector.now self.old.from self.old.to self.old.position self.old.lines found self.new.position self.new.lines) }
+        ensures again { OnErr result (AreAsked self.old.streams.now.rows self.old.selector.now self.old.from self.old.to self.old.position self.old.lines self.new.position self.new.lines) }
         ensures right { self.old.streams.now.seen.honest ≡ true → Right result (λ found. MatchOption found (left_in self.old ≡ []) (λ line. left_in self.old ≡ line ∷ left_in self.new)) }
         ensures refused { OnErr result (self.old.streams.now.seen.honest ≡ true → left_in self.new ≡ left_in self.old) }
     {

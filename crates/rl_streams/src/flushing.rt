@@ -1,6 +1,7 @@
 //! Writing the parts of all streams to the store.
-ghost use Rattle.std.specs.Prelude.{◌≡◌, [], OnOk, IfErr};
-ghost use Rattle.rl_parts.specs.StoreUse.{FlushCause};
+ghost use Rattle.std.specs.Prelude.{◌≡◌, [], IsErrOf, OnOk};
+ghost use Rattle.rl_chunks.specs.StoreState.{greatest};
+ghost use Rattle.rl_parts.specs.StoreUse.{IsGrown, after_flush};
 ghost use Rattle.rl_streams.specs.StreamRows.{unwritten_in};
 ghost use Rattle.rl_streams.specs.RowSteps.{AreFlushed};
 
@@ -20,7 +21,9 @@ pub(crate) fn flush<S: Store>(
 ) -> Result<(), FlushFault>
     ensures flushed { AreFlushed streams.old.entries (S.seen store.old) next.old streams.new.entries (S.seen store.new) next.new }
     ensures all { OnOk result (unwritten_in streams.new.entries ≡ []) }
-    ensures cause { IfErr result (FlushCause (S.seen store.old) (S.seen store.new) next.new) }
+    ensures grown { IsGrown result (S.seen store.old) next.old next.new (S.seen store.new) }
+    ensures counted { (S.seen store.new).faults ≡ after_flush result (S.seen store.old).faults }
+    ensures spent { IsErrOf result FlushFault.NumbersSpent → next.new ≡ greatest }
 {
     for position in 0..streams.len() {
         streams[position].flush(alloc, store, next)?;

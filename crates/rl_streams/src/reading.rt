@@ -1,12 +1,13 @@
 //! What streams hold, read where it is.
-ghost use Rattle.std.specs.Prelude.{◌≡◌, ℕ, List, true, false, Ok, IfErr, OnOk};
+ghost use Rattle.std.specs.Prelude.{◌≡◌, ℕ, List, true, false, Ok, IfOk, OnOk};
 ghost use Rattle.std.specs.List.{AllByRecursion, fold};
 ghost use Rattle.std.specs.Map.{keys_of};
 ghost use Rattle.rl_labels.specs.LabelSet.{LabelSet};
 ghost use Rattle.rl_labels.specs.Selects.{selects};
 ghost use Rattle.rl_chunks.specs.declared.line.Line.{Line};
-ghost use Rattle.rl_parts.specs.StoreUse.{Looked, AreKept, ReadCause, Right};
-ghost use Rattle.rl_streams.specs.Asking.{visited_of, visited_by, AreOfRow, AreVisited};
+ghost use Rattle.rl_parts.specs.StoreUse.{Looked, AreKept, Right, after_read};
+ghost use Rattle.rl_streams.specs.Asking.{visited_of, visited_by, AreVisited, IsVisitedOf};
+ghost use Rattle.rl_streams.specs.Found.{IsFound, IsMissing, IsUnreached};
 ghost use Rattle.rl_streams.specs.RowSteps.{AreOthers};
 ghost use Rattle.rl_streams.specs.Selected.{selected};
 ghost use Rattle.rl_streams.specs.StreamRows.{joined, is_among, IsOwn, AreStreams};
@@ -28,8 +29,12 @@ pub(crate) fn holds<S: Store>(
 ) -> Result<bool, ReadFault>
     requires { AllByRecursion IsOwn streams.now.entries }
     ensures looked { Looked (S.seen store.old) (S.seen store.new) }
-    ensures cause { IfErr result (ReadCause (S.seen store.old) (S.seen store.new)) }
+    ensures counted { (S.seen store.new).faults ≡ after_read result (S.seen store.old).faults }
     ensures unread { AreOthers entry.now.labels streams.now.entries → (result ≡ Ok false) × (S.seen store.new ≡ S.seen store.old) }
+    // What is answered of a part that the store has follows from bytes with its digest, over any store.
+    ensures yes { IfOk result (λ found. found ≡ true → IsFound streams.now.entries entry.now) }
+    ensures no { IfOk result (λ found. found ≡ false → IsMissing streams.now.entries entry.now) }
+    ensures exact { IsUnreached streams.now.entries entry.now → (result ≡ Ok (is_among entry.now (joined streams.now.entries))) × (S.seen store.new ≡ S.seen store.old) }
     ensures right { (next : ℕ) → AreStreams streams.now.entries (S.seen store.old) next → (S.seen store.old).honest ≡ true → Right result (λ found. found ≡ is_among entry.now (joined streams.now.entries)) }
 {
     match position_of(streams, &entry.labels) {
@@ -49,7 +54,8 @@ pub(crate) fn each_selected<S: Store, T: Visitor>(
     visitor: &mut T,
 ) -> Result<(), ReadFault>
     ensures looked { Looked (S.seen store.old) (S.seen store.new) }
-    ensures cause { IfErr result (ReadCause (S.seen store.old) (S.seen store.new)) }
+    ensures counted { (S.seen store.new).faults ≡ after_read result (S.seen store.old).faults }
+    ensures lines { OnOk result (IsVisitedOf T.visiting selector.now from to (stream.now.labels, stream.now) visitor.old visitor.new) }
     ensures right { (next : ℕ) → AreKept (S.seen store.old) next stream.now → (S.seen store.old).honest ≡ true → Right result (λ _. visitor.new ≡ fold T.visiting visitor.old (visited_of selector.now from to stream.now.labels stream.now)) }
 {
     if !selector.accepts(stream.labels())? {
@@ -71,7 +77,7 @@ pub(crate) fn each<S: Store, T: Visitor>(
     requires own { AllByRecursion IsOwn streams.now.entries }
     requires positions { selection.now.positions ≡ selected selection.now.selector (keys_of streams.now.entries) }
     ensures looked { Looked (S.seen store.old) (S.seen store.new) }
-    ensures cause { IfErr result (ReadCause (S.seen store.old) (S.seen store.new)) }
+    ensures counted { (S.seen store.new).faults ≡ after_read result (S.seen store.old).faults }
     ensures unread { AllByRecursion (λ row. selects selection.now.selector row.0 ≡ false) streams.now.entries → S.seen store.new ≡ S.seen store.old }
     ensures visited { OnOk result (AreVisited T.visiting selection.now.selector from to streams.now.entries visitor.old visitor.new) }
     ensures right { (next : ℕ) → AreStreams streams.now.entries (S.seen store.old) next → (S.seen store.old).honest ≡ true → Right result (λ _. visitor.new ≡ fold T.visiting visitor.old (visited_by selection.now.selector from to streams.now.entries)) }

@@ -1,8 +1,9 @@
 //! Removing covered entries from all streams.
-ghost use Rattle.std.specs.Prelude.{◌≡◌, ◌≤◌, IfErr, IfOk, IsErrOf, length, true};
+ghost use Rattle.std.specs.Prelude.{◌≡◌, ◌≤◌, IfOk, IsErrOf, length, true};
 ghost use Rattle.std.specs.List.{AllByRecursion};
-ghost use Rattle.rl_parts.specs.Rewriting.{RewriteCause};
-ghost use Rattle.rl_parts.specs.StoreUse.{AreKept, Grown};
+ghost use Rattle.rl_chunks.specs.StoreState.{greatest};
+ghost use Rattle.rl_parts.specs.Rewriting.{after_rewrite};
+ghost use Rattle.rl_parts.specs.StoreUse.{AreKept, IsGrown};
 ghost use Rattle.rl_streams.specs.Rewritten.{AreOf, ArePlanned, AreRemoved, numbers_gone, rewritten};
 ghost use Rattle.rl_streams.specs.StreamRows.{joined};
 
@@ -24,8 +25,9 @@ pub(crate) fn plan_all<S: Store, C: Covers>(
     ensures planned { IfOk result (λ plans. ArePlanned (C.covers covered.now) next.old (S.seen store.old) plans.items next.new (S.seen store.new)) }
     ensures undamaged { (S.seen store.old).honest ≡ true → AllByRecursion (λ row. AreKept (S.seen store.old) next.old row.1) streams.now.entries → IsErrOf result RewriteFault.Damaged → ⊥ }
     ensures next { next.old ≤ next.new }
-    ensures grown { Grown (S.seen store.old) next.old (S.seen store.new) }
-    ensures cause { IfErr result (RewriteCause (S.seen store.old) (S.seen store.new) next.new) }
+    ensures grown { IsGrown result (S.seen store.old) next.old next.new (S.seen store.new) }
+    ensures counted { (S.seen store.new).faults ≡ after_rewrite result (S.seen store.old).faults }
+    ensures spent { IsErrOf result RewriteFault.NumbersSpent → next.new ≡ greatest }
 {
     let mut plans = Vec::with_capacity(alloc, streams.len())?;
     for position in 0..streams.len() {

@@ -1,5 +1,5 @@
 //! All streams of a shard.
-ghost use Rattle.std.specs.Prelude.{◌≡◌, ◌⊎◌, ◌<◌, ◌≤◌, ◌++◌, [], ◌∷◌, length, true, false, None, Ok, Err, IfErr, IsErrOf, MatchOption, OnErr, OnOk};
+ghost use Rattle.std.specs.Prelude.{◌≡◌, ◌+◌, ◌<◌, ◌≤◌, ◌++◌, [], ◌∷◌, length, true, false, None, Ok, Err, IfOk, IsErrOf, MatchOption, OnErr, OnOk};
 ghost use Rattle.rl_chunks.specs.StoreState.{greatest};
 
 use crate::adding::{age_refusal, position_of, put};
@@ -47,12 +47,13 @@ impl<S: Store> Model for Streams<S> {
 
 impl<S: Store> Streams<S> {
     ghost use Rattle.std.specs.FinMap.{contains_key, get, len};
-    ghost use Rattle.rl_parts.specs.StoreUse.{FlushCause, ReadCause, Right};
-    ghost use Rattle.rl_parts.specs.Rewriting.{RewriteCause};
+    ghost use Rattle.rl_parts.specs.StoreUse.{IsGrown, Right, after_flush, after_read};
+    ghost use Rattle.rl_parts.specs.Rewriting.{after_rewrite};
     ghost use Rattle.rl_streams.specs.Rewritten.{AreLeftIn, Rewrites, Stays, without};
     ghost use Rattle.rl_streams.specs.Asking.{AreVisited, AreVisitedOnce, NoneSelected, visited_at};
-    ghost use Rattle.rl_streams.specs.CursorState.{left_in};
-    ghost use Rattle.rl_streams.specs.StreamsState.{no_streams, age_refusal, order_of, AddCause, Cuts, Flushes, IsDecided, IsNoAge, Looks, Takes};
+    ghost use Rattle.rl_streams.specs.CursorState.{left_in, AreAsked};
+    ghost use Rattle.rl_streams.specs.Found.{IsFound, IsMissing, IsUnreached, IsSettled, IsSettledUnread};
+    ghost use Rattle.rl_streams.specs.StreamsState.{no_streams, age_refusal, order_of, after_add, Cuts, Flushes, IsDecided, Looks};
 
     /// Streams that hold nothing. The first number is that of the limits.
     pub fn new(alloc: Global, store: S, limits: Limits) -> Self
@@ -102,11 +103,11 @@ impl<S: Store> Streams<S> {
     /// Takes an entry. One that is held changes nothing. The search for it may read from the store, so a fault of the store
     /// may be answered where the entry is held, or where there is no room. A refusal takes nothing.
     pub fn add(&mut self, entry: Shared<Entry>, horizon: Ns) -> Result<(), AddRefusal>
-        // An entry that is too old is refused, over any store and without a read.
-        ensures aged { MatchOption (age_refusal self.old.limits self.old.newest horizon entry) (IsNoAge result) (λ refusal. (result ≡ Err refusal) × (self.new ≡ self.old)) }
-        ensures taken { OnOk result (Looks self.old self.new ⊎ Takes self.old entry self.new) }
-        ensures refused { OnErr result (Looks self.old self.new) }
-        ensures cause { IfErr result (AddCause self.old.seen self.new.seen) }
+        // An entry that is too old is refused without a read. What becomes of another follows from memory and from bytes with
+        // the digests that were kept, over any store.
+        ensures settled { MatchOption (age_refusal self.old.limits self.old.newest horizon entry) (IsSettled result self.old entry self.new) (λ refusal. (result ≡ Err refusal) × (self.new ≡ self.old)) }
+        ensures counted { self.new.seen.faults ≡ after_add result self.old.seen.faults }
+        ensures exact { age_refusal self.old.limits self.old.newest horizon entry ≡ None → IsUnreached self.old.rows entry → IsSettledUnread result self.old entry self.new }
         // Exactly one of these over an honest store.
         ensures decided { age_refusal self.old.limits self.old.newest horizon entry ≡ None → self.old.seen.honest ≡ true → IsDecided result self.old entry self.new }
     {
@@ -130,7 +131,9 @@ impl<S: Store> Streams<S> {
     pub fn flush(&mut self) -> Result<(), FlushFault>
         ensures same { Flushes self.old self.new }
         ensures all { OnOk result (self.new.unwritten ≡ 0) }
-        ensures cause { IfErr result (FlushCause self.old.seen self.new.seen self.new.next) }
+        ensures grown { IsGrown result self.old.seen self.old.next self.new.next self.new.seen }
+        ensures counted { self.new.seen.faults ≡ after_flush result self.old.seen.faults }
+        ensures spent { IsErrOf result FlushFault.NumbersSpent → self.new.next ≡ greatest }
         ensures numbers { self.new.next ≤ greatest }
     {
         let flushed = flushing::flush(
@@ -153,7 +156,8 @@ impl<S: Store> Streams<S> {
         ensures left { OnOk result (AreLeftIn (C.covers covered.now) self.old.rows self.new.rows) }
         ensures right { self.old.seen.honest ≡ true → OnOk result (self.new.held ≡ without (C.covers covered.now) self.old.held) }
         ensures undamaged { self.old.seen.honest ≡ true → IsErrOf result RewriteFault.Damaged → ⊥ }
-        ensures cause { IfErr result (RewriteCause self.old.seen self.new.seen self.new.next) }
+        ensures counted { OnErr result (self.new.seen.faults ≡ after_rewrite result self.old.seen.faults) }
+        ensures spent { IsErrOf result RewriteFault.NumbersSpent → self.new.next ≡ greatest }
         ensures numbers { self.new.next ≤ greatest }
     {
         let (store, streams) = (&mut self.store, &self.streams);
@@ -169,8 +173,12 @@ impl<S: Store> Streams<S> {
     /// entry, and what it answers instead is found to be damaged.
     pub fn holds(&mut self, entry: &Entry) -> Result<bool, ReadFault>
         ensures same { Looks self.old self.new }
-        ensures cause { IfErr result (ReadCause self.old.seen self.new.seen) }
+        ensures counted { self.new.seen.faults ≡ after_read result self.old.seen.faults }
         ensures unread { get self.old.newest entry.now.labels ≡ None → (result ≡ Ok false) × (self.new ≡ self.old) }
+        // What is answered of a part that the store has follows from bytes with its digest, over any store.
+        ensures yes { IfOk result (λ found. found ≡ true → IsFound self.old.rows entry.now) }
+        ensures no { IfOk result (λ found. found ≡ false → IsMissing self.old.rows entry.now) }
+        ensures exact { IsUnreached self.old.rows entry.now → (result ≡ Ok (contains_key self.old.held entry.now)) × (self.new ≡ self.old) }
         ensures right { self.old.seen.honest ≡ true → Right result (λ found. found ≡ contains_key self.old.held entry.now) }
     {
         reading::holds(self.alloc, &mut self.store, &self.streams, entry)
@@ -187,7 +195,7 @@ impl<S: Store> Streams<S> {
         visitor: &mut T,
     ) -> Result<(), ReadFault>
         ensures same { Looks self.old self.new }
-        ensures cause { IfErr result (ReadCause self.old.seen self.new.seen) }
+        ensures counted { self.new.seen.faults ≡ after_read result self.old.seen.faults }
         ensures unread { NoneSelected selector.now self.old.newest → self.new ≡ self.old }
         // What is visited of a part that the store has follows from bytes with its digest, over any store.
         ensures visited { OnOk result (AreVisited T.visiting selector.now from to self.old.rows visitor.old visitor.new) }
@@ -229,7 +237,8 @@ impl<S: Store> Streams<S> {
     ) -> Result<(), ReadFault>
         requires { position < length (order_of self.old) }
         ensures same { Looks self.old self.new }
-        ensures cause { IfErr result (ReadCause self.old.seen self.new.seen) }
+        ensures counted { self.new.seen.faults ≡ after_read result self.old.seen.faults }
+        ensures asked { OnOk result (AreAsked self.old.rows selector.now from to position lines.old (position + 1) lines.new) }
         ensures right { self.old.seen.honest ≡ true → Right result (λ _. lines.new ≡ lines.old ++ visited_at selector.now from to (order_of self.old) position) }
     {
         let (store, stream) = (&mut self.store, &self.streams[position]);

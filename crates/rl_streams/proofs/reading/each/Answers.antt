@@ -35,7 +35,8 @@ loop-position-preserved g c =
     let lines = of_row selector c.args.from c.args.to stream g.T.Visitor.visiting c.loop-position.visitor c.each.new.visitor chosen.1 (Ok tt) c.in_ok-each.ensures.pieces in
     record {
       looked = Looked-then start seen (g.S.Store.seen c.each.new.store) before.looked c.each.ensures.looked;
-      visited = from_more (AreOfRow selector c.args.from c.args.to) g.T.Visitor.visiting rows positions index 0 c.args.visitor.now c.loop-position.visitor c.each.new.visitor within before.visited (lines.0, ((stream.labels, stream), chosen.0, lines.1), lines.2);
+      faults = c.in_ok-each.ensures.counted ∙ before.faults;
+      visited = from_more (AreOfRow selector c.args.from c.args.to) g.T.Visitor.visiting rows positions index 0 c.args.visitor.now c.loop-position.visitor c.each.new.visitor within before.visited (lines.lines, ((stream.labels, stream), chosen.0, lines.of_row), lines.visited);
       unread = λ none. absurd (no_position selector rows positions index c.requires.positions none within);
       right = λ next are honest.
           let kept = kept_there selector c.args.from c.args.to rows (get_or positions index 0) stream start seen next are before.looked at in

@@ -10,6 +10,7 @@ use Rattle.rl_streams.proofs.reading.each.Given as goal
 abbrev pub invariant-loop-position : goal.invariant-loop-position
 invariant-loop-position g l = record {
   looked : Looked (g.S.Store.seen l.fn.store) (g.S.Store.seen l.store);
+  faults : (g.S.Store.seen l.store).faults ≡ (g.S.Store.seen l.fn.store).faults;
   visited : AreFrom (AreOfRow l.selection.selector l.from l.to) g.T.Visitor.visiting l.streams.entries (take l.position-index l.selection.positions) l.fn.visitor l.visitor;
   unread : AllByRecursion (λ row. selects l.selection.selector row.0 ≡ false) l.streams.entries → g.S.Store.seen l.store ≡ g.S.Store.seen l.fn.store;
   right : (next : ℕ) → AreStreams l.streams.entries (g.S.Store.seen l.fn.store) next → (g.S.Store.seen l.fn.store).honest ≡ true

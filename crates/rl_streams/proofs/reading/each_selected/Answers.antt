@@ -1,12 +1,12 @@
 -- Of a selected stream the lines in the range are visited.
-use Rattle.std.proofs.Common.{◌≡◌, sym, ap, ◌∙◌}
+use Rattle.std.proofs.Common.{◌≡◌, refl, sym, ap, ◌∙◌}
 use Rattle.std.specs.Prelude.{if◌then◌else◌, []}
 use Rattle.std.specs.List.{fold}
 use Rattle.rl_labels.specs.Selects.{selects}
 use Rattle.rl_parts.specs.StreamParts.{entries_of}
 use Rattle.rl_parts.specs.Reading.{visited_in_range}
 use Rattle.rl_streams.specs.Asking.{visited_of}
-use Rattle.rl_streams.proofs.Visited.{right_then}
+use Rattle.rl_streams.proofs.Visited.{right_then, none_of_row, of_row}
 use Rattle.rl_streams.proofs.reading.each_selected.Goals as goal
 
 pub returns-clause-right : goal.returns-clause-right
@@ -16,3 +16,14 @@ returns-clause-right g c = λ next kept honest.
     let selected = ap (selects c.args.selector.now) (sym c.labels.ensures) ∙ sym c.in_ok-accepts.ensures.accepts ∙ c.if-not-branch.false in
     right_then (λ _. c.each.new.visitor ≡ becomes (visited_in_range c.args.from c.args.to (entries_of stream))) (λ _. c.each.new.visitor ≡ becomes (visited_of c.args.selector.now c.args.from c.args.to stream.labels stream))
     (λ _ is. is ∙ ap (λ b. becomes (if b then visited_in_range c.args.from c.args.to (entries_of stream) else [])) (sym selected)) c.each.result (c.each.ensures.right next kept honest)
+
+pub returns-then-not-branch-clause-lines : goal.returns-then-not-branch-clause-lines
+returns-then-not-branch-clause-lines g c =
+    let stream = c.args.stream.now in
+    let apart = ap (selects c.args.selector.now) (sym c.labels.ensures) ∙ sym c.in_ok-accepts.ensures.accepts ∙ c.if-not-branch.true in
+    record { lines = []; of_row = none_of_row c.args.selector.now c.args.from c.args.to (stream.labels, stream) apart; visited = refl }
+
+pub returns-clause-lines : goal.returns-clause-lines
+returns-clause-lines g c =
+    let selected = ap (selects c.args.selector.now) (sym c.labels.ensures) ∙ sym c.in_ok-accepts.ensures.accepts ∙ c.if-not-branch.false in
+    of_row c.args.selector.now c.args.from c.args.to c.args.stream.now g.T.Visitor.visiting c.args.visitor.now c.each.new.visitor selected c.each.result c.each.ensures.pieces

@@ -1,8 +1,10 @@
 -- What is held is a set.
-use Rattle.std.proofs.Common.{◌≡◌, true, None, refl, sym, ap, subst, ◌∙◌}
+use Rattle.std.proofs.Common.{◌≡◌, true, false, None, Ok, refl, sym, ap, subst, ◌∙◌}
+use Rattle.std.specs.Prelude.{IfOk}
 use Rattle.std.specs.FinMap.{get, contains_key}
 use Rattle.rl_labels.specs.laws.OrderLaws.{entry_cmp_total}
 use Rattle.rl_parts.specs.StoreUse.{Right}
+use Rattle.rl_streams.specs.Found.{IsFound, IsMissing, IsUnreached}
 use Rattle.rl_streams.specs.StreamRows.{joined, is_among}
 use Rattle.rl_streams.specs.StreamsState.{StreamsView, view_of}
 use Rattle.rl_streams.specs.laws.HeldLaws.{contains_key-of_list}
@@ -28,3 +30,19 @@ returns-clause-right g c =
     subst (λ (view : StreamsView). view.seen.honest ≡ true → Right c.holds.result (λ found. found ≡ contains_key view.held entry)) c.self.view_is
     (λ honest. right_then (λ found. found ≡ is_among entry (joined s.streams.entries)) (λ found. found ≡ contains_key (view_of s.limits s.streams.entries (g.S.Store.seen s.store) s.next).held entry)
     (λ found is. is ∙ sym (contains_key-of_list entry_cmp_total (joined s.streams.entries) entry)) c.holds.result (c.holds.ensures.right s.next c.self.invariant.0.streams honest))
+
+pub returns-clause-yes : goal.returns-clause-yes
+returns-clause-yes g c = subst (λ (view : StreamsView). IfOk c.holds.result (λ found. found ≡ true → IsFound view.rows c.args.entry.now)) c.self.view_is c.holds.ensures.yes
+
+pub returns-clause-no : goal.returns-clause-no
+returns-clause-no g c = subst (λ (view : StreamsView). IfOk c.holds.result (λ found. found ≡ false → IsMissing view.rows c.args.entry.now)) c.self.view_is c.holds.ensures.no
+
+pub returns-clause-exact : goal.returns-clause-exact
+returns-clause-exact g c =
+    let s = c.self.inside in
+    let entry = c.args.entry.now in
+    let after = view_of s.limits s.streams.entries (g.S.Store.seen c.holds.new.store) s.next in
+    subst (λ (view : StreamsView). IsUnreached view.rows entry → (c.holds.result ≡ Ok (contains_key view.held entry)) × (after ≡ view)) c.self.view_is
+    (λ unreached.
+    let exact = c.holds.ensures.exact unreached in
+    (exact.0 ∙ ap Ok (sym (contains_key-of_list entry_cmp_total (joined s.streams.entries) entry)), ap (λ seen. view_of s.limits s.streams.entries seen s.next) exact.1))

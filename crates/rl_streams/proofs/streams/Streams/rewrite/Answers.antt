@@ -38,7 +38,7 @@ invariant_of-self-2 g c =
     let streams : c.carry_out_all.new.streams.entries ≡ rewritten rows plans = c.carry_out_all.ensures.streams in
     let counted : c.count-self-inside.result ≡ length (joined (rewritten rows plans)) = c.count-self-inside.ensures ∙ ap (λ (rs : List Row). length (joined rs)) streams in
     subst (λ (rs : List Row). IsWhole s.limits rs after next c.count-self-inside.result × AreSelections (keys_of rs) s.selections) (sym streams) (
-      whole_rewritten s.limits rows s.next s.count before next seen c.self.invariant.0 made.grown made.next covers plans after made.of made.planned c.carry_out_all.ensures.removed c.count-self-inside.result counted,
+      whole_rewritten s.limits rows s.next s.count before next seen c.self.invariant.0 made.next made.grown made.counted covers plans after made.of made.planned c.carry_out_all.ensures.removed c.count-self-inside.result counted,
       subst (λ labels. AreSelections labels s.selections) (sym (keys_rewritten rows plans made.of)) c.self.invariant.1,
     )
 
@@ -56,7 +56,7 @@ returns-clause-rewritten g c =
     let streams : c.carry_out_all.new.streams.entries ≡ rewritten rows plans = c.carry_out_all.ensures.streams in
     subst (λ (old : StreamsView). Rewrites old (view_of s.limits c.carry_out_all.new.streams.entries after next)) c.self.view_is
     (subst (λ (rs : List Row). Rewrites (view_of s.limits rows before s.next) (view_of s.limits rs after next)) (sym streams)
-    (view_rewritten s.limits rows s.next s.count before next seen c.self.invariant.0 made.grown made.next covers plans after made.of made.planned c.carry_out_all.ensures.removed))
+    (view_rewritten s.limits rows s.next s.count before next seen c.self.invariant.0 made.next made.grown made.counted covers plans after made.of made.planned c.carry_out_all.ensures.removed))
 
 pub returns-clause-left : goal.returns-clause-left
 returns-clause-left g c =
@@ -87,4 +87,4 @@ returns-clause-right g c =
     let streams : c.carry_out_all.new.streams.entries ≡ rewritten rows plans = c.carry_out_all.ensures.streams in
     subst (λ (old : StreamsView). old.seen.honest ≡ true → set_of (joined c.carry_out_all.new.streams.entries) ≡ without covers old.held) c.self.view_is
     (λ honest. ap (λ (rs : List Row). set_of (joined rs)) streams
-    ∙ held_rewritten s.limits rows s.next s.count before next seen c.self.invariant.0 made.grown made.next covers plans after made.of made.planned c.carry_out_all.ensures.removed honest)
+    ∙ held_rewritten s.limits rows s.next s.count before next seen c.self.invariant.0 made.next made.grown made.counted covers plans after made.of made.planned c.carry_out_all.ensures.removed honest)

@@ -1,12 +1,15 @@
 -- One stream is asked.
-use Rattle.std.proofs.Common.{◌≡◌, [], ◌∷◌, ◌++◌, true, ap, subst, ◌∙◌}
+use Rattle.std.proofs.Common.{◌≡◌, [], ◌∷◌, ◌++◌, ◌+◌, true, ap, subst, ◌∙◌}
+use Rattle.std.specs.Prelude.{OnOk}
 use Rattle.std.specs.List.{fold}
 use Rattle.rl_parts.specs.StoreUse.{Right}
 use Rattle.rl_parts.specs.laws.VisitorLaws.{fold-pushed}
 use Rattle.rl_parts.specs.laws.UseLaws.{Looked-none}
 use Rattle.rl_streams.specs.Asking.{visited_of, visited_at}
+use Rattle.rl_streams.specs.CursorState.{AreAsked}
 use Rattle.rl_streams.specs.StreamRows.{by_stream}
 use Rattle.rl_streams.specs.StreamsState.{StreamsView, order_of}
+use Rattle.rl_streams.proofs.Asked.{asked_one, ok_then}
 use Rattle.rl_streams.proofs.Visited.{right_then, visited_here, kept_there}
 use Rattle.rl_streams.proofs.streams.Streams.visit_lines.Goals as goal
 
@@ -23,3 +26,11 @@ returns-clause-right g c =
     (λ honest. right_then (λ _. after ≡ fold (λ lines line. lines ++ line ∷ []) before (visited_of selector c.args.from c.args.to stream.labels stream)) (λ _. after ≡ before ++ visited_at selector c.args.from c.args.to (by_stream rows) c.args.position)
     (λ _ is. is ∙ fold-pushed before (visited_of selector c.args.from c.args.to stream.labels stream) ∙ ap (λ l. before ++ l) (visited_here selector c.args.from c.args.to rows c.args.position stream c.self.invariant.0.streams.own c.index.ensures)) c.each_selected.result
     (c.each_selected.ensures.right s.next (kept_there selector c.args.from c.args.to rows c.args.position stream seen seen s.next c.self.invariant.0.streams (Looked-none seen) c.index.ensures) honest))
+
+pub returns-clause-asked : goal.returns-clause-asked
+returns-clause-asked g c =
+    let s = c.self.inside in
+    let before = c.args.lines.now in
+    let after = c.each_selected.new.visitor in
+    subst (λ (view : StreamsView). OnOk c.each_selected.result (AreAsked view.rows c.args.selector.now c.args.from c.args.to c.args.position before (c.args.position + 1) after)) c.self.view_is
+    (ok_then (asked_one s.streams.entries c.args.selector.now c.args.from c.args.to c.args.position c.index.result.now before after c.self.invariant.0.streams.own c.index.ensures) c.each_selected.result c.each_selected.ensures.lines)
