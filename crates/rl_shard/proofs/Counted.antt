@@ -26,14 +26,14 @@ use Rattle.rl_aggregate.specs.laws.Counting.{filter-both, new_counter_counts, st
 use Rattle.rl_aggregate.specs.laws.Totals.{kept-permuted}
 use Rattle.rl_deletes.specs.Deletes.{RequestsView, covered, covered_line}
 use Rattle.rl_parts.specs.Reading.{visited}
-use Rattle.rl_parts.specs.StoreUse.{ReadCause, Right}
+use Rattle.rl_parts.specs.StoreUse.{Right}
 use Rattle.rl_parts.specs.declared.fault.ReadFault.{ReadFault}
 use Rattle.rl_parts.specs.declared.fault.ReadFault.TheVariants as reads
 use Rattle.rl_streams.specs.Asking.{asked, is_asked, AreOfRow, AreVisited, AreVisitedOnce}
 use Rattle.rl_streams.specs.StreamRows.{Row}
 use Rattle.rl_streams.specs.StreamsState.{StreamsView}
 use Rattle.rl_shard.specs.Collecting.{counting, counting_shown, shown, IsOfReading, IsRead, IsStartOf}
-use Rattle.rl_shard.specs.ShardFault.{HasCause, fault_of_read}
+use Rattle.rl_shard.specs.ShardFault.{IsOfStore, fault_of_read}
 use Rattle.rl_shard.specs.declared.lines.LineCounter.{LineCounter}
 use Rattle.rl_shard.proofs.Windows.{and_true, both_true, filter_flat, filter_map, filter_same, is_between, narrow_rows, start_at, starts_at, starts_before}
 
@@ -191,10 +191,10 @@ counted_all counter [] = refl
 counted_all counter (e ∷ es) = counted_all (counted_entry counter e) es
 
 -- why reading was refused
-pub cause_of : (old new : StreamsView) (P : Unit {0} → Type 0) (fault : ReadFault) → ReadCause old.seen new.seen fault → (old.seen.honest ≡ true → Right {A = Unit {0}} (Err fault) P) → HasCause old (fault_of_read fault) new
-cause_of old new P reads.Fault came right = came
-cause_of old new P reads.Damaged came right = not_true old.seen.honest right
-cause_of old new P reads.Memory came right = tt
+pub of_store_read : (old new : StreamsView) (P : Unit {0} → Type 0) (fault : ReadFault) → (old.seen.honest ≡ true → Right {A = Unit {0}} (Err fault) P) → IsOfStore old (fault_of_read fault) new
+of_store_read old new P reads.Fault right = tt
+of_store_read old new P reads.Damaged right = not_true old.seen.honest right
+of_store_read old new P reads.Memory right = tt
 
 pub of_reading : (fault : ReadFault) → IsOfReading (fault_of_read fault)
 of_reading reads.Fault = tt

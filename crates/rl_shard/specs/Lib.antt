@@ -1,4 +1,5 @@
 pub mod Collecting
+pub mod Pushing
 pub mod ShardFault
 pub mod ShardState
 pub mod ShardStep

@@ -1,21 +1,22 @@
 -- When a shard may answer each fault, and what its steps leave of its store.
-use Rattle.std.specs.Prelude.{◌≡◌, ◌≤◌, Bool, true, false, IsTrue, Result, Ok, Err}
-use Rattle.rl_chunks.specs.StoreState.{greatest}
+use Rattle.std.specs.Prelude.{◌≡◌, ◌+◌, ◌≤◌, ℕ, None, IsSome, Bool, true, false, IsTrue, Result, Ok, Err}
+use Rattle.rl_chunks.specs.StoreState.{greatest, with_fault}
 use Rattle.std.specs.Option.{MatchOption}
 use Rattle.rl_labels.specs.declared.limits.Limits.{Limits}
-use Rattle.rl_parts.specs.StoreUse.{FaultCame, FaultsRise, Grown}
+use Rattle.rl_deletes.specs.Deletes.{asked, IsReceiveFault}
+use Rattle.rl_parts.specs.StoreUse.{FaultsRise, Grown}
 use Rattle.rl_parts.specs.declared.fault.ReadFault.{ReadFault}
 use Rattle.rl_parts.specs.declared.fault.ReadFault.TheVariants as reads
 use Rattle.rl_parts.specs.declared.fault.FlushFault.{FlushFault}
 use Rattle.rl_parts.specs.declared.fault.FlushFault.TheVariants as flushes
 use Rattle.rl_parts.specs.declared.fault.RewriteFault.{RewriteFault}
 use Rattle.rl_parts.specs.declared.fault.RewriteFault.TheVariants as rewrites
-use Rattle.rl_streams.specs.Rewritten.{AreLeftIn}
+use Rattle.rl_streams.specs.Rewritten.{AreLeftIn, Rewrites}
 use Rattle.rl_streams.specs.StreamsState.{StreamsView}
 use Rattle.rl_streams.specs.declared.refusal.AddRefusal.{AddRefusal}
 use Rattle.rl_streams.specs.declared.refusal.AddRefusal.TheVariants as adding
 use Rattle.rl_shard.specs.ShardState.{ShardState, ShardView, journalled}
-use Rattle.rl_shard.specs.ShardStep.{is_journal_full, removes}
+use Rattle.rl_shard.specs.ShardStep.{age_answer, is_journal_full, removes}
 use Rattle.rl_shard.specs.declared.step.ShardStep.{ShardStep}
 use Rattle.rl_shard.specs.declared.step.ShardStep.TheVariants as steps
 use Rattle.rl_shard.specs.declared.step.ShardReply.{ShardReply}
@@ -76,19 +77,39 @@ IsOfRemoving other = Unit {0}
 abbrev pub IsHonest : ShardView → Type 0
 IsHonest shard = shard.streams.seen.honest ≡ true
 
--- the store's fault was counted meanwhile; damage is met over a store that is not honest; the numbers are spent where only
--- the greatest is left
-abbrev pub HasCause : StreamsView → ShardFault → StreamsView → Type 0
-HasCause old faults.JournalFull new = Unit {0}
-HasCause old faults.Fault new = FaultCame old.seen.faults new.seen.faults
-HasCause old faults.Damaged new = old.seen.honest ≡ false
-HasCause old faults.NumbersSpent new = new.next ≡ greatest
-HasCause old faults.Memory new = Unit {0}
+-- the faults of a store after a step that was refused so: one more where the device failed
+abbrev pub step_faults : ShardFault → ℕ → ℕ
+step_faults faults.Fault counted = with_fault counted
+step_faults _ counted = counted
 
--- a step that met the first view and left the second may have been refused so: for its journal exactly where that is full,
--- for memory at any time, and for its store with a cause
-abbrev pub MayCome : ShardView → ShardStep → ShardFault → ShardView → Type 0
-MayCome old step fault new = IsTrue (may_meet step fault) × (fault ≡ faults.JournalFull → IsTrue (is_journal_full (journalled old))) × HasCause old.streams fault new.streams
+-- and after what was answered so
+abbrev pub after_step : {A : Type 0} → Result A ShardFault → ℕ → ℕ
+after_step (Ok _) counted = counted
+after_step (Err fault) counted = step_faults fault counted
+
+-- damage is met over a store that is not honest; the numbers are spent where only the greatest is left
+abbrev pub IsOfStore : StreamsView → ShardFault → StreamsView → Type 0
+IsOfStore old faults.Damaged new = old.seen.honest ≡ false
+IsOfStore old faults.NumbersSpent new = new.next ≡ greatest
+IsOfStore old _ new = Unit {0}
+
+-- where a step may meet a fault at all, since it is not decided before its store or memory is asked: an entry is not too old, a
+-- request may be received, and entries are to be removed
+abbrev pub IsUndecided : Limits → ShardState → ShardStep → Type 0
+IsUndecided limits shard (steps.Push entry) = age_answer limits shard entry ≡ None
+IsUndecided limits shard (steps.Delete id sieve start end created) = IsReceiveFault shard.requests id (asked sieve start end created) None
+IsUndecided limits shard (steps.Process id now) = IsSome (removes limits shard (steps.Process id now))
+IsUndecided limits shard (steps.Retain now) = IsSome (removes limits shard (steps.Retain now))
+IsUndecided limits shard step = Unit {0}
+
+-- a step that met the first view and left the second may have been refused so: for its journal exactly where that is full, and
+-- else where it is not decided before; its store met exactly the fault that is answered
+pub record MayCome (old : ShardView) (step : ShardStep) (fault : ShardFault) (new : ShardView) : Type 0 where
+  pub meets : IsTrue (may_meet step fault)
+  pub full : fault ≡ faults.JournalFull → IsTrue (is_journal_full (journalled old))
+  pub undecided : (fault ≡ faults.JournalFull → ⊥) → IsUndecided (journalled old).limits (journalled old).state step
+  pub counted : new.streams.seen.faults ≡ step_faults fault old.streams.seen.faults
+  pub of_store : IsOfStore old.streams fault new.streams
 
 -- a cut leaves no head, a flush no sealed part that the store does not have
 abbrev pub IsWritten : ShardStep → StreamsView → Type 0
@@ -96,11 +117,19 @@ IsWritten steps.Cut new = new.loose ≡ 0
 IsWritten steps.Flush new = new.unwritten ≡ 0
 IsWritten step new = Unit {0}
 
--- what is decided was done, over any store. A step that removes no entry leaves what stood in the store below the next number;
--- and what is left where entries are removed follows from bytes with the digests that were kept
+-- what a step makes of the numbers with any answer: a flush gives one to each part that it writes, and one that neither flushes nor
+-- removes gives none, and leaves what the store has
+abbrev pub Gives : ShardStep → StreamsView → StreamsView → Type 0
+Gives steps.Flush old new = new.next + new.unwritten ≡ old.next + old.unwritten
+Gives (steps.Process id now) old new = old.next ≤ new.next
+Gives (steps.Retain now) old new = old.next ≤ new.next
+Gives step old new = (new.next ≡ old.next) × (new.seen.blobs ≡ old.seen.blobs)
+
+-- what is decided was done, over any store. A step that removes no entry leaves what stood in the store under other numbers than
+-- those that it gave; and what is left where entries are removed follows from bytes with the digests that were kept
 pub record IsDone (limits : Limits) (shard : ShardState) (step : ShardStep) (old new : StreamsView) : Type 0 where
   pub written : IsWritten step new
-  pub left : MatchOption (removes limits shard step) (Grown old.seen old.next new.seen) (λ covers. AreLeftIn covers old.rows new.rows)
+  pub left : MatchOption (removes limits shard step) (Grown old.seen old.next new.next new.seen × (new.seen.faults ≡ old.seen.faults)) (λ covers. AreLeftIn covers old.rows new.rows × Rewrites old new)
 
 -- what any step leaves of the store: it is as honest as it was, and faults and numbers never go down
 pub record Stored (old new : StreamsView) : Type 0 where

@@ -8,7 +8,7 @@ ghost use Rattle.rl_query.specs.Limits.{longest_range};
 ghost use Rattle.rl_aggregate.specs.Accumulators.{IsAlike};
 ghost use Rattle.rl_streams.specs.StreamsState.{Looks, StreamsView};
 ghost use Rattle.rl_shard.specs.Collecting.{shown, ArePartialsOf, IsOfReading, IsPartialOf, IsStartOf};
-ghost use Rattle.rl_shard.specs.ShardFault.{HasCause};
+ghost use Rattle.rl_shard.specs.ShardFault.{IsOfStore, after_step};
 ghost use Rattle.rl_shard.specs.Standing.{AreKept, StandsFor};
 
 use crate::kept::KeptRanges;
@@ -46,7 +46,8 @@ pub(crate) fn collect<S: Store>(
     requires kept { AreKept streams.old requests.now kept.old }
     ensures same { Looks streams.old streams.new }
     ensures meets { IfErr result IsOfReading }
-    ensures cause { IfErr result (λ fault. HasCause streams.old fault streams.new) }
+    ensures counted { streams.new.seen.faults ≡ after_step result streams.old.seen.faults }
+    ensures of_store { IfErr result (λ fault. IsOfStore streams.old fault streams.new) }
     ensures partials { IfOk result (ArePartialsOf streams.old requests.now terms.now t) }
     ensures kept { AreKept streams.new requests.now kept.new }
 {
@@ -73,7 +74,8 @@ fn next_partial<S: Store>(
     requires kept { AreKept streams.old requests.now kept.old }
     ensures same { Looks streams.old streams.new }
     ensures meets { IfErr result IsOfReading }
-    ensures cause { IfErr result (λ fault. HasCause streams.old fault streams.new) }
+    ensures counted { streams.new.seen.faults ≡ after_step result streams.old.seen.faults }
+    ensures of_store { IfErr result (λ fault. IsOfStore streams.old fault streams.new) }
     ensures found { IfOk result (IsPartialOf streams.old requests.now term.now t) }
     ensures kept { AreKept streams.new requests.now kept.new }
 {
@@ -119,7 +121,8 @@ fn add_up<S: Store>(
     requires to { t ≤ to }
     ensures same { Looks streams.old streams.new }
     ensures meets { IfErr result IsOfReading }
-    ensures cause { IfErr result (λ fault. HasCause streams.old fault streams.new) }
+    ensures counted { streams.new.seen.faults ≡ after_step result streams.old.seen.faults }
+    ensures of_store { IfErr result (λ fault. IsOfStore streams.old fault streams.new) }
     ensures partials { IfOk result (λ counted. (u : ℕ) → t ≤ u → u ≤ t + counted.lasts → ArePartialsOf streams.old requests.now (map (λ term. term.now) terms.now) u counted.partials.items) }
 {
     let pipelines = pipelines_of(alloc, terms)?;

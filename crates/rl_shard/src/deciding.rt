@@ -1,9 +1,10 @@
 //! What becomes of each step.
-ghost use Rattle.std.specs.Prelude.{◌≡◌, ◌≤◌, true, IfOk, IfErr, OnErr, OnOk, IsTrue};
+ghost use Rattle.std.specs.Prelude.{◌≡◌, ◌+◌, ◌≤◌, true, IfOk, IfErr, OnErr, OnOk, IsTrue};
 ghost use Rattle.rl_parts.specs.StoreUse.{Grown};
 ghost use Rattle.rl_chunks.specs.StoreState.{greatest};
 ghost use Rattle.rl_shard.specs.Collecting.{AreRead};
-ghost use Rattle.rl_shard.specs.ShardFault.{HasCause, IsDone, Stored, may_meet, refused};
+ghost use Rattle.rl_shard.specs.Pushing.{IsPushed, Pushes};
+ghost use Rattle.rl_shard.specs.ShardFault.{Gives, IsDone, IsOfStore, IsUndecided, Stored, may_meet, refused, after_step, step_faults};
 ghost use Rattle.rl_shard.specs.ShardState.{state_of};
 ghost use Rattle.rl_shard.specs.ShardStep.{stepped, IsAnswered, IsReply};
 ghost use Rattle.rl_shard.specs.Standing.{AreKept};
@@ -36,10 +37,14 @@ pub(crate) fn decide<S: Store>(
     ensures ranges { AreKept streams.new requests.new kept.new }
     ensures numbers { streams.new.next ≤ greatest }
     ensures meets { IfErr result (λ fault. IsTrue (may_meet step fault) × (fault ≡ faults.JournalFull → ⊥)) }
-    ensures cause { IfErr result (λ fault. HasCause streams.old fault streams.new) }
+    ensures undecided { OnErr result (IsUndecided streams.old.limits (state_of streams.old requests.old horizon.old) step) }
+    ensures counted { IfErr result (λ fault. streams.new.seen.faults ≡ step_faults fault streams.old.seen.faults) }
+    ensures of_store { IfErr result (λ fault. IsOfStore streams.old fault streams.new) }
     ensures limits { streams.new.limits ≡ streams.old.limits }
     ensures stored { Stored streams.old streams.new }
-    ensures grown { OnErr result (Grown streams.old.seen streams.old.next streams.new.seen) }
+    ensures gives { Gives step streams.old streams.new }
+    ensures grown { OnErr result (Grown streams.old.seen streams.old.next (streams.new.next + 1) streams.new.seen) }
+    ensures pushed { Pushes streams.old horizon.old step result streams.new }
     ensures kept { OnErr result (state_of streams.new requests.new horizon.new ≡ state_of streams.old requests.old horizon.old) }
     ensures answered { IfOk result (λ reply. IsAnswered streams.old.limits (state_of streams.old requests.old horizon.old) step reply (state_of streams.new requests.new horizon.new)) }
     ensures done { OnOk result (IsDone streams.old.limits (state_of streams.old requests.old horizon.old) step streams.old streams.new) }
@@ -98,12 +103,16 @@ fn push<S: Store>(
     horizon: Ns,
     entry: Shared<Entry>,
 ) -> Result<ShardReply, ShardFault>
-    ensures next { streams.new.next ≡ streams.old.next }
     ensures meets { IfErr result (λ fault. IsTrue (may_meet (steps.Push entry) fault) × (fault ≡ faults.JournalFull → ⊥)) }
-    ensures cause { IfErr result (λ fault. HasCause streams.old fault streams.new) }
+    ensures undecided { OnErr result (IsUndecided streams.old.limits (state_of streams.old requests.now horizon) (steps.Push entry)) }
+    ensures counted { streams.new.seen.faults ≡ after_step result streams.old.seen.faults }
+    ensures of_store { IfErr result (λ fault. IsOfStore streams.old fault streams.new) }
     ensures limits { streams.new.limits ≡ streams.old.limits }
     ensures stored { Stored streams.old streams.new }
-    ensures grown { Grown streams.old.seen streams.old.next streams.new.seen }
+    ensures gives { Gives (steps.Push entry) streams.old streams.new }
+    ensures grown { Grown streams.old.seen streams.old.next (streams.new.next + 1) streams.new.seen }
+    ensures left { Grown streams.old.seen streams.old.next streams.new.next streams.new.seen }
+    ensures pushed { IsPushed streams.old horizon entry result streams.new }
     ensures kept { OnErr result (state_of streams.new requests.now horizon ≡ state_of streams.old requests.now horizon) }
     ensures answered { IfOk result (λ reply. IsAnswered streams.old.limits (state_of streams.old requests.now horizon) (steps.Push entry) reply (state_of streams.new requests.now horizon)) }
     ensures decided { streams.old.seen.honest ≡ true → IfOk result (λ reply. IsReply streams.old.limits (state_of streams.old requests.now horizon) (steps.Push entry) reply) }

@@ -1,5 +1,5 @@
 //! A shard, by its steps.
-ghost use Rattle.std.specs.Prelude.{◌≡◌, ◌+◌, ◌≤◌, IsTrue, Err, length, IfOk, IfErr, OnOk, OnErr};
+ghost use Rattle.std.specs.Prelude.{◌≡◌, ◌+◌, ◌≤◌, false, IsTrue, Err, length, IfOk, IfErr, OnOk, OnErr};
 
 use crate::collecting::show_few;
 use crate::deciding::decide;
@@ -43,7 +43,8 @@ impl<S: Store> Model for Shard<S> {
 impl<S: Store> Shard<S> {
     ghost use Rattle.rl_chunks.specs.StoreState.{greatest};
     ghost use Rattle.rl_shard.specs.Collecting.{AreRead};
-    ghost use Rattle.rl_shard.specs.ShardFault.{IsDone, IsHonest, MayCome, Stored};
+    ghost use Rattle.rl_shard.specs.Pushing.{Pushes, replied};
+    ghost use Rattle.rl_shard.specs.ShardFault.{Gives, IsDone, IsHonest, MayCome, Stored};
     ghost use Rattle.rl_shard.specs.ShardState.{journalled, opened_over, visible};
     ghost use Rattle.rl_parts.specs.StoreUse.{Grown};
     ghost use Rattle.rl_shard.specs.ShardStep.{recorded, is_journal_full, IsAnswered, IsReply};
@@ -91,7 +92,8 @@ impl<S: Store> Shard<S> {
         ensures journal_full { IsTrue (is_journal_full (journalled self.old)) → (result ≡ Err faults.JournalFull) × (self.new ≡ self.old) }
         ensures may_come { IfErr result (λ fault. MayCome self.old step fault self.new) }
         ensures kept { OnErr result (journalled self.new ≡ journalled self.old) }
-        ensures grown { OnErr result (Grown self.old.streams.seen self.old.streams.next self.new.streams.seen) }
+        ensures grown { OnErr result (Grown self.old.streams.seen self.old.streams.next (self.new.streams.next + 1) self.new.streams.seen) }
+        ensures gives { Gives step self.old.streams self.new.streams }
         ensures stored { Stored self.old.streams self.new.streams }
         ensures numbers { self.new.streams.next ≤ greatest }
         // Over any store.
@@ -100,6 +102,7 @@ impl<S: Store> Shard<S> {
         ensures answered { IfOk result (λ answer. IsAnswered (journalled self.old).limits (journalled self.old).state step answer.1 (journalled self.new).state) }
         ensures done { OnOk result (IsDone (journalled self.old).limits (journalled self.old).state step self.old.streams self.new.streams) }
         // What is read of a chunk follows from bytes with the digest that was kept.
+        ensures pushed { is_journal_full (journalled self.old) ≡ false → Pushes self.old.streams self.old.horizon step (replied result) self.new.streams }
         ensures read { IfOk result (λ answer. AreRead self.old.streams self.old.requests step answer.1) }
         // Over an honest store.
         ensures decided { IsHonest self.old → IfOk result (λ answer. IsReply (journalled self.old).limits (journalled self.old).state step answer.1) }

@@ -13,8 +13,8 @@ use Rattle.rl_shard.specs.declared.lines.LineCounter.{LineCounter}
 use Rattle.rl_shard.proofs.Counted.{all_mapped, counts, exact_all, most_is, none_counted, not_over, not_true, read_each, visitor}
 use Rattle.rl_shard.proofs.collecting.add_up.Goals as goal
 
-pub returns-then-is_over-clause-cause : goal.returns-then-is_over-clause-cause
-returns-then-is_over-clause-cause g c =
+pub returns-then-is_over-clause-of_store : goal.returns-then-is_over-clause-of_store
+returns-then-is_over-clause-of_store g c =
     let first = c.args.first.now in
     let streams = c.args.streams.now in
     let terms = map (λ (term : Bor Term). term.now) c.args.terms.now in

@@ -1,5 +1,5 @@
 -- One partial more.
-use Rattle.std.proofs.Common.{take, ◌+◌, ◌++◌, ◌∷◌, [], sym, subst, take_all, arith}
+use Rattle.std.proofs.Common.{take, ◌+◌, ◌++◌, ◌∷◌, [], sym, subst, ◌∙◌, take_all, arith}
 use Rattle.rl_shard.specs.Collecting.{ArePartialsOf}
 use Rattle.rl_shard.proofs.Terms.{back_of, looks_then, one_more_of, same_of}
 use Rattle.rl_shard.proofs.collecting.collect.Goals as goal
@@ -16,6 +16,7 @@ loop-index-preserved g c =
       looks = looks_then c.args.streams.now now new c.loop-index.invariant.looks look;
       partials = subst (ArePartialsOf new requests (take (c.loop-index.index + 1) terms) c.args.t) (sym c.in_ok-push.ensures.items) (same_of requests now new (take (c.loop-index.index + 1) terms) c.args.t (c.loop-index.partials.items ++ c.in_ok-partial.partial ∷ []) look so_far);
       kept = c.next_partial.ensures.kept;
+      counted = c.in_ok-partial.ensures.counted ∙ c.loop-index.invariant.counted;
     }
 
 pub returns-clause-partials : goal.returns-clause-partials
