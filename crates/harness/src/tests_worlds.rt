@@ -95,10 +95,12 @@ struct Reluctant {
     count: u64,
     refusals: u64,
     closed: bool,
+    pumps: u64,
+    failed: bool,
 }
 
 impl Sink for Reluctant {
-    ghost state = { λ sink. record { kind = kinds.Tail; limit = Some 0; count = sink.count; kept = []; closed = sink.closed; refusals = sink.refusals } };
+    ghost state = { λ sink. record { kind = kinds.Tail; limit = Some 0; count = sink.count; kept = []; closed = sink.closed; refusals = sink.refusals; pumps = sink.pumps; failed = sink.failed } };
 
     fn kind(&self) -> SinkKind {
         SinkKind::Tail
@@ -127,11 +129,14 @@ impl Sink for Reluctant {
     }
 
     fn pump(&mut self) -> Result<(), SinkFault> {
+        self.pumps = self.pumps.wrapping_add(1);
+        self.failed = true;
         Err(SinkFault::WriteFault)
     }
 
     fn close(&mut self) -> Result<(), SinkFault> {
         self.closed = true;
+        self.failed = false;
         Ok(())
     }
 }

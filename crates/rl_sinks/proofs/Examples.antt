@@ -8,12 +8,12 @@ use Rattle.rl_sinks.specs.LogState.{Logged, is_full}
 
 -- a tail that keeps two texts, has taken five and refused as often as is counted
 abbrev tail : SinkState
-tail = record { kind = kinds.Tail; limit = Some 2; count = 5; kept = codes "d" ∷ codes "e" ∷ []; closed = false; refusals = 18446744073709551615 }
+tail = record { kind = kinds.Tail; limit = Some 2; count = 5; kept = codes "d" ∷ codes "e" ∷ []; closed = false; refusals = 18446744073709551615; pumps = 0; failed = false }
 
-the_oldest_text_goes : taken tail (codes "f") ≡ record { kind = kinds.Tail; limit = Some 2; count = 6; kept = codes "e" ∷ codes "f" ∷ []; closed = false; refusals = 18446744073709551615 }
+the_oldest_text_goes : taken tail (codes "f") ≡ record { kind = kinds.Tail; limit = Some 2; count = 6; kept = codes "e" ∷ codes "f" ∷ []; closed = false; refusals = 18446744073709551615; pumps = 0; failed = false }
 the_oldest_text_goes = refl
 
-refusals_go_round : refused tail ≡ record { kind = kinds.Tail; limit = Some 2; count = 5; kept = codes "d" ∷ codes "e" ∷ []; closed = false; refusals = 0 }
+refusals_go_round : refused tail ≡ record { kind = kinds.Tail; limit = Some 2; count = 5; kept = codes "d" ∷ codes "e" ∷ []; closed = false; refusals = 0; pumps = 0; failed = false }
 refusals_go_round = refl
 
 three_texts_within_none : within (Some 0) (codes "a" ∷ codes "b" ∷ codes "c" ∷ []) ≡ []

@@ -1,5 +1,5 @@
 -- What was written, step by step.
-use Rattle.std.proofs.Common.{◌≡◌, ◌≢◌, Bool, true, false, ℕ, zero, suc, ◌∷◌, slice_index_or, ◌+◌, ◌-◌, ◌<◌, ◌≤◌, List, [], ◌++◌, length, take, drop, get_or, Option, None, Some, Result, Ok, Err, OnOk, OnErr, sym, ap, subst, ◌∙◌, refl, arith, append_assoc, length-append}
+use Rattle.std.proofs.Common.{◌≡◌, ◌≢◌, ◌⊎◌, inl, inr, Bool, true, false, ℕ, zero, suc, ◌∷◌, slice_index_or, ◌+◌, ◌-◌, ◌<◌, ◌≤◌, List, [], ◌++◌, length, take, drop, get_or, Option, None, Some, Result, Ok, Err, OnOk, OnErr, sym, ap, subst, ◌∙◌, refl, arith, append_assoc, length-append}
 use Rattle.std.proofs.lemmas.List.{get_or_append_left, take-append-drop, append-nil, take_all, drop-append-le, drop_more, length-drop}
 use Rattle.std.specs.List.{flat_map}
 use Rattle.std.specs.Io.KnownBytes.{Appends, Keeps}
@@ -37,6 +37,14 @@ Writes-following o n a b more w = (w.0, ap (λ l. l ++ more) w.1 ∙ append_asso
 -- all that follows some bytes
 pub following : (n : ℕ) (bytes : List ℕ) → take (length bytes - n) (drop n bytes) ≡ drop n bytes
 following n bytes = take_all (length bytes - n) (drop n bytes) (omega (arith, length-drop n bytes))
+
+-- a position is no byte past its piece
+pub fits_at : (all : List (List ℕ)) (next part : ℕ) → IsPosition all next part → part ≤ length (slice_index_or all next [])
+fits_at all next part is = no_further is.fits
+  where
+    no_further : (part ≡ 0) ⊎ (part < length (slice_index_or all next [])) → part ≤ length (slice_index_or all next [])
+    no_further (inl start) = omega (arith, start)
+    no_further (inr inside) = omega (arith, inside)
 
 -- what is left: the rest of the next piece, and those after it
 pub rest_of-next : (all : List (List ℕ)) (next part : ℕ) → next < length all → part ≤ length (get_or all next []) → rest_of all next part ≡ drop part (get_or all next []) ++ rest_of all (next + 1) 0
@@ -92,10 +100,10 @@ wanted_written r o n ended texts count next part next_after part_after piece wit
 -- and the writing stands in them
 pub wanted_position : {A E : Type 0} (P Q : Type 0) (r : Result A E) (ended : Bool) (texts : List (List ℕ)) (count next next_after part_after : ℕ) (piece : List ℕ) → next < length (pieces ended texts count) → piece ≡ get_or (pieces true texts count) next []
     → OnOk r ((next_after ≡ next + 1) × (part_after ≡ 0) × P) → OnErr r ((next_after ≡ next) × (part_after < length piece) × Q) → IsPosition (pieces ended texts count) next_after part_after
-wanted_position P Q (Ok x) ended texts count next next_after part_after piece within read ok err = record { within = omega (arith, ok.0, within); fits = omega (arith, ok.1) }
+wanted_position P Q (Ok x) ended texts count next next_after part_after piece within read ok err = record { within = omega (arith, ok.0, within); fits = inl ok.1 }
 wanted_position P Q (Err e) ended texts count next next_after part_after piece within read ok err =
     let below = subst (λ text. part_after < length text) (read ∙ piece_wanted ended texts count next within) err.1 in
-    record { within = omega (arith, err.0, within); fits = subst (λ n. part_after ≤ length (get_or (pieces ended texts count) n [])) (sym err.0) (omega (arith, below)) }
+    record { within = omega (arith, err.0, within); fits = inr (subst (λ n. part_after < length (get_or (pieces ended texts count) n [])) (sym err.0) below) }
 
 -- a write that failed leaves bytes of those that are wanted
 pub wanted_left : (ended : Bool) (texts : List (List ℕ)) (count next next_after part_after : ℕ) (piece : List ℕ) → next < length (pieces ended texts count) → piece ≡ get_or (pieces true texts count) next [] → next_after ≡ next → part_after < length piece → rest_of (pieces ended texts count) next_after part_after ≢ []
@@ -108,10 +116,14 @@ pub piece_within : (ended : Bool) (texts : List (List ℕ)) (count i : ℕ) → 
 piece_within false texts count i within = omega (arith, within, length-append texts (end_pieces count))
 piece_within true texts count i within = within
 
-fits_after : (xs ys : List (List ℕ)) (n p : ℕ) → p ≤ length (slice_index_or xs n []) → p ≤ length (slice_index_or (xs ++ ys) n [])
-fits_after [] ys n p f = omega (arith, f)
-fits_after (x ∷ xs) ys zero p f = f
-fits_after (x ∷ xs) ys (suc n) p f = fits_after xs ys n p f
+inside_after : (xs ys : List (List ℕ)) (n p : ℕ) → p < length (slice_index_or xs n []) → p < length (slice_index_or (xs ++ ys) n [])
+inside_after [] ys n p f = absurd (omega (arith, f))
+inside_after (x ∷ xs) ys zero p f = f
+inside_after (x ∷ xs) ys (suc n) p f = inside_after xs ys n p f
+
+fits_after : (xs ys : List (List ℕ)) (n p : ℕ) → (p ≡ 0) ⊎ (p < length (slice_index_or xs n [])) → (p ≡ 0) ⊎ (p < length (slice_index_or (xs ++ ys) n []))
+fits_after xs ys n p (inl start) = inl start
+fits_after xs ys n p (inr inside) = inr (inside_after xs ys n p inside)
 
 -- a position among pieces is one with more after them
 pub place_after : (xs ys : List (List ℕ)) (n p : ℕ) → IsPosition xs n p → IsPosition (xs ++ ys) n p

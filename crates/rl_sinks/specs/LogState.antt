@@ -18,15 +18,18 @@ pub record Logged (W : Type 0) : Type 0 where
   pub next : ℕ
   pub part : ℕ
   pub closed : Bool
-  -- how often a text was refused, modulo 2 to the power 64
+  -- how often a text was refused, and how often texts were pumped, modulo 2 to the power 64
   pub refusals : ℕ
+  pub pumps : ℕ
+  -- whether the last pump or close could not write all
+  pub failed : Bool
 
 -- such texts as numbers, for a store
 abbrev pub logged_code : {W : Type 0} → Coded W → Coded (Logged W)
-logged_code {W} writer = code_by (W × (ℕ × (List (List ℕ) × (ℕ × (ℕ × (Bool × ℕ))))))
-    (coded× writer (coded× coded_ℕ (coded× (coded_list (coded_list coded_ℕ)) (coded× coded_ℕ (coded× coded_ℕ (coded× coded_bool coded_ℕ))))))
-    (λ r. (r.writer, (r.room, (r.texts, (r.next, (r.part, (r.closed, r.refusals)))))))
-    (λ p. record { writer = p.0; room = p.1.0; texts = p.1.1.0; next = p.1.1.1.0; part = p.1.1.1.1.0; closed = p.1.1.1.1.1.0; refusals = p.1.1.1.1.1.1 })
+logged_code {W} writer = code_by (W × (ℕ × (List (List ℕ) × (ℕ × (ℕ × (Bool × (ℕ × (ℕ × Bool))))))))
+    (coded× writer (coded× coded_ℕ (coded× (coded_list (coded_list coded_ℕ)) (coded× coded_ℕ (coded× coded_ℕ (coded× coded_bool (coded× coded_ℕ (coded× coded_ℕ coded_bool))))))))
+    (λ r. (r.writer, (r.room, (r.texts, (r.next, (r.part, (r.closed, (r.refusals, (r.pumps, r.failed)))))))))
+    (λ p. record { writer = p.0; room = p.1.0; texts = p.1.1.0; next = p.1.1.1.0; part = p.1.1.1.1.0; closed = p.1.1.1.1.1.0; refusals = p.1.1.1.1.1.1.0; pumps = p.1.1.1.1.1.1.1.0; failed = p.1.1.1.1.1.1.1.1 })
     (λ _. refl)
 
 -- what is written ends in the pieces, and in the texts until the last line is wanted
@@ -37,23 +40,26 @@ pub record IsLogged (texts : List (List ℕ)) (next part : ℕ) (closed : Bool) 
 module _ {W : Type 0} where
   -- with nothing taken, and nothing written
   abbrev pub new_log : W → ℕ → Logged W
-  new_log writer room = record { writer = writer; room = room; texts = []; next = 0; part = 0; closed = false; refusals = 0 }
+  new_log writer room = record { writer = writer; room = room; texts = []; next = 0; part = 0; closed = false; refusals = 0; pumps = 0; failed = false }
 
   -- with one text more
   abbrev pub with_text : Logged W → List ℕ → Logged W
-  with_text log text = record { writer = log.writer; room = log.room; texts = log.texts ++ text ∷ []; next = log.next; part = log.part; closed = log.closed; refusals = log.refusals }
+  with_text log text = record { writer = log.writer; room = log.room; texts = log.texts ++ text ∷ []; next = log.next; part = log.part; closed = log.closed; refusals = log.refusals; pumps = log.pumps; failed = log.failed }
 
   -- with a text refused
   abbrev pub with_refusal : Logged W → Logged W
-  with_refusal log = record { writer = log.writer; room = log.room; texts = log.texts; next = log.next; part = log.part; closed = log.closed; refusals = (log.refusals + 1) % 2 ^ 64 }
+  with_refusal log = record { writer = log.writer; room = log.room; texts = log.texts; next = log.next; part = log.part; closed = log.closed; refusals = (log.refusals + 1) % 2 ^ 64; pumps = log.pumps; failed = log.failed }
 
-  -- where the other stands with its writer, and closed or not
-  abbrev pub written_as : Logged W → Logged W → Bool → Logged W
-  written_as log other closed = record { writer = other.writer; room = log.room; texts = log.texts; next = other.next; part = other.part; closed = closed; refusals = log.refusals }
+  -- where the other stands with its writer, once pumped or closed, which failed or did not
+  abbrev pub pumped_as : Logged W → Logged W → Bool → Logged W
+  pumped_as log other failed = record { writer = other.writer; room = log.room; texts = log.texts; next = other.next; part = other.part; closed = log.closed; refusals = log.refusals; pumps = (log.pumps + 1) % 2 ^ 64; failed = failed }
+
+  abbrev pub closed_as : Logged W → Logged W → Bool → Logged W
+  closed_as log other failed = record { writer = other.writer; room = log.room; texts = log.texts; next = other.next; part = other.part; closed = true; refusals = log.refusals; pumps = log.pumps; failed = failed }
 
   -- every text is kept
   abbrev pub log_state : SinkKind → Logged W → SinkState
-  log_state kind log = record { kind = kind; limit = None; count = length log.texts; kept = log.texts; closed = log.closed; refusals = log.refusals }
+  log_state kind log = record { kind = kind; limit = None; count = length log.texts; kept = log.texts; closed = log.closed; refusals = log.refusals; pumps = log.pumps; failed = log.failed }
 
   -- what a pump writes: the rest of the texts
   abbrev pub unwritten_texts : Logged W → List ℕ

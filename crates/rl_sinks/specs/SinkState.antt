@@ -13,8 +13,11 @@ pub record SinkState : Type 0 where
   -- the texts that it keeps, oldest first
   pub kept : List (List ℕ)
   pub closed : Bool
-  -- how often it refused to take a text, modulo 2 to the power 64
+  -- how often it refused to take a text, and how often it was pumped, modulo 2 to the power 64
   pub refusals : ℕ
+  pub pumps : ℕ
+  -- whether the last pump or close could not write all
+  pub failed : Bool
 
 -- a list, or its last texts where there is a limit
 abbrev pub within : Option ℕ → List (List ℕ) → List (List ℕ)
@@ -23,14 +26,18 @@ within (Some limit) texts = drop (length texts - limit) texts
 
 -- one text more
 abbrev pub taken : SinkState → List ℕ → SinkState
-taken sink text = record { kind = sink.kind; limit = sink.limit; count = sink.count + 1; kept = within sink.limit (sink.kept ++ text ∷ []); closed = sink.closed; refusals = sink.refusals }
+taken sink text = record { kind = sink.kind; limit = sink.limit; count = sink.count + 1; kept = within sink.limit (sink.kept ++ text ∷ []); closed = sink.closed; refusals = sink.refusals; pumps = sink.pumps; failed = sink.failed }
 
 -- a text refused
 abbrev pub refused : SinkState → SinkState
-refused sink = record { kind = sink.kind; limit = sink.limit; count = sink.count; kept = sink.kept; closed = sink.closed; refusals = (sink.refusals + 1) % 2 ^ 64 }
+refused sink = record { kind = sink.kind; limit = sink.limit; count = sink.count; kept = sink.kept; closed = sink.closed; refusals = (sink.refusals + 1) % 2 ^ 64; pumps = sink.pumps; failed = sink.failed }
 
-abbrev pub closed : SinkState → SinkState
-closed sink = record { kind = sink.kind; limit = sink.limit; count = sink.count; kept = sink.kept; closed = true; refusals = sink.refusals }
+-- pumped once more, and closed, which failed or did not
+abbrev pub pumped : SinkState → Bool → SinkState
+pumped sink failed = record { kind = sink.kind; limit = sink.limit; count = sink.count; kept = sink.kept; closed = sink.closed; refusals = sink.refusals; pumps = (sink.pumps + 1) % 2 ^ 64; failed = failed }
+
+abbrev pub closed : SinkState → Bool → SinkState
+closed sink failed = record { kind = sink.kind; limit = sink.limit; count = sink.count; kept = sink.kept; closed = true; refusals = sink.refusals; pumps = sink.pumps; failed = failed }
 
 -- what a sink that is open may refuse a text for: room, a reason of its own or memory; reason 1 is that of a closed sink, and
 -- only a pump or a close fails to write

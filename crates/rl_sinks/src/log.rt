@@ -1,5 +1,5 @@
 //! Texts that are all kept, and written to a writer.
-ghost use Rattle.std.specs.Prelude.{◌≡◌, ◌+◌, ◌<◌, ◌^◌, length, true, IsTrue, IfOk, OnOk, OnErr, IfErr, slice_get, string_bytes};
+ghost use Rattle.std.specs.Prelude.{◌≡◌, ◌+◌, ◌<◌, ◌^◌, length, true, IsTrue, IfOk, OnOk, OnErr, IfErr, is_err, slice_get, string_bytes};
 ghost use Rattle.std.specs.Option.{option_copied};
 ghost use Rattle.rl_sinks.specs.Pieces.{Writes};
 ghost use Rattle.rl_sinks.specs.Texts.{evaluation_text};
@@ -27,6 +27,9 @@ pub(crate) struct TextLog<W: Write + Drop> {
     part: usize,
     closed: bool,
     refusals: u64,
+    pumps: u64,
+    // Whether the last pump or close could not write all.
+    failed: bool,
 }
 
 impl<W: Write + Drop> Model for TextLog<W> {
@@ -36,13 +39,13 @@ impl<W: Write + Drop> Model for TextLog<W> {
 
     ghost coded = { logged_code W.code };
 
-    ghost view = { λ a. record { writer = a.writer; room = a.cap; texts = a.texts.items; next = a.next; part = a.part; closed = a.closed; refusals = a.refusals } };
+    ghost view = { λ a. record { writer = a.writer; room = a.cap; texts = a.texts.items; next = a.next; part = a.part; closed = a.closed; refusals = a.refusals; pumps = a.pumps; failed = a.failed } };
 
     ghost invariant = { λ a. IsLogged a.texts.items a.next a.part a.closed };
 }
 
 impl<W: Write + Drop> TextLog<W> {
-    ghost use Rattle.rl_sinks.specs.LogState.{new_log, with_text, with_refusal, written_as, unwritten, unwritten_texts, TakeAnswers, PumpAnswers, CloseAnswers};
+    ghost use Rattle.rl_sinks.specs.LogState.{new_log, with_text, with_refusal, pumped_as, closed_as, unwritten, unwritten_texts, TakeAnswers, PumpAnswers, CloseAnswers};
 
     pub(crate) fn new(alloc: Global, writer: W, cap: usize) -> Self
         ensures { result ≡ new_log writer cap }
@@ -55,6 +58,8 @@ impl<W: Write + Drop> TextLog<W> {
             part: 0,
             closed: false,
             refusals: 0,
+            pumps: 0,
+            failed: false,
         }
     }
 
@@ -103,40 +108,45 @@ impl<W: Write + Drop> TextLog<W> {
 
     // Writes what is left of the texts.
     pub(crate) fn pump(&mut self) -> Result<(), SinkFault>
-        ensures same { self.new ≡ written_as self.old self.new self.old.closed }
+        ensures same { self.new ≡ pumped_as self.old self.new (is_err result) }
         ensures fault { IfErr result (λ fault. fault ≡ faults.WriteFault) }
         ensures texts { Writes (W.contents self.old.writer) (W.contents self.new.writer) (unwritten_texts self.old) (unwritten_texts self.new) }
         ensures writes { Writes (W.contents self.old.writer) (W.contents self.new.writer) (unwritten self.old) (unwritten self.new) }
         ensures answer { PumpAnswers self.new result }
     {
         let kept = self.texts.len() as u64;
-        write_rest(
+        let written = write_rest(
             &mut self.writer,
             &self.texts,
             kept,
             false,
             &mut self.next,
             &mut self.part,
-        )
+        );
+        self.pumps = self.pumps.wrapping_add(1);
+        self.failed = written.is_err();
+        written
     }
 
     // Writes what is left of the texts and of the last line, and is closed with either answer.
     pub(crate) fn close(&mut self) -> Result<(), SinkFault>
-        ensures same { self.new ≡ written_as self.old self.new true }
+        ensures same { self.new ≡ closed_as self.old self.new (is_err result) }
         ensures fault { IfErr result (λ fault. fault ≡ faults.WriteFault) }
         ensures writes { Writes (W.contents self.old.writer) (W.contents self.new.writer) (unwritten self.old) (unwritten self.new) }
         ensures answer { CloseAnswers self.new result }
     {
         self.closed = true;
         let count = self.texts.len() as u64;
-        write_rest(
+        let written = write_rest(
             &mut self.writer,
             &self.texts,
             count,
             true,
             &mut self.next,
             &mut self.part,
-        )
+        );
+        self.failed = written.is_err();
+        written
     }
 }
 
@@ -151,6 +161,8 @@ impl<W: Write + Drop> Drop for TextLog<W> {
             part,
             closed,
             refusals,
+            pumps,
+            failed,
         } = self;
     }
 }

@@ -1,5 +1,5 @@
 //! A sink that reports alerts that began to fire or are resolved, and keeps every text.
-ghost use Rattle.std.specs.Prelude.{◌≡◌, ◌+◌, ◌<◌, ◌^◌, length, true, OnOk, OnErr, IfErr};
+ghost use Rattle.std.specs.Prelude.{◌≡◌, ◌+◌, ◌<◌, ◌^◌, length, true, OnOk, OnErr, IfErr, is_err};
 ghost use Rattle.rl_sinks.specs.Pieces.{Writes};
 
 use crate::log::TextLog;
@@ -41,7 +41,7 @@ impl<W: Write + Drop> Notifier<W> {
 
 impl<W: Write + Drop> Sink for Notifier<W> {
     ghost use Rattle.rl_sinks.specs.Texts.{evaluation_text};
-    ghost use Rattle.rl_sinks.specs.LogState.{log_state, with_text, with_refusal, written_as, unwritten, unwritten_texts, TakeAnswers, PumpAnswers, CloseAnswers};
+    ghost use Rattle.rl_sinks.specs.LogState.{log_state, with_text, with_refusal, pumped_as, closed_as, unwritten, unwritten_texts, TakeAnswers, PumpAnswers, CloseAnswers};
     ghost use Rattle.rl_sinks.specs.declared.sink.SinkFault.TheVariants as faults;
     ghost use Rattle.rl_sinks.specs.declared.sink.SinkKind.TheVariants as kinds;
 
@@ -79,7 +79,7 @@ impl<W: Write + Drop> Sink for Notifier<W> {
     }
 
     fn pump(&mut self) -> Result<(), SinkFault>
-        ensures same { self.new ≡ written_as self.old self.new self.old.closed }
+        ensures same { self.new ≡ pumped_as self.old self.new (is_err result) }
         ensures fault { IfErr result (λ fault. fault ≡ faults.WriteFault) }
         ensures answer { PumpAnswers self.new result }
         ensures texts { Writes (W.contents self.old.writer) (W.contents self.new.writer) (unwritten_texts self.old) (unwritten_texts self.new) }
@@ -91,7 +91,7 @@ impl<W: Write + Drop> Sink for Notifier<W> {
     fn close(&mut self) -> Result<(), SinkFault>
         ensures fault { IfErr result (λ fault. fault ≡ faults.WriteFault) }
         ensures answer { CloseAnswers self.new result }
-        ensures same { self.new ≡ written_as self.old self.new true }
+        ensures same { self.new ≡ closed_as self.old self.new (is_err result) }
         ensures writes { Writes (W.contents self.old.writer) (W.contents self.new.writer) (unwritten self.old) (unwritten self.new) }
     {
         self.log.close()

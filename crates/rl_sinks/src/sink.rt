@@ -1,7 +1,7 @@
 //! What a sink is, and why it refuses.
-ghost use Rattle.std.specs.Prelude.{◌≡◌, ℕ, ◌+◌, ◌<◌, ◌^◌, ⊤, not, IsTrue, Result, Err, OnOk, OnErr, IfErr, slice_get};
+ghost use Rattle.std.specs.Prelude.{◌≡◌, ℕ, ◌+◌, ◌<◌, ◌^◌, ⊤, not, IsTrue, Result, Err, OnOk, OnErr, IfErr, is_err, slice_get};
 ghost use Rattle.std.specs.Option.{option_copied};
-ghost use Rattle.rl_sinks.specs.SinkState.{SinkState, taken, refused, closed, is_open_refusal};
+ghost use Rattle.rl_sinks.specs.SinkState.{SinkState, taken, refused, pumped, closed, is_open_refusal};
 ghost use Rattle.rl_sinks.specs.Texts.{evaluation_text};
 ghost use Rattle.rl_sinks.specs.declared.sink.SinkFault.{SinkFault};
 ghost use Rattle.rl_sinks.specs.declared.sink.SinkFault.TheVariants as faults;
@@ -89,14 +89,14 @@ pub trait Sink: Drop {
 
     /// Writes the texts that are not yet written, so that more can be taken.
     fn pump(&mut self) -> Result<(), SinkFault>
-        ensures same { state self.new ≡ state self.old }
+        ensures pumped { state self.new ≡ pumped (state self.old) (is_err result) }
         ensures fault { IfErr result (λ fault. fault ≡ faults.WriteFault) }
         ensures answer { pump_answers self.new result };
 
     /// Writes what is not yet written, and a last line after it, and closes the sink with either answer. A sink that is closed
     /// can be closed again, to go on; so does its drop.
     fn close(&mut self) -> Result<(), SinkFault>
-        ensures closed { state self.new ≡ closed (state self.old) }
+        ensures closed { state self.new ≡ closed (state self.old) (is_err result) }
         ensures fault { IfErr result (λ fault. fault ≡ faults.WriteFault) }
         ensures answer { close_answers self.new result };
 }

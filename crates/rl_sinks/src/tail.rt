@@ -1,5 +1,5 @@
 //! A sink for human eyes, which keeps the last texts.
-ghost use Rattle.std.specs.Prelude.{◌≡◌, ◌+◌, ◌<◌, ◌^◌, IfOk, OnOk, OnErr, IfErr};
+ghost use Rattle.std.specs.Prelude.{◌≡◌, ◌+◌, ◌<◌, ◌^◌, IfOk, OnOk, OnErr, IfErr, is_err};
 ghost use Rattle.rl_sinks.specs.Pieces.{Writes};
 
 use crate::sink::{Sink, SinkFault, SinkKind};
@@ -24,6 +24,9 @@ pub struct Tail<W: Write + Drop> {
     part: usize,
     closed: bool,
     refusals: u64,
+    pumps: u64,
+    // Whether the last close could not write all, and no pump came since.
+    failed: bool,
 }
 
 impl<W: Write + Drop> Model for Tail<W> {
@@ -33,7 +36,7 @@ impl<W: Write + Drop> Model for Tail<W> {
 
     ghost coded = { tailed_code W.code };
 
-    ghost view = { λ a. record { writer = a.writer; limit = a.kept.capacity; kept = a.kept.items; count = a.count; next = a.next; part = a.part; closed = a.closed; refusals = a.refusals } };
+    ghost view = { λ a. record { writer = a.writer; limit = a.kept.capacity; kept = a.kept.items; count = a.count; next = a.next; part = a.part; closed = a.closed; refusals = a.refusals; pumps = a.pumps; failed = a.failed } };
 
     ghost invariant = { λ a. IsTailed a.kept.items a.count a.next a.part a.closed };
 }
@@ -55,6 +58,8 @@ impl<W: Write + Drop> Tail<W> {
             part: 0,
             closed: false,
             refusals: 0,
+            pumps: 0,
+            failed: false,
         })
     }
 
@@ -79,7 +84,7 @@ impl<W: Write + Drop> Tail<W> {
 impl<W: Write + Drop> Sink for Tail<W> {
     ghost use Rattle.rl_sinks.specs.declared.sink.SinkFault.TheVariants as faults;
     ghost use Rattle.rl_sinks.specs.Texts.{tail_text};
-    ghost use Rattle.rl_sinks.specs.TailState.{tail_state, with_text, with_refusal, closed_as, unwritten, TakeAnswers, PumpAnswers, CloseAnswers};
+    ghost use Rattle.rl_sinks.specs.TailState.{tail_state, with_text, with_refusal, pumped_tail, closed_as, unwritten, TakeAnswers, PumpAnswers, CloseAnswers};
 
     ghost state = { tail_state };
 
@@ -120,26 +125,30 @@ impl<W: Write + Drop> Sink for Tail<W> {
 
     fn pump(&mut self) -> Result<(), SinkFault>
         ensures answer { PumpAnswers self.new result }
-        ensures same { self.new ≡ self.old }
+        ensures same { self.new ≡ pumped_tail self.old }
     {
+        self.pumps = self.pumps.wrapping_add(1);
+        self.failed = false;
         Ok(())
     }
 
     fn close(&mut self) -> Result<(), SinkFault>
         ensures fault { IfErr result (λ fault. fault ≡ faults.WriteFault) }
         ensures answer { CloseAnswers self.new result }
-        ensures same { self.new ≡ closed_as self.old self.new }
+        ensures same { self.new ≡ closed_as self.old self.new (is_err result) }
         ensures writes { Writes (W.contents self.old.writer) (W.contents self.new.writer) (unwritten self.old) (unwritten self.new) }
     {
         self.closed = true;
-        write_rest(
+        let written = write_rest(
             &mut self.writer,
             self.kept.make_contiguous(),
             self.count,
             true,
             &mut self.next,
             &mut self.part,
-        )
+        );
+        self.failed = written.is_err();
+        written
     }
 }
 
@@ -154,6 +163,8 @@ impl<W: Write + Drop> Drop for Tail<W> {
             part,
             closed,
             refusals,
+            pumps,
+            failed,
         } = self;
     }
 }
