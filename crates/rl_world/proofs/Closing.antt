@@ -1,31 +1,46 @@
--- What is left of books whose sinks are closed.
-use Rattle.std.proofs.Common.{◌≡◌, ℕ, ◌+◌, ◌<◌, List, [], ◌∷◌, ◌++◌, map, length, take, drop, get_or, set, sym, ap, subst, ◌∙◌}
-use Rattle.std.proofs.lemmas.List.Edits.{map_over_more}
+-- What is left of sinks that are pumped or closed, and of the books that have them.
+use Rattle.std.proofs.Common.{◌≡◌, ℕ, Bool, List, [], ◌∷◌, ◌++◌, map, length, take, drop, sym, ap, subst, ◌∙◌}
 use Rattle.std.proofs.Math.Seq.{take-append_seam}
-use Rattle.std.specs.List.{AllByRecursion}
+use Rattle.std.specs.List.{AllByRecursion, AllZip}
 use Rattle.rl_rules.specs.declared.evaluation.Evaluation.{Evaluation}
-use Rattle.rl_sinks.specs.SinkState.{SinkState, closed}
+use Rattle.rl_sinks.specs.SinkState.{SinkState, pumped, closed}
+use Rattle.rl_world.specs.Closed.{IsBookClosed, IsClosed, IsPumped}
 use Rattle.rl_world.specs.Offering.{TookPrefix}
-use Rattle.rl_world.specs.WorldState.{BookState, IsBookOf, with_sinks_closed}
+use Rattle.rl_world.specs.WorldState.{BookState, IsBookOf}
 
--- a closed sink took what it took before
-took_prefix-closed : (evaluations : List Evaluation) (sinks : List SinkState) → AllByRecursion (TookPrefix evaluations) sinks → AllByRecursion (TookPrefix evaluations) (map closed sinks)
-took_prefix-closed evaluations [] all = all
-took_prefix-closed evaluations (sink ∷ sinks) all = (all.0, took_prefix-closed evaluations sinks all.1)
+-- what a sink is seen with after its pump or close says how that was answered
+pub is_pumped : (old new : SinkState) (failed : Bool) → new ≡ pumped old failed → IsPumped old new
+is_pumped old new failed is = is ∙ ap (pumped old) (sym (ap (λ (sink : SinkState). sink.failed) is))
+
+pub is_closed : (old new : SinkState) (failed : Bool) → new ≡ closed old failed → IsClosed old new
+is_closed old new failed is = is ∙ ap (closed old) (sym (ap (λ (sink : SinkState). sink.failed) is))
+
+-- sinks that were pumped or closed took what they took before
+pub took_prefix-pumped : (evaluations : List Evaluation) (olds news : List SinkState) → AllZip IsPumped olds news → AllByRecursion (TookPrefix evaluations) olds → AllByRecursion (TookPrefix evaluations) news
+took_prefix-pumped evaluations [] [] pumps all = tt
+took_prefix-pumped evaluations (old ∷ olds) (new ∷ news) pumps all = (subst (TookPrefix evaluations) (sym pumps.0) all.0, took_prefix-pumped evaluations olds news pumps.1 all.1)
+took_prefix-pumped evaluations [] (new ∷ news) pumps all = absurd pumps
+took_prefix-pumped evaluations (old ∷ olds) [] pumps all = absurd pumps
+
+took_prefix-closed : (evaluations : List Evaluation) (olds news : List SinkState) → AllZip IsClosed olds news → AllByRecursion (TookPrefix evaluations) olds → AllByRecursion (TookPrefix evaluations) news
+took_prefix-closed evaluations [] [] closes all = tt
+took_prefix-closed evaluations (old ∷ olds) (new ∷ news) closes all = (subst (TookPrefix evaluations) (sym closes.0) all.0, took_prefix-closed evaluations olds news closes.1 all.1)
+took_prefix-closed evaluations [] (new ∷ news) closes all = absurd closes
+took_prefix-closed evaluations (old ∷ olds) [] closes all = absurd closes
 
 -- the sinks of a vector of `many` sinks, where the closed ones were put back
-pub took_prefix-put : {S : Type 0} (state : S → SinkState) (evaluations : List Evaluation) (olds news : List S) (many : ℕ) → many ≡ length news → map state news ≡ map closed (map state olds)
+pub took_prefix-put : {S : Type 0} (state : S → SinkState) (evaluations : List Evaluation) (olds news : List S) (many : ℕ) → many ≡ length news → AllZip IsClosed (map state olds) (map state news)
     → AllByRecursion (TookPrefix evaluations) (map state olds) → AllByRecursion (TookPrefix evaluations) (map state (take many (news ++ drop (length news) olds)))
-took_prefix-put state evaluations olds news many is_many is_closed all =
+took_prefix-put state evaluations olds news many is_many closes all =
     let back : take many (news ++ drop (length news) olds) ≡ news = ap (λ n. take n (news ++ drop (length news) olds)) is_many ∙ take-append_seam news (drop (length news) olds) in
-    subst (AllByRecursion (TookPrefix evaluations)) (sym (ap (map state) back ∙ is_closed)) (took_prefix-closed evaluations (map state olds) all)
-
--- one book more has its sinks closed
-pub books-next : (olds nows : List BookState) (i : ℕ) (book new : BookState) → i < length olds → book ≡ get_or nows i book → new ≡ with_sinks_closed (get_or nows i book)
-    → nows ≡ map with_sinks_closed (take i olds) ++ drop i olds → set nows i new ≡ map with_sinks_closed (take (i + 1) olds) ++ drop (i + 1) olds
-books-next olds nows i book new within read is so_far = ap (set nows i) is ∙ map_over_more with_sinks_closed olds nows i (get_or nows i book) within so_far (ap (get_or nows i) read)
+    subst (AllByRecursion (TookPrefix evaluations)) (sym (ap (map state) back)) (took_prefix-closed evaluations (map state olds) (map state news) closes all)
 
 -- a book whose sinks are closed is as much a book of its world
-pub books_of-closed : (shards : ℕ) (books : List BookState) → AllByRecursion (IsBookOf shards) books → AllByRecursion (IsBookOf shards) (map with_sinks_closed books)
-books_of-closed shards [] all = all
-books_of-closed shards (book ∷ books) all = ((all.0.0, took_prefix-closed book.history.evaluations book.sinks all.0.1), books_of-closed shards books all.1)
+book_of-closed : (shards : ℕ) (old new : BookState) → IsBookClosed old new → IsBookOf shards old → IsBookOf shards new
+book_of-closed shards old new is all = subst (IsBookOf shards) (sym is.0) (all.0, took_prefix-closed old.history.evaluations old.sinks new.sinks is.1 all.1)
+
+pub books_of-closed : (shards : ℕ) (olds news : List BookState) → AllZip IsBookClosed olds news → AllByRecursion (IsBookOf shards) olds → AllByRecursion (IsBookOf shards) news
+books_of-closed shards [] [] closes all = tt
+books_of-closed shards (old ∷ olds) (new ∷ news) closes all = (book_of-closed shards old new closes.0 all.0, books_of-closed shards olds news closes.1 all.1)
+books_of-closed shards [] (new ∷ news) closes all = absurd closes
+books_of-closed shards (old ∷ olds) [] closes all = absurd closes

@@ -101,6 +101,12 @@ pub fits_offered : {A E : Type 0} (n : ℕ) (result : Result A E) (book after : 
 fits_offered n (Ok answer) book after fits rest offered err = (rest.0 ∙ fits.0, each_took_offered after.history.evaluations book.sinks after.sinks offered)
 fits_offered n (Err error) book after fits rest offered err = subst (IsBookOf n) (sym err) fits
 
+-- and so is one whose sinks were pumped before
+pub fits_caught_up : {A E : Type 0} (n : ℕ) (result : Result A E) (book after : BookState) (Ready : List SinkState → Type 0) (Said : List SinkState → Type 0) → IsBookOf n book → OnOk result ((after.shards ≡ book.shards) × (after.slot ≡ book.slot))
+    → OnOk result ((ready : List SinkState) × Ready ready × Said ready × AllOffered after.history.evaluations ready after.sinks) → OnErr result (after ≡ book) → IsBookOf n after
+fits_caught_up n (Ok answer) book after Ready Said fits rest offered err = (rest.0 ∙ fits.0, each_took_offered after.history.evaluations offered.0 after.sinks offered.3)
+fits_caught_up n (Err error) book after Ready Said fits rest offered err = subst (IsBookOf n) (sym err) fits
+
 module _ (shards : List ShardView) (books : List BookState) (group : ℕ) (book after : BookState) (there : slice_get books group ≡ Some book) where
   pub commit_turn : (answer : Committed) → Answers (commit_fault book.history) (Ok answer) → answer.number ≡ length book.history.evaluations → IfSome book.history.opened (λ opened. answer.evaluation ≡ evaluation_from book.history.group (alerts_of book.history) opened)
       → after.history ≡ committed book.history answer.evaluation

@@ -21,7 +21,7 @@ not_of_two_terms : (partial : Partial) → AreOfOneShard 2 (partial ∷ []) → 
 not_of_two_terms partial are = omega (arith, are.each)
 
 abbrev fresh : SinkState
-fresh = record { kind = sinks.Tail; limit = None; count = 0; kept = []; closed = false; refusals = 0 }
+fresh = record { kind = sinks.Tail; limit = None; count = 0; kept = []; closed = false; refusals = 0; pumps = 0; failed = false }
 
 -- a sink that is behind has refused
 not_left_out : (evaluation : Evaluation) → Offered (evaluation ∷ []) fresh fresh → ⊥

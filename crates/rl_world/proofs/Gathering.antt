@@ -1,12 +1,12 @@
 -- What a gather makes of a world.
-use Rattle.std.proofs.Common.{◌≡◌, inl, inr, ℕ, ◌≤◌, true, false, cond, List, map, length, Option, None, Some, Result, Ok, Err, OnOk, OnErr, option_map, slice_get, slice_set, refl, sym, ap, subst, ◌∙◌}
+use Rattle.std.proofs.Common.{◌≡◌, ◌+◌, inl, inr, ℕ, ◌≤◌, true, false, cond, List, map, length, Option, None, Some, Result, Ok, Err, OnOk, OnErr, option_map, slice_get, slice_set, refl, sym, ap, subst, ◌∙◌}
 use Rattle.std.specs.List.{AllByRecursion}
 use Rattle.std.proofs.lemmas.List.{map-set, length-set}
 use Rattle.rl_aggregate.specs.declared.partial.Partial.{Partial}
 use Rattle.rl_query.specs.declared.query.Term.{Term}
 use Rattle.rl_chunks.specs.StoreState.{greatest}
 use Rattle.rl_parts.specs.StoreUse.{Grown}
-use Rattle.rl_shard.specs.ShardFault.{MayCome, Stored}
+use Rattle.rl_shard.specs.ShardFault.{Gives, MayCome, Stored}
 use Rattle.rl_shard.specs.ShardState.{ShardView, journalled, visible}
 use Rattle.rl_shard.specs.ShardStep.{recorded, is_journal_full}
 use Rattle.rl_shard.specs.declared.step.ShardReply.TheVariants as shard_replies
@@ -86,7 +86,7 @@ module _ (shards : List ShardView) (books : List BookState) (group number : ℕ)
   )
     where
       may : (fault : ShardFault) → MayCome shard (shard_steps.Collect slot terms t) fault after → MayRefuse (world_of shards books) (steps.Gather group number) (refusal_of_shard fault)
-      may shard_faults.JournalFull came = inl (gather_full free (came.1 refl))
+      may shard_faults.JournalFull came = inl (gather_full free (came.full refl))
       may shard_faults.Fault came = inr (gather_free free room, refl)
       may shard_faults.Damaged came = inr (gather_free free room, refl)
       may shard_faults.NumbersSpent came = inr (gather_free free room, refl)
@@ -123,9 +123,9 @@ module _ (shards : List ShardView) (books : List BookState) (group number : ℕ)
 
   -- it met a fault
   pub stores_not_gathered : (after : ShardView) (t : ℕ) (terms : List Term) (fault : ShardFault) (refusal : Refusal) → gather_fault book.history number ≡ None → is_journal_full (journalled shard) ≡ false → option_map (λ (o : OpenEvaluation (List Partial)). o.t) book.history.opened ≡ Some t
-      → terms ≡ group_terms book.history.group → Stored shard.streams after.streams → after.streams.next ≤ greatest → MayCome shard (shard_steps.Collect group terms t) fault after → Grown shard.streams.seen shard.streams.next after.streams.seen
+      → terms ≡ group_terms book.history.group → Stored shard.streams after.streams → after.streams.next ≤ greatest → MayCome shard (shard_steps.Collect group terms t) fault after → Grown shard.streams.seen shard.streams.next (after.streams.next + 1) after.streams.seen → Gives (shard_steps.Collect group terms t) shard.streams after.streams
       → journalled after ≡ journalled shard → refusal ≡ refusal_of_shard fault → ShardsTurn (seen_as shards books) (steps.Gather group number) (replies.Refused refusal) (seen_as (slice_set shards number after) books)
-  stores_not_gathered after t terms fault refusal free room moment terms_is stored numbers came grown kept reported =
+  stores_not_gathered after t terms fault refusal free room moment terms_is stored numbers came grown gives kept reported =
       let here = open_at book.history.opened t moment in
       inr (record {
         asked = askable t free room here;
@@ -136,7 +136,7 @@ module _ (shards : List ShardView) (books : List BookState) (group number : ℕ)
           now = refl;
           stored = stored;
           numbers = numbers;
-          as_said = for_group (λ step. Faults step refusal shard after) t terms here terms_is (record { kept = kept; fault = fault; reported = reported; cause = came; grown = grown });
+          as_said = for_group (λ step. Faults step refusal shard after) t terms here terms_is (record { kept = kept; fault = fault; reported = reported; cause = came; grown = grown; gives = gives });
         };
         stay = refl;
       })

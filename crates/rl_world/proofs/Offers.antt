@@ -1,36 +1,28 @@
--- What a list of sinks is after one more of them was offered its evaluations, or was closed.
+-- What a list of sinks is after one more of them was pumped, offered its evaluations, or closed.
 use Rattle.std.proofs.Common.{◌≡◌, ℕ, suc, ◌+◌, ◌<◌, Bool, true, false, cond, List, [], ◌∷◌, ◌++◌, map, length, take, drop, get_or, set, sym, ap, subst, ◌∙◌, arith, append_assoc}
-use Rattle.std.specs.List.{AllByRecursion}
+use Rattle.std.specs.List.{AllByRecursion, AllZip}
 use Rattle.std.proofs.lemmas.List.{drop-drop, drop-set-lt, get_or-drop, get_or-map, length-map, length-take-le, map-set, take_more, take_more_set}
-use Rattle.std.proofs.lemmas.List.Edits.{map_over_more}
-use Rattle.std.proofs.lemmas.List.Elements.{All-from_recursion}
+use Rattle.std.proofs.lemmas.List.Elements.{All-from_recursion, AllZip-push}
 use Rattle.rl_rules.specs.declared.evaluation.Evaluation.{Evaluation}
-use Rattle.rl_sinks.specs.SinkState.{SinkState, closed}
-use Rattle.rl_world.specs.Offering.{TookPrefix, Offered, AllOffered, is_behind, behind_from, behind_of}
+use Rattle.rl_sinks.specs.SinkState.{SinkState}
+use Rattle.rl_world.specs.Offering.{TookPrefix, is_behind, behind_from, behind_of}
 
 -- where the rest is as it was, the first of the rest is, and what follows it
-get_or-rest : (olds nows : List SinkState) (i : ℕ) (d : SinkState) → drop i nows ≡ drop i olds → get_or nows i d ≡ get_or olds i d
+pub get_or-rest : {X : Type 0} (olds nows : List X) (i : ℕ) (d : X) → drop i nows ≡ drop i olds → get_or nows i d ≡ get_or olds i d
 get_or-rest olds nows i d rest =
     let same_number : i + 0 ≡ i = omega arith in
-    ap (λ n. get_or nows n d) (sym same_number) ∙ sym (get_or-drop i nows 0 d) ∙ ap (λ (sinks : List SinkState). get_or sinks 0 d) rest ∙ get_or-drop i olds 0 d ∙ ap (λ n. get_or olds n d) same_number
+    ap (λ n. get_or nows n d) (sym same_number) ∙ sym (get_or-drop i nows 0 d) ∙ ap (λ all. get_or all 0 d) rest ∙ get_or-drop i olds 0 d ∙ ap (λ n. get_or olds n d) same_number
 
-drop-rest : (olds nows : List SinkState) (i : ℕ) (new : SinkState) → drop i nows ≡ drop i olds → drop (i + 1) (set nows i new) ≡ drop (i + 1) olds
+pub drop-rest : {X : Type 0} (olds nows : List X) (i : ℕ) (new : X) → drop i nows ≡ drop i olds → drop (i + 1) (set nows i new) ≡ drop (i + 1) olds
 drop-rest olds nows i new rest = drop-set-lt (i + 1) nows i new (omega arith) ∙ sym (drop-drop 1 i nows) ∙ ap (drop 1) rest ∙ drop-drop 1 i olds
 
--- one sink more was offered what it had not taken
-AllOffered-push : (evaluations : List Evaluation) (olds news : List SinkState) (old new : SinkState) → AllOffered evaluations olds news → Offered evaluations old new → AllOffered evaluations (olds ++ old ∷ []) (news ++ new ∷ [])
-AllOffered-push evaluations [] [] old new others one = (one, tt)
-AllOffered-push evaluations (o ∷ olds) (n ∷ news) old new others one = (others.0, AllOffered-push evaluations olds news old new others.1 one)
-AllOffered-push evaluations [] (n ∷ news) old new others one = absurd others
-AllOffered-push evaluations (o ∷ olds) [] old new others one = absurd others
-
-AllOffered-more : (evaluations : List Evaluation) (olds nows : List SinkState) (i : ℕ) (old new : SinkState) → i < length olds → i < length nows → get_or olds i old ≡ old
-    → AllOffered evaluations (take i olds) (take i nows) → Offered evaluations old new → AllOffered evaluations (take (i + 1) olds) (take (i + 1) (set nows i new))
-AllOffered-more evaluations olds nows i old new in_olds in_nows read others one =
-    let was : take (i + 1) olds ≡ take i olds ++ old ∷ [] = take_more olds i old in_olds ∙ ap (λ sink. take i olds ++ sink ∷ []) read in
-    subst (λ (sinks : List SinkState). AllOffered evaluations sinks (take (i + 1) (set nows i new))) (sym was)
-    (subst (λ (sinks : List SinkState). AllOffered evaluations (take i olds ++ old ∷ []) sinks) (sym (take_more_set nows i new in_nows))
-    (AllOffered-push evaluations (take i olds) (take i nows) old new others one))
+-- a relation holds of one pair more
+pub AllZip-more : {X : Type 0} (R : X → X → Type 0) (olds nows : List X) (i : ℕ) (old new : X) → i < length olds → i < length nows → get_or olds i old ≡ old → AllZip R (take i olds) (take i nows) → R old new → AllZip R (take (i + 1) olds) (take (i + 1) (set nows i new))
+AllZip-more {X} R olds nows i old new in_olds in_nows read others one =
+    let was : take (i + 1) olds ≡ take i olds ++ old ∷ [] = take_more olds i old in_olds ∙ ap (λ x. take i olds ++ x ∷ []) read in
+    subst (λ (all : List X). AllZip R all (take (i + 1) (set nows i new))) (sym was)
+    (subst (λ (all : List X). AllZip R (take i olds ++ old ∷ []) all) (sym (take_more_set nows i new in_nows))
+    (AllZip-push R (take i olds) (take i nows) old new others one))
 
 -- the number of one sink more, if it is behind
 cond-append : (b : Bool) (n : ℕ) (xs ys more : List ℕ) → xs ≡ ys ++ more → cond b (n ∷ xs) xs ≡ cond b (n ∷ ys) ys ++ more
@@ -61,15 +53,15 @@ took_prefix-next state evaluations olds nows i sink same within rest all =
     let read : get_or (map state olds) i old ≡ old = sym (get_or-rest (map state olds) (map state nows) i old rest) ∙ get_or-map state nows i sink old within in
     subst (TookPrefix evaluations) read (All-from_recursion (TookPrefix evaluations) (map state olds) all i old (omega (arith, length-map olds state)))
 
--- that sink was offered what it had not taken
-pub all_offered-next : {S : Type 0} (state : S → SinkState) (evaluations : List Evaluation) (olds nows : List S) (i : ℕ) (sink new : S) → length nows ≡ length olds → i < length nows
-    → drop i (map state nows) ≡ drop i (map state olds) → AllOffered evaluations (take i (map state olds)) (take i (map state nows)) → Offered evaluations (state (get_or nows i sink)) (state new)
-    → AllOffered evaluations (take (i + 1) (map state olds)) (take (i + 1) (map state (set nows i new)))
-all_offered-next state evaluations olds nows i sink new same within rest others one =
+-- a relation holds of what that sink was and is
+pub sinks-next : {S : Type 0} (R : SinkState → SinkState → Type 0) (state : S → SinkState) (olds nows : List S) (i : ℕ) (sink new : S) → length nows ≡ length olds → i < length nows
+    → drop i (map state nows) ≡ drop i (map state olds) → AllZip R (take i (map state olds)) (take i (map state nows)) → R (state (get_or nows i sink)) (state new)
+    → AllZip R (take (i + 1) (map state olds)) (take (i + 1) (map state (set nows i new)))
+sinks-next R state olds nows i sink new same within rest others one =
     let old : SinkState = state (get_or nows i sink) in
     let read : get_or (map state olds) i old ≡ old = sym (get_or-rest (map state olds) (map state nows) i old rest) ∙ get_or-map state nows i sink old within in
-    subst (λ (sinks : List SinkState). AllOffered evaluations (take (i + 1) (map state olds)) (take (i + 1) sinks)) (sym (map-set state nows i new))
-    (AllOffered-more evaluations (map state olds) (map state nows) i old (state new) (omega (arith, length-map olds state)) (omega (arith, length-map nows state)) read others one)
+    subst (λ (sinks : List SinkState). AllZip R (take (i + 1) (map state olds)) (take (i + 1) sinks)) (sym (map-set state nows i new))
+    (AllZip-more R (map state olds) (map state nows) i old (state new) (omega (arith, length-map olds state)) (omega (arith, length-map nows state)) read others one)
 
 -- those after it are as they were
 pub rest-next : {S : Type 0} (state : S → SinkState) (olds nows : List S) (i : ℕ) (new : S) → drop i (map state nows) ≡ drop i (map state olds) → drop (i + 1) (map state (set nows i new)) ≡ drop (i + 1) (map state olds)
@@ -85,12 +77,3 @@ behind-next state evaluations nows i new listed before numbers more within is_li
     ∙ append_assoc before first (cond listed (i ∷ []) [])
     ∙ ap (λ (b : Bool). before ++ (first ++ cond b (i ∷ []) [])) is_listed
     ∙ ap (λ (l : List ℕ). before ++ l) (sym (ap (λ (sinks : List SinkState). behind_of evaluations (take (i + 1) sinks)) (map-set state nows i new) ∙ behind_of-more evaluations (map state nows) i (state new) (omega (arith, length-map nows state))))
-
--- one sink more is closed
-pub closed-next : {S : Type 0} (state : S → SinkState) (olds nows : List S) (i : ℕ) (sink new : S) → length nows ≡ length olds → i < length nows → state new ≡ closed (state (get_or nows i sink))
-    → map state nows ≡ map closed (take i (map state olds)) ++ drop i (map state olds) → map state (set nows i new) ≡ map closed (take (i + 1) (map state olds)) ++ drop (i + 1) (map state olds)
-closed-next state olds nows i sink new same within is so_far =
-    let old : SinkState = state (get_or nows i sink) in
-    map-set state nows i new
-    ∙ ap (set (map state nows) i) is
-    ∙ map_over_more closed (map state olds) (map state nows) i old (omega (arith, length-map olds state)) so_far (sym (get_or-map state nows i sink old within))

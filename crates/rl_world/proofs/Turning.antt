@@ -10,7 +10,8 @@ use Rattle.rl_rules.specs.declared.rule.Group.{Group}
 use Rattle.rl_chunks.specs.StoreState.{greatest}
 use Rattle.rl_parts.specs.StoreUse.{Grown}
 use Rattle.rl_shard.specs.Collecting.{AreRead}
-use Rattle.rl_shard.specs.ShardFault.{IsDone, MayCome, Stored}
+use Rattle.rl_shard.specs.Pushing.{Pushes}
+use Rattle.rl_shard.specs.ShardFault.{Gives, IsDone, MayCome, Stored}
 use Rattle.rl_shard.specs.ShardState.{ShardView, journalled}
 use Rattle.rl_shard.specs.ShardStep.{recorded, is_journal_full, IsAnswered, IsReply}
 use Rattle.rl_shard.specs.declared.step.ShardStep.{ShardStep}
@@ -85,9 +86,9 @@ refused_ok None x h = refl
 -- a shard decided a step, or met a fault
 pub stores_decided : (shards : List ShardView) (books : List BookState) (number place : ℕ) (step : ShardStep) (reply : ShardReply) (shard after : ShardView) → slice_get shards number ≡ Some shard → Stored shard.streams after.streams → after.streams.next ≤ greatest
     → place ≡ (journalled shard).records → (journalled after).limits ≡ (journalled shard).limits → (journalled after).records ≡ (journalled shard).records + 1 → IsAnswered (journalled shard).limits (journalled shard).state step reply (journalled after).state
-    → IsDone (journalled shard).limits (journalled shard).state step shard.streams after.streams → AreRead shard.streams shard.requests step reply
+    → IsDone (journalled shard).limits (journalled shard).state step shard.streams after.streams → AreRead shard.streams shard.requests step reply → Gives step shard.streams after.streams → Pushes shard.streams shard.horizon step (Ok reply) after.streams
     → ShardsTurn (seen_as shards books) (steps.Shard number step) (replies.Decided place reply) (seen_as (slice_set shards number after) books)
-stores_decided shards books number place step reply shard after there stored numbers place_is limits records answered done read = (
+stores_decided shards books number place step reply shard after there stored numbers place_is limits records answered done read gives pushed = (
   record {
     before = shard;
     there = there;
@@ -95,14 +96,14 @@ stores_decided shards books number place step reply shard after there stored num
     now = refl;
     stored = stored;
     numbers = numbers;
-    as_said = record { place_is = place_is; limits = limits; records = records; answered = answered; done = done; read = read };
+    as_said = record { place_is = place_is; limits = limits; records = records; answered = answered; done = done; read = read; gives = gives; pushed = pushed };
   },
   refl,
 )
 
 pub stores_faulted : (shards : List ShardView) (books : List BookState) (number : ℕ) (step : ShardStep) (shard after : ShardView) (fault : ShardFault) (refusal : Refusal) → slice_get shards number ≡ Some shard → Stored shard.streams after.streams → after.streams.next ≤ greatest
-    → MayCome shard step fault after → Grown shard.streams.seen shard.streams.next after.streams.seen → journalled after ≡ journalled shard → refusal ≡ refusal_of_shard fault → ShardsTurn (seen_as shards books) (steps.Shard number step) (replies.Refused refusal) (seen_as (slice_set shards number after) books)
-stores_faulted shards books number step shard after fault refusal there stored numbers came grown kept reported = inr (
+    → MayCome shard step fault after → Grown shard.streams.seen shard.streams.next (after.streams.next + 1) after.streams.seen → Gives step shard.streams after.streams → journalled after ≡ journalled shard → refusal ≡ refusal_of_shard fault → ShardsTurn (seen_as shards books) (steps.Shard number step) (replies.Refused refusal) (seen_as (slice_set shards number after) books)
+stores_faulted shards books number step shard after fault refusal there stored numbers came grown gives kept reported = inr (
   record {
     before = shard;
     there = there;
@@ -110,7 +111,7 @@ stores_faulted shards books number step shard after fault refusal there stored n
     now = refl;
     stored = stored;
     numbers = numbers;
-    as_said = record { kept = kept; fault = fault; reported = reported; cause = came; grown = grown };
+    as_said = record { kept = kept; fault = fault; reported = reported; cause = came; grown = grown; gives = gives };
   },
   refl,
 )
@@ -171,7 +172,7 @@ module _ (shards : List ShardView) (books : List BookState) where
           ∙ ap (λ b. cond b (Some refusals.JournalFull) None) (not_true (is_journal_full (journalled shard)) (λ full. true≢false (sym (ap is_for_journal (first full)) ∙ other)))
 
       may : (fault : ShardFault) → MayCome shard step fault after → (is_journal_full (journalled shard) ≡ true → fault ≡ shard_faults.JournalFull) → MayRefuse (world_of shards books) (steps.Shard number step) (refusal_of_shard fault)
-      may shard_faults.JournalFull came first = inl (ap (λ s. known s journal_refusal) (shard_at number shard there) ∙ ap (λ b. cond b (Some refusals.JournalFull) None) (came.1 refl))
+      may shard_faults.JournalFull came first = inl (ap (λ s. known s journal_refusal) (shard_at number shard there) ∙ ap (λ b. cond b (Some refusals.JournalFull) None) (came.full refl))
       may shard_faults.Fault came first = inr (free shard_faults.Fault refl first, refl)
       may shard_faults.Damaged came first = inr (free shard_faults.Damaged refl first, refl)
       may shard_faults.NumbersSpent came first = inr (free shard_faults.NumbersSpent refl first, refl)

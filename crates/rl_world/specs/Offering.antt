@@ -1,5 +1,6 @@
 -- What sinks have taken of the evaluations of their group, and what it makes of them to be offered the rest.
 use Rattle.std.specs.Prelude.{◌≡◌, ℕ, suc, ◌+◌, ◌%◌, ◌^◌, ◌≤◌, nat_lt, Bool, List, [], ◌∷◌, map, length, take, if◌then◌else◌}
+use Rattle.std.specs.List.{AllZip}
 use Rattle.rl_rules.specs.declared.evaluation.Evaluation.{Evaluation}
 use Rattle.rl_sinks.specs.SinkState.{SinkState, within}
 use Rattle.rl_sinks.specs.Texts.{evaluation_text}
@@ -25,6 +26,8 @@ offered_to evaluations sink count refused = record {
   kept = within sink.limit (texts_of sink.kind (take count evaluations));
   closed = sink.closed;
   refusals = if refused then (sink.refusals + 1) % 2 ^ 64 else sink.refusals;
+  pumps = sink.pumps;
+  failed = sink.failed;
 }
 
 -- a sink was offered all that it had not taken, until it refused: it refused exactly where it is behind
@@ -35,10 +38,7 @@ pub record Offered (evaluations : List Evaluation) (old new : SinkState) : Type 
 
 -- each of the sinks was
 abbrev pub AllOffered : List Evaluation → List SinkState → List SinkState → Type 0
-AllOffered evaluations [] [] = Unit {0}
-AllOffered evaluations (old ∷ olds) (new ∷ news) = Offered evaluations old new × AllOffered evaluations olds news
-AllOffered evaluations [] (new ∷ news) = ⊥
-AllOffered evaluations (old ∷ olds) [] = ⊥
+AllOffered evaluations old new = AllZip (Offered evaluations) old new
 
 -- the numbers of the sinks that are behind, the first sink having this number
 abbrev pub behind_from : ℕ → List Evaluation → List SinkState → List ℕ

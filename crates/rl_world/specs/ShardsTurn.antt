@@ -1,11 +1,12 @@
 -- What a turn makes of the shards and their stores, and of the books for which they are asked.
-use Rattle.std.specs.Prelude.{◌≡◌, ◌⊎◌, ℕ, ◌+◌, ◌≤◌, false, List, None, Some, slice_get, slice_set}
+use Rattle.std.specs.Prelude.{◌≡◌, ◌⊎◌, ℕ, ◌+◌, ◌≤◌, false, List, None, Some, Ok, slice_get, slice_set}
 use Rattle.std.specs.List.{AllByRecursion}
 use Rattle.rl_chunks.specs.StoreState.{greatest}
 use Rattle.rl_parts.specs.StoreUse.{Grown}
 use Rattle.rl_aggregate.specs.declared.partial.Partial.{Partial}
 use Rattle.rl_shard.specs.Collecting.{AreRead}
-use Rattle.rl_shard.specs.ShardFault.{IsDone, IsHonest, MayCome, Stored}
+use Rattle.rl_shard.specs.Pushing.{Pushes}
+use Rattle.rl_shard.specs.ShardFault.{Gives, IsDone, IsHonest, MayCome, Stored}
 use Rattle.rl_shard.specs.ShardState.{ShardView, journalled}
 use Rattle.rl_shard.specs.ShardStep.{IsAnswered}
 use Rattle.rl_shard.specs.declared.step.ShardFault.{ShardFault}
@@ -39,7 +40,8 @@ pub record IsAsked (old : List ShardView) (number : ℕ) (new : List ShardView) 
   pub numbers : after.streams.next ≤ greatest
   pub as_said : becomes before after
 
--- a decided step makes a record, is answered as over any store, and was done
+-- a decided step makes a record, is answered as over any store, and was done; what it makes of an entry follows from memory and
+-- from bytes with the digests that were kept
 pub record Decides (place : ℕ) (step : ShardStep) (reply : ShardReply) (before after : ShardView) : Type 0 where
   pub place_is : place ≡ (journalled before).records
   pub limits : (journalled after).limits ≡ (journalled before).limits
@@ -47,6 +49,8 @@ pub record Decides (place : ℕ) (step : ShardStep) (reply : ShardReply) (before
   pub answered : IsAnswered (journalled before).limits (journalled before).state step reply (journalled after).state
   pub done : IsDone (journalled before).limits (journalled before).state step before.streams after.streams
   pub read : AreRead before.streams before.requests step reply
+  pub gives : Gives step before.streams after.streams
+  pub pushed : Pushes before.streams before.horizon step (Ok reply) after.streams
 
 -- a fault makes none, changes nothing that is held nor what stood in the store, and has its cause
 pub record Faults (step : ShardStep) (refusal : Refusal) (before after : ShardView) : Type 0 where
@@ -54,7 +58,8 @@ pub record Faults (step : ShardStep) (refusal : Refusal) (before after : ShardVi
   pub fault : ShardFault
   pub reported : refusal ≡ refusal_of_shard fault
   pub cause : MayCome before step fault after
-  pub grown : Grown before.streams.seen before.streams.next after.streams.seen
+  pub grown : Grown before.streams.seen before.streams.next (after.streams.next + 1) after.streams.seen
+  pub gives : Gives step before.streams after.streams
 
 -- the step that asks a shard for the open evaluation of a group: about the group's terms, at the evaluation's moment
 abbrev pub collect_for : ℕ → BookState → OpenEvaluation (List Partial) → ShardStep

@@ -1,8 +1,10 @@
 -- A run of steps, and what it makes of the sinks.
 use Rattle.std.specs.Prelude.{◌≡◌, ℕ, false, List, [], ◌∷◌, map, length, drop, Some, slice_get, slice_set}
+use Rattle.std.specs.List.{AllZip}
 use Rattle.rl_labels.specs.declared.entry.Entry.{Entry}
 use Rattle.rl_rules.specs.declared.evaluation.Evaluation.{Evaluation}
 use Rattle.rl_sinks.specs.SinkState.{SinkState}
+use Rattle.rl_world.specs.Closed.{IsPumped}
 use Rattle.rl_world.specs.Offering.{AllOffered, behind_of}
 use Rattle.rl_world.specs.ShardsTurn.{AreHonest, ShardsTurn}
 use Rattle.rl_world.specs.WorldState.{BookState, WorldBooks, WorldState, Stands, world_of}
@@ -13,15 +15,17 @@ use Rattle.rl_world.specs.declared.step.Step.TheVariants as steps
 use Rattle.rl_world.specs.declared.step.Reply.{Reply}
 use Rattle.rl_world.specs.declared.step.Reply.TheVariants as replies
 
--- the sinks of a group are offered what they have not taken, and those that are behind are listed; its book keeps the number of
--- shards that it asks, and the number under which it asks them
-pub record SinksOffered (old : List BookState) (group : ℕ) (behind : List ℕ) (new : List BookState) : Type 0 where
+-- the sinks of a group, ready as they are to be, are offered what they have not taken, and those that are behind are listed; its
+-- book keeps the number of shards that it asks, and the number under which it asks them
+pub record SinksOffered (AreReady : List SinkState → List SinkState → Type 0) (old : List BookState) (group : ℕ) (behind : List ℕ) (new : List BookState) : Type 0 where
   pub before : BookState
   pub there : slice_get old group ≡ Some before
   pub after : BookState
   pub now : new ≡ slice_set old group after
   pub asks : (after.shards ≡ before.shards) × (after.slot ≡ before.slot)
-  pub offered : AllOffered after.history.evaluations before.sinks after.sinks
+  pub ready : List SinkState
+  pub are_ready : AreReady before.sinks ready
+  pub offered : AllOffered after.history.evaluations ready after.sinks
   pub behind_is : behind ≡ behind_of after.history.evaluations after.sinks
 
 -- what sinks are offered, the sinks, how many shards a book asks, and under which number
@@ -34,10 +38,17 @@ pub record BookOffers : Type 0 where
 abbrev pub offers : BookState → BookOffers
 offers book = record { evaluations = book.history.evaluations; sinks = book.sinks; shards = book.shards; slot = book.slot }
 
--- what a step makes of the sinks: only a commit adds an evaluation, and only it and a catch-up touch them
+-- as they were, or each pumped
+abbrev pub AreAsTheyWere : List SinkState → List SinkState → Type 0
+AreAsTheyWere sinks ready = ready ≡ sinks
+
+abbrev pub ArePumped : List SinkState → List SinkState → Type 0
+ArePumped sinks ready = AllZip IsPumped sinks ready
+
+-- what a step makes of the sinks: only a commit adds an evaluation, and only it and a catch-up, which pumps them first, touch them
 abbrev pub SinkStep : List BookState → Step → Reply → List BookState → Type 0
-SinkStep old (steps.Commit group) (replies.Committed answer) new = SinksOffered old group answer.behind new
-SinkStep old (steps.CatchUp group) (replies.CaughtUp behind) new = SinksOffered old group behind new
+SinkStep old (steps.Commit group) (replies.Committed answer) new = SinksOffered AreAsTheyWere old group answer.behind new
+SinkStep old (steps.CatchUp group) (replies.CaughtUp behind) new = SinksOffered ArePumped old group behind new
 SinkStep old step reply new = map offers new ≡ map offers old
 
 -- a turn of the world

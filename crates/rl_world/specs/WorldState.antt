@@ -6,7 +6,7 @@ use Rattle.rl_query.specs.declared.query.Term.{Term}
 use Rattle.rl_aggregate.specs.declared.partial.Partial.{Partial}
 use Rattle.rl_shard.specs.ShardState.{Journalled, ShardView, journalled}
 use Rattle.rl_rules.specs.declared.alert.Alert.{Alert}
-use Rattle.rl_sinks.specs.SinkState.{SinkState, closed}
+use Rattle.rl_sinks.specs.SinkState.{SinkState}
 use Rattle.rl_world.specs.Evaluating.{group_terms}
 use Rattle.rl_world.specs.Kept.{partials_of}
 use Rattle.rl_world.specs.History.{History, alerts_of, group_after, evaluations_in}
@@ -82,5 +82,5 @@ pub record IsBook (terms : List Term) (alerts : List (List Alert)) (book : BookS
 abbrev pub IsBookOf : ℕ → BookState → Type 0
 IsBookOf shards book = (book.shards ≡ shards) × AllByRecursion (TookPrefix book.history.evaluations) book.sinks
 
-abbrev pub with_sinks_closed : BookState → BookState
-with_sinks_closed book = record { history = book.history; shards = book.shards; slot = book.slot; sinks = map closed book.sinks }
+abbrev pub with_sinks : BookState → List SinkState → BookState
+with_sinks book sinks = record { history = book.history; shards = book.shards; slot = book.slot; sinks = sinks }

@@ -1,10 +1,11 @@
 //! A book: one rule group, its history, and its sinks.
 ghost use Rattle.std.specs.Prelude.{◌≡◌, ◌≤◌, ◌<◌, ◌^◌, List, [], map, length, replicate, slice_get, option_map, option_and_then, IfOk, IfErr, OnOk, OnErr, IfSome, None, Some, is_some, false};
-ghost use Rattle.rl_sinks.specs.SinkState.{closed};
+ghost use Rattle.rl_sinks.specs.SinkState.{SinkState};
 ghost use Rattle.rl_world.specs.BookCalls.{Refuses};
-ghost use Rattle.rl_world.specs.Closed.{SinksAnswered, SinksPumped};
+ghost use Rattle.rl_world.specs.Closed.{HasAnswered, IsBookClosed, IsClosed, failures};
 ghost use Rattle.rl_world.specs.History.{asked_fault, closing_fault, has_passed, with_shown};
-ghost use Rattle.std.specs.List.{AllByRecursion, list_all};
+ghost use Rattle.rl_world.specs.WorldRun.{ArePumped};
+ghost use Rattle.std.specs.List.{AllByRecursion, AllZip, list_all};
 ghost use Rattle.std.specs.Option.{option_copied};
 
 use crate::editing::alerts_edited;
@@ -276,8 +277,7 @@ impl<S: Sink> Book<S> {
     pub fn catch_up(&mut self) -> Result<PlainList<u64>, AllocError>
         ensures history { OnOk result (self.new.history ≡ self.old.history) }
         ensures rest { OnOk result ((self.new.shards ≡ self.old.shards) × (self.new.slot ≡ self.old.slot)) }
-        ensures pumped { OnOk result (SinksPumped S.state S.pump_answers self.old.sinks) }
-        ensures offered { OnOk result (AllOffered self.new.history.evaluations self.old.sinks self.new.sinks) }
+        ensures offered { OnOk result ((ready : List SinkState) × ArePumped self.old.sinks ready × AllByRecursion (HasAnswered S.state S.pump_answers) ready × AllOffered self.new.history.evaluations ready self.new.sinks) }
         ensures behind { IfOk result (λ behind. behind ≡ behind_of self.new.history.evaluations self.new.sinks) }
         ensures err { OnErr result (self.new ≡ self.old) }
     {
@@ -384,8 +384,9 @@ impl<S: Sink> Book<S> {
 
     /// Closes each sink in order. How many could not write all.
     pub fn close_sinks(&mut self) -> u64
-        ensures closed { self.new ≡ record { history = self.old.history; shards = self.old.shards; slot = self.old.slot; sinks = map closed self.old.sinks } }
-        ensures counted { SinksAnswered S.state S.close_answers self.new.sinks result }
+        ensures closed { IsBookClosed self.old self.new }
+        ensures counted { result ≡ failures self.new.sinks }
+        ensures answers { AllByRecursion (HasAnswered S.state S.close_answers) self.new.sinks }
     {
         close_all(&mut self.sinks)
     }
@@ -507,8 +508,9 @@ fn no_answers(alloc: Global, shards: usize) -> Result<PlainList<ShardAnswer>, Al
 // Closes each sink in order. How many could not write all.
 fn close_all<S: Sink>(sinks: &mut [S]) -> u64
     requires { length sinks.old < 2 ^ 63 }
-    ensures closed { map S.state sinks.new ≡ map closed (map S.state sinks.old) }
-    ensures counted { SinksAnswered S.state S.close_answers (map S.state sinks.new) result }
+    ensures closed { AllZip IsClosed (map S.state sinks.old) (map S.state sinks.new) }
+    ensures counted { result ≡ failures (map S.state sinks.new) }
+    ensures answers { AllByRecursion (HasAnswered S.state S.close_answers) (map S.state sinks.new) }
 {
     let mut failed = 0;
     for number in 0..sinks.len() {

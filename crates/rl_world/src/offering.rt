@@ -1,8 +1,10 @@
 //! Evaluations offered to sinks.
-ghost use Rattle.std.specs.Prelude.{◌≡◌, ◌+◌, ◌≤◌, ◌<◌, ◌^◌, ◌++◌, map, length, vec_len, vec_capacity};
+ghost use Rattle.std.specs.Prelude.{◌≡◌, List, ◌+◌, ◌≤◌, ◌<◌, ◌^◌, ◌++◌, map, length, vec_len, vec_capacity};
 ghost use Rattle.std.specs.List.{AllByRecursion};
-ghost use Rattle.rl_world.specs.Closed.{SinksPumped};
+ghost use Rattle.rl_sinks.specs.SinkState.{SinkState};
+ghost use Rattle.rl_world.specs.Closed.{HasAnswered};
 ghost use Rattle.rl_world.specs.Offering.{TookPrefix, Offered, AllOffered, is_behind, behind_of};
+ghost use Rattle.rl_world.specs.WorldRun.{ArePumped};
 
 use rl_plain::Shared;
 use rl_rules::Evaluation;
@@ -17,8 +19,7 @@ pub(crate) fn catch_up_all<S: Sink>(
     requires few { length evaluations.now < 2 ^ 63 }
     requires prefixes { AllByRecursion (TookPrefix evaluations.now) (map S.state sinks.old) }
     requires room { vec_len behind.old + length sinks.old ≤ vec_capacity behind.old }
-    ensures pumped { SinksPumped S.state S.pump_answers (map S.state sinks.old) }
-    ensures offered { AllOffered evaluations.now (map S.state sinks.old) (map S.state sinks.new) }
+    ensures offered { (ready : List SinkState) × ArePumped (map S.state sinks.old) ready × AllByRecursion (HasAnswered S.state S.pump_answers) ready × AllOffered evaluations.now ready (map S.state sinks.new) }
     ensures behind { behind.new.items ≡ behind.old.items ++ behind_of evaluations.now (map S.state sinks.new) }
 {
     pump_all(sinks);
@@ -27,9 +28,8 @@ pub(crate) fn catch_up_all<S: Sink>(
 
 // Pumps each sink. One that fails keeps what it could not write.
 fn pump_all<S: Sink>(sinks: &mut [S])
-    ensures same { map S.state sinks.new ≡ map S.state sinks.old }
-    ensures len { length sinks.new ≡ length sinks.old }
-    ensures pumped { SinksPumped S.state S.pump_answers (map S.state sinks.new) }
+    ensures pumped { ArePumped (map S.state sinks.old) (map S.state sinks.new) }
+    ensures answers { AllByRecursion (HasAnswered S.state S.pump_answers) (map S.state sinks.new) }
 {
     for number in 0..sinks.len() {
         let _ = sinks[number].pump();

@@ -1,11 +1,11 @@
 //! The shards and the books of a world, as they are kept.
-ghost use Rattle.std.specs.Prelude.{◌≡◌, length, map, false};
-ghost use Rattle.std.specs.List.{AllByRecursion};
+ghost use Rattle.std.specs.Prelude.{◌≡◌, ◌-◌, ◌^◌, length, map, min, false};
+ghost use Rattle.std.specs.List.{AllByRecursion, AllZip};
 ghost use Rattle.std.proofs.Props.{props};
-ghost use Rattle.rl_world.specs.Closed.{BooksClosed};
+ghost use Rattle.rl_world.specs.Closed.{HasAnswered, IsBookClosed, failures, sinks_of};
 ghost use Rattle.rl_world.specs.ShardsTurn.{AreHonest, ShardsTurn};
 ghost use Rattle.rl_world.specs.WorldRun.{SinkStep};
-ghost use Rattle.rl_world.specs.WorldState.{IsBookOf, seen_as, with_sinks_closed, world_of};
+ghost use Rattle.rl_world.specs.WorldState.{IsBookOf, seen_as, world_of};
 ghost use Rattle.rl_world.specs.WorldStep.{WorldStep, IfRefused, IsRefused, asks_shard, partials};
 
 use crate::book::Book;
@@ -45,8 +45,9 @@ impl<D: Store, S: Sink> WorldParts<D, S> {
     /// Closes the sinks of each book in order. How many could not write all.
     pub(crate) fn close_sinks(&mut self) -> u64
         ensures shards { self.new.shards.items ≡ self.old.shards.items }
-        ensures books { self.new.books.items ≡ map with_sinks_closed self.old.books.items }
-        ensures counted { BooksClosed S.state S.close_answers self.new.books.items result }
+        ensures books { AllZip IsBookClosed self.old.books.items self.new.books.items }
+        ensures counted { result ≡ min (failures (sinks_of self.new.books.items)) (2 ^ 64 - 1) }
+        ensures answers { AllByRecursion (HasAnswered S.state S.close_answers) (sinks_of self.new.books.items) }
     {
         close_books(&mut self.books)
     }
@@ -54,8 +55,9 @@ impl<D: Store, S: Sink> WorldParts<D, S> {
 
 // Closes the sinks of each book in order. How many could not write all.
 fn close_books<S: Sink>(books: &mut [Book<S>]) -> u64
-    ensures closed { books.new ≡ map with_sinks_closed books.old }
-    ensures counted { BooksClosed S.state S.close_answers books.new result }
+    ensures closed { AllZip IsBookClosed books.old books.new }
+    ensures counted { result ≡ min (failures (sinks_of books.new)) (2 ^ 64 - 1) }
+    ensures answers { AllByRecursion (HasAnswered S.state S.close_answers) (sinks_of books.new) }
 {
     let mut failed = 0u64;
     for number in 0..books.len() {

@@ -1,9 +1,9 @@
 //! What a world does at each kind of step.
-ghost use Rattle.std.specs.Prelude.{◌≡◌, ◌≤◌, length, IfOk, IfErr, OnOk, OnErr};
+ghost use Rattle.std.specs.Prelude.{◌≡◌, ◌+◌, ◌≤◌, length, IfOk, IfErr, OnOk, OnErr};
 ghost use Rattle.rl_labels.specs.Name.{is_text};
 ghost use Rattle.rl_chunks.specs.StoreState.{greatest};
 ghost use Rattle.rl_parts.specs.StoreUse.{Grown};
-ghost use Rattle.rl_shard.specs.ShardFault.{IsHonest, MayCome, Stored};
+ghost use Rattle.rl_shard.specs.ShardFault.{Gives, IsHonest, MayCome, Stored};
 ghost use Rattle.rl_shard.specs.ShardState.{journalled, visible};
 ghost use Rattle.rl_shard.specs.ShardStep.{recorded};
 ghost use Rattle.rl_shard.specs.declared.step.ShardReply.TheVariants as shard_replies;
@@ -170,7 +170,8 @@ fn ask<D: Store>(
     t: Ns,
 ) -> Result<(u64, PlainList<Shared<Partial>>), ShardFault>
     ensures may_come { IfErr result (λ fault. MayCome shard.old (shard_steps.Collect slot terms t) fault shard.new) }
-    ensures grown { OnErr result (Grown shard.old.streams.seen shard.old.streams.next shard.new.streams.seen) }
+    ensures grown { OnErr result (Grown shard.old.streams.seen shard.old.streams.next (shard.new.streams.next + 1) shard.new.streams.seen) }
+    ensures gives { Gives (shard_steps.Collect slot terms t) shard.old.streams shard.new.streams }
     ensures kept { OnErr result (journalled shard.new ≡ journalled shard.old) }
     ensures stored { Stored shard.old.streams shard.new.streams }
     ensures numbers { shard.new.streams.next ≤ greatest }

@@ -1,10 +1,9 @@
 //! A world: shards and books, by lists of steps.
-ghost use Rattle.std.specs.Prelude.{◌≡◌, ◌+◌, ◌≤◌, ◌++◌, map, length, slice_get, vec_capacity, IsOk, IfOk, OnOk, OnErr};
-ghost use Rattle.std.specs.List.{AllByRecursion};
+ghost use Rattle.std.specs.Prelude.{◌≡◌, ◌+◌, ◌-◌, ◌^◌, ◌≤◌, ◌++◌, map, min, length, slice_get, vec_capacity, IsOk, IfOk, OnOk, OnErr};
+ghost use Rattle.std.specs.List.{AllByRecursion, AllZip};
 ghost use Rattle.std.specs.Option.{option_copied};
-ghost use Rattle.rl_world.specs.WorldState.{with_sinks_closed};
 ghost use Rattle.rl_world.specs.BookCalls.{books_from, IsFresh};
-ghost use Rattle.rl_world.specs.Closed.{BooksClosed};
+ghost use Rattle.rl_world.specs.Closed.{HasAnswered, IsBookClosed, failures, sinks_of};
 ghost use Rattle.rl_world.specs.ShardAnswers.{most_shards};
 ghost use Rattle.rl_shard.specs.ShardState.{opened_over};
 
@@ -137,8 +136,9 @@ impl<D: Store, S: Sink> World<D, S> {
 
     /// Closes the sinks of each group in order. How many could not write all.
     pub fn close_sinks(&mut self) -> u64
-        ensures closed { self.new ≡ record { shards = self.old.shards; books = map with_sinks_closed self.old.books } }
-        ensures counted { BooksClosed S.state S.close_answers self.new.books result }
+        ensures closed { (self.new.shards ≡ self.old.shards) × AllZip IsBookClosed self.old.books self.new.books }
+        ensures counted { result ≡ min (failures (sinks_of self.new.books)) (2 ^ 64 - 1) }
+        ensures answers { AllByRecursion (HasAnswered S.state S.close_answers) (sinks_of self.new.books) }
     {
         self.parts.close_sinks()
     }

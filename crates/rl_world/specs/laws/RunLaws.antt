@@ -3,6 +3,7 @@ use Rattle.std.proofs.Common.{◌≡◌, ℕ, zero, suc, ◌+◌, ◌<◌, ◌%�
 use Rattle.std.specs.List.{list_any, zip}
 use Rattle.std.proofs.lemmas.List.Sums.{sum_by-cons}
 use Rattle.std.proofs.lemmas.Option.{slice_get-map}
+use Rattle.std.proofs.lemmas.Slice.Zip.{AllZip-long}
 use Rattle.std.proofs.lemmas.Bool.{eqb-true, eqb-false, eq-eqb, ne_eqb}
 use Rattle.rl_rules.specs.declared.evaluation.Evaluation.{Evaluation}
 use Rattle.rl_sinks.specs.SinkState.{SinkState}
@@ -10,7 +11,8 @@ use Rattle.rl_world.specs.Offering.{Offered, AllOffered, is_behind, behind_from,
 use Rattle.rl_world.specs.Listings.{SinksFollow, listed_in, listing, listings, is_listed, latest, last_listing}
 use Rattle.rl_world.specs.ShardsTurn.{AreHonest}
 use Rattle.rl_world.specs.laws.StoreLaws.{get_set, get_set_other, still_honest}
-use Rattle.rl_world.specs.WorldRun.{SinksOffered, SinkStep, Ran, Replays, BookOffers, offers}
+use Rattle.rl_world.specs.Closed.{IsPumped}
+use Rattle.rl_world.specs.WorldRun.{AreAsTheyWere, ArePumped, SinksOffered, SinkStep, Ran, Replays, BookOffers, offers}
 use Rattle.rl_world.specs.WorldState.{BookState, WorldBooks, WorldState, world_of}
 use Rattle.rl_world.specs.WorldStep.{Keeping, Turn, WorldStep, Replay, lists}
 use Rattle.rl_world.specs.declared.step.Committed.{Committed}
@@ -57,6 +59,39 @@ offered_at evaluations (x ∷ olds) (y ∷ news) zero old all there = record { n
 offered_at evaluations (x ∷ olds) (y ∷ news) (suc k) old all there = let rest = offered_at evaluations olds news k old all.1 there in record { new = rest.new; there = rest.there; offered = rest.offered }
 offered_at evaluations [] (y ∷ news) k old all there = absurd all
 offered_at evaluations (x ∷ olds) [] k old all there = absurd all
+
+-- a sink that is ready to be offered: it has taken and refused what it had
+record ReadyAt (sink : SinkState) (ready : List SinkState) (k : ℕ) : Type 0 where
+  pub one : SinkState
+  pub there : slice_get ready k ≡ Some one
+  pub count : one.count ≡ sink.count
+  pub refusals : one.refusals ≡ sink.refusals
+
+-- sinks that are ready, of which each has what it had
+record IsReadiness (AreReady : List SinkState → List SinkState → Type 0) : Type 0 where
+  pub at : (sinks ready : List SinkState) (k : ℕ) (sink : SinkState) → AreReady sinks ready → slice_get sinks k ≡ Some sink → ReadyAt sink ready k
+  pub many : (sinks ready : List SinkState) → AreReady sinks ready → length ready ≡ length sinks
+
+as_they_were : IsReadiness AreAsTheyWere
+as_they_were = record {
+  at = λ sinks ready k sink same there. record { one = sink; there = ap (λ all. slice_get all k) same ∙ there; count = refl; refusals = refl };
+  many = λ sinks ready same. ap length same;
+}
+
+pumped_at : (sinks ready : List SinkState) (k : ℕ) (sink : SinkState) → ArePumped sinks ready → slice_get sinks k ≡ Some sink → ReadyAt sink ready k
+pumped_at [] [] k sink all there = absurd (none_some sink there)
+pumped_at (x ∷ sinks) (y ∷ ready) zero sink all there = record {
+  one = y;
+  there = refl;
+  count = ap (λ (s : SinkState). s.count) all.0 ∙ ap (λ (s : SinkState). s.count) (some_is x sink there);
+  refusals = ap (λ (s : SinkState). s.refusals) all.0 ∙ ap (λ (s : SinkState). s.refusals) (some_is x sink there);
+}
+pumped_at (x ∷ sinks) (y ∷ ready) (suc k) sink all there = let rest = pumped_at sinks ready k sink all.1 there in record { one = rest.one; there = rest.there; count = rest.count; refusals = rest.refusals }
+pumped_at [] (y ∷ ready) k sink all there = absurd all
+pumped_at (x ∷ sinks) [] k sink all there = absurd all
+
+are_pumped : IsReadiness ArePumped
+are_pumped = record { at = pumped_at; many = λ sinks ready all. AllZip-long IsPumped sinks ready all }
 
 -- the numbers of those that are behind
 none_before : (evaluations : List Evaluation) (sinks : List SinkState) (n m : ℕ) → m < n → list_any (λ behind. nat_eq behind m) (behind_from n evaluations sinks) ≡ false
@@ -130,30 +165,31 @@ one_refusal old new true is = ap (λ n. n % 2 ^ 64) is ∙ mod_again (old + 1)
 one_refusal old new false is = ap (λ n. n % 2 ^ 64) (is ∙ omega arith)
 
 -- the sinks of the sink's group were offered what they had not taken
-offered_follows : (old new : List BookState) (group number : ℕ) (book : BookState) (sink : SinkState) (behind : List ℕ) → SinksOffered old group behind new → slice_get old group ≡ Some book → slice_get book.sinks number ≡ Some sink
+offered_follows : (AreReady : List SinkState → List SinkState → Type 0) → IsReadiness AreReady → (old new : List BookState) (group number : ℕ) (book : BookState) (sink : SinkState) (behind : List ℕ) → SinksOffered AreReady old group behind new → slice_get old group ≡ Some book → slice_get book.sinks number ≡ Some sink
     → FollowsOn (cond (list_any (λ listed. nat_eq listed number) behind) 1 0) (Some (list_any (λ listed. nat_eq listed number) behind)) group number book sink new
-offered_follows old new group number book sink behind turn there here =
+offered_follows AreReady readiness old new group number book sink behind turn there here =
     let after = turn.after in
     let evaluations = after.history.evaluations in
     let mine : turn.before ≡ book = some_is turn.before book (sym turn.there ∙ there) in
-    let offered = offered_at evaluations book.sinks after.sinks number sink (subst (λ (b : BookState). AllOffered evaluations b.sinks after.sinks) mine turn.offered) here in
+    let ready = readiness.at book.sinks turn.ready number sink (subst (λ (b : BookState). AreReady b.sinks turn.ready) mine turn.are_ready) here in
+    let offered = offered_at evaluations turn.ready after.sinks number ready.one turn.offered ready.there in
     let says : list_any (λ listed. nat_eq listed number) behind ≡ is_behind evaluations offered.new = ap (list_any (λ listed. nat_eq listed number)) turn.behind_is ∙ ap (λ n. list_any (λ listed. nat_eq listed n) (behind_of evaluations after.sinks)) (omega arith) ∙ listed_at evaluations after.sinks 0 number offered.new offered.there in
     record {
       after = after;
       there = ap (λ l. slice_get l group) turn.now ∙ get_set old group turn.before after turn.there;
       new = offered.new;
       here = offered.there;
-      refusals = one_refusal sink.refusals offered.new.refusals (is_behind evaluations offered.new) (ap (λ (s : SinkState). s.refusals) offered.offered.state) ∙ ap (λ b. (sink.refusals + cond b 1 0) % 2 ^ 64) (sym says);
+      refusals = one_refusal sink.refusals offered.new.refusals (is_behind evaluations offered.new) (ap (λ (s : SinkState). s.refusals) offered.offered.state ∙ ap (λ old. cond (is_behind evaluations offered.new) ((old + 1) % 2 ^ 64) old) ready.refusals) ∙ ap (λ b. (sink.refusals + cond b 1 0) % 2 ^ 64) (sym says);
       behind = sym says;
     }
 
 -- those of any group were
-any_follows : (old new : List BookState) (at group number : ℕ) (book : BookState) (sink : SinkState) (behind : List ℕ) → SinksOffered old at behind new → slice_get old group ≡ Some book → slice_get book.sinks number ≡ Some sink
+any_follows : (AreReady : List SinkState → List SinkState → Type 0) → IsReadiness AreReady → (old new : List BookState) (at group number : ℕ) (book : BookState) (sink : SinkState) (behind : List ℕ) → SinksOffered AreReady old at behind new → slice_get old group ≡ Some book → slice_get book.sinks number ≡ Some sink
     → FollowsOn (cond (is_listed (listed_in group number at behind)) 1 0) (listed_in group number at behind) group number book sink new
-any_follows old new at group number book sink behind turn there here =
+any_follows AreReady readiness old new at group number book sink behind turn there here =
     let Says : Bool → Type 0 = λ b. FollowsOn (cond (is_listed (cond b (Some (list_any (λ listed. nat_eq listed number) behind)) None)) 1 0) (cond b (Some (list_any (λ listed. nat_eq listed number) behind)) None) group number book sink new in
     elim (nat_eq at group) as (λ b. nat_eq at group ≡ b → Says b) [
-      | true ↦ λ is. offered_follows old new group number book sink behind (subst (λ g. SinksOffered old g behind new) (eqb-true at group is) turn) there here
+      | true ↦ λ is. offered_follows AreReady readiness old new group number book sink behind (subst (λ g. SinksOffered AreReady old g behind new) (eqb-true at group is) turn) there here
       | false ↦ λ apart. record {
         after = book;
         there = ap (λ l. slice_get l group) turn.now ∙ get_set_other old at group turn.after (eqb-false at group apart) ∙ there;
@@ -167,8 +203,8 @@ any_follows old new at group number book sink behind turn there here =
 -- what one turn makes of a sink
 turn_follows : (old new : List BookState) (step : Step) (reply : Reply) (group number : ℕ) (book : BookState) (sink : SinkState) → SinkStep old step reply new → slice_get old group ≡ Some book → slice_get book.sinks number ≡ Some sink
     → FollowsOn (cond (is_listed (listing group number (step, reply))) 1 0) (listing group number (step, reply)) group number book sink new
-turn_follows old new (steps.Commit at) (replies.Committed answer) group number book sink sinks there here = any_follows old new at group number book sink answer.behind sinks there here
-turn_follows old new (steps.CatchUp at) (replies.CaughtUp behind) group number book sink sinks there here = any_follows old new at group number book sink behind sinks there here
+turn_follows old new (steps.Commit at) (replies.Committed answer) group number book sink sinks there here = any_follows AreAsTheyWere as_they_were old new at group number book sink answer.behind sinks there here
+turn_follows old new (steps.CatchUp at) (replies.CaughtUp behind) group number book sink sinks there here = any_follows ArePumped are_pumped old new at group number book sink behind sinks there here
 turn_follows old new step reply group number book sink sinks there here = untouched old new group number book sink sinks there here
 
 -- and a turn before others
@@ -251,19 +287,14 @@ counts_set [] group before after there same = refl
 counts_set (book ∷ books) zero before after there same = ap (λ count. count ∷ sink_counts books) (same ∙ ap (λ (b : BookState). length b.sinks) (sym (some_is book before there)))
 counts_set (book ∷ books) (suc group) before after there same = ap (λ rest. length book.sinks ∷ rest) (counts_set books group before after there same)
 
-offered_count : (evaluations : List Evaluation) (olds news : List SinkState) → AllOffered evaluations olds news → length news ≡ length olds
-offered_count evaluations [] [] all = refl
-offered_count evaluations (old ∷ olds) (new ∷ news) all = ap suc (offered_count evaluations olds news all.1)
-offered_count evaluations [] (new ∷ news) all = absurd all
-offered_count evaluations (old ∷ olds) [] all = absurd all
-
-offered_counts : (old new : List BookState) (group : ℕ) (behind : List ℕ) → SinksOffered old group behind new → sink_counts new ≡ sink_counts old
-offered_counts old new group behind turn =
-    ap sink_counts turn.now ∙ counts_set old group turn.before turn.after turn.there (offered_count turn.after.history.evaluations turn.before.sinks turn.after.sinks turn.offered)
+offered_counts : (AreReady : List SinkState → List SinkState → Type 0) → IsReadiness AreReady → (old new : List BookState) (group : ℕ) (behind : List ℕ) → SinksOffered AreReady old group behind new → sink_counts new ≡ sink_counts old
+offered_counts AreReady readiness old new group behind turn =
+    ap sink_counts turn.now
+    ∙ counts_set old group turn.before turn.after turn.there (AllZip-long (Offered turn.after.history.evaluations) turn.ready turn.after.sinks turn.offered ∙ readiness.many turn.before.sinks turn.ready turn.are_ready)
 
 turn_counts : (old new : List BookState) (step : Step) (reply : Reply) → SinkStep old step reply new → sink_counts new ≡ sink_counts old
-turn_counts old new (steps.Commit group) (replies.Committed answer) offered = offered_counts old new group answer.behind offered
-turn_counts old new (steps.CatchUp group) (replies.CaughtUp behind) offered = offered_counts old new group behind offered
+turn_counts old new (steps.Commit group) (replies.Committed answer) offered = offered_counts AreAsTheyWere as_they_were old new group answer.behind offered
+turn_counts old new (steps.CatchUp group) (replies.CaughtUp behind) offered = offered_counts ArePumped are_pumped old new group behind offered
 turn_counts old new step reply same = sym (counts_offered new) ∙ ap (map (λ (t : BookOffers). length t.sinks)) same ∙ counts_offered old
 
 -- no sink comes or goes

@@ -4,7 +4,8 @@ use Rattle.std.specs.List.{zip}
 use Rattle.std.proofs.lemmas.Bool.{eqb-true, eqb-false}
 use Rattle.rl_chunks.specs.StoreState.{greatest}
 use Rattle.rl_parts.specs.StoreUse.{FaultsRise, FaultCame}
-use Rattle.rl_shard.specs.ShardFault.{HasCause, IsHonest}
+use Rattle.rl_parts.specs.laws.UseLaws.{with_fault-came}
+use Rattle.rl_shard.specs.ShardFault.{IsHonest, IsOfStore, step_faults}
 use Rattle.rl_shard.specs.ShardState.{ShardView}
 use Rattle.rl_shard.specs.declared.step.ShardFault.{ShardFault}
 use Rattle.rl_shard.specs.declared.step.ShardFault.TheVariants as shard_faults
@@ -89,12 +90,12 @@ record Reports (reply : Reply) (before after : ShardView) : Type 0 where
   pub spent : is_spent_reply reply ≡ true → after.streams.next ≡ greatest
   pub damage : is_damage_reply reply ≡ true → before.streams.seen.honest ≡ false
 
-cause_reported : (fault : ShardFault) (before after : ShardView) → HasCause before.streams fault after.streams → Reports (replies.Refused (refusal_of_shard fault)) before after
-cause_reported shard_faults.JournalFull before after cause = record { fault = λ h. absurd (true_false (sym h)); spent = λ h. absurd (true_false (sym h)); damage = λ h. absurd (true_false (sym h)) }
-cause_reported shard_faults.Fault before after cause = record { fault = λ h. cause; spent = λ h. absurd (true_false (sym h)); damage = λ h. absurd (true_false (sym h)) }
-cause_reported shard_faults.Damaged before after cause = record { fault = λ h. absurd (true_false (sym h)); spent = λ h. absurd (true_false (sym h)); damage = λ h. cause }
-cause_reported shard_faults.NumbersSpent before after cause = record { fault = λ h. absurd (true_false (sym h)); spent = λ h. cause; damage = λ h. absurd (true_false (sym h)) }
-cause_reported shard_faults.Memory before after cause = record { fault = λ h. absurd (true_false (sym h)); spent = λ h. absurd (true_false (sym h)); damage = λ h. absurd (true_false (sym h)) }
+cause_reported : (fault : ShardFault) (before after : ShardView) → after.streams.seen.faults ≡ step_faults fault before.streams.seen.faults → IsOfStore before.streams fault after.streams → Reports (replies.Refused (refusal_of_shard fault)) before after
+cause_reported shard_faults.JournalFull before after counted of_store = record { fault = λ h. absurd (true_false (sym h)); spent = λ h. absurd (true_false (sym h)); damage = λ h. absurd (true_false (sym h)) }
+cause_reported shard_faults.Fault before after counted of_store = record { fault = λ h. subst (FaultCame before.streams.seen.faults) (sym counted) (with_fault-came before.streams.seen.faults); spent = λ h. absurd (true_false (sym h)); damage = λ h. absurd (true_false (sym h)) }
+cause_reported shard_faults.Damaged before after counted of_store = record { fault = λ h. absurd (true_false (sym h)); spent = λ h. absurd (true_false (sym h)); damage = λ h. of_store }
+cause_reported shard_faults.NumbersSpent before after counted of_store = record { fault = λ h. absurd (true_false (sym h)); spent = λ h. of_store; damage = λ h. absurd (true_false (sym h)) }
+cause_reported shard_faults.Memory before after counted of_store = record { fault = λ h. absurd (true_false (sym h)); spent = λ h. absurd (true_false (sym h)); damage = λ h. absurd (true_false (sym h)) }
 
 -- what a turn makes of the store of one shard
 record StoreTurn (number : ℕ) (step : Step) (reply : Reply) (before : ShardView) (shards : List ShardView) : Type 0 where
@@ -141,7 +142,7 @@ silent : (reply : Reply) (before after : ShardView) → is_fault_reply reply ≡
 silent reply before after fault spent damage = record { fault = λ h. absurd (not_both (is_fault_reply reply) h fault); spent = λ h. absurd (not_both (is_spent_reply reply) h spent); damage = λ h. absurd (not_both (is_damage_reply reply) h damage) }
 
 faults_reported : {step : _} (refusal : Refusal) (before after : ShardView) → Faults step refusal before after → Reports (replies.Refused refusal) before after
-faults_reported refusal before after met = subst (λ r. Reports (replies.Refused r) before after) (sym met.reported) (cause_reported met.fault before after met.cause.2)
+faults_reported refusal before after met = subst (λ r. Reports (replies.Refused r) before after) (sym met.reported) (cause_reported met.fault before after met.cause.counted met.cause.of_store)
 
 turn_stores : (old : WorldBooks) (step : Step) (reply : Reply) (new : WorldBooks) (number : ℕ) (before : ShardView) → ShardsTurn old step reply new → slice_get old.shards number ≡ Some before → StoreTurn number step reply before new.shards
 turn_stores old (steps.Shard shard step) (replies.Decided place reply) new number before turn there =

@@ -1,7 +1,8 @@
 -- One sink more.
 use Rattle.std.proofs.Common.{true, false, ap, vec_len, vec_capacity, arith}
 use Rattle.std.proofs.lemmas.List.{append-nil}
-use Rattle.rl_world.proofs.Offers.{took_prefix-next, all_offered-next, rest-next, behind-next}
+use Rattle.rl_world.specs.Offering.{Offered}
+use Rattle.rl_world.proofs.Offers.{took_prefix-next, sinks-next, rest-next, behind-next}
 use Rattle.rl_world.proofs.offering.offer_all.Goals as goal
 use Rattle.rl_world.proofs.offering.offer_all.Goals.{then-offer, else-offer}
 
@@ -22,7 +23,7 @@ loop-number-preserved g c =
     let more = c.if-offer.behind.items in
     let so_far = c.loop-number.invariant in
     record {
-      offered = all_offered-next state evaluations olds nows number c.index-sinks-number.result new (omega arith) (omega arith) so_far.rest so_far.offered c.offer.ensures.offered;
+      offered = sinks-next (Offered evaluations) state olds nows number c.index-sinks-number.result new (omega arith) (omega arith) so_far.rest so_far.offered c.offer.ensures.offered;
       rest = rest-next state olds nows number new so_far.rest;
       behind = elim c.if-offer.branch [
         | then-offer w ↦ behind-next state evaluations nows number new true before numbers more (omega arith) (cc) so_far.behind (cc)

@@ -1,16 +1,23 @@
 -- One sink more.
-use Rattle.std.proofs.Common.{◌+◌, cond, is_err, refl, ◌∙◌, arith}
+use Rattle.std.proofs.Common.{is_err, get_or, refl, ap, ◌∙◌, arith}
 use Rattle.std.proofs.lemmas.List.{length-set}
-use Rattle.std.proofs.Math.Seq.{map-set_same}
-use Rattle.rl_world.proofs.Counting.{sinks-next}
+use Rattle.rl_sinks.specs.SinkState.{SinkState}
+use Rattle.rl_world.specs.Closed.{HasAnswered, IsPumped}
+use Rattle.rl_world.proofs.Closing.{is_pumped}
+use Rattle.rl_world.proofs.Counting.{each-next}
+use Rattle.rl_world.proofs.Offers.{rest-next, sinks-next}
 use Rattle.rl_world.proofs.offering.pump_all.Goals as goal
 
 pub loop-number-preserved : goal.loop-number-preserved
 loop-number-preserved g c =
     let state = g.S.Sink.state in
-    let so_far = c.loop-number.invariant.pumped in
+    let nows = c.loop-number.sinks in
+    let number = c.loop-number.number in
+    let new = c.pump.new.self in
+    let so_far = c.loop-number.invariant in
     record {
-      same = map-set_same state c.loop-number.sinks c.loop-number.number c.pump.new.self c.index-sinks-number.result c.pump.ensures.same ∙ c.loop-number.invariant.same;
-      len = length-set c.loop-number.sinks c.loop-number.number c.pump.new.self ∙ c.loop-number.invariant.len;
-      pumped = (so_far.0 + cond (is_err c.pump.result) 1 0, sinks-next state g.S.Sink.pump_answers c.loop-number.sinks c.loop-number.number c.pump.new.self c.pump.result so_far.0 (so_far.0 + cond (is_err c.pump.result) 1 0) (omega arith) c.pump.ensures.answer refl so_far.1);
+      pumped = sinks-next IsPumped state c.args.sinks.now nows number c.index-sinks-number.result new (omega arith) (omega arith) so_far.rest so_far.pumped (is_pumped (state (get_or nows number c.index-sinks-number.result)) (state new) (is_err c.pump.result) c.pump.ensures.pumped);
+      rest = rest-next state c.args.sinks.now nows number new so_far.rest;
+      len = length-set nows number new ∙ so_far.len;
+      answers = each-next (HasAnswered state g.S.Sink.pump_answers) state nows number new (omega arith) so_far.answers (new, c.pump.result, refl, c.pump.ensures.answer, ap (λ (sink : SinkState). sink.failed) c.pump.ensures.pumped);
     }

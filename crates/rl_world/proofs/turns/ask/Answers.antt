@@ -23,6 +23,8 @@ returns-clause-decides g c =
       answered = collected_answered old.limits old.state new.state c.args.slot c.args.t c.args.terms c.in_ok-place.reply c.in-Collected.partials said.answered c.in-Collected.is;
       done = said.done;
       read = collected_read c.args.shard.now c.args.slot c.args.t c.args.terms c.in_ok-place.reply c.in-Collected.partials said.read c.in-Collected.is;
+      gives = c.apply.ensures.gives;
+      pushed = tt;
     }
 
 pub returns-clause-one_shard : goal.returns-clause-one_shard

@@ -18,7 +18,7 @@ invariant_of-self g c =
     let inside = c.self.inside in
     let news = take inside.sinks.len (c.catch_up_all.new.sinks ++ drop (length c.catch_up_all.new.sinks) inside.sinks.items) in
     let same : news ≡ c.catch_up_all.new.sinks = grind (arith, common_steps) in
-    let offered = subst (λ evaluations. AllByRecursion (TookPrefix evaluations) (map state c.catch_up_all.new.sinks)) c.deref.ensures.value (each_took_offered c.deref.result.now (map state c.deref_mut.result.now) (map state c.catch_up_all.new.sinks) c.catch_up_all.ensures.offered) in
+    let offered = subst (λ evaluations. AllByRecursion (TookPrefix evaluations) (map state c.catch_up_all.new.sinks)) c.deref.ensures.value (each_took_offered c.deref.result.now c.catch_up_all.ensures.offered.0 (map state c.catch_up_all.new.sinks) c.catch_up_all.ensures.offered.3) in
     record {
       terms_are = c.self.invariant.terms_are;
       alerts_are = c.self.invariant.alerts_are;

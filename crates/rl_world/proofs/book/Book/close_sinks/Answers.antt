@@ -1,15 +1,17 @@
 -- The sinks are closed and counted, and took what they took before.
-use Rattle.std.proofs.Common.{map, ap, sym, subst, ◌∙◌, arith}
+use Rattle.std.proofs.Common.{◌++◌, length, map, take, drop, ap, sym, subst, arith}
 use Rattle.std.proofs.lemmas.List.{with_items_is}
-use Rattle.rl_sinks.specs.SinkState.{closed}
-use Rattle.rl_world.specs.Closed.{SinksAnswered}
+use Rattle.std.specs.List.{AllZip}
+use Rattle.rl_world.specs.Closed.{IsClosed}
+use Rattle.rl_world.specs.WorldState.{BookState, with_sinks}
 use Rattle.rl_world.proofs.Closing.{took_prefix-put}
 use Rattle.rl_world.proofs.book.Book.close_sinks.Goals as goal
 
 pub invariant_of-self : goal.invariant_of-self
 invariant_of-self g c =
     let book = c.self.inside in
-    let is_closed = c.close_all.ensures.closed ∙ ap (λ sinks. map closed (map g.S.Sink.state sinks)) c.deref_mut.ensures.value in
+    let state = g.S.Sink.state in
+    let closes = subst (λ sinks. AllZip IsClosed (map state sinks) (map state c.close_all.new.sinks)) c.deref_mut.ensures.value c.close_all.ensures.closed in
     record {
       terms_are = c.self.invariant.terms_are;
       alerts_are = c.self.invariant.alerts_are;
@@ -19,11 +21,15 @@ invariant_of-self g c =
       group_is = c.self.invariant.group_is;
       evaluations_are = c.self.invariant.evaluations_are;
       answers = c.self.invariant.answers;
-      prefixes = took_prefix-put g.S.Sink.state book.evaluations.items book.sinks.items c.close_all.new.sinks book.sinks.len (omega (arith, book.sinks.ok.0)) is_closed c.self.invariant.prefixes;
+      prefixes = took_prefix-put state book.evaluations.items book.sinks.items c.close_all.new.sinks book.sinks.len (omega (arith, book.sinks.ok.0)) closes c.self.invariant.prefixes;
     }
 
-pub returns-clause-counted : goal.returns-clause-counted
-returns-clause-counted g c =
+pub returns-clause-closed : goal.returns-clause-closed
+returns-clause-closed g c =
     let state = g.S.Sink.state in
-    let put_back = with_items_is c.self.inside.sinks c.close_all.new.sinks (omega (arith, c.self.inside.sinks.ok.0)) in
-    subst (λ sinks. SinksAnswered state g.S.Sink.close_answers (map state sinks) c.close_all.result) (sym put_back) c.close_all.ensures.counted
+    let olds = c.self.inside.sinks in
+    let news = c.close_all.new.sinks in
+    let back = take olds.len (news ++ drop (length news) olds.items) in
+    let closes = subst (λ sinks. AllZip IsClosed (map state sinks) (map state news)) c.deref_mut.ensures.value c.close_all.ensures.closed in
+    let kept = subst (λ sinks. AllZip IsClosed (map state olds.items) (map state sinks)) (sym (with_items_is olds news (omega (arith, olds.ok.0)))) closes in
+    (ap (λ (book : BookState). with_sinks book (map state back)) c.self.view_is, subst (λ (book : BookState). AllZip IsClosed book.sinks (map state back)) c.self.view_is kept)

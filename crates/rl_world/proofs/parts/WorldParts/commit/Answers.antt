@@ -27,7 +27,7 @@ returns-in-Ok-clause-sinks g c =
     let books = c.args.self.now.books.items in
     let book = c.index_mut-book.result.now in
     let there = slice_get_read books c.len.result c.args.group book (omega (arith, c.len.ensures, c.args.self.now.books.ok.0)) c.if-group-len.false c.index_mut-book.ensures.value in
-    record { before = book; there = there; after = c.commit.new.self; now = refl; asks = c.in-Ok.ensures.rest; offered = c.in-Ok.ensures.offered; behind_is = c.in-Ok.ensures.behind }
+    record { before = book; there = there; after = c.commit.new.self; now = refl; asks = c.in-Ok.ensures.rest; ready = book.sinks; are_ready = refl; offered = c.in-Ok.ensures.offered; behind_is = c.in-Ok.ensures.behind }
 
 pub returns-in-Err-clause-step : goal.returns-in-Err-clause-step
 returns-in-Err-clause-step g c =

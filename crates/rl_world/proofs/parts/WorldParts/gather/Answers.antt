@@ -40,7 +40,7 @@ returns-in-Err-ask-clause-stores g c =
     let first = slice_get_read shards c.len-else-group-len.result c.args.number c.index.result.now (omega (arith, c.len-else-group-len.ensures, c.args.self.now.shards.ok.0)) c.if-number-len.false c.index.ensures in
     let room = ap (λ s. is_journal_full (journalled s)) (same_read shards c.args.number shard c.index.result.now shard_there first) ∙ sym c.is_journal_full.ensures ∙ c.if-is_journal_full.false in
     stores_not_gathered shards books c.args.group c.args.number book shard there shard_there c.ask.new.shard c.in-Ok.t c.in-Ok-try_copy.terms c.in-Err-ask.fault c.refusal_of_shard.result free room c.in-Ok.ensures.moment (c.in-Ok-try_copy.ensures ∙ c.terms.ensures) c.ask.ensures.stored c.ask.ensures.numbers c.in-Err-ask.ensures.may_come c.in-Err-ask.ensures.grown
-    c.in-Err-ask.ensures.kept c.refusal_of_shard.ensures
+    c.ask.ensures.gives c.in-Err-ask.ensures.kept c.refusal_of_shard.ensures
 
 pub invariant_of-self-2 : goal.invariant_of-self-2
 invariant_of-self-2 g c =
