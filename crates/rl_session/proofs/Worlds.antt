@@ -1,22 +1,29 @@
 -- What the calls of an engine over a world make of the world.
 use Rattle.std.proofs.Common.{◌≡◌, ℕ, zero, suc, ◌+◌, ◌<◌, Bool, true, false, cond, List, [], ◌∷◌, ◌++◌, map, length, take, Option, None, Some, Ok, Err, refl, sym, ap, subst, ◌∙◌, arith}
 use Rattle.std.specs.Prelude.{Result, slice_get, option_map}
-use Rattle.std.proofs.lemmas.List.{length-map, take_all}
+use Rattle.std.proofs.lemmas.List.{take_all}
 use Rattle.std.proofs.lemmas.Option.{slice_get-map}
+use Rattle.std.proofs.lemmas.Slice.Zip.{AllZip-long}
+use Rattle.std.specs.List.{AllZip}
 use Rattle.rl_labels.specs.Name.{is_text}
 use Rattle.rl_rules.specs.declared.rule.Group.{Group}
 use Rattle.rl_shard.specs.declared.step.ShardReply.{ShardReply}
 use Rattle.rl_shard.specs.declared.step.ShardStep.{ShardStep}
-use Rattle.rl_sinks.specs.SinkState.{closed}
-use Rattle.rl_world.specs.WorldState.{BookState, WorldBooks, with_sinks_closed}
+use Rattle.rl_world.specs.Closed.{IsBookClosed, IsClosed}
+use Rattle.rl_world.specs.WorldState.{BookState, WorldBooks}
 use Rattle.rl_world.specs.declared.fault.Refusal.{Refusal}
 use Rattle.rl_session.specs.Engine.{Listed, number_named}
 use Rattle.rl_session.specs.WorldEngine.{IsAskedFor, AreDecided, IsGathered, AreGathered, first_refused, name_at, listed, or_else, refusing}
 
 -- books whose sinks were closed are listed as before
-pub closed_listed : (books : List BookState) → map listed (map with_sinks_closed books) ≡ map listed books
-closed_listed [] = refl
-closed_listed (book ∷ books) = λ i. record { name = book.history.group.name; sinks = length-map book.sinks closed i } ∷ closed_listed books i
+pub closed_listed : (olds news : List BookState) → AllZip IsBookClosed olds news → map listed news ≡ map listed olds
+closed_listed [] [] closes = refl
+closed_listed (old ∷ olds) (new ∷ news) closes =
+    let same : listed new ≡ record { name = old.history.group.name; sinks = length new.sinks } = ap (λ (book : BookState). record { name = book.history.group.name; sinks = length new.sinks }) closes.0.0 in
+    let many : length new.sinks ≡ length old.sinks = AllZip-long IsClosed old.sinks new.sinks closes.0.1 in
+    λ i. (same ∙ ap (λ n. record { name = old.history.group.name; sinks = n }) many) i ∷ closed_listed olds news closes.1 i
+closed_listed [] (new ∷ news) closes = absurd closes
+closed_listed (old ∷ olds) [] closes = absurd closes
 
 -- worlds that are listed alike have the same names
 pub names_alike : (old new : WorldBooks) (group : ℕ) → map listed new.books ≡ map listed old.books → name_at new group ≡ name_at old group

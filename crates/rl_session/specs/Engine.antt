@@ -1,5 +1,5 @@
 -- What a session asks of an engine, and what is known of the answers.
-use Rattle.std.specs.Prelude.{◌≡◌, ℕ, suc, ⊤, Bool, List, [], ◌∷◌, ◌++◌, Option, None, Some, is_some, option_map, Result, Ok, Err, codes, if◌then◌else◌}
+use Rattle.std.specs.Prelude.{◌≡◌, ℕ, suc, ⊤, Bool, List, [], ◌∷◌, ◌++◌, Option, None, Some, is_some, option_map, Result, IfOk, OnOk, codes, if◌then◌else◌}
 use Rattle.std.specs.List.{concat}
 use Rattle.std.specs.Fmt.{decimal}
 use Rattle.std.specs.Io.KnownBytes.{Appends}
@@ -69,7 +69,10 @@ abbrev pub kept_text : Option Shown → List ℕ
 kept_text None = []
 kept_text (Some sink) = codes "count " ++ decimal sink.count ++ codes "\n" ++ concat sink.kept
 
--- whether a sink is there, and what it has follows what stood there
+-- where no error came, this is the answer, and the text follows what stood there
+abbrev pub IsAnswered : {A : Type 0} → A → List ℕ → Option (List ℕ) → Result A Error → Option (List ℕ) → Type 0
+IsAnswered answer text before result after = IfOk result (λ given. given ≡ answer) × OnOk result (Appends before after text)
+
+-- the answer is whether a sink is there, and the text what it has
 abbrev pub ShowsIn : {E : Type 0} → Calls E → E → ℕ → ℕ → Option (List ℕ) → Result Bool Error → Option (List ℕ) → Type 0
-ShowsIn calls engine group sink old (Ok there) new = (shown : Option Shown) × calls.shows engine group sink shown × (there ≡ is_some shown) × Appends old new (kept_text shown)
-ShowsIn calls engine group sink old (Err error) new = Unit {0}
+ShowsIn calls engine group sink old result new = (shown : Option Shown) × calls.shows engine group sink shown × IsAnswered (is_some shown) (kept_text shown) old result new

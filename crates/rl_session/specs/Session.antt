@@ -7,7 +7,7 @@ use Rattle.rl_shard.specs.declared.step.ShardStep.TheVariants as shard_steps
 use Rattle.rl_world.specs.declared.fault.Refusal.{Refusal}
 use Rattle.rl_session.specs.Asking.{IsForPush, IsForAll, IsForDelete, IsForEdit, IsForTick, IsForCatchUp, IsForEvaluation, IsForShow}
 use Rattle.rl_session.specs.Command.{Asked, pushes, cuts, flushes, deletes, cancels, processes, retains, edits, evaluates, ticks, pumps, shows, ends, command_of, is_blank_byte}
-use Rattle.rl_session.specs.Engine.{Calls, Shown, number_named}
+use Rattle.rl_session.specs.Engine.{Calls, IsAnswered, Shown, number_named}
 use Rattle.rl_session.specs.Front.{lines_of}
 use Rattle.rl_session.specs.Printed.{shown_text, shown_answer, printed, answer_to, closed_text}
 use Rattle.rl_session.specs.PushBody.{entries_of}
@@ -73,27 +73,29 @@ module _ {E : Type 0} (calls : Calls E) where
   AreLinesExecuted old [] text refused new = (text ≡ []) × (refused ≡ false) × (new ≡ old)
   AreLinesExecuted old (line ∷ lines) text refused new = (first : List ℕ) × (here : Answer) × (mid : E) × IsLineExecuted old (list_all is_blank_byte line) line first here mid × IsRestExecuted mid here first (AreLinesExecuted mid lines) text refused new
 
-  -- where no error came, the text follows what stood there: of a command
+  -- a command is executed; what is said of its text and its answer holds where no error came
   abbrev pub Executes : E → Option Asked → Option (List ℕ) → Result Answer Error → Option (List ℕ) → E → Type 0
-  Executes old asked before (Ok answer) after new = (text : List ℕ) × IsExecuted old asked text answer new × Appends before after text
-  Executes old asked before (Err error) after new = Unit {0}
+  Executes old asked before result after new = (text : List ℕ) × (answer : Answer) × IsExecuted old asked text answer new × IsAnswered answer text before result after
 
-  -- of a sink that is shown
+  -- a sink is shown
   abbrev pub ShowsTo : E → Option ℕ → ℕ → Option (List ℕ) → Result Answer Error → Option (List ℕ) → Type 0
-  ShowsTo engine group sink before (Ok answer) after = (shown : Option Shown) × IsForShow calls engine group sink shown × (answer ≡ shown_answer shown) × Appends before after (shown_text shown)
-  ShowsTo engine group sink before (Err error) after = Unit {0}
+  ShowsTo engine group sink before result after = (shown : Option Shown) × IsForShow calls engine group sink shown × IsAnswered (shown_answer shown) (shown_text shown) before result after
 
-  -- of a line
+  -- a line is executed
   abbrev pub ExecutesLine : E → List ℕ → Option (List ℕ) → Result Answer Error → Option (List ℕ) → E → Type 0
-  ExecutesLine old line before (Ok answer) after new = (text : List ℕ) × IsLineExecuted old (list_all is_blank_byte line) line text answer new × Appends before after text
-  ExecutesLine old line before (Err error) after new = Unit {0}
+  ExecutesLine old line before result after new = (text : List ℕ) × (answer : Answer) × IsLineExecuted old (list_all is_blank_byte line) line text answer new × IsAnswered answer text before result after
 
-  -- of lines
+  -- the first so many lines of a text are executed, and no other
+  abbrev pub FirstAreExecuted : E → List ℕ → E → Type 0
+  FirstAreExecuted old commands new = (done : List (List ℕ)) × (left : List (List ℕ)) × (lines_of commands ≡ done ++ left) × (text : List ℕ) × (refused : Bool) × AreLinesExecuted old done text refused new
+
+  -- all lines are executed; or a write failed, and the first so many are
   abbrev pub ExecutesText : E → List ℕ → Option (List ℕ) → Result Bool Error → Option (List ℕ) → E → Type 0
   ExecutesText old commands before (Ok refused) after new = (text : List ℕ) × AreLinesExecuted old (lines_of commands) text refused new × Appends before after text
-  ExecutesText old commands before (Err error) after new = Unit {0}
+  ExecutesText old commands before (Err error) after new = FirstAreExecuted old commands new
 
-  -- a session: its lines are answered, then the engine is closed, and that is printed; or a write failed, and it is still closed
+  -- a session: its lines are executed, then the engine is closed, and that is printed; or a write failed, and the engine is closed
+  -- after the first so many lines
   abbrev pub ExecutesSession : E → List ℕ → Option (List ℕ) → Result Status RunError → Option (List ℕ) → E → Type 0
   ExecutesSession old commands before (Ok status) after new = (text : List ℕ) × (refused : Bool) × (mid : E) × (closed : Result ℕ Refusal) × AreLinesExecuted old (lines_of commands) text refused mid × calls.closes mid closed new × (status ≡ ended_by closed refused) × Appends before after (text ++ closed_text closed)
-  ExecutesSession old commands before (Err error) after new = (error ≡ WriteFault) × (mid : E) × (closed : Result ℕ Refusal) × calls.closes mid closed new
+  ExecutesSession old commands before (Err error) after new = (error ≡ WriteFault) × (mid : E) × (closed : Result ℕ Refusal) × FirstAreExecuted old commands mid × calls.closes mid closed new

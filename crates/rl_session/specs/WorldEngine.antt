@@ -1,5 +1,6 @@
 -- A world as an engine: which steps each call makes, one after another, and with which replies.
-use Rattle.std.specs.Prelude.{◌≡◌, ◌⊎◌, ◌<◌, ℕ, zero, suc, ⊤, Bool, false, List, [], ◌∷◌, map, length, is_some, if◌then◌else◌, Option, None, Some, option_map, option_and_then, Result, Ok, Err, IfOk, slice_get}
+use Rattle.std.specs.Prelude.{◌≡◌, ◌⊎◌, ◌<◌, ◌-◌, ◌^◌, ℕ, zero, suc, min, ⊤, Bool, false, List, [], ◌∷◌, map, length, is_some, if◌then◌else◌, Option, None, Some, option_map, option_and_then, Result, Ok, Err, IfOk, slice_get}
+use Rattle.std.specs.List.{AllByRecursion, AllZip}
 use Rattle.rl_labels.specs.Routing.{shard_of}
 use Rattle.rl_labels.specs.declared.entry.Entry.{Entry}
 use Rattle.rl_rules.specs.declared.rule.Group.{Group}
@@ -8,10 +9,10 @@ use Rattle.rl_shard.specs.declared.step.ShardStep.{ShardStep}
 use Rattle.rl_shard.specs.declared.step.ShardStep.TheVariants as shard_steps
 use Rattle.rl_sinks.specs.SinkState.{SinkState}
 use Rattle.rl_sinks.specs.declared.sink.SinkFault.{SinkFault}
-use Rattle.rl_world.specs.Closed.{BooksClosed}
+use Rattle.rl_world.specs.Closed.{HasAnswered, IsBookClosed, failures, sinks_of}
 use Rattle.rl_world.specs.History.{is_due}
 use Rattle.rl_world.specs.WorldRun.{Turned}
-use Rattle.rl_world.specs.WorldState.{BookState, WorldBooks, sink_at, with_sinks_closed}
+use Rattle.rl_world.specs.WorldState.{BookState, WorldBooks, sink_at}
 use Rattle.rl_world.specs.declared.fault.Refusal.{Refusal}
 use Rattle.rl_world.specs.declared.fault.Refusal.TheVariants.{Memory}
 use Rattle.rl_world.specs.declared.step.Committed.{Committed}
@@ -135,9 +136,9 @@ abbrev pub IsCaughtUp : WorldBooks → ℕ → Result (List ℕ) Refusal → Wor
 IsCaughtUp old group (Ok behind) new = Turned old (steps.CatchUp group) (replies.CaughtUp behind) new
 IsCaughtUp old group (Err refusal) new = Turned old (steps.CatchUp group) (replies.Refused refusal) new
 
--- each sink is closed, and how many answer that they could not write all
+-- each sink is closed, and how many could not write all, as a number of 64 bits or the greatest of them
 abbrev pub IsClosed : {S : Type 0} → (S → SinkState) → (S → Result ⊤ SinkFault → Type 0) → WorldBooks → Result ℕ Refusal → WorldBooks → Type 0
-IsClosed state Says old (Ok failures) new = (new ≡ record { shards = old.shards; books = map with_sinks_closed old.books }) × BooksClosed state Says new.books failures
+IsClosed state Says old (Ok count) new = (new.shards ≡ old.shards) × AllZip IsBookClosed old.books new.books × (count ≡ min (failures (sinks_of new.books)) (2 ^ 64 - 1)) × AllByRecursion (HasAnswered state Says) (sinks_of new.books)
 IsClosed state Says old (Err refusal) new = ⊥
 
 abbrev pub world_calls : {S : Type 0} → (S → SinkState) → (S → Result ⊤ SinkFault → Type 0) → Calls WorldBooks

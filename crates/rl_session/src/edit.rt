@@ -1,6 +1,8 @@
 //! The document of an edit: one group.
 ghost use Rattle.std.specs.Prelude.{◌≡◌};
+ghost use Rattle.std.specs.Option.{ok_or};
 ghost use Rattle.rl_session.specs.Edits.{only, GivesOneGroup};
+ghost use Rattle.rl_session.specs.declared.edit.EditRefusal.TheVariants.{NotOneGroup};
 
 use rl_rules::{Group, RulesError, read_rules};
 use rl_world::Refusal;
@@ -24,12 +26,16 @@ pub(crate) fn read_group(alloc: Global, document: &str) -> Result<Group, EditRef
     ensures { GivesOneGroup document.now result }
 {
     match read_rules(alloc, document) {
-        Ok(groups) => match only(groups) {
-            Some(group) => Ok(group),
-            None => Err(EditRefusal::NotOneGroup),
-        },
+        Ok(groups) => one_group(groups),
         Err(error) => Err(EditRefusal::Rules(error)),
     }
+}
+
+// The group, unless there is none or more than one.
+fn one_group(groups: Vec<Group>) -> Result<Group, EditRefusal>
+    ensures { result ≡ ok_or (only groups.items) NotOneGroup }
+{
+    only(groups).ok_or(EditRefusal::NotOneGroup)
 }
 
 // The group, if there is one and no other.

@@ -1,8 +1,9 @@
 //! What is printed of the results of commands.
-ghost use Rattle.std.specs.Prelude.{◌≡◌, flat_map, Some, OnOk, IfOk, is_err};
+ghost use Rattle.std.specs.Prelude.{◌≡◌, flat_map, Some, OnOk, is_err};
 ghost use Rattle.std.specs.List.{list_any};
 ghost use Rattle.std.specs.Option.{option_map};
 ghost use Rattle.std.specs.Io.KnownBytes.{Appends};
+ghost use Rattle.rl_session.specs.Engine.{IsAnswered};
 ghost use Rattle.rl_session.specs.Printed.{refusal_line, bad_push_line, counts_line, entry_line, entry_lines, is_refused, evaluated_text, ticked_text, pushed_text, none_pushed, asked_text, decided_text, partly_line, number_text, behind_line, caught_up_text, committed_text, printed, answer_of, answer_to, closed_text, not_closed_line};
 
 use crate::edit::EditRefusal;
@@ -97,8 +98,7 @@ pub(crate) fn write_result<W: Write>(
     command_result: &CommandResult,
     out: &mut W,
 ) -> io::Result<Answer>
-    ensures text { OnOk result (Appends (W.contents out.old) (W.contents out.new) (printed command_result.now)) }
-    ensures answer { IfOk result (λ answer. answer ≡ answer_to command_result.now) }
+    ensures { IsAnswered (answer_to command_result.now) (printed command_result.now) (W.contents out.old) result (W.contents out.new) }
 {
     print(command_result, out)?;
     Ok(answer_to(command_result))

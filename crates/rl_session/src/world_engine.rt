@@ -8,7 +8,7 @@ ghost use Rattle.rl_world.specs.ShardAnswers.{most_shards};
 ghost use Rattle.rl_world.specs.WorldRun.{Turned};
 ghost use Rattle.rl_world.specs.declared.step.Reply.TheVariants as replies;
 ghost use Rattle.rl_world.specs.declared.step.Step.TheVariants as steps;
-ghost use Rattle.rl_session.specs.Engine.{number_named, kept_text};
+ghost use Rattle.rl_session.specs.Engine.{IsAnswered, number_named, kept_text};
 ghost use Rattle.rl_session.specs.WorldEngine.{ReplyFits, IsAlike, IsAskedFor, IsAskedOfAll, or_else, refusing, IsBegun, IsGathered, AreGathered, IsCommitted, IsFinished, listed, shown_of, name_at, open_moment};
 
 use crate::engine::{Engine, Partly};
@@ -312,8 +312,7 @@ fn group_named<D: Store, S: Sink>(world: &World<D, S>, name: &str) -> Option<usi
 
 // Writes how many texts a sink has taken, and those that it keeps. Whether there is such a sink.
 fn write_sink<S: Sink, W: Write>(book: &Book<S>, sink: usize, out: &mut W) -> io::Result<bool>
-    ensures there { IfOk result (λ there. there ≡ is_some (slice_get book.now.sinks sink)) }
-    ensures text { OnOk result (Appends (W.contents out.old) (W.contents out.new) (kept_text (option_map shown_of (slice_get book.now.sinks sink)))) }
+    ensures { let shown = option_map shown_of (slice_get book.now.sinks sink) in IsAnswered (is_some shown) (kept_text shown) (W.contents out.old) result (W.contents out.new) }
 {
     let Some(count) = book.sink_count(sink) else {
         return Ok(false);

@@ -1,10 +1,22 @@
 -- A line more.
 use Rattle.std.proofs.Common.{◌∷◌, length, length-append, sym, ap, subst, ◌∙◌, arith}
 use Rattle.std.specs.Option.{option_copied}
+use Rattle.std.proofs.lemmas.Result.{err_from_is_err_and}
 use Rattle.rl_session.specs.Front.{IsFirstLine}
 use Rattle.rl_session.proofs.Cut.{IsUtf8-following}
-use Rattle.rl_session.proofs.LinesSoFar.{executed_line, executed_all, executed_end}
+use Rattle.rl_session.proofs.LinesSoFar.{none_executed, executed_line, executed_all, executed_end, executed_first}
 use Rattle.rl_session.proofs.session.answer_lines.Goals as goal
+
+pub loop-reader-init : goal.loop-reader-init
+loop-reader-init g c = record { text = c.utf8.commands; so_far = none_executed g.E.Engine.calls c.args.engine.now c.args.commands.now (g.W.Write.contents c.args.out.now) }
+
+pub returns-in_err-answer : goal.returns-in_err-answer
+returns-in_err-answer g c =
+    let contents = g.W.Write.contents in
+    let error = err_from_is_err_and c.from_residual.result c.from_residual.ensures.1 in
+    rw error.1 (executed_first g.E.Engine.calls c.args.engine.now c.args.commands.now c.loop-reader.rest.now c.first_line.result.0.now (option_copied c.first_line.result.1) c.loop-reader.refused c.in_err-answer.field-0.0
+    (contents c.args.out.now) (contents c.loop-reader.out) (contents c.answer_line.new.out) c.loop-reader.engine c.answer_line.new.engine
+    c.first_line.ensures c.in_err-answer.ensures c.loop-reader.invariant.so_far)
 
 pub returns-then-is_end : goal.returns-then-is_end
 returns-then-is_end g c =
@@ -19,7 +31,7 @@ returns-in-None g c =
     let first = subst (λ following. IsFirstLine c.loop-reader.rest.now c.first_line.result.0.now (option_copied following)) c.in-None.is c.first_line.ensures in
     rw c.is_refusal-refused.ensures (executed_all g.E.Engine.calls c.args.engine.now c.args.commands.now c.loop-reader.rest.now c.first_line.result.0.now c.loop-reader.refused c.in_ok-answer.answer
     (contents c.args.out.now) (contents c.loop-reader.out) (contents c.answer_line.new.out) c.loop-reader.engine c.answer_line.new.engine
-    (sym c.is_end.ensures ∙ c.if-is_end.false) first c.in_ok-answer.ensures c.loop-reader.invariant.so_far)
+    first c.in_ok-answer.ensures c.loop-reader.invariant.so_far)
 
 pub loop-reader-preserved : goal.loop-reader-preserved
 loop-reader-preserved g c =

@@ -10,4 +10,4 @@ pub returns-in-None : goal.returns-in-None
 returns-in-None g c =
     let none = ap (λ book. option_map shown_of (option_and_then (λ (b : BookState). slice_get b.sinks c.args.sink) book)) c.in-None.ensures in
     let same = ap (λ (world : WorldBooks). option_map shown_of (sink_at world.books c.args.group c.args.sink)) c.self.view_is in
-    (None, none ∙ same, refl, Appends-nil (g.W.Write.contents c.args.out.now))
+    (None, none ∙ same, (refl, Appends-nil (g.W.Write.contents c.args.out.now)))
