@@ -1,14 +1,10 @@
 //! Command lines of a session, and why one is no command.
 
-use crate::findings::{Findings, OutOfMemory};
-use crate::location::Location;
-use crate::near::is_near;
-use crate::no_toml::Standing;
-use crate::queries::push_query_fault;
-use crate::report::push_refusal;
-use crate::values::push_name;
 use crate::waiting::Evaluations;
 use rl_query::QueryError;
+use rl_rule_reports::{
+    Findings, Location, OutOfMemory, Standing, is_near, push_name, push_query_fault, push_refusal,
+};
 use rl_rules::{Group, RulesError, read_rules};
 use rl_selector_text::parse_delete;
 use rl_session::names::push_error_name;

@@ -1,49 +1,20 @@
 //! The rule checker: reports what a ruler would do with rule files, or with the input of a session.
 //!
-//! - `options`: the command line. `report`: what is reported of a rule file. `print`: the groups that `--print` asks for.
-//! - `faults`: each fault of a document, table by table. `keys`: what its tables have. `values`: what stands at a key.
-//!   `names`: names and labels. `queries`: the query of a rule. `no_toml`: a text that is no document.
+//! What is reported of a rule file is decided by `rl_rule_reports`.
+//!
+//! - `options`: the command line.
 //! - `session`: what is reported of the input of a session. `commands`: its command lines. `waiting`: evaluations that no
-//!   pump follows. `near`: words that are nearly equal.
-//! - `hint` and `advice`: what a ruler has near a query that it refuses. `stop`: the tokens around the fault. `opened`: what is
-//!   not closed. `amounts`: numbers and signs. `pattern`: a regular expression that is none.
-//! - `lint`: what is taken and looks like a mistake. `meaning`: rules that give something else than they seem to. `doubt`: lines
-//!   that would fail a rule. `fraction`: tests that no fraction of JSON passes. `grouping`: labels that samples have.
-//! - `location`: where a fault is. `layout`: the lines of a document. `findings`: what is reported so far.
+//!   pump follows.
 #![tactic(auto)]
 
-mod advice;
-mod amounts;
 mod commands;
-mod doubt;
-mod faults;
-mod findings;
-mod fraction;
-mod grouping;
-mod hint;
-mod keys;
-mod layout;
-mod lint;
-mod location;
-mod meaning;
-mod names;
-mod near;
-mod no_toml;
-mod opened;
 mod options;
-mod pattern;
-mod print;
-mod queries;
-mod report;
 mod session;
-mod stop;
-mod values;
 mod waiting;
 
-use findings::{Manner, OutOfMemory, Report};
 use options::{HELP, Input, Options, STANDARD_INPUT, Stop, read_options};
-use report::report_of;
 use rl_plain::PlainText;
+use rl_rule_reports::{Manner, OutOfMemory, Report, report_of};
 use session::session_report;
 use std::io::ErrorKind;
 use std::process::ExitCode;
@@ -115,25 +86,35 @@ fn run(rt: &HostRuntime, options: Options) -> io::Result<bool> {
 fn print_files(rt: &HostRuntime, paths: &[PlainText], manner: Manner<'_>) -> io::Result<bool> {
     let mut is_taken = true;
     for path in paths {
+        let name = shown(path.as_str());
         let manner = Manner {
             prints: manner.prints,
             is_strict: manner.is_strict,
-            name: Some(path.as_str()),
+            name: Some(name),
             is_one_of_several: paths.len() > 1,
         };
-        if !print_file(rt, path.as_str(), manner)? {
+        if !print_file(rt, path.as_str(), name, manner)? {
             is_taken = false;
         }
     }
     Ok(is_taken)
 }
 
-fn print_file(rt: &HostRuntime, path: &str, manner: Manner<'_>) -> io::Result<bool> {
+// A file as lines name it.
+fn shown(path: &str) -> &str {
     if path == STANDARD_INPUT {
-        return print_standard(rt, "standard input", manner);
+        "standard input"
+    } else {
+        path
+    }
+}
+
+fn print_file(rt: &HostRuntime, path: &str, name: &str, manner: Manner<'_>) -> io::Result<bool> {
+    if path == STANDARD_INPUT {
+        return print_standard(rt, name, manner);
     }
     let read = fs::read_to_string(rt, path);
-    print_rules(rt, path, read, manner)
+    print_rules(rt, name, read, manner)
 }
 
 fn print_standard(rt: &HostRuntime, name: &str, manner: Manner<'_>) -> io::Result<bool> {

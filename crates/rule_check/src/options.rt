@@ -10,17 +10,20 @@ use std::env;
 use std::io::ErrorKind;
 
 /// What is printed for a request for help, line by line.
-pub(crate) const HELP: [&str; 11] = [
-    "rule_check [--print] [FILE]",
-    "rule_check [--print] --session FILE",
+pub(crate) const HELP: [&str; 14] = [
+    "rule_check [--print] [--strict] [FILE ..]",
+    "rule_check [--print] [--strict] [--cap N] [--pump] --session FILE",
     "",
-    "Tells what a ruler would do with a rule file. Without a FILE it is read from standard input.",
+    "Reports what a ruler would do with rule files. Without a FILE one is read from standard input, and so is a FILE -.",
     "  --print         prints the groups and the rules as a ruler reads them",
+    "  --strict        makes the status 1 also where something looks like a mistake",
     "  --session FILE  checks an input of rule_shell: rules, a line %%, commands",
+    "  --cap N         how many evaluations may wait in a sink of the session, 1 to 1048576; without it 1024",
+    "  --pump          takes the session as one of a ruler with --pump, where no evaluation waits",
     "  --help          prints this",
-    "A file that is taken is told by how much it has, behind a line `lint:` for each thing that looks like a mistake.",
-    "Of a file that is not taken each fault is told with its place and, where something near is lawful, with that.",
-    "The status is 0 where the file is taken, 1 where it is not or cannot be read or where memory runs out,",
+    "A file that is taken is answered by how much it has, after a line `lint:` for each thing that looks like a mistake.",
+    "Of a file that is not taken each fault is reported with its position and, where something near is lawful, with that.",
+    "The status is 0 where each file is taken, 1 where one is not or cannot be read or where memory runs out,",
     "and 2 where the command line is bad.",
 ];
 

@@ -1,9 +1,9 @@
 //! What is reported of the input of a session: rules, a line `%%`, and commands.
 
 use crate::commands::{Known, push_command};
-use crate::findings::{Findings, Manner, OutOfMemory, Report};
-use crate::location::Location;
-use crate::report::{ending, push_counts, push_rules};
+use rl_rule_reports::{
+    Findings, Location, Manner, OutOfMemory, Report, ending, push_counts, push_rules,
+};
 use rl_session::front::{MAX_INPUT_LEN, split_front};
 use rl_session::{FrontFault, is_blank};
 use std::alloc::Global;
@@ -17,11 +17,11 @@ pub(crate) fn session_report(
     cap: Option<u64>,
 ) -> Result<Report, OutOfMemory> {
     let mut findings = Findings::new(alloc, true);
-    match text_of(bytes) {
+    let is_taken = match text_of(bytes) {
         Ok(text) => push_text(&mut findings, text.as_str(), manner.prints, cap)?,
         Err(fault) => push_front_fault(&mut findings, fault)?,
-    }
-    Ok(findings.into_report(manner.is_strict))
+    };
+    Ok(findings.into_report(is_taken, manner.is_strict))
 }
 
 // The text that the bytes are.
@@ -35,18 +35,20 @@ fn text_of(bytes: Vec<u8>) -> Result<String, FrontFault> {
     }
 }
 
-fn push_front_fault(findings: &mut Findings, fault: FrontFault) -> Result<(), OutOfMemory> {
+// The fault of an input that has no two parts, which is not taken.
+fn push_front_fault(findings: &mut Findings, fault: FrontFault) -> Result<bool, OutOfMemory> {
     findings.begin(&Location::whole(None))?;
     writeln!(findings.text, "{fault}")?;
-    Ok(())
+    Ok(false)
 }
 
+// What is reported of the two parts of an input, and whether it is taken.
 fn push_text(
     findings: &mut Findings,
     text: &str,
     prints: bool,
     cap: Option<u64>,
-) -> Result<(), OutOfMemory> {
+) -> Result<bool, OutOfMemory> {
     let Some((document, commands)) = split_front(text) else {
         return push_front_fault(findings, FrontFault::NoMark);
     };
@@ -55,13 +57,14 @@ fn push_text(
     let first = feeds.saturating_add(2);
     let mut known = Known::new(*findings.text.allocator(), groups.as_deref(), cap)?;
     let count = push_commands(findings, &mut known, first, commands)?;
-    if let Some(groups) = &groups {
-        if findings.count == 0 {
+    match &groups {
+        Some(groups) if findings.count == 0 => {
             push_counts(&mut findings.text, groups)?;
             writeln!(findings.text, ", {count} command{}", ending(count))?;
+            Ok(true)
         }
+        _ => Ok(false),
     }
-    Ok(())
 }
 
 // The faults of the commands, and how many lines are not blank, up to `end`.

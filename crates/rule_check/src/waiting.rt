@@ -1,8 +1,7 @@
 //! Evaluations of a session that wait in the sinks of their groups, because no pump follows them.
 
-use crate::findings::{Findings, OutOfMemory};
-use crate::location::{Location, push_location};
 use rl_labels::{Ns, SECOND};
+use rl_rule_reports::{Findings, Location, OutOfMemory, push_location};
 use rl_rules::Group;
 use std::alloc::Global;
 use std::fmt::Write;

@@ -1,4 +1,5 @@
 //! What is reported: a text, and how many faults it has.
+ghost use Rattle.std.specs.Prelude.{◌≡◌, ◌==◌, ◌&&◌, ◌||◌, not};
 
 use crate::location::{Location, push_location, push_place};
 use std::alloc::{AllocError, AllocFailed, Global};
@@ -6,14 +7,14 @@ use std::fmt;
 
 /// What is reported, and whether a ruler takes the file.
 #[derive(Drop)]
-pub(crate) struct Report {
-    pub(crate) text: String,
-    pub(crate) is_taken: bool,
+pub struct Report {
+    pub text: String,
+    pub is_taken: bool,
 }
 
 /// Why nothing can be reported: memory ran out.
 #[derive(Debug, Drop)]
-pub(crate) struct OutOfMemory;
+pub struct OutOfMemory;
 
 impl From<AllocError> for OutOfMemory {
     fn from(_error: AllocError) -> Self {
@@ -35,12 +36,12 @@ impl From<fmt::Error> for OutOfMemory {
 
 /// How a report is made.
 #[derive(Clone, Copy)]
-pub(crate) struct Manner<'a> {
-    pub(crate) prints: bool,
-    pub(crate) is_strict: bool,
-    // The name of the file, if its lines go by it.
-    pub(crate) name: Option<&'a str>,
-    pub(crate) is_one_of_several: bool,
+pub struct Manner<'a> {
+    pub prints: bool,
+    pub is_strict: bool,
+    /// The name of the file as lines have it, if they go by it.
+    pub name: Option<&'a str>,
+    pub is_one_of_several: bool,
 }
 
 impl Manner<'_> {
@@ -52,16 +53,16 @@ impl Manner<'_> {
 
 /// The faults that are reported so far, how many there are, and how many lints.
 #[derive(Drop)]
-pub(crate) struct Findings {
-    pub(crate) text: String,
-    pub(crate) count: usize,
+pub struct Findings {
+    pub text: String,
+    pub count: usize,
     pub(crate) lints: usize,
     pub(crate) is_full: bool,
 }
 
 impl Findings {
     /// None.
-    pub(crate) fn new(alloc: Global, is_full: bool) -> Self {
+    pub fn new(alloc: Global, is_full: bool) -> Self {
         Findings {
             text: String::new(alloc),
             count: 0,
@@ -71,31 +72,33 @@ impl Findings {
     }
 
     /// Begins one more, with its position. The caller writes the rest of its line.
-    pub(crate) fn begin(&mut self, location: &Location<'_>) -> Result<(), OutOfMemory> {
+    pub fn begin(&mut self, location: &Location<'_>) -> Result<(), OutOfMemory> {
         self.count = self.count.saturating_add(1);
         push_place(&mut self.text, location)?;
         push_location(&mut self.text, location)
     }
 
     /// Begins the line of a lint, with its position.
-    pub(crate) fn begin_lint(&mut self, location: &Location<'_>) -> Result<(), OutOfMemory> {
+    pub fn begin_lint(&mut self, location: &Location<'_>) -> Result<(), OutOfMemory> {
         self.lints = self.lints.saturating_add(1);
         push_place(&mut self.text, location)?;
         self.text.push_str("lint: ")?;
         Ok(())
     }
 
-    /// The report. Under `is_strict` no file with a lint is taken.
-    pub(crate) fn into_report(self, is_strict: bool) -> Report {
+    /// The report of what a ruler takes, or does not take. Under `is_strict` nothing with a lint is taken.
+    pub fn into_report(self, is_taken: bool, is_strict: bool) -> Report
+        ensures { result.is_taken ≡ (is_taken && (self.lints == 0 || not is_strict)) }
+    {
         let Findings {
             text,
-            count,
+            count: _,
             lints,
             is_full: _,
         } = self;
         Report {
             text,
-            is_taken: count == 0 && (lints == 0 || !is_strict),
+            is_taken: is_taken && (lints == 0 || !is_strict),
         }
     }
 }

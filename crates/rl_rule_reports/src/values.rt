@@ -236,7 +236,7 @@ fn kind_of(value: &Value) -> &'static str {
 }
 
 /// Writes a key as a document has it: alone where TOML lets it, else in quotes.
-pub(crate) fn push_name(text: &mut String, name: &str) -> Result<(), OutOfMemory> {
+pub fn push_name(text: &mut String, name: &str) -> Result<(), OutOfMemory> {
     let is_bare = name.bytes().all(|byte| {
         byte.is_ascii_alphanumeric() || byte == b'_' || byte == b'-'
     });

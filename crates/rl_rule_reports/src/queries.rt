@@ -26,7 +26,7 @@ pub(crate) fn push_query(
 }
 
 /// The fault of a text that is no query, after its position.
-pub(crate) fn push_query_fault(
+pub fn push_query_fault(
     findings: &mut Findings,
     query: &str,
     fault: QueryFault,

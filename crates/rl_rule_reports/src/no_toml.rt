@@ -9,9 +9,9 @@ use toml::de::Error;
 
 /// Where a document stands: the number of its first line, and what stands before it on that line.
 #[derive(Clone, Copy)]
-pub(crate) struct Standing<'a> {
-    pub(crate) first_line: usize,
-    pub(crate) lead: &'a str,
+pub struct Standing<'a> {
+    pub first_line: usize,
+    pub lead: &'a str,
 }
 
 /// A file of its own.

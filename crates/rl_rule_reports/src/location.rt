@@ -6,7 +6,7 @@ use std::fmt::Write;
 
 /// The file or the line of a session, the group, the rule and the key that a fault is in, as far as it is in one.
 #[derive(Clone, Copy)]
-pub(crate) struct Location<'a> {
+pub struct Location<'a> {
     file: Option<Place<'a>>,
     line: Option<usize>,
     group: Option<Spot<'a>>,
@@ -30,7 +30,7 @@ pub(crate) struct Spot<'a> {
 
 impl<'a> Location<'a> {
     /// A document as a whole, on a line of a session or in a file of its own.
-    pub(crate) fn whole(line: Option<usize>) -> Self {
+    pub fn whole(line: Option<usize>) -> Self {
         Location {
             file: None,
             line,
@@ -112,7 +112,7 @@ pub(crate) fn push_place(text: &mut String, location: &Location<'_>) -> Result<(
 }
 
 /// Writes the position as `line 7: group shop, rule Errors: `, as much as there is of it.
-pub(crate) fn push_location(text: &mut String, location: &Location<'_>) -> Result<(), OutOfMemory> {
+pub fn push_location(text: &mut String, location: &Location<'_>) -> Result<(), OutOfMemory> {
     if let Some(line) = location.line {
         write!(text, "line {line}: ")?;
     }

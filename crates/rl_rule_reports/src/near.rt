@@ -4,7 +4,7 @@
 const SHORTEST: usize = 3;
 
 /// Whether the words differ by case alone, or by one letter: another, one more or less, or two that are swapped.
-pub(crate) fn is_near(one: &str, other: &str) -> bool {
+pub fn is_near(one: &str, other: &str) -> bool {
     one.eq_ignore_ascii_case(other) || is_one_apart(one.as_bytes(), other.as_bytes())
 }
 
