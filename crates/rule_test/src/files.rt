@@ -1,6 +1,7 @@
 //! The files of a run: the test file, and the rule files that it names.
 use crate::Stop;
 use rl_plain::PlainText;
+use rl_rule_reports::{Manner, OutOfMemory, report_of};
 use rl_rule_tests::Test;
 use rl_rules::{Group, RulesError, read_rules};
 use std::alloc::Global;
@@ -45,11 +46,22 @@ pub(crate) fn read_groups(
     let text = text_of(alloc, name, fs::read_to_string(rt, path.as_str()))?;
     match read_rules(alloc, text.as_str()) {
         Ok(groups) => Ok(groups),
-        Err(RulesError::Fault(fault)) => Err(Stop::Fault {
-            location: format!(in alloc; "{name}")?,
-            what: format!(in alloc; "{fault}")?,
-        }),
+        Err(RulesError::Fault(_)) => Err(stop_of_rules(alloc, name, text.as_str())),
         Err(RulesError::Memory) => Err(Stop::Memory),
+    }
+}
+
+// Why the program stops at a rule file that has a fault: what the rule checker reports of a file of this name.
+fn stop_of_rules(alloc: Global, name: &str, text: &str) -> Stop {
+    let manner = Manner {
+        prints: false,
+        is_strict: false,
+        name: Some(name),
+        is_one_of_several: false,
+    };
+    match report_of(alloc, text, manner) {
+        Ok(report) => Stop::Rules(report.text),
+        Err(OutOfMemory) => Stop::Memory,
     }
 }
 

@@ -1,7 +1,7 @@
 //! The rule tester: plays test files of rules, and reports where rules give something else than is wanted.
 //!
 //! `options` reads the command line, and `files` the files. What a test file says, and whether rules give it, is decided by
-//! `rl_rule_tests`.
+//! `rl_rule_tests`, and what is reported of a rule file that has faults by `rl_rule_reports`.
 #![tactic(auto)]
 
 mod files;
@@ -11,6 +11,7 @@ use files::{read_edits, read_file, read_groups};
 use options::read_options;
 use rl_rule_tests::{Report, TestsError, play, read_document, read_table};
 use std::alloc::{AllocError, AllocFailed};
+use std::io;
 use std::process::ExitCode;
 
 /// Why the program stops before it has played all tests.
@@ -21,6 +22,8 @@ pub(crate) enum Stop {
     Help(String),
     /// What is wrong with a file, and where; nothing for the whole file.
     Fault { location: String, what: String },
+    /// The report of a rule file that has faults.
+    Rules(String),
     /// The file that cannot be read.
     Unread(String),
     Unwritten,
@@ -69,6 +72,7 @@ fn report_stop(rt: &HostRuntime, stop: Stop) -> ExitCode {
             2,
         ),
         Stop::Fault { location, what } => (eprintln!(rt; "rule_test: {location}: {what}"), 2),
+        Stop::Rules(text) => (report_rules(rt, text.as_str()), 2),
         Stop::Unread(file) => (eprintln!(rt; "rule_test: {file} cannot be read"), 3),
         Stop::Memory => (eprintln!(rt; "rule_test: out of memory"), 3),
         Stop::Unwritten => (Ok(()), 3),
@@ -77,6 +81,14 @@ fn report_stop(rt: &HostRuntime, stop: Stop) -> ExitCode {
         Ok(()) => ExitCode::from(status),
         Err(_) => ExitCode::from(3),
     }
+}
+
+// Reports the faults of a rule file, each line after the name of the program.
+fn report_rules(rt: &HostRuntime, text: &str) -> io::Result<()> {
+    for line in text.split_terminator('\n') {
+        eprintln!(rt; "rule_test: {line}")?;
+    }
+    Ok(())
 }
 
 // Plays the test file that is asked for. Whether nothing failed.

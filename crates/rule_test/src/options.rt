@@ -8,7 +8,7 @@ use std::env;
 use std::io::ErrorKind;
 
 const ABOUT: &str =
-    "Plays the tests of a test file to the rules that it names, and tells where a rule gives something else than is wanted.";
+    "Plays the tests of a test file to the rules that it names, and reports where these give something else than is wanted.";
 
 const FILE: &str = "The test file; standard input where there is none";
 
