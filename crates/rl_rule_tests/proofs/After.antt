@@ -1,12 +1,12 @@
 -- Items that are read of tables, one after another.
-use Rattle.std.proofs.Common.{◌≡◌, List, [], ◌∷◌, ◌++◌, true, Option, None, Some, is_some, ap, sym, subst, refl, ◌∙◌, append_assoc}
+use Rattle.std.proofs.Common.{◌≡◌, ◌&&◌, List, [], ◌∷◌, ◌++◌, true, Option, None, Some, is_some, ap, sym, subst, refl, ◌∙◌, append_assoc}
 use Rattle.std.specs.List.{AllZip}
 use Rattle.std.specs.Option.{option_map_or}
 use Rattle.std.proofs.lemmas.List.{append-nil}
 use Rattle.toml.specs.Data.{as_table, Members}
 use Rattle.toml.specs.View.{view, items_view}
 use Rattle.toml.specs.declared.value.Value.{Value}
-use Rattle.rl_rules.specs.Document.{tables_of}
+use Rattle.rl_rules.specs.Document.{are_tables, tables_of}
 use Rattle.rl_rule_tests.specs.Document.{AreAppended}
 
 -- the items so far, of which those of the tables that are left make those of all
@@ -38,3 +38,7 @@ tables_next vs next v table first is =
 pub some_table : (found : Option Members) → is_some found ≡ true → (table : Members) × found ≡ Some table
 some_table None is = cc
 some_table (Some table) is = (table, refl)
+
+-- the tables of values whose first is one are the same test as those that follow
+pub tables_tested : (vs next : List Value) (v : Value) → vs ≡ v ∷ next → is_some (as_table (view v)) ≡ true → are_tables (items_view vs) ≡ are_tables (items_view next)
+tables_tested vs next v first is = ap (λ values. are_tables (items_view values)) first ∙ ap (λ b. b && are_tables (items_view next)) is

@@ -2,10 +2,11 @@
 use Rattle.std.proofs.Common.{◌≡◌, ℕ, zero, suc, ◌+◌, ◌-◌, ◌*◌, ◌^◌, ◌<◌, min, Some, List, [], ◌∷◌, ◌++◌, ap, sym, arith}
 use Rattle.std.specs.List.{AllZip}
 use Rattle.toml.specs.Data.{Members}
+use Rattle.rl_rules.specs.Document.{tables_at}
 use Rattle.rl_rules.specs.declared.rule.RuleKind.{RuleKind}
 use Rattle.rl_rule_tests.specs.declared.lines.Repeat.{Repeat}
 use Rattle.rl_rule_tests.specs.declared.lines.Stream.{Stream}
-use Rattle.rl_rule_tests.specs.Document.{line_at, lines_at, lines_from, repeated_from, sum_up_to, IsExpansion, IsStream, IsUnexpanded}
+use Rattle.rl_rule_tests.specs.Document.{line_at, lines_at, lines_from, repeated_from, sum_up_to, AreItems, IsExpansion, IsStream, IsUnexpanded}
 
 lines_some : (repeat : Repeat) (index number left : ℕ) → 0 < left → lines_from repeat index number left ≡ line_at repeat index number ∷ lines_from repeat index (number + 1) (left - 1)
 lines_some repeat index number zero some = absurd (omega (arith, some))
@@ -29,7 +30,7 @@ repeated_next repeat index count below =
     let left : count - index - 1 ≡ count - (index + 1) = omega arith in
     rw (sym left) (repeated_some repeat index (count - index) (omega (arith, below)))
 
-pub all_expanded : (kind : RuleKind) (rule : List ℕ) (tables : List Members) (xs ys : List Stream) → AllZip (IsUnexpanded kind rule) tables xs → AllZip IsExpansion xs ys → AllZip (IsStream kind rule) tables ys
+all_expanded : (kind : RuleKind) (rule : List ℕ) (tables : List Members) (xs ys : List Stream) → AllZip (IsUnexpanded kind rule) tables xs → AllZip IsExpansion xs ys → AllZip (IsStream kind rule) tables ys
 all_expanded kind rule [] [] [] are more = tt
 all_expanded kind rule [] [] (y ∷ ys) are more = absurd more
 all_expanded kind rule [] (x ∷ xs) ys are more = absurd are
@@ -42,3 +43,7 @@ zip_more R [] [] x y all is = (is, tt)
 zip_more R [] (b ∷ ys) x y all is = absurd all
 zip_more R (a ∷ xs) [] x y all is = absurd all
 zip_more R (a ∷ xs) (b ∷ ys) x y all is = (all.0, zip_more R xs ys x y all.1 is)
+
+-- the same, where nothing but tables stands there
+pub items_expanded : (kind : RuleKind) (rule key : List ℕ) (table : Members) (xs ys : List Stream) → AreItems (IsUnexpanded kind rule) key table xs → AllZip IsExpansion xs ys → AreItems (IsStream kind rule) key table ys
+items_expanded kind rule key table xs ys are more = (are.0, all_expanded kind rule (tables_at key table) xs ys are.1 more)

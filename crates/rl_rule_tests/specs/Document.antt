@@ -1,18 +1,18 @@
 -- What a test file has: at the keys of its tables.
-use Rattle.std.specs.Prelude.{◌≡◌, ℕ, Bool, true, ◌&&◌, IsTrue, zero, suc, ◌+◌, ◌-◌, ◌*◌, ◌^◌, min, ◌/◌, ◌≤◌, ◌==◌, nat_le, ℤ, pos, negsuc, position, is_some, take, drop, List, [], ◌∷◌, ◌++◌, Option, None, Some, Ok, codes, if◌then◌else◌}
-use Rattle.std.specs.Option.{MatchOption, option_and_then, option_map, option_or}
+use Rattle.std.specs.Prelude.{◌≡◌, ℕ, Bool, true, false, ◌&&◌, IsTrue, zero, suc, ◌+◌, ◌-◌, ◌*◌, ◌^◌, min, ◌/◌, ◌≤◌, ◌==◌, nat_le, ℤ, pos, negsuc, position, is_some, take, drop, List, [], ◌∷◌, ◌++◌, Option, None, Some, Ok, codes, if◌then◌else◌}
+use Rattle.std.specs.Option.{MatchOption, option_and_then, option_map, option_map_or, option_or}
 use Rattle.std.specs.List.{flat_map, list_any, AllZip}
 use denote.Ref.{Bor}
-use Rattle.toml.specs.Data.{Data, string, integer, as_str, get_member, Members, no_members, member}
+use Rattle.toml.specs.Data.{Data, string, integer, as_array, as_str, as_table, get_member, Members, no_members, member}
 use Rattle.rl_labels.specs.Decimals.{DecimalForm, billionths, decimal_of, number_of}
 use Rattle.rl_aggregate.specs.declared.outcome.Fraction.{Fraction}
 use Rattle.rl_labels.specs.LabelSet.{LabelSet, Pair}
 use Rattle.rl_labels.specs.Name.{is_text}
 use Rattle.rl_labels.specs.Pairs.{labels_from}
 use Rattle.rl_labels.specs.Quantities.{duration_of, duration_value}
-use Rattle.rl_rules.specs.Document.{tables_at}
+use Rattle.rl_rules.specs.Document.{are_tables, tables_at}
 use Rattle.rl_rules.specs.Outcomes.{name_label}
-use Rattle.rl_rules.specs.Values.{name_key, texts_at}
+use Rattle.rl_rules.specs.Values.{are_texts, name_key, texts_at}
 use Rattle.rl_rules.specs.declared.alert.AlertState.{AlertState}
 use Rattle.rl_rules.specs.declared.alert.AlertState.TheVariants as states
 use Rattle.rl_rules.specs.declared.evaluation.Cause.{Cause}
@@ -48,6 +48,18 @@ abbrev pub IsTextIf : List ℕ → Members → Option (Bor (List ℕ)) → Type 
 IsTextIf key table None = get_member key table ≡ None
 IsTextIf key table (Some text) = text_at key table ≡ Some text.now
 
+-- what stands at a key, if something does, is an array of tables
+abbrev pub has_tables : List ℕ → Members → Bool
+has_tables key table = option_map_or (λ value. option_map_or are_tables (as_array value) false) (get_member key table) true
+
+-- the same of a table of texts
+abbrev pub has_texts : List ℕ → Members → Bool
+has_texts key table = option_map_or (λ value. option_map_or are_texts (as_table value) false) (get_member key table) true
+
+-- items that are what the tables at a key say, one by one, where nothing but tables stands there
+abbrev pub AreItems : {T : Type 0} → (Members → T → Type 0) → List ℕ → Members → List T → Type 0
+AreItems Is key table items = IsTrue (has_tables key table) × AllZip Is (tables_at key table) items
+
 -- the longest time, 30 days, in nanoseconds
 abbrev pub longest_time : ℕ
 longest_time = 2592000000000000
@@ -79,7 +91,7 @@ with_own (Some own) pairs = if list_any (λ pair. is_text pair.0 own.0) pairs th
 
 -- the label set of the texts at a key, with a label of its own where they leave that out
 abbrev pub AreLabels : List ℕ → Option Pair → Members → LabelSet → Type 0
-AreLabels key own table labels = labels_from (with_own own (texts_at key table)) ≡ Ok labels
+AreLabels key own table labels = IsTrue (has_texts key table) × (labels_from (with_own own (texts_at key table)) ≡ Ok labels)
 
 -- those at a key that may be missing
 abbrev pub AreLabelsIf : List ℕ → Members → Option LabelSet → Type 0
@@ -174,7 +186,7 @@ pub record IsCheck (kind : RuleKind) (rule : List ℕ) (table : Members) (check 
   pub group : IsTextIf (codes "group") table check.group
   pub at : time_at (codes "at") table ≡ Some check.at
   pub failed : IsCauseIf table check.failed
-  pub rows : AllZip (IsWanted kind check.name.now) (tables_at (codes "wanted") table) check.wanted.items
+  pub rows : AreItems (IsWanted kind check.name.now) (codes "wanted") table check.wanted.items
 
 -- TESTS
 
@@ -248,7 +260,7 @@ pub record IsUnexpanded (kind : RuleKind) (rule : List ℕ) (table : Members) (s
   pub known : IsTrue (has_only stream_keys table)
   pub labels : AreLabels (codes "labels") None table stream.labels
   pub late : IsTimeIf (codes "late") table stream.late
-  pub repeats : AllZip (IsRepeat kind rule) (tables_at (codes "repeat") table) stream.repeats.items
+  pub repeats : AreItems (IsRepeat kind rule) (codes "repeat") table stream.repeats.items
 
 -- the repeated lines follow the others
 pub record IsExpansion (old new : Stream) : Type 0 where
@@ -265,8 +277,8 @@ pub record AreChecks (rule : List ℕ) (table : Members) (checks : List Check) :
   pub alerts : List Check
   pub samples : List Check
   pub both : checks ≡ alerts ++ samples
-  pub of_alerts : AllZip (IsCheck kinds.Alerting rule) (tables_at (codes "alerts") table) alerts
-  pub of_samples : AllZip (IsCheck kinds.Recording rule) (tables_at (codes "samples") table) samples
+  pub of_alerts : AreItems (IsCheck kinds.Alerting rule) (codes "alerts") table alerts
+  pub of_samples : AreItems (IsCheck kinds.Recording rule) (codes "samples") table samples
 
 -- the keys of a test
 abbrev pub test_keys : List (List ℕ)
@@ -275,9 +287,9 @@ test_keys = codes "name" ∷ codes "streams" ∷ codes "evaluate" ∷ codes "edi
 pub record IsTest (kind : RuleKind) (rule : List ℕ) (table : Members) (test : Test) : Type 0 where
   pub known : IsTrue (has_only test_keys table)
   pub name : text_at (codes "name") table ≡ Some test.name.now
-  pub streams : AllZip (IsStream kind rule) (tables_at (codes "streams") table) test.streams.items
-  pub spans : AllZip (IsSpan kind rule) (tables_at (codes "evaluate") table) test.spans.items
-  pub edits : AllZip (IsEdit kind rule) (tables_at (codes "edits") table) test.edits.items
+  pub streams : AreItems (IsStream kind rule) (codes "streams") table test.streams.items
+  pub spans : AreItems (IsSpan kind rule) (codes "evaluate") table test.spans.items
+  pub edits : AreItems (IsEdit kind rule) (codes "edits") table test.edits.items
   pub checks : AreChecks rule table test.checks.items
 
 -- the keys of a test file
@@ -288,7 +300,7 @@ document_keys = codes "rules" ∷ codes "tests" ∷ []
 pub record IsDocument (table : Members) (document : Document) : Type 0 where
   pub known : IsTrue (has_only document_keys table)
   pub rules : text_at (codes "rules") table ≡ Some document.rules.now
-  pub tests : AllZip (IsTest kinds.Alerting []) (tables_at (codes "tests") table) document.tests.items
+  pub tests : AreItems (IsTest kinds.Alerting []) (codes "tests") table document.tests.items
 
 -- items that are what tables say, after others
 abbrev pub AreAppended : {T : Type 0} → (Members → T → Type 0) → List Members → List T → List T → Type 0

@@ -37,6 +37,7 @@ use Rattle.rl_rule_tests.specs.declared.lines.Stream.{Stream}
 use Rattle.rl_rule_tests.specs.Counting.{Counts, one_failed, one_failed_if, IsCounted}
 use Rattle.rl_rule_tests.specs.Happening.{event_cmp, happenings}
 use Rattle.rl_rule_tests.specs.Document.{sum_up_to}
+use Rattle.rl_rule_tests.specs.Numbering.{IsNumbered}
 
 -- states one after another, by what each item makes of them
 abbrev pub Chain : {S A : Type 0} → (S → A → S → Type 0) → S → List A → S → Type 0
@@ -77,9 +78,9 @@ start_of_tests = 946684800000000000
 abbrev pub moment_of : ℕ → ℕ → Option ℕ
 moment_of at before = if nat_le (sum_up_to start_of_tests at - before) greatest_moment then Some (sum_up_to start_of_tests at - before) else None
 
--- the text of a line; what stands for `{n}` is not specified
+-- the text of a line as it is written, and of a repeated one with its number
 abbrev pub IsTextOf : TestLine → List ℕ → Type 0
-IsTextOf line text = line.number ≡ None → text ≡ line.text.now
+IsTextOf line text = MatchOption line.number (text ≡ line.text.now) (λ number. IsNumbered number line.text.now text)
 
 -- nothing has been given yet at a later moment
 abbrev pub arrived : {E : Type 0} → ℕ → Stage E → Stage E

@@ -1,11 +1,9 @@
 //! What a test file has: tests with streams, evaluations, edits, and what is wanted of rules.
 ghost use Rattle.std.specs.Prelude.{◌≡◌, ◌⊎◌, None, Some, codes, IfErr, IfOk};
-ghost use Rattle.std.specs.List.{AllZip};
 ghost use Rattle.toml.specs.Parse.{parse_document};
 ghost use Rattle.toml.specs.View.{table_view};
 ghost use Rattle.rl_plain.specs.declared.refusal.OrMemory.TheVariants.{Memory};
-ghost use Rattle.rl_rules.specs.Document.{tables_at};
-ghost use Rattle.rl_rule_tests.specs.Document.{AreChecks, IsCheck, IsDocument, IsEdit, IsSpan, IsTest};
+ghost use Rattle.rl_rule_tests.specs.Document.{AreChecks, AreItems, IsCheck, IsDocument, IsEdit, IsSpan, IsTest};
 
 use crate::fault::{TestsError, fault};
 use crate::lines::Stream;
@@ -140,7 +138,7 @@ impl<'a> Item<'a> for Test<'a> {
 }
 
 fn read_spans<'a>(part: Part<'a>) -> Result<Vec<Span<'a>>, TestsError>
-    ensures { IfOk result (λ spans. AllZip (IsSpan part.entry.kind part.entry.rule.now) (tables_at (codes "evaluate") (table_view part.entry.table.now)) spans.items) }
+    ensures { IfOk result (λ spans. AreItems (IsSpan part.entry.kind part.entry.rule.now) (codes "evaluate") (table_view part.entry.table.now) spans.items) }
 {
     let spans = part.all("evaluate")?;
     limit_moments(part, &spans)?;

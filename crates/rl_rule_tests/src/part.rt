@@ -1,14 +1,15 @@
 //! A table of a test file, and what stands at its keys. What is missing or of another kind is a fault.
 ghost use Rattle.std.specs.Prelude.{◌≡◌, ◌++◌, ℕ, true, map, List, [], ◌∷◌, Some, is_ok, is_some, option_map, IfOk, IfSome, IsOk, IsTrue, OnOk};
-ghost use Rattle.std.specs.List.{list_any, AllZip};
-ghost use Rattle.toml.specs.Data.{as_table, get_member, Members};
+ghost use Rattle.std.specs.List.{list_any};
+ghost use Rattle.std.specs.Option.{option_map_or};
+ghost use Rattle.toml.specs.Data.{as_array, as_table, get_member, Members};
 ghost use Rattle.toml.specs.View.{items_view, table_view, view};
 ghost use Rattle.rl_labels.specs.EntryParts.{are_stream_labels};
 ghost use Rattle.rl_labels.specs.Name.{is_text};
 ghost use Rattle.rl_rules.specs.Document.{items_in, tables_at};
-ghost use Rattle.rl_rules.specs.Values.{texts_at, texts_of};
+ghost use Rattle.rl_rules.specs.Values.{are_texts, texts_at, texts_of};
 ghost use Rattle.rl_rules.specs.declared.rule.RuleKind.{RuleKind};
-ghost use Rattle.rl_rule_tests.specs.Document.{has_only, text_at, time_at, time_of, with_own, AreAppended, AreLabels, IsSteps, IsTextIf};
+ghost use Rattle.rl_rule_tests.specs.Document.{has_only, has_tables, has_texts, text_at, time_at, time_of, with_own, AreAppended, AreItems, AreLabels, IsSteps, IsTextIf};
 
 use crate::fault::{TestsError, fault, within};
 use rl_labels::{Duration, Labels, LabelsError};
@@ -138,7 +139,7 @@ impl<'a> Part<'a> {
 
     /// The items of the array at a key, none where there is none.
     pub(crate) fn all<T: Item<'a>>(self, array: &str) -> Result<Vec<T>, TestsError>
-        ensures { IfOk result (λ all. AllZip (T.is self.entry.kind self.entry.rule.now) (tables_at array.now (table_view self.entry.table.now)) all.items) }
+        ensures { IfOk result (λ all. AreItems (T.is self.entry.kind self.entry.rule.now) array.now (table_view self.entry.table.now) all.items) }
     {
         let mut all = Vec::new(self.alloc);
         self.push_all(array, &mut all)?;
@@ -151,7 +152,8 @@ impl<'a> Part<'a> {
         array: &str,
         all: &mut Vec<T>,
     ) -> Result<(), TestsError>
-        ensures { OnOk result (AreAppended (T.is self.entry.kind self.entry.rule.now) (tables_at array.now (table_view self.entry.table.now)) all.old.items all.new.items) }
+        ensures tables { OnOk result (IsTrue (has_tables array.now (table_view self.entry.table.now))) }
+        ensures items { OnOk result (AreAppended (T.is self.entry.kind self.entry.rule.now) (tables_at array.now (table_view self.entry.table.now)) all.old.items all.new.items) }
     {
         for (index, value) in self.items(array)?.iter().enumerate() {
             match self.item(value) {
@@ -163,7 +165,8 @@ impl<'a> Part<'a> {
     }
 
     fn items(self, array: &str) -> Result<&'a [Value], TestsError>
-        ensures { IfOk result (λ items. items_view items.now ≡ items_in (get_member array.now (table_view self.entry.table.now))) }
+        ensures items { IfOk result (λ items. items_view items.now ≡ items_in (get_member array.now (table_view self.entry.table.now))) }
+        ensures array { IsOk result → option_map_or (λ value. is_some (as_array value)) (get_member array.now (table_view self.entry.table.now)) true ≡ true }
     {
         match self.value_at(array) {
             None => Ok(&[]),
@@ -211,7 +214,8 @@ impl<'a> Part<'a> {
         key: &str,
         pairs: &mut Vec<(PlainText, PlainText)>,
     ) -> Result<(), TestsError>
-        ensures { OnOk result (pairs.new.items ≡ pairs.old.items ++ texts_at key.now (table_view self.entry.table.now)) }
+        ensures texts { OnOk result (IsTrue (has_texts key.now (table_view self.entry.table.now))) }
+        ensures pairs { OnOk result (pairs.new.items ≡ pairs.old.items ++ texts_at key.now (table_view self.entry.table.now)) }
     {
         let Some(value) = self.value_at(key) else {
             return Ok(());
@@ -228,7 +232,8 @@ impl<'a> Part<'a> {
         table: &Table,
         pairs: &mut Vec<(PlainText, PlainText)>,
     ) -> Result<(), TestsError>
-        ensures { OnOk result (pairs.new.items ≡ pairs.old.items ++ texts_of (table_view table.now)) }
+        ensures texts { OnOk result (are_texts (table_view table.now) ≡ true) }
+        ensures pairs { OnOk result (pairs.new.items ≡ pairs.old.items ++ texts_of (table_view table.now)) }
     {
         for (name, value) in table.iter() {
             match value.as_str() {

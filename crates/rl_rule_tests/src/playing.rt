@@ -4,6 +4,7 @@ ghost use Rattle.std.specs.List.{AllByRecursion};
 ghost use Rattle.rl_labels.specs.EntryParts.{are_stream_labels};
 ghost use Rattle.rl_world.specs.BookCalls.{IsFresh};
 ghost use Rattle.rl_rule_tests.specs.Counting.{counts_of, passes, IsCounted};
+ghost use Rattle.rl_rule_tests.specs.Numbering.{IsNumbered};
 ghost use Rattle.rl_rule_tests.specs.Playing.{is_given, line_at, moment_of, ruler_of, stage_of, AsksOfNobody, Chain, Checks, Evaluates, HandsLine, Happens, IsFreshRuler, IsHanded, IsHandedParts, IsOneStore, IsPlayed, IsPut, IsTextOf, PlaysAll, PutsGroup, PutsGroups};
 
 use crate::differences::{push_differences, push_side};
@@ -236,8 +237,16 @@ fn text_of(alloc: Global, line: TestLine<'_>) -> Result<PlainText, AllocError>
     let Some(number) = line.number else {
         return PlainText::from_str(alloc, line.text);
     };
+    numbered(alloc, line.text, number)
+}
+
+// The text with the number for each `{n}`.
+fn numbered(alloc: Global, text: &str, number: u64) -> Result<PlainText, AllocError>
+    ensures { IfOk result (IsNumbered number text.now) }
+{
+    let from = "{n}";
     let number = format!(in alloc; "{number}")?;
-    let text = line.text.replace(alloc, "{n}", number.as_str())?;
+    let text = text.replace(alloc, from, number.as_str())?;
     Ok(PlainText::from_string(text))
 }
 

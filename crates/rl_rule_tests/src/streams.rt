@@ -3,8 +3,7 @@ ghost use Rattle.std.specs.Prelude.{◌≡◌, ◌++◌, codes, IfOk, OnOk};
 ghost use Rattle.std.specs.List.{flat_map, AllZip};
 ghost use Rattle.toml.specs.Data.{get_member};
 ghost use Rattle.toml.specs.View.{table_view};
-ghost use Rattle.rl_rules.specs.Document.{tables_at};
-ghost use Rattle.rl_rule_tests.specs.Document.{lines_at, repeated_lines, IsExpansion, IsRepeat, IsStream, IsTimes, IsUnexpanded};
+ghost use Rattle.rl_rule_tests.specs.Document.{lines_at, repeated_lines, AreItems, IsExpansion, IsRepeat, IsStream, IsTimes, IsUnexpanded};
 
 use crate::fault::{TestsError, within};
 use crate::lines::{Repeat, Stream, TestLine};
@@ -102,9 +101,9 @@ fn read_times(part: Part<'_>) -> Result<u64, TestsError>
 }
 
 /// The streams of a test, with all of their lines, where these are not too many.
-#[tactic(auto, using(crate::proofs::Expansions::all_expanded))]
+#[tactic(auto, using(crate::proofs::Expansions::items_expanded))]
 pub(crate) fn read_streams<'a>(test: Part<'a>) -> Result<Vec<Stream<'a>>, TestsError>
-    ensures { IfOk result (λ streams. AllZip (IsStream test.entry.kind test.entry.rule.now) (tables_at (codes "streams") (table_view test.entry.table.now)) streams.items) }
+    ensures { IfOk result (λ streams. AreItems (IsStream test.entry.kind test.entry.rule.now) (codes "streams") (table_view test.entry.table.now) streams.items) }
 {
     let streams = test.all("streams")?;
     if count_lines(&streams) > MOST_LINES {

@@ -1,9 +1,9 @@
 //! What is wanted of a rule, as a test file has it.
-ghost use Rattle.std.specs.Prelude.{◌≡◌, map, Some, is_some, codes, option_and_then, option_map, IfOk, OnOk};
+ghost use Rattle.std.specs.Prelude.{◌≡◌, map, Some, is_some, codes, option_and_then, option_map, IfOk, IsTrue, OnOk};
 ghost use Rattle.toml.specs.Data.{get_member};
 ghost use Rattle.toml.specs.View.{table_view};
 ghost use Rattle.rl_rules.specs.Document.{tables_at};
-ghost use Rattle.rl_rule_tests.specs.Document.{state_text, text_at, value_of, wanted_keys, AreAppended, IsCauseIf, IsWanted};
+ghost use Rattle.rl_rule_tests.specs.Document.{has_tables, state_text, text_at, value_of, wanted_keys, AreAppended, IsCauseIf, IsWanted};
 ghost use Rattle.rl_rule_tests.specs.Judging.{wanted_row, IsOutcome};
 
 use crate::document::Check;
@@ -47,6 +47,7 @@ pub(crate) fn read_wanted<'a>(
     wanted: &mut Vec<Wanted<'a>>,
 ) -> Result<Option<Cause>, TestsError>
     ensures failed { IfOk result (IsCauseIf (table_view check.entry.table.now)) }
+    ensures tables { OnOk result (IsTrue (has_tables (codes "wanted") (table_view check.entry.table.now))) }
     ensures rows { OnOk result (AreAppended (IsWanted check.entry.kind check.entry.rule.now) (tables_at (codes "wanted") (table_view check.entry.table.now)) wanted.old.items wanted.new.items) }
 {
     match (check.has("wanted"), check.text("failed")?) {
