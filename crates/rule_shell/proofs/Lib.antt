@@ -1,1 +1,3 @@
+mod Asked
 mod FreshSinks
+mod Ran

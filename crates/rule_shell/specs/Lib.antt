@@ -1,2 +1,4 @@
 pub mod Options
+pub mod Runs
 pub mod Statuses
+pub mod Stores

@@ -1,4 +1,6 @@
 //! A store that counts its chunks.
+ghost use Rattle.std.specs.Prelude.{◌≡◌};
+
 use rl_chunks::{Store, StoreFault};
 
 /// A store that counts the chunks that were written to it and read from it.
@@ -11,7 +13,9 @@ pub(crate) struct Counted<D: Store> {
 
 impl<D: Store> Counted<D> {
     /// Over the store, with nothing counted yet.
-    pub(crate) fn new(inner: D) -> Self {
+    pub(crate) fn new(inner: D) -> Self
+        ensures { result ≡ record { inner = inner; written = 0; read = 0 } }
+    {
         Counted {
             inner,
             written: 0,

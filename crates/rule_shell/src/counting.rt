@@ -1,4 +1,5 @@
 //! An engine whose answers are counted.
+ghost use Rattle.std.specs.Prelude.{◌≡◌};
 
 use crate::tally::Tally;
 use rl_labels::{Entry, Ns};
@@ -20,7 +21,9 @@ pub(crate) struct Counting<E: Engine> {
 
 impl<E: Engine> Counting<E> {
     /// Over the engine as it is, with nothing counted yet.
-    pub(crate) fn new(alloc: Global, engine: E) -> Self {
+    pub(crate) fn new(alloc: Global, engine: E) -> Self
+        ensures { result.engine ≡ engine }
+    {
         Counting {
             engine,
             tally: Tally::new(alloc),

@@ -10,7 +10,9 @@ ghost use Rattle.std.specs.List.{AllByRecursion};
 ghost use Rattle.std.specs.Process.{exit_status};
 ghost use Rattle.rl_world.specs.BookCalls.{IsFresh};
 ghost use Rattle.rl_world.specs.ShardAnswers.{most_shards};
+ghost use Rattle.rule_shell.specs.Runs.{sinks_asked, IsRunOf};
 ghost use Rattle.rule_shell.specs.Statuses.{status_number, stop_at};
+ghost use Rattle.rule_shell.specs.Stores.{shard_folder, shard_folders};
 ghost use Rattle.rule_shell.specs.declared.Stop.TheVariants.{Failed};
 
 mod counted;
@@ -178,13 +180,14 @@ fn memory_stores(alloc: Global, shards: usize) -> Result<Vec<Counted<MemStore>>,
     Ok(stores)
 }
 
-// A store for each shard, in the folder of its number.
+// A store for each shard, over the folder of its number.
 fn folder_stores(
     rt: &HostRuntime,
     folder: &str,
     shards: usize,
 ) -> Result<Vec<Counted<DirStore<HostRuntime>>>, Stop>
-    ensures { IfOk result (λ stores. length stores.items ≡ shards) }
+    ensures stores { IfOk result (λ stores. length stores.items ≡ shards) }
+    ensures folders { IfOk result (λ stores. map (λ store. store.inner.folder) stores.items ≡ shard_folders folder.now shards) }
 {
     let mut stores = Vec::with_capacity(rt.alloc(), shards)?;
     for number in 0..shards {
@@ -199,7 +202,9 @@ fn folder_store(
     rt: &HostRuntime,
     folder: &str,
     number: usize,
-) -> Result<DirStore<HostRuntime>, Stop> {
+) -> Result<DirStore<HostRuntime>, Stop>
+    ensures { IfOk result (λ store. store.folder ≡ shard_folder folder.now number) }
+{
     let own = format!(in rt.alloc(); "{folder}/{number}")?;
     match fs::create_dir_all(rt, own.as_str()) {
         Ok(()) => Ok(DirStore::new(*rt, PlainText::from_string(own))),
@@ -255,6 +260,8 @@ fn run_session<D: Store, S: Sink, W: Write>(
     requires shards { length stores.items ≤ most_shards }
     requires lists { length sinks.items ≡ length groups.items }
     requires fresh { AllByRecursion (λ own. AllByRecursion IsFresh (map S.state own.items)) sinks.items }
+    requires asked { map (λ own. map S.state own.items) sinks.items ≡ map (λ _. sinks_asked plan.sinks) groups.items }
+    ensures { IfOk result (IsRunOf S.state S.close_answers plan (map (λ store. D.seen store.inner) stores.items) groups.items commands.now (W.contents out.old) (W.contents out.new)) }
 {
     let alloc = rt.alloc();
     let shards = stores.len();

@@ -1,16 +1,16 @@
 //! The options of the program.
-ghost use Rattle.std.specs.Prelude.{◌≡◌, ◌≢◌, ◌≤◌, Ok, IfOk, codes};
+ghost use Rattle.std.specs.Prelude.{◌≡◌, ◌≢◌, ◌≤◌, List, map, option_map, string_bytes, Ok, IfErr, IfOk};
 ghost use Rattle.std.specs.Option.{option_copied};
-ghost use Rattle.clap.specs.Words.{found_of, first_value};
+ghost use Rattle.clap.specs.Words.{Text, app_of, first_of, found_of, one_of, rows_of, with_rule};
 ghost use Rattle.rl_world.specs.ShardAnswers.{most_shards};
-ghost use Rattle.rule_shell.specs.Options.{number_or, limits_asked, number_asked, kinds_asked, IsChecked, AreChecked};
+ghost use Rattle.rule_shell.specs.Options.{command_line, flag_rule, limits_of, number_or, number_asked, kinds_asked, option_rule, with_flags, with_options, AreChecked, AreOptions, AreOptionsIn, AreSinks, IsChecked, IsFlag, IsPlan};
 
 use crate::Stop;
 use clap::error::ErrorKind as OptionsFault;
 use clap::{Arg, ArgAction, ArgMatches, Command};
 use rl_labels::{DEFAULT_LIMITS, Limits, RawLimits, number_of};
 use rl_plain::PlainText;
-use std::alloc::Global;
+use std::alloc::{AllocError, Global};
 use std::env;
 use std::io::ErrorKind;
 
@@ -77,7 +77,8 @@ pub(crate) struct Options {
 
 /// Reads the options.
 pub(crate) fn read_options(rt: &HostRuntime) -> Result<Options, Stop>
-    ensures { IfOk result (λ options. (1 ≤ options.shards) × (options.shards ≤ most_shards)) }
+    ensures asked { IfOk result (λ options. (words : List Text) × AreOptionsIn words (Ok options)) }
+    ensures within { IfOk result (λ options. (1 ≤ options.shards) × (options.shards ≤ most_shards)) }
 {
     let words: Vec<String> = words_of(rt)?;
     let words = words.as_slice();
@@ -93,21 +94,79 @@ fn words_of(rt: &HostRuntime) -> Result<Vec<String>, Stop> {
     }
 }
 
+// The options that the words ask for, of which the first is the program's name.
 fn options_in<'a>(alloc: Global, words: &'a [String]) -> Result<Options, Stop>
-    ensures { IfOk result (λ options. (1 ≤ options.shards) × (options.shards ≤ most_shards)) }
+    ensures asked { AreOptionsIn (map string_bytes words.now) result }
+    ensures within { IfOk result (λ options. (1 ≤ options.shards) × (options.shards ≤ most_shards)) }
 {
-    let mut command = Command::new(alloc, "rule_shell");
-    for name in OPTIONS {
-        command = command.arg(Arg::new(alloc, name).long(name))?;
-    }
-    for name in FLAGS {
-        let flag = Arg::new(alloc, name).long(name);
-        command = command.arg(flag.action(ArgAction::SetTrue))?;
-    }
+    let command = command_line(alloc)?;
     match command.try_get_matches_from(words) {
         Ok(matches) => options_of(alloc, &matches),
         Err(error) => Err(stop_of(error.kind())),
     }
+}
+
+// The command line of the program.
+fn command_line<'a>(alloc: Global) -> Result<Command<'a>, AllocError>
+    ensures { IfOk result (λ command. app_of command ≡ command_line) }
+{
+    let command = Command::new(alloc, "rule_shell");
+    let command = with_options(alloc, command, &OPTIONS)?;
+    with_flags(alloc, command, &FLAGS)
+}
+
+// The command with these options more.
+fn with_options<'a>(
+    alloc: Global,
+    command: Command<'a>,
+    names: &[&'a str],
+) -> Result<Command<'a>, AllocError>
+    ensures { IfOk result (λ all. app_of all ≡ with_options (app_of command.entry) (map (λ name. name.now) names.now)) }
+{
+    let mut command = command;
+    for name in names {
+        command = with_option(alloc, command, name)?;
+    }
+    Ok(command)
+}
+
+// The command with an option more, which has a value and stands at most once.
+fn with_option<'a>(
+    alloc: Global,
+    command: Command<'a>,
+    name: &'a str,
+) -> Result<Command<'a>, AllocError>
+    ensures { IfOk result (λ more. app_of more ≡ with_rule (app_of command.entry) (option_rule name.entry.now)) }
+{
+    let option = Arg::new(alloc, name).long(name);
+    command.arg(option)
+}
+
+// The command with these flags more.
+fn with_flags<'a>(
+    alloc: Global,
+    command: Command<'a>,
+    names: &[&'a str],
+) -> Result<Command<'a>, AllocError>
+    ensures { IfOk result (λ all. app_of all ≡ with_flags (app_of command.entry) (map (λ name. name.now) names.now)) }
+{
+    let mut command = command;
+    for name in names {
+        command = with_flag(alloc, command, name)?;
+    }
+    Ok(command)
+}
+
+// The command with a flag more, which stands at most once.
+fn with_flag<'a>(
+    alloc: Global,
+    command: Command<'a>,
+    name: &'a str,
+) -> Result<Command<'a>, AllocError>
+    ensures { IfOk result (λ more. app_of more ≡ with_rule (app_of command.entry) (flag_rule name.entry.now)) }
+{
+    let flag = Arg::new(alloc, name).long(name);
+    command.arg(flag.action(ArgAction::SetTrue))
 }
 
 // Why the program stops at a fault of its options.
@@ -122,12 +181,13 @@ fn stop_of(kind: OptionsFault) -> Stop
 }
 
 fn options_of(alloc: Global, matches: &ArgMatches<'_>) -> Result<Options, Stop>
-    ensures { IfOk result (λ options. (1 ≤ options.shards) × (options.shards ≤ most_shards)) }
+    ensures asked { AreOptions (rows_of (found_of matches.now)) result }
+    ensures within { IfOk result (λ options. (1 ≤ options.shards) × (options.shards ≤ most_shards)) }
 {
     let shards = number_in(matches, "shards", 1, MOST_SHARDS)?;
     let plan = plan_of(matches)?;
-    let is_new = matches.get_flag("new");
-    let store = match matches.get_str("store") {
+    let is_new = flag_in(matches, "new");
+    let store = match text_in(matches, "store") {
         Some("") => return Err(Stop::BadOptions),
         Some(folder) => Some(PlainText::from_str(alloc, folder)?),
         None if is_new => return Err(Stop::BadOptions),
@@ -141,33 +201,50 @@ fn options_of(alloc: Global, matches: &ArgMatches<'_>) -> Result<Options, Stop>
     })
 }
 
+// Whether a flag stands among the words.
+fn flag_in(matches: &ArgMatches<'_>, flag: &str) -> bool
+    ensures { IsFlag (one_of flag.now (rows_of (found_of matches.now))) result }
+{
+    matches.get_flag(flag)
+}
+
 // What is asked of the run besides its stores.
-fn plan_of(matches: &ArgMatches<'_>) -> Result<Plan, Stop> {
+fn plan_of(matches: &ArgMatches<'_>) -> Result<Plan, Stop>
+    ensures asked { IsPlan (rows_of (found_of matches.now)) result }
+    ensures refuses { IfErr result (λ stop. stop ≡ Stop.BadOptions) }
+{
     let limits = limits_of(matches)?;
     let sinks = sinks_of(matches)?;
     Ok(Plan {
         limits,
         sinks,
-        pumps: matches.get_flag("pump"),
-        summary: matches.get_flag("summary"),
+        pumps: flag_in(matches, "pump"),
+        summary: flag_in(matches, "summary"),
     })
 }
 
 // The sinks that are asked for.
 fn sinks_of(matches: &ArgMatches<'_>) -> Result<SinkOptions, Stop>
-    ensures { IfOk result (λ sinks. (kinds_asked (first_value (found_of matches.now) (codes "sinks")) ≡ Ok sinks.all)
-        × (number_asked (first_value (found_of matches.now) (codes "cap")) 1024 1048576 ≡ Ok sinks.cap)
-        × (number_asked (first_value (found_of matches.now) (codes "tail")) 8 65536 ≡ Ok sinks.tail)) }
+    ensures asked { AreSinks (rows_of (found_of matches.now)) result }
+    ensures refuses { IfErr result (λ stop. stop ≡ Stop.BadOptions) }
 {
-    let all = kinds_of(matches.get_str("sinks"))?;
+    let all = kinds_of(text_in(matches, "sinks"))?;
     let cap = number_in(matches, "cap", WAITING, MOST_WAITING)?;
     let tail = number_in(matches, "tail", KEPT, MOST_KEPT)?;
     Ok(SinkOptions { all, cap, tail })
 }
 
+// The text of an option, where it is used.
+fn text_in<'a>(matches: &ArgMatches<'a>, option: &str) -> Option<&'a str>
+    ensures { option_map (λ text. text.now) result ≡ first_of option.now (rows_of (found_of matches.now)) }
+{
+    matches.get_str(option)
+}
+
 // Whether sinks of all kinds are asked for, or a recorder alone.
 fn kinds_of(asked: Option<&str>) -> Result<bool, Stop>
-    ensures { result ≡ kinds_asked (option_copied asked.entry) }
+    ensures asked { result ≡ kinds_asked (option_copied asked.entry) }
+    ensures refuses { IfErr result (λ stop. stop ≡ Stop.BadOptions) }
 {
     match asked {
         None | Some("recorder") => Ok(false),
@@ -178,7 +255,8 @@ fn kinds_of(asked: Option<&str>) -> Result<bool, Stop>
 
 // The number that an option has, or the other where it is not used: one from 1 to the most.
 fn number_in(matches: &ArgMatches<'_>, option: &str, other: u64, most: u64) -> Result<usize, Stop>
-    ensures asked { result ≡ number_asked (first_value (found_of matches.now) option.now) other most }
+    ensures asked { result ≡ number_asked (first_of option.now (rows_of (found_of matches.now))) other most }
+    ensures refuses { IfErr result (λ stop. stop ≡ Stop.BadOptions) }
     ensures within { IfOk result (λ number. (1 ≤ number) × (number ≤ most)) }
 {
     let number = number_or(matches, option, other)?;
@@ -190,7 +268,8 @@ fn number_in(matches: &ArgMatches<'_>, option: &str, other: u64, most: u64) -> R
 
 // The limits that are asked for, if they are in their ranges.
 fn limits_of(matches: &ArgMatches<'_>) -> Result<Limits, Stop>
-    ensures { AreChecked (limits_asked (first_value (found_of matches.now) (codes "entries")) (first_value (found_of matches.now) (codes "chunk-entries")) (first_value (found_of matches.now) (codes "chunk-age")) (first_value (found_of matches.now) (codes "cancel")) (first_value (found_of matches.now) (codes "keep"))) result }
+    ensures asked { AreChecked (limits_of (rows_of (found_of matches.now))) result }
+    ensures refuses { IfErr result (λ stop. stop ≡ Stop.BadOptions) }
 {
     let defaults = DEFAULT_LIMITS;
     let entries = number_or(matches, "entries", defaults.entries)?;
@@ -210,7 +289,8 @@ fn limits_of(matches: &ArgMatches<'_>) -> Result<Limits, Stop>
 
 // The limits, if they are in their ranges.
 fn checked(raw: RawLimits) -> Result<Limits, Stop>
-    ensures { IsChecked raw result }
+    ensures asked { IsChecked raw result }
+    ensures refuses { IfErr result (λ stop. stop ≡ Stop.BadOptions) }
 {
     match Limits::check(raw) {
         Ok(limits) => Ok(limits),
@@ -220,9 +300,10 @@ fn checked(raw: RawLimits) -> Result<Limits, Stop>
 
 // The number that an option has, or the other where it is not used.
 fn number_or(matches: &ArgMatches<'_>, option: &str, other: u64) -> Result<u64, Stop>
-    ensures { result ≡ number_or (first_value (found_of matches.now) option.now) other }
+    ensures asked { result ≡ number_or (first_of option.now (rows_of (found_of matches.now))) other }
+    ensures refuses { IfErr result (λ stop. stop ≡ Stop.BadOptions) }
 {
-    match matches.get_str(option) {
+    match text_in(matches, option) {
         Some(text) => number_of(text.as_bytes(), 19).ok_or(Stop::BadOptions),
         None => Ok(other),
     }

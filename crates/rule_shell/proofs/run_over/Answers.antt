@@ -1,12 +1,13 @@
--- A group more, whose sinks have taken nothing.
-use Rattle.std.proofs.Common.{rules, ◌≡◌, ◌∙◌, refl, ap, inl, inr}
+-- A group more, whose sinks are those that are asked for.
+use Rattle.std.proofs.Common.{rules, ◌≡◌, ◌∙◌, None, refl, ap, inl, inr}
 use Rattle.rl_sinks.specs.contracts.sink.BoxDynSinkSendSink.TheImpl.{ghosts}
 use Rattle.rl_sinks.specs.LogState.{log_state}
 use Rattle.rl_sinks.specs.TailState.{tail_state}
 use Rattle.rl_sinks.specs.SinkState.{SinkState}
 use Rattle.rl_sinks.specs.declared.sink.SinkKind.TheVariants as kinds
 use denote.Param.Object.{read_made}
-use Rattle.rule_shell.proofs.FreshSinks.{fresh_one, fresh_three, fresh_more}
+use Rattle.rule_shell.specs.Runs.{new_sink}
+use Rattle.rule_shell.proofs.FreshSinks.{all_asked, all_fresh, all_more, one_asked, three_asked}
 use Rattle.rule_shell.proofs.run_over.OwnLists.{own-1, lawful-own-1}
 use Rattle.rule_shell.proofs.run_over.Hidden.{sends-own-1}
 use Rattle.rule_shell.proofs.run_over.Goals as goal
@@ -17,9 +18,9 @@ loop-preserved-then-not-all g c =
     let state = (ghosts (own-1, lawful-own-1, sends-own-1)).state in
     let boxed = c.into_dyn_box.result in
     let read : state boxed ≡ log_state kinds.Recorder c.in_ok-new.field-0.value = read_made own-1 (own-1.entry (inl tt)) (inl tt) refl SinkState (λ j v. j.1.state v) boxed.vtable boxed.value c.in_ok-new.field-0.value c.into_dyn_box.ensures.1 in
-    let written = read ∙ ap (log_state kinds.Recorder) (c.in_ok-new.ensures.ok ∙ c.new-recorder.ensures) in
-    let own = fresh_one state c.in_ok-vec.field-0 boxed c.in_ok-vec.ensures.items (ap (λ sink. sink.count) written) (ap (λ sink. sink.kept) written) in
-    let more = fresh_more state c.loop.sinks.items c.in_ok-vec.field-0 c.loop.invariant.1 own in
+    let is : state boxed ≡ new_sink kinds.Recorder None = read ∙ ap (log_state kinds.Recorder) (c.in_ok-new.ensures.ok ∙ c.new-recorder.ensures) in
+    let own = one_asked state c.args.plan.sinks c.in_ok-vec.field-0 boxed (search rules) c.in_ok-vec.ensures.items is in
+    let more = all_more _ c.loop.sinks.items c.in_ok-vec.field-0 c.loop.invariant.1 own in
     (search rules, rw (← c.in_ok-push.ensures.items) at more)
 
 -- a recorder, a notifier and a tail
@@ -35,6 +36,12 @@ loop-preserved g c =
     let recorder_is = first ∙ ap (log_state kinds.Recorder) (c.in_ok-new.ensures.ok ∙ c.new-recorder.ensures) in
     let notifier_is = second ∙ ap (log_state kinds.Notifier) (c.in_ok-new-2.ensures.ok ∙ c.new-notifier.ensures) in
     let tail_is = third ∙ ap tail_state (c.in_ok-new-3.ensures.ok ∙ c.in_ok-tail.ensures) in
-    let own = fresh_three state c.in_ok-vec-2.field-0 recorder notifier tail c.in_ok-vec-2.ensures.items (ap (λ sink. sink.count) recorder_is, ap (λ sink. sink.kept) recorder_is) (ap (λ sink. sink.count) notifier_is, ap (λ sink. sink.kept) notifier_is) (ap (λ sink. sink.count) tail_is, ap (λ sink. sink.kept) tail_is) in
-    let more = fresh_more state c.loop.sinks.items c.in_ok-vec-2.field-0 c.loop.invariant.1 own in
+    let own = three_asked state c.args.plan.sinks c.in_ok-vec-2.field-0 recorder notifier tail (search rules) c.in_ok-vec-2.ensures.items recorder_is notifier_is tail_is in
+    let more = all_more _ c.loop.sinks.items c.in_ok-vec-2.field-0 c.loop.invariant.1 own in
     (search rules, rw (← c.in_ok-push-2.ensures.items) at more)
+
+pub run_session-requires-clause-fresh : goal.run_session-requires-clause-fresh
+run_session-requires-clause-fresh g c = all_fresh (ghosts (own-1, lawful-own-1, sends-own-1)).state c.args.plan.sinks c.loop.sinks.items c.loop.invariant.1
+
+pub run_session-requires-clause-asked : goal.run_session-requires-clause-asked
+run_session-requires-clause-asked g c = all_asked (ghosts (own-1, lawful-own-1, sends-own-1)).state c.args.plan.sinks c.loop.sinks.items c.args.front.groups.items (search rules) c.loop.invariant.1
