@@ -21,7 +21,6 @@ use Rattle.rl_aggregate.specs.Counter.{CounterView, counted_entry, counted_line}
 use Rattle.rl_aggregate.specs.InRange.{contribution, in_window, is_in_range, second, stays}
 use Rattle.rl_aggregate.specs.Partials.{partial, partial_of}
 use Rattle.rl_aggregate.specs.Accumulators.{IsAlike, AccumulatorView, nothing_counted, with_line}
-use Rattle.rl_aggregate.specs.declared.partial.Partial.{Partial}
 use Rattle.rl_aggregate.specs.laws.Counting.{filter-both, new_counter_counts, stayed}
 use Rattle.rl_aggregate.specs.laws.Totals.{kept-permuted}
 use Rattle.rl_deletes.specs.Deletes.{RequestsView, covered, covered_line}
@@ -32,9 +31,10 @@ use Rattle.rl_parts.specs.declared.fault.ReadFault.TheVariants as reads
 use Rattle.rl_streams.specs.Asking.{asked, is_asked, AreOfRow, AreVisited, AreVisitedOnce}
 use Rattle.rl_streams.specs.StreamRows.{Row}
 use Rattle.rl_streams.specs.StreamsState.{StreamsView}
-use Rattle.rl_shard.specs.Collecting.{counting, counting_shown, shown, IsOfReading, IsRead, IsStartOf}
+use Rattle.rl_shard.specs.Collecting.{is_shown, shown, IsOfReading, IsRead, IsStartOf}
 use Rattle.rl_shard.specs.ShardFault.{IsOfStore, fault_of_read}
 use Rattle.rl_shard.specs.declared.lines.LineCounter.{LineCounter}
+use Rattle.rl_shard.proofs.Taken.{accumulated, accumulators_line, lines_of}
 use Rattle.rl_shard.proofs.Windows.{and_true, both_true, filter_flat, filter_map, filter_same, is_between, narrow_rows, start_at, starts_at, starts_before}
 
 pub not_true : (b : Bool) → (b ≡ true → ⊥) → b ≡ false
@@ -55,10 +55,6 @@ few_asked p selector start t most held order moved few =
       few_pass (is_asked selector start t) held,
       few,
     )
-
--- the line is that of an entry which no received request covers
-abbrev pub is_shown : RequestsView → LabelSet × Line → Bool
-is_shown requests line = not (covered_line requests line.0 line.1.timestamp line.1.text)
 
 -- a line is handed to what counts, and to what counts any
 abbrev pub counts : LineCounter → LabelSet × Line → LineCounter
@@ -176,15 +172,6 @@ module _ (requests : Bor RequestsView) (range t : ℕ) where
     same_of_entries [] all = tt
     same_of_entries (e ∷ es) all = (sym (same_at (visited e) all.0), same_of_entries es all.1)
 
--- and a partial of the lines that are shown is made by these
-found_shown : (requests : RequestsView) (stages : List Stage) (found : Partial) (lines : List (LabelSet × Line)) → fold (counting_shown requests stages) found lines ≡ fold (counting stages) found (filter (is_shown requests) lines)
-found_shown requests stages found [] = refl
-found_shown requests stages found (line ∷ lines) =
-    elim (covered_line requests line.0 line.1.timestamp line.1.text) as (λ b. fold (counting_shown requests stages) (cond b found (counting stages found line)) lines ≡ fold (counting stages) found (cond (not b) (line ∷ filter (is_shown requests) lines) (filter (is_shown requests) lines))) [
-      | true ↦ found_shown requests stages found lines
-      | false ↦ found_shown requests stages (counting stages found line) lines
-    ]
-
 -- a counter, by the lines of entries
 pub counted_all : (counter : CounterView) (order : List Entry) → fold counts_any counter (map visited order) ≡ fold counted_entry counter order
 counted_all counter [] = refl
@@ -200,10 +187,6 @@ pub of_reading : (fault : ReadFault) → IsOfReading (fault_of_read fault)
 of_reading reads.Fault = tt
 of_reading reads.Damaged = tt
 of_reading reads.Memory = tt
-
--- over any store: what counters of lines become, and what accumulators and partials do
-abbrev accumulators_line : AccumulatorView → LabelSet × Line → AccumulatorView
-accumulators_line accumulator line = with_line line.0 line.1.text accumulator
 
 module _ (counter : CounterView) (line : LabelSet × Line) where
   -- a counter after a line that it may not count, and after one that it may
@@ -244,29 +227,21 @@ all_counted counter (line ∷ lines) not_over = by (all_counted (counter_after c
     by others true none = absurd (true≢false (sym (stays_over (counter_after counter line true) lines refl) ∙ none))
     by others false none = others none ∙ map-map (λ accumulator. fold accumulators_line accumulator lines) (with_line line.0 line.1.text) counter.accumulators
 
--- an accumulator has what its stages make of the lines
-accumulated : (stages : List Stage) (found : Partial) (lines : List (LabelSet × Line)) → (fold accumulators_line (record { running = stages; found = found }) lines).found ≡ fold (counting stages) found lines
-accumulated stages found [] = refl
-accumulated stages found (line ∷ lines) = accumulated stages (counting stages found line) lines
-
 -- so of terms that read the same lines as the first of them
 pub read_all : (first : Term) (terms : List Term) (rows : List Row) (requests : RequestsView) (t : ℕ) (lines : List (List (LabelSet × Line))) → AllByRecursion (IsAlike first) terms → AllZip (AreOfRow first.range.selector.matchers (start_at first.range.seconds t) t) rows lines
     → AllZip (λ (term : Term) found. IsRead rows requests term.range t found) terms (map (λ (accumulator : AccumulatorView). accumulator.found) (map (λ accumulator. fold accumulators_line accumulator (filter (is_shown requests) (flat_map (λ of_row. of_row) lines))) (map nothing_counted (map (λ (term : Term). term.range.stages) terms))))
 read_all first [] rows requests t lines alike each = tt
-read_all first (term ∷ terms) rows requests t lines alike each = (
-  record {
-    start = start_at first.range.seconds t;
-    starts = subst (λ seconds. IsStartOf seconds t (start_at first.range.seconds t)) (sym alike.0.0) (starts_at first.range.seconds t);
-    visited = record {
-      lines = lines;
-      each = subst (λ (selector : Selector). AllZip (AreOfRow selector.matchers (start_at first.range.seconds t) t) rows lines) (sym alike.0.1) each;
-      visited =
-          accumulated term.range.stages (partial_of []) (filter (is_shown requests) (flat_map (λ of_row. of_row) lines))
-          ∙ sym (found_shown requests term.range.stages (partial_of []) (flat_map (λ of_row. of_row) lines));
-    };
-  },
-  read_all first terms rows requests t lines alike.1 each,
-)
+read_all first (term ∷ terms) rows requests t lines alike each =
+    let shown = filter (is_shown requests) (flat_map (λ of_row. of_row) lines) in
+    let own = subst (λ (selector : Selector). AllZip (AreOfRow selector.matchers (start_at first.range.seconds t) t) rows lines) (sym alike.0.1) each in
+    let of_term = lines_of term.range rows requests t lines (subst (λ seconds. AllZip (AreOfRow term.range.selector.matchers (start_at seconds t) t) rows lines) (sym alike.0.0) own) in (
+      record {
+        lines = shown;
+        are = of_term;
+        adds_up = accumulated term.range.stages shown;
+      },
+      read_all first terms rows requests t lines alike.1 each,
+    )
 
 -- what holds of what a function gives
 pub all_mapped : {A B : Type 0} (P : B → Type 0) (f : A → B) (xs : List A) → AllByRecursion (λ x. P (f x)) xs → AllByRecursion P (map f xs)

@@ -7,6 +7,7 @@ pub mod Listings
 pub mod Offering
 pub mod ShardsTurn
 pub mod ShardAnswers
+pub mod Reads
 pub mod Stores
 pub mod WorldRun
 pub mod WorldState

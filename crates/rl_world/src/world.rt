@@ -45,6 +45,7 @@ impl<D: Store, S: Sink> World<D, S> {
     ghost use Rattle.rl_world.specs.Offering.{TookPrefix};
     ghost use Rattle.rl_world.specs.Listings.{SinksFollow};
     ghost use Rattle.rl_world.specs.ShardsTurn.{AreHonest};
+    ghost use Rattle.rl_world.specs.Reads.{AreSomeReadings, ReadsThrough};
     ghost use Rattle.rl_world.specs.Stores.{StoresFollow};
     ghost use Rattle.rl_world.specs.WorldRun.{Turned, Ran, Replays, gained};
     ghost use Rattle.rl_world.specs.WorldState.{world_of, StandsForSome};
@@ -63,6 +64,7 @@ impl<D: Store, S: Sink> World<D, S> {
         ensures shards { IfOk result (λ world. world.shards ≡ map (λ store. opened_over limits (D.seen store)) stores.items) }
         ensures books { IfOk result (λ world. world.books ≡ books_from 0 limits.records (length stores.items) groups.items (map (λ own. map S.state own.items) sinks.items)) }
         ensures shown { IfOk result (λ world. StandsForSome (world_of world.shards world.books)) }
+        ensures read { IfOk result (λ world. AreSomeReadings world) }
     {
         let books = open_books(alloc, limits.records, stores.len(), groups, sinks)?;
         let shards = open_shards(alloc, limits, stores)?;
@@ -87,6 +89,7 @@ impl<D: Store, S: Sink> World<D, S> {
         ensures replies { OnOk result (out.new.items ≡ out.old.items ++ gained out.old.items out.new.items) }
         ensures ran { OnOk result (Ran self.old steps.items (gained out.old.items out.new.items) self.new) }
         ensures replays { AreHonest self.old.shards → OnOk result (Replays self.old steps.items (gained out.old.items out.new.items) self.new) }
+        ensures reads { OnOk result (ReadsThrough self.old steps.items (gained out.old.items out.new.items) self.new) }
         ensures stores { OnOk result (StoresFollow self.old.shards steps.items (gained out.old.items out.new.items) self.new.shards) }
         ensures follows { OnOk result (SinksFollow self.old.books steps.items (gained out.old.items out.new.items) self.new.books) }
         ensures prefixes { AllByRecursion (λ book. AllByRecursion (TookPrefix book.history.evaluations) book.sinks) self.new.books }

@@ -1,11 +1,15 @@
 -- What follows of a run: it is a replay over honest stores, and every store and every sink follows its replies.
 use Rattle.rl_world.specs.WorldRun.{gained}
+use Rattle.rl_world.specs.laws.ReadLaws.{ran_reading}
 use Rattle.rl_world.specs.laws.RunLaws.{ran_replays, ran_follow}
 use Rattle.rl_world.specs.laws.StoreLaws.{ran_stores}
 use Rattle.rl_world.proofs.world.World.run.Goals as goal
 
 pub returns-clause-replays : goal.returns-clause-replays
 returns-clause-replays g c = λ honest. ran_replays c.args.self.now c.args.steps.items (gained c.args.out.now.items c.answer_all.new.out.items) c.answer_all.new.self honest c.in_ok-answer_all.ensures.turns
+
+pub returns-clause-reads : goal.returns-clause-reads
+returns-clause-reads g c = ran_reading c.args.self.now c.args.steps.items (gained c.args.out.now.items c.answer_all.new.out.items) c.answer_all.new.self c.in_ok-answer_all.ensures.turns
 
 pub returns-clause-stores : goal.returns-clause-stores
 returns-clause-stores g c = ran_stores c.args.self.now c.args.steps.items (gained c.args.out.now.items c.answer_all.new.out.items) c.answer_all.new.self c.in_ok-answer_all.ensures.turns
