@@ -4,6 +4,7 @@ pub mod Calling
 pub mod Cut
 pub mod Gathering
 mod Ids
+mod Known
 pub mod Lines
 mod Printing
 pub mod Following

@@ -7,6 +7,7 @@ pub mod Printed
 pub mod Session
 pub mod PushBody
 pub mod PushForms
+pub mod KnownLabels
 pub mod Pumping
 pub mod Front
 pub mod Reading

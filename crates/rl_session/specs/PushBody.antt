@@ -49,12 +49,13 @@ abbrev pub stream_labels : Result LabelSet LabelsFault → Result LabelSet PushF
 stream_labels (Ok labels) = if has_no_label labels then Err faults.Label else Ok labels
 stream_labels (Err _) = Err faults.Label
 
+-- the labels of an object's members
+abbrev pub labels_in : Members → Result LabelSet PushFault
+labels_in members = pairs_of members >>= λ pairs. stream_labels (labels_from pairs)
+
 -- the labels that were found
 abbrev pub labels_of : Option Data → Result LabelSet PushFault
-labels_of found = do
-  members ← object_of found
-  pairs ← pairs_of members
-  stream_labels (labels_from pairs)
+labels_of found = object_of found >>= labels_in
 
 -- what follows the line: metadata, or nothing
 abbrev pub metadata_in : Items → Result (Option Data) PushFault

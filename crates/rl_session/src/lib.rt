@@ -1,6 +1,7 @@
 //! Sessions: rules, a mark and commands as they are read, and what the commands print.
 //!
-//! - `front`: `read_front`, what stands before the mark and after it. `push`: `PushReader` and `read_push`, entries from JSON.
+//! - `front`: `read_front`, what stands before the mark and after it. `push`: `PushReader` and `read_push`, entries from JSON;
+//!   `known_labels`: the label sets that it keeps.
 //! - `engine`: `Engine`, what evaluates the groups. `world_engine`: `WorldEngine`, a world on one thread. `pumping`: `Pumping`, an
 //!   engine whose sinks catch up after each evaluation.
 //! - `command`: `Command`, one line. `edit`: the group of an edit. `asking`: what commands ask of an engine, and their results.
@@ -13,6 +14,7 @@ pub mod command;
 mod edit;
 pub mod engine;
 pub mod front;
+mod known_labels;
 pub mod names;
 mod output;
 pub mod pumping;

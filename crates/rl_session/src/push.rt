@@ -8,8 +8,9 @@ ghost use Rattle.rl_plain.specs.declared.refusal.OrMemory.TheVariants.{Fault};
 ghost use Rattle.rl_labels.specs.EntryParts.{is_stream};
 ghost use Rattle.rl_json.specs.JsonData.{items_data, members_data};
 ghost use Rattle.rl_session.specs.PushForms.{datum, entry_form, parts_form};
-ghost use Rattle.rl_session.specs.PushBody.{entries_of, document_of, array_of, object_of, pair_of, pairs_of, labels_of, metadata_in, parts_in, parts_of, required, moment_of, is_empty_object, has_no_metadata, entry_of, value_entry, entries_from, stream_entries, streams_entries};
+ghost use Rattle.rl_session.specs.PushBody.{entries_of, document_of, array_of, object_of, pair_of, pairs_of, labels_in, labels_of, metadata_in, parts_in, parts_of, required, moment_of, is_empty_object, has_no_metadata, entry_of, value_entry, entries_from, stream_entries, streams_entries};
 
+use crate::known_labels::KnownLabels;
 use json::{Scratch, Value};
 use rl_json::{read_bytes, sorted, value_at};
 use rl_labels::entry::MAX_LINE_LEN;
@@ -54,11 +55,12 @@ struct Parts<'m, 'v> {
     metadata: Option<&'m Value<'v>>,
 }
 
-/// Reads push bodies. The memory that reading needs is lent from one to the next.
+/// Reads push bodies. The memory that reading needs is lent from one to the next, and label sets that came before are shared.
 #[derive(Drop)]
 pub struct PushReader {
     alloc: Global,
     scratch: Scratch,
+    known: KnownLabels,
 }
 
 impl PushReader {
@@ -67,6 +69,7 @@ impl PushReader {
         PushReader {
             alloc,
             scratch: Scratch::new(alloc),
+            known: KnownLabels::new(alloc),
         }
     }
 
@@ -78,7 +81,7 @@ impl PushReader {
         let document = document_of(self.alloc, bytes, &mut self.scratch)?;
         let streams = array_of(member_of(&document, "streams"))?;
         let mut entries = Vec::new(self.alloc);
-        push_streams(self.alloc, &mut entries, streams)?;
+        push_streams(self.alloc, &mut self.known, &mut entries, streams)?;
         Ok(entries)
     }
 }
@@ -137,22 +140,28 @@ fn object_of<'m, 'v>(found: Option<&'m Value<'v>>) -> Result<&'m [(&'v str, Valu
 // Adds the entries of each stream.
 fn push_streams(
     alloc: Global,
+    known: &mut KnownLabels,
     entries: &mut Vec<Entry>,
     streams: &[Value<'_>],
 ) -> Result<(), PushError>
     ensures { Gives (λ _. map entry_form entries.new.items) result (with_front (map entry_form entries.old.items) (streams_entries (items_data (items_view streams.now)))) }
 {
     for stream in streams {
-        push_stream(alloc, entries, stream)?;
+        push_stream(alloc, known, entries, stream)?;
     }
     Ok(())
 }
 
 // Adds the entries of a stream.
-fn push_stream(alloc: Global, entries: &mut Vec<Entry>, stream: &Value<'_>) -> Result<(), PushError>
+fn push_stream(
+    alloc: Global,
+    known: &mut KnownLabels,
+    entries: &mut Vec<Entry>,
+    stream: &Value<'_>,
+) -> Result<(), PushError>
     ensures { Gives (λ _. map entry_form entries.new.items) result (with_front (map entry_form entries.old.items) (stream_entries (datum stream.now))) }
 {
-    let labels = labels_of(alloc, member_of(stream, "stream"))?;
+    let labels = labels_of(alloc, known, member_of(stream, "stream"))?;
     let values = array_of(member_of(stream, "values"))?;
     push_values(alloc, entries, &labels, values)
 }
@@ -185,11 +194,41 @@ fn value_entry(alloc: Global, labels: &Labels, value: &Value<'_>) -> Result<Entr
 }
 
 // The labels that were found.
-fn labels_of(alloc: Global, found: Option<&Value<'_>>) -> Result<Labels, PushError>
+fn labels_of(
+    alloc: Global,
+    known: &mut KnownLabels,
+    found: Option<&Value<'_>>,
+) -> Result<Labels, PushError>
     ensures labels { Gives (λ labels. labels) result (labels_of (option_map (λ value. datum value.now) found.entry)) }
     ensures of_stream { IfOk result (λ labels. IsTrue (is_stream labels)) }
 {
-    let pairs = pairs_of(alloc, object_of(found)?)?;
+    let members = object_of(found)?;
+    labels_in(alloc, known, members)
+}
+
+// The labels of an object's members: the set that is known, or a new one, which is known from now on.
+fn labels_in<'v>(
+    alloc: Global,
+    known: &mut KnownLabels,
+    members: &[(&'v str, Value<'v>)],
+) -> Result<Labels, PushError>
+    ensures labels { Gives (λ labels. labels) result (labels_in (members_data (members_view members.now) no_members)) }
+    ensures of_stream { IfOk result (λ labels. IsTrue (is_stream labels)) }
+{
+    if let Some(labels) = known.find(members) {
+        return Ok(labels.try_copy()?);
+    }
+    let labels = new_labels(alloc, members)?;
+    known.keep(members, &labels);
+    Ok(labels)
+}
+
+// The labels of an object's members, made anew.
+fn new_labels<'v>(alloc: Global, members: &[(&'v str, Value<'v>)]) -> Result<Labels, PushError>
+    ensures labels { Gives (λ labels. labels) result (labels_in (members_data (members_view members.now) no_members)) }
+    ensures of_stream { IfOk result (λ labels. IsTrue (is_stream labels)) }
+{
+    let pairs = pairs_of(alloc, members)?;
     match Labels::from_pairs(alloc, pairs) {
         Ok(labels) if labels.pairs().is_empty() => Err(OrMemory::Fault(PushFault::Label)),
         Ok(labels) => Ok(labels),
