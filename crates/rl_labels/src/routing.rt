@@ -10,6 +10,9 @@ pub fn shard_of(labels: &Labels, shards: usize) -> usize
     requires { 1 ≤ shards }
     ensures { result ≡ shard_of labels.now shards }
 {
+    if shards == 1 {
+        return 0;
+    }
     (sum_of(labels.as_text().as_bytes()) % shards as u128) as usize
 }
 
