@@ -108,7 +108,7 @@ fn is_refused(rt: &impl Abort, alloc: Global, refused: u64) {
 }
 
 #[test]
-fn a_fault_of_the_other_store_is_told(rt: HostRuntime) {
+fn a_fault_of_the_other_store_is_reported(rt: HostRuntime) {
     for refused in 0..3 {
         is_refused(&rt, rt.alloc(), refused);
     }

@@ -27,11 +27,11 @@ read_in_two_turns = (codes "ab" ∷ codes "c" ∷ [], omega arith, refl, (refl, 
 not_read_past_the_longest : Reads 2 (Some (codes "abc")) (Some []) (Ok (codes "abc")) → ⊥
 not_read_past_the_longest reads = absurd (omega (arith, reads.3.1))
 
-reading_never_tells_of_the_mark : Reads 2 (Some []) (Some []) (Err fronts.NoMark) → ⊥
-reading_never_tells_of_the_mark reads = reads.3
+reading_never_reports_the_mark : Reads 2 (Some []) (Some []) (Err fronts.NoMark) → ⊥
+reading_never_reports_the_mark reads = reads.3
 
-not_told_past_the_longest : ReadsAll 4 (codes "abcde") (Err fronts.NoMark) → ⊥
-not_told_past_the_longest said = absurd (omega (arith, said.0))
+no_mark_past_the_longest : ReadsAll 4 (codes "abcde") (Err fronts.NoMark) → ⊥
+no_mark_past_the_longest said = absurd (omega (arith, said.0))
 
 name_of_a_busy_book : refusal_name (refusals.Book books.Busy) ≡ codes "Busy"
 name_of_a_busy_book = refl
@@ -57,5 +57,5 @@ module _ {E : Type 0} (calls : Calls E) where
   tick_that_goes_on old mid new first full second wanted =
       (true, first, (Err refusals.JournalFull, mid, Err refusals.Memory ∷ [], (full, tt), refl, (true, second, (Err refusals.Memory, new, [], (wanted, tt), refl, (refl, refl)))))
 
-  nothing_told_after_an_end : (engine : E) → AreLinesExecuted calls engine (codes "end" ∷ codes "nonsense" ∷ []) [] false engine
-  nothing_told_after_an_end engine = ([], Ended, engine, (refl, refl, refl), (refl, refl, refl))
+  nothing_executed_after_an_end : (engine : E) → AreLinesExecuted calls engine (codes "end" ∷ codes "nonsense" ∷ []) [] false engine
+  nothing_executed_after_an_end engine = ([], Ended, engine, (refl, refl, refl), (refl, refl, refl))
