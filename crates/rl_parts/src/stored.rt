@@ -6,7 +6,7 @@ ghost use Rattle.rl_chunks.specs.EntryLines.{line_of};
 use rl_chunks::AsLine;
 use rl_labels::{Entry, Labels, Ns};
 use rl_plain::{Shared, TryCopy};
-use std::alloc::{AllocError, Global};
+use std::alloc::AllocError;
 use std::cmp::Ordering;
 use std::marker::Model;
 
@@ -78,22 +78,17 @@ impl AsLine for StoredEntry {
 // The entry with these labels instead of its own, which are equal, unless others share it. So the entries of a stream
 // share one label set.
 pub(crate) fn with_labels(
-    alloc: Global,
-    entry: Shared<Entry>,
+    mut entry: Shared<Entry>,
     labels: &Labels,
 ) -> Result<Shared<Entry>, AllocError>
     requires { entry.labels ≡ labels.now }
     ensures { IfOk result (λ own. own ≡ entry) }
 {
-    match entry.try_unwrap() {
-        Ok(entry) => Shared::new(
-            alloc,
-            Entry {
-                labels: labels.try_copy()?,
-                timestamp: entry.timestamp,
-                line: entry.line,
-            },
-        ),
-        Err(entry) => Ok(entry),
+    match entry.get_mut() {
+        Some(own) => {
+            own.labels = labels.try_copy()?;
+            Ok(entry)
+        }
+        None => Ok(entry),
     }
 }

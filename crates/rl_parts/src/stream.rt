@@ -122,7 +122,7 @@ impl Stream {
     {
         let timestamp = entry.get().timestamp;
         self.parts.reserve(1)?;
-        let entry = with_labels(*self.head.allocator(), entry, &self.labels)?;
+        let entry = with_labels(entry, &self.labels)?;
         put(&mut self.head, entry)?;
         self.newest = later(Some(self.newest), timestamp);
         if (self.head.len() as u64) < most {

@@ -2,4 +2,5 @@ pub mod Answers
 pub mod Escapes
 pub mod Hexadecimal
 pub mod Runs
+pub mod Sharing
 pub mod laws

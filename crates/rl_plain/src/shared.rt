@@ -1,5 +1,5 @@
 //! A value that its copies share.
-ghost use Rattle.std.specs.Prelude.{◌≡◌, IfOk, IfErr};
+ghost use Rattle.std.specs.Prelude.{◌≡◌, IfOk, IfSome};
 
 use crate::copying::TryCopy;
 use crate::sameness::Same;
@@ -7,7 +7,7 @@ use std::alloc::{AllocError, Global};
 use std::marker::Model;
 use std::sync::Arc;
 
-/// A value in a block of its own, with an atomic count of its owners. It is never mutated.
+/// A value in a block of its own, with an atomic count of its owners. It changes only while it has one owner.
 #[derive(Drop)]
 pub struct Shared<T> {
     value: Arc<T>,
@@ -22,11 +22,22 @@ impl<T> Model for Shared<T> {
 }
 
 impl<T> Shared<T> {
+    ghost use Rattle.std.specs.Borrow.{sem};
+    ghost use Rattle.rl_plain.specs.Sharing.{lends_value};
+
     /// The value, borrowed.
     pub fn get(&self) -> &T
         ensures { result.now ≡ self.now }
     {
         &self.value
+    }
+
+    /// The value, to be changed, where no copy shares it.
+    pub fn get_mut(&mut self) -> Option<&mut T>
+        ensures* writes_back { sem 𝓛 (lends_value T.row self.entry result) }
+        ensures value { IfSome result (λ value. value.now ≡ self.old) }
+    {
+        Arc::get_mut(&mut self.value)
     }
 }
 
@@ -37,17 +48,6 @@ impl<T: Drop> Shared<T> {
     {
         let value = Arc::new(alloc, value)?;
         Ok(Shared { value })
-    }
-
-    /// The value itself, where no copy shares it, and else this copy again.
-    pub fn try_unwrap(self) -> Result<T, Self>
-        ensures ok { IfOk result (λ value. value ≡ self) }
-        ensures err { IfErr result (λ shared. shared ≡ self) }
-    {
-        match Arc::try_unwrap(self.value) {
-            Ok(value) => Ok(value),
-            Err(value) => Err(Shared { value }),
-        }
     }
 }
 
