@@ -5,7 +5,7 @@ ghost use Rattle.rl_labels.specs.LabelSet.{no_labels};
 ghost use Rattle.rl_labels.specs.Name.{is_text};
 ghost use Rattle.rl_aggregate.specs.Grouping.{is_grouping_label, group_of};
 
-use rl_labels::{Labels, LabelsBuilder};
+use rl_labels::{Labels, LabelsBuilder, ShortText};
 use rl_plain::{PlainText, TryCopy};
 use rl_query::Grouping;
 use std::alloc::{AllocError, Global};
@@ -32,8 +32,8 @@ pub(crate) fn group_of(
 // Whether these are the labels of the group that a sample with those labels is in. Takes no memory.
 fn are_of_group(
     grouping: &Grouping,
-    group: &[(PlainText, PlainText)],
-    labels: &[(PlainText, PlainText)],
+    group: &[(ShortText, ShortText)],
+    labels: &[(ShortText, ShortText)],
 ) -> bool
     ensures { result ≡ true → group.now ≡ filter (λ pair. is_grouping_label grouping.now pair.0) labels.now }
 {
@@ -53,7 +53,7 @@ fn are_of_group(
 }
 
 // Whether two labels are one.
-fn is_label(label: &(PlainText, PlainText), other: &(PlainText, PlainText)) -> bool
+fn is_label(label: &(ShortText, ShortText), other: &(ShortText, ShortText)) -> bool
     ensures { result ≡ true → label.now ≡ other.now }
 {
     label.1.as_str() == other.1.as_str() && label.0.as_str() == other.0.as_str()

@@ -12,8 +12,7 @@ ghost use Rattle.rl_chunks.specs.ChunkReading.{read_chunk};
 
 use crate::as_line::AsLine;
 use crate::format::Format;
-use rl_labels::Labels;
-use rl_plain::PlainText;
+use rl_labels::{Labels, ShortText};
 use std::alloc::{AllocError, Global};
 
 // A text after two bytes of length. What is a `&str` is UTF-8.
@@ -34,7 +33,7 @@ fn push_magic(out: &mut Vec<u8>, format: Format) -> Result<(), AllocError>
     }
 }
 
-fn push_label(out: &mut Vec<u8>, label: &(PlainText, PlainText)) -> Result<(), AllocError>
+fn push_label(out: &mut Vec<u8>, label: &(ShortText, ShortText)) -> Result<(), AllocError>
     requires name { length label.now.0 < 2 ^ 16 }
     requires value { length label.now.1 < 2 ^ 16 }
     ensures bytes { OnOk result (out.new.items ≡ out.old.items ++ label_bytes label.now) }
@@ -45,7 +44,7 @@ fn push_label(out: &mut Vec<u8>, label: &(PlainText, PlainText)) -> Result<(), A
 }
 
 // How many labels, and the labels.
-fn push_labels(out: &mut Vec<u8>, labels: &[(PlainText, PlainText)]) -> Result<(), AllocError>
+fn push_labels(out: &mut Vec<u8>, labels: &[(ShortText, ShortText)]) -> Result<(), AllocError>
     requires few { length labels.now < 2 ^ 16 }
     requires names { All (λ label. length label.0 < 2 ^ 16) labels.now }
     requires values { All (λ label. length label.1 < 2 ^ 16) labels.now }

@@ -9,9 +9,8 @@ ghost use Rattle.rl_labels.specs.LabelTrees.{with_new};
 ghost use Rattle.rl_labels.specs.LabelSet.{is_label, are_labels, label, with_label};
 
 use crate::label_tree::LabelTree;
-use crate::labels::Labels;
+use crate::labels::{Labels, push_copies, short_label, value_in};
 use crate::short::ShortText;
-use rl_plain::PlainText;
 use std::alloc::{AllocError, Global};
 use std::cmp::Ordering;
 use std::marker::Model;
@@ -57,7 +56,7 @@ impl LabelsBuilder {
     {
         let pairs = set.pairs();
         let mut labels = Vec::with_capacity(alloc, pairs.len().saturating_add(ROOM))?;
-        push_short(&mut labels, alloc, pairs)?;
+        push_copies(&mut labels, pairs)?;
         Ok(LabelsBuilder {
             alloc,
             form: Form::Few(labels),
@@ -100,7 +99,7 @@ impl LabelsBuilder {
         ensures { IfOk result (λ labels. labels ≡ self.now) }
     {
         let labels = match &self.form {
-            Form::Few(labels) => long_labels(self.alloc, labels)?,
+            Form::Few(labels) => copies(self.alloc, labels)?,
             Form::Many(tree) => tree.labels()?,
         };
         let built = Labels::from_labels(self.alloc, labels)?;
@@ -164,63 +163,16 @@ fn add_to_list(
     Ok(())
 }
 
-// A label as it stands in a set that grows.
-fn short_label(alloc: Global, name: &str, value: &str) -> Result<(ShortText, ShortText), AllocError>
-    ensures { IfOk result (λ label. label ≡ (name.now, value.now)) }
-{
-    let name = ShortText::from_str(alloc, name)?;
-    let value = ShortText::from_str(alloc, value)?;
-    Ok((name, value))
-}
-
-// A label as it stands in a set.
-fn long_label(
-    alloc: Global,
-    label: &(ShortText, ShortText),
-) -> Result<(PlainText, PlainText), AllocError>
-    ensures { IfOk result (λ long. long ≡ label.now) }
-{
-    let name = label.0.to_plain(alloc)?;
-    let value = label.1.to_plain(alloc)?;
-    Ok((name, value))
-}
-
-fn push_short(
-    all: &mut Vec<(ShortText, ShortText)>,
-    alloc: Global,
-    labels: &[(PlainText, PlainText)],
-) -> Result<(), AllocError>
-    ensures { OnOk result (all.new.items ≡ all.old.items ++ labels.now) }
-{
-    for label in labels {
-        all.push(short_label(alloc, label.0.as_str(), label.1.as_str())?)?;
-    }
-    Ok(())
-}
-
-fn long_labels(
+// Copies of labels.
+fn copies(
     alloc: Global,
     labels: &[(ShortText, ShortText)],
-) -> Result<Vec<(PlainText, PlainText)>, AllocError>
+) -> Result<Vec<(ShortText, ShortText)>, AllocError>
     ensures { IfOk result (λ all. all.items ≡ labels.now) }
 {
     let mut all = Vec::with_capacity(alloc, labels.len())?;
-    for label in labels {
-        all.push(long_label(alloc, label)?)?;
-    }
+    push_copies(&mut all, labels)?;
     Ok(all)
-}
-
-// The value of the label with this name.
-fn value_in<'a>(labels: &'a [(ShortText, ShortText)], name: &str) -> Option<&'a str>
-    ensures { option_copied result ≡ find name_cmp name.now labels.now }
-{
-    for label in labels {
-        if name == label.0.as_str() {
-            return Some(label.1.as_str());
-        }
-    }
-    None
 }
 
 // Where a label with the name stands among labels by rising name, unless one has it. It is sought from the end, as most

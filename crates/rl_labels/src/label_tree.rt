@@ -5,7 +5,8 @@ ghost use Rattle.std.specs.FinMap.Entries.{find, put};
 ghost use Rattle.rl_labels.specs.LabelTrees.{with_new};
 ghost use Rattle.rl_labels.specs.Name.{name_cmp};
 
-use rl_plain::{PlainText, TryCopy};
+use crate::short::ShortText;
+use rl_plain::TryCopy;
 use std::alloc::{AllocError, Global};
 use std::collections::BTreeMap;
 use std::marker::Model;
@@ -14,7 +15,7 @@ use std::marker::Model;
 #[derive(Drop)]
 pub(crate) struct LabelTree {
     alloc: Global,
-    by_name: BTreeMap<String, PlainText>,
+    by_name: BTreeMap<String, ShortText>,
 }
 
 impl Model for LabelTree {
@@ -54,7 +55,7 @@ impl LabelTree {
         ensures refused { OnErr result (self.new ≡ self.old) }
     {
         let name = String::from_str(self.alloc, name)?;
-        let value = PlainText::from_str(self.alloc, value)?;
+        let value = ShortText::from_str(self.alloc, value)?;
         self.by_name.insert(name, value)?;
         Ok(())
     }
@@ -71,12 +72,12 @@ impl LabelTree {
     }
 
     /// The labels by rising name, copied.
-    pub(crate) fn labels(&self) -> Result<Vec<(PlainText, PlainText)>, AllocError>
+    pub(crate) fn labels(&self) -> Result<Vec<(ShortText, ShortText)>, AllocError>
         ensures { IfOk result (λ labels. labels.items ≡ self.now) }
     {
         let mut labels = Vec::with_capacity(self.alloc, self.by_name.len())?;
         for (name, value) in self.by_name.iter() {
-            let name = PlainText::from_str(self.alloc, name.as_str())?;
+            let name = ShortText::from_str(self.alloc, name.as_str())?;
             labels.push((name, value.try_copy()?))?;
         }
         Ok(labels)

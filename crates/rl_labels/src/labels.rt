@@ -12,6 +12,7 @@ ghost use Rattle.rl_labels.specs.Pairs.{labels_from, longest_text, names_are_goo
 ghost use Rattle.rl_plain.specs.Answers.{Answers, Gives};
 ghost use Rattle.rl_plain.specs.declared.refusal.OrMemory.TheVariants.{Fault, Memory};
 
+use crate::short::ShortText;
 use rl_plain::{
     OrMemory, PlainList, PlainText, Same, Shared, TryCopy, count_escapes, push_escaped,
 };
@@ -170,8 +171,35 @@ fn room_after(room: usize, label: &(PlainText, PlainText)) -> Option<usize>
         .checked_sub(escapes)
 }
 
+// The labels of pairs, as a set has them.
+fn short_labels(
+    alloc: Global,
+    pairs: &[(PlainText, PlainText)],
+) -> Result<Vec<(ShortText, ShortText)>, AllocError>
+    ensures { IfOk result (λ labels. labels.items ≡ pairs.now) }
+{
+    let mut labels = Vec::with_capacity(alloc, pairs.len())?;
+    for pair in pairs {
+        labels.push(short_label(alloc, pair.0.as_str(), pair.1.as_str())?)?;
+    }
+    Ok(labels)
+}
+
+// A label as a set has it.
+pub(crate) fn short_label(
+    alloc: Global,
+    name: &str,
+    value: &str,
+) -> Result<(ShortText, ShortText), AllocError>
+    ensures { IfOk result (λ label. label ≡ (name.now, value.now)) }
+{
+    let name = ShortText::from_str(alloc, name)?;
+    let value = ShortText::from_str(alloc, value)?;
+    Ok((name, value))
+}
+
 // The value of the label with this name.
-fn value_in<'a>(labels: &'a [(PlainText, PlainText)], name: &str) -> Option<&'a str>
+pub(crate) fn value_in<'a>(labels: &'a [(ShortText, ShortText)], name: &str) -> Option<&'a str>
     ensures { option_copied result ≡ find name_cmp name.now labels.now }
 {
     for label in labels {
@@ -183,7 +211,7 @@ fn value_in<'a>(labels: &'a [(PlainText, PlainText)], name: &str) -> Option<&'a 
 }
 
 // The value of the label with this name, sought by halves among labels by rising name.
-fn value_by_halves<'a>(labels: &'a [(PlainText, PlainText)], name: &str) -> Option<&'a str>
+fn value_by_halves<'a>(labels: &'a [(ShortText, ShortText)], name: &str) -> Option<&'a str>
     requires { IsTrue (are_labels labels.now) }
     ensures { option_copied result ≡ find name_cmp name.now labels.now }
 {
@@ -203,10 +231,10 @@ fn value_by_halves<'a>(labels: &'a [(PlainText, PlainText)], name: &str) -> Opti
 // The labels with one set, or removed where the value is empty.
 fn overridden(
     alloc: Global,
-    labels: &[(PlainText, PlainText)],
+    labels: &[(ShortText, ShortText)],
     name: &str,
     value: &str,
-) -> Result<Vec<(PlainText, PlainText)>, AllocError>
+) -> Result<Vec<(ShortText, ShortText)>, AllocError>
     ensures { IfOk result (λ all. all.items ≡ override name.now value.now labels.now) }
 {
     if value.is_empty() {
@@ -218,9 +246,9 @@ fn overridden(
 // The labels but the one with this name.
 fn without(
     alloc: Global,
-    labels: &[(PlainText, PlainText)],
+    labels: &[(ShortText, ShortText)],
     name: &str,
-) -> Result<Vec<(PlainText, PlainText)>, AllocError>
+) -> Result<Vec<(ShortText, ShortText)>, AllocError>
     ensures { IfOk result (λ kept. kept.items ≡ where_key name_cmp (λ other. not (is_text name.now other)) labels.now) }
 {
     let mut kept = Vec::with_capacity(alloc, labels.len())?;
@@ -231,8 +259,8 @@ fn without(
 }
 
 fn push_other(
-    kept: &mut Vec<(PlainText, PlainText)>,
-    label: &(PlainText, PlainText),
+    kept: &mut Vec<(ShortText, ShortText)>,
+    label: &(ShortText, ShortText),
     name: &str,
 ) -> Result<(), AllocError>
     ensures { OnOk result (kept.new.items ≡ kept.old.items ++ (if is_text name.now label.now.0 then [] else label.now ∷ [])) }
@@ -247,10 +275,10 @@ fn push_other(
 // The labels with this one, which replaces one with its name.
 fn with(
     alloc: Global,
-    labels: &[(PlainText, PlainText)],
+    labels: &[(ShortText, ShortText)],
     name: &str,
     value: &str,
-) -> Result<Vec<(PlainText, PlainText)>, AllocError>
+) -> Result<Vec<(ShortText, ShortText)>, AllocError>
     ensures { IfOk result (λ all. all.items ≡ put name_cmp name.now value.now labels.now) }
 {
     let (before, following) = around(labels, name);
@@ -263,9 +291,9 @@ fn with(
 
 // The labels that stand before one with this name, and those that stand after it.
 fn around<'a>(
-    labels: &'a [(PlainText, PlainText)],
+    labels: &'a [(ShortText, ShortText)],
     name: &str,
-) -> (&'a [(PlainText, PlainText)], &'a [(PlainText, PlainText)])
+) -> (&'a [(ShortText, ShortText)], &'a [(ShortText, ShortText)])
     ensures { (value : List ℕ) → put name_cmp name.now value labels.now ≡ result.0.now ++ (name.now, value) ∷ result.1.now }
 {
     for (index, label) in labels.iter().enumerate() {
@@ -279,22 +307,20 @@ fn around<'a>(
 }
 
 fn push_new(
-    all: &mut Vec<(PlainText, PlainText)>,
+    all: &mut Vec<(ShortText, ShortText)>,
     alloc: Global,
     name: &str,
     value: &str,
 ) -> Result<(), AllocError>
     ensures { OnOk result (all.new.items ≡ all.old.items ++ (name.now, value.now) ∷ []) }
 {
-    let name = PlainText::from_str(alloc, name)?;
-    let value = PlainText::from_str(alloc, value)?;
-    all.push((name, value))?;
+    all.push(short_label(alloc, name, value)?)?;
     Ok(())
 }
 
 pub(crate) fn push_copies(
-    all: &mut Vec<(PlainText, PlainText)>,
-    labels: &[(PlainText, PlainText)],
+    all: &mut Vec<(ShortText, ShortText)>,
+    labels: &[(ShortText, ShortText)],
 ) -> Result<(), AllocError>
     ensures { OnOk result (all.new.items ≡ all.old.items ++ labels.now) }
 {
@@ -305,7 +331,7 @@ pub(crate) fn push_copies(
 }
 
 // The canonical text of labels.
-fn text_of(alloc: Global, labels: &[(PlainText, PlainText)]) -> Result<String, AllocError>
+fn text_of(alloc: Global, labels: &[(ShortText, ShortText)]) -> Result<String, AllocError>
     ensures { IfOk result (λ text. string_bytes text ≡ labels_text labels.now) }
 {
     let mut text = String::with_capacity(alloc, room_for(labels))?;
@@ -316,19 +342,19 @@ fn text_of(alloc: Global, labels: &[(PlainText, PlainText)]) -> Result<String, A
 }
 
 // About how many bytes the text of these labels has.
-fn room_for(labels: &[(PlainText, PlainText)]) -> usize {
+fn room_for(labels: &[(ShortText, ShortText)]) -> usize {
     let mut room = 2usize;
     for label in labels {
         room = room
-            .saturating_add(label.0.len())
-            .saturating_add(label.1.len())
+            .saturating_add(label.0.as_str().len())
+            .saturating_add(label.1.as_str().len())
             .saturating_add(4);
     }
     room
 }
 
 #[tactic(auto, using(crate::proofs::Steps::labels_joined))]
-fn push_labels(text: &mut String, labels: &[(PlainText, PlainText)]) -> Result<(), AllocError>
+fn push_labels(text: &mut String, labels: &[(ShortText, ShortText)]) -> Result<(), AllocError>
     ensures { OnOk result (string_bytes text.new ≡ string_bytes text.old ++ join_with_byte 44 (map label_text labels.now)) }
 {
     match labels {
@@ -341,7 +367,7 @@ fn push_labels(text: &mut String, labels: &[(PlainText, PlainText)]) -> Result<(
     Ok(())
 }
 
-fn push_others(text: &mut String, labels: &[(PlainText, PlainText)]) -> Result<(), AllocError>
+fn push_others(text: &mut String, labels: &[(ShortText, ShortText)]) -> Result<(), AllocError>
     ensures { OnOk result (string_bytes text.new ≡ string_bytes text.old ++ flat_map (λ label. 44 ∷ label_text label) labels.now) }
 {
     for label in labels {
@@ -363,7 +389,7 @@ fn push_label(text: &mut String, name: &str, value: &str) -> Result<(), AllocErr
 // The labels by rising name, and their canonical text.
 #[derive(Drop)]
 struct Parts {
-    labels: PlainList<(PlainText, PlainText)>,
+    labels: PlainList<(ShortText, ShortText)>,
     text: PlainText,
 }
 
@@ -403,7 +429,8 @@ impl Labels {
         ensures of_stream { IfOk result (λ labels. IsTrue (are_stream_labels labels)) }
         ensures given { IfOk result (λ labels. (name : List ℕ) → label labels name ≡ given pairs.items name) }
     {
-        let labels = labels_in(pairs)?;
+        let pairs = labels_in(pairs)?;
+        let labels = short_labels(alloc, &pairs)?;
         Ok(Labels::from_labels(alloc, labels)?)
     }
 
@@ -417,7 +444,7 @@ impl Labels {
     // The set of labels by rising name.
     pub(crate) fn from_labels(
         alloc: Global,
-        labels: Vec<(PlainText, PlainText)>,
+        labels: Vec<(ShortText, ShortText)>,
     ) -> Result<Labels, AllocError>
         requires { IsTrue (are_labels labels.items) }
         ensures { IfOk result (λ made. made ≡ label_set_of labels.items) }
@@ -451,7 +478,7 @@ impl Labels {
     }
 
     /// The labels by rising name.
-    pub fn pairs(&self) -> &[(PlainText, PlainText)]
+    pub fn pairs(&self) -> &[(ShortText, ShortText)]
         ensures { result.now ≡ labels_of self.now }
     {
         self.parts.get().labels.as_slice()

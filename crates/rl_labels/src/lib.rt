@@ -7,7 +7,7 @@
 //! - `entry`: `Entry`, labels with a moment and a line.
 //! - `matcher`: `Matcher`, and its built code that accepts label sets. `selector`: the code of many that must all accept.
 //! - `covers`: what covers entries, as delete requests do. `routing`: which of several shards a stream goes to.
-//! - `short`: texts that lie in the value itself where they are short.
+//! - `short`: `ShortText`, which lies in the value itself where it is short.
 //! - `decimal`: rows of digits, and `Decimal`. `duration`: `Duration`. `size`: `Size`. `signed`: `Signed`, which labels' values are.
 //! - `sending`: built matchers may be sent to another thread.
 //! - `ns`: `Ns`, moments in nanoseconds, and `SECOND`.
@@ -28,7 +28,7 @@ mod quantity;
 pub mod routing;
 pub mod selector;
 pub mod sending;
-mod short;
+pub mod short;
 pub mod signed;
 pub mod size;
 
@@ -43,5 +43,6 @@ pub use matcher::{MatchOp, Matcher, MatcherCode, MatcherError, MatcherFault};
 pub use ns::{Ns, SECOND};
 pub use routing::shard_of;
 pub use selector::SelectorCode;
+pub use short::ShortText;
 pub use signed::Signed;
 pub use size::{Size, SizeUnit};

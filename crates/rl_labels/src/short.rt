@@ -1,14 +1,15 @@
 //! Texts that need no memory of their own where they are short.
-ghost use Rattle.std.specs.Prelude.{◌≡◌, IfOk};
+ghost use Rattle.std.specs.Prelude.{◌≡◌, IfOk, Some};
 
 use arrayvec::ArrayString;
-use rl_plain::PlainText;
+use rl_plain::{PlainText, TryCopy};
 use std::alloc::{AllocError, Global};
+use std::fmt;
 use std::marker::Model;
 
-/// A text, which lies in the value itself where it is short. Contracts see its bytes.
+/// A text, which lies in the value itself where it has at most 24 bytes. Contracts see its bytes.
 #[derive(Drop)]
-pub(crate) struct ShortText {
+pub struct ShortText {
     form: Form,
 }
 
@@ -29,7 +30,7 @@ impl Model for ShortText {
 
 impl ShortText {
     /// A copy of the text.
-    pub(crate) fn from_str(alloc: Global, text: &str) -> Result<ShortText, AllocError>
+    pub fn from_str(alloc: Global, text: &str) -> Result<ShortText, AllocError>
         ensures { IfOk result (λ copy. copy ≡ text.now) }
     {
         let form = match ArrayString::from(text) {
@@ -40,7 +41,7 @@ impl ShortText {
     }
 
     /// The text, borrowed.
-    pub(crate) fn as_str(&self) -> &str
+    pub fn as_str(&self) -> &str
         ensures { result.now ≡ self.now }
     {
         match &self.form {
@@ -48,11 +49,31 @@ impl ShortText {
             Form::Long(long) => long.as_str(),
         }
     }
+}
 
-    /// A copy with memory of its own.
-    pub(crate) fn to_plain(&self, alloc: Global) -> Result<PlainText, AllocError>
-        ensures { IfOk result (λ plain. plain ≡ self.now) }
-    {
-        PlainText::from_str(alloc, self.as_str())
+impl TryCopy for ShortText {
+    /// Takes memory only for a text that is not short.
+    fn try_copy(&self) -> Result<Self, AllocError> {
+        let form = match &self.form {
+            Form::Short(short) => Form::Short(copied(short)),
+            Form::Long(long) => Form::Long(long.try_copy()?),
+        };
+        Ok(ShortText { form })
+    }
+}
+
+fn copied(text: &ArrayString<24>) -> ArrayString<24>
+    ensures { result.bytes ≡ text.now.bytes }
+{
+    let mut copy = ArrayString::new();
+    copy.push_str(text.as_str());
+    copy
+}
+
+impl fmt::Display for ShortText {
+    ghost output = { λ t. Some t };
+
+    fn fmt<W: fmt::Write>(&self, f: &mut fmt::Formatter<W>) -> fmt::Result {
+        f.write_str(self.as_str())
     }
 }

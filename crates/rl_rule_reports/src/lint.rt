@@ -98,8 +98,18 @@ fn push_rule(
     }
     push_doubts(findings, location, &rule.query)?;
     push_overwritten(findings, location, rule)?;
-    push_templates(findings, location, "label", rule.labels.as_slice())?;
-    push_templates(findings, location, "annotation", rule.annotations.pairs())?;
+    for (name, value) in rule.labels.as_slice() {
+        push_template(findings, location, "label", name.as_str(), value.as_str())?;
+    }
+    for (name, value) in rule.annotations.pairs() {
+        push_template(
+            findings,
+            location,
+            "annotation",
+            name.as_str(),
+            value.as_str(),
+        )?;
+    }
     let hold = rule.hold;
     if hold > 0 && hold < interval {
         begin(findings, location)?;
@@ -173,21 +183,20 @@ fn push_overwritten(
     Ok(())
 }
 
-// Texts that another ruler would fill in.
-fn push_templates(
+// A text that another ruler would fill in.
+fn push_template(
     findings: &mut Findings,
     location: &Location<'_>,
     word: &str,
-    pairs: &[(PlainText, PlainText)],
+    name: &str,
+    value: &str,
 ) -> Result<(), OutOfMemory> {
-    for (name, value) in pairs {
-        if value.as_str().contains("{{") {
-            begin(findings, location)?;
-            writeln!(
-                findings.text,
-                "the {word} {name} has {{{{ .. }}}}, which stays as it is"
-            )?;
-        }
+    if value.contains("{{") {
+        begin(findings, location)?;
+        writeln!(
+            findings.text,
+            "the {word} {name} has {{{{ .. }}}}, which stays as it is"
+        )?;
     }
     Ok(())
 }
