@@ -7,7 +7,7 @@ use rl_chunks::{MemStore, Store, StoreFault};
 use rl_labels::{DEFAULT_LIMITS, Limits, Ns};
 use rl_plain::{PlainList, Shared};
 use rl_rules::{Group, read_rules};
-use rl_session::{Engine, RunError, Session, Status, WorldEngine, read_push};
+use rl_session::{Engine, Printer, RunError, Session, Status, WorldEngine, read_push};
 use rl_shard::ShardStep;
 use rl_sinks::{Recorder, Sink};
 use rl_world::{Committed, Reply, Step, World};
@@ -184,7 +184,7 @@ fn engine<S: Sink>(alloc: Global, sinks: Vec<Vec<S>>) -> Option<WorldEngine<MemS
 
 // Runs commands over any engine.
 fn run<E: Engine>(alloc: Global, engine: E, text: &str, out: &mut Planned) -> End {
-    Session::new(alloc, engine).run_commands(text, out)
+    Session::new(alloc, engine).run_commands(text, &mut Printer::new(out))
 }
 
 /// Runs commands over the group `g` with a recorder.

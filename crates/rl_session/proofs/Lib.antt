@@ -10,5 +10,6 @@ mod Printing
 pub mod Following
 pub mod LinesSoFar
 mod Texts
+pub mod Printers
 mod Examples
 pub mod Worlds

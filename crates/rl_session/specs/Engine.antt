@@ -1,9 +1,7 @@
 -- What a session asks of an engine, and what is known of the answers.
-use Rattle.std.specs.Prelude.{◌≡◌, ℕ, suc, ⊤, Bool, List, [], ◌∷◌, ◌++◌, Option, None, Some, is_some, option_map, Result, IfOk, OnOk, codes, if◌then◌else◌}
+use Rattle.std.specs.Prelude.{◌≡◌, ℕ, suc, ⊤, Bool, List, [], ◌∷◌, ◌++◌, Option, None, Some, is_some, option_map, Result, codes, if◌then◌else◌}
 use Rattle.std.specs.List.{concat}
 use Rattle.std.specs.Fmt.{decimal}
-use Rattle.std.specs.Io.KnownBytes.{Appends}
-use Rattle.std.specs.declared.io.Error.{Error}
 use Rattle.rl_labels.specs.Name.{is_text}
 use Rattle.rl_labels.specs.declared.entry.Entry.{Entry}
 use Rattle.rl_rules.specs.declared.rule.Group.{Group}
@@ -11,6 +9,7 @@ use Rattle.rl_shard.specs.declared.step.ShardReply.{ShardReply}
 use Rattle.rl_shard.specs.declared.step.ShardStep.{ShardStep}
 use Rattle.rl_world.specs.declared.fault.Refusal.{Refusal}
 use Rattle.rl_world.specs.declared.step.Committed.{Committed}
+use Rattle.rl_session.specs.Printer.{Printing, Prints}
 use Rattle.rl_session.specs.declared.engine.Partly.{Partly}
 
 -- a group as an engine lists it: its name, and how many sinks it has
@@ -64,15 +63,15 @@ abbrev pub number_named : List ℕ → List Listed → Option ℕ
 number_named name [] = None
 number_named name (group ∷ groups) = if is_text group.name name then Some 0 else option_map suc (number_named name groups)
 
--- what is written of a sink: nothing where there is none
+-- what is printed of a sink: nothing where there is none
 abbrev pub kept_text : Option Shown → List ℕ
 kept_text None = []
 kept_text (Some sink) = codes "count " ++ decimal sink.count ++ codes "\n" ++ concat sink.kept
 
--- where no error came, this is the answer, and the text follows what stood there
-abbrev pub IsAnswered : {A : Type 0} → A → List ℕ → Option (List ℕ) → Result A Error → Option (List ℕ) → Type 0
-IsAnswered answer text before result after = IfOk result (λ given. given ≡ answer) × OnOk result (Appends before after text)
+-- this is the answer, and the text is printed
+abbrev pub IsAnswered : {A : Type 0} → A → List ℕ → Printing → A → Printing → Type 0
+IsAnswered answer text before result after = (result ≡ answer) × Prints before text after
 
 -- the answer is whether a sink is there, and the text what it has
-abbrev pub ShowsIn : {E : Type 0} → Calls E → E → ℕ → ℕ → Option (List ℕ) → Result Bool Error → Option (List ℕ) → Type 0
+abbrev pub ShowsIn : {E : Type 0} → Calls E → E → ℕ → ℕ → Printing → Bool → Printing → Type 0
 ShowsIn calls engine group sink old result new = (shown : Option Shown) × calls.shows engine group sink shown × IsAnswered (is_some shown) (kept_text shown) old result new

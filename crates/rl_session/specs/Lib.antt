@@ -4,6 +4,7 @@ pub mod Edits
 pub mod Engine
 pub mod Asking
 pub mod Printed
+pub mod Printer
 pub mod Session
 pub mod PushBody
 pub mod PushForms
@@ -12,3 +13,4 @@ pub mod Pumping
 pub mod Front
 pub mod Reading
 pub mod WorldEngine
+pub mod Unwritten

@@ -1,7 +1,6 @@
 -- What a session prints over an engine, line after line, and how it ends.
-use Rattle.std.specs.Prelude.{◌≡◌, ℕ, nat_lt, Bool, true, false, ◌||◌, List, [], ◌∷◌, ◌++◌, Option, None, Some, Result, Ok, Err, if◌then◌else◌}
+use Rattle.std.specs.Prelude.{◌≡◌, ◌⊎◌, ℕ, nat_lt, Bool, true, false, ◌||◌, List, [], ◌∷◌, ◌++◌, Option, None, Some, Result, Ok, Err, IfOk, OnErr, if◌then◌else◌}
 use Rattle.std.specs.List.{list_all}
-use Rattle.std.specs.Io.KnownBytes.{Appends}
 use Rattle.std.specs.declared.io.Error.{Error}
 use Rattle.rl_shard.specs.declared.step.ShardStep.TheVariants as shard_steps
 use Rattle.rl_world.specs.declared.fault.Refusal.{Refusal}
@@ -10,6 +9,7 @@ use Rattle.rl_session.specs.Command.{Asked, pushes, cuts, flushes, deletes, canc
 use Rattle.rl_session.specs.Engine.{Calls, IsAnswered, Shown, number_named}
 use Rattle.rl_session.specs.Front.{lines_of}
 use Rattle.rl_session.specs.Printed.{shown_text, shown_answer, printed, answer_to, closed_text}
+use Rattle.rl_session.specs.Printer.{Printing, Prints, HoldsFront, IsAllPrinted, IsCutOff}
 use Rattle.rl_session.specs.PushBody.{entries_of}
 use Rattle.rl_session.specs.declared.session.RunError.{RunError}
 use Rattle.rl_session.specs.declared.session.RunError.TheVariants.{WriteFault}
@@ -73,29 +73,37 @@ module _ {E : Type 0} (calls : Calls E) where
   AreLinesExecuted old [] text refused new = (text ≡ []) × (refused ≡ false) × (new ≡ old)
   AreLinesExecuted old (line ∷ lines) text refused new = (first : List ℕ) × (here : Answer) × (mid : E) × IsLineExecuted old (list_all is_blank_byte line) line first here mid × IsRestExecuted mid here first (AreLinesExecuted mid lines) text refused new
 
-  -- a command is executed; what is said of its text and its answer holds where no error came
-  abbrev pub Executes : E → Option Asked → Option (List ℕ) → Result Answer Error → Option (List ℕ) → E → Type 0
+  -- a command is executed, and its text printed
+  abbrev pub Executes : E → Option Asked → Printing → Answer → Printing → E → Type 0
   Executes old asked before result after new = (text : List ℕ) × (answer : Answer) × IsExecuted old asked text answer new × IsAnswered answer text before result after
 
   -- a sink is shown
-  abbrev pub ShowsTo : E → Option ℕ → ℕ → Option (List ℕ) → Result Answer Error → Option (List ℕ) → Type 0
+  abbrev pub ShowsTo : E → Option ℕ → ℕ → Printing → Answer → Printing → Type 0
   ShowsTo engine group sink before result after = (shown : Option Shown) × IsForShow calls engine group sink shown × IsAnswered (shown_answer shown) (shown_text shown) before result after
 
-  -- a line is executed
-  abbrev pub ExecutesLine : E → List ℕ → Option (List ℕ) → Result Answer Error → Option (List ℕ) → E → Type 0
-  ExecutesLine old line before result after new = (text : List ℕ) × (answer : Answer) × IsLineExecuted old (list_all is_blank_byte line) line text answer new × IsAnswered answer text before result after
+  -- a line is executed, and its text printed; where a write failed, a front of what was asked for is written
+  abbrev pub ExecutesLine : E → List ℕ → Printing → Result Answer Error → Printing → E → Type 0
+  ExecutesLine old line before result after new = (text : List ℕ) × (answer : Answer) × IsLineExecuted old (list_all is_blank_byte line) line text answer new × Prints before text after × IfOk result (λ given. given ≡ answer) × OnErr result (HoldsFront after)
 
   -- the first so many lines of a text are executed, and no other
-  abbrev pub FirstAreExecuted : E → List ℕ → E → Type 0
-  FirstAreExecuted old commands new = (done : List (List ℕ)) × (left : List (List ℕ)) × (lines_of commands ≡ done ++ left) × (text : List ℕ) × (refused : Bool) × AreLinesExecuted old done text refused new
+  abbrev pub FirstAreExecuted : E → List ℕ → List ℕ → E → Type 0
+  FirstAreExecuted old commands text new = (done : List (List ℕ)) × (left : List (List ℕ)) × (lines_of commands ≡ done ++ left) × (refused : Bool) × AreLinesExecuted old done text refused new
 
-  -- all lines are executed; or a write failed, and the first so many are
-  abbrev pub ExecutesText : E → List ℕ → Option (List ℕ) → Result Bool Error → Option (List ℕ) → E → Type 0
-  ExecutesText old commands before (Ok refused) after new = (text : List ℕ) × AreLinesExecuted old (lines_of commands) text refused new × Appends before after text
-  ExecutesText old commands before (Err error) after new = FirstAreExecuted old commands new
+  -- all lines are executed, and their text printed; or a write failed, and the first so many are
+  abbrev pub ExecutesText : E → List ℕ → Printing → Result Bool Error → Printing → E → Type 0
+  ExecutesText old commands before (Ok refused) after new = (text : List ℕ) × AreLinesExecuted old (lines_of commands) text refused new × Prints before text after
+  ExecutesText old commands before (Err error) after new = (text : List ℕ) × FirstAreExecuted old commands text new × Prints before text after × HoldsFront after
 
-  -- a session: its lines are executed, then the engine is closed, and that is printed; or a write failed, and the engine is closed
-  -- after the first so many lines
-  abbrev pub ExecutesSession : E → List ℕ → Option (List ℕ) → Result Status RunError → Option (List ℕ) → E → Type 0
-  ExecutesSession old commands before (Ok status) after new = (text : List ℕ) × (refused : Bool) × (mid : E) × (closed : Result ℕ Refusal) × AreLinesExecuted old (lines_of commands) text refused mid × calls.closes mid closed new × (status ≡ ended_by closed refused) × Appends before after (text ++ closed_text closed)
-  ExecutesSession old commands before (Err error) after new = (error ≡ WriteFault) × (mid : E) × (closed : Result ℕ Refusal) × FirstAreExecuted old commands mid × calls.closes mid closed new
+  -- a session whose lines are executed, then the engine is closed, and what is printed in all
+  abbrev pub AreAllExecuted : E → List ℕ → (List ℕ → Type 0) → Bool → Result ℕ Refusal → E → Type 0
+  AreAllExecuted old commands IsPrinted refused closed new = (text : List ℕ) × (mid : E) × AreLinesExecuted old (lines_of commands) text refused mid × calls.closes mid closed new × IsPrinted (text ++ closed_text closed)
+
+  -- one whose first so many lines are, then the engine is closed, and what is printed of the lines
+  abbrev pub AreFirstExecuted : E → List ℕ → (List ℕ → Type 0) → E → Type 0
+  AreFirstExecuted old commands IsPrinted new = (text : List ℕ) × (mid : E) × (closed : Result ℕ Refusal) × FirstAreExecuted old commands text mid × calls.closes mid closed new × IsPrinted text
+
+  -- a session: its lines are executed, then the engine is closed, and all of that is printed; or a write failed, at the first so
+  -- many lines, after which the engine is closed, or at the last line, and what is printed is the beginning of what these print
+  abbrev pub ExecutesSession : E → List ℕ → Printing → Result Status RunError → Printing → E → Type 0
+  ExecutesSession old commands before (Ok status) after new = (refused : Bool) × (closed : Result ℕ Refusal) × (status ≡ ended_by closed refused) × AreAllExecuted old commands (λ text. IsAllPrinted before text after) refused closed new
+  ExecutesSession old commands before (Err error) after new = (error ≡ WriteFault) × (AreFirstExecuted old commands (λ text. IsCutOff before text after) new ⊎ ((refused : Bool) × (closed : Result ℕ Refusal) × AreAllExecuted old commands (λ text. IsCutOff before text after) refused closed new))

@@ -2,12 +2,12 @@
 ghost use Rattle.std.specs.Prelude.{◌≡◌, length, IfOk};
 ghost use Rattle.rl_session.specs.Engine.{Calls, number_named, ShowsIn};
 
+use crate::printer::Printer;
 use rl_labels::{Entry, Ns};
 use rl_plain::{PlainList, Shared};
 use rl_rules::Group;
 use rl_shard::{ShardReply, ShardStep};
 use rl_world::{Committed, Refusal};
-use std::io;
 use std::io::Write;
 
 /// Why a step was not decided by every shard.
@@ -63,10 +63,10 @@ pub trait Engine: Drop {
     fn is_due(&self, group: usize, now: Ns) -> bool
         ensures { calls.is_due self.now group now result };
 
-    /// Writes `count`, how many texts the sink has taken, and the texts that it keeps. False, and nothing is written, where there
+    /// Prints `count`, how many texts the sink has taken, and the texts that it keeps. False, and nothing is printed, where there
     /// is no such sink.
-    fn show<W: Write>(&self, group: usize, sink: usize, out: &mut W) -> io::Result<bool>
-        ensures { ShowsIn calls self.now group sink (W.contents out.old) result (W.contents out.new) };
+    fn show<W: Write>(&self, group: usize, sink: usize, out: &mut Printer<W>) -> bool
+        ensures { ShowsIn calls self.now group sink out.old result out.new };
 
     /// Closes the sinks. How many could not write all.
     fn close(&mut self) -> Result<u64, Refusal>

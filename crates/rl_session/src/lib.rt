@@ -5,7 +5,7 @@
 //! - `engine`: `Engine`, what evaluates the groups. `world_engine`: `WorldEngine`, a world on one thread. `pumping`: `Pumping`, an
 //!   engine whose sinks catch up after each evaluation.
 //! - `command`: `Command`, one line. `edit`: the group of an edit. `asking`: what commands ask of an engine, and their results.
-//! - `output`: what is printed of that. `session`: `Session`, many lines.
+//! - `output`: what is printed of that. `printer`: `Printer`, what it is printed on. `session`: `Session`, many lines.
 //! - `names`: the names of faults and refusals.
 #![tactic(auto)]
 
@@ -17,14 +17,17 @@ pub mod front;
 mod known_labels;
 pub mod names;
 mod output;
+pub mod printer;
 pub mod pumping;
 pub mod push;
 pub mod session;
+mod unwritten;
 pub mod world_engine;
 
 pub use command::{Command, is_blank, read_command};
 pub use engine::{Engine, Partly};
 pub use front::{Commands, Front, FrontError, FrontFault, read_front};
+pub use printer::Printer;
 pub use pumping::Pumping;
 pub use push::{PushError, PushFault, PushReader, read_push};
 pub use session::{RunError, Session, Status};

@@ -1,9 +1,10 @@
 //! What is printed of the results of commands.
-ghost use Rattle.std.specs.Prelude.{◌≡◌, flat_map, Some, OnOk, is_err};
+ghost use Rattle.std.specs.Prelude.{◌≡◌, flat_map, Some, is_err};
 ghost use Rattle.std.specs.List.{list_any};
 ghost use Rattle.std.specs.Option.{option_map};
-ghost use Rattle.std.specs.Io.KnownBytes.{Appends};
+ghost use Rattle.rl_sinks.specs.Texts.{tail_text};
 ghost use Rattle.rl_session.specs.Engine.{IsAnswered};
+ghost use Rattle.rl_session.specs.Printer.{Prints};
 ghost use Rattle.rl_session.specs.Printed.{refusal_line, bad_push_line, counts_line, entry_line, entry_lines, is_refused, evaluated_text, ticked_text, pushed_text, none_pushed, asked_text, decided_text, partly_line, number_text, behind_line, caught_up_text, committed_text, printed, answer_of, answer_to, closed_text, not_closed_line};
 
 use crate::edit::EditRefusal;
@@ -11,13 +12,14 @@ use crate::engine::Partly;
 use crate::names::{
     edit_refusal_name, push_error_name, push_refusal, query_error_name, refusal_name, shard_refusal,
 };
+use crate::printer::Printer;
 use crate::push::PushError;
 use rl_plain::PlainList;
 use rl_query::QueryError;
+use rl_rules::Evaluation;
 use rl_shard::ShardReply;
 use rl_sinks::write_tail;
 use rl_world::{Committed, Refusal};
-use std::io;
 use std::io::Write;
 
 /// What became of a command.
@@ -94,19 +96,16 @@ fn answer_of(refused: bool) -> Answer
 }
 
 /// Prints the result of a command. What becomes of the command.
-pub(crate) fn write_result<W: Write>(
-    command_result: &CommandResult,
-    out: &mut W,
-) -> io::Result<Answer>
-    ensures { IsAnswered (answer_to command_result.now) (printed command_result.now) (W.contents out.old) result (W.contents out.new) }
+pub(crate) fn write_result<W: Write>(command_result: &CommandResult, out: &mut Printer<W>) -> Answer
+    ensures { IsAnswered (answer_to command_result.now) (printed command_result.now) out.old result out.new }
 {
-    print(command_result, out)?;
-    Ok(answer_to(command_result))
+    print(command_result, out);
+    answer_to(command_result)
 }
 
 // Prints the result of a command.
-fn print<W: Write>(command_result: &CommandResult, out: &mut W) -> io::Result<()>
-    ensures { OnOk result (Appends (W.contents out.old) (W.contents out.new) (printed command_result.now)) }
+fn print<W: Write>(command_result: &CommandResult, out: &mut Printer<W>)
+    ensures { Prints out.old (printed command_result.now) out.new }
 {
     match command_result {
         CommandResult::Refused => refuse(out, "BadCommand"),
@@ -115,7 +114,7 @@ fn print<W: Write>(command_result: &CommandResult, out: &mut W) -> io::Result<()
         CommandResult::Unpushed(count) => write_none_pushed(*count, out),
         CommandResult::NoSelector(error) => refuse(out, query_error_name(*error)),
         CommandResult::Asked(asked) => write_asked(asked, out),
-        CommandResult::Edited(Ok(())) => out.write_all(b"ok\n"),
+        CommandResult::Edited(Ok(())) => out.text("ok\n"),
         CommandResult::Edited(Err(refusal)) => refuse(out, edit_refusal_name(*refusal)),
         CommandResult::Evaluated(result) => write_evaluated(result, out),
         CommandResult::Ticked(results) => write_ticked(results, out),
@@ -123,25 +122,29 @@ fn print<W: Write>(command_result: &CommandResult, out: &mut W) -> io::Result<()
     }
 }
 
-fn refuse<W: Write>(out: &mut W, name: &str) -> io::Result<()>
-    ensures { OnOk result (Appends (W.contents out.old) (W.contents out.new) (refusal_line name.now)) }
+fn refuse<W: Write>(out: &mut Printer<W>, name: &str)
+    ensures { Prints out.old (refusal_line name.now) out.new }
 {
-    writeln!(out, "refused {name}")
+    out.text("refused ");
+    out.text(name);
+    out.text("\n");
 }
 
-fn refuse_push<W: Write>(out: &mut W, name: &str) -> io::Result<()>
-    ensures { OnOk result (Appends (W.contents out.old) (W.contents out.new) (bad_push_line name.now)) }
+fn refuse_push<W: Write>(out: &mut Printer<W>, name: &str)
+    ensures { Prints out.old (bad_push_line name.now) out.new }
 {
-    writeln!(out, "refused BadPush {name}")
+    out.text("refused BadPush ");
+    out.text(name);
+    out.text("\n");
 }
 
 // Prints how many entries were accepted, and each of the others with its number and its refusal.
-fn write_pushed<W: Write>(answers: &[Result<ShardReply, Refusal>], out: &mut W) -> io::Result<()>
-    ensures { OnOk result (Appends (W.contents out.old) (W.contents out.new) (pushed_text answers.now)) }
+fn write_pushed<W: Write>(answers: &[Result<ShardReply, Refusal>], out: &mut Printer<W>)
+    ensures { Prints out.old (pushed_text answers.now) out.new }
 {
     let refused = answers.iter().filter(|answer| is_refused(answer)).count();
-    write_counts(answers.len() - refused, refused, out)?;
-    write_refusals(answers, out)
+    write_counts(answers.len() - refused, refused, out);
+    write_refusals(answers, out);
 }
 
 fn is_refused(answer: &Result<ShardReply, Refusal>) -> bool
@@ -151,95 +154,102 @@ fn is_refused(answer: &Result<ShardReply, Refusal>) -> bool
 }
 
 // Prints how many entries were accepted, and how many refused if some were.
-fn write_counts<W: Write>(accepted: usize, refused: usize, out: &mut W) -> io::Result<()>
-    ensures { OnOk result (Appends (W.contents out.old) (W.contents out.new) (counts_line accepted refused)) }
+fn write_counts<W: Write>(accepted: usize, refused: usize, out: &mut Printer<W>)
+    ensures { Prints out.old (counts_line accepted refused) out.new }
 {
-    if refused == 0 {
-        writeln!(out, "accepted {accepted}")
-    } else {
-        writeln!(out, "accepted {accepted} refused {refused}")
+    out.text("accepted ");
+    out.number(accepted as u64);
+    if refused > 0 {
+        out.text(" refused ");
+        out.number(refused as u64);
     }
+    out.text("\n");
 }
 
 // Prints the number and the refusal of each entry that was refused.
-fn write_refusals<W: Write>(answers: &[Result<ShardReply, Refusal>], out: &mut W) -> io::Result<()>
-    ensures { OnOk result (Appends (W.contents out.old) (W.contents out.new) (entry_lines 0 answers.now)) }
+fn write_refusals<W: Write>(answers: &[Result<ShardReply, Refusal>], out: &mut Printer<W>)
+    ensures { Prints out.old (entry_lines 0 answers.now) out.new }
 {
     for (number, answer) in answers.iter().enumerate() {
         if let Some(name) = push_refusal(answer) {
-            write_refusal(number, name, out)?;
+            write_refusal(number, name, out);
         }
     }
-    Ok(())
 }
 
-fn write_refusal<W: Write>(number: usize, name: &str, out: &mut W) -> io::Result<()>
-    ensures { OnOk result (Appends (W.contents out.old) (W.contents out.new) (entry_line number (Some name.now))) }
+fn write_refusal<W: Write>(number: usize, name: &str, out: &mut Printer<W>)
+    ensures { Prints out.old (entry_line number (Some name.now)) out.new }
 {
-    writeln!(out, "  {number} {name}")
+    out.text("  ");
+    out.number(number as u64);
+    out.text(" ");
+    out.text(name);
+    out.text("\n");
 }
 
 // Prints that there was no memory for any of `count` entries.
-fn write_none_pushed<W: Write>(count: usize, out: &mut W) -> io::Result<()>
-    ensures { OnOk result (Appends (W.contents out.old) (W.contents out.new) (pushed_text (none_pushed count))) }
+fn write_none_pushed<W: Write>(count: usize, out: &mut Printer<W>)
+    ensures { Prints out.old (pushed_text (none_pushed count)) out.new }
 {
-    write_counts(0, count, out)?;
-    write_each_refused(count, out)
+    write_counts(0, count, out);
+    write_each_refused(count, out);
 }
 
 // Prints of each of `count` entries that there was no memory for it.
-fn write_each_refused<W: Write>(count: usize, out: &mut W) -> io::Result<()>
-    ensures { OnOk result (Appends (W.contents out.old) (W.contents out.new) (entry_lines 0 (none_pushed count))) }
+fn write_each_refused<W: Write>(count: usize, out: &mut Printer<W>)
+    ensures { Prints out.old (entry_lines 0 (none_pushed count)) out.new }
 {
     for number in 0..count {
-        write_refusal(number, "Memory", out)?;
+        write_refusal(number, "Memory", out);
     }
-    Ok(())
 }
 
 // Prints whether each shard decided a step, or how many did and why the next one did not.
-fn write_asked<W: Write>(asked: &Result<Option<ShardReply>, Partly>, out: &mut W) -> io::Result<()>
-    ensures { OnOk result (Appends (W.contents out.old) (W.contents out.new) (asked_text asked.now)) }
+fn write_asked<W: Write>(asked: &Result<Option<ShardReply>, Partly>, out: &mut Printer<W>)
+    ensures { Prints out.old (asked_text asked.now) out.new }
 {
     match asked {
-        Ok(None) => out.write_all(b"ok\n"),
+        Ok(None) => out.text("ok\n"),
         Ok(Some(reply)) => write_decided(shard_refusal(reply), out),
         Err(partly) => write_partly(partly.done, refusal_name(partly.refusal), out),
     }
 }
 
 // Prints why a shard refused, if it did.
-fn write_decided<W: Write>(refusal: Option<&'static str>, out: &mut W) -> io::Result<()>
-    ensures { OnOk result (Appends (W.contents out.old) (W.contents out.new) (decided_text (option_map (λ name. name.now) refusal.entry))) }
+fn write_decided<W: Write>(refusal: Option<&'static str>, out: &mut Printer<W>)
+    ensures { Prints out.old (decided_text (option_map (λ name. name.now) refusal.entry)) out.new }
 {
     match refusal {
         Some(name) => refuse(out, name),
-        None => out.write_all(b"ok\n"),
+        None => out.text("ok\n"),
     }
 }
 
-fn write_partly<W: Write>(done: u64, name: &str, out: &mut W) -> io::Result<()>
-    ensures { OnOk result (Appends (W.contents out.old) (W.contents out.new) (partly_line done name.now)) }
+fn write_partly<W: Write>(done: u64, name: &str, out: &mut Printer<W>)
+    ensures { Prints out.old (partly_line done name.now) out.new }
 {
-    writeln!(out, "partly {done} {name}")
+    out.text("partly ");
+    out.number(done);
+    out.text(" ");
+    out.text(name);
+    out.text("\n");
 }
 
 // Prints what the groups that were due gave, if some were.
-fn write_ticked<W: Write>(results: &[Result<Committed, Refusal>], out: &mut W) -> io::Result<()>
-    ensures { OnOk result (Appends (W.contents out.old) (W.contents out.new) (ticked_text results.now)) }
+fn write_ticked<W: Write>(results: &[Result<Committed, Refusal>], out: &mut Printer<W>)
+    ensures { Prints out.old (ticked_text results.now) out.new }
 {
     if results.is_empty() {
-        return out.write_all(b"ok\n");
+        return out.text("ok\n");
     }
     for evaluated in results {
-        write_evaluated(evaluated, out)?;
+        write_evaluated(evaluated, out);
     }
-    Ok(())
 }
 
 // Prints what an evaluation found, or why it was refused.
-fn write_evaluated<W: Write>(evaluated: &Result<Committed, Refusal>, out: &mut W) -> io::Result<()>
-    ensures { OnOk result (Appends (W.contents out.old) (W.contents out.new) (evaluated_text evaluated.now)) }
+fn write_evaluated<W: Write>(evaluated: &Result<Committed, Refusal>, out: &mut Printer<W>)
+    ensures { Prints out.old (evaluated_text evaluated.now) out.new }
 {
     match evaluated {
         Ok(committed) => write_committed(committed, out),
@@ -248,60 +258,69 @@ fn write_evaluated<W: Write>(evaluated: &Result<Committed, Refusal>, out: &mut W
 }
 
 // Prints what an evaluation found, and which sinks are behind.
-fn write_committed<W: Write>(committed: &Committed, out: &mut W) -> io::Result<()>
-    ensures { OnOk result (Appends (W.contents out.old) (W.contents out.new) (committed_text committed.now)) }
+fn write_committed<W: Write>(committed: &Committed, out: &mut Printer<W>)
+    ensures { Prints out.old (committed_text committed.now) out.new }
 {
-    write_tail(out, committed.evaluation.get())?;
-    write_behind(committed.behind.as_slice(), out)
+    write_text(out, committed.evaluation.get());
+    write_behind(committed.behind.as_slice(), out);
+}
+
+// Prints what a tail is given of an evaluation.
+fn write_text<W: Write>(out: &mut Printer<W>, evaluation: &Evaluation)
+    ensures { Prints out.old (tail_text evaluation.now) out.new }
+{
+    match write_tail(out, evaluation) {
+        Ok(()) => {}
+        Err(never) => match never {},
+    }
 }
 
 // Prints which sinks are behind, or that none is.
-fn write_caught_up<W: Write>(
-    caught: &Result<PlainList<u64>, Refusal>,
-    out: &mut W,
-) -> io::Result<()>
-    ensures { OnOk result (Appends (W.contents out.old) (W.contents out.new) (caught_up_text caught.now)) }
+fn write_caught_up<W: Write>(caught: &Result<PlainList<u64>, Refusal>, out: &mut Printer<W>)
+    ensures { Prints out.old (caught_up_text caught.now) out.new }
 {
     match caught {
-        Ok(behind) if behind.is_empty() => out.write_all(b"ok\n"),
+        Ok(behind) if behind.is_empty() => out.text("ok\n"),
         Ok(behind) => write_behind(behind.as_slice(), out),
         Err(refusal) => refuse(out, refusal_name(*refusal)),
     }
 }
 
 // Prints the numbers of the sinks that are behind, if some are.
-fn write_behind<W: Write>(behind: &[u64], out: &mut W) -> io::Result<()>
-    ensures { OnOk result (Appends (W.contents out.old) (W.contents out.new) (behind_line behind.now)) }
+fn write_behind<W: Write>(behind: &[u64], out: &mut Printer<W>)
+    ensures { Prints out.old (behind_line behind.now) out.new }
 {
     if behind.is_empty() {
-        return Ok(());
+        return;
     }
-    out.write_all(b"behind")?;
-    write_numbers(behind, out)?;
-    out.write_all(b"\n")
+    out.text("behind");
+    write_numbers(behind, out);
+    out.text("\n");
 }
 
-fn write_numbers<W: Write>(numbers: &[u64], out: &mut W) -> io::Result<()>
-    ensures { OnOk result (Appends (W.contents out.old) (W.contents out.new) (flat_map number_text numbers.now)) }
+fn write_numbers<W: Write>(numbers: &[u64], out: &mut Printer<W>)
+    ensures { Prints out.old (flat_map number_text numbers.now) out.new }
 {
     for number in numbers {
-        write!(out, " {number}")?;
+        out.text(" ");
+        out.number(*number);
     }
-    Ok(())
 }
 
 /// Prints whether the sinks were closed.
-pub(crate) fn write_closed<W: Write>(closed: &Result<u64, Refusal>, out: &mut W) -> io::Result<()>
-    ensures { OnOk result (Appends (W.contents out.old) (W.contents out.new) (closed_text closed.now)) }
+pub(crate) fn write_closed<W: Write>(closed: &Result<u64, Refusal>, out: &mut Printer<W>)
+    ensures { Prints out.old (closed_text closed.now) out.new }
 {
     match closed {
-        Ok(_failed) => out.write_all(b"closed\n"),
+        Ok(_failed) => out.text("closed\n"),
         Err(refusal) => write_not_closed(refusal_name(*refusal), out),
     }
 }
 
-fn write_not_closed<W: Write>(name: &str, out: &mut W) -> io::Result<()>
-    ensures { OnOk result (Appends (W.contents out.old) (W.contents out.new) (not_closed_line name.now)) }
+fn write_not_closed<W: Write>(name: &str, out: &mut Printer<W>)
+    ensures { Prints out.old (not_closed_line name.now) out.new }
 {
-    writeln!(out, "not closed {name}")
+    out.text("not closed ");
+    out.text(name);
+    out.text("\n");
 }

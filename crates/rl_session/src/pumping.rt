@@ -3,12 +3,12 @@ ghost use Rattle.std.specs.Prelude.{◌≡◌, ℕ, true, IfOk};
 ghost use Rattle.rl_session.specs.Pumping.{CatchesUpAfter};
 
 use crate::engine::{Engine, Partly};
+use crate::printer::Printer;
 use rl_labels::{Entry, Ns};
 use rl_plain::{PlainList, Shared};
 use rl_rules::Group;
 use rl_shard::{ShardReply, ShardStep};
 use rl_world::{Committed, Refusal};
-use std::io;
 use std::io::Write;
 
 /// An engine over another one. After each evaluation that is committed the sinks of the group catch up, if that is asked for, so
@@ -78,7 +78,7 @@ impl<E: Engine> Engine for Pumping<E> {
         self.engine.is_due(group, now)
     }
 
-    fn show<W: Write>(&self, group: usize, sink: usize, out: &mut W) -> io::Result<bool> {
+    fn show<W: Write>(&self, group: usize, sink: usize, out: &mut Printer<W>) -> bool {
         self.engine.show(group, sink, out)
     }
 

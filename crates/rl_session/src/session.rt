@@ -10,6 +10,7 @@ use crate::command::{Command, is_blank, read_command};
 use crate::engine::Engine;
 use crate::front::first_line;
 use crate::output::{Answer, CommandResult, write_closed, write_result};
+use crate::printer::Printer;
 use crate::push::PushReader;
 use rl_shard::ShardStep;
 use rl_world::Refusal;
@@ -78,19 +79,20 @@ impl<E: Engine> Session<E> {
         Session { alloc, engine }
     }
 
-    /// Carries out the commands of a text, and writes what they print. At `end`, or at the end of the text, it closes the
-    /// sinks. A session that stopped early closes them too, so that they write what they have taken.
+    /// Carries out the commands of a text, and prints what they print. At `end`, or at the end of the text, it closes the
+    /// sinks. A session that stopped early, after a write that failed, closes them too, so that they write what they have taken;
+    /// what is printed then is the beginning of what its lines print.
     pub fn run_commands<W: Write>(
         &mut self,
         commands: &str,
-        out: &mut W,
+        out: &mut Printer<W>,
     ) -> Result<Status, RunError>
-        ensures { ExecutesSession E.calls self.old.engine commands.now (W.contents out.old) result (W.contents out.new) self.new.engine }
+        ensures { ExecutesSession E.calls self.old.engine commands.now out.old result out.new self.new.engine }
     {
         let refused = answer_lines(self.alloc, &mut self.engine, commands, out);
         let closed = self.engine.close();
         let refused = refused?;
-        write_closed(&closed, out)?;
+        write_closed(&closed, out);
         out.flush()?;
         Ok(status_of(closed, refused))
     }
@@ -119,9 +121,9 @@ fn answer_lines<E: Engine, W: Write>(
     alloc: Global,
     engine: &mut E,
     commands: &str,
-    out: &mut W,
+    out: &mut Printer<W>,
 ) -> io::Result<bool>
-    ensures { ExecutesText E.calls engine.old commands.now (W.contents out.old) result (W.contents out.new) engine.new }
+    ensures { ExecutesText E.calls engine.old commands.now out.old result out.new engine.new }
 {
     let mut reader = PushReader::new(alloc);
     let mut refused = false;
@@ -158,14 +160,14 @@ fn answer_line<E: Engine, W: Write>(
     reader: &mut PushReader,
     engine: &mut E,
     line: &str,
-    out: &mut W,
+    out: &mut Printer<W>,
 ) -> io::Result<Answer>
-    ensures { ExecutesLine E.calls engine.old line.now (W.contents out.old) result (W.contents out.new) engine.new }
+    ensures { ExecutesLine E.calls engine.old line.now out.old result out.new engine.new }
 {
     if is_blank(line) {
         return Ok(Answer::Taken);
     }
-    let answer = answer_command(alloc, reader, engine, line, out)?;
+    let answer = answer_command(alloc, reader, engine, line, out);
     out.flush()?;
     Ok(answer)
 }
@@ -176,9 +178,9 @@ fn answer_command<E: Engine, W: Write>(
     reader: &mut PushReader,
     engine: &mut E,
     line: &str,
-    out: &mut W,
-) -> io::Result<Answer>
-    ensures { Executes E.calls engine.old (command_of line.now) (W.contents out.old) result (W.contents out.new) engine.new }
+    out: &mut Printer<W>,
+) -> Answer
+    ensures { Executes E.calls engine.old (command_of line.now) out.old result out.new engine.new }
 {
     match read_command(line) {
         Some(command) => execute(alloc, reader, engine, command, out),
@@ -191,9 +193,9 @@ fn execute<E: Engine, W: Write>(
     reader: &mut PushReader,
     engine: &mut E,
     command: Command<'_>,
-    out: &mut W,
-) -> io::Result<Answer>
-    ensures { Executes E.calls engine.old (Some (asked command.entry)) (W.contents out.old) result (W.contents out.new) engine.new }
+    out: &mut Printer<W>,
+) -> Answer
+    ensures { Executes E.calls engine.old (Some (asked command.entry)) out.old result out.new engine.new }
 {
     match command {
         Command::Push(json) => write_result(&push(alloc, reader, engine, json), out),
@@ -219,13 +221,13 @@ fn execute<E: Engine, W: Write>(
         Command::Tick { now } => write_result(&tick(alloc, engine, now), out),
         Command::Pump(group) => write_result(&catch_up(engine, group), out),
         Command::Show { sink, group } => show(engine, sink, group, out),
-        Command::End => Ok(Answer::Ended),
+        Command::End => Answer::Ended,
     }
 }
 
 // Shows what a sink of the group with the name keeps.
-fn show<E: Engine, W: Write>(engine: &E, sink: usize, name: &str, out: &mut W) -> io::Result<Answer>
-    ensures { ShowsTo E.calls engine.now (number_named name.now (E.calls.groups engine.now)) sink (W.contents out.old) result (W.contents out.new) }
+fn show<E: Engine, W: Write>(engine: &E, sink: usize, name: &str, out: &mut Printer<W>) -> Answer
+    ensures { ShowsTo E.calls engine.now (number_named name.now (E.calls.groups engine.now)) sink out.old result out.new }
 {
     match engine.group(name) {
         Some(group) => show_of(engine, group, sink, out),
@@ -238,12 +240,12 @@ fn show_of<E: Engine, W: Write>(
     engine: &E,
     group: usize,
     sink: usize,
-    out: &mut W,
-) -> io::Result<Answer>
-    ensures { ShowsTo E.calls engine.now (Some group) sink (W.contents out.old) result (W.contents out.new) }
+    out: &mut Printer<W>,
+) -> Answer
+    ensures { ShowsTo E.calls engine.now (Some group) sink out.old result out.new }
 {
-    if engine.show(group, sink, out)? {
-        Ok(Answer::Taken)
+    if engine.show(group, sink, out) {
+        Answer::Taken
     } else {
         write_result(&CommandResult::Refused, out)
     }

@@ -1,7 +1,6 @@
 //! A world on one thread as an engine: a call is a step, and an evaluation a list of steps.
 ghost use Rattle.std.specs.Prelude.{◌≡◌, ◌≤◌, length, map, slice_get, option_map, is_some, Some, IsSome, IfOk, IfSome, OnOk, OnErr};
 ghost use Rattle.std.specs.List.{AllByRecursion, concat};
-ghost use Rattle.std.specs.Io.KnownBytes.{Appends};
 ghost use Rattle.rl_shard.specs.ShardState.{opened_over};
 ghost use Rattle.rl_world.specs.BookCalls.{books_from, IsFresh};
 ghost use Rattle.rl_world.specs.ShardAnswers.{most_shards};
@@ -9,10 +8,12 @@ ghost use Rattle.rl_world.specs.WorldRun.{Turned};
 ghost use Rattle.rl_world.specs.declared.step.Reply.TheVariants as replies;
 ghost use Rattle.rl_world.specs.declared.step.Step.TheVariants as steps;
 ghost use Rattle.rl_session.specs.Engine.{IsAnswered, number_named, kept_text};
+ghost use Rattle.rl_session.specs.Printer.{Prints};
 ghost use Rattle.rl_session.specs.WorldEngine.{ReplyFits, IsAlike, IsAskedFor, IsAskedOfAll, or_else, refusing, IsBegun, IsGathered, AreGathered, IsCommitted, IsFinished, listed, shown_of, name_at, open_moment};
 
 use crate::engine::{Engine, Partly};
 use crate::names::shard_refusal;
+use crate::printer::Printer;
 use rl_chunks::Store;
 use rl_labels::{Entry, Limits, Ns, shard_of};
 use rl_plain::{PlainList, Shared, TryCopy};
@@ -21,7 +22,6 @@ use rl_shard::{ShardReply, ShardStep};
 use rl_sinks::Sink;
 use rl_world::{Book, Committed, Refusal, Reply, Step, World};
 use std::alloc::{AllocError, Global};
-use std::io;
 use std::io::Write;
 use std::marker::Model;
 
@@ -274,10 +274,10 @@ impl<D: Store, S: Sink> Engine for WorldEngine<D, S> {
         }
     }
 
-    fn show<W: Write>(&self, group: usize, sink: usize, out: &mut W) -> io::Result<bool> {
+    fn show<W: Write>(&self, group: usize, sink: usize, out: &mut Printer<W>) -> bool {
         match self.world.book(group) {
-            Some(book) => write_sink(book, sink, out),
-            None => Ok(false),
+            Some(book) => print_sink(book, sink, out),
+            None => false,
         }
     }
 
@@ -310,33 +310,29 @@ fn group_named<D: Store, S: Sink>(world: &World<D, S>, name: &str) -> Option<usi
     None
 }
 
-// Writes how many texts a sink has taken, and those that it keeps. Whether there is such a sink.
-fn write_sink<S: Sink, W: Write>(book: &Book<S>, sink: usize, out: &mut W) -> io::Result<bool>
-    ensures { let shown = option_map shown_of (slice_get book.now.sinks sink) in IsAnswered (is_some shown) (kept_text shown) (W.contents out.old) result (W.contents out.new) }
+// Prints how many texts a sink has taken, and those that it keeps. Whether there is such a sink.
+fn print_sink<S: Sink, W: Write>(book: &Book<S>, sink: usize, out: &mut Printer<W>) -> bool
+    ensures { let shown = option_map shown_of (slice_get book.now.sinks sink) in IsAnswered (is_some shown) (kept_text shown) out.old result out.new }
 {
     let Some(count) = book.sink_count(sink) else {
-        return Ok(false);
+        return false;
     };
-    writeln!(out, "count {count}")?;
-    write_texts(book, sink, count, out)?;
-    Ok(true)
+    out.text("count ");
+    out.number(count);
+    out.text("\n");
+    print_texts(book, sink, count, out);
+    true
 }
 
-// Writes the texts that a sink keeps, which are at most `count`.
-fn write_texts<S: Sink, W: Write>(
-    book: &Book<S>,
-    sink: usize,
-    count: u64,
-    out: &mut W,
-) -> io::Result<()>
+// Prints the texts that a sink keeps, which are at most `count`.
+fn print_texts<S: Sink, W: Write>(book: &Book<S>, sink: usize, count: u64, out: &mut Printer<W>)
     requires { IfSome (slice_get book.now.sinks sink) (λ sink. length sink.kept ≤ count) }
-    ensures { IfSome (slice_get book.now.sinks sink) (λ sink. OnOk result (Appends (W.contents out.old) (W.contents out.new) (concat sink.kept))) }
+    ensures { IfSome (slice_get book.now.sinks sink) (λ sink. Prints out.old (concat sink.kept) out.new) }
 {
     for index in 0..count {
         let Some(text) = book.sink_text(sink, index) else {
             break;
         };
-        out.write_all(text.as_bytes())?;
+        out.text(text);
     }
-    Ok(())
 }

@@ -4,6 +4,7 @@
 //! refused. `take` that is answered Ok adds one text; a refusal counts as one and changes nothing else.
 //!
 //! - `sink`: `Sink`, `SinkKind`, `SinkFault`, and boxes of sinks. `text`: `evaluation_text`, `write_tail`.
+//!   `target`: `TextTarget`, what takes a text piece by piece.
 //! - `recorder`: `Recorder`, which writes the samples of recording rules. `notifier`: `Notifier`, which reports alerts.
 //!   Both are a `TextLog`, in `log`: each text is kept and written once, in order.
 //! - `tail`: `Tail`, which keeps the last texts. `writing`: piece by piece to a writer that may stop anywhere.
@@ -22,4 +23,5 @@ pub use notifier::Notifier;
 pub use recorder::Recorder;
 pub use sink::{Sink, SinkFault, SinkKind};
 pub use tail::Tail;
+pub use target::TextTarget;
 pub use text::{evaluation_text, write_tail};

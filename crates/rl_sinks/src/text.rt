@@ -1,5 +1,5 @@
 //! The text of an evaluation for each kind of sink.
-ghost use Rattle.std.specs.Prelude.{◌≡◌, IfOk, OnOk, string_bytes};
+ghost use Rattle.std.specs.Prelude.{◌≡◌, ◌++◌, codes, IfOk, OnOk, string_bytes};
 ghost use Rattle.std.specs.Fmt.{decimal};
 ghost use Rattle.std.specs.List.{flat_map};
 ghost use Rattle.std.specs.Io.KnownBytes.{Appends};
@@ -12,8 +12,6 @@ use rl_labels::{Labels, Ns};
 use rl_plain::PlainText;
 use rl_rules::{Alert, AlertState, Cause, Evaluation, RuleKind, RuleOutcome, RuleResult};
 use std::alloc::{AllocError, Global};
-use std::io;
-use std::io::Write;
 
 /// What a sink of the kind is given of the evaluation. Each line ends with a newline; moments are nanoseconds.
 pub fn evaluation_text(
@@ -46,11 +44,11 @@ pub(crate) fn text_with_room(
     Ok(target.text)
 }
 
-/// Writes what a tail is given of the evaluation. It takes no memory.
-pub fn write_tail<W: Write>(out: &mut W, evaluation: &Evaluation) -> io::Result<()>
-    ensures { OnOk result (Appends (W.contents out.old) (W.contents out.new) (tail_text evaluation.now)) }
+/// Gives a target what a tail is given of the evaluation. It takes no memory of its own.
+pub fn write_tail<T: TextTarget>(target: &mut T, evaluation: &Evaluation) -> Result<(), T::Error>
+    ensures { OnOk result (Appends (T.contents target.old) (T.contents target.new) (tail_text evaluation.now)) }
 {
-    put_tail(out, evaluation)
+    put_tail(target, evaluation)
 }
 
 fn put_recorded<T: TextTarget>(target: &mut T, evaluation: &Evaluation) -> Result<(), T::Error>
@@ -118,9 +116,13 @@ fn put_failed<T: TextTarget>(
 {
     match kind {
         RuleKind::Recording => {
-            let t = t.get();
-            let cause = cause_text(cause);
-            write!(target, "# failed {t} {cause} {name}\n")
+            target.put("# failed ")?;
+            put_number(target, t.get())?;
+            target.put(" ")?;
+            target.put(cause_text(cause))?;
+            target.put(" ")?;
+            target.put(name)?;
+            target.put("\n")
         }
         RuleKind::Alerting => Ok(()),
     }
@@ -187,9 +189,11 @@ fn put_notified_line<T: TextTarget>(
         return Ok(());
     }
     put_alert(target, alert)?;
-    let t = t.get();
-    let annotations = annotations.as_text();
-    write!(target, " {t} {annotations}\n")
+    target.put(" ")?;
+    put_number(target, t.get())?;
+    target.put(" ")?;
+    target.put(annotations.as_text())?;
+    target.put("\n")
 }
 
 // Whether an alert became firing at the moment, or is resolved.
@@ -206,13 +210,22 @@ fn is_notified(t: Ns, state: AlertState, fired: Option<Ns>) -> bool
 fn put_tail<T: TextTarget>(target: &mut T, evaluation: &Evaluation) -> Result<(), T::Error>
     ensures { OnOk result (Appends (T.contents target.old) (T.contents target.new) (tail_text evaluation.now)) }
 {
-    let t = evaluation.t.get();
-    let group = evaluation.group.as_str();
-    write!(target, "eval {t} {group}\n")?;
+    put_heading(target, evaluation.t, evaluation.group.as_str())?;
     for rule in evaluation.outcomes.as_slice() {
         put_tail_lines(target, rule)?;
     }
     Ok(())
+}
+
+// The moment and the group.
+fn put_heading<T: TextTarget>(target: &mut T, t: Ns, group: &str) -> Result<(), T::Error>
+    ensures { OnOk result (Appends (T.contents target.old) (T.contents target.new) (codes "eval " ++ decimal t ++ codes " " ++ group.now ++ codes "\n")) }
+{
+    target.put("eval ")?;
+    put_number(target, t.get())?;
+    target.put(" ")?;
+    target.put(group)?;
+    target.put("\n")
 }
 
 fn put_tail_lines<T: TextTarget>(target: &mut T, rule: &RuleResult) -> Result<(), T::Error>
@@ -221,12 +234,19 @@ fn put_tail_lines<T: TextTarget>(target: &mut T, rule: &RuleResult) -> Result<()
     match &rule.outcome {
         RuleOutcome::Samples(samples) => put_tail_samples(target, samples.as_slice()),
         RuleOutcome::Alerts(alerts) => put_tail_alerts(target, alerts.as_slice()),
-        RuleOutcome::Failed(cause) => {
-            let cause = cause_text(*cause);
-            let name = rule.name.as_str();
-            write!(target, "failed {cause} {name}\n")
-        }
+        RuleOutcome::Failed(cause) => { put_failure(target, *cause, rule.name.as_str()) }
     }
+}
+
+// Why a rule failed, and its name.
+fn put_failure<T: TextTarget>(target: &mut T, cause: Cause, name: &str) -> Result<(), T::Error>
+    ensures { OnOk result (Appends (T.contents target.old) (T.contents target.new) (codes "failed " ++ cause_text cause ++ codes " " ++ name.now ++ codes "\n")) }
+{
+    target.put("failed ")?;
+    target.put(cause_text(cause))?;
+    target.put(" ")?;
+    target.put(name)?;
+    target.put("\n")
 }
 
 fn put_tail_samples<T: TextTarget>(target: &mut T, samples: &[Sample]) -> Result<(), T::Error>
@@ -259,19 +279,20 @@ fn put_alert_line<T: TextTarget>(target: &mut T, alert: &Alert) -> Result<(), T:
     ensures { OnOk result (Appends (T.contents target.old) (T.contents target.new) (alert_line alert.now)) }
 {
     put_alert(target, alert)?;
-    write!(target, "\n")
+    target.put("\n")
 }
 
 #[tactic(auto, unfolding(crate::specs::Texts::alert_text))]
 fn put_alert<T: TextTarget>(target: &mut T, alert: &Alert) -> Result<(), T::Error>
     ensures { OnOk result (Appends (T.contents target.old) (T.contents target.new) (alert_text alert.now)) }
 {
-    let state = state_text(alert.state);
-    let labels = alert.labels.as_text();
-    write!(target, "{state} {labels} ")?;
+    target.put(state_text(alert.state))?;
+    target.put(" ")?;
+    target.put(alert.labels.as_text())?;
+    target.put(" ")?;
     put_value(target, alert.value)?;
-    let active_at = alert.active_at.get();
-    write!(target, " {active_at}")
+    target.put(" ")?;
+    put_number(target, alert.active_at.get())
 }
 
 fn state_text(state: AlertState) -> &'static str
@@ -302,4 +323,11 @@ fn put_value<T: TextTarget>(target: &mut T, value: Fraction) -> Result<(), T::Er
     }
     target.put("/")?;
     target.put(buffer.format(value.denominator))
+}
+
+fn put_number<T: TextTarget>(target: &mut T, number: u64) -> Result<(), T::Error>
+    ensures { OnOk result (Appends (T.contents target.old) (T.contents target.new) (decimal number)) }
+{
+    let mut buffer = itoa::Buffer::new();
+    target.put(buffer.format(number))
 }

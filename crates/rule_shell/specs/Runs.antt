@@ -11,6 +11,7 @@ use Rattle.rl_sinks.specs.declared.sink.SinkKind.TheVariants as kinds
 use Rattle.rl_world.specs.BookCalls.{books_from}
 use Rattle.rl_world.specs.WorldState.{WorldBooks}
 use Rattle.rl_session.specs.Engine.{Calls, calls_below}
+use Rattle.rl_session.specs.Printer.{Printing}
 use Rattle.rl_session.specs.Pumping.{pumping_calls}
 use Rattle.rl_session.specs.Session.{ExecutesSession}
 use Rattle.rl_session.specs.WorldEngine.{world_calls}
@@ -38,7 +39,7 @@ module _ {S : Type 0} (state : S → SinkState) (Says : S → Result ⊤ SinkFau
 
   -- the commands are executed over a world with these limits: with an empty shard over each store, and a book for each group with
   -- its sinks; after each evaluation the sinks catch up, where that is asked for
-  pub record IsRun (limits : Limits) (pumps : Bool) (stores : List Seen) (groups : List Group) (sinks : List (List SinkState)) (commands : List ℕ) (before after : Option (List ℕ)) (status : Status) : Type 0 where
+  pub record IsRun (limits : Limits) (pumps : Bool) (stores : List Seen) (groups : List Group) (sinks : List (List SinkState)) (commands : List ℕ) (before after : Printing) (status : Status) : Type 0 where
     pub start : Ruler
     pub shards : start.engine.engine.shards ≡ map (opened_over limits) stores
     pub books : start.engine.engine.books ≡ books_from 0 limits.records (length stores) groups sinks
@@ -47,5 +48,5 @@ module _ {S : Type 0} (state : S → SinkState) (Says : S → Result ⊤ SinkFau
     pub executes : ExecutesSession ruler_calls start commands before (Ok status) after last
 
   -- with the limits and the sinks that are asked for, which each group has
-  abbrev pub IsRunOf : Plan → List Seen → List Group → List ℕ → Option (List ℕ) → Option (List ℕ) → Status → Type 0
+  abbrev pub IsRunOf : Plan → List Seen → List Group → List ℕ → Printing → Printing → Status → Type 0
   IsRunOf plan stores groups commands before after status = IsRun plan.limits plan.pumps stores groups (map (λ _. sinks_asked plan.sinks) groups) commands before after status

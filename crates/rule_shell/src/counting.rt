@@ -5,11 +5,10 @@ use crate::tally::Tally;
 use rl_labels::{Entry, Ns};
 use rl_plain::{PlainList, Shared};
 use rl_rules::Group;
-use rl_session::{Engine, Partly};
+use rl_session::{Engine, Partly, Printer};
 use rl_shard::{ShardReply, ShardStep};
 use rl_world::{Committed, Refusal};
 use std::alloc::Global;
-use std::io;
 use std::io::Write;
 
 /// An engine over another one that counts what it answers.
@@ -81,7 +80,7 @@ impl<E: Engine> Engine for Counting<E> {
         self.engine.is_due(group, now)
     }
 
-    fn show<W: Write>(&self, group: usize, sink: usize, out: &mut W) -> io::Result<bool> {
+    fn show<W: Write>(&self, group: usize, sink: usize, out: &mut Printer<W>) -> bool {
         self.engine.show(group, sink, out)
     }
 

@@ -32,7 +32,8 @@ use rl_plain::PlainText;
 use rl_rules::Group;
 use rl_session::names::front_fault_name;
 use rl_session::{
-    Front, FrontError, FrontFault, Pumping, RunError, Session, Status, WorldEngine, read_front,
+    Front, FrontError, FrontFault, Printer, Pumping, RunError, Session, Status, WorldEngine,
+    read_front,
 };
 use rl_sinks::{Notifier, Recorder, Sink, Tail};
 use rl_world::{Book, World};
@@ -239,7 +240,7 @@ fn run_over<D: Store>(
         sinks.push(vec![in alloc; recorder, notifier, tail]?)?;
     }
     let out = BufWriter::with_capacity(alloc, OUTPUT_ROOM, Output::new(*rt));
-    let mut out = out.map_err(|_| Stop::Failed)?;
+    let mut out = Printer::new(out.map_err(|_| Stop::Failed)?);
     match run_session(rt, plan, stores, groups, commands.as_str(), sinks, &mut out) {
         Ok(status) => Ok(status),
         Err(RunError::WriteFault) | Err(RunError::Memory) => Err(Stop::Failed),
@@ -254,14 +255,14 @@ fn run_session<D: Store, S: Sink, W: Write>(
     groups: Vec<Group>,
     commands: &str,
     sinks: Vec<Vec<S>>,
-    out: &mut W,
+    out: &mut Printer<W>,
 ) -> Result<Status, RunError>
     requires some { 1 ≤ length stores.items }
     requires shards { length stores.items ≤ most_shards }
     requires lists { length sinks.items ≡ length groups.items }
     requires fresh { AllByRecursion (λ own. AllByRecursion IsFresh (map S.state own.items)) sinks.items }
     requires asked { map (λ own. map S.state own.items) sinks.items ≡ map (λ _. sinks_asked plan.sinks) groups.items }
-    ensures { IfOk result (IsRunOf S.state S.close_answers plan (map (λ store. D.seen store.inner) stores.items) groups.items commands.now (W.contents out.old) (W.contents out.new)) }
+    ensures { IfOk result (IsRunOf S.state S.close_answers plan (map (λ store. D.seen store.inner) stores.items) groups.items commands.now out.old out.new) }
 {
     let alloc = rt.alloc();
     let shards = stores.len();

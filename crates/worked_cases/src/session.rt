@@ -15,8 +15,8 @@ use rl_labels::{Entry, Limits};
 use rl_rules::{Group, RulesFault};
 use rl_session::names::{front_fault_name, push_error_name};
 use rl_session::{
-    Engine, Front, FrontError, FrontFault, PushError, RunError, Session, Status, WorldEngine,
-    is_blank, read_front, read_push,
+    Engine, Front, FrontError, FrontFault, Printer, PushError, RunError, Session, Status,
+    WorldEngine, is_blank, read_front, read_push,
 };
 use rl_sinks::{Recorder, Sink};
 use std::alloc::{AllocError, Global};
@@ -132,7 +132,7 @@ fn run_commands<E: Engine>(
     printed: &mut Vec<u8>,
 ) -> Result<Status, RunError> {
     let mut session = session;
-    let ended = session.run_commands(commands, printed);
+    let ended = session.run_commands(commands, &mut Printer::new(printed));
     mem::forget(session);
     ended
 }

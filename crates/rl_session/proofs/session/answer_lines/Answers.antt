@@ -8,39 +8,35 @@ use Rattle.rl_session.proofs.LinesSoFar.{none_executed, executed_line, executed_
 use Rattle.rl_session.proofs.session.answer_lines.Goals as goal
 
 pub loop-reader-init : goal.loop-reader-init
-loop-reader-init g c = record { text = c.utf8.commands; so_far = none_executed g.E.Engine.calls c.args.engine.now c.args.commands.now (g.W.Write.contents c.args.out.now) }
+loop-reader-init g c = record { text = c.utf8.commands; so_far = none_executed g.E.Engine.calls c.args.engine.now c.args.commands.now c.args.out.now }
 
 pub returns-in_err-answer : goal.returns-in_err-answer
 returns-in_err-answer g c =
-    let contents = g.W.Write.contents in
     let error = err_from_is_err_and c.from_residual.result c.from_residual.ensures.1 in
     rw error.1 (executed_first g.E.Engine.calls c.args.engine.now c.args.commands.now c.loop-reader.rest.now c.first_line.result.0.now (option_copied c.first_line.result.1) c.loop-reader.refused c.in_err-answer.field-0.0
-    (contents c.args.out.now) (contents c.loop-reader.out) (contents c.answer_line.new.out) c.loop-reader.engine c.answer_line.new.engine
+    c.args.out.now c.loop-reader.out c.answer_line.new.out c.loop-reader.engine c.answer_line.new.engine
     c.first_line.ensures c.in_err-answer.ensures c.loop-reader.invariant.so_far)
 
 pub returns-then-is_end : goal.returns-then-is_end
 returns-then-is_end g c =
-    let contents = g.W.Write.contents in
     executed_end g.E.Engine.calls c.args.engine.now c.args.commands.now c.loop-reader.rest.now c.first_line.result.0.now (option_copied c.first_line.result.1) c.loop-reader.refused c.in_ok-answer.answer
-    (contents c.args.out.now) (contents c.loop-reader.out) (contents c.answer_line.new.out) c.loop-reader.engine c.answer_line.new.engine
+    c.args.out.now c.loop-reader.out c.answer_line.new.out c.loop-reader.engine c.answer_line.new.engine
     (sym c.is_end.ensures ∙ c.if-is_end.true) c.first_line.ensures c.in_ok-answer.ensures c.loop-reader.invariant.so_far
 
 pub returns-in-None : goal.returns-in-None
 returns-in-None g c =
-    let contents = g.W.Write.contents in
     let first = subst (λ following. IsFirstLine c.loop-reader.rest.now c.first_line.result.0.now (option_copied following)) c.in-None.is c.first_line.ensures in
     rw c.is_refusal-refused.ensures (executed_all g.E.Engine.calls c.args.engine.now c.args.commands.now c.loop-reader.rest.now c.first_line.result.0.now c.loop-reader.refused c.in_ok-answer.answer
-    (contents c.args.out.now) (contents c.loop-reader.out) (contents c.answer_line.new.out) c.loop-reader.engine c.answer_line.new.engine
+    c.args.out.now c.loop-reader.out c.answer_line.new.out c.loop-reader.engine c.answer_line.new.engine
     first c.in_ok-answer.ensures c.loop-reader.invariant.so_far)
 
 pub loop-reader-preserved : goal.loop-reader-preserved
 loop-reader-preserved g c =
-    let contents = g.W.Write.contents in
     let first = subst (λ following. IsFirstLine c.loop-reader.rest.now c.first_line.result.0.now (option_copied following)) c.in-Some.is c.first_line.ensures in
     record {
       text = IsUtf8-following c.loop-reader.rest.now c.first_line.result.0.now c.in-Some.following.now c.loop-reader.invariant.text first.1;
       so_far = rw c.is_refusal-refused.ensures (executed_line g.E.Engine.calls c.args.engine.now c.args.commands.now c.loop-reader.rest.now c.first_line.result.0.now c.in-Some.following.now c.loop-reader.refused c.in_ok-answer.answer
-          (contents c.args.out.now) (contents c.loop-reader.out) (contents c.answer_line.new.out) c.loop-reader.engine c.answer_line.new.engine
+          c.args.out.now c.loop-reader.out c.answer_line.new.out c.loop-reader.engine c.answer_line.new.engine
           (sym c.is_end.ensures ∙ c.if-is_end.false) first c.in_ok-answer.ensures c.loop-reader.invariant.so_far);
     }
 

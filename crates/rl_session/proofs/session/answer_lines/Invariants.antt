@@ -1,4 +1,4 @@
--- What was written of the lines so far.
+-- What was printed of the lines so far.
 use Rattle.std.proofs.Common.{length}
 use denote.Text.{Utf8}
 use denote.Shadow.{shadow}
@@ -11,5 +11,5 @@ decreases-loop-reader g l = length l.rest
 abbrev pub invariant-loop-reader : goal.invariant-loop-reader
 invariant-loop-reader g l = record {
   text : shadow (Utf8 l.rest);
-  so_far : ExecutedSoFar g.E.Engine.calls l.fn.engine l.commands l.rest l.refused (g.W.Write.contents l.fn.out) (g.W.Write.contents l.out) l.engine;
+  so_far : ExecutedSoFar g.E.Engine.calls l.fn.engine l.commands l.rest l.refused l.fn.out l.out l.engine;
 }
