@@ -17,13 +17,14 @@ use Rattle.rl_rules.specs.declared.evaluation.Evaluation.{Evaluation}
 use Rattle.rl_rules.specs.declared.rule.Group.{Group}
 use Rattle.rl_shard.specs.ShardState.{opened_over}
 use Rattle.rl_shard.specs.declared.step.ShardReply.{ShardReply}
+use Rattle.rl_world.specs.Evaluations.{IsEvaluated}
 use Rattle.rl_world.specs.BookCalls.{books_from}
 use Rattle.rl_world.specs.WorldState.{WorldBooks}
 use Rattle.rl_world.specs.declared.fault.Refusal.{Refusal}
 use Rattle.rl_world.specs.declared.step.Committed.{Committed}
 use Rattle.rl_session.specs.Engine.{Calls, Listed, number_named}
 use Rattle.rl_session.specs.Names.{push_refusal}
-use Rattle.rl_session.specs.WorldEngine.{listed, IsEdited, IsEvaluated, IsPushed}
+use Rattle.rl_session.specs.WorldEngine.{listed, IsEdited, IsPushed}
 use Rattle.rl_rule_tests.specs.declared.document.Check.{Check}
 use Rattle.rl_rule_tests.specs.declared.document.Edit.{Edit}
 use Rattle.rl_rule_tests.specs.declared.document.Span.{Span}

@@ -1,28 +1,26 @@
--- What follows of a turn, over any stores.
-use Rattle.std.proofs.Common.{◌≡◌, ℕ, zero, suc, true, false, cond, inl, inr, List, [], ◌∷◌, map, length, Option, None, Some, is_some, refl, sym, ap, subst, ◌∙◌}
-use Rattle.std.specs.Prelude.{slice_get, slice_set, option_map, option_and_then}
+-- That the groups, sinks and shards stay, over any stores.
+use Rattle.std.proofs.Common.{◌≡◌, ℕ, zero, suc, true, false, cond, inl, inr, List, [], ◌∷◌, map, length, None, Some, Result, Ok, Err, refl, sym, ap, ◌∙◌}
+use Rattle.std.specs.Prelude.{⊤, slice_get, slice_set, option_map}
 use Rattle.std.specs.Cmp.Lexicographic.{same_text}
-use Rattle.std.proofs.lemmas.Option.{slice_get-map}
 use Rattle.rl_labels.specs.Name.{is_text}
 use Rattle.rl_aggregate.specs.declared.partial.Partial.{Partial}
-use Rattle.rl_rules.specs.declared.evaluation.Evaluation.{Evaluation}
 use Rattle.rl_rules.specs.declared.rule.Group.{Group}
 use Rattle.rl_world.specs.BookCalls.{with_history}
-use Rattle.rl_world.specs.History.{History, begun, gathered, with_shown, committed, edited, abandoned, edit_fault, abandon_fault}
+use Rattle.rl_world.specs.Evaluations.{AreAskedFor, IfDoneThen, IsClosedOff, IsEvaluated, IsFinished}
+use Rattle.rl_world.specs.History.{History, begun, gathered, committed, edited, abandoned, edit_fault}
 use Rattle.rl_world.specs.ShardsTurn.{ShardsTurn}
 use Rattle.rl_world.specs.WorldRun.{Turned, Ran}
 use Rattle.rl_world.specs.WorldState.{BookState, WorldBooks, WorldState, world_of}
-use Rattle.rl_world.specs.WorldStep.{WorldStep, partials, asks_shard, known, edit_refusal, may_fail}
+use Rattle.rl_world.specs.WorldStep.{WorldStep, as_reply, partials, asks_shard, known, edit_refusal}
 use Rattle.rl_world.specs.laws.RunLaws.{sink_counts, ran_counts}
-use Rattle.rl_world.specs.declared.fault.BookFault.TheVariants as faults
 use Rattle.rl_world.specs.declared.fault.Refusal.{Refusal}
 use Rattle.rl_world.specs.declared.fault.Refusal.TheVariants as refusals
-use Rattle.rl_world.specs.declared.opened.OpenEvaluation.{OpenEvaluation}
+use Rattle.rl_world.specs.declared.step.Committed.{Committed}
 use Rattle.rl_world.specs.declared.step.Reply.{Reply}
 use Rattle.rl_world.specs.declared.step.Reply.TheVariants as replies
 use Rattle.rl_world.specs.declared.step.Step.{Step}
 use Rattle.rl_world.specs.declared.step.Step.TheVariants as steps
-use Rattle.rl_session.specs.WorldEngine.{ReplyFitsMoments, ReplyFits, IsAlike, listed, name_at, open_moment}
+use Rattle.rl_session.specs.WorldEngine.{IsAlike, listed}
 
 -- a world as promises, with the partials that are kept
 abbrev KeptWorld : Type 0
@@ -34,20 +32,8 @@ kept world = world_of world.shards world.books
 some_is : {X : Type 0} (a b : X) → Some a ≡ Some b → a ≡ b
 some_is a b h = cc
 
-none_some : {X : Type 0} (x : X) → None ≡ Some x → ⊥
-none_some x h = cc
-
 some_none : {X : Type 0} (x : X) → Some x ≡ None → ⊥
 some_none x h = cc
-
-false_true : false ≡ true → ⊥
-false_true h = cc
-
--- a look-up in a list of which one item was replaced
-get_set : {X : Type 0} (xs : List X) (k : ℕ) (x y : X) → slice_get xs k ≡ Some x → slice_get (slice_set xs k y) k ≡ Some y
-get_set [] k x y there = absurd (none_some x there)
-get_set (z ∷ xs) zero x y there = refl
-get_set (z ∷ xs) (suc k) x y there = get_set xs k x y there
 
 -- one item replaced by one that is seen as it was
 set_alike : {X Y : Type 0} (f : X → Y) (xs : List X) (k : ℕ) (x y : X) → slice_get xs k ≡ Some x → f y ≡ f x → map f (slice_set xs k y) ≡ map f xs
@@ -64,18 +50,8 @@ map_twice : {X Y Z : Type 0} (f : X → Y) (h : Y → Z) (xs : List X) → map h
 map_twice f h [] = refl
 map_twice f h (x ∷ xs) = ap (λ rest. h (f x) ∷ rest) (map_twice f h xs)
 
--- the moment of the evaluation that a history has open, and the name of its group
-abbrev moment : {X : Type 0} → Option (History X) → Option ℕ
-moment history = option_and_then (λ h. option_map (λ opened. opened.t) h.opened) history
-
-abbrev name : {X : Type 0} → Option (History X) → Option (List ℕ)
-name history = option_map (λ h. h.group.name) history
-
 abbrev names : {X : Type 0} → List (History X) → List (List ℕ)
 names histories = map (λ h. h.group.name) histories
-
-abbrev moments : KeptWorld → ℕ → Option ℕ
-moments world group = moment (slice_get world.histories group)
 
 -- an edit that is not refused is under the name of the group
 edit_named : (to : Group) (history : History (List Partial)) → edit_refusal to history ≡ None → to.name ≡ history.group.name
@@ -85,49 +61,8 @@ edit_named to history free =
       | false ↦ λ is none. absurd (some_none refusals.NoSuch none)
     ] refl free
 
--- what is not abandoned was not open
-abandon_refused : (history : Option (History (List Partial))) (refusal : Refusal) → known history (λ h. option_map refusals.Book (abandon_fault h)) ≡ Some refusal → moment history ≡ None
-abandon_refused None refusal refused = refl
-abandon_refused (Some history) refusal refused = within history.opened refused
-  where
-    within : (opened : Option (OpenEvaluation (List Partial))) → option_map refusals.Book (cond (is_some opened) None (Some faults.NotOpen)) ≡ Some refusal → option_map (λ (o : OpenEvaluation (List Partial)). o.t) opened ≡ None
-    within None h = refl
-    within (Some opened) h = absurd (none_some refusal h)
-
--- no abandoning comes to nothing
-abandon_never : (group : ℕ) (refusal : Refusal) → may_fail (steps.Abandon group) refusal ≡ false
-abandon_never group refusals.NoSuch = refl
-abandon_never group (refusals.Book fault) = refl
-abandon_never group refusals.JournalFull = refl
-abandon_never group refusals.Fault = refl
-abandon_never group refusals.Damaged = refl
-abandon_never group refusals.NumbersSpent = refl
-abandon_never group refusals.Memory = refl
-
 true_false : true ≡ false → ⊥
 true_false h = cc
-
--- a step that asks no shard
-reply_fits_kept : (old : KeptWorld) (step : Step) (reply : Reply) (new : KeptWorld) → asks_shard step ≡ false → WorldStep partials old step reply new → ReplyFitsMoments (moments old) (moments new) (λ group. name (slice_get old.histories group)) step reply
-reply_fits_kept old (steps.Shard number step) reply new asks turn = absurd (true_false asks)
-reply_fits_kept old (steps.Gather group number) reply new asks turn = absurd (true_false asks)
-reply_fits_kept old (steps.Edit group to) (replies.Edited place) new asks turn = tt
-reply_fits_kept old (steps.Edit group to) (replies.Refused refusal) new asks turn = tt
-reply_fits_kept old (steps.Begin group t) replies.Begun new asks turn =
-    ap (λ (world : KeptWorld). moments world group) turn.1.after ∙ ap moment (get_set old.histories group turn.1.history (begun (length old.shards) turn.1.history t) turn.1.there)
-reply_fits_kept old (steps.Begin group t) (replies.Refused refusal) new asks turn = tt
-reply_fits_kept old (steps.Commit group) (replies.Committed answer) new asks turn =
-    let closing = turn.1 in (
-      ap moment closing.there ∙ ap (option_map (λ (opened : OpenEvaluation (List Partial)). opened.t)) closing.open_is ∙ ap (λ (evaluation : Evaluation). Some evaluation.t) (sym closing.evaluation_is),
-      ap name closing.there ∙ ap (λ (evaluation : Evaluation). Some evaluation.group) (sym closing.evaluation_is),
-    )
-reply_fits_kept old (steps.Commit group) (replies.Refused refusal) new asks turn = ap (λ (world : KeptWorld). moments world group) turn.1
-reply_fits_kept old (steps.Abandon group) replies.Abandoned new asks turn = tt
-reply_fits_kept old (steps.Abandon group) (replies.Refused refusal) new asks (inl refused, same) = abandon_refused (slice_get old.histories group) refusal refused
-reply_fits_kept old (steps.Abandon group) (replies.Refused refusal) new asks (inr wanted, same) = absurd (false_true (sym (abandon_never group refusal) ∙ wanted.1))
-reply_fits_kept old (steps.CatchUp group) (replies.CaughtUp behind) new asks turn = tt
-reply_fits_kept old (steps.CatchUp group) (replies.Refused refusal) new asks turn = tt
-reply_fits_kept old step reply new asks turn = absurd turn.1
 
 names_kept : (old : KeptWorld) (step : Step) (reply : Reply) (new : KeptWorld) → asks_shard step ≡ false → WorldStep partials old step reply new → names new.histories ≡ names old.histories
 names_kept old (steps.Shard number step) reply new asks turn = absurd (true_false asks)
@@ -146,52 +81,6 @@ names_kept old (steps.Abandon group) replies.Abandoned new asks turn =
 names_kept old (steps.CatchUp group) (replies.CaughtUp behind) new asks turn =
     ap (λ (world : KeptWorld). names world.histories) turn.1.after ∙ set_alike (λ (h : History (List Partial)). h.group.name) old.histories group turn.1.history turn.1.history turn.1.there refl
 names_kept old step reply new asks turn = absurd turn.1
-
--- books are seen as their histories
-moment_seen : (world : WorldBooks) (group : ℕ) → moments (kept world) group ≡ open_moment world group
-moment_seen world group = ap moment (slice_get-map (λ (book : BookState). book.history) world.books group) ∙ through (slice_get world.books group)
-  where
-    through : (book : Option BookState) → moment (option_map (λ (b : BookState). b.history) book) ≡ option_and_then (λ (b : BookState). option_map (λ (o : OpenEvaluation (List Partial)). o.t) b.history.opened) book
-    through None = refl
-    through (Some book) = refl
-
-name_seen : (world : WorldBooks) (group : ℕ) → name (slice_get (kept world).histories group) ≡ name_at world group
-name_seen world group = ap name (slice_get-map (λ (book : BookState). book.history) world.books group) ∙ through (slice_get world.books group)
-  where
-    through : (book : Option BookState) → name (option_map (λ (b : BookState). b.history) book) ≡ option_map (λ (b : BookState). b.history.group.name) book
-    through None = refl
-    through (Some book) = refl
-
--- what the reply to a step that asks no shard fits
-reply_fits_unasked : (old : WorldBooks) (step : Step) (reply : Reply) (new : WorldBooks) → asks_shard step ≡ false → Turned old step reply new → ReplyFits old step reply new
-reply_fits_unasked old step reply new asks turned =
-    let reply_fits = reply_fits_kept (kept old) step reply (kept new) asks (turned.on_kept asks) in
-    let old_moments : moments (kept old) ≡ open_moment old = λ i group. moment_seen old group i in
-    let new_moments : moments (kept new) ≡ open_moment new = λ i group. moment_seen new group i in
-    let old_names : (λ group. name (slice_get (kept old).histories group)) ≡ name_at old = λ i group. name_seen old group i in
-    subst (λ names. ReplyFitsMoments (open_moment old) (open_moment new) names step reply) old_names (subst (λ later. ReplyFitsMoments (open_moment old) later (λ group. name (slice_get (kept old).histories group)) step reply) new_moments (subst (λ former. ReplyFitsMoments former (moments (kept new)) (λ group. name (slice_get (kept old).histories group)) step reply) old_moments reply_fits))
-
--- where the world was left as it was
-same_moment : (old new : WorldBooks) (group : ℕ) → kept new ≡ kept old → open_moment new group ≡ open_moment old group
-same_moment old new group same = sym (moment_seen new group) ∙ ap (λ (world : KeptWorld). moments world group) same ∙ moment_seen old group
-
-reply_fits : (old : WorldBooks) (step : Step) (reply : Reply) (new : WorldBooks) → Turned old step reply new → ReplyFits old step reply new
-reply_fits old (steps.Shard number step) (replies.Decided place reply) new turned = tt
-reply_fits old (steps.Shard number step) (replies.Refused refusal) new turned = tt
-reply_fits old (steps.Gather group number) (replies.Gathered place) new turned =
-    let turn = turned.stores in
-    let moment_of = λ (book : Option BookState). option_and_then (λ (b : BookState). option_map (λ (o : OpenEvaluation (List Partial)). o.t) b.history.opened) book in
-    let after = with_history turn.asked.book (gathered turn.asked.book.history number place turn.partials) in
-    ap (λ (books : List BookState). moment_of (slice_get books group)) turn.kept ∙ ap moment_of (get_set old.books group turn.asked.book after turn.asked.there)
-    ∙ ap (λ o. option_map (λ (opened : OpenEvaluation (List Partial)). opened.t) (option_map (with_shown number place turn.partials) o)) turn.asked.open_is
-    ∙ sym (ap moment_of turn.asked.there ∙ ap (option_map (λ (opened : OpenEvaluation (List Partial)). opened.t)) turn.asked.open_is)
-reply_fits old (steps.Gather group number) (replies.Refused refusal) new turned = same_moment old new group (turned.refused refusal refl).1
-reply_fits old (steps.Edit group to) reply new turned = reply_fits_unasked old (steps.Edit group to) reply new refl turned
-reply_fits old (steps.Begin group t) reply new turned = reply_fits_unasked old (steps.Begin group t) reply new refl turned
-reply_fits old (steps.Commit group) reply new turned = reply_fits_unasked old (steps.Commit group) reply new refl turned
-reply_fits old (steps.Abandon group) reply new turned = reply_fits_unasked old (steps.Abandon group) reply new refl turned
-reply_fits old (steps.CatchUp group) reply new turned = reply_fits_unasked old (steps.CatchUp group) reply new refl turned
-reply_fits old step reply new turned = absurd turned.stores
 
 abbrev book_names : WorldBooks → List (List ℕ)
 book_names world = map (λ (book : BookState). book.history.group.name) world.books
@@ -239,18 +128,42 @@ listed_alike (book ∷ old) (next ∷ new) same counts =
     let more : sink_counts new ≡ sink_counts old = cc in
     λ i. record { name = first i; sinks = count i } ∷ listed_alike old new others more i
 
--- what follows of a turn
-pub record Followed (old : WorldBooks) (step : Step) (reply : Reply) (new : WorldBooks) : Type 0 where
-  pub fits : ReplyFits old step reply new
-  pub alike : IsAlike old new
+-- no turn changes which groups, sinks and shards there are
+pub turn_alike : (old : WorldBooks) (step : Step) (reply : Reply) (new : WorldBooks) → Turned old step reply new → IsAlike old new
+turn_alike old step reply new turned =
+    let run : Ran old (step ∷ []) (reply ∷ []) new = (new, turned, refl) in (
+      listed_alike old.books new.books (names_stay old step reply new turned) (ran_counts old (step ∷ []) (reply ∷ []) new run),
+      shards_stay old step reply new turned.stores,
+    )
 
-pub followed : (old : WorldBooks) (step : Step) (reply : Reply) (new : WorldBooks) → Turned old step reply new → Followed old step reply new
-followed old step reply new turned =
-    let run : Ran old (step ∷ []) (reply ∷ []) new = (new, turned, refl) in
-    record {
-      fits = reply_fits old step reply new turned;
-      alike = (
-        listed_alike old.books new.books (names_stay old step reply new turned) (ran_counts old (step ∷ []) (reply ∷ []) new run),
-        shards_stay old step reply new turned.stores,
-      );
-    }
+then_alike : (old mid new : WorldBooks) → IsAlike old mid → IsAlike mid new → IsAlike old new
+then_alike old mid new first next = (next.0 ∙ first.0, next.1 ∙ first.1)
+
+left_alike : (old new : WorldBooks) → new ≡ old → IsAlike old new
+left_alike old new same = (ap (λ (world : WorldBooks). map listed world.books) same, ap (λ (world : WorldBooks). length world.shards) same)
+
+-- nor do several
+asked_alike : (old : WorldBooks) (group from left : ℕ) (answer : Result ⊤ Refusal) (new : WorldBooks) → AreAskedFor old group from left answer new → IsAlike old new
+asked_alike old group from zero answer new asked = left_alike old new asked.1
+asked_alike old group from (suc left) answer new (Ok place, mid, first, rest) =
+    then_alike old mid new (turn_alike old (steps.Gather group from) (replies.Gathered place) mid first) (asked_alike mid group (suc from) left answer new rest)
+asked_alike old group from (suc left) answer new (Err refusal, mid, first, rest) =
+    then_alike old mid new (turn_alike old (steps.Gather group from) (replies.Refused refusal) mid first) (left_alike mid new rest.1)
+
+finished_alike : (old : WorldBooks) (group : ℕ) (answer : Result Committed Refusal) (new : WorldBooks) → IsFinished old group answer new → IsAlike old new
+finished_alike old group answer new (Ok done, mid, asked, commits) =
+    then_alike old mid new (asked_alike old group 0 (length old.shards) (Ok done) mid asked) (turn_alike mid (steps.Commit group) (as_reply replies.Committed answer) new commits)
+finished_alike old group answer new (Err refusal, mid, asked, rest) = then_alike old mid new (asked_alike old group 0 (length old.shards) (Err refusal) mid asked) (left_alike mid new rest.1)
+
+closed_alike : (old : WorldBooks) (group : ℕ) (answer : Result Committed Refusal) (new : WorldBooks) → IsClosedOff old group answer new → IsAlike old new
+closed_alike old group (Ok committed) new (mid, finished, leaves) = then_alike old mid new (finished_alike old group (Ok committed) mid finished) (left_alike mid new leaves)
+closed_alike old group (Err refusal) new (mid, finished, leaves) =
+    then_alike old mid new (finished_alike old group (Err refusal) mid finished) (turn_alike mid (steps.Abandon group) replies.Abandoned new leaves)
+
+evaluated_by : (old : WorldBooks) (group t : ℕ) (begun : Result ⊤ Refusal) (mid : WorldBooks) (answer : Result Committed Refusal) (new : WorldBooks)
+    → Turned old (steps.Begin group t) (as_reply (λ _. replies.Begun) begun) mid → IfDoneThen begun mid (IsClosedOff mid group) answer new → IsAlike old new
+evaluated_by old group t (Ok done) mid answer new begins rest = then_alike old mid new (turn_alike old (steps.Begin group t) replies.Begun mid begins) (closed_alike mid group answer new rest)
+evaluated_by old group t (Err refusal) mid answer new begins rest = then_alike old mid new (turn_alike old (steps.Begin group t) (replies.Refused refusal) mid begins) (left_alike mid new rest.1)
+
+pub evaluated_alike : (old : WorldBooks) (group t : ℕ) (answer : Result Committed Refusal) (new : WorldBooks) → IsEvaluated old group t answer new → IsAlike old new
+evaluated_alike old group t answer new is = evaluated_by old group t is.begun is.mid answer new is.begins is.following

@@ -13,7 +13,7 @@ use Rattle.rl_world.specs.Closed.{IsBookClosed, IsClosed}
 use Rattle.rl_world.specs.WorldState.{BookState, WorldBooks}
 use Rattle.rl_world.specs.declared.fault.Refusal.{Refusal}
 use Rattle.rl_session.specs.Engine.{Listed, number_named}
-use Rattle.rl_session.specs.WorldEngine.{IsAskedFor, AreDecided, IsGathered, AreGathered, first_refused, name_at, listed, or_else, refusing}
+use Rattle.rl_session.specs.WorldEngine.{IsAskedFor, AreDecided, first_refused, listed, or_else, refusing}
 
 -- books whose sinks were closed are listed as before
 pub closed_listed : (olds news : List BookState) → AllZip IsBookClosed olds news → map listed news ≡ map listed olds
@@ -24,37 +24,6 @@ closed_listed (old ∷ olds) (new ∷ news) closes =
     λ i. (same ∙ ap (λ n. record { name = old.history.group.name; sinks = n }) many) i ∷ closed_listed olds news closes.1 i
 closed_listed [] (new ∷ news) closes = absurd closes
 closed_listed (old ∷ olds) [] closes = absurd closes
-
--- worlds that are listed alike have the same names
-pub names_alike : (old new : WorldBooks) (group : ℕ) → map listed new.books ≡ map listed old.books → name_at new group ≡ name_at old group
-names_alike old new group alike = by_list new.books ∙ ap (λ groups. option_map (λ (one : Listed). one.name) (slice_get groups group)) alike ∙ sym (by_list old.books)
-  where
-    through : (book : Option BookState) → option_map (λ (b : BookState). b.history.group.name) book ≡ option_map (λ (one : Listed). one.name) (option_map listed book)
-    through None = refl
-    through (Some book) = refl
-
-    by_list : (books : List BookState) → option_map (λ (b : BookState). b.history.group.name) (slice_get books group) ≡ option_map (λ (one : Listed). one.name) (slice_get (map listed books) group)
-    by_list books = through (slice_get books group) ∙ ap (option_map (λ (one : Listed). one.name)) (sym (slice_get-map listed books group))
-
-ok_err : {A : Type 0} (x : A) (refusal : Refusal) → ◌≡◌ {A = Result A Refusal} (Ok x) (Err refusal) → ⊥
-ok_err x refusal h = cc
-
--- a shard more
-pub gathered_more : (old : WorldBooks) (group from left at : ℕ) (mid new : WorldBooks) → at ≡ from + left → AreGathered old group from left (Ok tt) mid → IsGathered mid group at (Ok tt) new → AreGathered old group from (suc left) (Ok tt) new
-gathered_more old group from zero at mid new same_number gathered next =
-    (Ok tt, new, subst (λ n. IsGathered old group n (Ok tt) new) (omega (arith, same_number)) (subst (λ world. IsGathered world group at (Ok tt) new) gathered.1 next), (refl, refl))
-gathered_more old group from (suc left) at mid new same_number (Ok done, first, begins, rest) next =
-    (Ok done, first, begins, gathered_more first group (suc from) left at mid new (omega (arith, same_number)) rest next)
-gathered_more old group from (suc left) at mid new same_number (Err refusal, first, begins, rest) next = absurd (ok_err tt refusal rest.0)
-
--- a shard that refuses ends it
-pub gathered_stop : (old : WorldBooks) (group from left all at : ℕ) (mid new : WorldBooks) (refusal : Refusal) → at ≡ from + left → left < all → AreGathered old group from left (Ok tt) mid → IsGathered mid group at (Err refusal) new → AreGathered old group from all (Err refusal) new
-gathered_stop old group from left zero at mid new refusal same_number below gathered stops = absurd (omega (arith, below))
-gathered_stop old group from zero (suc all) at mid new refusal same_number below gathered stops =
-    (Err refusal, new, subst (λ n. IsGathered old group n (Err refusal) new) (omega (arith, same_number)) (subst (λ world. IsGathered world group at (Err refusal) new) gathered.1 stops), (refl, refl))
-gathered_stop old group from (suc left) (suc all) at mid new refusal same_number below (Ok done, first, begins, rest) stops =
-    (Ok done, first, begins, gathered_stop first group (suc from) left all at mid new refusal (omega (arith, same_number)) (omega (arith, below)) rest stops)
-gathered_stop old group from (suc left) (suc all) at mid new refusal same_number below (Err other, first, begins, rest) stops = absurd (ok_err tt other rest.0)
 
 -- a shard more decided a step
 pub decided_more : (old : WorldBooks) (step : ShardStep) (from at : ℕ) (replies : List ShardReply) (mid : WorldBooks) (reply : ShardReply) (new : WorldBooks) → at ≡ from + length replies → AreDecided old step from replies mid → IsAskedFor mid step at (Ok reply) new → AreDecided old step from (replies ++ reply ∷ []) new

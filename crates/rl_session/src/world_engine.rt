@@ -4,12 +4,9 @@ ghost use Rattle.std.specs.List.{AllByRecursion, concat};
 ghost use Rattle.rl_shard.specs.ShardState.{opened_over};
 ghost use Rattle.rl_world.specs.BookCalls.{books_from, IsFresh};
 ghost use Rattle.rl_world.specs.ShardAnswers.{most_shards};
-ghost use Rattle.rl_world.specs.WorldRun.{Turned};
-ghost use Rattle.rl_world.specs.declared.step.Reply.TheVariants as replies;
-ghost use Rattle.rl_world.specs.declared.step.Step.TheVariants as steps;
 ghost use Rattle.rl_session.specs.Engine.{IsAnswered, number_named, kept_text};
 ghost use Rattle.rl_session.specs.Printer.{Prints};
-ghost use Rattle.rl_session.specs.WorldEngine.{ReplyFits, IsAlike, IsAskedFor, IsAskedOfAll, or_else, refusing, IsBegun, IsGathered, AreGathered, IsCommitted, IsFinished, listed, shown_of, name_at, open_moment};
+ghost use Rattle.rl_session.specs.WorldEngine.{IsAlike, IsAskedOne, IsAskedFor, IsAskedOfAll, or_else, refusing, listed, shown_of};
 
 use crate::engine::{Engine, Partly};
 use crate::names::shard_refusal;
@@ -20,7 +17,7 @@ use rl_plain::{PlainList, Shared, TryCopy};
 use rl_rules::Group;
 use rl_shard::{ShardReply, ShardStep};
 use rl_sinks::Sink;
-use rl_world::{Book, Committed, Refusal, Reply, Step, World};
+use rl_world::{Book, Committed, Refusal, World};
 use std::alloc::{AllocError, Global};
 use std::io::Write;
 use std::marker::Model;
@@ -88,13 +85,15 @@ impl<D: Store, S: Sink> WorldEngine<D, S> {
         self.world.into_books()
     }
 
-    // Answers one step.
-    fn answer(&mut self, step: Step) -> Reply
-        ensures turned { Turned self.old step result self.new }
-        ensures reply_fits { ReplyFits self.old step result self.new }
+    // Asks a shard for a step.
+    fn ask_one(&mut self, number: usize, step: ShardStep) -> Result<ShardReply, Refusal>
+        ensures made { IsAskedOne self.old number step result self.new }
         ensures alike { IsAlike self.old self.new }
     {
-        self.world.answer(step)
+        match self.world.ask(number, step) {
+            Ok((_place, reply)) => Ok(reply),
+            Err(refusal) => Err(refusal),
+        }
     }
 
     // Asks a shard for a step, after those that decided it.
@@ -107,10 +106,9 @@ impl<D: Store, S: Sink> WorldEngine<D, S> {
             let refusal = Refusal::Memory;
             return Err(Partly { done, refusal });
         };
-        match self.answer(Step::Shard { number, step }) {
-            Reply::Decided { reply, .. } => Ok(reply),
-            Reply::Refused(refusal) => Err(Partly { done, refusal }),
-            _ => unreachable!(),
+        match self.ask_one(number, step) {
+            Ok(reply) => Ok(reply),
+            Err(refusal) => Err(Partly { done, refusal }),
         }
     }
 
@@ -125,83 +123,6 @@ impl<D: Store, S: Sink> WorldEngine<D, S> {
             refused = first_refused(refused, reply);
         }
         Ok(refused)
-    }
-
-    // Opens an evaluation of the group at the moment.
-    fn begin(&mut self, group: usize, t: Ns) -> Result<(), Refusal>
-        ensures made { IsBegun self.old group t result self.new }
-        ensures opened { OnOk result (open_moment self.new group ≡ Some t) }
-        ensures alike { IsAlike self.old self.new }
-    {
-        match self.answer(Step::Begin { group, t }) {
-            Reply::Begun => Ok(()),
-            Reply::Refused(refusal) => Err(refusal),
-            _ => unreachable!(),
-        }
-    }
-
-    // Asks a shard, for the open evaluation of the group.
-    fn gather(&mut self, group: usize, number: usize) -> Result<(), Refusal>
-        ensures made { IsGathered self.old group number result self.new }
-        ensures still_open { open_moment self.new group ≡ open_moment self.old group }
-        ensures alike { IsAlike self.old self.new }
-    {
-        match self.answer(Step::Gather { group, number }) {
-            Reply::Gathered { .. } => Ok(()),
-            Reply::Refused(refusal) => Err(refusal),
-            _ => unreachable!(),
-        }
-    }
-
-    // Asks each shard in order.
-    fn gather_all(&mut self, group: usize) -> Result<(), Refusal>
-        ensures made { AreGathered self.old group 0 (length self.old.shards) result self.new }
-        ensures still_open { open_moment self.new group ≡ open_moment self.old group }
-        ensures alike { IsAlike self.old self.new }
-    {
-        for number in 0..self.shards() {
-            self.gather(group, number)?;
-        }
-        Ok(())
-    }
-
-    // Commits the open evaluation of the group.
-    fn commit(&mut self, group: usize) -> Result<Committed, Refusal>
-        ensures made { IsCommitted self.old group result self.new }
-        ensures moment { IfOk result (λ committed. open_moment self.old group ≡ Some committed.evaluation.t) }
-        ensures of_group { IfOk result (λ committed. name_at self.old group ≡ Some committed.evaluation.group) }
-        ensures still_open { OnErr result (open_moment self.new group ≡ open_moment self.old group) }
-        ensures alike { IsAlike self.old self.new }
-    {
-        match self.answer(Step::Commit { group }) {
-            Reply::Committed(committed) => Ok(committed),
-            Reply::Refused(refusal) => Err(refusal),
-            _ => unreachable!(),
-        }
-    }
-
-    // Asks each shard, and commits the open evaluation of the group.
-    fn finish(&mut self, group: usize) -> Result<Committed, Refusal>
-        ensures made { IsFinished self.old group result self.new }
-        ensures moment { IfOk result (λ committed. open_moment self.old group ≡ Some committed.evaluation.t) }
-        ensures of_group { IfOk result (λ committed. name_at self.old group ≡ Some committed.evaluation.group) }
-        ensures still_open { OnErr result (open_moment self.new group ≡ open_moment self.old group) }
-        ensures alike { IsAlike self.old self.new }
-    {
-        self.gather_all(group)?;
-        self.commit(group)
-    }
-
-    // Closes the open evaluation of the group, of which nothing is left.
-    fn abandon(&mut self, group: usize)
-        requires { IsSome (open_moment self.old group) }
-        ensures made { Turned self.old (steps.Abandon group) replies.Abandoned self.new }
-        ensures alike { IsAlike self.old self.new }
-    {
-        match self.answer(Step::Abandon { group }) {
-            Reply::Abandoned => {}
-            _ => unreachable!(),
-        }
     }
 
     // How many shards it asks.
@@ -228,12 +149,7 @@ impl<D: Store, S: Sink> Engine for WorldEngine<D, S> {
 
     fn push(&mut self, entry: Shared<Entry>) -> Result<ShardReply, Refusal> {
         let number = shard_of(&entry.get().labels, self.shards());
-        let step = ShardStep::Push(entry);
-        match self.answer(Step::Shard { number, step }) {
-            Reply::Decided { reply, .. } => Ok(reply),
-            Reply::Refused(refusal) => Err(refusal),
-            _ => unreachable!(),
-        }
+        self.ask_one(number, ShardStep::Push(entry))
     }
 
     fn ask_all(&mut self, step: ShardStep) -> Result<Option<ShardReply>, Partly> {
@@ -241,30 +157,16 @@ impl<D: Store, S: Sink> Engine for WorldEngine<D, S> {
     }
 
     fn edit(&mut self, group: usize, to: Group) -> Result<(), Refusal> {
-        match self.answer(Step::Edit { group, to }) {
-            Reply::Edited { .. } => Ok(()),
-            Reply::Refused(refusal) => Err(refusal),
-            _ => unreachable!(),
-        }
+        self.world.edit(group, to)?;
+        Ok(())
     }
 
     fn evaluate(&mut self, group: usize, t: Ns) -> Result<Committed, Refusal> {
-        self.begin(group, t)?;
-        match self.finish(group) {
-            Ok(committed) => Ok(committed),
-            Err(refusal) => {
-                self.abandon(group);
-                Err(refusal)
-            }
-        }
+        self.world.evaluate(group, t)
     }
 
     fn catch_up(&mut self, group: usize) -> Result<PlainList<u64>, Refusal> {
-        match self.answer(Step::CatchUp { group }) {
-            Reply::CaughtUp { behind } => Ok(behind),
-            Reply::Refused(refusal) => Err(refusal),
-            _ => unreachable!(),
-        }
+        self.world.catch_up(group)
     }
 
     fn is_due(&self, group: usize, now: Ns) -> bool {

@@ -1,5 +1,5 @@
 pub mod Crossing
-pub mod Answering
+pub mod Asking
 pub mod Closing
 pub mod Committing
 pub mod Counting
@@ -7,6 +7,7 @@ pub mod Gathering
 pub mod Items
 pub mod Lifting
 pub mod Merging
+pub mod Moments
 pub mod Offers
 pub mod Opening
 pub mod Running

@@ -1,19 +1,21 @@
 -- A run of a world, turn by turn.
-use Rattle.std.proofs.Common.{◌≡◌, ℕ, false, List, [], ◌∷◌, ◌++◌, length, drop, refl, sym, ap, subst, ◌∙◌}
+use Rattle.std.proofs.Common.{◌≡◌, ℕ, true, false, List, [], ◌∷◌, ◌++◌, length, drop, refl, sym, ap, subst, ◌∙◌}
 use Rattle.std.specs.List.{AllByRecursion}
 use Rattle.std.proofs.lemmas.List.{append-nil, append_assoc}
 use Rattle.std.proofs.Math.Seq.{drop-append_seam}
-use Rattle.rl_world.specs.Offering.{TookPrefix}
+use Rattle.rl_aggregate.specs.declared.partial.Partial.{Partial}
 use Rattle.rl_world.specs.ShardsTurn.{AreHonest, ShardsTurn}
 use Rattle.rl_world.specs.WorldRun.{gained, SinkStep, Turned, Ran}
-use Rattle.rl_world.specs.WorldState.{BookState, WorldBooks, IsBookOf, world_of}
+use Rattle.rl_world.specs.WorldState.{BookState, WorldBooks, WorldState, IsBookOf, TookPrefixes, world_of}
 use Rattle.rl_world.specs.WorldStep.{WorldStep, IfRefused, IsRefused, asks_shard, partials}
 use Rattle.rl_world.specs.declared.step.Step.{Step}
+use Rattle.rl_world.specs.declared.step.Step.TheVariants as steps
 use Rattle.rl_world.specs.declared.step.Reply.{Reply}
+use Rattle.rl_world.specs.declared.step.Reply.TheVariants as replies
 use Rattle.rl_world.proofs.Lifting.{lift_step}
 
 -- what shards and books answer to a step is a turn of their world
-pub turned : (old : WorldBooks) (step : Step) (reply : Reply) (new : WorldBooks) → IfRefused reply (λ refusal. IsRefused (world_of old.shards old.books) step refusal (world_of new.shards new.books))
+turned : (old : WorldBooks) (step : Step) (reply : Reply) (new : WorldBooks) → IfRefused reply (λ refusal. IsRefused (world_of old.shards old.books) step refusal (world_of new.shards new.books))
     → (asks_shard step ≡ false → WorldStep partials (world_of old.shards old.books) step reply (world_of new.shards new.books)) → (AreHonest old.shards → WorldStep partials (world_of old.shards old.books) step reply (world_of new.shards new.books))
     → SinkStep old.books step reply new.books → ShardsTurn old step reply new → Turned old step reply new
 turned old step reply new refused on_kept turn sinks stores = record {
@@ -23,6 +25,30 @@ turned old step reply new refused on_kept turn sinks stores = record {
   stores = stores;
   from_scratch = λ honest shown stands. lift_step shown step reply (world_of new.shards new.books) (subst (λ world. WorldStep partials world step reply (world_of new.shards new.books)) stands (turn honest));
 }
+
+-- a step that was refused left all that is kept
+step_refused : (old new : WorldState (List Partial)) (step : Step) (reply : Reply) → WorldStep partials old step reply new → IfRefused reply (λ refusal. IsRefused old step refusal new)
+step_refused old new step (replies.Refused refusal) turn = turn
+step_refused old new step reply turn = tt
+
+true_false : true ≡ false → ⊥
+true_false h = cc
+
+-- a step that asks no shard touches none
+shards_kept : (old new : WorldBooks) (step : Step) (reply : Reply) → asks_shard step ≡ false → new.shards ≡ old.shards → ShardsTurn old step reply new
+shards_kept old new (steps.Shard number step) reply free same = absurd (true_false free)
+shards_kept old new (steps.Gather group number) reply free same = absurd (true_false free)
+shards_kept old new step reply free same = same
+
+-- the turn of a step that asks no shard, which is the same over any stores
+pub turned_unasked : (old : WorldBooks) (step : Step) (reply : Reply) (new : WorldBooks) → asks_shard step ≡ false → WorldStep partials (world_of old.shards old.books) step reply (world_of new.shards new.books) → SinkStep old.books step reply new.books → new.shards ≡ old.shards → Turned old step reply new
+turned_unasked old step reply new free turn sinks same =
+    turned old step reply new (step_refused (world_of old.shards old.books) (world_of new.shards new.books) step reply turn) (λ _. turn) (λ _. turn) sinks (shards_kept old new step reply free same)
+
+-- the turn of a step that asks a shard
+pub turned_asked : (old : WorldBooks) (step : Step) (reply : Reply) (new : WorldBooks) → asks_shard step ≡ true → IfRefused reply (λ refusal. IsRefused (world_of old.shards old.books) step refusal (world_of new.shards new.books))
+    → (AreHonest old.shards → WorldStep partials (world_of old.shards old.books) step reply (world_of new.shards new.books)) → SinkStep old.books step reply new.books → ShardsTurn old step reply new → Turned old step reply new
+turned_asked old step reply new asks refused turn sinks stores = turned old step reply new refused (λ free. absurd (true_false (sym asks ∙ free))) turn sinks stores
 
 -- a run goes on by one turn
 run_more : (old : WorldBooks) (steps : List Step) (replies : List Reply) (mid : WorldBooks) (step : Step) (reply : Reply) (new : WorldBooks) → Ran old steps replies mid → Turned mid step reply new → Ran old (steps ++ step ∷ []) (replies ++ reply ∷ []) new
@@ -52,6 +78,6 @@ pub run_done : (old : WorldBooks) (before : List Reply) (steps : List Step) (now
 run_done old before steps now out so_far = subst (λ replies. Ran old steps replies now) (sym (ap (drop (length before)) so_far.answered_so ∙ drop-append_seam before so_far.replies)) so_far.run
 
 -- the sinks of each book of a world took prefixes
-pub each_prefix : (n : ℕ) (books : List BookState) → AllByRecursion (IsBookOf n) books → AllByRecursion (λ (book : BookState). AllByRecursion (TookPrefix book.history.evaluations) book.sinks) books
+pub each_prefix : (n : ℕ) (books : List BookState) → AllByRecursion (IsBookOf n) books → AllByRecursion TookPrefixes books
 each_prefix n [] fits = tt
 each_prefix n (book ∷ books) fits = (fits.0.1, each_prefix n books fits.1)

@@ -1,6 +1,7 @@
 pub mod BookCalls
 pub mod Closed
 pub mod Evaluating
+pub mod Evaluations
 pub mod History
 pub mod Kept
 pub mod Listings

@@ -78,9 +78,13 @@ pub record IsBook (terms : List Term) (alerts : List (List Alert)) (book : BookS
   pub answers : IfSome book.history.opened (λ opened. (length opened.gathered ≡ book.shards) × AllByRecursion (IsKept (length terms)) opened.gathered)
   pub prefixes : AllByRecursion (TookPrefix book.history.evaluations) book.sinks
 
+-- each sink of a book took a prefix
+abbrev pub TookPrefixes : BookState → Type 0
+TookPrefixes book = AllByRecursion (TookPrefix book.history.evaluations) book.sinks
+
 -- a book of a world with `shards` shards
 abbrev pub IsBookOf : ℕ → BookState → Type 0
-IsBookOf shards book = (book.shards ≡ shards) × AllByRecursion (TookPrefix book.history.evaluations) book.sinks
+IsBookOf shards book = (book.shards ≡ shards) × TookPrefixes book
 
 abbrev pub with_sinks : BookState → List SinkState → BookState
 with_sinks book sinks = record { history = book.history; shards = book.shards; slot = book.slot; sinks = sinks }

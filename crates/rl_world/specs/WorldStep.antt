@@ -1,5 +1,5 @@
 -- What a world answers to a step, and what it is afterwards.
-use Rattle.std.specs.Prelude.{◌≡◌, ◌⊎◌, ℕ, Bool, true, false, IsTrue, ◌&&◌, List, [], ◌∷◌, length, Option, None, Some, option_map, slice_get, slice_set, if◌then◌else◌}
+use Rattle.std.specs.Prelude.{◌≡◌, ◌⊎◌, ℕ, Bool, true, false, IsTrue, ◌&&◌, List, [], ◌∷◌, length, Option, None, Some, option_map, slice_get, slice_set, Result, Ok, Err, if◌then◌else◌}
 use Rattle.rl_labels.specs.Name.{is_text}
 use Rattle.rl_labels.specs.declared.entry.Entry.{Entry}
 use Rattle.rl_query.specs.declared.query.Term.{Term}
@@ -89,6 +89,11 @@ is_store_refusal refusal = false
 abbrev pub may_fail : Step → Refusal → Bool
 may_fail step refusals.Memory = may_want step
 may_fail step refusal = asks_shard step && is_store_refusal refusal
+
+-- what a call of one kind answers, as a reply
+abbrev pub as_reply : {A : Type 0} → (A → Reply) → Result A Refusal → Reply
+as_reply reply (Ok answer) = reply answer
+as_reply reply (Err refusal) = replies.Refused refusal
 
 -- what holds of the refusal, where the reply is one
 abbrev pub IfRefused : Reply → (Refusal → Type 0) → Type 0

@@ -13,7 +13,7 @@ use crate::evaluating::{RuleCache, ShardAnswer, evaluate, terms_of_group};
 use crate::fault::{BookError, BookFault};
 use crate::item::Item;
 use crate::offering::{catch_up_all, offer_all};
-use crate::opened::{Gathered, OpenEvaluation};
+use crate::opened::{Gathered, OpenEvaluation, OpenPartials};
 use crate::step::Committed;
 use rl_aggregate::Partial;
 use rl_labels::Ns;
@@ -44,7 +44,7 @@ pub struct Book<S: Sink> {
     // Edits and evaluations in order, and the evaluations alone.
     items: Vec<Item>,
     evaluations: Vec<Shared<Evaluation>>,
-    opened: Option<OpenEvaluation<PlainList<Shared<Partial>>>>,
+    opened: Option<OpenPartials>,
     sinks: Vec<S>,
 }
 
@@ -427,10 +427,7 @@ fn has_passed(seconds: u64, last: Ns, now: Ns) -> bool
 }
 
 // The moment at which the shard is to be asked.
-fn asked(
-    opened: &Option<OpenEvaluation<PlainList<Shared<Partial>>>>,
-    shard: usize,
-) -> Result<Ns, BookFault>
+fn asked(opened: &Option<OpenPartials>, shard: usize) -> Result<Ns, BookFault>
     requires { IfSome opened.now (λ opened. shard < length opened.gathered) }
     ensures answer { Refuses (asked_fault opened.now shard) result }
     ensures moment { IfOk result (λ t. option_map (λ opened. opened.t) opened.now ≡ Some t) }
@@ -445,10 +442,7 @@ fn asked(
 }
 
 // The open evaluation, if it can be committed to a book that is full or not.
-fn complete(
-    opened: &Option<OpenEvaluation<PlainList<Shared<Partial>>>>,
-    full: bool,
-) -> Result<&OpenEvaluation<PlainList<Shared<Partial>>>, BookFault>
+fn complete(opened: &Option<OpenPartials>, full: bool) -> Result<&OpenPartials, BookFault>
     ensures refused { IfErr result (λ fault. closing_fault opened.now full ≡ Some fault) }
     ensures free { OnOk result (closing_fault opened.now full ≡ None) }
     ensures room { OnOk result (full ≡ false) }
@@ -475,7 +469,7 @@ fn all_asked(answers: &[ShardAnswer]) -> bool
 
 // Keeps what a shard showed as its answer.
 fn put(
-    opened: &mut Option<OpenEvaluation<PlainList<Shared<Partial>>>>,
+    opened: &mut Option<OpenPartials>,
     shard: usize,
     answer: Gathered<PlainList<Shared<Partial>>>,
 )
@@ -488,7 +482,7 @@ fn put(
 }
 
 // Nothing is open afterwards.
-fn close(opened: &mut Option<OpenEvaluation<PlainList<Shared<Partial>>>>)
+fn close(opened: &mut Option<OpenPartials>)
     ensures { opened.new ≡ None }
 {
     *opened = None;

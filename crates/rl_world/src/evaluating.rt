@@ -11,7 +11,7 @@ ghost use Rattle.rl_world.specs.History.{alerts_then};
 ghost use Rattle.rl_world.specs.Kept.{evaluation_from, merged_from, merged_terms, results_from, no_partial};
 ghost use Rattle.rl_world.specs.ShardAnswers.{IsKept, HasTerm, most_shards};
 
-use crate::opened::{Gathered, OpenEvaluation};
+use crate::opened::{Gathered, OpenPartials};
 use rl_aggregate::{OutcomeCache, Partial, merge};
 use rl_labels::Ns;
 use rl_plain::{PlainList, Shared, TryCopy};
@@ -54,7 +54,7 @@ pub(crate) fn evaluate(
     group: &Group,
     terms: usize,
     alerts: &[PlainList<Alert>],
-    opened: &OpenEvaluation<PlainList<Shared<Partial>>>,
+    opened: &OpenPartials,
     caches: &mut Vec<RuleCache>,
 ) -> Result<(Shared<Evaluation>, Vec<PlainList<Alert>>), AllocError>
     requires terms { terms ≡ length (group_terms group.now) }

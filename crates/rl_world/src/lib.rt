@@ -6,13 +6,14 @@
 //!
 //! - `step`: `Step`, `Reply`, `Committed`. `fault`: `BookFault`, `BookError`, `Refusal`. `opened`: an evaluation that is open.
 //! - `item`: `Item`, an edit or an evaluation in the history of a group.
-//! - `book`: `Book`, one group with its sinks. `world`: `World`. `sending`: a probe for what may cross to another thread.
+//! - `book`: `Book`, one group with its sinks. `world`: `World`. `evaluation`: its evaluation of a group as a whole. `sending`: a probe for what may cross to another thread.
 //! - `aggregate`, `shard`, `rules`, `sinks`: the crates below, passed on.
 #![tactic(auto)]
 
 pub mod book;
 mod editing;
 mod evaluating;
+mod evaluation;
 pub mod fault;
 pub mod item;
 mod offering;

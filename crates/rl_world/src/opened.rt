@@ -1,6 +1,7 @@
 //! An evaluation that is open: what it has of the shards so far.
+use rl_aggregate::Partial;
 use rl_labels::Ns;
-use rl_plain::PlainList;
+use rl_plain::{PlainList, Shared};
 
 /// What a shard gave when it was asked.
 #[derive(Drop)]
@@ -18,3 +19,6 @@ pub struct OpenEvaluation<X> {
     /// One for each shard; `None` until it is asked.
     pub gathered: PlainList<Option<Gathered<X>>>,
 }
+
+/// What a book has of an evaluation that is open: of each shard that was asked, the partials of the group's terms.
+pub(crate) type OpenPartials = OpenEvaluation<PlainList<Shared<Partial>>>;

@@ -1,15 +1,11 @@
 //! The shards and the books of a world, as they are kept.
-ghost use Rattle.std.specs.Prelude.{◌≡◌, ◌-◌, ◌^◌, length, map, min, false};
+ghost use Rattle.std.specs.Prelude.{◌≡◌, ◌-◌, ◌^◌, length, min};
 ghost use Rattle.std.specs.List.{AllByRecursion, AllZip};
 ghost use Rattle.std.proofs.Props.{props};
 ghost use Rattle.rl_world.specs.Closed.{HasAnswered, IsBookClosed, failures, sinks_of};
-ghost use Rattle.rl_world.specs.ShardsTurn.{AreHonest, ShardsTurn};
-ghost use Rattle.rl_world.specs.WorldRun.{SinkStep};
-ghost use Rattle.rl_world.specs.WorldState.{IsBookOf, seen_as, world_of};
-ghost use Rattle.rl_world.specs.WorldStep.{WorldStep, IfRefused, IsRefused, asks_shard, partials};
+ghost use Rattle.rl_world.specs.WorldState.{IsBookOf};
 
 use crate::book::Book;
-use crate::step::{Reply, Step};
 use rl_chunks::Store;
 use rl_shard::Shard;
 use rl_sinks::Sink;
@@ -23,25 +19,6 @@ pub(crate) struct WorldParts<D: Store, S: Sink> {
 }
 
 impl<D: Store, S: Sink> WorldParts<D, S> {
-    /// Answers one step.
-    pub(crate) fn answer(&mut self, step: Step) -> Reply
-        ensures refused { IfRefused result (λ refusal. IsRefused (world_of self.old.shards.items self.old.books.items) step refusal (world_of self.new.shards.items self.new.books.items)) }
-        ensures on_kept { asks_shard step ≡ false → WorldStep partials (world_of self.old.shards.items self.old.books.items) step result (world_of self.new.shards.items self.new.books.items) }
-        ensures step { AreHonest self.old.shards.items → WorldStep partials (world_of self.old.shards.items self.old.books.items) step result (world_of self.new.shards.items self.new.books.items) }
-        ensures sinks { SinkStep self.old.books.items step result self.new.books.items }
-        ensures stores { ShardsTurn (seen_as self.old.shards.items self.old.books.items) step result (seen_as self.new.shards.items self.new.books.items) }
-    {
-        match step {
-            Step::Shard { number, step } => self.shard(number, step),
-            Step::Edit { group, to } => self.edit(group, to),
-            Step::Begin { group, t } => self.begin(group, t),
-            Step::Gather { group, number } => self.gather(group, number),
-            Step::Commit { group } => self.commit(group),
-            Step::Abandon { group } => self.abandon(group),
-            Step::CatchUp { group } => self.catch_up(group),
-        }
-    }
-
     /// Closes the sinks of each book in order. How many could not write all.
     pub(crate) fn close_sinks(&mut self) -> u64
         ensures shards { self.new.shards.items ≡ self.old.shards.items }

@@ -13,12 +13,13 @@ ghost use Rattle.rl_world.specs.ShardsTurn.{AreHonest, Decides, ShardsTurn};
 ghost use Rattle.rl_world.specs.ShardAnswers.{AreOfOneShard};
 ghost use Rattle.rl_world.specs.WorldRun.{SinkStep};
 ghost use Rattle.rl_world.specs.WorldState.{seen_as, world_of};
-ghost use Rattle.rl_world.specs.WorldStep.{WorldStep, IfRefused, IsRefused, partials, refusal_of_shard, refusal_of_book};
+ghost use Rattle.rl_world.specs.WorldStep.{WorldStep, IfRefused, IsRefused, partials, refusal_of_shard, refusal_of_book, as_reply};
+ghost use Rattle.rl_world.specs.declared.step.Reply.TheVariants as replies;
 ghost use Rattle.rl_world.specs.declared.step.Step.TheVariants as steps;
 
 use crate::fault::{BookError, Refusal};
 use crate::parts::WorldParts;
-use crate::step::Reply;
+use crate::step::Committed;
 use rl_aggregate::Partial;
 use rl_chunks::Store;
 use rl_labels::Ns;
@@ -30,134 +31,138 @@ use rl_sinks::Sink;
 
 impl<D: Store, S: Sink> WorldParts<D, S> {
     // A shard decides a step.
-    pub(crate) fn shard(&mut self, number: usize, step: ShardStep) -> Reply
-        ensures refused { IfRefused result (λ refusal. IsRefused (world_of self.old.shards.items self.old.books.items) (steps.Shard number step) refusal (world_of self.new.shards.items self.new.books.items)) }
-        ensures step { AreHonest self.old.shards.items → WorldStep partials (world_of self.old.shards.items self.old.books.items) (steps.Shard number step) result (world_of self.new.shards.items self.new.books.items) }
-        ensures sinks { SinkStep self.old.books.items (steps.Shard number step) result self.new.books.items }
-        ensures stores { ShardsTurn (seen_as self.old.shards.items self.old.books.items) (steps.Shard number step) result (seen_as self.new.shards.items self.new.books.items) }
+    pub(crate) fn shard(
+        &mut self,
+        number: usize,
+        step: ShardStep,
+    ) -> Result<(u64, ShardReply), Refusal>
+        ensures refused { IfRefused (as_reply (λ answer. replies.Decided answer.0 answer.1) result) (λ refusal. IsRefused (world_of self.old.shards.items self.old.books.items) (steps.Shard number step) refusal (world_of self.new.shards.items self.new.books.items)) }
+        ensures step { AreHonest self.old.shards.items → WorldStep partials (world_of self.old.shards.items self.old.books.items) (steps.Shard number step) (as_reply (λ answer. replies.Decided answer.0 answer.1) result) (world_of self.new.shards.items self.new.books.items) }
+        ensures sinks { SinkStep self.old.books.items (steps.Shard number step) (as_reply (λ answer. replies.Decided answer.0 answer.1) result) self.new.books.items }
+        ensures stores { ShardsTurn (seen_as self.old.shards.items self.old.books.items) (steps.Shard number step) (as_reply (λ answer. replies.Decided answer.0 answer.1) result) (seen_as self.new.shards.items self.new.books.items) }
     {
         if number >= self.shards.len() {
-            return Reply::Refused(Refusal::NoSuch);
+            return Err(Refusal::NoSuch);
         }
         let shard = &mut self.shards[number];
         match shard.apply(step) {
-            Ok((place, reply)) => Reply::Decided { place, reply },
-            Err(fault) => Reply::Refused(refusal_of_shard(fault)),
+            Ok((place, reply)) => Ok((place, reply)),
+            Err(fault) => Err(refusal_of_shard(fault)),
         }
     }
 
     // A group is edited under its own name.
-    pub(crate) fn edit(&mut self, group: usize, to: Group) -> Reply
-        ensures step { WorldStep partials (world_of self.old.shards.items self.old.books.items) (steps.Edit group to) result (world_of self.new.shards.items self.new.books.items) }
-        ensures sinks { SinkStep self.old.books.items (steps.Edit group to) result self.new.books.items }
+    pub(crate) fn edit(&mut self, group: usize, to: Group) -> Result<u64, Refusal>
+        ensures step { WorldStep partials (world_of self.old.shards.items self.old.books.items) (steps.Edit group to) (as_reply replies.Edited result) (world_of self.new.shards.items self.new.books.items) }
+        ensures sinks { SinkStep self.old.books.items (steps.Edit group to) (as_reply replies.Edited result) self.new.books.items }
         ensures shards { self.new.shards.items ≡ self.old.shards.items }
     {
         if group >= self.books.len() {
-            return Reply::Refused(Refusal::NoSuch);
+            return Err(Refusal::NoSuch);
         }
         if !is_same_name(&to, self.books[group].group()) {
-            return Reply::Refused(Refusal::NoSuch);
+            return Err(Refusal::NoSuch);
         }
         let book = &mut self.books[group];
         match book.edit(to) {
-            Ok(place) => Reply::Edited { place },
-            Err(error) => Reply::Refused(refusal_of_book(error)),
+            Ok(place) => Ok(place),
+            Err(error) => Err(refusal_of_book(error)),
         }
     }
 
     // A group opens an evaluation.
-    pub(crate) fn begin(&mut self, group: usize, t: Ns) -> Reply
-        ensures step { WorldStep partials (world_of self.old.shards.items self.old.books.items) (steps.Begin group t) result (world_of self.new.shards.items self.new.books.items) }
-        ensures sinks { SinkStep self.old.books.items (steps.Begin group t) result self.new.books.items }
+    pub(crate) fn begin(&mut self, group: usize, t: Ns) -> Result<(), Refusal>
+        ensures step { WorldStep partials (world_of self.old.shards.items self.old.books.items) (steps.Begin group t) (as_reply (λ _. replies.Begun) result) (world_of self.new.shards.items self.new.books.items) }
+        ensures sinks { SinkStep self.old.books.items (steps.Begin group t) (as_reply (λ _. replies.Begun) result) self.new.books.items }
         ensures shards { self.new.shards.items ≡ self.old.shards.items }
     {
         if group >= self.books.len() {
-            return Reply::Refused(Refusal::NoSuch);
+            return Err(Refusal::NoSuch);
         }
         let book = &mut self.books[group];
         match book.begin(t) {
-            Ok(()) => Reply::Begun,
-            Err(error) => Reply::Refused(refusal_of_book(error)),
+            Ok(()) => Ok(()),
+            Err(error) => Err(refusal_of_book(error)),
         }
     }
 
     // A shard is asked for the open evaluation of a group.
-    pub(crate) fn gather(&mut self, group: usize, number: usize) -> Reply
-        ensures refused { IfRefused result (λ refusal. IsRefused (world_of self.old.shards.items self.old.books.items) (steps.Gather group number) refusal (world_of self.new.shards.items self.new.books.items)) }
-        ensures step { AreHonest self.old.shards.items → WorldStep partials (world_of self.old.shards.items self.old.books.items) (steps.Gather group number) result (world_of self.new.shards.items self.new.books.items) }
-        ensures sinks { SinkStep self.old.books.items (steps.Gather group number) result self.new.books.items }
-        ensures stores { ShardsTurn (seen_as self.old.shards.items self.old.books.items) (steps.Gather group number) result (seen_as self.new.shards.items self.new.books.items) }
+    pub(crate) fn gather(&mut self, group: usize, number: usize) -> Result<u64, Refusal>
+        ensures refused { IfRefused (as_reply replies.Gathered result) (λ refusal. IsRefused (world_of self.old.shards.items self.old.books.items) (steps.Gather group number) refusal (world_of self.new.shards.items self.new.books.items)) }
+        ensures step { AreHonest self.old.shards.items → WorldStep partials (world_of self.old.shards.items self.old.books.items) (steps.Gather group number) (as_reply replies.Gathered result) (world_of self.new.shards.items self.new.books.items) }
+        ensures sinks { SinkStep self.old.books.items (steps.Gather group number) (as_reply replies.Gathered result) self.new.books.items }
+        ensures stores { ShardsTurn (seen_as self.old.shards.items self.old.books.items) (steps.Gather group number) (as_reply replies.Gathered result) (seen_as self.new.shards.items self.new.books.items) }
     {
         if group >= self.books.len() || number >= self.shards.len() {
-            return Reply::Refused(Refusal::NoSuch);
+            return Err(Refusal::NoSuch);
         }
         let book = &self.books[group];
         let t = match book.asks(number) {
             Ok(t) => t,
-            Err(fault) => return Reply::Refused(Refusal::Book(fault)),
+            Err(fault) => return Err(Refusal::Book(fault)),
         };
         if self.shards[number].is_journal_full() {
-            return Reply::Refused(Refusal::JournalFull);
+            return Err(Refusal::JournalFull);
         }
         let Ok(terms) = book.terms().try_copy() else {
-            return Reply::Refused(Refusal::Memory);
+            return Err(Refusal::Memory);
         };
         let (place, shown) = match ask(&mut self.shards[number], group as u64, terms, t) {
             Ok(answer) => answer,
-            Err(fault) => return Reply::Refused(refusal_of_shard(fault)),
+            Err(fault) => return Err(refusal_of_shard(fault)),
         };
         let book = &mut self.books[group];
         match book.put_partials(number, place, shown) {
-            Ok(()) => Reply::Gathered { place },
-            Err(fault) => Reply::Refused(Refusal::Book(fault)),
+            Ok(()) => Ok(place),
+            Err(fault) => Err(Refusal::Book(fault)),
         }
     }
 
     // A group closes its evaluation.
-    pub(crate) fn commit(&mut self, group: usize) -> Reply
-        ensures step { WorldStep partials (world_of self.old.shards.items self.old.books.items) (steps.Commit group) result (world_of self.new.shards.items self.new.books.items) }
-        ensures sinks { SinkStep self.old.books.items (steps.Commit group) result self.new.books.items }
+    pub(crate) fn commit(&mut self, group: usize) -> Result<Committed, Refusal>
+        ensures step { WorldStep partials (world_of self.old.shards.items self.old.books.items) (steps.Commit group) (as_reply replies.Committed result) (world_of self.new.shards.items self.new.books.items) }
+        ensures sinks { SinkStep self.old.books.items (steps.Commit group) (as_reply replies.Committed result) self.new.books.items }
         ensures shards { self.new.shards.items ≡ self.old.shards.items }
     {
         if group >= self.books.len() {
-            return Reply::Refused(Refusal::NoSuch);
+            return Err(Refusal::NoSuch);
         }
         let book = &mut self.books[group];
         match book.commit() {
-            Ok(answer) => Reply::Committed(answer),
-            Err(error) => Reply::Refused(refusal_of_book(error)),
+            Ok(answer) => Ok(answer),
+            Err(error) => Err(refusal_of_book(error)),
         }
     }
 
     // A group closes its evaluation, of which nothing is left.
-    pub(crate) fn abandon(&mut self, group: usize) -> Reply
-        ensures step { WorldStep partials (world_of self.old.shards.items self.old.books.items) (steps.Abandon group) result (world_of self.new.shards.items self.new.books.items) }
-        ensures sinks { SinkStep self.old.books.items (steps.Abandon group) result self.new.books.items }
+    pub(crate) fn abandon(&mut self, group: usize) -> Result<(), Refusal>
+        ensures step { WorldStep partials (world_of self.old.shards.items self.old.books.items) (steps.Abandon group) (as_reply (λ _. replies.Abandoned) result) (world_of self.new.shards.items self.new.books.items) }
+        ensures sinks { SinkStep self.old.books.items (steps.Abandon group) (as_reply (λ _. replies.Abandoned) result) self.new.books.items }
         ensures shards { self.new.shards.items ≡ self.old.shards.items }
     {
         if group >= self.books.len() {
-            return Reply::Refused(Refusal::NoSuch);
+            return Err(Refusal::NoSuch);
         }
         let book = &mut self.books[group];
         match book.abandon() {
-            Ok(()) => Reply::Abandoned,
-            Err(fault) => Reply::Refused(Refusal::Book(fault)),
+            Ok(()) => Ok(()),
+            Err(fault) => Err(Refusal::Book(fault)),
         }
     }
 
     // A group's sinks catch up.
-    pub(crate) fn catch_up(&mut self, group: usize) -> Reply
-        ensures step { WorldStep partials (world_of self.old.shards.items self.old.books.items) (steps.CatchUp group) result (world_of self.new.shards.items self.new.books.items) }
-        ensures sinks { SinkStep self.old.books.items (steps.CatchUp group) result self.new.books.items }
+    pub(crate) fn catch_up(&mut self, group: usize) -> Result<PlainList<u64>, Refusal>
+        ensures step { WorldStep partials (world_of self.old.shards.items self.old.books.items) (steps.CatchUp group) (as_reply replies.CaughtUp result) (world_of self.new.shards.items self.new.books.items) }
+        ensures sinks { SinkStep self.old.books.items (steps.CatchUp group) (as_reply replies.CaughtUp result) self.new.books.items }
         ensures shards { self.new.shards.items ≡ self.old.shards.items }
     {
         if group >= self.books.len() {
-            return Reply::Refused(Refusal::NoSuch);
+            return Err(Refusal::NoSuch);
         }
         let book = &mut self.books[group];
         match book.catch_up() {
-            Ok(behind) => Reply::CaughtUp { behind },
-            Err(_error) => Reply::Refused(Refusal::Memory),
+            Ok(behind) => Ok(behind),
+            Err(_error) => Err(Refusal::Memory),
         }
     }
 }

@@ -8,12 +8,14 @@ ghost use Rattle.rl_world.specs.ShardAnswers.{most_shards};
 ghost use Rattle.rl_shard.specs.ShardState.{opened_over};
 
 use crate::book::Book;
+use crate::fault::Refusal;
 use crate::parts::WorldParts;
-use crate::step::{Reply, Step};
+use crate::step::{Committed, Reply, Step};
 use rl_chunks::Store;
-use rl_labels::Limits;
+use rl_labels::{Limits, Ns};
+use rl_plain::PlainList;
 use rl_rules::Group;
-use rl_shard::Shard;
+use rl_shard::{Shard, ShardReply, ShardStep};
 use rl_sinks::Sink;
 use std::alloc::{AllocError, Global};
 use std::marker::Model;
@@ -42,13 +44,15 @@ impl<D: Store, S: Sink> Model for World<D, S> {
 }
 
 impl<D: Store, S: Sink> World<D, S> {
-    ghost use Rattle.rl_world.specs.Offering.{TookPrefix};
     ghost use Rattle.rl_world.specs.Listings.{SinksFollow};
     ghost use Rattle.rl_world.specs.ShardsTurn.{AreHonest};
     ghost use Rattle.rl_world.specs.Reads.{AreSomeReadings, ReadsThrough};
     ghost use Rattle.rl_world.specs.Stores.{StoresFollow};
     ghost use Rattle.rl_world.specs.WorldRun.{Turned, Ran, Replays, gained};
-    ghost use Rattle.rl_world.specs.WorldState.{world_of, StandsForSome};
+    ghost use Rattle.rl_world.specs.WorldState.{world_of, StandsForSome, TookPrefixes};
+    ghost use Rattle.rl_world.specs.WorldStep.{as_reply};
+    ghost use Rattle.rl_world.specs.declared.step.Reply.TheVariants as replies;
+    ghost use Rattle.rl_world.specs.declared.step.Step.TheVariants as steps;
 
     /// A world with an empty shard over each store, and a book for each group with its sinks. The sinks have taken nothing.
     pub fn open(
@@ -73,12 +77,97 @@ impl<D: Store, S: Sink> World<D, S> {
         })
     }
 
-    /// Answers one step, in one turn.
+    /// Answers one step, in one turn, as the call of its kind does.
     pub fn answer(&mut self, step: Step) -> Reply
         ensures turned { Turned self.old step result self.new }
-        ensures prefixes { AllByRecursion (λ book. AllByRecursion (TookPrefix book.history.evaluations) book.sinks) self.new.books }
+        ensures prefixes { AllByRecursion TookPrefixes self.new.books }
     {
-        self.parts.answer(step)
+        match step {
+            Step::Shard { number, step } => match self.ask(number, step) {
+                Ok((place, reply)) => Reply::Decided { place, reply },
+                Err(refusal) => Reply::Refused(refusal),
+            },
+            Step::Edit { group, to } => match self.edit(group, to) {
+                Ok(place) => Reply::Edited { place },
+                Err(refusal) => Reply::Refused(refusal),
+            },
+            Step::Begin { group, t } => match self.begin(group, t) {
+                Ok(()) => Reply::Begun,
+                Err(refusal) => Reply::Refused(refusal),
+            },
+            Step::Gather { group, number } => match self.gather(group, number) {
+                Ok(place) => Reply::Gathered { place },
+                Err(refusal) => Reply::Refused(refusal),
+            },
+            Step::Commit { group } => match self.commit(group) {
+                Ok(committed) => Reply::Committed(committed),
+                Err(refusal) => Reply::Refused(refusal),
+            },
+            Step::Abandon { group } => match self.abandon(group) {
+                Ok(()) => Reply::Abandoned,
+                Err(refusal) => Reply::Refused(refusal),
+            },
+            Step::CatchUp { group } => match self.catch_up(group) {
+                Ok(behind) => Reply::CaughtUp { behind },
+                Err(refusal) => Reply::Refused(refusal),
+            },
+        }
+    }
+
+    /// A step of one shard: its place in the shard's journal, and the reply.
+    pub fn ask(&mut self, number: usize, step: ShardStep) -> Result<(u64, ShardReply), Refusal>
+        ensures turned { Turned self.old (steps.Shard number step) (as_reply (λ answer. replies.Decided answer.0 answer.1) result) self.new }
+        ensures prefixes { AllByRecursion TookPrefixes self.new.books }
+    {
+        self.parts.shard(number, step)
+    }
+
+    /// Replaces the group by another one under its name: the edit's index in the history. Rules that stay keep their alerts.
+    pub fn edit(&mut self, group: usize, to: Group) -> Result<u64, Refusal>
+        ensures turned { Turned self.old (steps.Edit group to) (as_reply replies.Edited result) self.new }
+        ensures prefixes { AllByRecursion TookPrefixes self.new.books }
+    {
+        self.parts.edit(group, to)
+    }
+
+    /// Opens an evaluation of the group at a moment.
+    pub fn begin(&mut self, group: usize, t: Ns) -> Result<(), Refusal>
+        ensures turned { Turned self.old (steps.Begin group t) (as_reply (λ _. replies.Begun) result) self.new }
+        ensures prefixes { AllByRecursion TookPrefixes self.new.books }
+    {
+        self.parts.begin(group, t)
+    }
+
+    /// Asks a shard, for the open evaluation of the group: the question's place in the shard's journal.
+    pub fn gather(&mut self, group: usize, number: usize) -> Result<u64, Refusal>
+        ensures turned { Turned self.old (steps.Gather group number) (as_reply replies.Gathered result) self.new }
+        ensures prefixes { AllByRecursion TookPrefixes self.new.books }
+    {
+        self.parts.gather(group, number)
+    }
+
+    /// Evaluates the group on what its shards showed, and offers its sinks what they have not taken.
+    pub fn commit(&mut self, group: usize) -> Result<Committed, Refusal>
+        ensures turned { Turned self.old (steps.Commit group) (as_reply replies.Committed result) self.new }
+        ensures prefixes { AllByRecursion TookPrefixes self.new.books }
+    {
+        self.parts.commit(group)
+    }
+
+    /// Closes the open evaluation of the group, of which nothing is left.
+    pub fn abandon(&mut self, group: usize) -> Result<(), Refusal>
+        ensures turned { Turned self.old (steps.Abandon group) (as_reply (λ _. replies.Abandoned) result) self.new }
+        ensures prefixes { AllByRecursion TookPrefixes self.new.books }
+    {
+        self.parts.abandon(group)
+    }
+
+    /// Pumps each sink of the group, then offers it what it has not taken: the numbers of those that refused.
+    pub fn catch_up(&mut self, group: usize) -> Result<PlainList<u64>, Refusal>
+        ensures turned { Turned self.old (steps.CatchUp group) (as_reply replies.CaughtUp result) self.new }
+        ensures prefixes { AllByRecursion TookPrefixes self.new.books }
+    {
+        self.parts.catch_up(group)
     }
 
     /// Answers each step in order, with one reply at the end of `out`. With no room for all replies it does nothing.
@@ -92,8 +181,9 @@ impl<D: Store, S: Sink> World<D, S> {
         ensures reads { OnOk result (ReadsThrough self.old steps.items (gained out.old.items out.new.items) self.new) }
         ensures stores { OnOk result (StoresFollow self.old.shards steps.items (gained out.old.items out.new.items) self.new.shards) }
         ensures follows { OnOk result (SinksFollow self.old.books steps.items (gained out.old.items out.new.items) self.new.books) }
-        ensures prefixes { AllByRecursion (λ book. AllByRecursion (TookPrefix book.history.evaluations) book.sinks) self.new.books }
+        ensures prefixes { AllByRecursion TookPrefixes self.new.books }
     {
+        let _parts = &self.parts;
         self.answer_all(steps, out)?;
         Ok(())
     }
@@ -105,15 +195,21 @@ impl<D: Store, S: Sink> World<D, S> {
         ensures capacity { vec_capacity out.old ≤ vec_capacity out.new }
         ensures replies { OnOk result (out.new.items ≡ out.old.items ++ gained out.old.items out.new.items) }
         ensures turns { OnOk result (Ran self.old steps.items (gained out.old.items out.new.items) self.new) }
-        ensures prefixes { AllByRecursion (λ book. AllByRecursion (TookPrefix book.history.evaluations) book.sinks) self.new.books }
+        ensures prefixes { AllByRecursion TookPrefixes self.old.books → AllByRecursion TookPrefixes self.new.books }
     {
-        let parts = &mut self.parts;
         out.reserve(steps.len())?;
         for step in steps {
-            let reply = parts.answer(step);
+            let reply = self.answer(step);
             out.push_reserved(reply);
         }
         Ok(())
+    }
+
+    /// How many shards it has.
+    pub fn shards(&self) -> usize
+        ensures { result ≡ length self.now.shards }
+    {
+        self.parts.shards.len()
     }
 
     /// A shard by its number.
