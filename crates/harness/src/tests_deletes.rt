@@ -2,7 +2,7 @@
 use crate::tests_given::{Failing, is, one};
 use rl_aggregate::Partial;
 use rl_chunks::StoreFault;
-use rl_deletes::{CancelFault, ProcessFault, ReceiveFault};
+use rl_deletes::{CancelFault, Deletion, ProcessFault, ReceiveFault};
 use rl_labels::{DEFAULT_LIMITS, Limits, Ns};
 use rl_plain::{PlainList, Shared};
 use rl_query::Term;
@@ -165,14 +165,14 @@ fn shown(alloc: Global, shard: &mut Shard<Failing>) -> Option<u64> {
 fn delete(alloc: Global) -> Option<ShardStep> {
     let (start, end, created) = (Ns::new(0)?, Ns::new(9)?, Ns::new(4)?);
     let sieve = parse_delete(alloc, SIEVE).ok()?;
-    let sieve = Shared::new(alloc, sieve).ok()?;
-    Some(ShardStep::Delete {
+    let selector = Shared::new(alloc, sieve).ok()?;
+    Some(ShardStep::Delete(Deletion {
         id: 7,
-        sieve,
+        selector,
         start,
         end,
         created,
-    })
+    }))
 }
 
 // The removal, as soon as it is due.

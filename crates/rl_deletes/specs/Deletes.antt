@@ -11,6 +11,7 @@ use Rattle.rl_labels.specs.declared.entry.Entry.{Entry}
 use Rattle.rl_labels.specs.declared.limits.Limits.{Limits}
 use Rattle.rl_query.specs.declared.filter.Sieve.{Sieve}
 use Rattle.rl_pipeline.specs.Sieving.{selects_line}
+use Rattle.rl_deletes.specs.declared.deletion.Deletion.{Deletion}
 use Rattle.rl_deletes.specs.declared.request.RequestStatus.{RequestStatus}
 use Rattle.rl_deletes.specs.declared.request.RequestStatus.TheVariants.{Received, Cancelled, Processed}
 use Rattle.rl_deletes.specs.declared.request.Request.{Request}
@@ -45,7 +46,7 @@ is_received request = is_in_force request.status
 
 -- the sieve selects the line of the stream, and its timestamp is from the start to the end
 abbrev pub covers_line : Request → LabelSet → (timestamp : ℕ) → List ℕ → Bool
-covers_line request labels timestamp line = nat_le request.start timestamp && nat_le timestamp request.end && selects_line request.sieve labels line
+covers_line request labels timestamp line = nat_le request.deletion.start timestamp && nat_le timestamp request.deletion.end && selects_line request.deletion.selector labels line
 
 -- the request covers the entry
 abbrev pub covers_one : Request → Entry → Bool
@@ -78,16 +79,20 @@ with_request all id request = record { requests = map.insert all.requests id req
 
 -- RECEIVING
 
+-- the deletion of what something else selects
+abbrev pub with_selector : {A B : Type 0} → B → Deletion A → Deletion B
+with_selector selector deletion = record { id = deletion.id; selector = selector; start = deletion.start; end = deletion.end; created = deletion.created }
+
 -- a request as it is received
-abbrev pub asked : (sieve : Sieve) (start end created : ℕ) → Request
-asked sieve start end created = record { sieve = sieve; start = start; end = end; created = created; status = Received }
+abbrev pub asked : Deletion Sieve → Request
+asked deletion = record { deletion = deletion; status = Received }
 
 -- the known request is received and covers what the other asks for
 pub record IsRepeat (request known : Request) : Type 0 where
   pub received : is_received known ≡ true
-  pub sieve : known.sieve ≡ request.sieve
-  pub start : known.start ≡ request.start
-  pub end : known.end ≡ request.end
+  pub selector : known.deletion.selector ≡ request.deletion.selector
+  pub start : known.deletion.start ≡ request.deletion.start
+  pub end : known.deletion.end ≡ request.deletion.end
 
 -- one is known by the number
 abbrev pub IsTakenFault : (request known : Request) → Option ReceiveFault → Type 0
@@ -161,7 +166,7 @@ process_fault_in Processed due now = None
 
 abbrev pub process_fault_of : Option Request → RequestsView → (now : ℕ) → Option ProcessFault
 process_fault_of None all now = Some processing.NoSuchRequest
-process_fault_of (Some request) all now = process_fault_in request.status (due all request.created) now
+process_fault_of (Some request) all now = process_fault_in request.status (due all request.deletion.created) now
 
 -- why the request with the number is not processed at the moment, if it is not
 abbrev pub process_fault : RequestsView → ℕ → (now : ℕ) → Option ProcessFault

@@ -2,6 +2,7 @@
 ghost use Rattle.std.specs.Prelude.{◌≡◌, IfOk};
 ghost use Rattle.rl_deletes.specs.Deletes.{asked, covers_line};
 
+use crate::deletion::Deletion;
 use crate::request::Request;
 use rl_labels::{Covers, Entry, Labels, Ns};
 use rl_pipeline::SieveCode;
@@ -11,10 +12,7 @@ use std::marker::Model;
 /// A received request, built. Contracts see the request.
 #[derive(Drop)]
 pub struct ActiveRequest {
-    code: SieveCode,
-    start: Ns,
-    end: Ns,
-    created: Ns,
+    deletion: Deletion<SieveCode>,
 }
 
 impl Model for ActiveRequest {
@@ -23,23 +21,27 @@ impl Model for ActiveRequest {
 
     ghost Value = { Request };
 
-    ghost view = { λ a. asked a.code a.start a.end a.created };
+    ghost view = { λ a. asked a.deletion };
 }
 
 impl ActiveRequest {
     // The request built, as it is received. A pattern that no longer builds is answered as lack of memory.
     pub(crate) fn build(alloc: Global, request: &Request) -> Result<ActiveRequest, AllocError>
-        ensures { IfOk result (λ active. active ≡ asked request.now.sieve request.now.start request.now.end request.now.created) }
+        ensures { IfOk result (λ active. active ≡ asked request.now.deletion) }
     {
-        match SieveCode::build(alloc, request.sieve.get()) {
-            Ok(code) => Ok(ActiveRequest {
-                code,
-                start: request.start,
-                end: request.end,
-                created: request.created,
-            }),
-            Err(_) => Err(AllocError),
-        }
+        let asked = &request.deletion;
+        let Ok(selector) = SieveCode::build(alloc, asked.selector.get()) else {
+            return Err(AllocError);
+        };
+        Ok(ActiveRequest {
+            deletion: Deletion {
+                id: asked.id,
+                selector,
+                start: asked.start,
+                end: asked.end,
+                created: asked.created,
+            },
+        })
     }
 
     // Whether it covers an entry with these parts. The time is asked first, then the stream, then the line.
@@ -51,10 +53,11 @@ impl ActiveRequest {
     ) -> Result<bool, AllocError>
         ensures { IfOk result (λ answer. answer ≡ covers_line self.now labels.now timestamp line.now) }
     {
-        if timestamp < self.start || self.end < timestamp {
+        let asked = &self.deletion;
+        if timestamp < asked.start || asked.end < timestamp {
             return Ok(false);
         }
-        self.code.selects(labels, line)
+        asked.selector.selects(labels, line)
     }
 }
 
@@ -68,9 +71,10 @@ impl Covers for ActiveRequest {
     }
 
     fn may_cover(&self, labels: &Labels, from: Ns, to: Ns) -> Result<bool, AllocError> {
-        if to < self.start || self.end < from {
+        let asked = &self.deletion;
+        if to < asked.start || asked.end < from {
             return Ok(false);
         }
-        self.code.selects_stream(labels)
+        asked.selector.selects_stream(labels)
     }
 }

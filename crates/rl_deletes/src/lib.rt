@@ -1,6 +1,6 @@
 //! Delete requests and the horizon of retention: which entries are hidden, and which are too old.
 //!
-//! - `request`: `Request`, and `RequestStatus`, its status.
+//! - `deletion`: `Deletion`, what a request asks for. `request`: `Request`, and `RequestStatus`, its status.
 //! - `requests`: `Requests`, all requests of a shard by their numbers, with what those that are received cover.
 //! - `active`: `ActiveRequest`, a received request with its built sieve. `fault`: why a call is refused.
 //! - `horizon`: `Horizon`, below which entries are expired.
@@ -8,6 +8,7 @@
 #![tactic(auto)]
 
 pub mod active;
+pub mod deletion;
 pub mod fault;
 pub mod horizon;
 pub mod request;
@@ -15,6 +16,7 @@ pub mod requests;
 pub mod sending;
 
 pub use active::ActiveRequest;
+pub use deletion::Deletion;
 pub use fault::{CancelFault, ProcessFault, ReceiveError, ReceiveFault};
 pub use horizon::Horizon;
 pub use request::{Request, RequestStatus};

@@ -2,7 +2,7 @@
 ghost use Rattle.std.specs.Prelude.{◌≡◌, ◌↔◌, IsTrue};
 ghost use Rattle.rl_deletes.specs.Deletes.{is_received, IsRepeat};
 
-use rl_labels::Ns;
+use crate::deletion::Deletion;
 use rl_plain::{Same, Shared};
 use rl_query::Sieve;
 
@@ -17,13 +17,10 @@ pub enum RequestStatus {
     Processed,
 }
 
-/// A request to delete the entries that a sieve selects, from one moment to another, both included (Loki's log deletion).
+/// A request to delete entries.
 #[derive(Drop)]
 pub struct Request {
-    pub sieve: Shared<Sieve>,
-    pub start: Ns,
-    pub end: Ns,
-    pub created: Ns,
+    pub deletion: Deletion<Shared<Sieve>>,
     pub status: RequestStatus,
 }
 
@@ -43,9 +40,10 @@ impl Request {
     pub(crate) fn repeats(&self, known: &Request) -> bool
         ensures { IsTrue result ↔ IsRepeat self.now known.now }
     {
+        let (own, other) = (&self.deletion, &known.deletion);
         known.is_received()
-            && known.sieve.is_same(&self.sieve)
-            && known.start == self.start
-            && known.end == self.end
+            && other.selector.is_same(&own.selector)
+            && other.start == own.start
+            && other.end == own.end
     }
 }

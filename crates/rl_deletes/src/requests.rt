@@ -8,6 +8,7 @@ ghost use Rattle.std.specs.Ordering.{nat_cmp};
 ghost use Rattle.rl_deletes.specs.Deletes.{asked, cancel_fault, cancelled, covered_beside, covered_line, ended, is_in_force, no_requests, process_fault, processed, received, received_at, with_request, with_status, IsReceiveAnswer, IsReceiveFault};
 
 use crate::active::ActiveRequest;
+use crate::deletion::Deletion;
 use crate::fault::{CancelFault, ProcessFault, ReceiveError, ReceiveFault};
 use crate::request::{Request, RequestStatus};
 use rl_labels::{Covers, Entry, Labels, Limits, Ns, SECOND};
@@ -57,26 +58,14 @@ impl Requests {
     }
 
     /// Receives a request. One that is received already, with that sieve, start and end, stays as it is.
-    pub fn receive(
-        &mut self,
-        id: u64,
-        sieve: Shared<Sieve>,
-        start: Ns,
-        end: Ns,
-        created: Ns,
-    ) -> Result<(), ReceiveError>
-        ensures ok { OnOk result (IsReceiveFault self.old id (asked sieve start end created) None × (self.new ≡ received self.old id (asked sieve start end created))) }
-        ensures fault { IsReceiveAnswer self.old id (asked sieve start end created) result }
+    pub fn receive(&mut self, deletion: Deletion<Shared<Sieve>>) -> Result<(), ReceiveError>
+        ensures ok { OnOk result (IsReceiveFault self.old deletion.id (asked deletion) None × (self.new ≡ received self.old deletion.id (asked deletion))) }
+        ensures fault { IsReceiveAnswer self.old deletion.id (asked deletion) result }
         ensures err { OnErr result (self.new ≡ self.old) }
     {
+        let id = deletion.id;
         let status = RequestStatus::Received;
-        let request = Request {
-            sieve,
-            start,
-            end,
-            created,
-            status,
-        };
+        let request = Request { deletion, status };
         if let Some(known) = self.request(id) {
             if request.repeats(known) {
                 return Ok(());
@@ -128,7 +117,7 @@ impl Requests {
             RequestStatus::Cancelled => return Err(ProcessFault::WasCancelled),
             RequestStatus::Processed => return Ok(None),
         }
-        if now.get() < request.created.get() + self.cancel * SECOND {
+        if now.get() < request.deletion.created.get() + self.cancel * SECOND {
             return Err(ProcessFault::TooEarly);
         }
         Ok(self.received(id))
@@ -193,7 +182,7 @@ impl Requests {
     // Adds a request whose number is new, built.
     fn add(&mut self, id: u64, request: Request) -> Result<(), AllocError>
         requires new { map.get self.old.requests id ≡ None }
-        requires received { request ≡ asked request.sieve request.start request.end request.created }
+        requires received { request ≡ asked request.deletion }
         ensures ok { OnOk result (self.new ≡ with_request self.old id request) }
         ensures err { OnErr result (self.new ≡ self.old) }
     {

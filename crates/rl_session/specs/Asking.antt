@@ -3,6 +3,8 @@ use Rattle.std.specs.Prelude.{◌≡◌, ℕ, zero, suc, ⊤, Bool, true, false,
 use Rattle.rl_plain.specs.declared.refusal.OrMemory.{OrMemory}
 use Rattle.rl_plain.specs.declared.refusal.OrMemory.TheVariants as errors
 use Rattle.rl_labels.specs.declared.entry.Entry.{Entry}
+use Rattle.rl_deletes.specs.Deletes.{with_selector}
+use Rattle.rl_deletes.specs.declared.deletion.Deletion.{Deletion}
 use Rattle.rl_rules.specs.declared.rule.Group.{Group}
 use Rattle.rl_query.specs.declared.filter.Sieve.{Sieve}
 use Rattle.rl_query.specs.declared.fault.QueryFault.{QueryFault}
@@ -54,10 +56,10 @@ module _ {E : Type 0} (calls : Calls E) where
   IsForAll old step command_result new = ⊥
 
   -- each shard is asked to receive a request with the selector's sieve, if the text is such a selector
-  abbrev pub IsForDelete : E → (id start end created : ℕ) → List ℕ → CommandResult → E → Type 0
-  IsForDelete old id start end created selector (command_results.Asked result) new = (sieve : Sieve) × SelectsIn selector (Ok sieve) × calls.asks_all old (shard_steps.Delete id sieve start end created) result new
-  IsForDelete old id start end created selector (command_results.NoSelector error) new = SelectsIn selector (Err error) × (new ≡ old)
-  IsForDelete old id start end created selector command_result new = ⊥
+  abbrev pub IsForDelete : E → Deletion (List ℕ) → CommandResult → E → Type 0
+  IsForDelete old deletion (command_results.Asked result) new = (sieve : Sieve) × SelectsIn deletion.selector (Ok sieve) × calls.asks_all old (shard_steps.Delete (with_selector sieve deletion)) result new
+  IsForDelete old deletion (command_results.NoSelector error) new = SelectsIn deletion.selector (Err error) × (new ≡ old)
+  IsForDelete old deletion command_result new = ⊥
 
   -- a group is evaluated, and what is answered is of that moment
   abbrev pub EvaluatesAt : E → ℕ → ℕ → Result Committed Refusal → E → Type 0

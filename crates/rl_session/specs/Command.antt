@@ -3,6 +3,7 @@ use Rattle.std.specs.Prelude.{ℕ, ◌==◌, ◌^◌, nat_lt, Bool, ◌&&◌, �
 use Rattle.std.specs.Char.{is_ascii_digit}
 use Rattle.std.specs.List.{list_all, position_or_len, before_first, after_first}
 use Rattle.std.specs.Str.Parse.{digits_value}
+use Rattle.rl_deletes.specs.declared.deletion.Deletion.{Deletion}
 use Rattle.rl_labels.specs.Decimals.{number_of, billionths, decimal_of}
 use Rattle.rl_labels.specs.Name.{is_text}
 use Rattle.rl_labels.specs.Quantity.{moment_at}
@@ -14,7 +15,7 @@ pub data Asked : Type 0 where
   pushes : (json : List ℕ) → Asked
   cuts : Asked
   flushes : Asked
-  deletes : (id start end created : ℕ) (selector : List ℕ) → Asked
+  deletes : Deletion (List ℕ) → Asked
   cancels : (id : ℕ) → Asked
   processes : (id now : ℕ) → Asked
   retains : (now : ℕ) → Asked
@@ -29,7 +30,7 @@ abbrev pub asked : Command → Asked
 asked (commands.Push json) = pushes json.now
 asked commands.Cut = cuts
 asked commands.Flush = flushes
-asked (commands.Delete id start end created selector) = deletes id start end created selector.now
+asked (commands.Delete id start end created selector) = deletes (record { id = id; selector = selector.now; start = start; end = end; created = created })
 asked (commands.Cancel id) = cancels id
 asked (commands.Process id now) = processes id now
 asked (commands.Retain now) = retains now
@@ -59,7 +60,7 @@ id_of word = if is_number word && nat_lt (digits_value 10 word) (2 ^ 64) then So
 -- the command of a request's number, its start, its end, the moment at which it is made, and a selector that may have spaces
 abbrev pub delete_of_words : (id start end created selector : List ℕ) → Option Asked
 delete_of_words id start end created selector =
-    option_and_then (λ id. option_and_then (λ start. option_and_then (λ end. option_map (λ created. deletes id start end created selector) (time_of created)) (time_of end)) (time_of start)) (id_of id)
+    option_and_then (λ id. option_and_then (λ start. option_and_then (λ end. option_map (λ created. deletes (record { id = id; selector = selector; start = start; end = end; created = created })) (time_of created)) (time_of end)) (time_of start)) (id_of id)
 
 abbrev pub delete_of : List ℕ → Option Asked
 delete_of words =

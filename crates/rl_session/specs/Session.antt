@@ -52,7 +52,7 @@ module _ {E : Type 0} (calls : Calls E) where
   IsExecuted old (Some (pushes json)) text answer new = (command_result : CommandResult) × IsForPush calls old (entries_of json) command_result new × IsPrinted command_result text answer
   IsExecuted old (Some cuts) text answer new = (command_result : CommandResult) × IsForAll calls old shard_steps.Cut command_result new × IsPrinted command_result text answer
   IsExecuted old (Some flushes) text answer new = (command_result : CommandResult) × IsForAll calls old shard_steps.Flush command_result new × IsPrinted command_result text answer
-  IsExecuted old (Some (deletes id start end created selector)) text answer new = (command_result : CommandResult) × IsForDelete calls old id start end created selector command_result new × IsPrinted command_result text answer
+  IsExecuted old (Some (deletes deletion)) text answer new = (command_result : CommandResult) × IsForDelete calls old deletion command_result new × IsPrinted command_result text answer
   IsExecuted old (Some (cancels id)) text answer new = (command_result : CommandResult) × IsForAll calls old (shard_steps.Cancel id) command_result new × IsPrinted command_result text answer
   IsExecuted old (Some (processes id now)) text answer new = (command_result : CommandResult) × IsForAll calls old (shard_steps.Process id now) command_result new × IsPrinted command_result text answer
   IsExecuted old (Some (retains now)) text answer new = (command_result : CommandResult) × IsForAll calls old (shard_steps.Retain now) command_result new × IsPrinted command_result text answer

@@ -1,5 +1,6 @@
 //! What commands ask of an engine, and their results.
 ghost use Rattle.std.specs.Prelude.{◌≡◌, ◌+◌, ◌<◌, ◌≤◌, length, IfOk, OnErr, vec_len, vec_capacity};
+ghost use Rattle.rl_deletes.specs.Deletes.{with_selector};
 ghost use Rattle.rl_session.specs.Asking.{IsForPush, IsForAll, IsForDelete, IsForEdit, IsForTick, IsForCatchUp, IsForEvaluation, PushesAll, EvaluatesDue, TakesTurn, PutsGroup, SelectsIn};
 ghost use Rattle.rl_session.specs.Engine.{number_named};
 ghost use Rattle.rl_session.specs.PushBody.{entries_of};
@@ -8,6 +9,7 @@ use crate::edit::{EditRefusal, read_group};
 use crate::engine::Engine;
 use crate::output::CommandResult;
 use crate::push::PushReader;
+use rl_deletes::Deletion;
 use rl_labels::{Entry, Ns};
 use rl_plain::Shared;
 use rl_query::{QueryError, Sieve};
@@ -77,22 +79,18 @@ pub(crate) fn ask_all<E: Engine>(engine: &mut E, step: ShardStep) -> CommandResu
 pub(crate) fn delete<E: Engine>(
     alloc: Global,
     engine: &mut E,
-    id: u64,
-    start: Ns,
-    end: Ns,
-    created: Ns,
-    selector: &str,
+    deletion: Deletion<&str>,
 ) -> CommandResult
-    ensures { IsForDelete E.calls engine.old id start end created selector.now result engine.new }
+    ensures { IsForDelete E.calls engine.old (with_selector deletion.entry.selector.now deletion.entry) result engine.new }
 {
-    match read_sieve(alloc, selector) {
-        Ok(sieve) => CommandResult::Asked(engine.ask_all(ShardStep::Delete {
-            id,
-            sieve,
-            start,
-            end,
-            created,
-        })),
+    match read_sieve(alloc, deletion.selector) {
+        Ok(selector) => CommandResult::Asked(engine.ask_all(ShardStep::Delete(Deletion {
+            id: deletion.id,
+            selector,
+            start: deletion.start,
+            end: deletion.end,
+            created: deletion.created,
+        }))),
         Err(error) => CommandResult::NoSelector(error),
     }
 }

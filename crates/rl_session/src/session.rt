@@ -12,6 +12,7 @@ use crate::front::first_line;
 use crate::output::{Answer, CommandResult, write_closed, write_result};
 use crate::printer::Printer;
 use crate::push::PushReader;
+use rl_deletes::Deletion;
 use rl_shard::ShardStep;
 use rl_world::Refusal;
 use std::alloc::{AllocError, AllocFailed, Global};
@@ -208,8 +209,14 @@ fn execute<E: Engine, W: Write>(
             created,
             selector,
         } => {
-            let command_result = delete(alloc, engine, id, start, end, created, selector);
-            write_result(&command_result, out)
+            let deletion = Deletion {
+                id,
+                selector,
+                start,
+                end,
+                created,
+            };
+            write_result(&delete(alloc, engine, deletion), out)
         }
         Command::Cancel { id } => write_result(&ask_all(engine, ShardStep::Cancel { id }), out),
         Command::Process { id, now } => {

@@ -97,7 +97,7 @@ IsOfStore old _ new = Unit {0}
 -- request may be received, and entries are to be removed
 abbrev pub IsUndecided : Limits → ShardState → ShardStep → Type 0
 IsUndecided limits shard (steps.Push entry) = age_answer limits shard entry ≡ None
-IsUndecided limits shard (steps.Delete id sieve start end created) = IsReceiveFault shard.requests id (asked sieve start end created) None
+IsUndecided limits shard (steps.Delete deletion) = IsReceiveFault shard.requests deletion.id (asked deletion) None
 IsUndecided limits shard (steps.Process id now) = IsSome (removes limits shard (steps.Process id now))
 IsUndecided limits shard (steps.Retain now) = IsSome (removes limits shard (steps.Retain now))
 IsUndecided limits shard step = Unit {0}

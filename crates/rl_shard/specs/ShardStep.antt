@@ -129,7 +129,7 @@ left_of (Some covers) held = without covers held
 
 -- the requests after a step
 abbrev pub requests_after : ShardState → ShardStep → RequestsView
-requests_after shard (steps.Delete id sieve start end created) = deleted shard.requests id (asked sieve start end created)
+requests_after shard (steps.Delete deletion) = deleted shard.requests deletion.id (asked deletion)
 requests_after shard (steps.Cancel id) = cancelled shard.requests id
 requests_after shard (steps.Process id now) = processed_if (process_fault shard.requests id now) shard.requests id
 requests_after shard step = shard.requests
@@ -146,7 +146,7 @@ abbrev pub IsReply : Limits → ShardState → ShardStep → ShardReply → Type
 IsReply limits shard (steps.Push entry) reply = reply ≡ push_reply limits shard entry
 IsReply limits shard steps.Cut reply = reply ≡ replies.Done
 IsReply limits shard steps.Flush reply = reply ≡ replies.Done
-IsReply limits shard (steps.Delete id sieve start end created) reply = IsDeleteReply shard.requests id (asked sieve start end created) reply
+IsReply limits shard (steps.Delete deletion) reply = IsDeleteReply shard.requests deletion.id (asked deletion) reply
 IsReply limits shard (steps.Cancel id) reply = reply ≡ reply_to_cancel (cancel_fault shard.requests id)
 IsReply limits shard (steps.Process id now) reply = reply ≡ reply_to_process (process_fault shard.requests id now)
 IsReply limits shard (steps.Retain now) reply = reply ≡ replies.Done

@@ -67,15 +67,9 @@ pub(crate) fn decide<S: Store>(
             streams.flush()?;
             Ok(ShardReply::Done)
         }
-        ShardStep::Delete {
-            id,
-            sieve,
-            start,
-            end,
-            created,
-        } => {
+        ShardStep::Delete(deletion) => {
             kept.forget();
-            delete(requests, id, sieve, start, end, created)
+            delete(requests, deletion)
         }
         ShardStep::Cancel { id } => {
             kept.forget();

@@ -13,7 +13,7 @@ ghost use Rattle.rl_streams.specs.Rewritten.{AreLeftIn, Rewrites};
 
 use crate::step::{ShardFault, ShardReply};
 use rl_chunks::Store;
-use rl_deletes::{CancelFault, Horizon, ProcessFault, ReceiveFault, Requests};
+use rl_deletes::{CancelFault, Deletion, Horizon, ProcessFault, ReceiveFault, Requests};
 use rl_labels::Ns;
 use rl_plain::{OrMemory, Shared};
 use rl_query::Sieve;
@@ -22,18 +22,14 @@ use rl_streams::Streams;
 // Receives a request.
 pub(crate) fn delete(
     requests: &mut Requests,
-    id: u64,
-    sieve: Shared<Sieve>,
-    start: Ns,
-    end: Ns,
-    created: Ns,
+    deletion: Deletion<Shared<Sieve>>,
 ) -> Result<ShardReply, ShardFault>
-    ensures reply { IfOk result (IsDeleteReply requests.old id (asked sieve start end created)) }
-    ensures deleted { OnOk result (requests.new ≡ deleted requests.old id (asked sieve start end created)) }
-    ensures fault { IfErr result (λ fault. (fault ≡ faults.Memory) × IsReceiveFault requests.old id (asked sieve start end created) None) }
+    ensures reply { IfOk result (IsDeleteReply requests.old deletion.id (asked deletion)) }
+    ensures deleted { OnOk result (requests.new ≡ deleted requests.old deletion.id (asked deletion)) }
+    ensures fault { IfErr result (λ fault. (fault ≡ faults.Memory) × IsReceiveFault requests.old deletion.id (asked deletion) None) }
     ensures kept { OnErr result (requests.new ≡ requests.old) }
 {
-    match requests.receive(id, sieve, start, end, created) {
+    match requests.receive(deletion) {
         Ok(()) => Ok(ShardReply::Done),
         Err(OrMemory::Fault(ReceiveFault::IdTaken)) => Ok(ShardReply::IdTaken),
         Err(OrMemory::Fault(ReceiveFault::Full)) => Ok(ShardReply::RequestsFull),

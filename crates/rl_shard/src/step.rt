@@ -7,6 +7,7 @@ ghost use Rattle.rl_shard.specs.ShardFault.{fault_of_flush, fault_of_read, fault
 ghost use Rattle.rl_shard.specs.declared.step.ShardFault.TheVariants.{Memory};
 
 use rl_aggregate::Partial;
+use rl_deletes::Deletion;
 use rl_labels::{Entry, Ns};
 use rl_parts::{FlushFault, ReadFault, RewriteFault};
 use rl_plain::{PlainList, Same, Shared, TryCopy};
@@ -23,15 +24,8 @@ pub enum ShardStep {
     Cut,
     /// Writes the sealed chunks to the store, and lets their lines go.
     Flush,
-    /// Receives a request, made at the moment, to delete the entries that the sieve selects from the start to the end: they are
-    /// hidden (Loki's log deletion).
-    Delete {
-        id: u64,
-        sieve: Shared<Sieve>,
-        start: Ns,
-        end: Ns,
-        created: Ns,
-    },
+    /// Receives a request to delete entries: they are hidden.
+    Delete(Deletion<Shared<Sieve>>),
     /// Cancels a request: what it alone covers is shown again.
     Cancel {
         id: u64,
@@ -106,19 +100,7 @@ impl TryCopy for ShardStep {
             ShardStep::Push(entry) => Ok(ShardStep::Push(entry.try_copy()?)),
             ShardStep::Cut => Ok(ShardStep::Cut),
             ShardStep::Flush => Ok(ShardStep::Flush),
-            ShardStep::Delete {
-                id,
-                sieve,
-                start,
-                end,
-                created,
-            } => Ok(ShardStep::Delete {
-                id: *id,
-                sieve: sieve.try_copy()?,
-                start: *start,
-                end: *end,
-                created: *created,
-            }),
+            ShardStep::Delete(deletion) => Ok(ShardStep::Delete(deletion.try_copy()?)),
             ShardStep::Cancel { id } => Ok(ShardStep::Cancel { id: *id }),
             ShardStep::Process { id, now } => Ok(ShardStep::Process { id: *id, now: *now }),
             ShardStep::Retain { now } => Ok(ShardStep::Retain { now: *now }),
@@ -137,28 +119,7 @@ impl Same for ShardStep {
             (ShardStep::Push(left), ShardStep::Push(right)) => left.is_same(right),
             (ShardStep::Cut, ShardStep::Cut) => true,
             (ShardStep::Flush, ShardStep::Flush) => true,
-            (
-                ShardStep::Delete {
-                    id,
-                    sieve,
-                    start,
-                    end,
-                    created,
-                },
-                ShardStep::Delete {
-                    id: other_id,
-                    sieve: other_sieve,
-                    start: other_start,
-                    end: other_end,
-                    created: other_created,
-                },
-            ) => {
-                id == other_id
-                    && start.is_same(other_start)
-                    && end.is_same(other_end)
-                    && created.is_same(other_created)
-                    && sieve.is_same(other_sieve)
-            }
+            (ShardStep::Delete(left), ShardStep::Delete(right)) => left.is_same(right),
             (ShardStep::Cancel { id }, ShardStep::Cancel { id: other }) => id == other,
             (
                 ShardStep::Process { id, now },

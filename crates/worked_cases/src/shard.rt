@@ -8,6 +8,7 @@ use crate::given::{Read, limits_in, list_in, moment_in, number_in, words_of};
 use crate::query::query_in;
 use crate::trouble::Trouble;
 use rl_chunks::MemStore;
+use rl_deletes::Deletion;
 use rl_plain::{PlainList, Same, Shared, TryCopy};
 use rl_query::Term;
 use rl_shard::{Shard, ShardReply, ShardStep};
@@ -95,14 +96,14 @@ fn delete_in(alloc: Global, text: &str) -> Result<ShardStep, Trouble> {
     let (created, selector) = words_of(rest);
     let (id, created) = (number_in(id)?, moment_in(created)?);
     let (start, end) = (moment_in(start)?, moment_in(end)?);
-    let sieve = Shared::read(alloc, selector)?;
-    Ok(ShardStep::Delete {
+    let selector = Shared::read(alloc, selector)?;
+    Ok(ShardStep::Delete(Deletion {
         id,
-        sieve,
+        selector,
         start,
         end,
         created,
-    })
+    }))
 }
 
 fn collect_in(alloc: Global, text: &str) -> Result<ShardStep, Trouble> {

@@ -1,0 +1,39 @@
+//! What a delete request asks for.
+use rl_labels::Ns;
+use rl_plain::{Same, Shared, TryCopy};
+use rl_query::Sieve;
+use std::alloc::AllocError;
+
+/// What is to be deleted under a number, and when that was asked for: what the selector with its line filters selects from the
+/// start to the end, both included (Loki's log deletion). The selector is a text in a command, and a sieve in a request.
+#[derive(Drop)]
+pub struct Deletion<S> {
+    pub id: u64,
+    pub selector: S,
+    pub start: Ns,
+    pub end: Ns,
+    pub created: Ns,
+}
+
+impl TryCopy for Deletion<Shared<Sieve>> {
+    /// Shares the sieve, and takes no memory.
+    fn try_copy(&self) -> Result<Self, AllocError> {
+        Ok(Deletion {
+            id: self.id,
+            selector: self.selector.try_copy()?,
+            start: self.start,
+            end: self.end,
+            created: self.created,
+        })
+    }
+}
+
+impl Same for Deletion<Shared<Sieve>> {
+    fn is_same(&self, other: &Self) -> bool {
+        self.id == other.id
+            && self.start.is_same(&other.start)
+            && self.end.is_same(&other.end)
+            && self.created.is_same(&other.created)
+            && self.selector.is_same(&other.selector)
+    }
+}
