@@ -123,18 +123,22 @@ fn run_session(
     let second = Recorder::new(alloc, &mut written.second, 2);
     let sinks = of_one_group(alloc, first, second)?;
     let session = opened(alloc, limits, groups, sinks)?;
-    Ok(run_commands(session, commands.as_str(), &mut written.printed))
+    let (printed, ended) = run_commands(alloc, session, commands.as_str());
+    written.printed = printed;
+    Ok(ended)
 }
 
+// What is printed, and how the session ends.
 fn run_commands<E: Engine>(
+    alloc: Global,
     session: Session<E>,
     commands: &str,
-    printed: &mut Vec<u8>,
-) -> Result<Status, RunError> {
+) -> (Vec<u8>, Result<Status, RunError>) {
     let mut session = session;
-    let ended = session.run_commands(commands, &mut Printer::new(printed));
+    let mut printer = Printer::new(Vec::new(alloc));
+    let ended = session.run_commands(commands, &mut printer);
     mem::forget(session);
-    ended
+    (printer.into_writer(), ended)
 }
 
 // A session over a shard, and one group with its sinks.
