@@ -18,7 +18,7 @@ use Rattle.rl_chunks.specs.declared.line.Line.{Line}
 use Rattle.rl_parts.specs.StreamParts.{Note, PartView}
 use Rattle.rl_parts.specs.StreamState.{AreSealedUpTo}
 use Rattle.rl_parts.specs.Reading.{IsOutside, IsWithout, in_memory, in_store}
-use Rattle.rl_parts.proofs.Heads.{one_after}
+use Rattle.rl_parts.specs.laws.EachLaws.{all_more}
 
 no_true : {P : Type 0} → false ≡ true → P
 no_true h = cc
@@ -178,7 +178,7 @@ none_there (part ∷ parts) entry out there = elim (Contains-append_cases (in_st
 pub one_more : {A : Type 0} (P : A → Type 0) (xs : List A) (i : ℕ) (x : A) → i < length xs → x ≡ get_or xs i x → AllByRecursion P (take i xs) → P x → AllByRecursion P (take (i + 1) xs)
 one_more P xs i x within is before here =
     let front : take (i + 1) xs ≡ take i xs ++ x ∷ [] = take_more xs i x within ∙ ap (λ y. take i xs ++ y ∷ []) (sym is) in
-    subst (AllByRecursion P) (sym front) (one_after P (take i xs) x before here)
+    subst (AllByRecursion P) (sym front) (all_more P (take i xs) x before here)
 
 -- no part has an entry that is newer than all of them, wherever its entries are
 pub without_above : (top : Option ℕ) (parts : List PartView) (entry : Entry) → AreSealedUpTo top parts → unwrap_or top 0 < entry.timestamp → AllByRecursion (IsWithout entry) parts

@@ -13,13 +13,9 @@ use Rattle.rl_parts.specs.StreamParts.{PartView, IsRun, IsPart, unwritten, most_
 use Rattle.rl_parts.specs.PartState.{timestamp_at}
 use Rattle.rl_parts.specs.Changes.{IsInserted, AreSealed}
 use Rattle.rl_parts.specs.StreamState.{AreSealedUpTo, IsInOrder, IsPut}
+use Rattle.rl_parts.specs.laws.EachLaws.{all_more}
 use Rattle.rl_parts.proofs.InOrder.{insert_in_order, nothing_in_order}
 use Rattle.rl_parts.proofs.Times.{up_to_last}
-
--- a list by recursion with one more
-pub one_after : {A : Type 0} (P : A → Type 0) (xs : List A) (x : A) → AllByRecursion P xs → P x → AllByRecursion P (xs ++ x ∷ [])
-one_after P [] x h p = (p, tt)
-one_after P (y ∷ ys) x h p = (h.0, one_after P ys x h.1 p)
 
 -- a run with an entry put in
 pub run_put : (set : LabelSet) (old : List Entry) (entry : Entry) (new : List Entry) → IsRun set old → entry.labels ≡ set → IsPut old entry new → IsRun set new
@@ -67,8 +63,8 @@ pub in_order_sealed : (set : LabelSet) (parts : List PartView) (head : List Entr
 in_order_sealed set parts head newest old new are up_to run some few is =
     let ends : All (λ e. e.timestamp ≤ unwrap_or new 0) head = All-weaker (λ e. e.timestamp ≤ timestamp_at head (length head - 1)) (λ e. e.timestamp ≤ unwrap_or new 0) (λ e k. omega arith) head (up_to_last set head run) in
     record {
-      parts = record { sealed = one_after (IsPart set) parts (unwritten head) are (record { run = run; some = some; few = few }); growing = run_none set; few = lit< tt };
-      up_to = one_after (λ part. All (λ e. e.timestamp ≤ unwrap_or new 0) part.entries) parts (unwritten head) (up_to_later old new parts (omega arith) up_to) ends;
+      parts = record { sealed = all_more (IsPart set) parts (unwritten head) are (record { run = run; some = some; few = few }); growing = run_none set; few = lit< tt };
+      up_to = all_more (λ part. All (λ e. e.timestamp ≤ unwrap_or new 0) part.entries) parts (unwritten head) (up_to_later old new parts (omega arith) up_to) ends;
     }
 
 -- and so is one of a single entry

@@ -15,18 +15,20 @@ use Rattle.rl_labels.specs.laws.OrderLaws.{same_entry}
 use Rattle.rl_labels.specs.declared.entry.Entry.{Entry}
 use Rattle.rl_chunks.specs.ChunkText.{line_cmp}
 use Rattle.rl_chunks.specs.EntryLines.{line_of}
-use Rattle.rl_chunks.specs.StoreState.{Seen}
+use Rattle.rl_parts.specs.ChunksState.{ChunksView}
 use Rattle.rl_chunks.specs.declared.line.Line.{Line}
 use Rattle.rl_parts.specs.StreamParts.{PartView, IsRun, IsPart, listed, notes_of, unwritten}
 use Rattle.rl_parts.specs.StreamState.{AreSealedUpTo, IsInOrder}
-use Rattle.rl_parts.specs.StoreUse.{Grown, IsKept}
+use Rattle.rl_parts.specs.StoreUse.{IsKept, Keeps, Reads}
 use Rattle.rl_parts.specs.Rewriting.{AreLeft, AreOfLines, AreRenumbered, AreRewritten, IsChangedHere, IsLeft, IsOneMore, carried, entries_in, gone_by, left_by, note_numbers, uncovered}
 use Rattle.rl_parts.specs.declared.plan.Change.{Change}
 use Rattle.rl_parts.specs.declared.plan.Change.TheVariants.{Stays, Goes, Becomes}
 use Rattle.rl_parts.specs.Fingerprints.{AreFingerprints, fingerprint, fingerprints_of}
+use Rattle.rl_parts.specs.declared.plan.Changes.{Changes}
+use Rattle.rl_parts.specs.laws.EachLaws.{all_after, all_both, all_front}
 use Rattle.rl_parts.specs.laws.RewriteLaws.{AreRenumbered-all, AreRenumbered-none, AreRenumbered-then, range-none}
 use Rattle.rl_parts.specs.laws.VisitorLaws.{AllZip-append}
-use Rattle.rl_parts.specs.laws.UseLaws.{Grown-none, each_part, IsKept-grown}
+use Rattle.rl_parts.specs.laws.UseLaws.{IsKept-keeps, Keeps-reads, Reads-none, kept_later, kept_then}
 use Rattle.rl_parts.proofs.Lines.{lines_compare}
 
 pub filter_le : {A : Type 0} (p : A → Bool) (xs : List A) → length (filter p xs) ≤ length xs
@@ -62,19 +64,6 @@ pub numbers-append : (xs ys : List PartView) → note_numbers (xs ++ ys) ≡ not
 numbers-append xs ys =
     ap (map (λ note. note.number)) (flat_map-append (λ (part : PartView). listed part.note) xs ys)
     ∙ map-append (λ note. note.number) (notes_of xs) (notes_of ys)
-
--- what holds of each of two lists, and of both
-pub all_both : {A : Type 0} (P : A → Type 0) (xs ys : List A) → AllByRecursion P xs → AllByRecursion P ys → AllByRecursion P (xs ++ ys)
-all_both P [] ys h k = k
-all_both P (x ∷ xs) ys h k = (h.0, all_both P xs ys h.1 k)
-
-pub all_front : {A : Type 0} (P : A → Type 0) (xs ys : List A) → AllByRecursion P (xs ++ ys) → AllByRecursion P xs
-all_front P [] ys h = tt
-all_front P (x ∷ xs) ys h = (h.0, all_front P xs ys h.1)
-
-pub all_after : {A : Type 0} (P : A → Type 0) (xs ys : List A) → AllByRecursion P (xs ++ ys) → AllByRecursion P ys
-all_after P [] ys h = h
-all_after P (x ∷ xs) ys h = all_after P xs ys h.1
 
 -- what is left of a run is one
 pub run_left : (covers : Entry → Bool) (set : LabelSet) (entries : List Entry) → IsRun set entries → IsRun set (uncovered covers entries)
@@ -128,24 +117,24 @@ pub read_is : (set : LabelSet) (lines : List Line) (read entries : List Entry) �
 read_is set lines read entries are of same = same_by_line set read entries are.own (recursion_from_All (λ entry. entry.labels ≡ set) entries of) (are.same ∙ same)
 
 -- a part that stays
-pub rewritten_stays : (covers : Entry → Bool) (set : LabelSet) (part : PartView) (first : ℕ) (start seen : Seen) → Grown start first first seen → IsPart set part → IsLeft covers set part (part ∷ []) → (start.honest ≡ true → IsKept start first set part → uncovered covers part.entries ≡ part.entries)
-    → AreRewritten covers set (part ∷ []) first start (part ∷ []) [] first seen
-rewritten_stays covers set part first start seen grown is left right = record {
-  numbers = AreRenumbered-none (note_numbers (part ∷ [])) first;
+pub rewritten_stays : (covers : Entry → Bool) (set : LabelSet) (part : PartView) (before after : ChunksView) → Reads before after → IsPart set part → IsLeft covers set part (part ∷ []) → (before.seen.honest ≡ true → IsKept before set part → uncovered covers part.entries ≡ part.entries)
+    → AreRewritten covers set (part ∷ []) before (part ∷ []) [] after
+rewritten_stays covers set part before after reads is left right = record {
+  numbers = AreRenumbered-none (note_numbers (part ∷ [])) before.next after.next reads.next;
   left = record { lefts = (part ∷ []) ∷ []; each = (left, tt); are = refl };
   sealed = (is, tt);
   fewer = omega arith;
   up_to = λ top h. h;
-  kept = λ h. (IsKept-grown start seen first first first set grown (omega arith) part h.0, tt);
+  kept = λ h. (IsKept-keeps set before after part (Keeps-reads before after reads) h.0, tt);
   right = λ honest kept. append-nil part.entries ∙ sym (right honest kept.0) ∙ ap (uncovered covers) (sym (append-nil part.entries));
 }
 
 -- a part that is replaced by others, or by none
-pub rewritten_to : (covers : Entry → Bool) (set : LabelSet) (part : PartView) (first : ℕ) (start : Seen) (now : List PartView) (next : ℕ) (seen : Seen) → first ≤ next → note_numbers now ≡ range_with_len first (next - first) → IsLeft covers set part now → AllByRecursion (IsPart set) now → length (entries_in now) ≤ length part.entries
-    → ((top : Option ℕ) → All (λ entry. entry.timestamp ≤ unwrap_or top 0) part.entries → AreSealedUpTo top now) → AllByRecursion (IsKept seen next set) now → (start.honest ≡ true → IsKept start first set part → entries_in now ≡ uncovered covers part.entries)
-    → AreRewritten covers set (part ∷ []) first start now (note_numbers (part ∷ [])) next seen
-rewritten_to covers set part first start now next seen le numbers left sealed fewer up_to kept right = record {
-  numbers = subst (λ ns. AreRenumbered (note_numbers (part ∷ [])) first next ns (note_numbers (part ∷ []))) (sym numbers) (AreRenumbered-all (note_numbers (part ∷ [])) first next le);
+pub rewritten_to : (covers : Entry → Bool) (set : LabelSet) (part : PartView) (before : ChunksView) (now : List PartView) (after : ChunksView) → before.next ≤ after.next → note_numbers now ≡ range_with_len before.next (after.next - before.next) → IsLeft covers set part now → AllByRecursion (IsPart set) now
+    → length (entries_in now) ≤ length part.entries → ((top : Option ℕ) → All (λ entry. entry.timestamp ≤ unwrap_or top 0) part.entries → AreSealedUpTo top now) → AllByRecursion (IsKept after set) now → (before.seen.honest ≡ true → IsKept before set part → entries_in now ≡ uncovered covers part.entries)
+    → AreRewritten covers set (part ∷ []) before now (note_numbers (part ∷ [])) after
+rewritten_to covers set part before now after le numbers left sealed fewer up_to kept right = record {
+  numbers = subst (λ ns. AreRenumbered (note_numbers (part ∷ [])) before.next after.next ns (note_numbers (part ∷ []))) (sym numbers) (AreRenumbered-all (note_numbers (part ∷ [])) before.next after.next le);
   left = record { lefts = now ∷ []; each = (left, tt); are = sym (append-nil now) };
   sealed = sealed;
   fewer = subst (λ es. length (entries_in now) ≤ length es) (sym (append-nil part.entries)) fewer;
@@ -155,9 +144,9 @@ rewritten_to covers set part first start now next seen le numbers left sealed fe
 }
 
 -- no part
-pub rewritten_none : (covers : Entry → Bool) (set : LabelSet) (first : ℕ) (start : Seen) → AreRewritten covers set [] first start [] [] first start
-rewritten_none covers set first start = record {
-  numbers = AreRenumbered-none [] first;
+pub rewritten_none : (covers : Entry → Bool) (set : LabelSet) (chunks : ChunksView) → AreRewritten covers set [] chunks [] [] chunks
+rewritten_none covers set chunks = record {
+  numbers = AreRenumbered-none [] chunks.next chunks.next refl;
   left = record { lefts = []; each = tt; are = refl };
   sealed = tt;
   fewer = omega arith;
@@ -174,24 +163,23 @@ left_then covers set xs ys us vs p q = record {
 }
 
 -- some parts, and then others
-pub rewritten_then : (covers : Entry → Bool) (set : LabelSet) (xs : List PartView) (first : ℕ) (start : Seen) (us : List PartView) (gone : List ℕ) (mid : ℕ) (seen : Seen) (ys vs : List PartView) (away : List ℕ) (next : ℕ) (after : Seen)
-    → AreRewritten covers set xs first start us gone mid seen → Grown start first mid seen → AreRewritten covers set ys mid seen vs away next after → Grown seen mid next after → AreRewritten covers set (xs ++ ys) first start (us ++ vs) (gone ++ away) next after
-rewritten_then covers set xs first start us gone mid seen ys vs away next after p grown q more =
-    let later = λ (h : AllByRecursion (IsKept start first set) (xs ++ ys)). each_part (IsKept start first set) (IsKept seen mid set) (IsKept-grown start seen first mid mid set grown p.numbers.up) ys (all_after (IsKept start first set) xs ys h) in
+pub rewritten_then : (covers : Entry → Bool) (set : LabelSet) (a b c : ChunksView) (xs us : List PartView) (gone : List ℕ) (ys vs : List PartView) (away : List ℕ) → Keeps a b → Keeps b c
+    → AreRewritten covers set xs a us gone b → AreRewritten covers set ys b vs away c → AreRewritten covers set (xs ++ ys) a (us ++ vs) (gone ++ away) c
+rewritten_then covers set a b c xs us gone ys vs away keeps later p q =
+    let kept = λ (chunks : ChunksView) (part : PartView). IsKept chunks set part in
+    let is_old = λ (top : Option ℕ) (part : PartView). All (λ entry. entry.timestamp ≤ unwrap_or top 0) part.entries in
     record {
-      numbers = subst (λ ns. AreRenumbered ns first next (note_numbers (us ++ vs)) (gone ++ away)) (sym (numbers-append xs ys))
-          (subst (λ ns. AreRenumbered (note_numbers xs ++ note_numbers ys) first next ns (gone ++ away)) (sym (numbers-append us vs))
-          (AreRenumbered-then (note_numbers xs) (note_numbers us) gone first mid (note_numbers ys) (note_numbers vs) away next p.numbers q.numbers));
+      numbers = subst (λ ns. AreRenumbered ns a.next c.next (note_numbers (us ++ vs)) (gone ++ away)) (sym (numbers-append xs ys))
+          (subst (λ ns. AreRenumbered (note_numbers xs ++ note_numbers ys) a.next c.next ns (gone ++ away)) (sym (numbers-append us vs))
+          (AreRenumbered-then (note_numbers xs) (note_numbers us) gone a.next b.next (note_numbers ys) (note_numbers vs) away c.next p.numbers q.numbers));
       left = left_then covers set xs ys us vs p.left q.left;
       sealed = all_both (IsPart set) us vs p.sealed q.sealed;
       fewer = omega (arith, p.fewer, q.fewer, ap length (entries_in-append us vs), ap length (entries_in-append xs ys), length-append (entries_in us) (entries_in vs), length-append (entries_in xs) (entries_in ys));
-      up_to = λ top h. all_both (λ part. All (λ entry. entry.timestamp ≤ unwrap_or top 0) part.entries) us vs (p.up_to top (all_front (λ part. All (λ entry. entry.timestamp ≤ unwrap_or top 0) part.entries) xs ys h)) (q.up_to top (all_after (λ part. All (λ entry. entry.timestamp ≤ unwrap_or top 0) part.entries) xs ys h));
-      kept = λ h. all_both (IsKept after next set) us vs
-          (each_part (IsKept seen mid set) (IsKept after next set) (IsKept-grown seen after mid next next set more q.numbers.up) us (p.kept (all_front (IsKept start first set) xs ys h)))
-          (q.kept (later h));
+      up_to = λ top h. all_both (is_old top) us vs (p.up_to top (all_front (is_old top) xs ys h)) (q.up_to top (all_after (is_old top) xs ys h));
+      kept = kept_then kept kept (IsKept-keeps set) (IsKept-keeps set) a b c keeps later xs ys us vs p.kept q.kept;
       right = λ honest h.
           entries_in-append us vs
-          ∙ (λ i. p.right honest (all_front (IsKept start first set) xs ys h) i ++ q.right (grown.honest ∙ honest) (later h) i)
+          ∙ (λ i. p.right honest (all_front (IsKept a set) xs ys h) i ++ q.right (keeps.honest ∙ honest) (kept_later kept kept (IsKept-keeps set) (IsKept-keeps set) a b keeps xs ys h) i)
           ∙ sym (ap (uncovered covers) (entries_in-append xs ys) ∙ uncovered-append covers (entries_in xs) (entries_in ys));
     }
 
@@ -204,16 +192,18 @@ carried_more (p ∷ parts) (c ∷ changes) part change many =
     ap (λ ps. left_by p c ++ ps) (carried_more parts changes part change (omega (arith, many))) ∙ sym (append_assoc (left_by p c) (carried parts changes) (left_by part change))
 
 -- one part more is planned
-pub planned_more : (covers : Entry → Bool) (set : LabelSet) (parts : List PartView) (i : ℕ) (p : PartView) (first : ℕ) (start : Seen) (changes : List Change) (gone : List ℕ) (mid : ℕ) (seen : Seen) (next : ℕ) (after : Seen) (now : List Change) (away : List ℕ) → i < length parts → p ≡ get_or parts i p → length changes ≡ i
-    → AreRewritten covers set (take i parts) first start (carried (take i parts) changes) gone mid seen → Grown start first mid seen → IsOneMore covers set p mid seen next after changes now gone away → Grown seen mid next after
-    → AreRewritten covers set (take (i + 1) parts) first start (carried (take (i + 1) parts) now) away next after
-planned_more covers set parts i p first start changes gone mid seen next after now away within is many so_far grown one more =
+pub planned_more : (covers : Entry → Bool) (set : LabelSet) (a b c : ChunksView) (parts : List PartView) (i : ℕ) (p : PartView) (changes now : Changes) → i < length parts → p ≡ get_or parts i p → length changes.of_parts.items ≡ i → Keeps a b → Keeps b c
+    → AreRewritten covers set (take i parts) a (carried (take i parts) changes.of_parts.items) changes.gone.items b → IsOneMore covers set p b c changes now
+    → AreRewritten covers set (take (i + 1) parts) a (carried (take (i + 1) parts) now.of_parts.items) now.gone.items c
+planned_more covers set a b c parts i p changes now within is many keeps later so_far one =
+    let were = changes.of_parts.items in
+    let are = now.of_parts.items in
     let front : take (i + 1) parts ≡ take i parts ++ p ∷ [] = take_more parts i p within ∙ ap (λ x. take i parts ++ x ∷ []) (sym is) in
-    let all : carried (take i parts ++ p ∷ []) now ≡ carried (take i parts) changes ++ left_by p one.change = ap (carried (take i parts ++ p ∷ [])) one.appended ∙ carried_more (take i parts) changes p one.change (omega (arith, length-take i parts, many, within)) in
-    subst (λ (ps : List PartView). AreRewritten covers set ps first start (carried ps now) away next after) (sym front)
-    (subst (λ (us : List PartView). AreRewritten covers set (take i parts ++ p ∷ []) first start us away next after) (sym all)
-    (subst (λ ns. AreRewritten covers set (take i parts ++ p ∷ []) first start (carried (take i parts) changes ++ left_by p one.change) ns next after) (sym one.gone_after)
-    (rewritten_then covers set (take i parts) first start (carried (take i parts) changes) gone mid seen (p ∷ []) (left_by p one.change) (gone_by p one.change) next after so_far grown one.rewritten more)))
+    let all : carried (take i parts ++ p ∷ []) are ≡ carried (take i parts) were ++ left_by p one.change = ap (carried (take i parts ++ p ∷ [])) one.appended ∙ carried_more (take i parts) were p one.change (omega (arith, length-take i parts, many, within)) in
+    subst (λ (ps : List PartView). AreRewritten covers set ps a (carried ps are) now.gone.items c) (sym front)
+    (subst (λ (us : List PartView). AreRewritten covers set (take i parts ++ p ∷ []) a us now.gone.items c) (sym all)
+    (subst (λ ns. AreRewritten covers set (take i parts ++ p ∷ []) a (carried (take i parts) were ++ left_by p one.change) ns c) (sym one.gone_after)
+    (rewritten_then covers set a b c (take i parts) (carried (take i parts) were) changes.gone.items (p ∷ []) (left_by p one.change) (gone_by p one.change) keeps later so_far one.rewritten)))
 
 -- the entries of a part and of those before it are no more than all
 pub count_up_to : (parts : List PartView) (i : ℕ) (p : PartView) → i < length parts → p ≡ get_or parts i p → length (entries_in (take i parts)) + length p.entries ≤ length (entries_in parts)
@@ -228,16 +218,16 @@ pub fingerprints_len : (entries : List Entry) (fingerprints : List ℕ) → AreF
 fingerprints_len entries fingerprints are = length_permutation (fingerprints_of entries) fingerprints are.all ∙ length-map entries (λ entry. fingerprint (line_of entry))
 
 -- what becomes of entries in memory
-pub here_rewritten : (covers : Entry → Bool) (set : LabelSet) (entries : List Entry) (change : Change) (first : ℕ) (start : Seen) → IsPart set (unwritten entries) → IsChangedHere covers entries change
-    → AreRewritten covers set (unwritten entries ∷ []) first start (left_by (unwritten entries) change) (gone_by (unwritten entries) change) first start
-here_rewritten covers set entries Stays first start is none =
-    rewritten_stays covers set (unwritten entries) first start start (Grown-none start first first) is (append-nil entries ∙ sym none, refl) (λ honest kept. none)
-here_rewritten covers set entries Goes first start is all =
-    rewritten_to covers set (unwritten entries) first start [] first start (omega arith) (sym (range-none first)) (sym all, refl) tt (omega arith) (λ top h. tt) tt (λ honest kept. sym all)
-here_rewritten covers set entries (Becomes now) first start is some =
+pub here_rewritten : (covers : Entry → Bool) (set : LabelSet) (entries : List Entry) (change : Change) (chunks : ChunksView) → IsPart set (unwritten entries) → IsChangedHere covers entries change
+    → AreRewritten covers set (unwritten entries ∷ []) chunks (left_by (unwritten entries) change) (gone_by (unwritten entries) change) chunks
+here_rewritten covers set entries Stays chunks is none =
+    rewritten_stays covers set (unwritten entries) chunks chunks (Reads-none chunks) is (append-nil entries ∙ sym none, refl) (λ honest kept. none)
+here_rewritten covers set entries Goes chunks is all =
+    rewritten_to covers set (unwritten entries) chunks [] chunks (omega arith) (sym (range-none chunks.next chunks.next refl)) (sym all, refl) tt (omega arith) (λ top h. tt) tt (λ honest kept. sym all)
+here_rewritten covers set entries (Becomes now) chunks is some =
     let left = uncovered covers entries in
-    subst (λ (p : PartView). AreRewritten covers set (unwritten entries ∷ []) first start (p ∷ []) [] first start) (sym some.0)
-    (rewritten_to covers set (unwritten entries) first start (unwritten left ∷ []) first start (omega arith) (sym (range-none first)) (append-nil left, refl) (part_left covers set entries is some.1, tt)
+    subst (λ (p : PartView). AreRewritten covers set (unwritten entries ∷ []) chunks (p ∷ []) [] chunks) (sym some.0)
+    (rewritten_to covers set (unwritten entries) chunks (unwritten left ∷ []) chunks (omega arith) (sym (range-none chunks.next chunks.next refl)) (append-nil left, refl) (part_left covers set entries is some.1, tt)
     (omega (arith, ap length (append-nil left), filter_le (λ entry. not (covers entry)) entries))
     (λ top h. (All-filter (λ entry. not (covers entry)) (λ entry. entry.timestamp ≤ unwrap_or top 0) entries h, tt)) (tt, tt) (λ honest kept. append-nil left))
 

@@ -4,16 +4,16 @@ use Rattle.std.specs.Prelude.{IfOk, OnOk}
 use Rattle.std.specs.List.{AllByRecursion}
 use Rattle.std.proofs.lemmas.List.Elements.{All-from_recursion}
 use Rattle.rl_labels.specs.LabelSet.{LabelSet}
-use Rattle.rl_chunks.specs.StoreState.{Seen}
+use Rattle.rl_parts.specs.ChunksState.{ChunksView}
 use Rattle.rl_parts.specs.StreamParts.{PartView}
-use Rattle.rl_parts.specs.StoreUse.{Right, Looked, IsKept}
+use Rattle.rl_parts.specs.StoreUse.{Right, Reads, IsKept}
 use Rattle.rl_parts.specs.RewriteFaults.{unread, unput}
 use Rattle.rl_parts.specs.declared.fault.FlushFault.{FlushFault}
 use Rattle.rl_parts.specs.declared.fault.FlushFault.TheVariants as flushes
 use Rattle.rl_parts.specs.declared.fault.RewriteFault.TheVariants as rewrites
 use Rattle.rl_parts.specs.declared.fault.ReadFault.{ReadFault}
 use Rattle.rl_parts.specs.declared.fault.ReadFault.TheVariants as reads
-use Rattle.rl_parts.specs.laws.UseLaws.{IsKept-looked}
+use Rattle.rl_parts.specs.laws.UseLaws.{IsKept-keeps, Keeps-reads}
 
 -- a fault that was right to answer of one thing is right to answer of another
 pub right_on : {A B : Type 0} (fault : ReadFault) (P : A → Type 0) (Q : B → Type 0) → Right {A = A} (Err fault) P → Right {A = B} (Err fault) Q
@@ -22,9 +22,9 @@ right_on reads.Damaged P Q h = h
 right_on reads.Memory P Q h = tt
 
 -- a part is still kept after other reads
-pub kept_at : (start seen : Seen) (next : ℕ) (labels : LabelSet) (parts : List PartView) (i : ℕ) (p : PartView) → i < length parts → p ≡ get_or parts i p → Looked start seen → AllByRecursion (IsKept start next labels) parts → IsKept seen next labels p
-kept_at start seen next labels parts i p within is looked kept =
-    IsKept-looked start seen next labels looked p (subst (IsKept start next labels) (sym is) (All-from_recursion (IsKept start next labels) parts kept i p within))
+pub kept_at : (old new : ChunksView) (labels : LabelSet) (parts : List PartView) (i : ℕ) (p : PartView) → i < length parts → p ≡ get_or parts i p → Reads old new → AllByRecursion (IsKept old labels) parts → IsKept new labels p
+kept_at old new labels parts i p within is reads kept =
+    IsKept-keeps labels old new p (Keeps-reads old new reads) (subst (IsKept old labels) (sym is) (All-from_recursion (IsKept old labels) parts kept i p within))
 
 -- what follows from the answer
 pub right_then : {A : Type 0} (P Q : A → Type 0) → ((answer : A) → P answer → Q answer) → (result : Result A ReadFault) → Right result P → Right result Q

@@ -6,13 +6,14 @@ use Rattle.std.proofs.lemmas.List.{length-append, length-set, take-append-drop, 
 use Rattle.std.proofs.lemmas.List.Elements.{All-from_recursion, filter-append}
 use Rattle.rl_labels.specs.LabelSet.{LabelSet}
 use Rattle.rl_labels.specs.declared.entry.Entry.{Entry}
-use Rattle.rl_chunks.specs.StoreState.{Seen}
+use Rattle.rl_parts.specs.ChunksState.{ChunksView}
 use Rattle.rl_parts.specs.StreamParts.{Note, PartView, IsPart, unwritten}
-use Rattle.rl_parts.specs.StoreUse.{Grown, IsKept}
+use Rattle.rl_parts.specs.StoreUse.{IsKept, Keeps}
 use Rattle.rl_parts.specs.Changes.{AreNoted, unwritten_count, with_notes}
 use Rattle.rl_parts.specs.StreamState.{IsInOrder}
 use Rattle.rl_parts.specs.laws.NoteLaws.{with_notes-keeps, AreNoted-more, AreNoted-rest}
-use Rattle.rl_parts.specs.laws.UseLaws.{each_part, IsKept-grown}
+use Rattle.rl_parts.specs.laws.EachLaws.{all_weaker}
+use Rattle.rl_parts.specs.laws.UseLaws.{IsKept-keeps}
 
 -- one part was given the next number
 pub one_noted : (part : PartView) (entries : List Entry) (first next : ℕ) (note : Note) → unwritten entries ≡ part → note.number ≡ first → next ≡ first + 1 → AreNoted (part ∷ []) first (record { entries = entries; note = Some note } ∷ []) next
@@ -27,13 +28,13 @@ each_set P (y ∷ ys) zero x h p = (p, h.1)
 each_set P (y ∷ ys) (suc i) x h p = (h.0, each_set P ys i x h.1 p)
 
 -- the first parts were written, and the others are as they were
-pub record Goes (labels : LabelSet) (old : List PartView) (first : ℕ) (start : Seen) (i : ℕ) (now : List PartView) (next : ℕ) (seen : Seen) : Type 0 where
+pub record Goes (labels : LabelSet) (old : List PartView) (before : ChunksView) (i : ℕ) (now : List PartView) (after : ChunksView) : Type 0 where
   pub many : length now ≡ length old
-  pub noted : AreNoted (take i old) first (take i now) next
+  pub noted : AreNoted (take i old) before.next (take i now) after.next
   pub rest : drop i now ≡ drop i old
-  pub kept : AllByRecursion (IsKept start first labels) old → AllByRecursion (IsKept seen next labels) now
+  pub kept : AllByRecursion (IsKept before labels) old → AllByRecursion (IsKept after labels) now
 
-module _ (labels : LabelSet) (old : List PartView) (first : ℕ) (start : Seen) (i : ℕ) (now : List PartView) (next : ℕ) (seen : Seen) (goes : Goes labels old first start i now next seen) where
+module _ (labels : LabelSet) (old : List PartView) (before : ChunksView) (i : ℕ) (now : List PartView) (after : ChunksView) (goes : Goes labels old before i now after) where
   -- the part at the index is as it was
   pub untouched : (d : PartView) → get_or now i d ≡ get_or old i d
   untouched d =
@@ -44,29 +45,28 @@ module _ (labels : LabelSet) (old : List PartView) (first : ℕ) (start : Seen) 
   is_part p within is are = subst (IsPart labels) (sym (is ∙ untouched p)) (All-from_recursion (IsPart labels) old are i p within)
 
   -- one part more, also where it was refused
-  pub turn : (p q : PartView) (later end : ℕ) (after : Seen) → unwritten_count (take i now) ≡ 0 → i < length old → p ≡ get_or now i p → AreNoted (p ∷ []) next (q ∷ []) later
-      → (IsKept seen next labels p → IsKept after later labels q) → Grown seen next end after → Goes labels old first start (i + 1) (set now i q) later after
-  turn p q later end after all within is noted kept grown =
+  pub turn : (p q : PartView) (last : ChunksView) → unwritten_count (take i now) ≡ 0 → i < length old → p ≡ get_or now i p → AreNoted (p ∷ []) after.next (q ∷ []) last.next
+      → (IsKept after labels p → IsKept last labels q) → Keeps after last → Goes labels old before (i + 1) (set now i q) last
+  turn p q last all within is noted kept keeps =
       let low : i < length now = omega (arith, goes.many) in
       let front : take (i + 1) old ≡ take i old ++ p ∷ [] = take_more old i p within ∙ ap (λ x. take i old ++ x ∷ []) (sym (is ∙ untouched p)) in
-      let up : next ≤ later = omega (arith, noted.many) in
       record {
         many = length-set now i q ∙ goes.many;
-        noted = subst (λ xs. AreNoted xs first (take (i + 1) (set now i q)) later) (sym front)
-            (subst (λ ys. AreNoted (take i old ++ p ∷ []) first ys later) (sym (take_more_set now i q low)) (AreNoted-more (take i old) (take i now) first next (p ∷ []) (q ∷ []) later goes.noted all noted));
+        noted = subst (λ xs. AreNoted xs before.next (take (i + 1) (set now i q)) last.next) (sym front)
+            (subst (λ ys. AreNoted (take i old ++ p ∷ []) before.next ys last.next) (sym (take_more_set now i q low)) (AreNoted-more (take i old) (take i now) before.next after.next (p ∷ []) (q ∷ []) last.next goes.noted all noted));
         rest = drop-set-lt (i + 1) now i q (omega arith) ∙ sym (drop-drop 1 i now) ∙ ap (drop 1) goes.rest ∙ drop-drop 1 i old;
         kept = λ were.
-            let are : AllByRecursion (IsKept seen next labels) now = goes.kept were in
-            let here : IsKept seen next labels p = subst (IsKept seen next labels) (sym is) (All-from_recursion (IsKept seen next labels) now are i p low) in
-            each_set (IsKept after later labels) now i q (each_part (IsKept seen next labels) (IsKept after later labels) (IsKept-grown seen after next end later labels grown up) now are) (kept here);
+            let are : AllByRecursion (IsKept after labels) now = goes.kept were in
+            let here : IsKept after labels p = subst (IsKept after labels) (sym is) (All-from_recursion (IsKept after labels) now are i p low) in
+            each_set (IsKept last labels) now i q (all_weaker (IsKept after labels) (IsKept last labels) (λ part. IsKept-keeps labels after last part keeps) now are) (kept here);
       }
 
   -- the whole list
-  pub over_all : AreNoted old first now next
+  pub over_all : AreNoted old before.next now after.next
   over_all =
-      subst (λ xs. AreNoted xs first now next) (take-append-drop i old)
-      (subst (λ ys. AreNoted (take i old ++ drop i old) first ys next) (ap (λ r. take i now ++ r) (sym goes.rest) ∙ take-append-drop i now)
-      (AreNoted-rest (take i old) (take i now) first next (drop i old) goes.noted))
+      subst (λ xs. AreNoted xs before.next now after.next) (take-append-drop i old)
+      (subst (λ ys. AreNoted (take i old ++ drop i old) before.next ys after.next) (ap (λ r. take i now ++ r) (sym goes.rest) ∙ take-append-drop i now)
+      (AreNoted-rest (take i old) (take i now) before.next after.next (drop i old) goes.noted))
 
 none_unwritten : (entries : List Entry) (note : Option Note) → IsSome note → unwritten_count (record { entries = entries; note = note } ∷ []) ≡ 0
 none_unwritten entries None h = cc
@@ -79,16 +79,12 @@ all_written now i q within all some =
     let both : unwritten_count (take i now ++ q ∷ []) ≡ unwritten_count (take i now) + unwritten_count (q ∷ []) = ap length (filter-append (λ (part : PartView). is_none part.note) (take i now) (q ∷ [])) ∙ length-append _ _ in
     ap unwritten_count (take_more_set now i q within) ∙ omega arith
 
--- before the first
-pub goes_none : (labels : LabelSet) (old : List PartView) (first : ℕ) (start : Seen) → Goes labels old first start 0 old first start
-goes_none labels old first start = record { many = refl; noted = record { notes = []; few = omega arith; given = refl; numbers = refl; many = omega arith }; rest = refl; kept = λ h. h }
-
 -- a stream stays in order while its parts are written
 pub in_order_noted : (labels : LabelSet) (old new : List PartView) (head : List Entry) (newest : ℕ) (top : Option ℕ) (first next : ℕ) → AreNoted old first new next → IsInOrder (record { labels = labels; parts = old; head = head; newest = newest }) top
     → IsInOrder (record { labels = labels; parts = new; head = head; newest = newest }) top
 in_order_noted labels old new head newest top first next noted order =
-    let alone = each_part (IsPart labels) (λ part. IsPart labels (unwritten part.entries)) (λ part is. record { run = is.run; some = is.some; few = is.few }) old order.parts.sealed in
+    let alone = all_weaker (IsPart labels) (λ part. IsPart labels (unwritten part.entries)) (λ part is. record { run = is.run; some = is.some; few = is.few }) old order.parts.sealed in
     let with = with_notes-keeps (λ es. IsPart labels (unwritten es)) old noted.notes alone in
-    let sealed : AllByRecursion (IsPart labels) (with_notes old noted.notes) = each_part (λ part. IsPart labels (unwritten part.entries)) (IsPart labels) (λ part is. record { run = is.run; some = is.some; few = is.few }) (with_notes old noted.notes) with in
+    let sealed : AllByRecursion (IsPart labels) (with_notes old noted.notes) = all_weaker (λ part. IsPart labels (unwritten part.entries)) (IsPart labels) (λ part is. record { run = is.run; some = is.some; few = is.few }) (with_notes old noted.notes) with in
     subst (λ (ps : List PartView). IsInOrder (record { labels = labels; parts = ps; head = head; newest = newest }) top) (sym noted.given)
     (record { parts = record { sealed = sealed; growing = order.parts.growing; few = order.parts.few }; up_to = with_notes-keeps (λ es. All (λ e. e.timestamp ≤ unwrap_or top 0) es) old noted.notes order.up_to })

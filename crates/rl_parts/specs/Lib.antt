@@ -1,4 +1,5 @@
 pub mod Changes
+pub mod ChunksState
 pub mod Fingerprints
 pub mod PartState
 pub mod Reading

@@ -1,11 +1,11 @@
 -- How a part is seen, wherever its entries are.
-use Rattle.std.specs.Prelude.{◌≡◌, ℕ, ◌+◌, ◌-◌, List, length, Option, None, Some, slice_get}
+use Rattle.std.specs.Prelude.{◌≡◌, ℕ, ◌-◌, List, length, Option, None, Some, slice_get}
 use Rattle.std.specs.Option.{option_map, unwrap_or}
 use Rattle.rl_labels.specs.LabelSet.{LabelSet}
 use Rattle.rl_labels.specs.declared.entry.Entry.{Entry}
-use Rattle.rl_chunks.specs.StoreState.{Seen}
-use Rattle.rl_parts.specs.StreamParts.{Note, PartView, chunk_of}
-use Rattle.rl_parts.specs.StoreUse.{IsNoteOf}
+use Rattle.rl_parts.specs.ChunksState.{ChunksView}
+use Rattle.rl_parts.specs.StreamParts.{Note, PartView}
+use Rattle.rl_parts.specs.StoreUse.{IsKept}
 use Rattle.rl_parts.specs.Fingerprints.{AreFingerprints}
 use Rattle.rl_parts.specs.declared.part.Written.{Written}
 use Rattle.rl_parts.specs.declared.part.Location.{Location}
@@ -36,10 +36,10 @@ abbrev pub RangeAndFingerprintsAreKept : Location → Type 0
 RangeAndFingerprintsAreKept (Here entries) = Unit {0}
 RangeAndFingerprintsAreKept (InStore written) = IsRange written.entries.value written.first written.last × AreFingerprints written.entries.value written.fingerprints
 
--- what is kept of entries that were written under a number, over what a store then has
-pub record IsWritten (seen : Seen) (labels : LabelSet) (entries : List Entry) (number : ℕ) (written : Written) : Type 0 where
+-- what is kept of entries that were written under a number, over the chunks that there are then
+pub record IsWritten (chunks : ChunksView) (labels : LabelSet) (entries : List Entry) (number : ℕ) (written : Written) : Type 0 where
   pub entries_are : written.entries.value ≡ entries
   pub range : IsRange entries written.first written.last
   pub fingerprints : AreFingerprints entries written.fingerprints
   pub number_is : written.number ≡ number
-  pub note : IsNoteOf seen (number + 1) (chunk_of labels entries) (record { number = written.number; digest = written.digest })
+  pub kept : IsKept chunks labels (part_at (InStore written))

@@ -7,9 +7,10 @@ use Rattle.std.specs.List.Sorted.{IsPermutation}
 use Rattle.rl_labels.specs.LabelSet.{LabelSet}
 use Rattle.rl_labels.specs.declared.entry.Entry.{Entry}
 use Rattle.rl_chunks.specs.EntryLines.{line_of}
-use Rattle.rl_chunks.specs.StoreState.{Seen, with_fault}
+use Rattle.rl_chunks.specs.StoreState.{with_fault}
 use Rattle.rl_chunks.specs.declared.chunk.Chunk.{Chunk}
 use Rattle.rl_chunks.specs.declared.line.Line.{Line}
+use Rattle.rl_parts.specs.ChunksState.{ChunksView}
 use Rattle.rl_parts.specs.StreamParts.{PartView, StreamView, IsPart, notes_of, unwritten, stream_code}
 use Rattle.rl_parts.specs.StoreUse.{IsKept}
 use Rattle.rl_parts.specs.StreamState.{AreSealedUpTo}
@@ -17,6 +18,7 @@ use Rattle.rl_parts.specs.Reading.{IsReadAs}
 use Rattle.rl_parts.specs.declared.fault.RewriteFault.{RewriteFault}
 use Rattle.rl_parts.specs.declared.fault.RewriteFault.TheVariants as rewrites
 use Rattle.rl_parts.specs.declared.plan.Change.{Change}
+use Rattle.rl_parts.specs.declared.plan.Changes.{Changes}
 use Rattle.rl_parts.specs.declared.plan.Change.TheVariants.{Stays, Goes, Becomes}
 
 -- the entries that are not covered
@@ -113,18 +115,18 @@ planned stream changes head = record { labels = stream.labels; parts = carried s
 
 -- parts without their covered entries, with the numbers that are gone. Over an honest store that keeps the old parts all
 -- entries are left that are not covered
-pub record AreRewritten (covers : Entry → Bool) (labels : LabelSet) (old : List PartView) (first : ℕ) (start : Seen) (new : List PartView) (gone : List ℕ) (next : ℕ) (seen : Seen) : Type 0 where
-  pub numbers : AreRenumbered (note_numbers old) first next (note_numbers new) gone
+pub record AreRewritten (covers : Entry → Bool) (labels : LabelSet) (old : List PartView) (before : ChunksView) (new : List PartView) (gone : List ℕ) (after : ChunksView) : Type 0 where
+  pub numbers : AreRenumbered (note_numbers old) before.next after.next (note_numbers new) gone
   pub left : AreLeft covers labels old new
   pub sealed : AllByRecursion (IsPart labels) new
   pub fewer : length (entries_in new) ≤ length (entries_in old)
   pub up_to : (top : Option ℕ) → AreSealedUpTo top old → AreSealedUpTo top new
-  pub kept : AllByRecursion (IsKept start first labels) old → AllByRecursion (IsKept seen next labels) new
-  pub right : start.honest ≡ true → AllByRecursion (IsKept start first labels) old → entries_in new ≡ uncovered covers (entries_in old)
+  pub kept : AllByRecursion (IsKept before labels) old → AllByRecursion (IsKept after labels) new
+  pub right : before.seen.honest ≡ true → AllByRecursion (IsKept before labels) old → entries_in new ≡ uncovered covers (entries_in old)
 
 -- one part more, with what becomes of it and the number that is gone
-pub record IsOneMore (covers : Entry → Bool) (labels : LabelSet) (part : PartView) (first : ℕ) (start : Seen) (next : ℕ) (seen : Seen) (changes now : List Change) (gone gone_now : List ℕ) : Type 0 where
+pub record IsOneMore (covers : Entry → Bool) (labels : LabelSet) (part : PartView) (before after : ChunksView) (changes now : Changes) : Type 0 where
   pub change : Change
-  pub appended : now ≡ changes ++ change ∷ []
-  pub gone_after : gone_now ≡ gone ++ gone_by part change
-  pub rewritten : AreRewritten covers labels (part ∷ []) first start (left_by part change) (gone_by part change) next seen
+  pub appended : now.of_parts.items ≡ changes.of_parts.items ++ change ∷ []
+  pub gone_after : now.gone.items ≡ changes.gone.items ++ gone_by part change
+  pub rewritten : AreRewritten covers labels (part ∷ []) before (left_by part change) (gone_by part change) after

@@ -9,6 +9,7 @@ use Rattle.rl_chunks.specs.ChunkReading.{read_chunk}
 use Rattle.rl_chunks.specs.StoreState.{Seen, greatest, with_fault}
 use Rattle.rl_chunks.specs.declared.chunk.Chunk.{Chunk}
 use Rattle.rl_chunks.specs.declared.format.Format.TheVariants.{Short}
+use Rattle.rl_parts.specs.ChunksState.{ChunksView}
 use Rattle.rl_parts.specs.StreamParts.{Note, PartView, StreamView, chunk_of}
 use Rattle.rl_parts.specs.declared.fault.ReadFault.{ReadFault}
 use Rattle.rl_parts.specs.declared.fault.ReadFault.TheVariants as reads
@@ -38,20 +39,41 @@ abbrev pub IsGrown : {A E : Type 0} → Result A E → Seen → ℕ → ℕ → 
 IsGrown (Ok _) old first next new = Grown old first next new
 IsGrown (Err _) old first next new = Grown old first (next + 1) new
 
--- a note of this chunk, under a number below the next: its bytes are read as it, and an honest store has them there
-pub record IsNoteOf (seen : Seen) (next : ℕ) (chunk : Chunk) (note : Note) : Type 0 where
-  pub given : note.number < next
+-- calls that only read leave this
+pub record Reads (old new : ChunksView) : Type 0 where
+  pub seen : Looked old.seen new.seen
+  pub next : new.next ≡ old.next
+
+-- puts under the numbers from the next one on, and below the end
+pub record Puts (old : ChunksView) (end : ℕ) (new : ChunksView) : Type 0 where
+  pub up : old.next ≤ new.next
+  pub seen : Grown old.seen old.next end new.seen
+
+-- up to the number that is next by now; one that was refused may have lost what that has
+abbrev pub ArePut : {A E : Type 0} → Result A E → ChunksView → ChunksView → Type 0
+ArePut (Ok _) old new = Puts old new.next new
+ArePut (Err _) old new = Puts old (new.next + 1) new
+
+-- what chunks keep they keep: each number that was given has what it had
+pub record Keeps (old new : ChunksView) : Type 0 where
+  pub up : old.next ≤ new.next
+  pub honest : new.seen.honest ≡ old.seen.honest
+  pub blobs : (number : ℕ) → number < old.next → map.get new.seen.blobs number ≡ map.get old.seen.blobs number
+
+-- a note of this chunk, under a number that was given: its bytes are read as it, and an honest store has them there
+pub record IsNoteOf (chunks : ChunksView) (chunk : Chunk) (note : Note) : Type 0 where
+  pub given : note.number < chunks.next
   pub digest : note.digest ≡ sha256 (chunk_text Short chunk)
   pub read : read_chunk (chunk_text Short chunk) ≡ Ok chunk
-  pub kept : seen.honest ≡ true → map.get seen.blobs note.number ≡ Some (chunk_text Short chunk)
+  pub kept : chunks.seen.honest ≡ true → map.get chunks.seen.blobs note.number ≡ Some (chunk_text Short chunk)
 
--- where the part has a note, the store keeps the part
-abbrev pub IsKept : Seen → ℕ → LabelSet → PartView → Type 0
-IsKept seen next labels part = IfSome part.note (IsNoteOf seen next (chunk_of labels part.entries))
+-- where the part has a note, the chunks keep the part
+abbrev pub IsKept : ChunksView → LabelSet → PartView → Type 0
+IsKept chunks labels part = IfSome part.note (IsNoteOf chunks (chunk_of labels part.entries))
 
--- the store keeps the parts that have a note
-abbrev pub AreKept : Seen → ℕ → StreamView → Type 0
-AreKept seen next stream = AllByRecursion (IsKept seen next stream.labels) stream.parts
+-- the chunks keep the parts that have a note
+abbrev pub AreKept : ChunksView → StreamView → Type 0
+AreKept chunks stream = AllByRecursion (IsKept chunks stream.labels) stream.parts
 
 -- over an honest store: the answer is right, or the device failed or memory ran out, and nothing is damaged
 abbrev pub Right : {A : Type 0} → Result A ReadFault → (A → Type 0) → Type 0

@@ -1,37 +1,22 @@
 //! Parts that are written to a store.
-ghost use Rattle.std.specs.Prelude.{◌≡◌, ◌+◌, ◌<◌, length, Some, Err, IfOk, IsErrOf, OnOk, MatchResult};
+ghost use Rattle.std.specs.Prelude.{◌≡◌, ◌+◌, ◌<◌, length, Err, IfOk, IsErrOf, OnOk, MatchResult};
 ghost use Rattle.std.specs.List.{AllByRecursion};
-ghost use Rattle.std.specs.FinMap as map;
 ghost use Rattle.rl_chunks.specs.StoreState.{greatest};
 ghost use Rattle.rl_parts.specs.StreamParts.{IsPart, unwritten};
 ghost use Rattle.rl_parts.specs.PartState.{IsRange, IsWritten};
-ghost use Rattle.rl_parts.specs.StoreUse.{Grown, IsGrown, IsKept, after_flush};
+ghost use Rattle.rl_parts.specs.StoreUse.{ArePut, IsKept, after_flush};
 ghost use Rattle.rl_parts.specs.Changes.{AreNoted, unwritten_count};
 
+use crate::chunk_store::ChunkStore;
 use crate::fault::FlushFault;
 use crate::fingerprints::fingerprints_of;
 use crate::part::{Part, Written};
 use crate::stored::StoredEntry;
-use rl_chunks::{AsLine, Store, StoreFault, encode};
+use rl_chunks::{AsLine, Store, encode};
 use rl_labels::{Labels, Ns};
 use rl_plain::PlainList;
 use sha2::{Digest, Sha256};
-use std::alloc::Global;
 use std::snapshot::Snapshot;
-
-// Puts bytes under a number.
-fn put_bytes<S: Store>(store: &mut S, number: u64, bytes: Vec<u8>) -> Result<(), FlushFault>
-    ensures there { OnOk result (map.get (S.seen store.new).blobs number ≡ Some bytes.items) }
-    ensures grown { Grown (S.seen store.old) number (number + 1) (S.seen store.new) }
-    ensures counted { (S.seen store.new).faults ≡ after_flush result (S.seen store.old).faults }
-    ensures not_spent { IsErrOf result FlushFault.NumbersSpent → ⊥ }
-{
-    match store.put(number, bytes) {
-        Ok(()) => Ok(()),
-        Err(StoreFault::Fault) => Err(FlushFault::Fault),
-        Err(StoreFault::Memory) => Err(FlushFault::Memory),
-    }
-}
 
 // The timestamps of the first and the last entry.
 fn range_of(entries: &[StoredEntry]) -> (Ns, Ns)
@@ -45,29 +30,26 @@ fn range_of(entries: &[StoredEntry]) -> (Ns, Ns)
 
 // Writes entries of a stream under the next number. The greatest number is not given.
 pub(crate) fn write_entries<S: Store>(
-    alloc: Global,
-    store: &mut S,
+    chunks: &mut ChunkStore<S>,
     labels: &Labels,
     entries: &PlainList<StoredEntry>,
-    next: &mut u64,
 ) -> Result<Written, FlushFault>
     requires { IsPart labels.now (unwritten entries.now) }
-    ensures written { IfOk result (IsWritten (S.seen store.new) labels.now entries.now next.old) }
-    ensures next { MatchResult result (λ _. next.new ≡ next.old + 1) (λ _. next.new ≡ next.old) }
-    ensures grown { IsGrown result (S.seen store.old) next.old next.new (S.seen store.new) }
-    ensures counted { (S.seen store.new).faults ≡ after_flush result (S.seen store.old).faults }
-    ensures spent_first { next.old ≡ greatest → (result ≡ Err FlushFault.NumbersSpent) × (S.seen store.new ≡ S.seen store.old) }
-    ensures spent { IsErrOf result FlushFault.NumbersSpent → next.new ≡ greatest }
+    ensures written { IfOk result (IsWritten chunks.new labels.now entries.now chunks.old.next) }
+    ensures next { MatchResult result (λ _. chunks.new.next ≡ chunks.old.next + 1) (λ _. chunks.new.next ≡ chunks.old.next) }
+    ensures puts { ArePut result chunks.old chunks.new }
+    ensures counted { chunks.new.seen.faults ≡ after_flush result chunks.old.seen.faults }
+    ensures spent_first { chunks.old.next ≡ greatest → (result ≡ Err FlushFault.NumbersSpent) × (chunks.new ≡ chunks.old) }
+    ensures spent { IsErrOf result FlushFault.NumbersSpent → chunks.new.next ≡ greatest }
 {
-    let number = *next;
-    if number == u64::MAX {
+    if chunks.next() == u64::MAX {
         return Err(FlushFault::NumbersSpent);
     }
+    let alloc = *chunks.allocator();
     let bytes = encode(alloc, labels, entries.as_slice())?;
     let digest = Sha256::digest(bytes.as_slice());
     let fingerprints = fingerprints_of(alloc, entries.as_slice())?;
-    put_bytes(store, number, bytes)?;
-    *next = number + 1;
+    let number = chunks.put(bytes)?;
     let (first, last) = range_of(entries.as_slice());
     Ok(Written {
         number,
@@ -81,24 +63,22 @@ pub(crate) fn write_entries<S: Store>(
 
 // Writes each part that no store has, in order, under the numbers from the next on.
 pub(crate) fn write_parts<S: Store>(
-    alloc: Global,
-    store: &mut S,
+    chunks: &mut ChunkStore<S>,
     labels: &Labels,
     parts: &mut [Part],
-    next: &mut u64,
 ) -> Result<(), FlushFault>
     requires { AllByRecursion (IsPart labels.now) parts.old }
-    ensures noted { AreNoted parts.old next.old parts.new next.new }
-    ensures kept { AllByRecursion (IsKept (S.seen store.old) next.old labels.now) parts.old → AllByRecursion (IsKept (S.seen store.new) next.new labels.now) parts.new }
-    ensures counted_parts { next.new + unwritten_count parts.new ≡ next.old + unwritten_count parts.old }
+    ensures noted { AreNoted parts.old chunks.old.next parts.new chunks.new.next }
+    ensures kept { AllByRecursion (IsKept chunks.old labels.now) parts.old → AllByRecursion (IsKept chunks.new labels.now) parts.new }
+    ensures counted_parts { chunks.new.next + unwritten_count parts.new ≡ chunks.old.next + unwritten_count parts.old }
     ensures all { OnOk result (unwritten_count parts.new ≡ 0) }
-    ensures grown { IsGrown result (S.seen store.old) next.old next.new (S.seen store.new) }
-    ensures counted { (S.seen store.new).faults ≡ after_flush result (S.seen store.old).faults }
-    ensures spent { IsErrOf result FlushFault.NumbersSpent → next.new ≡ greatest }
+    ensures puts { ArePut result chunks.old chunks.new }
+    ensures counted { chunks.new.seen.faults ≡ after_flush result chunks.old.seen.faults }
+    ensures spent { IsErrOf result FlushFault.NumbersSpent → chunks.new.next ≡ greatest }
 {
     for index in 0..parts.len() {
         let part = &mut parts[index];
-        part.write(alloc, store, labels, next)?;
+        part.write(chunks, labels)?;
     }
     Ok(())
 }

@@ -3,13 +3,13 @@
 //! - `stream`: `Stream`, made of its first entry. It holds entries, seals its head, writes its parts to a store and reads them
 //!   there. `part`: `Part`, sealed entries, in memory or in a store.
 //! - `plan`: `Plan`, what a stream becomes without entries that are covered. It is made first, and then carried out.
-//! - `fetching`: `fetch`, a chunk of a store whose bytes have a digest.
+//! - `chunk_store`: `ChunkStore`, the chunks of a shard in a store, by number.
 //! - `visitor`: `Visitor`, a visitor of the lines of a stream.
 //! - `fault`: why reading, writing or rewriting was refused. `sending`: a probe for what may cross to another thread.
 #![tactic(auto)]
 
+pub mod chunk_store;
 pub mod fault;
-pub mod fetching;
 mod fingerprints;
 mod flushing;
 pub mod part;
@@ -23,8 +23,8 @@ pub mod stream;
 mod visiting_lines;
 pub mod visitor;
 
+pub use chunk_store::ChunkStore;
 pub use fault::{FlushFault, ReadFault, RewriteFault};
-pub use fetching::fetch;
 pub use part::Part;
 pub use plan::Plan;
 pub use stream::Stream;

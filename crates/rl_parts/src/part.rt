@@ -1,4 +1,5 @@
 //! Sealed entries of a stream, in memory or in a store.
+use crate::chunk_store::ChunkStore;
 use crate::fault::{FlushFault, ReadFault, RewriteFault};
 use crate::flushing::write_entries;
 use crate::plan::Change;
@@ -10,7 +11,6 @@ use crate::visitor::Visitor;
 use rl_chunks::Store;
 use rl_labels::{Covers, Entry, Labels, Ns};
 use rl_plain::PlainList;
-use std::alloc::Global;
 use std::marker::Model;
 use std::snapshot::Snapshot;
 
@@ -54,12 +54,12 @@ impl Model for Part {
 }
 
 impl Part {
-    ghost use Rattle.std.specs.Prelude.{◌≡◌, ℕ, ◌+◌, ◌≤◌, length, true, false, Ok, Some, [], ◌∷◌, IsTrue, ◌↔◌, IfOk, IsErrOf, OnOk, IsSome};
+    ghost use Rattle.std.specs.Prelude.{◌≡◌, ◌+◌, length, true, false, Ok, Some, [], ◌∷◌, IsTrue, ◌↔◌, IfOk, IsErrOf, OnOk, IsSome};
     ghost use Rattle.std.specs.Option.{option_map};
     ghost use Rattle.std.specs.List.{Contains, fold};
     ghost use Rattle.rl_chunks.specs.StoreState.{greatest};
     ghost use Rattle.rl_parts.specs.StreamParts.{IsPart, unwritten};
-    ghost use Rattle.rl_parts.specs.StoreUse.{Looked, IsGrown, IsKept, Right, after_read, after_flush};
+    ghost use Rattle.rl_parts.specs.StoreUse.{ArePut, IsKept, Reads, Right, after_read, after_flush};
     ghost use Rattle.rl_parts.specs.Reading.{IsOutside, IsWith, IsWithout, IsVisited, in_memory, in_store, visited_in_range};
     ghost use Rattle.rl_parts.specs.Changes.{AreNoted, unwritten_count};
     ghost use Rattle.rl_parts.specs.Fingerprints.{AreFingerprints};
@@ -108,23 +108,21 @@ impl Part {
     // Writes the part under the next number, unless a store has it.
     pub(crate) fn write<S: Store>(
         &mut self,
-        alloc: Global,
-        store: &mut S,
+        chunks: &mut ChunkStore<S>,
         labels: &Labels,
-        next: &mut u64,
     ) -> Result<(), FlushFault>
         requires { IsPart labels.now self.old }
-        ensures noted { AreNoted (self.old ∷ []) next.old (self.new ∷ []) next.new }
-        ensures kept { IsKept (S.seen store.old) next.old labels.now self.old → IsKept (S.seen store.new) next.new labels.now self.new }
-        ensures counted_parts { next.new + unwritten_count (self.new ∷ []) ≡ next.old + unwritten_count (self.old ∷ []) }
+        ensures noted { AreNoted (self.old ∷ []) chunks.old.next (self.new ∷ []) chunks.new.next }
+        ensures kept { IsKept chunks.old labels.now self.old → IsKept chunks.new labels.now self.new }
+        ensures counted_parts { chunks.new.next + unwritten_count (self.new ∷ []) ≡ chunks.old.next + unwritten_count (self.old ∷ []) }
         ensures written { OnOk result (IsSome self.new.note) }
-        ensures grown { IsGrown result (S.seen store.old) next.old next.new (S.seen store.new) }
-        ensures counted { (S.seen store.new).faults ≡ after_flush result (S.seen store.old).faults }
-        ensures spent { IsErrOf result FlushFault.NumbersSpent → next.new ≡ greatest }
+        ensures puts { ArePut result chunks.old chunks.new }
+        ensures counted { chunks.new.seen.faults ≡ after_flush result chunks.old.seen.faults }
+        ensures spent { IsErrOf result FlushFault.NumbersSpent → chunks.new.next ≡ greatest }
     {
         let written = match &self.location {
             Location::InStore(_) => return Ok(()),
-            Location::Here(entries) => write_entries(alloc, store, labels, entries, next)?,
+            Location::Here(entries) => write_entries(chunks, labels, entries)?,
         };
         self.location = Location::InStore(written);
         Ok(())
@@ -144,47 +142,45 @@ impl Part {
     // Whether a store has the entry in this part.
     pub(crate) fn has_there<S: Store>(
         &self,
-        alloc: Global,
-        store: &mut S,
+        chunks: &mut ChunkStore<S>,
         entry: &Entry,
     ) -> Result<bool, ReadFault>
         requires { IsPart entry.now.labels self.now }
-        ensures looked { Looked (S.seen store.old) (S.seen store.new) }
-        ensures counted { (S.seen store.new).faults ≡ after_read result (S.seen store.old).faults }
-        ensures unread { IsOutside entry.now.timestamp entry.now.timestamp self.now → S.seen store.new ≡ S.seen store.old }
+        ensures reads { Reads chunks.old chunks.new }
+        ensures counted { chunks.new.seen.faults ≡ after_read result chunks.old.seen.faults }
+        ensures unread { IsOutside entry.now.timestamp entry.now.timestamp self.now → chunks.new ≡ chunks.old }
         ensures exact { IsOutside entry.now.timestamp entry.now.timestamp self.now → result ≡ Ok false }
         ensures yes { IfOk result (λ found. found ≡ true → IsWith entry.now self.now) }
         ensures no { IfOk result (λ found. found ≡ false → IsWithout entry.now self.now) }
-        ensures right { (next : ℕ) → IsKept (S.seen store.old) next entry.now.labels self.now → (S.seen store.old).honest ≡ true → Right result (λ found. IsTrue found ↔ Contains (in_store self.now) entry.now) }
+        ensures right { IsKept chunks.old entry.now.labels self.now → chunks.old.seen.honest ≡ true → Right result (λ found. IsTrue found ↔ Contains (in_store self.now) entry.now) }
     {
         match &self.location {
             Location::Here(_) => Ok(false),
-            Location::InStore(written) => has_written(alloc, store, written, entry),
+            Location::InStore(written) => has_written(chunks, written, entry),
         }
     }
 
     // Visits the entries of the range.
     pub(crate) fn visit_lines<S: Store, T: Visitor>(
         &self,
-        alloc: Global,
-        store: &mut S,
+        chunks: &mut ChunkStore<S>,
         labels: &Labels,
         from: Ns,
         to: Ns,
         visitor: &mut T,
     ) -> Result<(), ReadFault>
         requires { IsPart labels.now self.now }
-        ensures looked { Looked (S.seen store.old) (S.seen store.new) }
-        ensures counted { (S.seen store.new).faults ≡ after_read result (S.seen store.old).faults }
-        ensures unread { IsOutside from to self.now → S.seen store.new ≡ S.seen store.old }
+        ensures reads { Reads chunks.old chunks.new }
+        ensures counted { chunks.new.seen.faults ≡ after_read result chunks.old.seen.faults }
+        ensures unread { IsOutside from to self.now → chunks.new ≡ chunks.old }
         ensures visited { IsOutside from to self.now → OnOk result (visitor.new ≡ fold T.visiting visitor.old (visited_in_range from to self.now.entries)) }
         ensures piece { OnOk result (IsVisited T.visiting labels.now from to (self.now ∷ []) visitor.old visitor.new) }
-        ensures right { (next : ℕ) → IsKept (S.seen store.old) next labels.now self.now → (S.seen store.old).honest ≡ true → Right result (λ _. visitor.new ≡ fold T.visiting visitor.old (visited_in_range from to self.now.entries)) }
+        ensures right { IsKept chunks.old labels.now self.now → chunks.old.seen.honest ≡ true → Right result (λ _. visitor.new ≡ fold T.visiting visitor.old (visited_in_range from to self.now.entries)) }
     {
         match &self.location {
             Location::Here(entries) => visit_all(labels, entries.as_slice(), from, to, visitor)?,
             Location::InStore(written) => {
-                return visit_written(alloc, store, written, labels, from, to, visitor);
+                return visit_written(chunks, written, labels, from, to, visitor);
             }
         }
         Ok(())
@@ -194,28 +190,23 @@ impl Part {
     // covered; what is left of it is put into the store under the next number.
     pub(crate) fn rewrite<S: Store, C: Covers>(
         &self,
-        alloc: Global,
-        store: &mut S,
+        chunks: &mut ChunkStore<S>,
         covered: &C,
         labels: &Labels,
-        next: &mut u64,
     ) -> Result<Change, RewriteFault>
         requires { IsPart labels.now self.now }
-        ensures rewritten { IfOk result (λ change. AreRewritten (C.covers covered.now) labels.now (self.now ∷ []) next.old (S.seen store.old) (left_by self.now change) (gone_by self.now change) next.new (S.seen store.new)) }
-        ensures undamaged { IsKept (S.seen store.old) next.old labels.now self.now → (S.seen store.old).honest ≡ true → IsErrOf result RewriteFault.Damaged → ⊥ }
-        ensures next { next.old ≤ next.new }
-        ensures grown { IsGrown result (S.seen store.old) next.old next.new (S.seen store.new) }
-        ensures counted { (S.seen store.new).faults ≡ after_rewrite result (S.seen store.old).faults }
-        ensures spent { IsErrOf result RewriteFault.NumbersSpent → next.new ≡ greatest }
+        ensures rewritten { IfOk result (λ change. AreRewritten (C.covers covered.now) labels.now (self.now ∷ []) chunks.old (left_by self.now change) (gone_by self.now change) chunks.new) }
+        ensures undamaged { IsKept chunks.old labels.now self.now → chunks.old.seen.honest ≡ true → IsErrOf result RewriteFault.Damaged → ⊥ }
+        ensures puts { ArePut result chunks.old chunks.new }
+        ensures counted { chunks.new.seen.faults ≡ after_rewrite result chunks.old.seen.faults }
+        ensures spent { IsErrOf result RewriteFault.NumbersSpent → chunks.new.next ≡ greatest }
     {
         match &self.location {
             Location::Here(entries) => {
-                let change = rewrite_here(alloc, covered, entries.as_slice())?;
+                let change = rewrite_here(*chunks.allocator(), covered, entries.as_slice())?;
                 Ok(change)
             }
-            Location::InStore(written) => rewrite_written(
-                alloc, store, covered, labels, written, next,
-            ),
+            Location::InStore(written) => rewrite_written(chunks, covered, labels, written),
         }
     }
 }

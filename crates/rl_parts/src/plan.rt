@@ -4,16 +4,17 @@ ghost use Rattle.std.specs.Prelude.{◌≡◌, ◌+◌, ◌<◌, ◌≤◌, ◌^
 ghost use Rattle.std.specs.List.{AllByRecursion};
 ghost use Rattle.rl_chunks.specs.StoreState.{greatest};
 ghost use Rattle.rl_parts.specs.Rewriting.{AreRewritten, IsOneMore, after_rewrite, carried, entries_in, gone_by, left_by};
-ghost use Rattle.rl_parts.specs.StoreUse.{IsGrown, IsKept};
+ghost use Rattle.rl_parts.specs.StoreUse.{ArePut, IsKept};
 ghost use Rattle.rl_parts.specs.StreamParts.{IsPart};
 
+use crate::chunk_store::ChunkStore;
 use crate::fault::RewriteFault;
 use crate::part::Part;
 use crate::stored::StoredEntry;
 use crate::stream::Stream;
 use rl_chunks::Store;
 use rl_labels::{Covers, Labels, Ns};
-use std::alloc::{AllocError, Global};
+use std::alloc::AllocError;
 use std::marker::Model;
 use std::snapshot::Snapshot;
 
@@ -23,6 +24,13 @@ pub(crate) enum Change {
     Stays,
     Goes,
     Becomes(Part),
+}
+
+// What becomes of parts in turn, and the numbers that are gone.
+#[derive(Drop)]
+pub(crate) struct Changes {
+    pub(crate) of_parts: Vec<Change>,
+    pub(crate) gone: Vec<u64>,
 }
 
 /// What a stream becomes without covered entries, with all that this takes. Contracts see the stream, what it becomes, and the
@@ -68,61 +76,48 @@ fn push_gone(gone: &mut Vec<u64>, part: &Part, change: &Change) -> Result<(), Al
 
 // Plans one part more.
 fn plan_part<S: Store, C: Covers>(
-    alloc: Global,
-    store: &mut S,
+    chunks: &mut ChunkStore<S>,
     covered: &C,
     labels: &Labels,
     part: &Part,
-    changes: &mut Vec<Change>,
-    gone: &mut Vec<u64>,
-    next: &mut u64,
+    changes: &mut Changes,
 ) -> Result<(), RewriteFault>
     requires { IsPart labels.now part.now }
-    ensures more { OnOk result (IsOneMore (C.covers covered.now) labels.now part.now next.old (S.seen store.old) next.new (S.seen store.new) changes.old.items changes.new.items gone.old.items gone.new.items) }
-    ensures undamaged { IsKept (S.seen store.old) next.old labels.now part.now → (S.seen store.old).honest ≡ true → IsErrOf result RewriteFault.Damaged → ⊥ }
-    ensures next { next.old ≤ next.new }
-    ensures grown { IsGrown result (S.seen store.old) next.old next.new (S.seen store.new) }
-    ensures counted { (S.seen store.new).faults ≡ after_rewrite result (S.seen store.old).faults }
-    ensures spent { IsErrOf result RewriteFault.NumbersSpent → next.new ≡ greatest }
+    ensures more { OnOk result (IsOneMore (C.covers covered.now) labels.now part.now chunks.old chunks.new changes.old changes.new) }
+    ensures undamaged { IsKept chunks.old labels.now part.now → chunks.old.seen.honest ≡ true → IsErrOf result RewriteFault.Damaged → ⊥ }
+    ensures puts { ArePut result chunks.old chunks.new }
+    ensures counted { chunks.new.seen.faults ≡ after_rewrite result chunks.old.seen.faults }
+    ensures spent { IsErrOf result RewriteFault.NumbersSpent → chunks.new.next ≡ greatest }
 {
-    let change = part.rewrite(alloc, store, covered, labels, next)?;
-    push_gone(gone, part, &change)?;
-    changes.push(change)?;
+    let change = part.rewrite(chunks, covered, labels)?;
+    push_gone(&mut changes.gone, part, &change)?;
+    changes.of_parts.push(change)?;
     Ok(())
 }
 
-// What becomes of each part in turn, and the numbers that are gone.
+// What becomes of each part in turn.
 pub(crate) fn plan_parts<S: Store, C: Covers>(
-    alloc: Global,
-    store: &mut S,
+    chunks: &mut ChunkStore<S>,
     covered: &C,
     labels: &Labels,
     parts: &[Part],
-    next: &mut u64,
-) -> Result<(Vec<Change>, Vec<u64>), RewriteFault>
+) -> Result<Changes, RewriteFault>
     requires { AllByRecursion (IsPart labels.now) parts.now }
-    ensures rewritten { IfOk result (λ found. AreRewritten (C.covers covered.now) labels.now parts.now next.old (S.seen store.old) (carried parts.now found.0.items) found.1.items next.new (S.seen store.new)) }
-    ensures undamaged { AllByRecursion (IsKept (S.seen store.old) next.old labels.now) parts.now → (S.seen store.old).honest ≡ true → IsErrOf result RewriteFault.Damaged → ⊥ }
-    ensures next { next.old ≤ next.new }
-    ensures grown { IsGrown result (S.seen store.old) next.old next.new (S.seen store.new) }
-    ensures counted { (S.seen store.new).faults ≡ after_rewrite result (S.seen store.old).faults }
-    ensures spent { IsErrOf result RewriteFault.NumbersSpent → next.new ≡ greatest }
+    ensures rewritten { IfOk result (λ changes. AreRewritten (C.covers covered.now) labels.now parts.now chunks.old (carried parts.now changes.of_parts.items) changes.gone.items chunks.new) }
+    ensures undamaged { AllByRecursion (IsKept chunks.old labels.now) parts.now → chunks.old.seen.honest ≡ true → IsErrOf result RewriteFault.Damaged → ⊥ }
+    ensures puts { ArePut result chunks.old chunks.new }
+    ensures counted { chunks.new.seen.faults ≡ after_rewrite result chunks.old.seen.faults }
+    ensures spent { IsErrOf result RewriteFault.NumbersSpent → chunks.new.next ≡ greatest }
 {
-    let mut changes = Vec::new(alloc);
-    let mut gone = Vec::new(alloc);
+    let alloc = *chunks.allocator();
+    let mut changes = Changes {
+        of_parts: Vec::new(alloc),
+        gone: Vec::new(alloc),
+    };
     for part in parts {
-        plan_part(
-            alloc,
-            store,
-            covered,
-            labels,
-            part,
-            &mut changes,
-            &mut gone,
-            next,
-        )?;
+        plan_part(chunks, covered, labels, part, &mut changes)?;
     }
-    Ok((changes, gone))
+    Ok(changes)
 }
 
 // Appends what is left of a part. There is room for it.

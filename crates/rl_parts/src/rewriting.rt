@@ -1,5 +1,5 @@
 //! Removing covered entries from the entries of a part.
-ghost use Rattle.std.specs.Prelude.{◌≡◌, ◌<◌, ◌≤◌, ◌++◌, ◌∷◌, [], IsTrue, IfOk, IsErrOf, List, OnOk, length, map, true, ℕ};
+ghost use Rattle.std.specs.Prelude.{◌≡◌, ◌<◌, ◌≤◌, ◌++◌, ◌∷◌, [], IsTrue, IfOk, IsErrOf, List, OnOk, length, map, true};
 ghost use Rattle.std.specs.List.{All};
 ghost use Rattle.rl_labels.specs.EntryParts.{is_stream, longest_line};
 ghost use Rattle.rl_labels.specs.LabelSet.{LabelSet};
@@ -11,12 +11,12 @@ ghost use Rattle.rl_parts.specs.Fingerprints.{AreFingerprints};
 ghost use Rattle.rl_parts.specs.PartState.{IsRange, part_at};
 ghost use Rattle.rl_parts.specs.Reading.{IsReadAs};
 ghost use Rattle.rl_parts.specs.Rewriting.{AreOfLines, AreRewritten, IsChangedHere, after_rewrite, gone_by, left_by, uncovered};
-ghost use Rattle.rl_parts.specs.StoreUse.{IsGrown, IsNoteOf, Looked, Right, after_read};
-ghost use Rattle.rl_parts.specs.StreamParts.{IsPart, chunk_of, unwritten};
+ghost use Rattle.rl_parts.specs.StoreUse.{ArePut, IsKept, Reads, Right, after_read};
+ghost use Rattle.rl_parts.specs.StreamParts.{IsPart, unwritten};
 ghost use Rattle.rl_parts.specs.declared.part.Location.TheVariants.{InStore};
 
+use crate::chunk_store::ChunkStore;
 use crate::fault::{ReadFault, RewriteFault};
-use crate::fetching::fetch;
 use crate::flushing::write_entries;
 use crate::part::{Part, Written};
 use crate::plan::Change;
@@ -121,18 +121,17 @@ fn are_of_part(lines: &[Line], many: usize, last: Ns) -> bool
 
 // The lines of a written part, read again. Bytes that are more or fewer lines, or newer ones, were not put.
 fn read_again<S: Store>(
-    alloc: Global,
-    store: &mut S,
+    chunks: &mut ChunkStore<S>,
     written: &Written,
 ) -> Result<Vec<Line>, ReadFault>
     ensures found { IfOk result (λ lines. (chunk : Chunk) × IsReadAs written.now.digest chunk × (lines.items ≡ chunk.lines)) }
     ensures many { IfOk result (λ lines. length lines.items ≡ length written.now.fingerprints) }
     ensures old { IfOk result (λ lines. All (λ line. line.timestamp ≤ written.now.last) lines.items) }
-    ensures looked { Looked (S.seen store.old) (S.seen store.new) }
-    ensures counted { (S.seen store.new).faults ≡ after_read result (S.seen store.old).faults }
-    ensures right { (labels : LabelSet) (next : ℕ) → IsPart labels (unwritten written.now.entries.value) → IsRange written.now.entries.value written.now.first written.now.last → AreFingerprints written.now.entries.value written.now.fingerprints → IsNoteOf (S.seen store.old) next (chunk_of labels written.now.entries.value) (record { number = written.now.number; digest = written.now.digest }) → (S.seen store.old).honest ≡ true → Right result (λ lines. lines.items ≡ map line_of written.now.entries.value) }
+    ensures reads { Reads chunks.old chunks.new }
+    ensures counted { chunks.new.seen.faults ≡ after_read result chunks.old.seen.faults }
+    ensures right { (labels : LabelSet) → IsPart labels (unwritten written.now.entries.value) → IsRange written.now.entries.value written.now.first written.now.last → AreFingerprints written.now.entries.value written.now.fingerprints → IsKept chunks.old labels (part_at (InStore written.now)) → chunks.old.seen.honest ≡ true → Right result (λ lines. lines.items ≡ map line_of written.now.entries.value) }
 {
-    let chunk = fetch(alloc, store, written.number, &written.digest)?;
+    let chunk = chunks.fetch(written.number, &written.digest)?;
     if !are_of_part(
         chunk.lines.as_slice(),
         written.fingerprints.len(),
@@ -145,29 +144,26 @@ fn read_again<S: Store>(
 
 // What becomes of a written part. It is read only where an entry of its range of time may be covered.
 pub(crate) fn rewrite_written<S: Store, C: Covers>(
-    alloc: Global,
-    store: &mut S,
+    chunks: &mut ChunkStore<S>,
     covered: &C,
     labels: &Labels,
     written: &Written,
-    next: &mut u64,
 ) -> Result<Change, RewriteFault>
     requires part { IsPart labels.now (unwritten written.now.entries.value) }
     requires range { IsRange written.now.entries.value written.now.first written.now.last }
     requires fingerprints { AreFingerprints written.now.entries.value written.now.fingerprints }
-    ensures rewritten { IfOk result (λ change. AreRewritten (C.covers covered.now) labels.now (part_at (InStore written.now) ∷ []) next.old (S.seen store.old) (left_by (part_at (InStore written.now)) change) (gone_by (part_at (InStore written.now)) change) next.new (S.seen store.new)) }
-    ensures undamaged { IsNoteOf (S.seen store.old) next.old (chunk_of labels.now written.now.entries.value) (record { number = written.now.number; digest = written.now.digest }) → (S.seen store.old).honest ≡ true → IsErrOf result RewriteFault.Damaged → ⊥ }
-    ensures next { next.old ≤ next.new }
-    ensures grown { IsGrown result (S.seen store.old) next.old next.new (S.seen store.new) }
-    ensures counted { (S.seen store.new).faults ≡ after_rewrite result (S.seen store.old).faults }
-    ensures spent { IsErrOf result RewriteFault.NumbersSpent → next.new ≡ greatest }
+    ensures rewritten { IfOk result (λ change. AreRewritten (C.covers covered.now) labels.now (part_at (InStore written.now) ∷ []) chunks.old (left_by (part_at (InStore written.now)) change) (gone_by (part_at (InStore written.now)) change) chunks.new) }
+    ensures undamaged { IsKept chunks.old labels.now (part_at (InStore written.now)) → chunks.old.seen.honest ≡ true → IsErrOf result RewriteFault.Damaged → ⊥ }
+    ensures puts { ArePut result chunks.old chunks.new }
+    ensures counted { chunks.new.seen.faults ≡ after_rewrite result chunks.old.seen.faults }
+    ensures spent { IsErrOf result RewriteFault.NumbersSpent → chunks.new.next ≡ greatest }
 {
     if !covered.may_cover(labels, written.first, written.last)? {
         return Ok(Change::Stays);
     }
-    let lines = read_again(alloc, store, written)?;
+    let lines = read_again(chunks, written)?;
     let many = lines.len();
-    let left = uncovered_lines(alloc, covered, labels, lines)?;
+    let left = uncovered_lines(*chunks.allocator(), covered, labels, lines)?;
     if left.len() == many {
         return Ok(Change::Stays);
     }
@@ -175,6 +171,6 @@ pub(crate) fn rewrite_written<S: Store, C: Covers>(
         return Ok(Change::Goes);
     }
     let left = PlainList::from_vec(left);
-    let written = write_entries(alloc, store, labels, &left, next)?;
+    let written = write_entries(chunks, labels, &left)?;
     Ok(Change::Becomes(Part::kept(written)))
 }

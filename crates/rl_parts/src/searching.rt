@@ -1,24 +1,24 @@
 //! Whether a stream has an entry.
-ghost use Rattle.std.specs.Prelude.{◌≡◌, ℕ, ◌<◌, ◌≤◌, ◌⊎◌, true, false, IsTrue, ◌↔◌, IfOk, Ok};
+ghost use Rattle.std.specs.Prelude.{◌≡◌, ◌<◌, ◌≤◌, ◌⊎◌, true, false, IsTrue, ◌↔◌, IfOk, Ok};
 ghost use Rattle.std.specs.Option.{unwrap_or};
 ghost use Rattle.std.specs.List.{AllByRecursion, Contains, flat_map};
 ghost use Rattle.rl_chunks.specs.EntryLines.{line_of};
-ghost use Rattle.rl_parts.specs.StreamParts.{PartView, IsPart, IsRun, unwritten, chunk_of};
+ghost use Rattle.rl_parts.specs.StreamParts.{PartView, IsPart, IsRun, unwritten};
 ghost use Rattle.rl_chunks.specs.declared.chunk.Chunk.{Chunk};
 ghost use Rattle.rl_parts.specs.Fingerprints.{AreFingerprints};
-ghost use Rattle.rl_parts.specs.PartState.{IsRange};
-ghost use Rattle.rl_parts.specs.StoreUse.{Looked, IsKept, IsNoteOf, Right, after_read};
+ghost use Rattle.rl_parts.specs.PartState.{IsRange, part_at};
+ghost use Rattle.rl_parts.specs.declared.part.Location.TheVariants.{InStore};
+ghost use Rattle.rl_parts.specs.StoreUse.{Reads, IsKept, Right, after_read};
 ghost use Rattle.rl_parts.specs.Reading.{IsApart, IsOutside, IsReadAs, IsWith, IsWithout, in_memory, in_store};
 
+use crate::chunk_store::ChunkStore;
 use crate::fault::ReadFault;
-use crate::fetching::fetch;
 use crate::fingerprints::{fingerprint_of, has_fingerprint};
 use crate::part::{Part, Written};
 use crate::sealing::search;
 use crate::stored::StoredEntry;
 use rl_chunks::{Line, Store};
 use rl_labels::{Entry, Ns};
-use std::alloc::Global;
 
 // Whether entries in order have this one.
 pub(crate) fn has_entry(entries: &[StoredEntry], entry: &Entry) -> bool
@@ -86,26 +86,25 @@ fn may_have(written: &Written, entry: &Entry) -> bool
 // Whether the entry is among those that a store has of a part. The store is read only where the part's range of time has
 // the entry's timestamp, and one of its entries the same fingerprint.
 pub(crate) fn has_written<S: Store>(
-    alloc: Global,
-    store: &mut S,
+    chunks: &mut ChunkStore<S>,
     written: &Written,
     entry: &Entry,
 ) -> Result<bool, ReadFault>
     requires part { IsPart entry.now.labels (unwritten written.now.entries.value) }
     requires range { IsRange written.now.entries.value written.now.first written.now.last }
     requires fingerprints { AreFingerprints written.now.entries.value written.now.fingerprints }
-    ensures looked { Looked (S.seen store.old) (S.seen store.new) }
-    ensures counted { (S.seen store.new).faults ≡ after_read result (S.seen store.old).faults }
-    ensures unread { IsApart entry.now.timestamp entry.now.timestamp written.now.entries.value → S.seen store.new ≡ S.seen store.old }
+    ensures reads { Reads chunks.old chunks.new }
+    ensures counted { chunks.new.seen.faults ≡ after_read result chunks.old.seen.faults }
+    ensures unread { IsApart entry.now.timestamp entry.now.timestamp written.now.entries.value → chunks.new ≡ chunks.old }
     ensures exact { IsApart entry.now.timestamp entry.now.timestamp written.now.entries.value → result ≡ Ok false }
     ensures yes { IfOk result (λ found. found ≡ true → (chunk : Chunk) × IsReadAs written.now.digest chunk × Contains chunk.lines (line_of entry.now)) }
     ensures no { IfOk result (λ found. found ≡ false → (Contains written.now.entries.value entry.now → ⊥) ⊎ ((chunk : Chunk) × IsReadAs written.now.digest chunk × (Contains chunk.lines (line_of entry.now) → ⊥))) }
-    ensures right { (next : ℕ) → IsNoteOf (S.seen store.old) next (chunk_of entry.now.labels written.now.entries.value) (record { number = written.now.number; digest = written.now.digest }) → (S.seen store.old).honest ≡ true → Right result (λ found. IsTrue found ↔ Contains written.now.entries.value entry.now) }
+    ensures right { IsKept chunks.old entry.now.labels (part_at (InStore written.now)) → chunks.old.seen.honest ≡ true → Right result (λ found. IsTrue found ↔ Contains written.now.entries.value entry.now) }
 {
     if !may_have(written, entry) {
         return Ok(false);
     }
-    let chunk = fetch(alloc, store, written.number, &written.digest)?;
+    let chunk = chunks.fetch(written.number, &written.digest)?;
     Ok(has_line(chunk.lines.as_slice(), entry))
 }
 
@@ -124,22 +123,21 @@ pub(crate) fn any_here(parts: &[Part], entry: &Entry) -> bool
 
 // Whether a store has the entry in a part.
 pub(crate) fn any_there<S: Store>(
-    alloc: Global,
-    store: &mut S,
+    chunks: &mut ChunkStore<S>,
     parts: &[Part],
     entry: &Entry,
 ) -> Result<bool, ReadFault>
     requires { AllByRecursion (IsPart entry.now.labels) parts.now }
-    ensures looked { Looked (S.seen store.old) (S.seen store.new) }
-    ensures counted { (S.seen store.new).faults ≡ after_read result (S.seen store.old).faults }
-    ensures unread { AllByRecursion (IsOutside entry.now.timestamp entry.now.timestamp) parts.now → S.seen store.new ≡ S.seen store.old }
+    ensures reads { Reads chunks.old chunks.new }
+    ensures counted { chunks.new.seen.faults ≡ after_read result chunks.old.seen.faults }
+    ensures unread { AllByRecursion (IsOutside entry.now.timestamp entry.now.timestamp) parts.now → chunks.new ≡ chunks.old }
     ensures exact { AllByRecursion (IsOutside entry.now.timestamp entry.now.timestamp) parts.now → result ≡ Ok false }
     ensures yes { IfOk result (λ found. found ≡ true → (part : PartView) × Contains parts.now part × IsWith entry.now part) }
     ensures no { IfOk result (λ found. found ≡ false → AllByRecursion (IsWithout entry.now) parts.now) }
-    ensures right { (next : ℕ) → AllByRecursion (IsKept (S.seen store.old) next entry.now.labels) parts.now → (S.seen store.old).honest ≡ true → Right result (λ found. IsTrue found ↔ Contains (flat_map in_store parts.now) entry.now) }
+    ensures right { AllByRecursion (IsKept chunks.old entry.now.labels) parts.now → chunks.old.seen.honest ≡ true → Right result (λ found. IsTrue found ↔ Contains (flat_map in_store parts.now) entry.now) }
 {
     for part in parts {
-        if part.has_there(alloc, store, entry)? {
+        if part.has_there(chunks, entry)? {
             return Ok(true);
         }
     }

@@ -1,6 +1,7 @@
 //! One stream as its parts.
-ghost use Rattle.std.specs.Prelude.{◌≡◌, ℕ, ◌+◌, ◌<◌, ◌≤◌, ◌^◌, max, true, false, [], ◌∷◌, length, IsTrue, ◌↔◌, Ok, OnOk, OnErr, IfOk, IsErrOf, MatchResult};
+ghost use Rattle.std.specs.Prelude.{◌≡◌, ◌+◌, ◌<◌, ◌≤◌, ◌^◌, max, true, false, [], ◌∷◌, length, IsTrue, ◌↔◌, Ok, OnOk, OnErr, IfOk, IsErrOf, MatchResult};
 
+use crate::chunk_store::ChunkStore;
 use crate::fault::{FlushFault, ReadFault, RewriteFault};
 use crate::flushing::write_parts;
 use crate::part::Part;
@@ -52,7 +53,7 @@ impl Stream {
     ghost use Rattle.std.specs.List.{All, Contains, fold};
     ghost use Rattle.rl_chunks.specs.StoreState.{greatest};
     ghost use Rattle.rl_parts.specs.StreamParts.{entries_of, most_entries};
-    ghost use Rattle.rl_parts.specs.StoreUse.{Looked, IsGrown, AreKept, Right, after_read, after_flush};
+    ghost use Rattle.rl_parts.specs.StoreUse.{Reads, ArePut, AreKept, Right, after_read, after_flush};
     ghost use Rattle.rl_parts.specs.Reading.{NoneReaches, IsFoundIn, IsMissingIn, IsVisited, entries_here, visited_in_range};
     ghost use Rattle.rl_parts.specs.Changes.{IsStarted, IsInserted, IsHeld, AreSealed, AreNoted, sealed_parts, unwritten_count};
     ghost use Rattle.rl_parts.specs.Rewriting.{AreLeft, AreRenumbered, after_rewrite, note_numbers, uncovered};
@@ -152,25 +153,20 @@ impl Stream {
 
     /// Writes each part that no store has, in order, under the numbers from the next on, and lets their lines go. What
     /// was written before a fault stays written. The greatest number is never given.
-    pub fn flush<S: Store>(
-        &mut self,
-        alloc: Global,
-        store: &mut S,
-        next: &mut u64,
-    ) -> Result<(), FlushFault>
+    pub fn flush<S: Store>(&mut self, chunks: &mut ChunkStore<S>) -> Result<(), FlushFault>
         ensures labels { self.new.labels ≡ self.old.labels }
         ensures newest { self.new.newest ≡ self.old.newest }
         ensures head { self.new.head ≡ self.old.head }
         ensures entries { entries_of self.new ≡ entries_of self.old }
-        ensures parts { AreNoted self.old.parts next.old self.new.parts next.new }
-        ensures counted_parts { next.new + unwritten_count self.new.parts ≡ next.old + unwritten_count self.old.parts }
+        ensures parts { AreNoted self.old.parts chunks.old.next self.new.parts chunks.new.next }
+        ensures counted_parts { chunks.new.next + unwritten_count self.new.parts ≡ chunks.old.next + unwritten_count self.old.parts }
         ensures all { OnOk result (unwritten_count self.new.parts ≡ 0) }
-        ensures kept { AreKept (S.seen store.old) next.old self.old → AreKept (S.seen store.new) next.new self.new }
-        ensures grown { IsGrown result (S.seen store.old) next.old next.new (S.seen store.new) }
-        ensures counted { (S.seen store.new).faults ≡ after_flush result (S.seen store.old).faults }
-        ensures spent { IsErrOf result FlushFault.NumbersSpent → next.new ≡ greatest }
+        ensures kept { AreKept chunks.old self.old → AreKept chunks.new self.new }
+        ensures puts { ArePut result chunks.old chunks.new }
+        ensures counted { chunks.new.seen.faults ≡ after_flush result chunks.old.seen.faults }
+        ensures spent { IsErrOf result FlushFault.NumbersSpent → chunks.new.next ≡ greatest }
     {
-        write_parts(alloc, store, &self.labels, &mut self.parts, next)
+        write_parts(chunks, &self.labels, &mut self.parts)
     }
 
     /// Whether the stream has an entry with its labels. Entries in memory are found first, whatever the store does. A part
@@ -178,21 +174,20 @@ impl Stream {
     /// entries the same fingerprint, a hash of the line.
     pub fn holds<S: Store>(
         &self,
-        alloc: Global,
-        store: &mut S,
+        chunks: &mut ChunkStore<S>,
         entry: &Entry,
     ) -> Result<bool, ReadFault>
         requires { entry.now.labels ≡ self.now.labels }
-        ensures looked { Looked (S.seen store.old) (S.seen store.new) }
-        ensures counted { (S.seen store.new).faults ≡ after_read result (S.seen store.old).faults }
-        ensures here { Contains (entries_here self.now) entry.now → (result ≡ Ok true) × (S.seen store.new ≡ S.seen store.old) }
-        ensures unread { NoneReaches entry.now.timestamp entry.now.timestamp self.now → S.seen store.new ≡ S.seen store.old }
+        ensures reads { Reads chunks.old chunks.new }
+        ensures counted { chunks.new.seen.faults ≡ after_read result chunks.old.seen.faults }
+        ensures here { Contains (entries_here self.now) entry.now → (result ≡ Ok true) × (chunks.new ≡ chunks.old) }
+        ensures unread { NoneReaches entry.now.timestamp entry.now.timestamp self.now → chunks.new ≡ chunks.old }
         // Where no such part has the timestamp the answer is right, whatever the store does.
         ensures exact { NoneReaches entry.now.timestamp entry.now.timestamp self.now → MatchResult result (λ found. IsTrue found ↔ Contains (entries_of self.now) entry.now) (λ _. ⊥) }
         // What is answered of a part that a store has follows from bytes with the digest, whatever the store does.
         ensures yes { IfOk result (λ found. found ≡ true → IsFoundIn entry.now self.now) }
         ensures no { IfOk result (λ found. found ≡ false → IsMissingIn entry.now self.now) }
-        ensures right { (next : ℕ) → AreKept (S.seen store.old) next self.now → (S.seen store.old).honest ≡ true → Right result (λ found. IsTrue found ↔ Contains (entries_of self.now) entry.now) }
+        ensures right { AreKept chunks.old self.now → chunks.old.seen.honest ≡ true → Right result (λ found. IsTrue found ↔ Contains (entries_of self.now) entry.now) }
     {
         if has_entry(&self.head, entry) {
             return Ok(true);
@@ -203,28 +198,27 @@ impl Stream {
         if any_here(&self.parts, entry) {
             return Ok(true);
         }
-        any_there(alloc, store, &self.parts, entry)
+        any_there(chunks, &self.parts, entry)
     }
 
     /// Visits the entries of a range of time, both ends included, each once: part by part, and then the head. A part
     /// that a store has is read only where its range of time reaches into the range.
     pub fn each<S: Store, T: Visitor>(
         &self,
-        alloc: Global,
-        store: &mut S,
+        chunks: &mut ChunkStore<S>,
         from: Ns,
         to: Ns,
         visitor: &mut T,
     ) -> Result<(), ReadFault>
-        ensures looked { Looked (S.seen store.old) (S.seen store.new) }
-        ensures counted { (S.seen store.new).faults ≡ after_read result (S.seen store.old).faults }
-        ensures unread { NoneReaches from to self.now → S.seen store.new ≡ S.seen store.old }
+        ensures reads { Reads chunks.old chunks.new }
+        ensures counted { chunks.new.seen.faults ≡ after_read result chunks.old.seen.faults }
+        ensures unread { NoneReaches from to self.now → chunks.new ≡ chunks.old }
         ensures visited { NoneReaches from to self.now → OnOk result (visitor.new ≡ fold T.visiting visitor.old (visited_in_range from to (entries_of self.now))) }
         // What is visited of a part that a store has follows from bytes with the digest, whatever the store does.
         ensures pieces { OnOk result ((mid : T) × IsVisited T.visiting self.now.labels from to self.now.parts visitor.old mid × (visitor.new ≡ fold T.visiting mid (visited_in_range from to self.now.head))) }
-        ensures right { (next : ℕ) → AreKept (S.seen store.old) next self.now → (S.seen store.old).honest ≡ true → Right result (λ _. visitor.new ≡ fold T.visiting visitor.old (visited_in_range from to (entries_of self.now))) }
+        ensures right { AreKept chunks.old self.now → chunks.old.seen.honest ≡ true → Right result (λ _. visitor.new ≡ fold T.visiting visitor.old (visited_in_range from to (entries_of self.now))) }
     {
-        visit_parts(alloc, store, &self.labels, &self.parts, from, to, visitor)?;
+        visit_parts(chunks, &self.labels, &self.parts, from, to, visitor)?;
         visit_all(&self.labels, &self.head, from, to, visitor)?;
         Ok(())
     }
@@ -234,10 +228,8 @@ impl Stream {
     /// stays there unused. The greatest number is never given.
     pub fn plan<S: Store, C: Covers>(
         &self,
-        alloc: Global,
-        store: &mut S,
+        chunks: &mut ChunkStore<S>,
         covered: &C,
-        next: &mut u64,
     ) -> Result<Plan, RewriteFault>
         ensures of { IfOk result (λ plan. plan.of ≡ self.now) }
         ensures labels { IfOk result (λ plan. plan.becomes.labels ≡ self.now.labels) }
@@ -247,25 +239,25 @@ impl Stream {
         // What is left of a part that a store has follows from bytes with the digest, whatever the store does.
         ensures parts { IfOk result (λ plan. AreLeft (C.covers covered.now) self.now.labels self.now.parts plan.becomes.parts) }
         ensures fewer { IfOk result (λ plan. length (entries_of plan.becomes) ≤ length (entries_of self.now)) }
-        ensures numbers { IfOk result (λ plan. AreRenumbered (note_numbers self.now.parts) next.old next.new (note_numbers plan.becomes.parts) plan.gone) }
-        ensures kept { AreKept (S.seen store.old) next.old self.now → IfOk result (λ plan. AreKept (S.seen store.new) next.new plan.becomes) }
-        ensures right { (S.seen store.old).honest ≡ true → AreKept (S.seen store.old) next.old self.now → IfOk result (λ plan. entries_of plan.becomes ≡ uncovered (C.covers covered.now) (entries_of self.now)) }
-        ensures undamaged { (S.seen store.old).honest ≡ true → AreKept (S.seen store.old) next.old self.now → IsErrOf result RewriteFault.Damaged → ⊥ }
-        ensures next { next.old ≤ next.new }
-        ensures grown { IsGrown result (S.seen store.old) next.old next.new (S.seen store.new) }
-        ensures counted { (S.seen store.new).faults ≡ after_rewrite result (S.seen store.old).faults }
-        ensures spent { IsErrOf result RewriteFault.NumbersSpent → next.new ≡ greatest }
+        ensures numbers { IfOk result (λ plan. AreRenumbered (note_numbers self.now.parts) chunks.old.next chunks.new.next (note_numbers plan.becomes.parts) plan.gone) }
+        ensures kept { AreKept chunks.old self.now → IfOk result (λ plan. AreKept chunks.new plan.becomes) }
+        ensures right { chunks.old.seen.honest ≡ true → AreKept chunks.old self.now → IfOk result (λ plan. entries_of plan.becomes ≡ uncovered (C.covers covered.now) (entries_of self.now)) }
+        ensures undamaged { chunks.old.seen.honest ≡ true → AreKept chunks.old self.now → IsErrOf result RewriteFault.Damaged → ⊥ }
+        ensures puts { ArePut result chunks.old chunks.new }
+        ensures counted { chunks.new.seen.faults ≡ after_rewrite result chunks.old.seen.faults }
+        ensures spent { IsErrOf result RewriteFault.NumbersSpent → chunks.new.next ≡ greatest }
     {
+        let alloc = *chunks.allocator();
         let head = uncovered(alloc, covered, &self.head)?;
         let room = Vec::with_capacity(alloc, self.parts.len())?;
-        let (changes, gone) = plan_parts(alloc, store, covered, &self.labels, &self.parts, next)?;
+        let changes = plan_parts(chunks, covered, &self.labels, &self.parts)?;
         Ok(Plan {
             of: Snapshot::of(self),
-            changes,
+            changes: changes.of_parts,
             room,
             head,
             sealed_to: self.sealed_to,
-            gone,
+            gone: changes.gone,
         })
     }
 

@@ -1,22 +1,23 @@
 //! Lines of a range of time, visited.
-ghost use Rattle.std.specs.Prelude.{◌≡◌, ℕ, nat_le, ◌&&◌, ◌⊎◌, true, List, [], ◌∷◌, map, OnOk};
+ghost use Rattle.std.specs.Prelude.{◌≡◌, nat_le, ◌&&◌, ◌⊎◌, true, List, [], ◌∷◌, map, OnOk};
 ghost use Rattle.std.specs.List.{AllByRecursion, flat_map, fold};
-ghost use Rattle.rl_parts.specs.StreamParts.{IsPart, unwritten, chunk_of};
-ghost use Rattle.rl_parts.specs.PartState.{IsRange};
-ghost use Rattle.rl_parts.specs.StoreUse.{Looked, IsKept, IsNoteOf, Right, after_read};
+ghost use Rattle.rl_parts.specs.StreamParts.{IsPart, unwritten};
+ghost use Rattle.rl_parts.specs.PartState.{IsRange, part_at};
+ghost use Rattle.rl_parts.specs.declared.part.Location.TheVariants.{InStore};
+ghost use Rattle.rl_parts.specs.StoreUse.{Reads, IsKept, Right, after_read};
 ghost use Rattle.rl_parts.specs.Reading.{IsApart, IsOutside, IsReadAs, IsVisited, lines_in_range, visited_in_range};
 ghost use Rattle.rl_labels.specs.LabelSet.{LabelSet};
 ghost use Rattle.rl_chunks.specs.declared.chunk.Chunk.{Chunk};
 ghost use Rattle.rl_chunks.specs.declared.line.Line.{Line};
 
+use crate::chunk_store::ChunkStore;
 use crate::fault::ReadFault;
-use crate::fetching::fetch;
 use crate::part::{Part, Written};
 use crate::searching::is_outside;
 use crate::visitor::Visitor;
 use rl_chunks::{AsLine, Store};
 use rl_labels::{Labels, Ns};
-use std::alloc::{AllocError, Global};
+use std::alloc::AllocError;
 
 // Whether a timestamp is in a range, both ends included.
 fn is_within(from: Ns, to: Ns, timestamp: Ns) -> bool
@@ -60,8 +61,7 @@ pub(crate) fn visit_all<L: AsLine, T: Visitor>(
 
 // Visits what a store has of a part. The store is read only where the part's range of time reaches into the range.
 pub(crate) fn visit_written<S: Store, T: Visitor>(
-    alloc: Global,
-    store: &mut S,
+    chunks: &mut ChunkStore<S>,
     written: &Written,
     labels: &Labels,
     from: Ns,
@@ -70,25 +70,24 @@ pub(crate) fn visit_written<S: Store, T: Visitor>(
 ) -> Result<(), ReadFault>
     requires part { IsPart labels.now (unwritten written.now.entries.value) }
     requires range { IsRange written.now.entries.value written.now.first written.now.last }
-    ensures looked { Looked (S.seen store.old) (S.seen store.new) }
-    ensures counted { (S.seen store.new).faults ≡ after_read result (S.seen store.old).faults }
-    ensures unread { IsApart from to written.now.entries.value → S.seen store.new ≡ S.seen store.old }
+    ensures reads { Reads chunks.old chunks.new }
+    ensures counted { chunks.new.seen.faults ≡ after_read result chunks.old.seen.faults }
+    ensures unread { IsApart from to written.now.entries.value → chunks.new ≡ chunks.old }
     ensures visited { IsApart from to written.now.entries.value → OnOk result (visitor.new ≡ fold T.visiting visitor.old (visited_in_range from to written.now.entries.value)) }
     ensures piece { OnOk result ((piece : List (LabelSet × Line)) × ((IsApart from to written.now.entries.value × (piece ≡ [])) ⊎ ((chunk : Chunk) × IsReadAs written.now.digest chunk × (piece ≡ lines_in_range labels.now from to chunk.lines))) × (visitor.new ≡ fold T.visiting visitor.old piece)) }
-    ensures right { (next : ℕ) → IsNoteOf (S.seen store.old) next (chunk_of labels.now written.now.entries.value) (record { number = written.now.number; digest = written.now.digest }) → (S.seen store.old).honest ≡ true → Right result (λ _. visitor.new ≡ fold T.visiting visitor.old (visited_in_range from to written.now.entries.value)) }
+    ensures right { IsKept chunks.old labels.now (part_at (InStore written.now)) → chunks.old.seen.honest ≡ true → Right result (λ _. visitor.new ≡ fold T.visiting visitor.old (visited_in_range from to written.now.entries.value)) }
 {
     if is_outside(written, from, to) {
         return Ok(());
     }
-    let chunk = fetch(alloc, store, written.number, &written.digest)?;
+    let chunk = chunks.fetch(written.number, &written.digest)?;
     visit_all(labels, chunk.lines.as_slice(), from, to, visitor)?;
     Ok(())
 }
 
 // Visits the entries of parts.
 pub(crate) fn visit_parts<S: Store, T: Visitor>(
-    alloc: Global,
-    store: &mut S,
+    chunks: &mut ChunkStore<S>,
     labels: &Labels,
     parts: &[Part],
     from: Ns,
@@ -96,15 +95,15 @@ pub(crate) fn visit_parts<S: Store, T: Visitor>(
     visitor: &mut T,
 ) -> Result<(), ReadFault>
     requires { AllByRecursion (IsPart labels.now) parts.now }
-    ensures looked { Looked (S.seen store.old) (S.seen store.new) }
-    ensures counted { (S.seen store.new).faults ≡ after_read result (S.seen store.old).faults }
-    ensures unread { AllByRecursion (IsOutside from to) parts.now → S.seen store.new ≡ S.seen store.old }
+    ensures reads { Reads chunks.old chunks.new }
+    ensures counted { chunks.new.seen.faults ≡ after_read result chunks.old.seen.faults }
+    ensures unread { AllByRecursion (IsOutside from to) parts.now → chunks.new ≡ chunks.old }
     ensures visited { AllByRecursion (IsOutside from to) parts.now → OnOk result (visitor.new ≡ fold T.visiting visitor.old (visited_in_range from to (flat_map (λ part. part.entries) parts.now))) }
     ensures pieces { OnOk result (IsVisited T.visiting labels.now from to parts.now visitor.old visitor.new) }
-    ensures right { (next : ℕ) → AllByRecursion (IsKept (S.seen store.old) next labels.now) parts.now → (S.seen store.old).honest ≡ true → Right result (λ _. visitor.new ≡ fold T.visiting visitor.old (visited_in_range from to (flat_map (λ part. part.entries) parts.now))) }
+    ensures right { AllByRecursion (IsKept chunks.old labels.now) parts.now → chunks.old.seen.honest ≡ true → Right result (λ _. visitor.new ≡ fold T.visiting visitor.old (visited_in_range from to (flat_map (λ part. part.entries) parts.now))) }
 {
     for part in parts {
-        part.visit_lines(alloc, store, labels, from, to, visitor)?;
+        part.visit_lines(chunks, labels, from, to, visitor)?;
     }
     Ok(())
 }

@@ -65,7 +65,7 @@ added_at most rows i entry stream new apart at gains = record {
       one_set label_set_cmp_total label_set_cmp-IsAntisymmetric (newest_in rows) (newest_in (set_value_at rows i new)) entry.labels new.newest (λ q. lookup_set label_set_cmp_total label_set_cmp-IsAntisymmetric label_set_eq label_set_eq_itself newest_by rows i entry.labels stream new q apart at)
       ∙ ap (insert (newest_map (newest_in rows)) entry.labels) (gains.newest ∙ ap (λ newest. max newest entry.timestamp) (sym (newest_found rows i entry.labels stream apart at)));
   labels = ([], keys_set rows i new ∙ sym (append-nil (keys_of rows)));
-  streams = λ seen next are is_new. streams_gained rows seen next are i entry.labels stream new at most entry refl gains (λ honest. sym (held_at entry rows i stream are.own are.apart at) ∙ is_new honest);
+  streams = λ chunks are is_new. streams_gained rows chunks are i entry.labels stream new at most entry refl gains (λ honest. sym (held_at entry rows i stream are.own are.apart at) ∙ is_new honest);
 }
 
 -- a new stream of the entry
@@ -77,7 +77,7 @@ added_after most rows entry stream others labels newest entries started = record
       one_set label_set_cmp_total label_set_cmp-IsAntisymmetric (newest_in rows) (newest_in (rows ++ (entry.labels, stream) ∷ [])) entry.labels stream.newest (λ q. lookup_push label_set_cmp_total label_set_cmp-IsAntisymmetric label_set_eq label_set_eq_itself newest_by rows entry.labels stream q others)
       ∙ ap (insert (newest_map (newest_in rows)) entry.labels) (newest ∙ raised_from_0 ∙ ap (λ before. max before entry.timestamp) (sym (newest_missing rows entry.labels others)));
   labels = (entry.labels ∷ [], keys_push rows (entry.labels, stream));
-  streams = λ seen next are is_new. streams_pushed rows seen next are entry stream others entries labels (notes-started most entry stream started);
+  streams = λ chunks are is_new. streams_pushed rows chunks are entry stream others entries labels (notes-started most entry stream started);
 }
   where
     raised_from_0 : entry.timestamp ≡ max 0 entry.timestamp

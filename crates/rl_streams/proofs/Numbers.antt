@@ -3,10 +3,11 @@ use Rattle.std.proofs.Common.{◌≡◌, ℕ, zero, suc, ◌+◌, ◌<◌, ◌�
 use Rattle.std.specs.Prelude.{nat_eq}
 use Rattle.std.specs.List.{AllByRecursion, IsDistinct, range_with_len}
 use Rattle.std.proofs.lemmas.Map.Keys.{IsDistinct-cons}
-use Rattle.rl_chunks.specs.StoreState.{Seen}
+use Rattle.rl_parts.specs.ChunksState.{ChunksView}
 use Rattle.rl_parts.specs.StoreUse.{AreKept}
+use Rattle.rl_parts.specs.laws.EachLaws.{all_both}
 use Rattle.rl_streams.specs.StreamRows.{Row, numbers_of, numbers_in}
-use Rattle.rl_streams.proofs.Kept.{all_append, numbers_below}
+use Rattle.rl_streams.proofs.Kept.{numbers_below}
 
 -- numbers in a row are above what is below them
 above : (low a n : ℕ) → low < a → AllByRecursion (λ y. nat_eq low y ≡ false) (range_with_len a n)
@@ -21,10 +22,10 @@ differ_below a next (y ∷ ys) le h = (ne_eqb a y (λ e. absurd (omega (arith, e
 pub row_apart : (next a n : ℕ) (ys : List ℕ) → next ≤ a → AllByRecursion (λ y. y < next) ys → IsDistinct nat_eq ys → IsDistinct nat_eq (range_with_len a n ++ ys)
 row_apart next a zero ys le below apart = apart
 row_apart next a (suc n) ys le below apart =
-    IsDistinct-cons nat_eq a (range_with_len (a + 1) n ++ ys) (all_append (λ y. nat_eq a y ≡ false) (range_with_len (a + 1) n) ys (above a (a + 1) n (omega arith)) (differ_below a next ys le below))
+    IsDistinct-cons nat_eq a (range_with_len (a + 1) n ++ ys) (all_both (λ y. nat_eq a y ≡ false) (range_with_len (a + 1) n) ys (above a (a + 1) n (omega arith)) (differ_below a next ys le below))
     (row_apart next (a + 1) n ys (omega (arith, le)) below apart)
 
 -- all numbers are below the next one
-pub all_below : (seen : Seen) (next : ℕ) (rows : List Row) → AllByRecursion (λ row. AreKept seen next row.1) rows → AllByRecursion (λ number. number < next) (numbers_in rows)
-all_below seen next [] h = tt
-all_below seen next (row ∷ rows) h = all_append (λ number. number < next) (numbers_of row.1) (numbers_in rows) (numbers_below seen next row.1 h.0) (all_below seen next rows h.1)
+pub all_below : (chunks : ChunksView) (rows : List Row) → AllByRecursion (λ row. AreKept chunks row.1) rows → AllByRecursion (λ number. number < chunks.next) (numbers_in rows)
+all_below chunks [] h = tt
+all_below chunks (row ∷ rows) h = all_both (λ number. number < chunks.next) (numbers_of row.1) (numbers_in rows) (numbers_below chunks row.1 h.0) (all_below chunks rows h.1)

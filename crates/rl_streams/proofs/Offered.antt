@@ -7,7 +7,7 @@ use Rattle.indexmap.specs.IndexMap.{set_value_at}
 use Rattle.std.proofs.lemmas.List.Elements.{Contains-append_right}
 use Rattle.rl_labels.specs.LabelText.{label_set_eq}
 use Rattle.rl_labels.specs.declared.entry.Entry.{Entry}
-use Rattle.rl_chunks.specs.StoreState.{Seen}
+use Rattle.rl_parts.specs.ChunksState.{ChunksView}
 use Rattle.rl_parts.specs.StreamParts.{StreamView, entries_of}
 use Rattle.rl_parts.specs.Reading.{IsFoundIn, IsMissingIn}
 use Rattle.rl_parts.specs.StoreUse.{Right, AreKept}
@@ -77,9 +77,9 @@ module _ (rows : List Row) (i : ℕ) (entry : Entry) (stream new : StreamView) (
   labels_at own = sym ((at_row IsOwn rows i (entry.labels, stream) own row).labels)
 
   -- what is right of the stream is right of all
-  pub right_at : (result : Result Bool AddRefusal) (seen : Seen) (next : ℕ) → AreStreams rows seen next → (AreKept seen next stream → IsOfferedRight result (is_among entry (entries_of stream))) → IsOfferedRight result (is_among entry (joined rows))
-  right_at result seen next are right =
-      subst (IsOfferedRight result) (sym (held_at entry rows i stream are.own are.apart row)) (right (at_row (λ row. AreKept seen next row.1) rows i (entry.labels, stream) are.kept row))
+  pub right_at : (result : Result Bool AddRefusal) (chunks : ChunksView) → AreStreams rows chunks → (AreKept chunks stream → IsOfferedRight result (is_among entry (entries_of stream))) → IsOfferedRight result (is_among entry (joined rows))
+  right_at result chunks are right =
+      subst (IsOfferedRight result) (sym (held_at entry rows i stream are.own are.apart row)) (right (at_row (λ row. AreKept chunks row.1) rows i (entry.labels, stream) are.kept row))
 
 answered : Result Bool ReadFault → Bool
 answered (Ok found) = found

@@ -8,51 +8,38 @@ use Rattle.indexmap.specs.IndexMap.{set_value_at}
 use Rattle.std.proofs.lemmas.List.Concat.{flat_map-append}
 use Rattle.std.proofs.lemmas.List.Elements.{filter-append}
 use Rattle.rl_labels.specs.declared.entry.Entry.{Entry}
-use Rattle.rl_chunks.specs.StoreState.{Seen}
+use Rattle.rl_parts.specs.ChunksState.{ChunksView}
 use Rattle.rl_parts.specs.StreamParts.{StreamView, entries_of}
-use Rattle.rl_parts.specs.StoreUse.{AreKept, Grown}
+use Rattle.rl_parts.specs.StoreUse.{AreKept, Keeps}
 use Rattle.rl_parts.specs.Rewriting.{AreLeft, AreRenumbered, PlanView, note_numbers, uncovered}
 use Rattle.rl_parts.specs.declared.fault.RewriteFault.{RewriteFault}
 use Rattle.rl_parts.specs.laws.RewriteLaws.{AreRenumbered-none, AreRenumbered-then}
-use Rattle.rl_parts.specs.laws.UseLaws.{AreKept-grown}
+use Rattle.rl_parts.specs.laws.EachLaws.{all_both, all_front}
+use Rattle.rl_parts.specs.laws.UseLaws.{AreKept-keeps, kept_later, kept_then}
 use Rattle.rl_streams.specs.StreamRows.{Row, joined, newest_in, numbers_in, IsOwn}
 use Rattle.rl_streams.specs.Rewritten.{AreLeftIn, AreOf, ArePlanned, IsLeftIn, IsSound, numbers_before, numbers_after, numbers_gone, rewritten}
-use Rattle.rl_streams.proofs.Kept.{all_append}
 use Rattle.rl_streams.proofs.RowChanges.{not_none, same_some, with_key, within}
 
-pub all_front : {A : Type 0} (P : A → Type 0) (xs ys : List A) → AllByRecursion P (xs ++ ys) → AllByRecursion P xs
-all_front P [] ys h = tt
-all_front P (x ∷ xs) ys h = (h.0, all_front P xs ys h.1)
-
-pub all_after : {A : Type 0} (P : A → Type 0) (xs ys : List A) → AllByRecursion P (xs ++ ys) → AllByRecursion P ys
-all_after P [] ys h = h
-all_after P (x ∷ xs) ys h = all_after P xs ys h.1
-
-pub all_weaker : {A : Type 0} (P Q : A → Type 0) → ((x : A) → P x → Q x) → (xs : List A) → AllByRecursion P xs → AllByRecursion Q xs
-all_weaker P Q f [] h = tt
-all_weaker P Q f (x ∷ xs) h = (f x h.0, all_weaker P Q f xs h.1)
-
 -- no stream
-pub planned_none : (covers : Entry → Bool) (first : ℕ) (seen : Seen) → ArePlanned covers first seen [] first seen
-planned_none covers first seen = record { sound = tt; left = tt; numbers = AreRenumbered-none [] first; kept = λ h. tt; right = λ honest h. tt }
+pub planned_none : (covers : Entry → Bool) (chunks : ChunksView) → ArePlanned covers chunks [] chunks
+planned_none covers chunks = record { sound = tt; left = tt; numbers = AreRenumbered-none [] chunks.next chunks.next refl; kept = λ h. tt; right = λ honest h. tt }
 
 -- some streams, and then others
-pub planned_then : (covers : Entry → Bool) (first : ℕ) (before : Seen) (plans : List PlanView) (mid : ℕ) (seen : Seen) (others : List PlanView) (next : ℕ) (after : Seen)
-    → ArePlanned covers first before plans mid seen → Grown before first mid seen → ArePlanned covers mid seen others next after → Grown seen mid next after → ArePlanned covers first before (plans ++ others) next after
-planned_then covers first before plans mid seen others next after p grown q more =
-    let kept_before = λ (plan : PlanView). AreKept before first plan.of in
-    let later = λ (h : AllByRecursion kept_before (plans ++ others)). all_weaker kept_before (λ plan. AreKept seen mid plan.of) (λ plan. AreKept-grown before seen first mid mid plan.of grown p.numbers.up) others (all_after kept_before plans others h) in
+pub planned_then : (covers : Entry → Bool) (a b c : ChunksView) (plans others : List PlanView) → Keeps a b → Keeps b c → ArePlanned covers a plans b → ArePlanned covers b others c → ArePlanned covers a (plans ++ others) c
+planned_then covers a b c plans others keeps later p q =
+    let old = λ (chunks : ChunksView) (plan : PlanView). AreKept chunks plan.of in
+    let new = λ (chunks : ChunksView) (plan : PlanView). AreKept chunks plan.becomes in
+    let stays = λ (x y : ChunksView) (plan : PlanView). AreKept-keeps x y plan.of in
+    let remains = λ (x y : ChunksView) (plan : PlanView). AreKept-keeps x y plan.becomes in
     record {
-      sound = all_append IsSound plans others p.sound q.sound;
-      left = all_append (λ plan. IsLeftIn covers plan.of plan.becomes) plans others p.left q.left;
-      numbers = subst (λ ns. AreRenumbered ns first next (numbers_after (plans ++ others)) (numbers_gone (plans ++ others))) (sym (flat_map-append (λ (plan : PlanView). note_numbers plan.of.parts) plans others))
-          (subst (λ ns. AreRenumbered (numbers_before plans ++ numbers_before others) first next ns (numbers_gone (plans ++ others))) (sym (flat_map-append (λ (plan : PlanView). note_numbers plan.becomes.parts) plans others))
-          (subst (λ ns. AreRenumbered (numbers_before plans ++ numbers_before others) first next (numbers_after plans ++ numbers_after others) ns) (sym (flat_map-append (λ (plan : PlanView). plan.gone) plans others))
-          (AreRenumbered-then (numbers_before plans) (numbers_after plans) (numbers_gone plans) first mid (numbers_before others) (numbers_after others) (numbers_gone others) next p.numbers q.numbers)));
-      kept = λ h. all_append (λ plan. AreKept after next plan.becomes) plans others
-          (all_weaker (λ plan. AreKept seen mid plan.becomes) (λ plan. AreKept after next plan.becomes) (λ plan. AreKept-grown seen after mid next next plan.becomes more q.numbers.up) plans (p.kept (all_front kept_before plans others h)))
-          (q.kept (later h));
-      right = λ honest h. all_append (λ plan. entries_of plan.becomes ≡ uncovered covers (entries_of plan.of)) plans others (p.right honest (all_front kept_before plans others h)) (q.right (grown.honest ∙ honest) (later h));
+      sound = all_both IsSound plans others p.sound q.sound;
+      left = all_both (λ plan. IsLeftIn covers plan.of plan.becomes) plans others p.left q.left;
+      numbers = subst (λ ns. AreRenumbered ns a.next c.next (numbers_after (plans ++ others)) (numbers_gone (plans ++ others))) (sym (flat_map-append (λ (plan : PlanView). note_numbers plan.of.parts) plans others))
+          (subst (λ ns. AreRenumbered (numbers_before plans ++ numbers_before others) a.next c.next ns (numbers_gone (plans ++ others))) (sym (flat_map-append (λ (plan : PlanView). note_numbers plan.becomes.parts) plans others))
+          (subst (λ ns. AreRenumbered (numbers_before plans ++ numbers_before others) a.next c.next (numbers_after plans ++ numbers_after others) ns) (sym (flat_map-append (λ (plan : PlanView). plan.gone) plans others))
+          (AreRenumbered-then (numbers_before plans) (numbers_after plans) (numbers_gone plans) a.next b.next (numbers_before others) (numbers_after others) (numbers_gone others) c.next p.numbers q.numbers)));
+      kept = kept_then old new stays remains a b c keeps later plans others plans others p.kept q.kept;
+      right = λ honest h. all_both (λ plan. entries_of plan.becomes ≡ uncovered covers (entries_of plan.of)) plans others (p.right honest (all_front (old a) plans others h)) (q.right (keeps.honest ∙ honest) (kept_later old new stays remains a b keeps plans others h));
     }
 
 -- no plan has rows, and no row plans
@@ -137,10 +124,10 @@ rewritten_left covers (row ∷ rows) (plan ∷ plans) of left =
     ((refl, subst (λ (s : StreamView). IsLeftIn covers s plan.becomes) (first_of row rows plan plans of) left.0), rewritten_left covers rows plans (others_of row rows plan plans of) left.1)
 
 -- the plan of one stream, by what its making promises
-pub one_planned : (covers : Entry → Bool) (stream : StreamView) (first : ℕ) (before : Seen) (plan : PlanView) (next : ℕ) (seen : Seen) → plan.of ≡ stream → plan.becomes.labels ≡ stream.labels → plan.becomes.newest ≡ stream.newest → All (λ entry. entry.labels ≡ stream.labels) (entries_of plan.becomes)
-    → length (entries_of plan.becomes) ≤ length (entries_of stream) → AreLeft covers stream.labels stream.parts plan.becomes.parts → plan.becomes.head ≡ uncovered covers stream.head → AreRenumbered (note_numbers stream.parts) first next (note_numbers plan.becomes.parts) plan.gone
-    → (AreKept before first stream → AreKept seen next plan.becomes) → (before.honest ≡ true → AreKept before first stream → entries_of plan.becomes ≡ uncovered covers (entries_of stream)) → ArePlanned covers first before (plan ∷ []) next seen
-one_planned covers stream first before plan next seen of labels newest own fewer parts head numbers kept right =
+pub one_planned : (covers : Entry → Bool) (stream : StreamView) (before : ChunksView) (plan : PlanView) (after : ChunksView) → plan.of ≡ stream → plan.becomes.labels ≡ stream.labels → plan.becomes.newest ≡ stream.newest → All (λ entry. entry.labels ≡ stream.labels) (entries_of plan.becomes)
+    → length (entries_of plan.becomes) ≤ length (entries_of stream) → AreLeft covers stream.labels stream.parts plan.becomes.parts → plan.becomes.head ≡ uncovered covers stream.head → AreRenumbered (note_numbers stream.parts) before.next after.next (note_numbers plan.becomes.parts) plan.gone
+    → (AreKept before stream → AreKept after plan.becomes) → (before.seen.honest ≡ true → AreKept before stream → entries_of plan.becomes ≡ uncovered covers (entries_of stream)) → ArePlanned covers before (plan ∷ []) after
+one_planned covers stream before plan after of labels newest own fewer parts head numbers kept right =
     let back = sym of in
     record {
       sound = (
@@ -153,12 +140,12 @@ one_planned covers stream first before plan next seen of labels newest own fewer
         tt,
       );
       left = (subst (λ (s : StreamView). IsLeftIn covers s plan.becomes) back (record { parts = parts; head = head }), tt);
-      numbers = subst (λ ns. AreRenumbered ns first next (note_numbers plan.becomes.parts ++ []) (plan.gone ++ [])) (sym (append-nil (note_numbers plan.of.parts)))
-          (subst (λ ns. AreRenumbered (note_numbers plan.of.parts) first next ns (plan.gone ++ [])) (sym (append-nil (note_numbers plan.becomes.parts)))
-          (subst (λ ns. AreRenumbered (note_numbers plan.of.parts) first next (note_numbers plan.becomes.parts) ns) (sym (append-nil plan.gone))
-          (subst (λ (s : StreamView). AreRenumbered (note_numbers s.parts) first next (note_numbers plan.becomes.parts) plan.gone) back numbers)));
-      kept = λ h. (kept (subst (AreKept before first) of h.0), tt);
-      right = λ honest h. (right honest (subst (AreKept before first) of h.0) ∙ ap (λ (s : StreamView). uncovered covers (entries_of s)) back, tt);
+      numbers = subst (λ ns. AreRenumbered ns before.next after.next (note_numbers plan.becomes.parts ++ []) (plan.gone ++ [])) (sym (append-nil (note_numbers plan.of.parts)))
+          (subst (λ ns. AreRenumbered (note_numbers plan.of.parts) before.next after.next ns (plan.gone ++ [])) (sym (append-nil (note_numbers plan.becomes.parts)))
+          (subst (λ ns. AreRenumbered (note_numbers plan.of.parts) before.next after.next (note_numbers plan.becomes.parts) ns) (sym (append-nil plan.gone))
+          (subst (λ (s : StreamView). AreRenumbered (note_numbers s.parts) before.next after.next (note_numbers plan.becomes.parts) plan.gone) back numbers)));
+      kept = λ h. (kept (subst (AreKept before) of h.0), tt);
+      right = λ honest h. (right honest (subst (AreKept before) of h.0) ∙ ap (λ (s : StreamView). uncovered covers (entries_of s)) back, tt);
     }
 
 -- no plan carried out

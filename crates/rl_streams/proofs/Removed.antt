@@ -17,16 +17,17 @@ use Rattle.rl_labels.specs.LabelSet.{LabelSet}
 use Rattle.rl_labels.specs.LabelText.{label_set_eq}
 use Rattle.rl_labels.specs.EntryOrder.{entry_cmp}
 use Rattle.rl_labels.specs.declared.entry.Entry.{Entry}
-use Rattle.rl_chunks.specs.StoreState.{Seen}
+use Rattle.rl_parts.specs.ChunksState.{ChunksView}
 use Rattle.rl_parts.specs.StreamParts.{Note, PartView, chunk_of, listed, notes_of}
 use Rattle.rl_parts.specs.StoreUse.{AreKept, FaultsRise, IsKept, IsNoteOf}
 use Rattle.rl_parts.specs.Rewriting.{PlanView, note_numbers, uncovered}
+use Rattle.rl_parts.specs.laws.EachLaws.{all_after, all_front}
 use Rattle.rl_parts.specs.laws.RewriteLaws.{AreRenumbered-both}
 use Rattle.rl_parts.specs.laws.UseLaws.{with_fault-rises}
 use Rattle.rl_streams.specs.StreamRows.{AreStreams, Row, joined, numbers_in}
 use Rattle.rl_streams.specs.Rewritten.{AreOf, ArePlanned, AreRemoved, IsGone, is_one_of, with_faults, numbers_before, numbers_after, numbers_gone, rewritten}
 use Rattle.rl_streams.proofs.Numbers.{all_below, row_apart}
-use Rattle.rl_streams.proofs.Plans.{all_after, all_front, joined_rewritten, keys_rewritten, numbers_of_rows, numbers_rewritten, of_rows, own_rewritten, to_rows}
+use Rattle.rl_streams.proofs.Plans.{joined_rewritten, keys_rewritten, numbers_of_rows, numbers_rewritten, of_rows, own_rewritten, to_rows}
 
 -- a number is none of these
 abbrev IsApart : List ℕ → ℕ → Type 0
@@ -105,26 +106,27 @@ faults_then [] ys faults = refl
 faults_then (x ∷ xs) ys faults = faults_then xs ys (with_fault faults)
 
 -- nothing removed
-pub removed_none : (seen : Seen) → AreRemoved seen [] seen
-removed_none seen = record { honest = refl; faults = omega arith; refused = []; counted = refl; gone = λ number there. absurd (true≢false (sym there)); others = λ number apart. refl }
+pub removed_none : (chunks : ChunksView) → AreRemoved chunks [] chunks
+removed_none chunks = record { next = refl; honest = refl; faults = omega arith; refused = []; counted = refl; gone = λ number there. absurd (true≢false (sym there)); others = λ number apart. refl }
 
 -- some numbers, and then others
-pub removed_then : (a : Seen) (xs : List ℕ) (b : Seen) (ys : List ℕ) (c : Seen) → AreRemoved a xs b → AreRemoved b ys c → AreRemoved a (xs ++ ys) c
+pub removed_then : (a : ChunksView) (xs : List ℕ) (b : ChunksView) (ys : List ℕ) (c : ChunksView) → AreRemoved a xs b → AreRemoved b ys c → AreRemoved a (xs ++ ys) c
 removed_then a xs b ys c p q =
-    let first : FaultsRise a.faults b.faults = p.faults in
-    let second : FaultsRise b.faults c.faults = q.faults in
+    let first : FaultsRise a.seen.faults b.seen.faults = p.faults in
+    let second : FaultsRise b.seen.faults c.seen.faults = q.faults in
     record {
+      next = q.next ∙ p.next;
       honest = q.honest ∙ p.honest;
       faults = omega arith;
       refused = p.refused ++ q.refused;
-      counted = q.counted ∙ ap (with_faults (length q.refused)) p.counted ∙ sym (faults_then p.refused q.refused a.faults);
+      counted = q.counted ∙ ap (with_faults (length q.refused)) p.counted ∙ sym (faults_then p.refused q.refused a.seen.faults);
       gone = λ number there kept.
           let free = neither_true (is_one_of p.refused number) (is_one_of q.refused number) (sym (one_of_front p.refused q.refused number) ∙ kept) in
           gone_of number free.0 free.1 (is_one_of ys number) refl (sym (one_of_front xs ys number) ∙ there);
       others = λ number apart. q.others number (all_after (λ other. nat_eq number other ≡ false) xs ys apart) ∙ p.others number (all_front (λ other. nat_eq number other ≡ false) xs ys apart);
     }
   where
-    gone_of : (number : ℕ) → is_one_of p.refused number ≡ false → is_one_of q.refused number ≡ false → (b : Bool) → is_one_of ys number ≡ b → (is_one_of xs number || is_one_of ys number) ≡ true → finite.get c.blobs number ≡ None
+    gone_of : (number : ℕ) → is_one_of p.refused number ≡ false → is_one_of q.refused number ≡ false → (b : Bool) → is_one_of ys number ≡ b → (is_one_of xs number || is_one_of ys number) ≡ true → finite.get c.seen.blobs number ≡ None
     gone_of number first second true here there = q.gone number here second
     gone_of number first second false here there = q.others number (apart_of ys number here) ∙ p.gone number (only (either_true (is_one_of xs number) (is_one_of ys number) there)) first
       where
@@ -133,35 +135,35 @@ removed_then a xs b ys c p q =
         only (inr one) = absurd (true≢false (sym one ∙ here))
 
 -- parts whose numbers are not removed are kept
-parts_removed : (old new : Seen) (gone : List ℕ) (next : ℕ) (labels : LabelSet) (parts : List PartView) → AreRemoved old gone new → AllByRecursion (IsApart gone) (note_numbers parts) → AllByRecursion (IsKept old next labels) parts → AllByRecursion (IsKept new next labels) parts
-parts_removed old new gone next labels [] removed apart kept = tt
-parts_removed old new gone next labels (part ∷ parts) removed apart kept = by (λ away. parts_removed old new gone next labels parts removed away kept.1) part.note apart kept.0
+parts_removed : (old new : ChunksView) (gone : List ℕ) (labels : LabelSet) (parts : List PartView) → AreRemoved old gone new → AllByRecursion (IsApart gone) (note_numbers parts) → AllByRecursion (IsKept old labels) parts → AllByRecursion (IsKept new labels) parts
+parts_removed old new gone labels [] removed apart kept = tt
+parts_removed old new gone labels (part ∷ parts) removed apart kept = by (λ away. parts_removed old new gone labels parts removed away kept.1) part.note apart kept.0
   where
-    by : (AllByRecursion (IsApart gone) (note_numbers parts) → AllByRecursion (IsKept new next labels) parts) → (note : Option Note) → AllByRecursion (IsApart gone) (map (λ note. note.number) (listed note ++ notes_of parts)) → IfSome note (IsNoteOf old next (chunk_of labels part.entries))
-        → IfSome note (IsNoteOf new next (chunk_of labels part.entries)) × AllByRecursion (IsKept new next labels) parts
+    by : (AllByRecursion (IsApart gone) (note_numbers parts) → AllByRecursion (IsKept new labels) parts) → (note : Option Note) → AllByRecursion (IsApart gone) (map (λ note. note.number) (listed note ++ notes_of parts)) → IfSome note (IsNoteOf old (chunk_of labels part.entries))
+        → IfSome note (IsNoteOf new (chunk_of labels part.entries)) × AllByRecursion (IsKept new labels) parts
     by others None away is = (tt, others away)
-    by others (Some note) away is = (record { given = is.given; digest = is.digest; read = is.read; kept = λ honest. removed.others note.number away.0 ∙ is.kept (sym removed.honest ∙ honest) }, others away.1)
+    by others (Some note) away is = (record { given = omega (arith, is.given, removed.next); digest = is.digest; read = is.read; kept = λ honest. removed.others note.number away.0 ∙ is.kept (sym removed.honest ∙ honest) }, others away.1)
 
-all_removed : (old new : Seen) (gone : List ℕ) (next : ℕ) (plans : List PlanView) → AreRemoved old gone new → AllByRecursion (IsApart gone) (numbers_after plans) → AllByRecursion (λ plan. AreKept old next plan.becomes) plans → AllByRecursion (λ plan. AreKept new next plan.becomes) plans
-all_removed old new gone next [] removed apart kept = tt
-all_removed old new gone next (plan ∷ plans) removed apart kept = (
-  parts_removed old new gone next plan.becomes.labels plan.becomes.parts removed (all_front (IsApart gone) (note_numbers plan.becomes.parts) (numbers_after plans) apart) kept.0,
-  all_removed old new gone next plans removed (all_after (IsApart gone) (note_numbers plan.becomes.parts) (numbers_after plans) apart) kept.1,
+all_removed : (old new : ChunksView) (gone : List ℕ) (plans : List PlanView) → AreRemoved old gone new → AllByRecursion (IsApart gone) (numbers_after plans) → AllByRecursion (λ plan. AreKept old plan.becomes) plans → AllByRecursion (λ plan. AreKept new plan.becomes) plans
+all_removed old new gone [] removed apart kept = tt
+all_removed old new gone (plan ∷ plans) removed apart kept = (
+  parts_removed old new gone plan.becomes.labels plan.becomes.parts removed (all_front (IsApart gone) (note_numbers plan.becomes.parts) (numbers_after plans) apart) kept.0,
+  all_removed old new gone plans removed (all_after (IsApart gone) (note_numbers plan.becomes.parts) (numbers_after plans) apart) kept.1,
 )
 
 -- what is always true of streams is true of them without their covered entries
-module _ (covers : Entry → Bool) (rows : List Row) (first : ℕ) (before : Seen) (plans : List PlanView) (next : ℕ) (seen after : Seen)
-    (are : AreStreams rows before first) (of : AreOf rows plans) (planned : ArePlanned covers first before plans next seen) (honest_same : seen.honest ≡ before.honest) (removed : AreRemoved seen (numbers_gone plans) after) where
-  kept_before : AllByRecursion (λ plan. AreKept before first plan.of) plans
-  kept_before = of_rows (AreKept before first) rows plans of are.kept
+module _ (covers : Entry → Bool) (rows : List Row) (before : ChunksView) (plans : List PlanView) (seen after : ChunksView)
+    (are : AreStreams rows before) (of : AreOf rows plans) (planned : ArePlanned covers before plans seen) (honest_same : seen.seen.honest ≡ before.seen.honest) (removed : AreRemoved seen (numbers_gone plans) after) where
+  kept_before : AllByRecursion (λ plan. AreKept before plan.of) plans
+  kept_before = of_rows (AreKept before) rows plans of are.kept
 
   all_distinct : IsDistinct nat_eq (numbers_after plans ++ numbers_gone plans)
   all_distinct =
       let old = numbers_before plans in
-      IsDistinct-IsPermutation nat_eq nat_eq_equiv.symm (range_with_len first (next - first) ++ old) (numbers_after plans ++ numbers_gone plans) (AreRenumbered-both old first next (numbers_after plans) (numbers_gone plans) planned.numbers)
-      (subst (λ ns. IsDistinct nat_eq (range_with_len first (next - first) ++ ns)) (numbers_of_rows rows plans of) (row_apart first first (next - first) (numbers_in rows) (omega arith) (all_below before first rows are.kept) are.numbers))
+      IsDistinct-IsPermutation nat_eq nat_eq_equiv.symm (range_with_len before.next (seen.next - before.next) ++ old) (numbers_after plans ++ numbers_gone plans) (AreRenumbered-both old before.next seen.next (numbers_after plans) (numbers_gone plans) planned.numbers)
+      (subst (λ ns. IsDistinct nat_eq (range_with_len before.next (seen.next - before.next) ++ ns)) (numbers_of_rows rows plans of) (row_apart before.next before.next (seen.next - before.next) (numbers_in rows) (omega arith) (all_below before rows are.kept) are.numbers))
 
-  pub joined_left : before.honest ≡ true → joined (rewritten rows plans) ≡ uncovered covers (joined rows)
+  pub joined_left : before.seen.honest ≡ true → joined (rewritten rows plans) ≡ uncovered covers (joined rows)
   joined_left honest = joined_rewritten covers rows plans of (planned.right honest kept_before)
 
   -- each number that is removed is gone, and so what another has stays
@@ -187,27 +189,28 @@ module _ (covers : Entry → Bool) (rows : List Row) (first : ℕ) (before : See
     where
       by : Contains planned.numbers.stay number ⊎ Contains (numbers_gone plans) number → is_one_of (numbers_gone plans) number ≡ true
       by (inl stays) =
-          let range = range_with_len first (next - first) in
+          let range = range_with_len before.next (seen.next - before.next) in
           let there = Contains-permutation (planned.numbers.stay ++ range) (numbers_after plans) number (IsPermutation-sym _ _ planned.numbers.now) (Contains-append_left planned.numbers.stay range number stays) in
           absurd (lost.1 (subst (λ ns. Contains ns number) (sym (numbers_rewritten rows plans of)) there))
       by (inr there) = one_of_contained (numbers_gone plans) number there
 
-  pub streams_rewritten : AreStreams (rewritten rows plans) after next
+  pub streams_rewritten : AreStreams (rewritten rows plans) after
   streams_rewritten = record {
     own = own_rewritten rows plans of planned.sound are.own;
     apart = subst (IsDistinct label_set_eq) (sym (keys_rewritten rows plans of)) are.apart;
-    kept = to_rows (AreKept after next) rows plans of (all_removed seen after (numbers_gone plans) next plans removed (all_apart (numbers_after plans) (numbers_gone plans) all_distinct) (planned.kept kept_before));
+    kept = to_rows (AreKept after) rows plans of (all_removed seen after (numbers_gone plans) plans removed (all_apart (numbers_after plans) (numbers_gone plans) all_distinct) (planned.kept kept_before));
     numbers = subst (IsDistinct nat_eq) (sym (numbers_rewritten rows plans of)) (distinct_front (numbers_after plans) (numbers_gone plans) all_distinct);
     once = λ honest.
-        let was : before.honest ≡ true = sym honest_same ∙ sym removed.honest ∙ honest in
+        let was : before.seen.honest ≡ true = sym honest_same ∙ sym removed.honest ∙ honest in
         subst (IsDistinct (eq_by_cmp entry_cmp)) (sym (joined_left was)) (distinct_left (eq_by_cmp entry_cmp) (λ entry. not (covers entry)) (joined rows) (are.once was));
   }
 
 -- one number, removed or refused
-pub one_removed : (old new : Seen) (number : ℕ) (result : Result (Unit {0}) StoreFault) → OnOk result (new.blobs ≡ finite.remove old.blobs number) → OnErr result (LeavesOthers number old.blobs new.blobs) → KeepsReads old new → IfErr result (λ fault. fault ≡ stores.Fault) → new.faults ≡ faults_after result old.faults → AreRemoved old (number ∷ []) new
-one_removed old new number result ok err keeps device counted = record {
+pub one_removed : (old new : ChunksView) (number : ℕ) (result : Result (Unit {0}) StoreFault) → OnOk result (new.seen.blobs ≡ finite.remove old.seen.blobs number) → OnErr result (LeavesOthers number old.seen.blobs new.seen.blobs) → KeepsReads old.seen new.seen → IfErr result (λ fault. fault ≡ stores.Fault) → new.seen.faults ≡ faults_after result old.seen.faults → new.next ≡ old.next → AreRemoved old (number ∷ []) new
+one_removed old new number result ok err keeps device counted next = record {
+  next = next;
   honest = keeps.honest;
-  faults = subst (FaultsRise old.faults) (sym counted) (rise result);
+  faults = subst (FaultsRise old.seen.faults) (sym counted) (rise result);
   refused = refusals result;
   counted = counted ∙ are_counted result device;
   gone = λ other there kept. is_gone_by result ok other there kept;
@@ -218,7 +221,7 @@ one_removed old new number result ok err keeps device counted = record {
     refusals (Ok _) = []
     refusals (Err _) = number ∷ []
 
-    are_counted : (result : Result (Unit {0}) StoreFault) → IfErr result (λ fault. fault ≡ stores.Fault) → faults_after result old.faults ≡ with_faults (length (refusals result)) old.faults
+    are_counted : (result : Result (Unit {0}) StoreFault) → IfErr result (λ fault. fault ≡ stores.Fault) → faults_after result old.seen.faults ≡ with_faults (length (refusals result)) old.seen.faults
     are_counted (Ok _) device = refl
     are_counted (Err stores.Fault) device = refl
     are_counted (Err stores.Memory) device = absurd (apart device)
@@ -233,21 +236,21 @@ one_removed old new number result ok err keeps device counted = record {
         by_case (inl same) = same
         by_case (inr never) = absurd (true≢false (sym never))
 
-    is_gone_by : (result : Result (Unit {0}) StoreFault) → OnOk result (new.blobs ≡ finite.remove old.blobs number) → (other : ℕ) → is_one_of (number ∷ []) other ≡ true → is_one_of (refusals result) other ≡ false → finite.get new.blobs other ≡ None
-    is_gone_by (Ok x) ok other there kept = ap (λ blobs. finite.get blobs other) ok ∙ finite.get-remove nat_cmp_total old.blobs number other ∙ ap (λ b. cond b None (finite.get old.blobs other)) (unsigned_tied other number ∙ only_one other there)
+    is_gone_by : (result : Result (Unit {0}) StoreFault) → OnOk result (new.seen.blobs ≡ finite.remove old.seen.blobs number) → (other : ℕ) → is_one_of (number ∷ []) other ≡ true → is_one_of (refusals result) other ≡ false → finite.get new.seen.blobs other ≡ None
+    is_gone_by (Ok x) ok other there kept = ap (λ blobs. finite.get blobs other) ok ∙ finite.get-remove nat_cmp_total old.seen.blobs number other ∙ ap (λ b. cond b None (finite.get old.seen.blobs other)) (unsigned_tied other number ∙ only_one other there)
     is_gone_by (Err _) ok other there kept = absurd (true≢false (sym there ∙ kept))
 
-    rise : (result : Result (Unit {0}) StoreFault) → FaultsRise old.faults (faults_after result old.faults)
+    rise : (result : Result (Unit {0}) StoreFault) → FaultsRise old.seen.faults (faults_after result old.seen.faults)
     rise (Ok _) = omega arith
-    rise (Err stores.Fault) = with_fault-rises old.faults
+    rise (Err stores.Fault) = with_fault-rises old.seen.faults
     rise (Err stores.Memory) = omega arith
 
-    by : (result : Result (Unit {0}) StoreFault) → OnOk result (new.blobs ≡ finite.remove old.blobs number) → OnErr result (LeavesOthers number old.blobs new.blobs) → (other : ℕ) → nat_eq other number ≡ false → finite.get new.blobs other ≡ finite.get old.blobs other
-    by (Ok x) ok err other apart = ap (λ blobs. finite.get blobs other) ok ∙ finite.get-remove nat_cmp_total old.blobs number other ∙ ap (λ b. cond b None (finite.get old.blobs other)) (unsigned_tied other number ∙ apart)
+    by : (result : Result (Unit {0}) StoreFault) → OnOk result (new.seen.blobs ≡ finite.remove old.seen.blobs number) → OnErr result (LeavesOthers number old.seen.blobs new.seen.blobs) → (other : ℕ) → nat_eq other number ≡ false → finite.get new.seen.blobs other ≡ finite.get old.seen.blobs other
+    by (Ok x) ok err other apart = ap (λ blobs. finite.get blobs other) ok ∙ finite.get-remove nat_cmp_total old.seen.blobs number other ∙ ap (λ b. cond b None (finite.get old.seen.blobs other)) (unsigned_tied other number ∙ apart)
     by (Err _) ok err other apart = err other (λ e. true≢false (sym (eq-eqb other number e) ∙ apart))
 
 -- one number more
-pub removed_more : (numbers : List ℕ) (i : ℕ) (number : ℕ) (start seen after : Seen) → i < length numbers → number ≡ get_or numbers i number → AreRemoved start (take i numbers) seen → AreRemoved seen (number ∷ []) after → AreRemoved start (take (i + 1) numbers) after
+pub removed_more : (numbers : List ℕ) (i : ℕ) (number : ℕ) (start seen after : ChunksView) → i < length numbers → number ≡ get_or numbers i number → AreRemoved start (take i numbers) seen → AreRemoved seen (number ∷ []) after → AreRemoved start (take (i + 1) numbers) after
 removed_more numbers i number start seen after within is before one =
     let front : take (i + 1) numbers ≡ take i numbers ++ number ∷ [] = take_more numbers i number within ∙ ap (λ n. take i numbers ++ n ∷ []) (sym is) in
     subst (λ ns. AreRemoved start ns after) (sym front) (removed_then start (take i numbers) seen (number ∷ []) after before one)

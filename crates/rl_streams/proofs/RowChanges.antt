@@ -38,15 +38,6 @@ module _ {K V : Type 0} where
   all_set P (e ∷ es) zero k v w at h p = (subst (λ key. P (key, w)) (sym (ap (λ (row : K × V). row.0) (same_some e (k, v) at))) p, h.1)
   all_set P (e ∷ es) (suc i) k v w at h p = (h.0, all_set P es i k v w at h.1 p)
 
-  pub all_more : (P : K × V → Type 0) (rows : List (K × V)) (row : K × V) → AllByRecursion P rows → P row → AllByRecursion P (rows ++ row ∷ [])
-  all_more P [] row h p = (p, tt)
-  all_more P (e ∷ es) row h p = (h.0, all_more P es row h.1 p)
-
-  -- a weaker fact
-  pub all_weaker : (P Q : K × V → Type 0) → ((row : K × V) → P row → Q row) → (rows : List (K × V)) → AllByRecursion P rows → AllByRecursion Q rows
-  all_weaker P Q f [] h = h
-  all_weaker P Q f (e ∷ es) h = (f e h.0, all_weaker P Q f es h.1)
-
   -- what is true of the keys
   pub of_keys : (P : K → Type 0) (rows : List (K × V)) → AllByRecursion P (keys_of rows) → AllByRecursion (λ row. P row.0) rows
   of_keys P [] h = h

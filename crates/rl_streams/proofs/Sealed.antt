@@ -11,7 +11,7 @@ use Rattle.rl_streams.proofs.Steps.{streams_sealed}
 
 -- nothing was sealed
 pub as_they_were : (rows : List Row) → AreCut rows rows
-as_they_were rows = record { entries = refl; order = refl; newest = refl; streams = λ seen next are. are }
+as_they_were rows = record { entries = refl; order = refl; newest = refl; streams = λ chunks are. are }
 
 pub none_sealed : (old new : StreamView) → new ≡ old → AreSealed old.parts new.parts
 none_sealed old new same = record { fresh = []; appended = ap (λ (stream : StreamView). stream.parts) same ∙ sym (append-nil old.parts); unwritten = refl }
@@ -25,5 +25,5 @@ one_sealed first rows i stream new cut at labels newest entries parts =
       entries = set_same entries_of rows i row.0 stream new row.1 entries ∙ cut.entries;
       order = set_by_row_same entries_of rows i stream new at entries ∙ cut.order;
       newest = set_each_same (λ (s : StreamView). s.newest) rows i row.0 stream new row.1 newest ∙ cut.newest;
-      streams = λ seen next are. streams_sealed rows seen next (cut.streams seen next are) i row.0 stream new row.1 labels entries parts;
+      streams = λ chunks are. streams_sealed rows chunks (cut.streams chunks are) i row.0 stream new row.1 labels entries parts;
     }

@@ -17,7 +17,7 @@ use Rattle.rl_parts.specs.StreamParts.{StreamView, entries_of}
 use Rattle.rl_streams.specs.Asking.{visited_of, visited_by, AreOfRow, AreVisited}
 use Rattle.rl_streams.specs.Selected.{SelectionView, asked_next, selected, AreSelections, IsSelection}
 use Rattle.rl_streams.specs.StreamRows.{Row, newest_in, IsOwn}
-use Rattle.rl_streams.proofs.Plans.{all_weaker}
+use Rattle.rl_parts.specs.laws.EachLaws.{all_weaker}
 use Rattle.rl_streams.proofs.RowChanges.{at_row, not_none, same_some, with_key}
 use Rattle.rl_streams.proofs.Visited.{none_of_row}
 

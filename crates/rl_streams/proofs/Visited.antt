@@ -20,10 +20,11 @@ use Rattle.rl_labels.specs.Selects.{selects}
 use Rattle.rl_labels.specs.laws.TextLaws.{label_set_eq_itself, label_set_eq-true, label_set_cmp_total}
 use Rattle.rl_labels.specs.declared.entry.Entry.{Entry}
 use Rattle.rl_labels.specs.declared.matcher.Matcher.{Matcher}
-use Rattle.rl_chunks.specs.StoreState.{Seen}
+use Rattle.rl_parts.specs.ChunksState.{ChunksView}
 use Rattle.rl_chunks.specs.declared.line.Line.{Line}
 use Rattle.rl_parts.specs.StreamParts.{StreamView, entries_of}
-use Rattle.rl_parts.specs.StoreUse.{AreKept, Looked, Right}
+use Rattle.rl_parts.specs.StoreUse.{AreKept, Reads, Right}
+use Rattle.rl_parts.specs.laws.UseLaws.{Keeps-reads}
 use Rattle.rl_parts.specs.laws.VisitorLaws.{fold-pushed}
 use Rattle.rl_parts.specs.Reading.{is_in_range, visited, visited_in_range, IsFoundIn, IsMissingIn, IsVisited}
 use Rattle.rl_parts.specs.declared.fault.ReadFault.{ReadFault}
@@ -38,7 +39,7 @@ use Rattle.rl_streams.proofs.Added.{row_of_position}
 use Rattle.rl_plain.specs.laws.TreeMaps.{get-of_tree}
 use Rattle.rl_streams.proofs.Held.{answer_is, held_at}
 use Rattle.rl_streams.proofs.RowChanges.{at_row, with_key, not_none, same_some}
-use Rattle.rl_streams.proofs.Steps.{streams_looked}
+use Rattle.rl_streams.proofs.Steps.{streams_kept}
 
 -- a fault that was right to answer of one thing is right to answer of another
 pub right_on : {A B : Type 0} (fault : ReadFault) (P : A → Type 0) (Q : B → Type 0) → Right {A = A} (Err fault) P → Right {A = B} (Err fault) Q
@@ -59,11 +60,11 @@ module _ (rows : List Row) (i : ℕ) (entry : Entry) (stream : StreamView) (posi
   not_others others = true≢false (sym (label_set_eq_itself entry.labels) ∙ at_row (λ row. label_set_eq entry.labels row.0 ≡ false) rows i (entry.labels, stream) others (row_of_position rows i entry.labels stream position at))
 
   -- what the stream answers is right of all streams
-  pub found_at : (result : Result Bool ReadFault) (seen : Seen) (next : ℕ) → AreStreams rows seen next → (AreKept seen next stream → Right result (λ found. IsTrue found ↔ Contains (entries_of stream) entry)) → Right result (λ found. found ≡ is_among entry (joined rows))
-  found_at result seen next are right =
+  pub found_at : (result : Result Bool ReadFault) (chunks : ChunksView) → AreStreams rows chunks → (AreKept chunks stream → Right result (λ found. IsTrue found ↔ Contains (entries_of stream) entry)) → Right result (λ found. found ≡ is_among entry (joined rows))
+  found_at result chunks are right =
       let row = row_of_position rows i entry.labels stream position at in
       right_then (λ found. IsTrue found ↔ Contains (entries_of stream) entry) (λ found. found ≡ is_among entry (joined rows)) (λ found is. answer_is entry found (entries_of stream) is ∙ sym (held_at entry rows i stream are.own are.apart row)) result
-      (right (at_row (λ row. AreKept seen next row.1) rows i (entry.labels, stream) are.kept row))
+      (right (at_row (λ row. AreKept chunks row.1) rows i (entry.labels, stream) are.kept row))
 
   -- it stands there
   pub stream_there : IsStreamOf rows entry.labels stream
@@ -109,11 +110,11 @@ module _ (selector : List Matcher) (from to : ℕ) where
       ∙ sym (map-append visited (asked selector from to (entries_of row.1)) (asked selector from to (joined rows)))
       ∙ ap (map visited) (sym (filter-append (is_asked selector from to) (entries_of row.1) (joined rows)))
 
-  -- a stream at an index is kept, once the store was looked at
-  pub kept_there : (rows : List Row) (i : ℕ) (stream : StreamView) (old seen : Seen) (next : ℕ) → AreStreams rows old next → Looked old seen → slice_get (values_of rows) i ≡ Some stream → AreKept seen next stream
-  kept_there rows i stream old seen next are looked at =
+  -- a stream at an index is kept, after reads
+  pub kept_there : (rows : List Row) (i : ℕ) (stream : StreamView) (old new : ChunksView) → AreStreams rows old → Reads old new → slice_get (values_of rows) i ≡ Some stream → AreKept new stream
+  kept_there rows i stream old new are reads at =
       let row = with_key rows i stream at in
-      at_row (λ row. AreKept seen next row.1) rows i (row.0, stream) ((streams_looked rows old next are seen looked).kept) row.1
+      at_row (λ row. AreKept new row.1) rows i (row.0, stream) (streams_kept rows old are new (Keeps-reads old new reads)).kept row.1
 
 -- each once: what is visited of all streams, where no entry is held twice
 pub visited_once : {T : Type 0} (visiting : T → LabelSet × Line → T) (selector : List Matcher) (from to : ℕ) (rows : List Row) (before after : T) → AllByRecursion IsOwn rows → IsDistinct (eq_by_cmp entry_cmp) (joined rows)

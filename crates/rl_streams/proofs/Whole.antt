@@ -8,35 +8,36 @@ use Rattle.std.proofs.lemmas.List.Sorted.{length_permutation}
 use Rattle.rl_labels.specs.EntryOrder.{EntrySet}
 use Rattle.rl_labels.specs.laws.OrderLaws.{entry_cmp_total, entry_cmp-IsAntisymmetric}
 use Rattle.rl_labels.specs.declared.entry.Entry.{Entry}
-use Rattle.rl_parts.specs.StoreUse.{Looked}
+use Rattle.rl_parts.specs.StoreUse.{Reads}
+use Rattle.rl_parts.specs.laws.UseLaws.{Keeps-reads}
 use Rattle.rl_parts.specs.declared.fault.ReadFault.TheVariants as reads
 use Rattle.rl_streams.specs.laws.HeldLaws.{contains_key-of_list, len-of_distinct, set-permuted}
 use Rattle.rl_streams.specs.declared.refusal.AddRefusal.{AddRefusal}
 use Rattle.rl_streams.specs.declared.refusal.AddRefusal.TheVariants.{Expired, TooFarBehind, Full, Read}
 use Rattle.rl_labels.specs.declared.limits.Limits.{Limits}
-use Rattle.rl_chunks.specs.StoreState.{Seen}
+use Rattle.rl_parts.specs.ChunksState.{ChunksView}
 use Rattle.rl_streams.specs.StreamRows.{Row, joined, newest_in, newest_map, loose_in, unwritten_in, is_among}
 use Rattle.rl_streams.specs.StreamsState.{StreamsView, IsWhole, Cuts, Looks, Takes, IsDecided, age_refusal, view_of}
 use Rattle.rl_streams.specs.Found.{IsAnswered, IsAnsweredUnread, IsFound, IsMissing, IsSettled, IsSettledUnread}
 use Rattle.rl_streams.specs.HeldSet.{set_of}
 use Rattle.rl_streams.specs.RowSteps.{AreCut, AreAdded, IsOfferedRight}
-use Rattle.rl_streams.proofs.Steps.{streams_looked}
+use Rattle.rl_streams.proofs.Steps.{streams_kept}
 
 -- no streams
-pub none_whole : (limits : Limits) (rows : List Row) (seen : Seen) → rows ≡ [] → IsWhole limits rows seen limits.first_blob 0
+pub none_whole : (limits : Limits) (rows : List Row) (chunks : ChunksView) → rows ≡ [] → IsWhole limits rows chunks 0
 unfolding IsDistinct
-none_whole limits rows seen none = subst (λ rows. IsWhole limits rows seen limits.first_blob 0) (sym none) (record {
+none_whole limits rows chunks none = subst (λ rows. IsWhole limits rows chunks 0) (sym none) (record {
   streams = record { own = tt; apart = tt; kept = tt; numbers = tt; once = λ _. tt };
   counted = refl;
   room = omega arith;
 })
 
-module _ (limits : Limits) (seen : Seen) (next count : ℕ) (old new : List Row) (cut : AreCut old new) where
+module _ (limits : Limits) (chunks : ChunksView) (count : ℕ) (old new : List Row) (cut : AreCut old new) where
   -- streams whose heads were sealed
-  pub cut_whole : IsWhole limits old seen next count → IsWhole limits new seen next count
-  cut_whole whole = record { streams = cut.streams seen next whole.streams; counted = whole.counted ∙ ap length (sym cut.entries); room = whole.room }
+  pub cut_whole : IsWhole limits old chunks count → IsWhole limits new chunks count
+  cut_whole whole = record { streams = cut.streams chunks whole.streams; counted = whole.counted ∙ ap length (sym cut.entries); room = whole.room }
 
-  pub cut_view : Cuts (view_of limits old seen next) (view_of limits new seen next)
+  pub cut_view : Cuts (view_of limits old chunks) (view_of limits new chunks)
   cut_view = record { limits = refl; held = ap set_of cut.entries; newest = ap newest_map cut.newest; next = refl; order = cut.order; seen = refl }
 
 -- none are left
@@ -74,19 +75,19 @@ IsSettledBy result horizon entry new old = MatchOption (age_refusal old.limits o
 pub settled_young : (result : Result (Unit {0}) AddRefusal) (horizon : ℕ) (entry : Entry) (new old : StreamsView) → age_refusal old.limits old.newest horizon entry ≡ None → IsSettled result old entry new → IsSettledBy result horizon entry new old
 settled_young result horizon entry new old young is = subst (λ refusal. MatchOption refusal (IsSettled result old entry new) (λ refusal. (result ≡ Err refusal) × (new ≡ old))) (sym young) is
 
-module _ (limits : Limits) (rows new : List Row) (old seen : Seen) (next count : ℕ) (whole : IsWhole limits rows old next count) (looked : Looked old seen) where
+module _ (limits : Limits) (rows new : List Row) (old now : ChunksView) (count : ℕ) (whole : IsWhole limits rows old count) (looked : Reads old now) where
   -- streams whose store was looked at
-  pub looked_whole : new ≡ rows → IsWhole limits new seen next count
-  looked_whole same = subst (λ rows. IsWhole limits rows seen next count) (sym same) (record { streams = streams_looked rows old next whole.streams seen looked; counted = whole.counted; room = whole.room })
+  pub looked_whole : new ≡ rows → IsWhole limits new now count
+  looked_whole same = subst (λ rows. IsWhole limits rows now count) (sym same) (record { streams = streams_kept rows old whole.streams now (Keeps-reads old now looked); counted = whole.counted; room = whole.room })
 
-  pub looked_view : new ≡ rows → Looks (view_of limits rows old next) (view_of limits new seen next)
-  looked_view same = record { limits = refl; held = ap (λ rows. set_of (joined rows)) same; newest = ap (λ rows. newest_map (newest_in rows)) same; next = refl; loose = ap (λ rows. length (loose_in rows)) same; unwritten = ap (λ rows. length (unwritten_in rows)) same; rows = same; seen = looked }
+  pub looked_view : new ≡ rows → Looks (view_of limits rows old) (view_of limits new now)
+  looked_view same = record { limits = refl; held = ap (λ rows. set_of (joined rows)) same; newest = ap (λ rows. newest_map (newest_in rows)) same; next = looked.next; loose = ap (λ rows. length (loose_in rows)) same; unwritten = ap (λ rows. length (unwritten_in rows)) same; rows = same; seen = looked.seen }
 
   abbrev before : StreamsView
-  before = view_of limits rows old next
+  before = view_of limits rows old
 
   abbrev after : StreamsView
-  after = view_of limits new seen next
+  after = view_of limits new now
 
   module _ (entry : Entry) where
     abbrev held : EntrySet
@@ -95,24 +96,24 @@ module _ (limits : Limits) (rows new : List Row) (old seen : Seen) (next count :
     is_held : contains_key held entry ≡ is_among entry (joined rows)
     is_held = contains_key-of_list entry_cmp_total (joined rows) entry
 
-    many_held : old.honest ≡ true → len held ≡ count
+    many_held : old.seen.honest ≡ true → len held ≡ count
     many_held honest = len-of_distinct entry_cmp_total (joined rows) (whole.streams.once honest) ∙ sym whole.counted
 
     -- streams that took an entry
-    pub taken_whole : AreAdded limits.chunk_entries rows entry new → (old.honest ≡ true → is_among entry (joined rows) ≡ false) → count < limits.entries → IsWhole limits new seen next (count + 1)
+    pub taken_whole : AreAdded limits.chunk_entries rows entry new → (old.seen.honest ≡ true → is_among entry (joined rows) ≡ false) → count < limits.entries → IsWhole limits new now (count + 1)
     taken_whole added is_new room =
         let longer = length_permutation (entry ∷ joined rows) (joined new) added.entries in
         record {
-          streams = added.streams seen next (streams_looked rows old next whole.streams seen looked) (λ honest. is_new (sym looked.honest ∙ honest));
+          streams = added.streams now (streams_kept rows old whole.streams now (Keeps-reads old now looked)) (λ honest. is_new (sym looked.seen.honest ∙ honest));
           counted = omega (arith, longer, whole.counted);
           room = omega (arith, room);
         }
 
-    pub taken_view : AreAdded limits.chunk_entries rows entry new → Takes (view_of limits rows old next) entry (view_of limits new seen next)
-    taken_view added = record { limits = refl; held = set-permuted entry_cmp_total entry_cmp-IsAntisymmetric (entry ∷ joined rows) (joined new) added.entries; newest = added.newest; next = refl; rows = added.rows; seen = looked }
+    pub taken_view : AreAdded limits.chunk_entries rows entry new → Takes (view_of limits rows old) entry (view_of limits new now)
+    taken_view added = record { limits = refl; held = set-permuted entry_cmp_total entry_cmp-IsAntisymmetric (entry ∷ joined rows) (joined new) added.entries; newest = added.newest; next = looked.next; rows = added.rows; seen = looked.seen }
 
     -- what was decided, where it was refused
-    pub decided_refused : (refusal : AddRefusal) (is_full : Bool) (to : StreamsView) → old.honest ≡ true → IsOfferedRight (Err refusal) (is_among entry (joined rows)) → IsAnswered (Err refusal) (IsFound rows entry) (IsMissing rows entry) is_full → is_full ≡ nat_le limits.entries count → IsDecided {A = Unit {0}} (Err refusal) (view_of limits rows old next) entry to
+    pub decided_refused : (refusal : AddRefusal) (is_full : Bool) (to : StreamsView) → old.seen.honest ≡ true → IsOfferedRight (Err refusal) (is_among entry (joined rows)) → IsAnswered (Err refusal) (IsFound rows entry) (IsMissing rows entry) is_full → is_full ≡ nat_le limits.entries count → IsDecided {A = Unit {0}} (Err refusal) (view_of limits rows old) entry to
     decided_refused Full is_full to honest right (_, full) is = (is_held ∙ right, let le = sym is ∙ full in let many = many_held honest in grind (arith, nat_tests, le, many))
     decided_refused (Read reads.Fault) is_full to honest right full is = tt
     decided_refused (Read reads.Damaged) is_full to honest right full is = right
@@ -121,14 +122,14 @@ module _ (limits : Limits) (rows new : List Row) (old seen : Seen) (next count :
     decided_refused (TooFarBehind newest) is_full to honest right full is = right
 
     -- where it was held already, and where it was taken
-    pub decided_held : old.honest ≡ true → IsOfferedRight (Ok false) (is_among entry (joined rows)) → new ≡ rows → IsDecided {A = Unit {0}} (Ok tt) (view_of limits rows old next) entry (view_of limits new seen next)
+    pub decided_held : old.seen.honest ≡ true → IsOfferedRight (Ok false) (is_among entry (joined rows)) → new ≡ rows → IsDecided {A = Unit {0}} (Ok tt) (view_of limits rows old) entry (view_of limits new now)
     decided_held honest right same = subst (λ b. MatchBool b (Looks before after) ((len before.held < limits.entries) × Takes before entry after)) (sym (is_held ∙ was (is_among entry (joined rows)) right)) (looked_view same)
       where
         was : (b : Bool) → false ≡ not b → b ≡ true
         was true e = refl
         was false e = e
 
-    pub decided_taken : old.honest ≡ true → IsOfferedRight (Ok true) (is_among entry (joined rows)) → AreAdded limits.chunk_entries rows entry new → count < limits.entries → IsDecided {A = Unit {0}} (Ok tt) (view_of limits rows old next) entry (view_of limits new seen next)
+    pub decided_taken : old.seen.honest ≡ true → IsOfferedRight (Ok true) (is_among entry (joined rows)) → AreAdded limits.chunk_entries rows entry new → count < limits.entries → IsDecided {A = Unit {0}} (Ok tt) (view_of limits rows old) entry (view_of limits new now)
     decided_taken honest right added room = subst (λ b. MatchBool b (Looks before after) ((len before.held < limits.entries) × Takes before entry after)) (sym (is_held ∙ taken_new (is_among entry (joined rows)) right)) (subst (λ n. n < limits.entries) (sym (many_held honest)) room, taken_view added)
 
     -- over any store: where it was refused, where it was found, and where it was taken
@@ -148,7 +149,7 @@ module _ (limits : Limits) (rows new : List Row) (old seen : Seen) (next count :
     settled_taken missing added room = inr (missing, (omega (arith, room, whole.counted), taken_view added))
 
     -- and where no written part reaches it
-    module _ (is_full : Bool) (full : is_full ≡ nat_le limits.entries count) (same_store : seen ≡ old) where
+    module _ (is_full : Bool) (full : is_full ≡ nat_le limits.entries count) (same_store : now ≡ old) where
       abbrev Cases : Result (Unit {0}) AddRefusal → Bool → Bool → Type 0
       Cases result is_held no_room = MatchBool is_held ((result ≡ Ok tt) × (after ≡ before)) (MatchBool no_room ((result ≡ Err Full) × (after ≡ before)) (MatchResult result (λ _. Takes before entry after × (after.seen ≡ before.seen)) (λ refusal. (refusal ≡ Read reads.Memory) × (after ≡ before))))
 
@@ -158,7 +159,7 @@ module _ (limits : Limits) (rows new : List Row) (old seen : Seen) (next count :
           subst (λ b. Cases result b (nat_le limits.entries (length (joined rows)))) (sym is_held) (subst (λ b. Cases result (is_among entry (joined rows)) b) room is)
 
       same_view : new ≡ rows → after ≡ before
-      same_view same = λ i. view_of limits (same i) (same_store i) next
+      same_view same = λ i. view_of limits (same i) (same_store i)
 
       pub unread_refused : (refusal : AddRefusal) → IsAnsweredUnread (Err refusal) (is_among entry (joined rows)) is_full → new ≡ rows → IsSettledUnread (Err refusal) before entry after
       unread_refused refusal answers same = by_cases (Err refusal) (by (is_among entry (joined rows)) is_full answers)
@@ -184,4 +185,4 @@ module _ (limits : Limits) (rows new : List Row) (old seen : Seen) (next count :
           by : (held no_room : Bool) → IsAnsweredUnread (Ok true) held no_room → Cases (Ok tt) held no_room
           by true no_room e = absurd (true≢false (ap (answer_in true) e))
           by false true e = absurd (not_ok Full true (sym e))
-          by false false e = (taken_view added, same_store)
+          by false false e = (taken_view added, ap (λ (chunks : ChunksView). chunks.seen) same_store)

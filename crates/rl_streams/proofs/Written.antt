@@ -1,39 +1,37 @@
 -- Streams whose parts are written one by one.
-use Rattle.std.proofs.Common.{◌≡◌, ℕ, ◌+◌, ◌≤◌, List, [], ◌∷◌, Some, slice_get, length, filter, refl, ◌∙◌, arith}
+use Rattle.std.proofs.Common.{◌≡◌, ℕ, ◌+◌, List, [], ◌∷◌, Some, slice_get, length, filter, refl, ◌∙◌, arith}
 use Rattle.std.specs.Map.{values_of}
 use Rattle.std.specs.Option.{is_none}
 use Rattle.indexmap.specs.IndexMap.{set_value_at}
-use Rattle.rl_chunks.specs.StoreState.{Seen}
+use Rattle.rl_parts.specs.ChunksState.{ChunksView}
 use Rattle.rl_parts.specs.StreamParts.{PartView, StreamView, entries_of}
 use Rattle.rl_parts.specs.Changes.{AreNoted, unwritten_count}
-use Rattle.rl_parts.specs.StoreUse.{AreKept, Grown}
+use Rattle.rl_parts.specs.StoreUse.{AreKept, Keeps}
 use Rattle.rl_streams.specs.StreamRows.{Row}
 use Rattle.rl_streams.specs.RowSteps.{AreFlushed}
 use Rattle.rl_streams.proofs.RowChanges.{at_row, with_key, set_by_row_same, set_long, set_same, set_each_same}
 use Rattle.rl_streams.proofs.Steps.{streams_noted}
 
 -- nothing was written
-pub none_written : (rows : List Row) (seen : Seen) (next : ℕ) → AreFlushed rows seen next rows seen next
-none_written rows seen next = record { entries = refl; order = refl; newest = refl; loose = refl; up = omega arith; numbers = refl; streams = λ are. are }
+pub none_written : (rows : List Row) (chunks : ChunksView) → AreFlushed rows chunks rows chunks
+none_written rows chunks = record { entries = refl; order = refl; newest = refl; loose = refl; up = omega arith; numbers = refl; streams = λ are. are }
 
 -- the parts of one stream more, or some of them
-pub one_written : (first : List Row) (before : Seen) (start : ℕ) (rows : List Row) (seen : Seen) (next : ℕ) (i : ℕ) (stream new : StreamView) (after : Seen) (later : ℕ)
-    → AreFlushed first before start rows seen next → slice_get (values_of rows) i ≡ Some stream → new.labels ≡ stream.labels → new.newest ≡ stream.newest → new.head ≡ stream.head → entries_of new ≡ entries_of stream
-    → AreNoted stream.parts next new.parts later → later + unwritten_count new.parts ≡ next + unwritten_count stream.parts → (AreKept seen next stream → AreKept after later new) → (end : ℕ) → Grown seen next end after
-    → AreFlushed first before start (set_value_at rows i new) after later
-one_written first before start rows seen next i stream new after later flushed at labels newest head entries noted counted keeps end grown =
+pub one_written : (first : List Row) (a : ChunksView) (rows : List Row) (b : ChunksView) (i : ℕ) (stream new : StreamView) (c : ChunksView)
+    → AreFlushed first a rows b → slice_get (values_of rows) i ≡ Some stream → new.labels ≡ stream.labels → new.newest ≡ stream.newest → new.head ≡ stream.head → entries_of new ≡ entries_of stream
+    → AreNoted stream.parts b.next new.parts c.next → c.next + unwritten_count new.parts ≡ b.next + unwritten_count stream.parts → (AreKept b stream → AreKept c new) → Keeps b c → AreFlushed first a (set_value_at rows i new) c
+one_written first a rows b i stream new c flushed at labels newest head entries noted counted kept keeps =
     let row = with_key rows i stream at in
-    let higher : next ≤ later = omega (arith, noted.many) in
     record {
       entries = set_same entries_of rows i row.0 stream new row.1 entries ∙ flushed.entries;
       order = set_by_row_same entries_of rows i stream new at entries ∙ flushed.order;
       newest = set_each_same (λ (s : StreamView). s.newest) rows i row.0 stream new row.1 newest ∙ flushed.newest;
       loose = set_same (λ (s : StreamView). s.head) rows i row.0 stream new row.1 head ∙ flushed.loose;
-      up = omega (arith, flushed.up, higher);
+      up = omega (arith, flushed.up, keeps.up);
       numbers = omega (arith, flushed.numbers, counted, set_long (λ (s : StreamView). filter (λ part. is_none part.note) s.parts) rows i row.0 stream new row.1);
       streams = λ are.
           let now = flushed.streams are in
-          streams_noted rows seen next now i row.0 stream new row.1 after later labels entries noted end grown higher (keeps (at_row (λ row. AreKept seen next row.1) rows i (row.0, stream) now.kept row.1));
+          streams_noted rows b now i row.0 stream new row.1 c labels entries noted keeps (kept (at_row (λ row. AreKept b row.1) rows i (row.0, stream) now.kept row.1));
     }
 
 -- a stream without parts to write

@@ -6,7 +6,8 @@ use Rattle.std.specs.List.{All, AllByRecursion, AllZip, Contains, flat_map, list
 use Rattle.std.specs.Map.{values_of}
 use Rattle.rl_labels.specs.EntryOrder.{EntrySet}
 use Rattle.rl_labels.specs.declared.entry.Entry.{Entry}
-use Rattle.rl_chunks.specs.StoreState.{Seen, with_fault}
+use Rattle.rl_chunks.specs.StoreState.{with_fault}
+use Rattle.rl_parts.specs.ChunksState.{ChunksView}
 use Rattle.rl_parts.specs.StreamParts.{StreamView, entries_of}
 use Rattle.rl_parts.specs.StoreUse.{AreKept, FaultsRise, Grown}
 use Rattle.rl_parts.specs.Rewriting.{AreLeft, AreRenumbered, PlanView, note_numbers, uncovered}
@@ -81,12 +82,12 @@ abbrev pub numbers_gone : List PlanView → List ℕ
 numbers_gone plans = flat_map (λ plan. plan.gone) plans
 
 -- plans that were made in turn. Over an honest store that keeps the streams they leave what is not covered
-pub record ArePlanned (covers : Entry → Bool) (first : ℕ) (before : Seen) (plans : List PlanView) (next : ℕ) (seen : Seen) : Type 0 where
+pub record ArePlanned (covers : Entry → Bool) (before : ChunksView) (plans : List PlanView) (after : ChunksView) : Type 0 where
   pub sound : AllByRecursion IsSound plans
   pub left : AllByRecursion (λ plan. IsLeftIn covers plan.of plan.becomes) plans
-  pub numbers : AreRenumbered (numbers_before plans) first next (numbers_after plans) (numbers_gone plans)
-  pub kept : AllByRecursion (λ plan. AreKept before first plan.of) plans → AllByRecursion (λ plan. AreKept seen next plan.becomes) plans
-  pub right : before.honest ≡ true → AllByRecursion (λ plan. AreKept before first plan.of) plans → AllByRecursion (λ plan. entries_of plan.becomes ≡ uncovered covers (entries_of plan.of)) plans
+  pub numbers : AreRenumbered (numbers_before plans) before.next after.next (numbers_after plans) (numbers_gone plans)
+  pub kept : AllByRecursion (λ plan. AreKept before plan.of) plans → AllByRecursion (λ plan. AreKept after plan.becomes) plans
+  pub right : before.seen.honest ≡ true → AllByRecursion (λ plan. AreKept before plan.of) plans → AllByRecursion (λ plan. entries_of plan.becomes ≡ uncovered covers (entries_of plan.of)) plans
 
 -- the plans are those of the rows
 abbrev pub AreOf : List Row → List PlanView → Type 0
@@ -99,10 +100,11 @@ rewritten (row ∷ rows) [] = row ∷ rows
 rewritten (row ∷ rows) (plan ∷ plans) = (row.0, plan.becomes) ∷ rewritten rows plans
 
 -- what removals of these numbers leave: nothing under each, but for those that were refused
-pub record AreRemoved (old : Seen) (numbers : List ℕ) (new : Seen) : Type 0 where
-  pub honest : new.honest ≡ old.honest
-  pub faults : FaultsRise old.faults new.faults
+pub record AreRemoved (old : ChunksView) (numbers : List ℕ) (new : ChunksView) : Type 0 where
+  pub next : new.next ≡ old.next
+  pub honest : new.seen.honest ≡ old.seen.honest
+  pub faults : FaultsRise old.seen.faults new.seen.faults
   pub refused : List ℕ
-  pub counted : new.faults ≡ with_faults (length refused) old.faults
-  pub gone : (number : ℕ) → is_one_of numbers number ≡ true → is_one_of refused number ≡ false → finite.get new.blobs number ≡ None
-  pub others : (number : ℕ) → AllByRecursion (λ gone. nat_eq number gone ≡ false) numbers → finite.get new.blobs number ≡ finite.get old.blobs number
+  pub counted : new.seen.faults ≡ with_faults (length refused) old.seen.faults
+  pub gone : (number : ℕ) → is_one_of numbers number ≡ true → is_one_of refused number ≡ false → finite.get new.seen.blobs number ≡ None
+  pub others : (number : ℕ) → AllByRecursion (λ gone. nat_eq number gone ≡ false) numbers → finite.get new.seen.blobs number ≡ finite.get old.seen.blobs number

@@ -7,7 +7,7 @@ use Rattle.indexmap.specs.IndexMap.{set_value_at}
 use Rattle.rl_labels.specs.LabelSet.{LabelSet}
 use Rattle.rl_labels.specs.LabelText.{label_set_eq}
 use Rattle.rl_labels.specs.declared.entry.Entry.{Entry}
-use Rattle.rl_chunks.specs.StoreState.{Seen}
+use Rattle.rl_parts.specs.ChunksState.{ChunksView}
 use Rattle.rl_parts.specs.StreamParts.{StreamView, entries_of}
 use Rattle.rl_parts.specs.Changes.{IsStarted, IsInserted, IsHeld, AreSealed}
 use Rattle.rl_parts.specs.declared.fault.ReadFault.TheVariants as reads
@@ -23,22 +23,22 @@ AreOthers labels rows = AllByRecursion (λ row. label_set_eq labels row.0 ≡ fa
 abbrev pub IsPositionOf : List Row → LabelSet → Option ℕ → Type 0
 IsPositionOf rows labels position = MatchOption position (AreOthers labels rows) (λ i. (stream : StreamView) × (slice_get rows i ≡ Some (labels, stream)))
 
--- streams that hold what they held, over the same store
+-- streams that hold what they held, over the same chunks
 pub record AreCut (old new : List Row) : Type 0 where
   pub entries : joined new ≡ joined old
   pub order : by_stream new ≡ by_stream old
   pub newest : newest_in new ≡ newest_in old
-  pub streams : (seen : Seen) (next : ℕ) → AreStreams old seen next → AreStreams new seen next
+  pub streams : (chunks : ChunksView) → AreStreams old chunks → AreStreams new chunks
 
--- streams that hold what they held, over a store that has more of their parts
-pub record AreFlushed (old : List Row) (before : Seen) (first : ℕ) (new : List Row) (seen : Seen) (next : ℕ) : Type 0 where
+-- streams that hold what they held, over chunks that have more of their parts
+pub record AreFlushed (old : List Row) (before : ChunksView) (new : List Row) (after : ChunksView) : Type 0 where
   pub entries : joined new ≡ joined old
   pub order : by_stream new ≡ by_stream old
   pub newest : newest_in new ≡ newest_in old
   pub loose : loose_in new ≡ loose_in old
-  pub up : first ≤ next
-  pub numbers : next + length (unwritten_in new) ≡ first + length (unwritten_in old)
-  pub streams : AreStreams old before first → AreStreams new seen next
+  pub up : before.next ≤ after.next
+  pub numbers : after.next + length (unwritten_in new) ≡ before.next + length (unwritten_in old)
+  pub streams : AreStreams old before → AreStreams new after
 
 -- the stream has taken the entry, where a part has at most so many
 pub record Gains (most : ℕ) (old : StreamView) (entry : Entry) (new : StreamView) : Type 0 where
@@ -83,7 +83,7 @@ pub record AreAdded (most : ℕ) (old : List Row) (entry : Entry) (new : List Ro
   pub entries : IsPermutation (entry ∷ joined old) (joined new)
   pub newest : newest_map (newest_in new) ≡ raised (newest_map (newest_in old)) entry.labels entry.timestamp
   pub labels : (more : List LabelSet) × (keys_of new ≡ keys_of old ++ more)
-  pub streams : (seen : Seen) (next : ℕ) → AreStreams old seen next → (seen.honest ≡ true → is_among entry (joined old) ≡ false) → AreStreams new seen next
+  pub streams : (chunks : ChunksView) → AreStreams old chunks → (chunks.seen.honest ≡ true → is_among entry (joined old) ≡ false) → AreStreams new chunks
 
 -- where there is one more entry, the streams hold it too, and else they are as they were
 abbrev pub AreOffered : ℕ → Bool → List Row → Entry → List Row → Type 0

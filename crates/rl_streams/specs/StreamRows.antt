@@ -9,7 +9,7 @@ use Rattle.rl_labels.specs.LabelSet.{LabelSet}
 use Rattle.rl_labels.specs.LabelText.{label_set_cmp, label_set_eq}
 use Rattle.rl_labels.specs.EntryOrder.{entry_cmp}
 use Rattle.rl_labels.specs.declared.entry.Entry.{Entry}
-use Rattle.rl_chunks.specs.StoreState.{Seen}
+use Rattle.rl_parts.specs.ChunksState.{ChunksView}
 use Rattle.rl_parts.specs.StreamParts.{StreamView, PartView, entries_of, notes_of}
 use Rattle.rl_parts.specs.StoreUse.{AreKept}
 
@@ -65,10 +65,10 @@ pub record IsOwn (row : Row) : Type 0 where
   pub labels : row.1.labels ≡ row.0
   pub entries : All (λ entry. entry.labels ≡ row.0) (entries_of row.1)
 
--- one stream for each label set, and no number stands twice; the store keeps what it was given, and where it is honest no entry is held twice
-pub record AreStreams (rows : List Row) (seen : Seen) (next : ℕ) : Type 0 where
+-- one stream for each label set, and no number stands twice; the chunks keep their parts, and over an honest store no entry is held twice
+pub record AreStreams (rows : List Row) (chunks : ChunksView) : Type 0 where
   pub own : AllByRecursion IsOwn rows
   pub apart : IsDistinct label_set_eq (keys_of rows)
-  pub kept : AllByRecursion (λ row. AreKept seen next row.1) rows
+  pub kept : AllByRecursion (λ row. AreKept chunks row.1) rows
   pub numbers : IsDistinct nat_eq (numbers_in rows)
-  pub once : seen.honest ≡ true → IsDistinct (eq_by_cmp entry_cmp) (joined rows)
+  pub once : chunks.seen.honest ≡ true → IsDistinct (eq_by_cmp entry_cmp) (joined rows)

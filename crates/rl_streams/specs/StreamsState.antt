@@ -1,7 +1,7 @@
 -- All streams of a shard as one set, and what the calls make of it.
 use Rattle.std.specs.Prelude.{◌≡◌, ℕ, ◌+◌, ◌*◌, ◌<◌, ◌≤◌, nat_lt, Bool, false, List, [], length, Option, None, Some, Result, Ok, Err, MatchBool, if◌then◌else◌, refl}
 use base.Stored.{coded_unit}
-use Rattle.std.specs.Coded.{Coded, code_by, coded×, coded_ℕ, coded_list, coded_bool}
+use Rattle.std.specs.Coded.{Coded, code_by, coded×, coded_ℕ, coded_list}
 use Rattle.std.specs.FinMap.{FinMap, insert, empty, len, contains_key, code}
 use Rattle.rl_labels.specs.LabelSet.{label_set_code}
 use Rattle.rl_labels.specs.LabelText.{label_set_cmp}
@@ -10,7 +10,8 @@ use Rattle.rl_labels.specs.declared.entry.Entry.{Entry}
 use Rattle.rl_labels.specs.declared.limits.Limits.{Limits}
 use Rattle.rl_labels.specs.contracts.entry.Entry as entry_type
 use Rattle.rl_labels.specs.contracts.limits.Limits as limits_type
-use Rattle.rl_chunks.specs.StoreState.{Blobs, Seen}
+use Rattle.rl_chunks.specs.StoreState.{Seen}
+use Rattle.rl_parts.specs.ChunksState.{ChunksView, seen_code}
 use Rattle.rl_parts.specs.StreamParts.{stream_code}
 use Rattle.rl_parts.specs.StoreUse.{Looked, read_faults}
 use Rattle.rl_parts.specs.declared.fault.ReadFault.TheVariants as reads
@@ -37,13 +38,7 @@ pub record StreamsView : Type 0 where
   -- the streams, in the order in which they are visited
   pub rows : List Row
 
--- a store, and streams, as numbers
-abbrev pub seen_code : Coded Seen
-seen_code = code_by (Blobs × (Bool × (ℕ × ℕ))) (coded× (code coded_ℕ (coded_list coded_ℕ)) (coded× coded_bool (coded× coded_ℕ coded_ℕ)))
-    (λ s. (s.blobs, (s.honest, (s.reads, s.faults))))
-    (λ p. record { blobs = p.0; honest = p.1.0; reads = p.1.1.0; faults = p.1.1.1 })
-    (λ _. refl)
-
+-- streams as numbers
 abbrev pub streams_code : Coded StreamsView
 streams_code = code_by (Limits × (EntrySet × (FinMap label_set_cmp ℕ × (Seen × (ℕ × (ℕ × (ℕ × List Row)))))))
     (coded× limits_type.the_row.coded (coded× (code entry_type.the_row.coded coded_unit) (coded× (code label_set_code coded_ℕ) (coded× seen_code (coded× coded_ℕ (coded× coded_ℕ (coded× coded_ℕ (coded_list (coded× label_set_code stream_code)))))))))
@@ -52,16 +47,16 @@ streams_code = code_by (Limits × (EntrySet × (FinMap label_set_cmp ℕ × (See
     (λ _. refl)
 
 -- streams as they are seen
-abbrev pub view_of : Limits → List Row → Seen → ℕ → StreamsView
-view_of limits rows seen next = record { limits = limits; held = set_of (joined rows); newest = newest_map (newest_in rows); seen = seen; next = next; loose = length (loose_in rows); unwritten = length (unwritten_in rows); rows = rows }
+abbrev pub view_of : Limits → List Row → ChunksView → StreamsView
+view_of limits rows chunks = record { limits = limits; held = set_of (joined rows); newest = newest_map (newest_in rows); seen = chunks.seen; next = chunks.next; loose = length (loose_in rows); unwritten = length (unwritten_in rows); rows = rows }
 
 -- their entries stream by stream, in the order in which they are visited
 abbrev pub order_of : StreamsView → List (List Entry)
 order_of streams = by_stream streams.rows
 
 -- what is always true of them, and of the count of entries
-pub record IsWhole (limits : Limits) (rows : List Row) (seen : Seen) (next count : ℕ) : Type 0 where
-  pub streams : AreStreams rows seen next
+pub record IsWhole (limits : Limits) (rows : List Row) (chunks : ChunksView) (count : ℕ) : Type 0 where
+  pub streams : AreStreams rows chunks
   pub counted : count ≡ length (joined rows)
   pub room : count ≤ limits.entries
 

@@ -1,11 +1,11 @@
 //! How streams take an entry.
-ghost use Rattle.std.specs.Prelude.{◌≡◌, ◌≤◌, ℕ, Bool, true, false, List, IfOk, IfErr, OnOk, OnErr, if◌then◌else◌, is_none};
+ghost use Rattle.std.specs.Prelude.{◌≡◌, ◌≤◌, true, false, IfOk, IfErr, OnOk, OnErr, if◌then◌else◌};
 ghost use Rattle.std.specs.List.{AllByRecursion, IsDistinct};
 ghost use Rattle.std.specs.Map.{keys_of};
 ghost use Rattle.rl_labels.specs.LabelText.{label_set_eq};
 ghost use Rattle.rl_parts.specs.StreamParts.{entries_of, most_entries};
 ghost use Rattle.rl_parts.specs.Reading.{NoneReaches, IsFoundIn, IsMissingIn};
-ghost use Rattle.rl_parts.specs.StoreUse.{Looked, AreKept};
+ghost use Rattle.rl_parts.specs.StoreUse.{Reads, AreKept};
 ghost use Rattle.rl_streams.specs.Found.{IsFound, IsMissing, IsUnreached, IsAnswered, IsAnsweredUnread};
 ghost use Rattle.rl_streams.specs.StreamRows.{joined, newest_in, newest_map, is_among, IsOwn, AreStreams};
 ghost use Rattle.rl_streams.specs.RowSteps.{AreAdded, AreOffered, AreOthers, IsOffered, IsOfferedRight, IsPositionOf};
@@ -17,12 +17,19 @@ use crate::refusal::AddRefusal;
 use indexmap::IndexMap;
 use rl_chunks::Store;
 use rl_labels::{Entry, Labels, Limits, Ns};
-use rl_parts::Stream;
+use rl_parts::{ChunkStore, Stream};
 use rl_plain::{Shared, TryCopy};
 use std::alloc::Global;
 
 // Half of a second, in nanoseconds.
 const HALF_SECOND: u64 = 500_000_000;
+
+// How many entries a part has at most, and whether as many are held as may be.
+#[derive(Clone, Copy)]
+pub(crate) struct Room {
+    pub(crate) most: u64,
+    pub(crate) is_full: bool,
+}
 
 // Whether the entry is older than a timestamp by more than half of the age of a chunk.
 fn is_far_behind(limits: &Limits, entry: &Entry, newest: Ns) -> bool
@@ -69,31 +76,29 @@ pub(crate) fn age_refusal(
 
 // Lets a stream take an entry of its labels, unless it holds it. The answer says whether it took it.
 fn offer<S: Store>(
-    alloc: Global,
-    store: &mut S,
+    chunks: &mut ChunkStore<S>,
     stream: &mut Stream,
     entry: Shared<Entry>,
-    most: u64,
-    is_full: bool,
+    room: Room,
 ) -> Result<bool, AddRefusal>
     requires labels { entry.labels ≡ stream.old.labels }
-    requires some { 1 ≤ most }
-    requires few { most ≤ most_entries }
-    ensures looked { Looked (S.seen store.old) (S.seen store.new) }
-    ensures counted { (S.seen store.new).faults ≡ after_add result (S.seen store.old).faults }
-    ensures answers { IsAnswered result (IsFoundIn entry stream.old) (IsMissingIn entry stream.old) is_full }
-    ensures exact { NoneReaches entry.timestamp entry.timestamp stream.old → IsAnsweredUnread result (is_among entry (entries_of stream.old)) is_full × (S.seen store.new ≡ S.seen store.old) }
-    ensures taken { IfOk result (λ more. IsOffered most more stream.old entry stream.new) }
+    requires some { 1 ≤ room.most }
+    requires few { room.most ≤ most_entries }
+    ensures reads { Reads chunks.old chunks.new }
+    ensures counted { chunks.new.seen.faults ≡ after_add result chunks.old.seen.faults }
+    ensures answers { IsAnswered result (IsFoundIn entry stream.old) (IsMissingIn entry stream.old) room.is_full }
+    ensures exact { NoneReaches entry.timestamp entry.timestamp stream.old → IsAnsweredUnread result (is_among entry (entries_of stream.old)) room.is_full × (chunks.new ≡ chunks.old) }
+    ensures taken { IfOk result (λ more. IsOffered room.most more stream.old entry stream.new) }
     ensures refused { OnErr result (stream.new ≡ stream.old) }
-    ensures right { (next : ℕ) → AreKept (S.seen store.old) next stream.old → (S.seen store.old).honest ≡ true → IsOfferedRight result (is_among entry (entries_of stream.old)) }
+    ensures right { AreKept chunks.old stream.old → chunks.old.seen.honest ≡ true → IsOfferedRight result (is_among entry (entries_of stream.old)) }
 {
-    if stream.holds(alloc, store, entry.get())? {
+    if stream.holds(chunks, entry.get())? {
         return Ok(false);
     }
-    if is_full {
+    if room.is_full {
         return Err(AddRefusal::Full);
     }
-    stream.hold(entry, most)?;
+    stream.hold(entry, room.most)?;
     Ok(true)
 }
 
@@ -102,22 +107,21 @@ fn begin(
     alloc: Global,
     streams: &mut IndexMap<Labels, Stream>,
     entry: Shared<Entry>,
-    most: u64,
-    is_full: bool,
+    room: Room,
 ) -> Result<(), AddRefusal>
     requires new { AreOthers entry.labels streams.old.entries }
-    requires some { 1 ≤ most }
-    requires few { most ≤ most_entries }
-    ensures room { OnOk result (is_full ≡ false) }
-    ensures taken { OnOk result (AreAdded most streams.old.entries entry streams.new.entries) }
+    requires some { 1 ≤ room.most }
+    requires few { room.most ≤ most_entries }
+    ensures room { OnOk result (room.is_full ≡ false) }
+    ensures taken { OnOk result (AreAdded room.most streams.old.entries entry streams.new.entries) }
     ensures refused { OnErr result (streams.new.entries ≡ streams.old.entries) }
-    ensures cause { IfErr result (λ refusal. refusal ≡ (if is_full then Full else Read Memory)) }
+    ensures cause { IfErr result (λ refusal. refusal ≡ (if room.is_full then Full else Read Memory)) }
 {
-    if is_full {
+    if room.is_full {
         return Err(AddRefusal::Full);
     }
     let labels = entry.get().labels.try_copy()?;
-    let stream = Stream::start(alloc, entry, most)?;
+    let stream = Stream::start(alloc, entry, room.most)?;
     streams.insert(labels, stream)?;
     Ok(())
 }
@@ -125,32 +129,30 @@ fn begin(
 // Lets the stream of its labels take the entry, unless it is held. A new stream comes after the others. The answer says
 // whether there is one entry more.
 pub(crate) fn put<S: Store>(
-    alloc: Global,
-    store: &mut S,
+    chunks: &mut ChunkStore<S>,
     streams: &mut IndexMap<Labels, Stream>,
     position: Option<usize>,
     entry: Shared<Entry>,
-    most: u64,
-    is_full: bool,
+    room: Room,
 ) -> Result<bool, AddRefusal>
     requires position { IsPositionOf streams.old.entries entry.labels position }
     requires own { AllByRecursion IsOwn streams.old.entries }
     requires apart { IsDistinct label_set_eq (keys_of streams.old.entries) }
-    requires some { 1 ≤ most }
-    requires few { most ≤ most_entries }
-    ensures looked { Looked (S.seen store.old) (S.seen store.new) }
-    ensures counted { (S.seen store.new).faults ≡ after_add result (S.seen store.old).faults }
-    ensures answers { IsAnswered result (IsFound streams.old.entries entry) (IsMissing streams.old.entries entry) is_full }
-    ensures exact { IsUnreached streams.old.entries entry → IsAnsweredUnread result (is_among entry (joined streams.old.entries)) is_full × (S.seen store.new ≡ S.seen store.old) }
-    ensures taken { IfOk result (λ more. AreOffered most more streams.old.entries entry streams.new.entries) }
+    requires some { 1 ≤ room.most }
+    requires few { room.most ≤ most_entries }
+    ensures reads { Reads chunks.old chunks.new }
+    ensures counted { chunks.new.seen.faults ≡ after_add result chunks.old.seen.faults }
+    ensures answers { IsAnswered result (IsFound streams.old.entries entry) (IsMissing streams.old.entries entry) room.is_full }
+    ensures exact { IsUnreached streams.old.entries entry → IsAnsweredUnread result (is_among entry (joined streams.old.entries)) room.is_full × (chunks.new ≡ chunks.old) }
+    ensures taken { IfOk result (λ more. AreOffered room.most more streams.old.entries entry streams.new.entries) }
     ensures refused { OnErr result (streams.new.entries ≡ streams.old.entries) }
-    ensures right { (next : ℕ) → AreStreams streams.old.entries (S.seen store.old) next → (S.seen store.old).honest ≡ true → IsOfferedRight result (is_among entry (joined streams.old.entries)) }
+    ensures right { AreStreams streams.old.entries chunks.old → chunks.old.seen.honest ≡ true → IsOfferedRight result (is_among entry (joined streams.old.entries)) }
 {
     match position {
         None => {
-            begin(alloc, streams, entry, most, is_full)?;
+            begin(*chunks.allocator(), streams, entry, room)?;
             Ok(true)
         }
-        Some(position) => offer(alloc, store, &mut streams[position], entry, most, is_full),
+        Some(position) => offer(chunks, &mut streams[position], entry, room),
     }
 }

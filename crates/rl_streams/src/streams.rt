@@ -2,7 +2,7 @@
 ghost use Rattle.std.specs.Prelude.{◌≡◌, ◌+◌, ◌<◌, ◌≤◌, ◌++◌, [], ◌∷◌, length, true, false, None, Ok, Err, IfOk, IsErrOf, MatchOption, OnErr, OnOk};
 ghost use Rattle.rl_chunks.specs.StoreState.{greatest};
 
-use crate::adding::{age_refusal, position_of, put};
+use crate::adding::{Room, age_refusal, position_of, put};
 use crate::cursor::Cursor;
 use crate::lines::WaitingLines;
 use crate::refusal::AddRefusal;
@@ -11,7 +11,7 @@ use crate::{cutting, flushing, reading, rewriting};
 use indexmap::IndexMap;
 use rl_chunks::Store;
 use rl_labels::{Covers, Entry, Labels, Limits, Matcher, Ns, SelectorCode};
-use rl_parts::{FlushFault, ReadFault, RewriteFault, Stream, Visitor};
+use rl_parts::{ChunkStore, FlushFault, ReadFault, RewriteFault, Stream, Visitor};
 use rl_plain::{PlainList, Shared};
 use std::alloc::{AllocError, Global};
 use std::marker::Model;
@@ -20,13 +20,11 @@ use std::marker::Model;
 /// the store, and the next number of a chunk.
 #[derive(Drop)]
 pub struct Streams<S: Store> {
-    alloc: Global,
-    store: S,
+    chunks: ChunkStore<S>,
     limits: Limits,
     streams: IndexMap<Labels, Stream>,
     // How many entries there are in all streams.
     count: u64,
-    next: u64,
     // Which streams the selectors select that were asked last.
     selections: Selections,
 }
@@ -40,9 +38,9 @@ impl<S: Store> Model for Streams<S> {
 
     ghost coded = { streams_code };
 
-    ghost view = { λ a. view_of a.limits a.streams.entries (S.seen a.store) a.next };
+    ghost view = { λ a. view_of a.limits a.streams.entries a.chunks };
 
-    ghost invariant = { λ a. IsWhole a.limits a.streams.entries (S.seen a.store) a.next a.count × AreSelections (keys_of a.streams.entries) a.selections };
+    ghost invariant = { λ a. IsWhole a.limits a.streams.entries a.chunks a.count × AreSelections (keys_of a.streams.entries) a.selections };
 }
 
 impl<S: Store> Streams<S> {
@@ -59,13 +57,12 @@ impl<S: Store> Streams<S> {
     pub fn new(alloc: Global, store: S, limits: Limits) -> Self
         ensures { result ≡ no_streams limits (S.seen store) }
     {
+        let first = limits.first_blob;
         Streams {
-            alloc,
-            store,
+            chunks: ChunkStore::new(alloc, store, first),
             limits,
             streams: IndexMap::new(alloc),
             count: 0,
-            next: limits.first_blob,
             selections: Selections::new(alloc),
         }
     }
@@ -74,7 +71,7 @@ impl<S: Store> Streams<S> {
     pub fn store(&self) -> &S
         ensures { S.seen result.now ≡ self.now.seen }
     {
-        &self.store
+        self.chunks.store()
     }
 
     /// The limits.
@@ -116,10 +113,12 @@ impl<S: Store> Streams<S> {
         if let Some(refusal) = refusal {
             return Err(refusal);
         }
-        let is_full = self.count >= self.limits.entries;
-        let most = self.limits.chunk_entries;
-        let (store, streams) = (&mut self.store, &mut self.streams);
-        if !put(self.alloc, store, streams, position, entry, most, is_full)? {
+        let room = Room {
+            most: self.limits.chunk_entries,
+            is_full: self.count >= self.limits.entries,
+        };
+        let (chunks, streams) = (&mut self.chunks, &mut self.streams);
+        if !put(chunks, streams, position, entry, room)? {
             return Ok(());
         }
         self.count += 1;
@@ -136,13 +135,8 @@ impl<S: Store> Streams<S> {
         ensures spent { IsErrOf result FlushFault.NumbersSpent → self.new.next ≡ greatest }
         ensures numbers { self.new.next ≤ greatest }
     {
-        let flushed = flushing::flush(
-            self.alloc,
-            &mut self.store,
-            &mut self.streams,
-            &mut self.next,
-        );
-        show_bound(self.next);
+        let flushed = flushing::flush(&mut self.chunks, &mut self.streams);
+        let _next = self.chunks.next();
         flushed
     }
 
@@ -160,11 +154,10 @@ impl<S: Store> Streams<S> {
         ensures spent { IsErrOf result RewriteFault.NumbersSpent → self.new.next ≡ greatest }
         ensures numbers { self.new.next ≤ greatest }
     {
-        let (store, streams) = (&mut self.store, &self.streams);
-        let planned = rewriting::plan_all(self.alloc, store, streams, covered, &mut self.next);
-        show_bound(self.next);
+        let planned = rewriting::plan_all(&mut self.chunks, &self.streams, covered);
+        let _next = self.chunks.next();
         let plans = planned?;
-        rewriting::carry_out_all(&mut self.store, &mut self.streams, plans);
+        rewriting::carry_out_all(&mut self.chunks, &mut self.streams, plans);
         self.count = rewriting::count(&self.streams, self.count);
         Ok(())
     }
@@ -181,7 +174,7 @@ impl<S: Store> Streams<S> {
         ensures exact { IsUnreached self.old.rows entry.now → (result ≡ Ok (contains_key self.old.held entry.now)) × (self.new ≡ self.old) }
         ensures right { self.old.seen.honest ≡ true → Right result (λ found. found ≡ contains_key self.old.held entry.now) }
     {
-        reading::holds(self.alloc, &mut self.store, &self.streams, entry)
+        reading::holds(&mut self.chunks, &self.streams, entry)
     }
 
     /// Visits the lines from one moment to another, both included, of the streams that the selector selects: each once,
@@ -201,10 +194,11 @@ impl<S: Store> Streams<S> {
         ensures visited { OnOk result (AreVisited T.visiting selector.now from to self.old.rows visitor.old visitor.new) }
         ensures right { self.old.seen.honest ≡ true → Right result (λ _. AreVisitedOnce selector.now from to self.old.held T.visiting visitor.old visitor.new) }
     {
-        let (store, streams) = (&mut self.store, &self.streams);
-        let position = self.selections.select(self.alloc, streams, selector)?;
+        let alloc = *self.chunks.allocator();
+        let position = self.selections.select(alloc, &self.streams, selector)?;
         let selection = self.selections.at(position);
-        reading::each(self.alloc, store, streams, selection, from, to, visitor)
+        let (chunks, streams) = (&mut self.chunks, &self.streams);
+        reading::each(chunks, streams, selection, from, to, visitor)
     }
 
     /// A cursor over the lines from one moment to another, both included, of the streams that the selector selects. Over an
@@ -215,7 +209,7 @@ impl<S: Store> Streams<S> {
         ensures asks { (result.selector.now ≡ selector.now) × (result.from ≡ from) × (result.to ≡ to) }
         ensures left { self.old.seen.honest ≡ true → AreVisitedOnce selector.now from to self.old.held (λ lines line. lines ++ line ∷ []) [] (left_in result) }
     {
-        let lines = WaitingLines::new(self.alloc);
+        let lines = WaitingLines::new(*self.chunks.allocator());
         Cursor::new(self, selector, from, to, lines)
     }
 
@@ -241,12 +235,7 @@ impl<S: Store> Streams<S> {
         ensures asked { OnOk result (AreAsked self.old.rows selector.now from to position lines.old (position + 1) lines.new) }
         ensures right { self.old.seen.honest ≡ true → Right result (λ _. lines.new ≡ lines.old ++ visited_at selector.now from to (order_of self.old) position) }
     {
-        let (store, stream) = (&mut self.store, &self.streams[position]);
-        reading::each_selected(self.alloc, store, stream, selector, from, to, lines)
+        let (chunks, stream) = (&mut self.chunks, &self.streams[position]);
+        reading::each_selected(chunks, stream, selector, from, to, lines)
     }
 }
-
-// Shows contracts that a number of 64 bits is within the greatest.
-fn show_bound(number: u64)
-    ensures { number ≤ greatest }
-{}

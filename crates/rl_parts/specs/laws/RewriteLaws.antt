@@ -24,15 +24,15 @@ range-through first mid next le more =
     ap (range_with_len first) many ∙ range-append first (mid - first) (next - mid) ∙ ap (λ n. range_with_len first (mid - first) ++ range_with_len n (next - mid)) start
 
 -- no number is new
-pub range-none : (first : ℕ) → range_with_len first (first - first) ≡ []
-range-none first = let none : first - first ≡ 0 = omega arith in ap (range_with_len first) none
+pub range-none : (first next : ℕ) → next ≡ first → range_with_len first (next - first) ≡ []
+range-none first next same = let none : next - first ≡ 0 = omega (arith, same) in ap (range_with_len first) none
 
 -- all numbers stay
-pub AreRenumbered-none : (numbers : List ℕ) (first : ℕ) → AreRenumbered numbers first first numbers []
-AreRenumbered-none numbers first =
-    let all : numbers ≡ numbers ++ range_with_len first (first - first) = sym (ap (λ ns. numbers ++ ns) (range-none first) ∙ append_nil numbers) in
+pub AreRenumbered-none : (numbers : List ℕ) (first next : ℕ) → next ≡ first → AreRenumbered numbers first next numbers []
+AreRenumbered-none numbers first next same =
+    let all : numbers ≡ numbers ++ range_with_len first (next - first) = sym (ap (λ ns. numbers ++ ns) (range-none first next same) ∙ append_nil numbers) in
     record {
-      up = omega arith;
+      up = omega (arith, same);
       stay = numbers;
       before = subst (λ ns. IsPermutation numbers ns) (sym (append_nil numbers)) (IsPermutation-refl numbers);
       now = subst (λ ns. IsPermutation numbers ns) all (IsPermutation-refl numbers);

@@ -6,8 +6,10 @@ use Rattle.std.proofs.lemmas.Bool.{cases_lt}
 use Rattle.std.specs.FinMap as map
 use Rattle.rl_labels.specs.LabelSet.{LabelSet}
 use Rattle.rl_chunks.specs.StoreState.{Seen, greatest, with_fault}
+use Rattle.rl_parts.specs.ChunksState.{ChunksView}
+use Rattle.rl_parts.specs.laws.EachLaws.{all_after, all_both, all_front, all_weaker}
 use Rattle.rl_parts.specs.StreamParts.{Note, PartView, StreamView, chunk_of, listed, notes_of}
-use Rattle.rl_parts.specs.StoreUse.{FaultsRise, FaultCame, Looked, Grown, IsGrown, IsNoteOf, IsKept, AreKept, after_read, after_flush, read_faults, flush_faults}
+use Rattle.rl_parts.specs.StoreUse.{FaultsRise, FaultCame, Looked, Reads, Puts, ArePut, Keeps, IsNoteOf, IsKept, AreKept, after_read, after_flush, read_faults, flush_faults}
 use Rattle.rl_parts.specs.declared.fault.ReadFault.{ReadFault}
 use Rattle.rl_parts.specs.declared.fault.ReadFault.TheVariants as reads
 use Rattle.rl_parts.specs.declared.fault.FlushFault.{FlushFault}
@@ -21,52 +23,62 @@ use Rattle.rl_parts.specs.declared.fault.RewriteFault.TheVariants as rewrites
 pub Looked-none : (seen : Seen) → Looked seen seen
 Looked-none seen = record { blobs = refl; honest = refl }
 
-pub Grown-none : (seen : Seen) (first end : ℕ) → Grown seen first end seen
-Grown-none seen first end = record { honest = refl; others = λ number apart. refl }
+pub Reads-none : (chunks : ChunksView) → Reads chunks chunks
+Reads-none chunks = record { seen = Looked-none chunks.seen; next = refl }
+
+pub Puts-none : (chunks : ChunksView) (end : ℕ) → Puts chunks end chunks
+Puts-none chunks end = record { up = omega arith; seen = record { honest = refl; others = λ number apart. refl } }
 
 -- one call after another
 pub Looked-then : (a b c : Seen) → Looked a b → Looked b c → Looked a c
 Looked-then a b c p q = record { blobs = q.blobs ∙ p.blobs; honest = q.honest ∙ p.honest }
 
-pub Grown-then : (a : Seen) (first end : ℕ) (b : Seen) (higher last : ℕ) (c : Seen) → first ≤ higher → end ≤ last → Grown a first end b → Grown b higher last c → Grown a first last c
-Grown-then a first end b higher last c up far p q = record { honest = q.honest ∙ p.honest; others = λ number apart. q.others number (later apart) ∙ p.others number (earlier apart) }
+pub Reads-then : (a b c : ChunksView) → Reads a b → Reads b c → Reads a c
+Reads-then a b c p q = record { seen = Looked-then a.seen b.seen c.seen p.seen q.seen; next = q.next ∙ p.next }
+
+pub Puts-then : (a b c : ChunksView) (end : ℕ) → b.next ≤ end → Puts a b.next b → Puts b end c → Puts a end c
+Puts-then a b c end far p q = record {
+  up = omega (arith, p.up, q.up);
+  seen = record { honest = q.seen.honest ∙ p.seen.honest; others = λ number apart. q.seen.others number (later apart) ∙ p.seen.others number (earlier apart) };
+}
   where
-    later : {number : ℕ} → (number < first) ⊎ (last ≤ number) → (number < higher) ⊎ (last ≤ number)
-    later (inl low) = inl (omega arith)
+    later : {number : ℕ} → (number < a.next) ⊎ (end ≤ number) → (number < b.next) ⊎ (end ≤ number)
+    later (inl low) = inl (omega (arith, p.up, low))
     later (inr high) = inr high
 
-    earlier : {number : ℕ} → (number < first) ⊎ (last ≤ number) → (number < first) ⊎ (end ≤ number)
+    earlier : {number : ℕ} → (number < a.next) ⊎ (end ≤ number) → (number < a.next) ⊎ (b.next ≤ number)
     earlier (inl low) = inl low
-    earlier (inr high) = inr (omega arith)
+    earlier (inr high) = inr (omega (arith, far, high))
 
--- puts below an end are puts below a later one
-pub Grown-wider : (a : Seen) (first end later : ℕ) (b : Seen) → end ≤ later → Grown a first end b → Grown a first later b
-Grown-wider a first end later b le p = record { honest = p.honest; others = λ number apart. p.others number (earlier apart) }
-  where
-    earlier : {number : ℕ} → (number < first) ⊎ (later ≤ number) → (number < first) ⊎ (end ≤ number)
-    earlier (inl low) = inl low
-    earlier (inr high) = inr (omega arith)
+pub ArePut-then : {A E : Type 0} (result : Result A E) (a b c : ChunksView) → Puts a b.next b → ArePut result b c → ArePut result a c
+ArePut-then (Ok answer) a b c p q = Puts-then a b c c.next q.up p q
+ArePut-then (Err fault) a b c p q = Puts-then a b c (c.next + 1) (omega (arith, q.up)) p q
 
 -- reads leave what puts may leave
-pub Grown-looked : (a b : Seen) (first end : ℕ) → Looked a b → Grown a first end b
-Grown-looked a b first end looked = record { honest = looked.honest; others = λ number apart. ap (λ blobs. map.get blobs number) looked.blobs }
+pub Puts-reads : (a b : ChunksView) (end : ℕ) → Reads a b → Puts a end b
+Puts-reads a b end p = record { up = omega (arith, p.next); seen = record { honest = p.seen.honest; others = λ number apart. ap (λ blobs. map.get blobs number) p.seen.blobs } }
 
--- what calls with an answer leave, before others and after them
-pub IsGrown-none : {A E : Type 0} (result : Result A E) (seen : Seen) (first next : ℕ) → IsGrown result seen first next seen
-IsGrown-none (Ok answer) seen first next = Grown-none seen first next
-IsGrown-none (Err fault) seen first next = Grown-none seen first (next + 1)
+-- puts below an end are puts below a later one
+pub Puts-wider : (a b : ChunksView) → Puts a b.next b → Puts a (b.next + 1) b
+Puts-wider a b p = record { up = p.up; seen = record { honest = p.seen.honest; others = λ number apart. p.seen.others number (earlier apart) } }
+  where
+    earlier : {number : ℕ} → (number < a.next) ⊎ (b.next + 1 ≤ number) → (number < a.next) ⊎ (b.next ≤ number)
+    earlier (inl low) = inl low
+    earlier (inr high) = inr (omega arith)
 
-pub IsGrown-of : {A E : Type 0} (result : Result A E) (old : Seen) (first next : ℕ) (new : Seen) → Grown old first next new → IsGrown result old first next new
-IsGrown-of (Ok answer) old first next new p = p
-IsGrown-of (Err fault) old first next new p = Grown-wider old first next (next + 1) new (omega arith) p
+-- both keep what was kept, one after another
+pub Keeps-reads : (a b : ChunksView) → Reads a b → Keeps a b
+Keeps-reads a b p = record { up = omega (arith, p.next); honest = p.seen.honest; blobs = λ number low. ap (λ blobs. map.get blobs number) p.seen.blobs }
 
-pub Grown-of : {A E : Type 0} (result : Result A E) (old : Seen) (first next : ℕ) (new : Seen) → IsGrown result old first next new → Grown old first (next + 1) new
-Grown-of (Ok answer) old first next new p = Grown-wider old first next (next + 1) new (omega arith) p
-Grown-of (Err fault) old first next new p = p
+pub Keeps-puts : (a b : ChunksView) (end : ℕ) → Puts a end b → Keeps a b
+Keeps-puts a b end p = record { up = p.up; honest = p.seen.honest; blobs = λ number low. p.seen.others number (inl low) }
 
-pub IsGrown-then : {A E : Type 0} (result : Result A E) (a : Seen) (first mid : ℕ) (b : Seen) (next : ℕ) (c : Seen) → first ≤ mid → mid ≤ next → Grown a first mid b → IsGrown result b mid next c → IsGrown result a first next c
-IsGrown-then (Ok answer) a first mid b next c up far p q = Grown-then a first mid b mid next c up far p q
-IsGrown-then (Err fault) a first mid b next c up far p q = Grown-then a first mid b mid (next + 1) c up (omega arith) p q
+pub Keeps-put : {A E : Type 0} (result : Result A E) (a b : ChunksView) → ArePut result a b → Keeps a b
+Keeps-put (Ok answer) a b p = Keeps-puts a b b.next p
+Keeps-put (Err fault) a b p = Keeps-puts a b (b.next + 1) p
+
+pub Keeps-then : (a b c : ChunksView) → Keeps a b → Keeps b c → Keeps a c
+Keeps-then a b c p q = record { up = omega (arith, p.up, q.up); honest = q.honest ∙ p.honest; blobs = λ number low. q.blobs number (omega (arith, p.up, low)) ∙ p.blobs number low }
 
 -- a fault that came stays one, before and after other calls
 pub FaultCame-after : (a b c : ℕ) → FaultsRise a b → FaultCame b c → FaultCame a c
@@ -77,59 +89,38 @@ pub FaultCame-before : (a b c : ℕ) → FaultCame a b → FaultsRise b c → Fa
 FaultCame-before a b c (inl came) rise = inl (omega arith)
 FaultCame-before a b c (inr spent) rise = inr (omega arith)
 
--- of each part in turn
-pub each_part : (P Q : PartView → Type 0) → ((part : PartView) → P part → Q part) → (parts : List PartView) → AllByRecursion P parts → AllByRecursion Q parts
-each_part P Q f [] h = tt
-each_part P Q f (part ∷ parts) h = (f part h.0, each_part P Q f parts h.1)
+pub IsKept-keeps : (labels : LabelSet) (old new : ChunksView) (part : PartView) → Keeps old new → IsKept old labels part → IsKept new labels part
+IsKept-keeps labels old new part keeps = at part.note
+  where
+    at : (note : Option Note) → IfSome note (IsNoteOf old (chunk_of labels part.entries)) → IfSome note (IsNoteOf new (chunk_of labels part.entries))
+    at None is = tt
+    at (Some note) is = record { given = omega (arith, is.given, keeps.up); digest = is.digest; read = is.read; kept = λ honest. keeps.blobs note.number is.given ∙ is.kept (sym keeps.honest ∙ honest) }
 
-noted_after : (P Q : Note → Type 0) → ((note : Note) → P note → Q note) → (note : Option Note) → IfSome note P → IfSome note Q
-noted_after P Q f None h = tt
-noted_after P Q f (Some note) h = f note h
+pub AreKept-keeps : (old new : ChunksView) (stream : StreamView) → Keeps old new → AreKept old stream → AreKept new stream
+AreKept-keeps old new stream keeps = all_weaker (IsKept old stream.labels) (IsKept new stream.labels) (λ part. IsKept-keeps stream.labels old new part keeps) stream.parts
 
--- reads leave a part kept
-pub IsKept-looked : (old new : Seen) (next : ℕ) (labels : LabelSet) → Looked old new → (part : PartView) → IsKept old next labels part → IsKept new next labels part
-IsKept-looked old new next labels looked part kept =
-    noted_after (IsNoteOf old next (chunk_of labels part.entries)) (IsNoteOf new next (chunk_of labels part.entries)) (λ note is. record {
-      given = is.given;
-      digest = is.digest;
-      read = is.read;
-      kept = λ honest. ap (λ blobs. map.get blobs note.number) looked.blobs ∙ is.kept (sym looked.honest ∙ honest);
-    }) part.note kept
+-- what is kept of some items, and then of others, is kept of all of them
+module _ {A B : Type 0} (P : ChunksView → A → Type 0) (Q : ChunksView → B → Type 0) (stays : (old new : ChunksView) (x : A) → Keeps old new → P old x → P new x) (remains : (old new : ChunksView) (y : B) → Keeps old new → Q old y → Q new y) where
+  pub kept_later : (a b : ChunksView) → Keeps a b → (xs others : List A) → AllByRecursion (P a) (xs ++ others) → AllByRecursion (P b) others
+  kept_later a b keeps xs others h = all_weaker (P a) (P b) (λ x. stays a b x keeps) others (all_after (P a) xs others h)
 
--- and so do puts under numbers from the next on
-pub IsKept-grown : (old new : Seen) (next end later : ℕ) (labels : LabelSet) → Grown old next end new → next ≤ later → (part : PartView) → IsKept old next labels part → IsKept new later labels part
-IsKept-grown old new next end later labels grown le part kept =
-    noted_after (IsNoteOf old next (chunk_of labels part.entries)) (IsNoteOf new later (chunk_of labels part.entries)) (λ note is. record {
-      given = omega (arith, is.given);
-      digest = is.digest;
-      read = is.read;
-      kept = λ honest. grown.others note.number (inl is.given) ∙ is.kept (sym grown.honest ∙ honest);
-    }) part.note kept
-
--- and both leave all parts of a stream kept
-pub AreKept-looked : (old new : Seen) (next : ℕ) (stream : StreamView) → Looked old new → AreKept old next stream → AreKept new next stream
-AreKept-looked old new next stream looked = each_part (IsKept old next stream.labels) (IsKept new next stream.labels) (IsKept-looked old new next stream.labels looked) stream.parts
-
-pub AreKept-grown : (old new : Seen) (next end later : ℕ) (stream : StreamView) → Grown old next end new → next ≤ later → AreKept old next stream → AreKept new later stream
-AreKept-grown old new next end later stream grown le = each_part (IsKept old next stream.labels) (IsKept new later stream.labels) (IsKept-grown old new next end later stream.labels grown le) stream.parts
+  pub kept_then : (a b c : ChunksView) → Keeps a b → Keeps b c → (xs others : List A) (ys more : List B) → (AllByRecursion (P a) xs → AllByRecursion (Q b) ys) → (AllByRecursion (P b) others → AllByRecursion (Q c) more)
+      → AllByRecursion (P a) (xs ++ others) → AllByRecursion (Q c) (ys ++ more)
+  kept_then a b c keeps later xs others ys more first second h =
+      all_both (Q c) ys more (all_weaker (Q b) (Q c) (λ y. remains b c y later) ys (first (all_front (P a) xs others h))) (second (kept_later a b keeps xs others h))
 
 -- parts that no store has ask for nothing
-pub AreKept-unwritten : (seen : Seen) (next : ℕ) (labels : LabelSet) (parts : List PartView) → notes_of parts ≡ [] → AllByRecursion (IsKept seen next labels) parts
-AreKept-unwritten seen next labels [] none = tt
-AreKept-unwritten seen next labels (part ∷ parts) none = (at part.note none, AreKept-unwritten seen next labels parts (rest part.note none))
+pub AreKept-unwritten : (chunks : ChunksView) (labels : LabelSet) (parts : List PartView) → notes_of parts ≡ [] → AllByRecursion (IsKept chunks labels) parts
+AreKept-unwritten chunks labels [] none = tt
+AreKept-unwritten chunks labels (part ∷ parts) none = (at part.note none, AreKept-unwritten chunks labels parts (rest part.note none))
   where
-    at : (note : Option Note) → listed note ++ notes_of parts ≡ [] → IfSome note (IsNoteOf seen next (chunk_of labels part.entries))
+    at : (note : Option Note) → listed note ++ notes_of parts ≡ [] → IfSome note (IsNoteOf chunks (chunk_of labels part.entries))
     at None h = tt
     at (Some note) h = cc
 
     rest : (note : Option Note) → listed note ++ notes_of parts ≡ [] → notes_of parts ≡ []
     rest None h = h
     rest (Some note) h = cc
-
--- and sealing keeps what is kept
-pub AreKept-append : (seen : Seen) (next : ℕ) (labels : LabelSet) (parts others : List PartView) → AllByRecursion (IsKept seen next labels) parts → AllByRecursion (IsKept seen next labels) others → AllByRecursion (IsKept seen next labels) (parts ++ others)
-AreKept-append seen next labels [] others h k = k
-AreKept-append seen next labels (part ∷ parts) others h k = (h.0, AreKept-append seen next labels parts others h.1 k)
 
 -- faults that were counted exactly rise, and one that was answered came
 pub with_fault-rises : (faults : ℕ) → FaultsRise faults (with_fault faults)

@@ -2,27 +2,25 @@
 use Rattle.std.proofs.Common.{◌+◌, [], ◌∷◌, length, ap, ◌∙◌, arith}
 use Rattle.std.proofs.lemmas.List.{length-append}
 use Rattle.std.proofs.lemmas.Result.{err_from_is_err_and}
-use Rattle.rl_parts.specs.laws.UseLaws.{Grown-then}
+use Rattle.rl_parts.specs.laws.UseLaws.{Keeps-put, Keeps-puts, Puts-then}
 use Rattle.rl_parts.proofs.Leaving.{planned_more}
 use Rattle.rl_parts.proofs.plan.plan_parts.Goals as goal
 
 pub loop-part-preserved : goal.loop-part-preserved
 loop-part-preserved g c =
-    let start = g.S.Store.seen c.args.store.now in
-    let seen = g.S.Store.seen c.loop-part.store in
-    let after = g.S.Store.seen c.plan_part.new.store in
-    let before = c.loop-part.invariant in
+    let start = c.args.chunks.now in
+    let loop = c.loop-part in
+    let after = c.plan_part.new.chunks in
     let more = c.in_ok-plan_part.ensures.more in
     record {
-      rewritten = planned_more (g.C.Covers.covers c.args.covered.now) c.args.labels.now c.args.parts.now c.loop-part.part-index c.part-item.result c.args.next.now start c.loop-part.changes.items c.loop-part.gone.items c.loop-part.next seen c.plan_part.new.next after c.plan_part.new.changes.items c.plan_part.new.gone.items
-          c.loop-part-test.true c.part-item.is before.many before.rewritten before.grown more c.in_ok-plan_part.ensures.grown;
-      grown = Grown-then start c.args.next.now c.loop-part.next seen c.loop-part.next c.plan_part.new.next after before.rewritten.numbers.up c.plan_part.ensures.next before.grown c.in_ok-plan_part.ensures.grown;
-      counted = c.in_ok-plan_part.ensures.counted ∙ before.counted;
-      many = omega (arith, before.many, ap length more.appended, length-append c.loop-part.changes.items (more.change ∷ []));
+      rewritten = planned_more (g.C.Covers.covers c.args.covered.now) c.args.labels.now start loop.chunks after c.args.parts.now loop.part-index c.part-item.result loop.changes c.plan_part.new.changes
+          c.loop-part-test.true c.part-item.is loop.invariant.many (Keeps-puts start loop.chunks loop.chunks.next loop.invariant.puts) (Keeps-put c.plan_part.result loop.chunks after c.plan_part.ensures.puts) loop.invariant.rewritten more;
+      puts = Puts-then start loop.chunks after after.next c.in_ok-plan_part.ensures.puts.up loop.invariant.puts c.in_ok-plan_part.ensures.puts;
+      counted = c.in_ok-plan_part.ensures.counted ∙ loop.invariant.counted;
+      many = omega (arith, loop.invariant.many, ap length more.appended, length-append loop.changes.of_parts.items (more.change ∷ []));
     }
 
-pub returns-in_err-plan_part-clause-grown : goal.returns-in_err-plan_part-clause-grown
-returns-in_err-plan_part-clause-grown g c =
+pub returns-in_err-plan_part-clause-puts : goal.returns-in_err-plan_part-clause-puts
+returns-in_err-plan_part-clause-puts g c =
     let p = err_from_is_err_and c.from_residual.result c.from_residual.ensures.1 in
-    let before = c.loop-part.invariant in
-    rw p.1 (Grown-then (g.S.Store.seen c.args.store.now) c.args.next.now c.loop-part.next (g.S.Store.seen c.loop-part.store) c.loop-part.next (c.plan_part.new.next + 1) (g.S.Store.seen c.plan_part.new.store) before.rewritten.numbers.up (omega (arith, c.plan_part.ensures.next)) before.grown c.in_err-plan_part.ensures.grown)
+    rw p.1 (Puts-then c.args.chunks.now c.loop-part.chunks c.plan_part.new.chunks (c.plan_part.new.chunks.next + 1) (omega (arith, c.in_err-plan_part.ensures.puts.up)) c.loop-part.invariant.puts c.in_err-plan_part.ensures.puts)

@@ -17,13 +17,13 @@ use Rattle.rl_parts.proofs.Times.{up_to_last}
 use Rattle.rl_parts.proofs.rewriting.read_again.Goals as goal
 
 pub returns-in_err-chunk-clause-right : goal.returns-in_err-chunk-clause-right
-returns-in_err-chunk-clause-right g c = λ labels next part range fingerprints is honest.
+returns-in_err-chunk-clause-right g c = λ labels part range fingerprints is honest.
     let p = err_from_is_err_and c.from_residual.result c.from_residual.ensures.1 in
     let chunk = chunk_of labels c.args.written.now.entries.value in
     rw (p.1, p.2) (right_on c.in_err-chunk.field-0.0 _ _ (c.in_err-chunk.ensures.right (chunk_text Short chunk) chunk honest (is.kept honest) (sym is.digest) is.read))
 
 pub returns-then-not-are_of_part-clause-right : goal.returns-then-not-are_of_part-clause-right
-returns-then-not-are_of_part-clause-right g c = λ labels next part range fingerprints is honest.
+returns-then-not-are_of_part-clause-right g c = λ labels part range fingerprints is honest.
     let entries = c.args.written.now.entries.value in
     let chunk = chunk_of labels entries in
     let same : c.in_ok-chunk.chunk ≡ chunk = c.in_ok-chunk.ensures.right (chunk_text Short chunk) chunk honest (is.kept honest) (sym is.digest) is.read in

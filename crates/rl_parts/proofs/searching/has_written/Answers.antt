@@ -14,13 +14,13 @@ use Rattle.rl_parts.proofs.Refusals.{right_on}
 use Rattle.rl_parts.proofs.searching.has_written.Goals as goal
 
 pub returns-then-not-may_have-clause-right : goal.returns-then-not-may_have-clause-right
-returns-then-not-may_have-clause-right g c = λ next is honest. no (c.may_have.ensures.absent c.if-not-may_have.true)
+returns-then-not-may_have-clause-right g c = λ is honest. no (c.may_have.ensures.absent c.if-not-may_have.true)
 
 pub returns-in_err-chunk-clause-unread : goal.returns-in_err-chunk-clause-unread
 returns-in_err-chunk-clause-unread g c = λ apart. absurd (c.may_have.ensures.reaches c.if-not-may_have.false apart)
 
 pub returns-in_err-chunk-clause-right : goal.returns-in_err-chunk-clause-right
-returns-in_err-chunk-clause-right g c = λ next is honest.
+returns-in_err-chunk-clause-right g c = λ is honest.
     let p = err_from_is_err_and c.from_residual.result c.from_residual.ensures.1 in
     let chunk = chunk_of c.args.entry.now.labels c.args.written.now.entries.value in
     rw (p.1, p.2) (right_on c.in_err-chunk.field-0.0 _ _ (c.in_err-chunk.ensures.right (chunk_text Short chunk) chunk honest (is.kept honest) (sym is.digest) is.read))
@@ -29,7 +29,7 @@ pub returns-clause-unread : goal.returns-clause-unread
 returns-clause-unread g c = λ apart. absurd (c.may_have.ensures.reaches c.if-not-may_have.false apart)
 
 pub returns-clause-right : goal.returns-clause-right
-returns-clause-right g c = λ next is honest.
+returns-clause-right g c = λ is honest.
     let entries = c.args.written.now.entries.value in
     let entry = c.args.entry.now in
     let chunk = chunk_of entry.labels entries in

@@ -6,31 +6,31 @@ use Rattle.std.proofs.lemmas.List.Elements.{All-from_recursion}
 use Rattle.std.proofs.lemmas.Result.{err_from_is_err_and}
 use Rattle.rl_parts.specs.StreamParts.{PartView}
 use Rattle.rl_parts.specs.Reading.{IsOutside, IsVisited, visited_in_range}
-use Rattle.rl_parts.specs.laws.UseLaws.{Looked-then}
+use Rattle.rl_parts.specs.laws.UseLaws.{Reads-then}
 use Rattle.rl_parts.proofs.Visits.{part_more, piece_more}
 use Rattle.rl_parts.proofs.Refusals.{right_on, kept_at}
 use Rattle.rl_parts.proofs.visiting_lines.visit_parts.Goals as goal
 
 pub returns-in_err-visit_lines-clause-right : goal.returns-in_err-visit_lines-clause-right
-returns-in_err-visit_lines-clause-right g c = λ next kept honest.
+returns-in_err-visit_lines-clause-right g c = λ kept honest.
     let p = err_from_is_err_and c.from_residual.result c.from_residual.ensures.1 in
-    let here = kept_at (g.S.Store.seen c.args.store.now) (g.S.Store.seen c.loop-part.store) next c.args.labels.now c.args.parts.now c.loop-part.part-index c.part-item.result c.loop-part-test.true c.part-item.is c.loop-part.invariant.looked kept in
-    rw (p.1, p.2) (right_on c.in_err-visit_lines.field-0.0 _ _ (c.in_err-visit_lines.ensures.right next here (c.loop-part.invariant.looked.honest ∙ honest)))
+    let here = kept_at c.args.chunks.now c.loop-part.chunks c.args.labels.now c.args.parts.now c.loop-part.part-index c.part-item.result c.loop-part-test.true c.part-item.is c.loop-part.invariant.reads kept in
+    rw (p.1, p.2) (right_on c.in_err-visit_lines.field-0.0 _ _ (c.in_err-visit_lines.ensures.right here (c.loop-part.invariant.reads.seen.honest ∙ honest)))
 
 pub loop-part-preserved : goal.loop-part-preserved
 loop-part-preserved g c =
-    let start = g.S.Store.seen c.args.store.now in
-    let seen = g.S.Store.seen c.loop-part.store in
+    let start = c.args.chunks.now in
+    let now = c.loop-part.chunks in
     let outside : AllByRecursion (IsOutside c.args.from c.args.to) c.args.parts.now → IsOutside c.args.from c.args.to c.part-item.result = λ apart. subst (IsOutside c.args.from c.args.to) (sym c.part-item.is) (All-from_recursion (IsOutside c.args.from c.args.to) c.args.parts.now apart c.loop-part.part-index c.part-item.result c.loop-part-test.true) in
     let more = part_more g.T.Visitor.visiting c.args.from c.args.to c.args.parts.now c.loop-part.part-index c.part-item.result c.args.visitor.now c.loop-part.visitor c.visit_lines.new.visitor c.loop-part-test.true c.part-item.is in
     record {
-      looked = Looked-then start seen (g.S.Store.seen c.visit_lines.new.store) c.loop-part.invariant.looked c.visit_lines.ensures.looked;
+      reads = Reads-then start now c.visit_lines.new.chunks c.loop-part.invariant.reads c.visit_lines.ensures.reads;
       counted = c.in_ok-visit_lines.ensures.counted ∙ c.loop-part.invariant.counted;
       unread = λ apart. c.visit_lines.ensures.unread (outside apart) ∙ c.loop-part.invariant.unread apart;
       visited = λ apart. more (c.loop-part.invariant.visited apart) (c.in_ok-visit_lines.ensures.visited (outside apart));
-      right = λ next kept honest.
-          let here = kept_at start seen next c.args.labels.now c.args.parts.now c.loop-part.part-index c.part-item.result c.loop-part-test.true c.part-item.is c.loop-part.invariant.looked kept in
-          more (c.loop-part.invariant.right next kept honest) (c.in_ok-visit_lines.ensures.right next here (c.loop-part.invariant.looked.honest ∙ honest));
+      right = λ kept honest.
+          let here = kept_at start now c.args.labels.now c.args.parts.now c.loop-part.part-index c.part-item.result c.loop-part-test.true c.part-item.is c.loop-part.invariant.reads kept in
+          more (c.loop-part.invariant.right kept honest) (c.in_ok-visit_lines.ensures.right here (c.loop-part.invariant.reads.seen.honest ∙ honest));
       pieces = piece_more g.T.Visitor.visiting c.args.labels.now c.args.from c.args.to c.args.parts.now c.loop-part.part-index c.part-item.result c.args.visitor.now c.loop-part.visitor c.visit_lines.new.visitor c.loop-part-test.true c.part-item.is c.loop-part.invariant.pieces c.in_ok-visit_lines.ensures.piece;
     }
 
@@ -38,7 +38,7 @@ pub returns-clause-visited : goal.returns-clause-visited
 returns-clause-visited g c = λ apart. c.loop-part.invariant.visited apart ∙ ap (λ (ps : List PartView). fold g.T.Visitor.visiting c.args.visitor.now (visited_in_range c.args.from c.args.to (flat_map (λ part. part.entries) ps))) (take_all c.loop-part.part-index c.args.parts.now c.loop-part-test.false)
 
 pub returns-clause-right : goal.returns-clause-right
-returns-clause-right g c = λ next kept honest. c.loop-part.invariant.right next kept honest ∙ ap (λ (ps : List PartView). fold g.T.Visitor.visiting c.args.visitor.now (visited_in_range c.args.from c.args.to (flat_map (λ part. part.entries) ps))) (take_all c.loop-part.part-index c.args.parts.now c.loop-part-test.false)
+returns-clause-right g c = λ kept honest. c.loop-part.invariant.right kept honest ∙ ap (λ (ps : List PartView). fold g.T.Visitor.visiting c.args.visitor.now (visited_in_range c.args.from c.args.to (flat_map (λ part. part.entries) ps))) (take_all c.loop-part.part-index c.args.parts.now c.loop-part-test.false)
 
 pub returns-clause-pieces : goal.returns-clause-pieces
 returns-clause-pieces g c = subst (λ (ps : List PartView). IsVisited g.T.Visitor.visiting c.args.labels.now c.args.from c.args.to ps c.args.visitor.now c.loop-part.visitor) (take_all c.loop-part.part-index c.args.parts.now c.loop-part-test.false) c.loop-part.invariant.pieces

@@ -19,7 +19,7 @@ returns-then-is_outside-clause-visited g c = λ apart.
     sym (ap (fold g.T.Visitor.visiting c.args.visitor.now) (nothing_visited c.args.labels.now c.args.written.now.entries.value c.args.written.now.first c.args.written.now.last c.args.from c.args.to c.requires.part.run c.requires.range (c.is_outside.ensures.out c.if-is_outside.true)))
 
 pub returns-then-is_outside-clause-right : goal.returns-then-is_outside-clause-right
-returns-then-is_outside-clause-right g c = λ next is honest.
+returns-then-is_outside-clause-right g c = λ is honest.
     sym (ap (fold g.T.Visitor.visiting c.args.visitor.now) (nothing_visited c.args.labels.now c.args.written.now.entries.value c.args.written.now.first c.args.written.now.last c.args.from c.args.to c.requires.part.run c.requires.range (c.is_outside.ensures.out c.if-is_outside.true)))
 
 pub returns-in_err-chunk-clause-unread : goal.returns-in_err-chunk-clause-unread
@@ -28,7 +28,7 @@ returns-in_err-chunk-clause-unread g c = λ apart.
     absurd (reaches c.args.written.now.entries.value c.args.written.now.first c.args.written.now.last c.args.from c.args.to c.requires.range c.requires.part.some within.0 within.1 apart)
 
 pub returns-in_err-chunk-clause-right : goal.returns-in_err-chunk-clause-right
-returns-in_err-chunk-clause-right g c = λ next is honest.
+returns-in_err-chunk-clause-right g c = λ is honest.
     let p = err_from_is_err_and c.from_residual.result c.from_residual.ensures.1 in
     let chunk = chunk_of c.args.labels.now c.args.written.now.entries.value in
     rw (p.1, p.2) (right_on c.in_err-chunk.field-0.0 _ _ (c.in_err-chunk.ensures.right (chunk_text Short chunk) chunk honest (is.kept honest) (sym is.digest) is.read))
@@ -49,7 +49,7 @@ returns-clause-visited g c = λ apart.
     absurd (reaches c.args.written.now.entries.value c.args.written.now.first c.args.written.now.last c.args.from c.args.to c.requires.range c.requires.part.some within.0 within.1 apart)
 
 pub returns-clause-right : goal.returns-clause-right
-returns-clause-right g c = λ next is honest.
+returns-clause-right g c = λ is honest.
     let entries = c.args.written.now.entries.value in
     let labels = c.args.labels.now in
     let chunk = chunk_of labels entries in

@@ -12,4 +12,4 @@ returns-clause-taken c =
     let rows = c.args.streams.now.entries in
     let key = c.in_ok-labels.ensures ∙ ap (λ (e : Entry). e.labels) c.get.ensures in
     let following = c.in_ok-insert.ensures.entries ∙ ap (λ labels. insert_entry label_set_eq rows labels c.in_ok-stream.stream) key ∙ inserted_after rows c.args.entry.labels c.in_ok-stream.stream c.requires.new in
-    subst (AreAdded c.args.most rows c.args.entry) (sym following) (added_after c.args.most rows c.args.entry c.in_ok-stream.stream c.requires.new c.in_ok-stream.ensures.labels c.in_ok-stream.ensures.newest c.in_ok-stream.ensures.entries c.in_ok-stream.ensures.shape)
+    subst (AreAdded c.args.room.most rows c.args.entry) (sym following) (added_after c.args.room.most rows c.args.entry c.in_ok-stream.stream c.requires.new c.in_ok-stream.ensures.labels c.in_ok-stream.ensures.newest c.in_ok-stream.ensures.entries c.in_ok-stream.ensures.shape)

@@ -12,29 +12,29 @@ use Rattle.rl_streams.proofs.Offered.{search_failed, not_in_head, unread_by}
 use Rattle.rl_streams.proofs.adding.offer.Goals as goal
 
 pub returns-in_err-holds-clause-right : goal.returns-in_err-holds-clause-right
-returns-in_err-holds-clause-right g c = λ next kept honest.
+returns-in_err-holds-clause-right g c = λ kept honest.
     let p = err_from_is_err_and c.from_residual.result c.from_residual.ensures.1 in
-    rw (p.1, p.2) (search_failed _ c.in_err-holds.field-0.0 _ (c.in_err-holds.ensures.right next kept honest))
+    rw (p.1, p.2) (search_failed _ c.in_err-holds.field-0.0 _ (c.in_err-holds.ensures.right kept honest))
 
 pub returns-then-branch-clause-right : goal.returns-then-branch-clause-right
-returns-then-branch-clause-right g c = λ next kept honest.
+returns-then-branch-clause-right g c = λ kept honest.
     let entries = entries_of c.args.stream.now in
-    ap not (sym c.if-branch.true ∙ answer_is c.args.entry c.in_ok-holds.field-0 entries (subst (λ (e : Entry). IsTrue c.in_ok-holds.field-0 ↔ Contains entries e) c.get.ensures (c.in_ok-holds.ensures.right next kept honest)))
+    ap not (sym c.if-branch.true ∙ answer_is c.args.entry c.in_ok-holds.field-0 entries (subst (λ (e : Entry). IsTrue c.in_ok-holds.field-0 ↔ Contains entries e) c.get.ensures (c.in_ok-holds.ensures.right kept honest)))
 
-pub returns-then-is_full-clause-right : goal.returns-then-is_full-clause-right
-returns-then-is_full-clause-right g c = λ next kept honest.
+pub returns-then-room-clause-right : goal.returns-then-room-clause-right
+returns-then-room-clause-right g c = λ kept honest.
     let entries = entries_of c.args.stream.now in
-    sym (answer_is c.args.entry c.in_ok-holds.field-0 entries (subst (λ (e : Entry). IsTrue c.in_ok-holds.field-0 ↔ Contains entries e) c.get.ensures (c.in_ok-holds.ensures.right next kept honest))) ∙ c.if-branch.false
+    sym (answer_is c.args.entry c.in_ok-holds.field-0 entries (subst (λ (e : Entry). IsTrue c.in_ok-holds.field-0 ↔ Contains entries e) c.get.ensures (c.in_ok-holds.ensures.right kept honest))) ∙ c.if-branch.false
 
 pub returns-clause-right : goal.returns-clause-right
-returns-clause-right g c = λ next kept honest.
+returns-clause-right g c = λ kept honest.
     let entries = entries_of c.args.stream.now in
-    ap not (sym c.if-branch.false ∙ answer_is c.args.entry c.in_ok-holds.field-0 entries (subst (λ (e : Entry). IsTrue c.in_ok-holds.field-0 ↔ Contains entries e) c.get.ensures (c.in_ok-holds.ensures.right next kept honest)))
+    ap not (sym c.if-branch.false ∙ answer_is c.args.entry c.in_ok-holds.field-0 entries (subst (λ (e : Entry). IsTrue c.in_ok-holds.field-0 ↔ Contains entries e) c.get.ensures (c.in_ok-holds.ensures.right kept honest)))
 
 pub hold-requires-clause-new : goal.hold-requires-clause-new
 hold-requires-clause-new g c =
     let stream = c.args.stream.now in
-    let here = subst (λ (e : Entry). Contains (entries_here stream) e → (◌≡◌ {A = Result Bool ReadFault} (Ok c.in_ok-holds.field-0) (Ok true)) × (g.S.Store.seen c.holds.new.store ≡ g.S.Store.seen c.args.store.now)) c.get.ensures c.in_ok-holds.ensures.here in
+    let here = subst (λ (e : Entry). Contains (entries_here stream) e → (◌≡◌ {A = Result Bool ReadFault} (Ok c.in_ok-holds.field-0) (Ok true)) × (c.holds.new.chunks ≡ c.args.chunks.now)) c.get.ensures c.in_ok-holds.ensures.here in
     not_in_head (flat_map in_memory stream.parts) stream.head c.args.entry c.in_ok-holds.field-0 _ c.if-branch.false here
 
 pub returns-then-branch-clause-answers : goal.returns-then-branch-clause-answers
@@ -47,23 +47,23 @@ pub returns-then-branch-clause-exact : goal.returns-then-branch-clause-exact
 returns-then-branch-clause-exact g c = λ none.
     let entries = entries_of c.args.stream.now in
     let exact = subst (λ (e : Entry). NoneReaches e.timestamp e.timestamp c.args.stream.now → IsTrue c.in_ok-holds.field-0 ↔ Contains entries e) c.get.ensures c.in_ok-holds.ensures.exact none in
-    (unread_by _ (is_among c.args.entry entries) c.args.is_full true c.args.is_full (sym (answer_is c.args.entry c.in_ok-holds.field-0 entries exact) ∙ c.if-branch.true) refl refl, subst (λ (e : Entry). NoneReaches e.timestamp e.timestamp c.args.stream.now → g.S.Store.seen c.holds.new.store ≡ g.S.Store.seen c.args.store.now) c.get.ensures c.in_ok-holds.ensures.unread none)
+    (unread_by _ (is_among c.args.entry entries) c.args.room.is_full true c.args.room.is_full (sym (answer_is c.args.entry c.in_ok-holds.field-0 entries exact) ∙ c.if-branch.true) refl refl, subst (λ (e : Entry). NoneReaches e.timestamp e.timestamp c.args.stream.now → c.holds.new.chunks ≡ c.args.chunks.now) c.get.ensures c.in_ok-holds.ensures.unread none)
 
-pub returns-then-is_full-clause-exact : goal.returns-then-is_full-clause-exact
-returns-then-is_full-clause-exact g c = λ none.
+pub returns-then-room-clause-exact : goal.returns-then-room-clause-exact
+returns-then-room-clause-exact g c = λ none.
     let entries = entries_of c.args.stream.now in
     let exact = subst (λ (e : Entry). NoneReaches e.timestamp e.timestamp c.args.stream.now → IsTrue c.in_ok-holds.field-0 ↔ Contains entries e) c.get.ensures c.in_ok-holds.ensures.exact none in
-    (unread_by _ (is_among c.args.entry entries) c.args.is_full false true (sym (answer_is c.args.entry c.in_ok-holds.field-0 entries exact) ∙ c.if-branch.false) c.if-is_full.true refl, subst (λ (e : Entry). NoneReaches e.timestamp e.timestamp c.args.stream.now → g.S.Store.seen c.holds.new.store ≡ g.S.Store.seen c.args.store.now) c.get.ensures c.in_ok-holds.ensures.unread none)
+    (unread_by _ (is_among c.args.entry entries) c.args.room.is_full false true (sym (answer_is c.args.entry c.in_ok-holds.field-0 entries exact) ∙ c.if-branch.false) c.if-room.true refl, subst (λ (e : Entry). NoneReaches e.timestamp e.timestamp c.args.stream.now → c.holds.new.chunks ≡ c.args.chunks.now) c.get.ensures c.in_ok-holds.ensures.unread none)
 
 pub returns-in_err-hold-clause-exact : goal.returns-in_err-hold-clause-exact
 returns-in_err-hold-clause-exact g c = λ none.
     let entries = entries_of c.args.stream.now in
     let exact = subst (λ (e : Entry). NoneReaches e.timestamp e.timestamp c.args.stream.now → IsTrue c.in_ok-holds.field-0 ↔ Contains entries e) c.get.ensures c.in_ok-holds.ensures.exact none in
     let p = err_from_is_err_and c.from_residual-in_err-hold.result c.from_residual-in_err-hold.ensures.1 in
-    (unread_by _ (is_among c.args.entry entries) c.args.is_full false false (sym (answer_is c.args.entry c.in_ok-holds.field-0 entries exact) ∙ c.if-branch.false) c.if-is_full.false (inr (p.1 ∙ ap Err p.2)), subst (λ (e : Entry). NoneReaches e.timestamp e.timestamp c.args.stream.now → g.S.Store.seen c.holds.new.store ≡ g.S.Store.seen c.args.store.now) c.get.ensures c.in_ok-holds.ensures.unread none)
+    (unread_by _ (is_among c.args.entry entries) c.args.room.is_full false false (sym (answer_is c.args.entry c.in_ok-holds.field-0 entries exact) ∙ c.if-branch.false) c.if-room.false (inr (p.1 ∙ ap Err p.2)), subst (λ (e : Entry). NoneReaches e.timestamp e.timestamp c.args.stream.now → c.holds.new.chunks ≡ c.args.chunks.now) c.get.ensures c.in_ok-holds.ensures.unread none)
 
 pub returns-clause-exact : goal.returns-clause-exact
 returns-clause-exact g c = λ none.
     let entries = entries_of c.args.stream.now in
     let exact = subst (λ (e : Entry). NoneReaches e.timestamp e.timestamp c.args.stream.now → IsTrue c.in_ok-holds.field-0 ↔ Contains entries e) c.get.ensures c.in_ok-holds.ensures.exact none in
-    (unread_by _ (is_among c.args.entry entries) c.args.is_full false false (sym (answer_is c.args.entry c.in_ok-holds.field-0 entries exact) ∙ c.if-branch.false) c.if-is_full.false (inl refl), subst (λ (e : Entry). NoneReaches e.timestamp e.timestamp c.args.stream.now → g.S.Store.seen c.holds.new.store ≡ g.S.Store.seen c.args.store.now) c.get.ensures c.in_ok-holds.ensures.unread none)
+    (unread_by _ (is_among c.args.entry entries) c.args.room.is_full false false (sym (answer_is c.args.entry c.in_ok-holds.field-0 entries exact) ∙ c.if-branch.false) c.if-room.false (inl refl), subst (λ (e : Entry). NoneReaches e.timestamp e.timestamp c.args.stream.now → c.holds.new.chunks ≡ c.args.chunks.now) c.get.ensures c.in_ok-holds.ensures.unread none)

@@ -10,13 +10,13 @@ use Rattle.rl_streams.specs.StreamRows.{joined, is_among}
 use Rattle.rl_streams.proofs.adding.put.Goals as goal
 
 pub returns-in_err-begin-in-None-clause-right : goal.returns-in_err-begin-in-None-clause-right
-returns-in_err-begin-in-None-clause-right g c = λ next are honest.
+returns-in_err-begin-in-None-clause-right g c = λ are honest.
     let others = subst (IsPositionOf c.args.streams.now.entries c.args.entry.labels) c.in-None.is c.requires.position in
     let p = err_from_is_err_and c.from_residual.result c.from_residual.ensures.1 in
-    rw (p.1, p.2) (not_begun c.in_err-begin-in-None.field-0.0 c.args.is_full _ (not_held c.args.entry c.args.streams.now.entries are.own others) c.in_err-begin-in-None.ensures.cause)
+    rw (p.1, p.2) (not_begun c.in_err-begin-in-None.field-0.0 c.args.room.is_full _ (not_held c.args.entry c.args.streams.now.entries are.own others) c.in_err-begin-in-None.ensures.cause)
 
 pub returns-in_ok-begin-in-None-clause-right : goal.returns-in_ok-begin-in-None-clause-right
-returns-in_ok-begin-in-None-clause-right g c = λ next are honest.
+returns-in_ok-begin-in-None-clause-right g c = λ are honest.
     let others = subst (IsPositionOf c.args.streams.now.entries c.args.entry.labels) c.in-None.is c.requires.position in
     ap not (sym (not_held c.args.entry c.args.streams.now.entries are.own others))
 
@@ -34,7 +34,7 @@ offer-requires-clause-labels g c =
 pub returns-in-Some-clause-taken : goal.returns-in-Some-clause-taken
 returns-in-Some-clause-taken g c =
     let position = subst (IsPositionOf c.args.streams.now.entries c.args.entry.labels) c.in-Some.is c.requires.position in
-    offered_at c.args.streams.now.entries c.in-Some.position c.args.entry c.index_mut.result.now c.offer.new.stream position c.index_mut.ensures.value c.args.most c.offer.result c.requires.apart c.offer.ensures.taken
+    offered_at c.args.streams.now.entries c.in-Some.position c.args.entry c.index_mut.result.now c.offer.new.stream position c.index_mut.ensures.value c.args.room.most c.offer.result c.requires.apart c.offer.ensures.taken
 
 pub returns-in-Some-clause-refused : goal.returns-in-Some-clause-refused
 returns-in-Some-clause-refused g c =
@@ -42,21 +42,21 @@ returns-in-Some-clause-refused g c =
     refused_at c.args.streams.now.entries c.in-Some.position c.args.entry c.index_mut.result.now c.offer.new.stream position c.index_mut.ensures.value c.offer.result c.offer.ensures.refused
 
 pub returns-in-Some-clause-right : goal.returns-in-Some-clause-right
-returns-in-Some-clause-right g c = λ next are honest.
+returns-in-Some-clause-right g c = λ are honest.
     let position = subst (IsPositionOf c.args.streams.now.entries c.args.entry.labels) c.in-Some.is c.requires.position in
-    right_at c.args.streams.now.entries c.in-Some.position c.args.entry c.index_mut.result.now c.offer.new.stream position c.index_mut.ensures.value c.offer.result (g.S.Store.seen c.args.store.now) next are (λ kept. c.offer.ensures.right next kept honest)
+    right_at c.args.streams.now.entries c.in-Some.position c.args.entry c.index_mut.result.now c.offer.new.stream position c.index_mut.ensures.value c.offer.result c.args.chunks.now are (λ kept. c.offer.ensures.right kept honest)
 
 pub returns-in_err-begin-in-None-clause-answers : goal.returns-in_err-begin-in-None-clause-answers
 returns-in_err-begin-in-None-clause-answers g c =
     let others = subst (IsPositionOf c.args.streams.now.entries c.args.entry.labels) c.in-None.is c.requires.position in
     let p = err_from_is_err_and c.from_residual.result c.from_residual.ensures.1 in
-    rw (p.1, p.2) (not_begun_any c.in_err-begin-in-None.field-0.0 c.args.is_full _ _ (inl others) c.in_err-begin-in-None.ensures.cause)
+    rw (p.1, p.2) (not_begun_any c.in_err-begin-in-None.field-0.0 c.args.room.is_full _ _ (inl others) c.in_err-begin-in-None.ensures.cause)
 
 pub returns-in_err-begin-in-None-clause-exact : goal.returns-in_err-begin-in-None-clause-exact
 returns-in_err-begin-in-None-clause-exact g c = λ _.
     let others = subst (IsPositionOf c.args.streams.now.entries c.args.entry.labels) c.in-None.is c.requires.position in
     let p = err_from_is_err_and c.from_residual.result c.from_residual.ensures.1 in
-    (rw (p.1, p.2) (not_begun_unread c.in_err-begin-in-None.field-0.0 c.args.is_full _ (not_held c.args.entry c.args.streams.now.entries c.requires.own others) c.in_err-begin-in-None.ensures.cause), refl)
+    (rw (p.1, p.2) (not_begun_unread c.in_err-begin-in-None.field-0.0 c.args.room.is_full _ (not_held c.args.entry c.args.streams.now.entries c.requires.own others) c.in_err-begin-in-None.ensures.cause), refl)
 
 pub returns-in_ok-begin-in-None-clause-answers : goal.returns-in_ok-begin-in-None-clause-answers
 returns-in_ok-begin-in-None-clause-answers g c =
@@ -66,15 +66,15 @@ returns-in_ok-begin-in-None-clause-answers g c =
 pub returns-in_ok-begin-in-None-clause-exact : goal.returns-in_ok-begin-in-None-clause-exact
 returns-in_ok-begin-in-None-clause-exact g c = λ _.
     let others = subst (IsPositionOf c.args.streams.now.entries c.args.entry.labels) c.in-None.is c.requires.position in
-    (unread_by _ (is_among c.args.entry (joined c.args.streams.now.entries)) c.args.is_full false false (not_held c.args.entry c.args.streams.now.entries c.requires.own others) c.in_ok-begin-in-None.ensures.room (inl refl), refl)
+    (unread_by _ (is_among c.args.entry (joined c.args.streams.now.entries)) c.args.room.is_full false false (not_held c.args.entry c.args.streams.now.entries c.requires.own others) c.in_ok-begin-in-None.ensures.room (inl refl), refl)
 
 pub returns-in-Some-clause-answers : goal.returns-in-Some-clause-answers
 returns-in-Some-clause-answers g c =
     let position = subst (IsPositionOf c.args.streams.now.entries c.args.entry.labels) c.in-Some.is c.requires.position in
-    answered_at c.args.streams.now.entries c.in-Some.position c.args.entry c.index_mut.result.now c.offer.new.stream position c.index_mut.ensures.value c.offer.result c.args.is_full c.offer.ensures.answers
+    answered_at c.args.streams.now.entries c.in-Some.position c.args.entry c.index_mut.result.now c.offer.new.stream position c.index_mut.ensures.value c.offer.result c.args.room.is_full c.offer.ensures.answers
 
 pub returns-in-Some-clause-exact : goal.returns-in-Some-clause-exact
 returns-in-Some-clause-exact g c = λ unreached.
     let position = subst (IsPositionOf c.args.streams.now.entries c.args.entry.labels) c.in-Some.is c.requires.position in
     let exact = c.offer.ensures.exact (unreached c.index_mut.result.now (stream_there c.args.streams.now.entries c.in-Some.position c.args.entry c.index_mut.result.now position c.index_mut.ensures.value)) in
-    (unread_at c.args.streams.now.entries c.in-Some.position c.args.entry c.index_mut.result.now c.offer.new.stream position c.index_mut.ensures.value c.offer.result c.args.is_full c.requires.own c.requires.apart exact.0, exact.1)
+    (unread_at c.args.streams.now.entries c.in-Some.position c.args.entry c.index_mut.result.now c.offer.new.stream position c.index_mut.ensures.value c.offer.result c.args.room.is_full c.requires.own c.requires.apart exact.0, exact.1)

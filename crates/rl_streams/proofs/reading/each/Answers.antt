@@ -6,7 +6,7 @@ use Rattle.std.specs.Map.{values_of}
 use Rattle.std.proofs.lemmas.Result.{err_from_is_err_and}
 use Rattle.rl_parts.specs.Reading.{visited_in_range}
 use Rattle.rl_parts.specs.StreamParts.{entries_of}
-use Rattle.rl_parts.specs.laws.UseLaws.{Looked-then}
+use Rattle.rl_parts.specs.laws.UseLaws.{Reads-then}
 use Rattle.rl_streams.specs.Asking.{visited_of, AreOfRow}
 use Rattle.rl_streams.proofs.RowChanges.{within}
 use Rattle.rl_streams.proofs.Selecting.{AreFrom, chosen_there, from_more, no_position, right_at_all, selected_there, visited_at_all}
@@ -25,8 +25,8 @@ loop-position-preserved g c =
     let positions = c.args.selection.now.positions in
     let index = c.loop-position.position-index in
     let stream = c.index.result.now in
-    let start = g.S.Store.seen c.args.store.now in
-    let seen = g.S.Store.seen c.loop-position.store in
+    let start = c.args.chunks.now in
+    let now = c.loop-position.chunks in
     let before = c.loop-position.invariant in
     let items = c.positions-position-items.ensures in
     let within = subst (λ ps. index < length ps) items c.loop-position-test.true in
@@ -34,14 +34,14 @@ loop-position-preserved g c =
     let chosen = chosen_there selector rows positions index stream c.requires.own c.requires.positions within at in
     let lines = of_row selector c.args.from c.args.to stream g.T.Visitor.visiting c.loop-position.visitor c.each.new.visitor chosen.1 (Ok tt) c.in_ok-each.ensures.pieces in
     record {
-      looked = Looked-then start seen (g.S.Store.seen c.each.new.store) before.looked c.each.ensures.looked;
+      reads = Reads-then start now c.each.new.chunks before.reads c.each.ensures.reads;
       faults = c.in_ok-each.ensures.counted ∙ before.faults;
       visited = from_more (AreOfRow selector c.args.from c.args.to) g.T.Visitor.visiting rows positions index 0 c.args.visitor.now c.loop-position.visitor c.each.new.visitor within before.visited (lines.lines, ((stream.labels, stream), chosen.0, lines.of_row), lines.visited);
       unread = λ none. absurd (no_position selector rows positions index c.requires.positions none within);
-      right = λ next are honest.
-          let kept = kept_there selector c.args.from c.args.to rows (get_or positions index 0) stream start seen next are before.looked at in
-          let visited = c.in_ok-each.ensures.right next kept (before.looked.honest ∙ honest) in
-          from_more (λ row lines. lines ≡ visited_of selector c.args.from c.args.to row.0 row.1) g.T.Visitor.visiting rows positions index 0 c.args.visitor.now c.loop-position.visitor c.each.new.visitor within (before.right next are honest)
+      right = λ are honest.
+          let kept = kept_there selector c.args.from c.args.to rows (get_or positions index 0) stream start now are before.reads at in
+          let visited = c.in_ok-each.ensures.right kept (before.reads.seen.honest ∙ honest) in
+          from_more (λ row lines. lines ≡ visited_of selector c.args.from c.args.to row.0 row.1) g.T.Visitor.visiting rows positions index 0 c.args.visitor.now c.loop-position.visitor c.each.new.visitor within (before.right are honest)
           (visited_of selector c.args.from c.args.to stream.labels stream, ((stream.labels, stream), chosen.0, refl), visited ∙ ap (λ b. fold g.T.Visitor.visiting c.loop-position.visitor (if b then visited_in_range c.args.from c.args.to (entries_of stream) else [])) (sym chosen.1));
     }
 
@@ -50,11 +50,11 @@ returns-in_err-each-clause-unread g c = λ none.
     absurd (no_position c.args.selection.now.selector c.args.streams.now.entries c.args.selection.now.positions c.loop-position.position-index c.requires.positions none (subst (λ ps. c.loop-position.position-index < length ps) c.positions-position-items.ensures c.loop-position-test.true))
 
 pub returns-in_err-each-clause-right : goal.returns-in_err-each-clause-right
-returns-in_err-each-clause-right g c = λ next are honest.
+returns-in_err-each-clause-right g c = λ are honest.
     let rows = c.args.streams.now.entries in
     let p = err_from_is_err_and c.from_residual.result c.from_residual.ensures.1 in
-    let kept = kept_there c.args.selection.now.selector c.args.from c.args.to rows (get_or c.positions-position-items.result.now c.loop-position.position-index 0) c.index.result.now (g.S.Store.seen c.args.store.now) (g.S.Store.seen c.loop-position.store) next are c.loop-position.invariant.looked c.index.ensures in
-    rw (p.1, p.2) (right_on c.in_err-each.field-0.0 _ _ (c.in_err-each.ensures.right next kept (c.loop-position.invariant.looked.honest ∙ honest)))
+    let kept = kept_there c.args.selection.now.selector c.args.from c.args.to rows (get_or c.positions-position-items.result.now c.loop-position.position-index 0) c.index.result.now c.args.chunks.now c.loop-position.chunks are c.loop-position.invariant.reads c.index.ensures in
+    rw (p.1, p.2) (right_on c.in_err-each.field-0.0 _ _ (c.in_err-each.ensures.right kept (c.loop-position.invariant.reads.seen.honest ∙ honest)))
 
 pub returns-clause-visited : goal.returns-clause-visited
 returns-clause-visited g c =
@@ -65,9 +65,9 @@ returns-clause-visited g c =
     (subst (λ ps. AreFrom (AreOfRow selector c.args.from c.args.to) g.T.Visitor.visiting c.args.streams.now.entries ps c.args.visitor.now c.loop-position.visitor) all c.loop-position.invariant.visited)
 
 pub returns-clause-right : goal.returns-clause-right
-returns-clause-right g c = λ next are honest.
+returns-clause-right g c = λ are honest.
     let selector = c.args.selection.now.selector in
     let positions = c.args.selection.now.positions in
     let all = take_all c.loop-position.position-index positions (subst (λ ps. length ps ≤ c.loop-position.position-index) c.positions-position-items.ensures (omega (arith, c.loop-position-test.false))) in
     right_at_all selector c.args.from c.args.to g.T.Visitor.visiting c.args.streams.now.entries positions c.args.visitor.now c.loop-position.visitor c.requires.positions
-    (subst (λ ps. AreFrom (λ row lines. lines ≡ visited_of selector c.args.from c.args.to row.0 row.1) g.T.Visitor.visiting c.args.streams.now.entries ps c.args.visitor.now c.loop-position.visitor) all (c.loop-position.invariant.right next are honest))
+    (subst (λ ps. AreFrom (λ row lines. lines ≡ visited_of selector c.args.from c.args.to row.0 row.1) g.T.Visitor.visiting c.args.streams.now.entries ps c.args.visitor.now c.loop-position.visitor) all (c.loop-position.invariant.right are honest))

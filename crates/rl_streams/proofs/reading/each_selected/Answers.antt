@@ -10,12 +10,12 @@ use Rattle.rl_streams.proofs.Visited.{right_then, none_of_row, of_row}
 use Rattle.rl_streams.proofs.reading.each_selected.Goals as goal
 
 pub returns-clause-right : goal.returns-clause-right
-returns-clause-right g c = λ next kept honest.
+returns-clause-right g c = λ kept honest.
     let stream = c.args.stream.now in
     let becomes = fold g.T.Visitor.visiting c.args.visitor.now in
     let selected = ap (selects c.args.selector.now) (sym c.labels.ensures) ∙ sym c.in_ok-accepts.ensures.accepts ∙ c.if-not-branch.false in
     right_then (λ _. c.each.new.visitor ≡ becomes (visited_in_range c.args.from c.args.to (entries_of stream))) (λ _. c.each.new.visitor ≡ becomes (visited_of c.args.selector.now c.args.from c.args.to stream.labels stream))
-    (λ _ is. is ∙ ap (λ b. becomes (if b then visited_in_range c.args.from c.args.to (entries_of stream) else [])) (sym selected)) c.each.result (c.each.ensures.right next kept honest)
+    (λ _ is. is ∙ ap (λ b. becomes (if b then visited_in_range c.args.from c.args.to (entries_of stream) else [])) (sym selected)) c.each.result (c.each.ensures.right kept honest)
 
 pub returns-then-not-branch-clause-lines : goal.returns-then-not-branch-clause-lines
 returns-then-not-branch-clause-lines g c =

@@ -5,14 +5,14 @@ use Rattle.rl_streams.proofs.Visited.{not_others, found_at, stream_there, yes_at
 use Rattle.rl_streams.proofs.reading.holds.Goals as goal
 
 pub returns-in-None-clause-right : goal.returns-in-None-clause-right
-returns-in-None-clause-right g c = λ next are honest. sym (not_held c.args.entry.now c.args.streams.now.entries are.own c.in-None.ensures.position)
+returns-in-None-clause-right g c = λ are honest. sym (not_held c.args.entry.now c.args.streams.now.entries are.own c.in-None.ensures.position)
 
 pub returns-in-Some-clause-unread : goal.returns-in-Some-clause-unread
 returns-in-Some-clause-unread g c = λ others. absurd (not_others c.args.streams.now.entries c.in-Some.position c.args.entry.now c.index.result.now c.in-Some.ensures.position c.index.ensures others)
 
 pub returns-in-Some-clause-right : goal.returns-in-Some-clause-right
-returns-in-Some-clause-right g c = λ next are honest.
-    found_at c.args.streams.now.entries c.in-Some.position c.args.entry.now c.index.result.now c.in-Some.ensures.position c.index.ensures c.holds.result (g.S.Store.seen c.args.store.now) next are (λ kept. c.holds.ensures.right next kept honest)
+returns-in-Some-clause-right g c = λ are honest.
+    found_at c.args.streams.now.entries c.in-Some.position c.args.entry.now c.index.result.now c.in-Some.ensures.position c.index.ensures c.holds.result c.args.chunks.now are (λ kept. c.holds.ensures.right kept honest)
 
 pub returns-in-None-clause-yes : goal.returns-in-None-clause-yes
 returns-in-None-clause-yes g c = λ e. absurd (true≢false (sym e))

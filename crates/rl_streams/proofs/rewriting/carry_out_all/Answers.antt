@@ -10,7 +10,7 @@ use Rattle.rl_streams.proofs.Removed.{removed_none, removed_then}
 use Rattle.rl_streams.proofs.rewriting.carry_out_all.Goals as goal
 
 pub loop-plan-init : goal.loop-plan-init
-loop-plan-init g c = record { split = c.into_iter-plan-iterator.ensures.into_iter_gives.0; many = refl; rows = sym (rewritten_none c.args.streams.now.entries); removed = removed_none (g.S.Store.seen c.args.store.now) }
+loop-plan-init g c = record { split = c.into_iter-plan-iterator.ensures.into_iter_gives.0; many = refl; rows = sym (rewritten_none c.args.streams.now.entries); removed = removed_none c.args.chunks.now }
 
 pub index_mut-requires : goal.index_mut-requires
 index_mut-requires g c =
@@ -33,9 +33,9 @@ loop-plan-preserved g c =
     let rest = c.next.new.self.rest.items in
     let next : loop.plan-iterator.rest.items ≡ plan ∷ rest = c.in-Some.ensures.steps.0 in
     let of = of_split rows c.args.plans.items loop.yielded loop.plan-iterator.rest.items plan rest before.split next c.requires in
-    let start = g.S.Store.seen c.args.store.now in
-    let seen = g.S.Store.seen loop.store in
-    let after = g.S.Store.seen c.remove_all.new.store in
+    let start = c.args.chunks.now in
+    let seen = loop.chunks in
+    let after = c.remove_all.new.chunks in
     let gone : c.deref.result.now ≡ plan.gone = c.deref.ensures.value ∙ c.carry_out-gone.ensures.gone in
     let numbers : numbers_gone (loop.yielded ++ plan ∷ []) ≡ numbers_gone loop.yielded ++ plan.gone = flat_map-append (λ (p : PlanView). p.gone) loop.yielded (plan ∷ []) ∙ ap (λ ns. numbers_gone loop.yielded ++ ns) (append-nil plan.gone) in
     record {
@@ -57,4 +57,4 @@ returns-clause-removed g c =
     let loop = c.loop-plan in
     let none : loop.plan-iterator.rest.items ≡ [] = nil_from_length loop.plan-iterator.rest.items (omega (arith, c.in-None.ensures.steps.0, loop.plan-iterator.rest.ok.0)) in
     let all : loop.yielded ≡ c.args.plans.items = sym (append-nil loop.yielded) ∙ ap (λ ps. loop.yielded ++ ps) (sym none) ∙ loop.invariant.split in
-    subst (λ (ps : List PlanView). AreRemoved (g.S.Store.seen c.args.store.now) (numbers_gone ps) (g.S.Store.seen loop.store)) all loop.invariant.removed
+    subst (λ (ps : List PlanView). AreRemoved c.args.chunks.now (numbers_gone ps) loop.chunks) all loop.invariant.removed

@@ -8,5 +8,5 @@ invariant-loop-plan g l = record {
   split : l.yielded ++ l.plan-iterator.rest.items ≡ l.fn.plans.items;
   many : l.position ≡ length l.yielded;
   rows : l.streams.entries ≡ rewritten l.fn.streams.entries l.yielded;
-  removed : AreRemoved (g.S.Store.seen l.fn.store) (numbers_gone l.yielded) (g.S.Store.seen l.store);
+  removed : AreRemoved l.fn.chunks (numbers_gone l.yielded) l.chunks;
 }

@@ -6,7 +6,7 @@ use Rattle.std.specs.Map.{values_of}
 use Rattle.rl_parts.specs.Rewriting.{PlanView}
 use Rattle.std.proofs.lemmas.Result.{err_from_is_err_and}
 use Rattle.rl_parts.specs.StoreUse.{AreKept}
-use Rattle.rl_parts.specs.laws.UseLaws.{AreKept-grown, Grown-none, Grown-then, Grown-wider}
+use Rattle.rl_parts.specs.laws.UseLaws.{AreKept-keeps, Keeps-puts, Puts-none, Puts-then, Puts-wider}
 use Rattle.rl_streams.specs.Rewritten.{ArePlanned}
 use Rattle.rl_streams.proofs.Plans.{of_more, one_planned, planned_none, planned_then, same_fault}
 use Rattle.rl_streams.proofs.RowChanges.{at_row, with_key}
@@ -16,19 +16,19 @@ use Rattle.rl_streams.proofs.rewriting.plan_all.Goals as goal
 pub loop-position-preserved : goal.loop-position-preserved
 loop-position-preserved g c =
     let covers = g.C.Covers.covers c.args.covered.now in
-    let start = g.S.Store.seen c.args.store.now in
-    let seen = g.S.Store.seen c.loop-position.store in
-    let after = g.S.Store.seen c.plan.new.store in
+    let start = c.args.chunks.now in
+    let seen = c.loop-position.chunks in
+    let after = c.plan.new.chunks in
     let before = c.loop-position.invariant in
     let stream = c.index.result.now in
     let plan = c.in_ok-plan.plan in
     let made = c.in_ok-plan.ensures in
-    let one = one_planned covers stream c.loop-position.next seen plan c.plan.new.next after made.of made.labels made.newest made.own made.fewer made.parts made.head made.numbers made.kept made.right in
+    let one = one_planned covers stream seen plan after made.of made.labels made.newest made.own made.fewer made.parts made.head made.numbers made.kept made.right in
     let items : c.push.new.self.items ≡ c.loop-position.plans.items ++ plan ∷ [] = c.in_ok-push.ensures.items in
     record {
       of = ap (map (λ (p : PlanView). p.of)) items ∙ of_more c.args.streams.now.entries c.loop-position.plans.items c.loop-position.position plan stream before.of c.index.ensures made.of;
-      planned = subst (λ (ps : List PlanView). ArePlanned covers c.args.next.now start ps c.plan.new.next after) (sym items) (planned_then covers c.args.next.now start c.loop-position.plans.items c.loop-position.next seen (plan ∷ []) c.plan.new.next after before.planned before.grown one made.grown);
-      grown = Grown-then start c.args.next.now c.loop-position.next seen c.loop-position.next c.plan.new.next after before.planned.numbers.up made.next before.grown made.grown;
+      planned = subst (λ (ps : List PlanView). ArePlanned covers start ps after) (sym items) (planned_then covers start seen after c.loop-position.plans.items (plan ∷ []) (Keeps-puts start seen seen.next before.puts) (Keeps-puts seen after after.next made.puts) before.planned one);
+      puts = Puts-then start seen after after.next made.puts.up before.puts made.puts;
       faults = made.counted ∙ before.faults;
     }
 
@@ -40,39 +40,37 @@ returns-clause-of g c =
 pub loop-position-init : goal.loop-position-init
 loop-position-init g c =
     let covers = g.C.Covers.covers c.args.covered.now in
-    let start = g.S.Store.seen c.args.store.now in
+    let start = c.args.chunks.now in
     let items : c.in_ok-plans.plans.items ≡ [] = c.in_ok-plans.ensures.items in
     record {
       of = ap (map (λ (p : PlanView). p.of)) items;
-      planned = subst (λ (ps : List PlanView). ArePlanned covers c.args.next.now start ps c.args.next.now start) (sym items) (planned_none covers c.args.next.now start);
-      grown = Grown-none start c.args.next.now c.args.next.now;
+      planned = subst (λ (ps : List PlanView). ArePlanned covers start ps start) (sym items) (planned_none covers start);
+      puts = Puts-none start start.next;
       faults = refl;
     }
 
 pub returns-in_err-plan-clause-undamaged : goal.returns-in_err-plan-clause-undamaged
 returns-in_err-plan-clause-undamaged g c = λ honest kept.
-    let start = g.S.Store.seen c.args.store.now in
-    let seen = g.S.Store.seen c.loop-position.store in
+    let start = c.args.chunks.now in
+    let seen = c.loop-position.chunks in
     let rows = c.args.streams.now.entries in
     let stream = c.index.result.now in
-    let before = c.loop-position.invariant in
+    let keeps = Keeps-puts start seen seen.next c.loop-position.invariant.puts in
     let row = with_key rows c.loop-position.position stream c.index.ensures in
-    let there : AreKept start c.args.next.now stream = at_row (λ (r : Row). AreKept start c.args.next.now r.1) rows c.loop-position.position (row.0, stream) kept row.1 in
+    let there : AreKept start stream = at_row (λ (r : Row). AreKept start r.1) rows c.loop-position.position (row.0, stream) kept row.1 in
     let p = err_from_is_err_and c.from_residual-in_err-plan.result c.from_residual-in_err-plan.ensures.1 in
-    rw (p.1, p.2) (λ damaged. c.in_err-plan.ensures.undamaged (before.grown.honest ∙ honest) (AreKept-grown start seen c.args.next.now c.loop-position.next c.loop-position.next stream before.grown before.planned.numbers.up there) (same_fault _ _ damaged))
+    rw (p.1, p.2) (λ damaged. c.in_err-plan.ensures.undamaged (keeps.honest ∙ honest) (AreKept-keeps start seen stream keeps there) (same_fault _ _ damaged))
 
-pub returns-in_err-plan-clause-grown : goal.returns-in_err-plan-clause-grown
-returns-in_err-plan-clause-grown g c =
-    let before = c.loop-position.invariant in
+pub returns-in_err-plan-clause-puts : goal.returns-in_err-plan-clause-puts
+returns-in_err-plan-clause-puts g c =
     let p = err_from_is_err_and c.from_residual-in_err-plan.result c.from_residual-in_err-plan.ensures.1 in
-    rw p.1 (Grown-then (g.S.Store.seen c.args.store.now) c.args.next.now c.loop-position.next (g.S.Store.seen c.loop-position.store) c.loop-position.next (c.plan.new.next + 1) (g.S.Store.seen c.plan.new.store) before.planned.numbers.up (omega (arith, c.in_err-plan.ensures.next)) before.grown c.in_err-plan.ensures.grown)
+    rw p.1 (Puts-then c.args.chunks.now c.loop-position.chunks c.plan.new.chunks (c.plan.new.chunks.next + 1) (omega (arith, c.in_err-plan.ensures.puts.up)) c.loop-position.invariant.puts c.in_err-plan.ensures.puts)
 
-pub returns-in_err-push-clause-grown : goal.returns-in_err-push-clause-grown
-returns-in_err-push-clause-grown g c =
-    let before = c.loop-position.invariant in
+pub returns-in_err-push-clause-puts : goal.returns-in_err-push-clause-puts
+returns-in_err-push-clause-puts g c =
+    let start = c.args.chunks.now in
+    let seen = c.loop-position.chunks in
+    let after = c.plan.new.chunks in
     let made = c.in_ok-plan.ensures in
-    let seen = g.S.Store.seen c.loop-position.store in
-    let after = g.S.Store.seen c.plan.new.store in
-    let later = c.plan.new.next + 1 in
     let p = err_from_is_err_and c.from_residual-in_err-push.result c.from_residual-in_err-push.ensures.1 in
-    rw p.1 (Grown-then (g.S.Store.seen c.args.store.now) c.args.next.now c.loop-position.next seen c.loop-position.next later after before.planned.numbers.up (omega (arith, made.next)) before.grown (Grown-wider seen c.loop-position.next c.plan.new.next later after (omega arith) made.grown))
+    rw p.1 (Puts-wider start after (Puts-then start seen after after.next made.puts.up c.loop-position.invariant.puts made.puts))

@@ -4,4 +4,4 @@ use Rattle.rl_streams.specs.Rewritten.{AreRemoved}
 use Rattle.rl_streams.proofs.rewriting.remove_all.Given as goal
 
 abbrev pub invariant-loop-number : goal.invariant-loop-number
-invariant-loop-number g l = AreRemoved (g.S.Store.seen l.fn.store) (take l.number-index l.numbers) (g.S.Store.seen l.store)
+invariant-loop-number g l = AreRemoved l.fn.chunks (take l.number-index l.numbers) l.chunks

@@ -11,10 +11,10 @@ use Rattle.rl_parts.proofs.Refusals.{ok_then}
 use Rattle.rl_parts.proofs.part.Part.has_there.Goals as goal
 
 pub returns-in-InStore-clause-right : goal.returns-in-InStore-clause-right
-returns-in-InStore-clause-right g c = λ next kept honest.
+returns-in-InStore-clause-right g c = λ kept honest.
     let here : part_at (InStore c.in-InStore.written) ≡ c.args.self.now = ap part_at (sym c.in-InStore.is) ∙ c.self.view_is in
     subst (λ (p : PartView). Right c.has_written.result (λ found. IsTrue found ↔ Contains (in_store p) c.args.entry.now)) here
-    (c.has_written.ensures.right next (subst (IsKept (g.S.Store.seen c.args.store.now) next c.args.entry.now.labels) (sym here) kept) honest)
+    (c.has_written.ensures.right (subst (IsKept c.args.chunks.now c.args.entry.now.labels) (sym here) kept) honest)
 
 pub returns-in-Here-clause-no : goal.returns-in-Here-clause-no
 returns-in-Here-clause-no g c = λ found.

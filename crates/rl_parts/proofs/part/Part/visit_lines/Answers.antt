@@ -13,10 +13,10 @@ use Rattle.rl_parts.proofs.Refusals.{on_ok_then}
 use Rattle.rl_parts.proofs.part.Part.visit_lines.Goals as goal
 
 pub returns-in-InStore-clause-right : goal.returns-in-InStore-clause-right
-returns-in-InStore-clause-right g c = λ next kept honest.
+returns-in-InStore-clause-right g c = λ kept honest.
     let here : part_at (InStore c.in-InStore.written) ≡ c.args.self.now = ap part_at (sym c.in-InStore.is) ∙ c.self.view_is in
     subst (λ (p : PartView). Right c.visit_written.result (λ _. c.visit_written.new.visitor ≡ fold g.T.Visitor.visiting c.args.visitor.now (visited_in_range c.args.from c.args.to p.entries))) here
-    (c.visit_written.ensures.right next (subst (IsKept (g.S.Store.seen c.args.store.now) next c.args.labels.now) (sym here) kept) honest)
+    (c.visit_written.ensures.right (subst (IsKept c.args.chunks.now c.args.labels.now) (sym here) kept) honest)
 
 pub returns-clause-visited : goal.returns-clause-visited
 returns-clause-visited g c = λ apart.
@@ -26,7 +26,7 @@ returns-clause-visited g c = λ apart.
     (ap (λ (es : List Entry). lines_in_range c.args.labels.now c.args.from c.args.to (map line_of es)) entries ∙ lines_visited c.args.labels.now c.args.from c.args.to c.args.self.now.entries c.requires.run.labels)
 
 pub returns-clause-right : goal.returns-clause-right
-returns-clause-right g c = λ next kept honest.
+returns-clause-right g c = λ kept honest.
     let here : part_at (Here c.in-Here.entries) ≡ c.args.self.now = ap part_at (sym c.in-Here.is) ∙ c.self.view_is in
     let entries : c.as_slice.result.now ≡ c.args.self.now.entries = c.as_slice.ensures ∙ ap (λ (p : PartView). p.entries) here in
     c.in_ok-visit_all-in-Here.ensures ∙ ap (fold g.T.Visitor.visiting c.args.visitor.now)

@@ -12,5 +12,5 @@ returns-clause-noted g c =
     let written = c.in_ok-written-in-Here.written in
     let is = c.in_ok-written-in-Here.ensures.written in
     let here : unwritten c.in-Here.entries ≡ c.args.self.now = ap part_at (sym c.in-Here.is) ∙ c.self.view_is in
-    subst (λ (es : List Entry). AreNoted (c.args.self.now ∷ []) c.args.next.now (record { entries = es; note = Some (record { number = written.number; digest = written.digest }) } ∷ []) c.write_entries.new.next) (sym is.entries_are)
-    (one_noted c.args.self.now c.in-Here.entries c.args.next.now c.write_entries.new.next (record { number = written.number; digest = written.digest }) here is.number_is c.in_ok-written-in-Here.ensures.next)
+    subst (λ (es : List Entry). AreNoted (c.args.self.now ∷ []) c.args.chunks.now.next (record { entries = es; note = Some (record { number = written.number; digest = written.digest }) } ∷ []) c.write_entries.new.chunks.next) (sym is.entries_are)
+    (one_noted c.args.self.now c.in-Here.entries c.args.chunks.now.next c.write_entries.new.chunks.next (record { number = written.number; digest = written.digest }) here is.number_is c.in_ok-written-in-Here.ensures.next)

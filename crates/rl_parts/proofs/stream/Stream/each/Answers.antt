@@ -12,12 +12,12 @@ use Rattle.rl_parts.proofs.Refusals.{right_on}
 use Rattle.rl_parts.proofs.stream.Stream.each.Goals as goal
 
 pub returns-in_err-visit_parts-clause-right : goal.returns-in_err-visit_parts-clause-right
-returns-in_err-visit_parts-clause-right g c = λ next kept honest.
+returns-in_err-visit_parts-clause-right g c = λ kept honest.
     let p = err_from_is_err_and c.from_residual.result c.from_residual.ensures.1 in
-    let seen = g.S.Store.seen c.args.store.now in
-    let are : AllByRecursion (IsKept seen next c.self.inside.labels) c.self.inside.parts.items = subst (λ (s : StreamView). AreKept seen next s) (sym c.self.view_is) kept in
-    let now : AllByRecursion (IsKept seen next c.self.inside.labels) c.deref.result.now = subst (λ (ps : List PartView). AllByRecursion (IsKept seen next c.self.inside.labels) ps) (sym c.deref.ensures.value) are in
-    rw (p.1, p.2) (right_on c.in_err-visit_parts.field-0.0 _ _ (c.in_err-visit_parts.ensures.right next now honest))
+    let chunks = c.args.chunks.now in
+    let are : AllByRecursion (IsKept chunks c.self.inside.labels) c.self.inside.parts.items = subst (λ (s : StreamView). AreKept chunks s) (sym c.self.view_is) kept in
+    let now : AllByRecursion (IsKept chunks c.self.inside.labels) c.deref.result.now = subst (λ (ps : List PartView). AllByRecursion (IsKept chunks c.self.inside.labels) ps) (sym c.deref.ensures.value) are in
+    rw (p.1, p.2) (right_on c.in_err-visit_parts.field-0.0 _ _ (c.in_err-visit_parts.ensures.right now honest))
 
 pub returns-clause-visited : goal.returns-clause-visited
 returns-clause-visited g c = λ apart.
@@ -35,16 +35,16 @@ returns-clause-visited g c = λ apart.
     ∙ ap (λ (s : StreamView). fold g.T.Visitor.visiting start (visited_in_range from to (entries_of s))) c.self.view_is
 
 pub returns-clause-right : goal.returns-clause-right
-returns-clause-right g c = λ next kept honest.
+returns-clause-right g c = λ kept honest.
     let from = c.args.from in
     let to = c.args.to in
-    let seen = g.S.Store.seen c.args.store.now in
+    let chunks = c.args.chunks.now in
     let start = c.args.visitor.now in
     let mid = c.visit_parts.new.visitor in
-    let are : AllByRecursion (IsKept seen next c.self.inside.labels) c.self.inside.parts.items = subst (λ (s : StreamView). AreKept seen next s) (sym c.self.view_is) kept in
-    let now : AllByRecursion (IsKept seen next c.self.inside.labels) c.deref.result.now = subst (λ (ps : List PartView). AllByRecursion (IsKept seen next c.self.inside.labels) ps) (sym c.deref.ensures.value) are in
+    let are : AllByRecursion (IsKept chunks c.self.inside.labels) c.self.inside.parts.items = subst (λ (s : StreamView). AreKept chunks s) (sym c.self.view_is) kept in
+    let now : AllByRecursion (IsKept chunks c.self.inside.labels) c.deref.result.now = subst (λ (ps : List PartView). AllByRecursion (IsKept chunks c.self.inside.labels) ps) (sym c.deref.ensures.value) are in
     let first : mid ≡ fold g.T.Visitor.visiting start (visited_in_range from to (flat_map (λ part. part.entries) c.self.inside.parts.items)) =
-    c.in_ok-visit_parts.ensures.right next now honest ∙ ap (λ (ps : List PartView). fold g.T.Visitor.visiting start (visited_in_range from to (flat_map (λ part. part.entries) ps))) c.deref.ensures.value in
+    c.in_ok-visit_parts.ensures.right now honest ∙ ap (λ (ps : List PartView). fold g.T.Visitor.visiting start (visited_in_range from to (flat_map (λ part. part.entries) ps))) c.deref.ensures.value in
     let second : c.visit_all.new.visitor ≡ fold g.T.Visitor.visiting mid (lines_in_range c.self.inside.labels from to (map line_of c.self.inside.head.items)) =
     c.in_ok-visit_all.ensures ∙ ap (λ (es : List Entry). fold g.T.Visitor.visiting mid (lines_in_range c.self.inside.labels from to (map line_of es))) c.deref-2.ensures.value in
     both_visited g.T.Visitor.visiting c.self.inside.labels from to c.self.inside.parts.items c.self.inside.head.items start mid c.visit_all.new.visitor c.self.invariant.parts.growing.labels first second

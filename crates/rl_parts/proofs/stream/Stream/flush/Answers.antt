@@ -14,15 +14,15 @@ invariant_of-self g c =
     let old = c.self.inside.parts.items in
     let new = c.write_parts.new.parts in
     let many : length new ≡ c.self.inside.parts.len = omega (arith, c.deref_mut.ensures.len, c.write_parts.auto.parts) in
-    let noted : AreNoted old c.args.next.now new c.write_parts.new.next = subst (λ (ps : List PartView). AreNoted ps c.args.next.now new c.write_parts.new.next) c.deref_mut.ensures.value c.write_parts.ensures.noted in
+    let noted : AreNoted old c.args.chunks.now.next new c.write_parts.new.chunks.next = subst (λ (ps : List PartView). AreNoted ps c.args.chunks.now.next new c.write_parts.new.chunks.next) c.deref_mut.ensures.value c.write_parts.ensures.noted in
     subst (λ (ps : List PartView). IsInOrder (record { labels = c.self.inside.labels; parts = ps; head = c.self.inside.head.items; newest = c.self.inside.newest }) c.self.inside.sealed_to) (sym (with_items_is c.self.inside.parts new many))
-    (in_order_noted c.self.inside.labels old new c.self.inside.head.items c.self.inside.newest c.self.inside.sealed_to c.args.next.now c.write_parts.new.next noted c.self.invariant)
+    (in_order_noted c.self.inside.labels old new c.self.inside.head.items c.self.inside.newest c.self.inside.sealed_to c.args.chunks.now.next c.write_parts.new.chunks.next noted c.self.invariant)
 
 pub returns-clause-entries : goal.returns-clause-entries
 returns-clause-entries g c =
     let old = c.self.inside.parts.items in
     let new = c.write_parts.new.parts in
     let many : length new ≡ c.self.inside.parts.len = omega (arith, c.deref_mut.ensures.len, c.write_parts.auto.parts) in
-    let noted : AreNoted old c.args.next.now new c.write_parts.new.next = subst (λ (ps : List PartView). AreNoted ps c.args.next.now new c.write_parts.new.next) c.deref_mut.ensures.value c.write_parts.ensures.noted in
+    let noted : AreNoted old c.args.chunks.now.next new c.write_parts.new.chunks.next = subst (λ (ps : List PartView). AreNoted ps c.args.chunks.now.next new c.write_parts.new.chunks.next) c.deref_mut.ensures.value c.write_parts.ensures.noted in
     let all = λ (ps : List PartView). flat_map (λ part. part.entries) ps in
     ap (λ es. es ++ c.self.inside.head.items) (ap all (with_items_is c.self.inside.parts new many ∙ noted.given) ∙ entries-with_notes old noted.notes) ∙ ap entries_of c.self.view_is

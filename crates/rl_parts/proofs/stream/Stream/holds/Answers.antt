@@ -13,7 +13,7 @@ use Rattle.rl_parts.proofs.Refusals.{right_then, ok_then}
 use Rattle.rl_parts.proofs.stream.Stream.holds.Goals as goal
 
 pub returns-then-has_entry-clause-right : goal.returns-then-has_entry-clause-right
-returns-then-has_entry-clause-right g c = λ next kept honest.
+returns-then-has_entry-clause-right g c = λ kept honest.
     let there : Contains c.self.inside.head.items c.args.entry.now = subst (λ (es : List Entry). Contains es c.args.entry.now) c.deref.ensures.value (c.has_entry.ensures.0 c.if-has_entry.true) in
     subst (λ (s : StreamView). IsTrue true ↔ Contains (entries_of s) c.args.entry.now) c.self.view_is (yes (Contains-append_right (flat_map (λ part. part.entries) c.self.inside.parts.items) c.self.inside.head.items c.args.entry.now there))
 
@@ -27,7 +27,7 @@ returns-then-is_above-clause-here g c = λ there.
     ]
 
 pub returns-then-is_above-clause-right : goal.returns-then-is_above-clause-right
-returns-then-is_above-clause-right g c = λ next kept honest.
+returns-then-is_above-clause-right g c = λ kept honest.
     let entry = c.args.entry.now in
     let no_head : Contains c.self.inside.head.items entry → ⊥ = λ h. not_both (c.has_entry.ensures.1 (subst (λ (es : List Entry). Contains es entry) (sym c.deref.ensures.value) h)) c.if-has_entry.false in
     subst (λ (s : StreamView). IsTrue false ↔ Contains (entries_of s) entry) c.self.view_is
@@ -37,7 +37,7 @@ returns-then-is_above-clause-right g c = λ next kept honest.
     ]))
 
 pub returns-then-any_here-clause-right : goal.returns-then-any_here-clause-right
-returns-then-any_here-clause-right g c = λ next kept honest.
+returns-then-any_here-clause-right g c = λ kept honest.
     let entry = c.args.entry.now in
     let there : Contains (flat_map in_memory c.self.inside.parts.items) entry = subst (λ (ps : List PartView). Contains (flat_map in_memory ps) entry) c.deref-2.ensures.value (c.any_here.ensures.0 c.if-any_here.true) in
     subst (λ (s : StreamView). IsTrue true ↔ Contains (entries_of s) entry) c.self.view_is
@@ -54,20 +54,20 @@ returns-clause-here g c = λ there.
     ]
 
 pub returns-clause-right : goal.returns-clause-right
-returns-clause-right g c = λ next kept honest.
+returns-clause-right g c = λ kept honest.
     let entry = c.args.entry.now in
-    let seen = g.S.Store.seen c.args.store.now in
+    let chunks = c.args.chunks.now in
     let parts = c.self.inside.parts.items in
     let head = c.self.inside.head.items in
     let no_head : Contains head entry → ⊥ = λ h. not_both (c.has_entry.ensures.1 (subst (λ (es : List Entry). Contains es entry) (sym c.deref.ensures.value) h)) c.if-has_entry.false in
     let no_memory : Contains (flat_map in_memory parts) entry → ⊥ = λ h. not_both (c.any_here.ensures.1 (subst (λ (ps : List PartView). Contains (flat_map in_memory ps) entry) (sym c.deref-2.ensures.value) h)) c.if-any_here.false in
-    let are : AllByRecursion (IsKept seen next c.self.inside.labels) parts = subst (λ (s : StreamView). AreKept seen next s) (sym c.self.view_is) kept in
+    let are : AllByRecursion (IsKept chunks c.self.inside.labels) parts = subst (λ (s : StreamView). AreKept chunks s) (sym c.self.view_is) kept in
     let of : c.self.inside.labels ≡ entry.labels = ap (λ (s : StreamView). s.labels) c.self.view_is ∙ sym c.requires in
-    let now : AllByRecursion (IsKept seen next entry.labels) c.deref-3.result.now = subst (λ (ps : List PartView). AllByRecursion (IsKept seen next entry.labels) ps) (sym c.deref-3.ensures.value) (subst (λ (set : LabelSet). AllByRecursion (IsKept seen next set) parts) of are) in
+    let now : AllByRecursion (IsKept chunks entry.labels) c.deref-3.result.now = subst (λ (ps : List PartView). AllByRecursion (IsKept chunks entry.labels) ps) (sym c.deref-3.ensures.value) (subst (λ (set : LabelSet). AllByRecursion (IsKept chunks set) parts) of are) in
     right_then (λ found. IsTrue found ↔ Contains (flat_map in_store c.deref-3.result.now) entry) (λ found. IsTrue found ↔ Contains (entries_of c.args.self.now) entry)
     (λ found visited. subst (λ (s : StreamView). IsTrue found ↔ Contains (entries_of s) entry) c.self.view_is
     (of_rest parts head entry no_head no_memory found (subst (λ (ps : List PartView). IsTrue found ↔ Contains (flat_map in_store ps) entry) c.deref-3.ensures.value visited)))
-    c.any_there.result (c.any_there.ensures.right next now honest)
+    c.any_there.result (c.any_there.ensures.right now honest)
 
 pub returns-then-has_entry-clause-yes : goal.returns-then-has_entry-clause-yes
 returns-then-has_entry-clause-yes g c = λ found.

@@ -13,7 +13,7 @@ use Rattle.rl_streams.proofs.streams.Streams.add.Goals as goal
 pub invariant_of-self : goal.invariant_of-self
 invariant_of-self g c =
     let s = c.self.inside in (
-      looked_whole s.limits s.streams.entries c.put.new.streams.entries (g.S.Store.seen s.store) (g.S.Store.seen c.put.new.store) s.next s.count c.self.invariant.0 c.put.ensures.looked c.in_err-put.ensures.refused,
+      looked_whole s.limits s.streams.entries c.put.new.streams.entries s.chunks c.put.new.chunks s.count c.self.invariant.0 c.put.ensures.reads c.in_err-put.ensures.refused,
       selections_same s.streams.entries c.put.new.streams.entries s.selections c.in_err-put.ensures.refused c.self.invariant.1,
     )
 
@@ -21,15 +21,15 @@ pub returns-in_err-put-clause-decided : goal.returns-in_err-put-clause-decided
 returns-in_err-put-clause-decided g c =
     let s = c.self.inside in
     let p = err_from_is_err_and c.from_residual.result c.from_residual.ensures.1 in
-    subst (λ (old : StreamsView). age_refusal old.limits old.newest c.args.horizon c.args.entry ≡ None → old.seen.honest ≡ true → IsDecided c.from_residual.result old c.args.entry (view_of s.limits c.put.new.streams.entries (g.S.Store.seen c.put.new.store) s.next)) c.self.view_is
-    (λ aged honest. rw (p.1, p.2) (decided_refused s.limits s.streams.entries c.put.new.streams.entries (g.S.Store.seen s.store) (g.S.Store.seen c.put.new.store) s.next s.count c.self.invariant.0 c.put.ensures.looked c.args.entry
-    c.in_err-put.field-0.0 _ (view_of s.limits c.put.new.streams.entries (g.S.Store.seen c.put.new.store) s.next) honest (c.in_err-put.ensures.right s.next c.self.invariant.0.streams honest) c.in_err-put.ensures.answers refl))
+    subst (λ (old : StreamsView). age_refusal old.limits old.newest c.args.horizon c.args.entry ≡ None → old.seen.honest ≡ true → IsDecided c.from_residual.result old c.args.entry (view_of s.limits c.put.new.streams.entries c.put.new.chunks)) c.self.view_is
+    (λ aged honest. rw (p.1, p.2) (decided_refused s.limits s.streams.entries c.put.new.streams.entries s.chunks c.put.new.chunks s.count c.self.invariant.0 c.put.ensures.reads c.args.entry
+    c.in_err-put.field-0.0 _ (view_of s.limits c.put.new.streams.entries c.put.new.chunks) honest (c.in_err-put.ensures.right c.self.invariant.0.streams honest) c.in_err-put.ensures.answers refl))
 
 pub invariant_of-self-then-not-branch : goal.invariant_of-self-then-not-branch
 invariant_of-self-then-not-branch g c =
     let s = c.self.inside in
     let same = subst (λ more. AreOffered s.limits.chunk_entries more s.streams.entries c.args.entry c.put.new.streams.entries) c.if-not-branch.true c.in_ok-put.ensures.taken in (
-      looked_whole s.limits s.streams.entries c.put.new.streams.entries (g.S.Store.seen s.store) (g.S.Store.seen c.put.new.store) s.next s.count c.self.invariant.0 c.put.ensures.looked same,
+      looked_whole s.limits s.streams.entries c.put.new.streams.entries s.chunks c.put.new.chunks s.count c.self.invariant.0 c.put.ensures.reads same,
       selections_same s.streams.entries c.put.new.streams.entries s.selections same c.self.invariant.1,
     )
 
@@ -37,17 +37,17 @@ pub returns-then-not-branch-clause-decided : goal.returns-then-not-branch-clause
 returns-then-not-branch-clause-decided g c =
     let s = c.self.inside in
     let same = subst (λ more. AreOffered s.limits.chunk_entries more s.streams.entries c.args.entry c.put.new.streams.entries) c.if-not-branch.true c.in_ok-put.ensures.taken in
-    subst (λ (old : StreamsView). age_refusal old.limits old.newest c.args.horizon c.args.entry ≡ None → old.seen.honest ≡ true → IsDecided {A = Unit {0}} (Ok tt) old c.args.entry (view_of s.limits c.put.new.streams.entries (g.S.Store.seen c.put.new.store) s.next)) c.self.view_is
-    (λ aged honest. decided_held s.limits s.streams.entries c.put.new.streams.entries (g.S.Store.seen s.store) (g.S.Store.seen c.put.new.store) s.next s.count c.self.invariant.0 c.put.ensures.looked c.args.entry honest
-    (subst (λ more. IsOfferedRight (Ok more) (is_among c.args.entry (joined s.streams.entries))) c.if-not-branch.true (c.in_ok-put.ensures.right s.next c.self.invariant.0.streams honest)) same)
+    subst (λ (old : StreamsView). age_refusal old.limits old.newest c.args.horizon c.args.entry ≡ None → old.seen.honest ≡ true → IsDecided {A = Unit {0}} (Ok tt) old c.args.entry (view_of s.limits c.put.new.streams.entries c.put.new.chunks)) c.self.view_is
+    (λ aged honest. decided_held s.limits s.streams.entries c.put.new.streams.entries s.chunks c.put.new.chunks s.count c.self.invariant.0 c.put.ensures.reads c.args.entry honest
+    (subst (λ more. IsOfferedRight (Ok more) (is_among c.args.entry (joined s.streams.entries))) c.if-not-branch.true (c.in_ok-put.ensures.right c.self.invariant.0.streams honest)) same)
 
 pub invariant_of-self-2 : goal.invariant_of-self-2
 invariant_of-self-2 g c =
     let s = c.self.inside in
     let answers = subst (λ more. IsAnswered (Ok more) (IsFound s.streams.entries c.args.entry) (IsMissing s.streams.entries c.args.entry) (nat_le s.limits.entries s.count)) c.if-not-branch.false c.in_ok-put.ensures.answers in
     let added = subst (λ more. AreOffered s.limits.chunk_entries more s.streams.entries c.args.entry c.put.new.streams.entries) c.if-not-branch.false c.in_ok-put.ensures.taken in (
-      taken_whole s.limits s.streams.entries c.put.new.streams.entries (g.S.Store.seen s.store) (g.S.Store.seen c.put.new.store) s.next s.count c.self.invariant.0 c.put.ensures.looked c.args.entry added
-          (λ honest. taken_new (is_among c.args.entry (joined s.streams.entries)) (subst (λ more. IsOfferedRight (Ok more) (is_among c.args.entry (joined s.streams.entries))) c.if-not-branch.false (c.in_ok-put.ensures.right s.next c.self.invariant.0.streams honest)))
+      taken_whole s.limits s.streams.entries c.put.new.streams.entries s.chunks c.put.new.chunks s.count c.self.invariant.0 c.put.ensures.reads c.args.entry added
+          (λ honest. taken_new (is_among c.args.entry (joined s.streams.entries)) (subst (λ more. IsOfferedRight (Ok more) (is_among c.args.entry (joined s.streams.entries))) c.if-not-branch.false (c.in_ok-put.ensures.right c.self.invariant.0.streams honest)))
           (has_room s.limits s.count answers.1),
       selections_after s.streams.entries c.put.new.streams.entries s.selections added.labels c.self.invariant.1,
     )
@@ -57,53 +57,53 @@ returns-clause-decided g c =
     let s = c.self.inside in
     let answers = subst (λ more. IsAnswered (Ok more) (IsFound s.streams.entries c.args.entry) (IsMissing s.streams.entries c.args.entry) (nat_le s.limits.entries s.count)) c.if-not-branch.false c.in_ok-put.ensures.answers in
     let added = subst (λ more. AreOffered s.limits.chunk_entries more s.streams.entries c.args.entry c.put.new.streams.entries) c.if-not-branch.false c.in_ok-put.ensures.taken in
-    subst (λ (old : StreamsView). age_refusal old.limits old.newest c.args.horizon c.args.entry ≡ None → old.seen.honest ≡ true → IsDecided {A = Unit {0}} (Ok tt) old c.args.entry (view_of s.limits c.put.new.streams.entries (g.S.Store.seen c.put.new.store) s.next)) c.self.view_is
-    (λ aged honest. decided_taken s.limits s.streams.entries c.put.new.streams.entries (g.S.Store.seen s.store) (g.S.Store.seen c.put.new.store) s.next s.count c.self.invariant.0 c.put.ensures.looked c.args.entry honest
-    (subst (λ more. IsOfferedRight (Ok more) (is_among c.args.entry (joined s.streams.entries))) c.if-not-branch.false (c.in_ok-put.ensures.right s.next c.self.invariant.0.streams honest)) added (has_room s.limits s.count answers.1))
+    subst (λ (old : StreamsView). age_refusal old.limits old.newest c.args.horizon c.args.entry ≡ None → old.seen.honest ≡ true → IsDecided {A = Unit {0}} (Ok tt) old c.args.entry (view_of s.limits c.put.new.streams.entries c.put.new.chunks)) c.self.view_is
+    (λ aged honest. decided_taken s.limits s.streams.entries c.put.new.streams.entries s.chunks c.put.new.chunks s.count c.self.invariant.0 c.put.ensures.reads c.args.entry honest
+    (subst (λ more. IsOfferedRight (Ok more) (is_among c.args.entry (joined s.streams.entries))) c.if-not-branch.false (c.in_ok-put.ensures.right c.self.invariant.0.streams honest)) added (has_room s.limits s.count answers.1))
 
 pub returns-in_err-put-clause-settled : goal.returns-in_err-put-clause-settled
 returns-in_err-put-clause-settled g c =
     let s = c.self.inside in
     let p = err_from_is_err_and c.from_residual.result c.from_residual.ensures.1 in
-    subst (IsSettledBy c.from_residual.result c.args.horizon c.args.entry (view_of s.limits c.put.new.streams.entries (g.S.Store.seen c.put.new.store) s.next)) c.self.view_is
-    (settled_young c.from_residual.result c.args.horizon c.args.entry (view_of s.limits c.put.new.streams.entries (g.S.Store.seen c.put.new.store) s.next) (view_of s.limits s.streams.entries (g.S.Store.seen s.store) s.next) (ap (age_refusal s.limits (newest_map (newest_in s.streams.entries)) c.args.horizon) (sym c.get-2.ensures) ∙ sym c.age_refusal-refusal.ensures ∙ c.in_default.is)
-    (rw (p.1, p.2) (settled_refused s.limits s.streams.entries c.put.new.streams.entries (g.S.Store.seen s.store) (g.S.Store.seen c.put.new.store) s.next s.count c.self.invariant.0 c.put.ensures.looked c.args.entry c.in_err-put.field-0.0 (nat_le s.limits.entries s.count) c.in_err-put.ensures.answers refl c.in_err-put.ensures.refused)))
+    subst (IsSettledBy c.from_residual.result c.args.horizon c.args.entry (view_of s.limits c.put.new.streams.entries c.put.new.chunks)) c.self.view_is
+    (settled_young c.from_residual.result c.args.horizon c.args.entry (view_of s.limits c.put.new.streams.entries c.put.new.chunks) (view_of s.limits s.streams.entries s.chunks) (ap (age_refusal s.limits (newest_map (newest_in s.streams.entries)) c.args.horizon) (sym c.get-2.ensures) ∙ sym c.age_refusal-refusal.ensures ∙ c.in_default.is)
+    (rw (p.1, p.2) (settled_refused s.limits s.streams.entries c.put.new.streams.entries s.chunks c.put.new.chunks s.count c.self.invariant.0 c.put.ensures.reads c.args.entry c.in_err-put.field-0.0 (nat_le s.limits.entries s.count) c.in_err-put.ensures.answers refl c.in_err-put.ensures.refused)))
 
 pub returns-in_err-put-clause-exact : goal.returns-in_err-put-clause-exact
 returns-in_err-put-clause-exact g c =
     let s = c.self.inside in
     let p = err_from_is_err_and c.from_residual.result c.from_residual.ensures.1 in
-    subst (λ (old : StreamsView). age_refusal old.limits old.newest c.args.horizon c.args.entry ≡ None → IsUnreached old.rows c.args.entry → IsSettledUnread c.from_residual.result old c.args.entry (view_of s.limits c.put.new.streams.entries (g.S.Store.seen c.put.new.store) s.next)) c.self.view_is
-    (λ _ unreached. let exact = c.in_err-put.ensures.exact unreached in rw (p.1, p.2) (unread_refused s.limits s.streams.entries c.put.new.streams.entries (g.S.Store.seen s.store) (g.S.Store.seen c.put.new.store) s.next s.count c.self.invariant.0 c.put.ensures.looked c.args.entry (nat_le s.limits.entries s.count) refl exact.1 c.in_err-put.field-0.0 exact.0 c.in_err-put.ensures.refused))
+    subst (λ (old : StreamsView). age_refusal old.limits old.newest c.args.horizon c.args.entry ≡ None → IsUnreached old.rows c.args.entry → IsSettledUnread c.from_residual.result old c.args.entry (view_of s.limits c.put.new.streams.entries c.put.new.chunks)) c.self.view_is
+    (λ _ unreached. let exact = c.in_err-put.ensures.exact unreached in rw (p.1, p.2) (unread_refused s.limits s.streams.entries c.put.new.streams.entries s.chunks c.put.new.chunks s.count c.self.invariant.0 c.put.ensures.reads c.args.entry (nat_le s.limits.entries s.count) refl exact.1 c.in_err-put.field-0.0 exact.0 c.in_err-put.ensures.refused))
 
 pub returns-then-not-branch-clause-settled : goal.returns-then-not-branch-clause-settled
 returns-then-not-branch-clause-settled g c =
     let s = c.self.inside in
     let same = subst (λ more. AreOffered s.limits.chunk_entries more s.streams.entries c.args.entry c.put.new.streams.entries) c.if-not-branch.true c.in_ok-put.ensures.taken in
     let answers = subst (λ more. IsAnswered (Ok more) (IsFound s.streams.entries c.args.entry) (IsMissing s.streams.entries c.args.entry) (nat_le s.limits.entries s.count)) c.if-not-branch.true c.in_ok-put.ensures.answers in
-    subst (IsSettledBy (Ok tt) c.args.horizon c.args.entry (view_of s.limits c.put.new.streams.entries (g.S.Store.seen c.put.new.store) s.next)) c.self.view_is
-    (settled_young (Ok tt) c.args.horizon c.args.entry (view_of s.limits c.put.new.streams.entries (g.S.Store.seen c.put.new.store) s.next) (view_of s.limits s.streams.entries (g.S.Store.seen s.store) s.next) (ap (age_refusal s.limits (newest_map (newest_in s.streams.entries)) c.args.horizon) (sym c.get-2.ensures) ∙ sym c.age_refusal-refusal.ensures ∙ c.in_default.is)
-    (settled_held s.limits s.streams.entries c.put.new.streams.entries (g.S.Store.seen s.store) (g.S.Store.seen c.put.new.store) s.next s.count c.self.invariant.0 c.put.ensures.looked c.args.entry answers same))
+    subst (IsSettledBy (Ok tt) c.args.horizon c.args.entry (view_of s.limits c.put.new.streams.entries c.put.new.chunks)) c.self.view_is
+    (settled_young (Ok tt) c.args.horizon c.args.entry (view_of s.limits c.put.new.streams.entries c.put.new.chunks) (view_of s.limits s.streams.entries s.chunks) (ap (age_refusal s.limits (newest_map (newest_in s.streams.entries)) c.args.horizon) (sym c.get-2.ensures) ∙ sym c.age_refusal-refusal.ensures ∙ c.in_default.is)
+    (settled_held s.limits s.streams.entries c.put.new.streams.entries s.chunks c.put.new.chunks s.count c.self.invariant.0 c.put.ensures.reads c.args.entry answers same))
 
 pub returns-then-not-branch-clause-exact : goal.returns-then-not-branch-clause-exact
 returns-then-not-branch-clause-exact g c =
     let s = c.self.inside in
     let same = subst (λ more. AreOffered s.limits.chunk_entries more s.streams.entries c.args.entry c.put.new.streams.entries) c.if-not-branch.true c.in_ok-put.ensures.taken in
-    subst (λ (old : StreamsView). age_refusal old.limits old.newest c.args.horizon c.args.entry ≡ None → IsUnreached old.rows c.args.entry → IsSettledUnread (Ok tt) old c.args.entry (view_of s.limits c.put.new.streams.entries (g.S.Store.seen c.put.new.store) s.next)) c.self.view_is
-    (λ _ unreached. let exact = c.in_ok-put.ensures.exact unreached in unread_held s.limits s.streams.entries c.put.new.streams.entries (g.S.Store.seen s.store) (g.S.Store.seen c.put.new.store) s.next s.count c.self.invariant.0 c.put.ensures.looked c.args.entry (nat_le s.limits.entries s.count) refl exact.1 (subst (λ more. IsAnsweredUnread (Ok more) (is_among c.args.entry (joined s.streams.entries)) (nat_le s.limits.entries s.count)) c.if-not-branch.true exact.0) same)
+    subst (λ (old : StreamsView). age_refusal old.limits old.newest c.args.horizon c.args.entry ≡ None → IsUnreached old.rows c.args.entry → IsSettledUnread (Ok tt) old c.args.entry (view_of s.limits c.put.new.streams.entries c.put.new.chunks)) c.self.view_is
+    (λ _ unreached. let exact = c.in_ok-put.ensures.exact unreached in unread_held s.limits s.streams.entries c.put.new.streams.entries s.chunks c.put.new.chunks s.count c.self.invariant.0 c.put.ensures.reads c.args.entry (nat_le s.limits.entries s.count) refl exact.1 (subst (λ more. IsAnsweredUnread (Ok more) (is_among c.args.entry (joined s.streams.entries)) (nat_le s.limits.entries s.count)) c.if-not-branch.true exact.0) same)
 
 pub returns-clause-settled : goal.returns-clause-settled
 returns-clause-settled g c =
     let s = c.self.inside in
     let answers = subst (λ more. IsAnswered (Ok more) (IsFound s.streams.entries c.args.entry) (IsMissing s.streams.entries c.args.entry) (nat_le s.limits.entries s.count)) c.if-not-branch.false c.in_ok-put.ensures.answers in
     let added = subst (λ more. AreOffered s.limits.chunk_entries more s.streams.entries c.args.entry c.put.new.streams.entries) c.if-not-branch.false c.in_ok-put.ensures.taken in
-    subst (IsSettledBy (Ok tt) c.args.horizon c.args.entry (view_of s.limits c.put.new.streams.entries (g.S.Store.seen c.put.new.store) s.next)) c.self.view_is
-    (settled_young (Ok tt) c.args.horizon c.args.entry (view_of s.limits c.put.new.streams.entries (g.S.Store.seen c.put.new.store) s.next) (view_of s.limits s.streams.entries (g.S.Store.seen s.store) s.next) (ap (age_refusal s.limits (newest_map (newest_in s.streams.entries)) c.args.horizon) (sym c.get-2.ensures) ∙ sym c.age_refusal-refusal.ensures ∙ c.in_default.is)
-    (settled_taken s.limits s.streams.entries c.put.new.streams.entries (g.S.Store.seen s.store) (g.S.Store.seen c.put.new.store) s.next s.count c.self.invariant.0 c.put.ensures.looked c.args.entry answers.0 added (has_room s.limits s.count answers.1)))
+    subst (IsSettledBy (Ok tt) c.args.horizon c.args.entry (view_of s.limits c.put.new.streams.entries c.put.new.chunks)) c.self.view_is
+    (settled_young (Ok tt) c.args.horizon c.args.entry (view_of s.limits c.put.new.streams.entries c.put.new.chunks) (view_of s.limits s.streams.entries s.chunks) (ap (age_refusal s.limits (newest_map (newest_in s.streams.entries)) c.args.horizon) (sym c.get-2.ensures) ∙ sym c.age_refusal-refusal.ensures ∙ c.in_default.is)
+    (settled_taken s.limits s.streams.entries c.put.new.streams.entries s.chunks c.put.new.chunks s.count c.self.invariant.0 c.put.ensures.reads c.args.entry answers.0 added (has_room s.limits s.count answers.1)))
 
 pub returns-clause-exact : goal.returns-clause-exact
 returns-clause-exact g c =
     let s = c.self.inside in
     let added = subst (λ more. AreOffered s.limits.chunk_entries more s.streams.entries c.args.entry c.put.new.streams.entries) c.if-not-branch.false c.in_ok-put.ensures.taken in
-    subst (λ (old : StreamsView). age_refusal old.limits old.newest c.args.horizon c.args.entry ≡ None → IsUnreached old.rows c.args.entry → IsSettledUnread (Ok tt) old c.args.entry (view_of s.limits c.put.new.streams.entries (g.S.Store.seen c.put.new.store) s.next)) c.self.view_is
-    (λ _ unreached. let exact = c.in_ok-put.ensures.exact unreached in unread_taken s.limits s.streams.entries c.put.new.streams.entries (g.S.Store.seen s.store) (g.S.Store.seen c.put.new.store) s.next s.count c.self.invariant.0 c.put.ensures.looked c.args.entry (nat_le s.limits.entries s.count) refl exact.1 (subst (λ more. IsAnsweredUnread (Ok more) (is_among c.args.entry (joined s.streams.entries)) (nat_le s.limits.entries s.count)) c.if-not-branch.false exact.0) added)
+    subst (λ (old : StreamsView). age_refusal old.limits old.newest c.args.horizon c.args.entry ≡ None → IsUnreached old.rows c.args.entry → IsSettledUnread (Ok tt) old c.args.entry (view_of s.limits c.put.new.streams.entries c.put.new.chunks)) c.self.view_is
+    (λ _ unreached. let exact = c.in_ok-put.ensures.exact unreached in unread_taken s.limits s.streams.entries c.put.new.streams.entries s.chunks c.put.new.chunks s.count c.self.invariant.0 c.put.ensures.reads c.args.entry (nat_le s.limits.entries s.count) refl exact.1 (subst (λ more. IsAnsweredUnread (Ok more) (is_among c.args.entry (joined s.streams.entries)) (nat_le s.limits.entries s.count)) c.if-not-branch.false exact.0) added)

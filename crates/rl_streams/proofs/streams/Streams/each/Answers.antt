@@ -27,14 +27,14 @@ each-requires-clause-positions g c =
 pub invariant_of-self-2 : goal.invariant_of-self-2
 invariant_of-self-2 g c =
     let s = c.self.inside in
-    (looked_whole s.limits s.streams.entries s.streams.entries (g.S.Store.seen s.store) (g.S.Store.seen c.each.new.store) s.next s.count c.self.invariant.0 c.each.ensures.looked refl, c.select.ensures.kept)
+    (looked_whole s.limits s.streams.entries s.streams.entries s.chunks c.each.new.chunks s.count c.self.invariant.0 c.each.ensures.reads refl, c.select.ensures.kept)
 
 pub returns-clause-unread : goal.returns-clause-unread
 returns-clause-unread g c = λ none.
     let s = c.self.inside in
     let chosen = found_is (λ (one : SelectionView). one.selector) c.select.new.self c.in_ok-position.position c.at-selection.result.now c.args.selector.now c.at-selection.ensures c.in_ok-position.ensures.found in
     let same = c.each.ensures.unread (rows_not_selected c.at-selection.result.now.selector s.streams.entries (subst (λ matchers. NoneSelected matchers (newest_map (newest_in s.streams.entries))) (sym chosen) (subst (λ (view : StreamsView). NoneSelected c.args.selector.now view.newest) (sym c.self.view_is) none))) in
-    ap (λ seen. view_of s.limits s.streams.entries seen s.next) same ∙ c.self.view_is
+    ap (view_of s.limits s.streams.entries) same ∙ c.self.view_is
 
 pub returns-clause-visited : goal.returns-clause-visited
 returns-clause-visited g c =
@@ -50,6 +50,6 @@ returns-clause-right g c =
     let after = c.each.new.visitor in
     let chosen = found_is (λ (one : SelectionView). one.selector) c.select.new.self c.in_ok-position.position c.at-selection.result.now c.args.selector.now c.at-selection.ensures c.in_ok-position.ensures.found in
     subst (λ (view : StreamsView). view.seen.honest ≡ true → Right c.each.result (λ _. AreVisitedOnce c.args.selector.now c.args.from c.args.to view.held g.T.Visitor.visiting before after)) c.self.view_is
-    (subst (λ matchers. (g.S.Store.seen s.store).honest ≡ true → Right c.each.result (λ _. AreVisitedOnce matchers c.args.from c.args.to (set_of (joined rows)) g.T.Visitor.visiting before after)) chosen
+    (subst (λ matchers. s.chunks.seen.honest ≡ true → Right c.each.result (λ _. AreVisitedOnce matchers c.args.from c.args.to (set_of (joined rows)) g.T.Visitor.visiting before after)) chosen
     (λ honest. right_then (λ _. after ≡ fold g.T.Visitor.visiting before (visited_by c.at-selection.result.now.selector c.args.from c.args.to rows)) (λ _. AreVisitedOnce c.at-selection.result.now.selector c.args.from c.args.to (set_of (joined rows)) g.T.Visitor.visiting before after)
-    (λ _ is. visited_once g.T.Visitor.visiting c.at-selection.result.now.selector c.args.from c.args.to rows before after c.self.invariant.0.streams.own (c.self.invariant.0.streams.once honest) is) c.each.result (c.each.ensures.right s.next c.self.invariant.0.streams honest)))
+    (λ _ is. visited_once g.T.Visitor.visiting c.at-selection.result.now.selector c.args.from c.args.to rows before after c.self.invariant.0.streams.own (c.self.invariant.0.streams.once honest) is) c.each.result (c.each.ensures.right c.self.invariant.0.streams honest)))

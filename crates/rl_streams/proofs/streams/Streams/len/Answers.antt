@@ -14,5 +14,5 @@ returns-clause-right g c = subst (λ (view : StreamsView). view.seen.honest ≡ 
 pub returns-clause-room : goal.returns-clause-room
 returns-clause-room g c =
     let s = c.self.inside in
-    let within : len (view_of s.limits s.streams.entries (g.S.Store.seen s.store) s.next).held ≤ s.limits.entries = omega (arith, len-of_list entry_cmp_total (joined s.streams.entries), c.self.invariant.0.counted, c.self.invariant.0.room) in
+    let within : len (view_of s.limits s.streams.entries s.chunks).held ≤ s.limits.entries = omega (arith, len-of_list entry_cmp_total (joined s.streams.entries), c.self.invariant.0.counted, c.self.invariant.0.room) in
     subst (λ (view : StreamsView). len view.held ≤ view.limits.entries) c.self.view_is within

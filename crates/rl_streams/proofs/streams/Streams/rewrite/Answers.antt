@@ -14,10 +14,8 @@ pub count-self-inside-requires : goal.count-self-inside-requires
 count-self-inside-requires g c =
     let s = c.self.inside in
     let rows = s.streams.entries in
-    let before = g.S.Store.seen s.store in
-    let seen = g.S.Store.seen c.plan_all-planned.new.store in
-    let after = g.S.Store.seen c.carry_out_all.new.store in
-    let next = c.plan_all-planned.new.next in
+    let seen = c.plan_all-planned.new.chunks in
+    let after = c.carry_out_all.new.chunks in
     let plans = c.in_ok-plans.plans.items in
     let made = c.in_ok-plans.ensures in
     let covers = g.C.Covers.covers c.args.covered.now in
@@ -28,17 +26,15 @@ pub invariant_of-self-2 : goal.invariant_of-self-2
 invariant_of-self-2 g c =
     let s = c.self.inside in
     let rows = s.streams.entries in
-    let before = g.S.Store.seen s.store in
-    let seen = g.S.Store.seen c.plan_all-planned.new.store in
-    let after = g.S.Store.seen c.carry_out_all.new.store in
-    let next = c.plan_all-planned.new.next in
+    let seen = c.plan_all-planned.new.chunks in
+    let after = c.carry_out_all.new.chunks in
     let plans = c.in_ok-plans.plans.items in
     let made = c.in_ok-plans.ensures in
     let covers = g.C.Covers.covers c.args.covered.now in
     let streams : c.carry_out_all.new.streams.entries ≡ rewritten rows plans = c.carry_out_all.ensures.streams in
     let counted : c.count-self-inside.result ≡ length (joined (rewritten rows plans)) = c.count-self-inside.ensures ∙ ap (λ (rs : List Row). length (joined rs)) streams in
-    subst (λ (rs : List Row). IsWhole s.limits rs after next c.count-self-inside.result × AreSelections (keys_of rs) s.selections) (sym streams) (
-      whole_rewritten s.limits rows s.next s.count before next seen c.self.invariant.0 made.next made.grown made.counted covers plans after made.of made.planned c.carry_out_all.ensures.removed c.count-self-inside.result counted,
+    subst (λ (rs : List Row). IsWhole s.limits rs after c.count-self-inside.result × AreSelections (keys_of rs) s.selections) (sym streams) (
+      whole_rewritten s.limits rows s.count s.chunks seen c.self.invariant.0 made.puts made.counted covers plans after made.of made.planned c.carry_out_all.ensures.removed c.count-self-inside.result counted,
       subst (λ labels. AreSelections labels s.selections) (sym (keys_rewritten rows plans made.of)) c.self.invariant.1,
     )
 
@@ -46,26 +42,22 @@ pub returns-clause-rewritten : goal.returns-clause-rewritten
 returns-clause-rewritten g c =
     let s = c.self.inside in
     let rows = s.streams.entries in
-    let before = g.S.Store.seen s.store in
-    let seen = g.S.Store.seen c.plan_all-planned.new.store in
-    let after = g.S.Store.seen c.carry_out_all.new.store in
-    let next = c.plan_all-planned.new.next in
+    let seen = c.plan_all-planned.new.chunks in
+    let after = c.carry_out_all.new.chunks in
     let plans = c.in_ok-plans.plans.items in
     let made = c.in_ok-plans.ensures in
     let covers = g.C.Covers.covers c.args.covered.now in
     let streams : c.carry_out_all.new.streams.entries ≡ rewritten rows plans = c.carry_out_all.ensures.streams in
-    subst (λ (old : StreamsView). Rewrites old (view_of s.limits c.carry_out_all.new.streams.entries after next)) c.self.view_is
-    (subst (λ (rs : List Row). Rewrites (view_of s.limits rows before s.next) (view_of s.limits rs after next)) (sym streams)
-    (view_rewritten s.limits rows s.next s.count before next seen c.self.invariant.0 made.next made.grown made.counted covers plans after made.of made.planned c.carry_out_all.ensures.removed))
+    subst (λ (old : StreamsView). Rewrites old (view_of s.limits c.carry_out_all.new.streams.entries after)) c.self.view_is
+    (subst (λ (rs : List Row). Rewrites (view_of s.limits rows s.chunks) (view_of s.limits rs after)) (sym streams)
+    (view_rewritten s.limits rows s.count s.chunks seen c.self.invariant.0 made.puts made.counted covers plans after made.of made.planned c.carry_out_all.ensures.removed))
 
 pub returns-clause-left : goal.returns-clause-left
 returns-clause-left g c =
     let s = c.self.inside in
     let rows = s.streams.entries in
-    let before = g.S.Store.seen s.store in
-    let seen = g.S.Store.seen c.plan_all-planned.new.store in
-    let after = g.S.Store.seen c.carry_out_all.new.store in
-    let next = c.plan_all-planned.new.next in
+    let seen = c.plan_all-planned.new.chunks in
+    let after = c.carry_out_all.new.chunks in
     let plans = c.in_ok-plans.plans.items in
     let made = c.in_ok-plans.ensures in
     let covers = g.C.Covers.covers c.args.covered.now in
@@ -77,14 +69,12 @@ pub returns-clause-right : goal.returns-clause-right
 returns-clause-right g c =
     let s = c.self.inside in
     let rows = s.streams.entries in
-    let before = g.S.Store.seen s.store in
-    let seen = g.S.Store.seen c.plan_all-planned.new.store in
-    let after = g.S.Store.seen c.carry_out_all.new.store in
-    let next = c.plan_all-planned.new.next in
+    let seen = c.plan_all-planned.new.chunks in
+    let after = c.carry_out_all.new.chunks in
     let plans = c.in_ok-plans.plans.items in
     let made = c.in_ok-plans.ensures in
     let covers = g.C.Covers.covers c.args.covered.now in
     let streams : c.carry_out_all.new.streams.entries ≡ rewritten rows plans = c.carry_out_all.ensures.streams in
     subst (λ (old : StreamsView). old.seen.honest ≡ true → set_of (joined c.carry_out_all.new.streams.entries) ≡ without covers old.held) c.self.view_is
     (λ honest. ap (λ (rs : List Row). set_of (joined rs)) streams
-    ∙ held_rewritten s.limits rows s.next s.count before next seen c.self.invariant.0 made.next made.grown made.counted covers plans after made.of made.planned c.carry_out_all.ensures.removed honest)
+    ∙ held_rewritten s.limits rows s.count s.chunks seen c.self.invariant.0 made.puts made.counted covers plans after made.of made.planned c.carry_out_all.ensures.removed honest)

@@ -1,31 +1,36 @@
 -- One stream is asked.
-use Rattle.std.proofs.Common.{◌≡◌, [], ◌∷◌, ◌++◌, ◌+◌, true, ap, subst, ◌∙◌}
+use Rattle.std.proofs.Common.{◌≡◌, [], ◌∷◌, ◌++◌, ◌+◌, true, refl, ap, subst, ◌∙◌}
 use Rattle.std.specs.Prelude.{OnOk}
 use Rattle.std.specs.List.{fold}
 use Rattle.rl_parts.specs.StoreUse.{Right}
 use Rattle.rl_parts.specs.laws.VisitorLaws.{fold-pushed}
-use Rattle.rl_parts.specs.laws.UseLaws.{Looked-none}
+use Rattle.rl_parts.specs.laws.UseLaws.{Reads-none}
 use Rattle.rl_streams.specs.Asking.{visited_of, visited_at}
 use Rattle.rl_streams.specs.CursorState.{AreAsked}
 use Rattle.rl_streams.specs.StreamRows.{by_stream}
 use Rattle.rl_streams.specs.StreamsState.{StreamsView, order_of}
 use Rattle.rl_streams.proofs.Asked.{asked_one, ok_then}
 use Rattle.rl_streams.proofs.Visited.{right_then, visited_here, kept_there}
+use Rattle.rl_streams.proofs.Whole.{looked_whole}
 use Rattle.rl_streams.proofs.streams.Streams.visit_lines.Goals as goal
+
+pub invariant_of-self : goal.invariant_of-self
+invariant_of-self g c =
+    let s = c.self.inside in
+    (looked_whole s.limits s.streams.entries s.streams.entries s.chunks c.each_selected.new.chunks s.count c.self.invariant.0 c.each_selected.ensures.reads refl, c.self.invariant.1)
 
 pub returns-clause-right : goal.returns-clause-right
 returns-clause-right g c =
     let s = c.self.inside in
     let rows = s.streams.entries in
     let stream = c.index.result.now in
-    let seen = g.S.Store.seen s.store in
     let selector = c.args.selector.now in
     let before = c.args.lines.now in
     let after = c.each_selected.new.visitor in
     subst (λ (view : StreamsView). view.seen.honest ≡ true → Right c.each_selected.result (λ _. after ≡ before ++ visited_at selector c.args.from c.args.to (order_of view) c.args.position)) c.self.view_is
     (λ honest. right_then (λ _. after ≡ fold (λ lines line. lines ++ line ∷ []) before (visited_of selector c.args.from c.args.to stream.labels stream)) (λ _. after ≡ before ++ visited_at selector c.args.from c.args.to (by_stream rows) c.args.position)
     (λ _ is. is ∙ fold-pushed before (visited_of selector c.args.from c.args.to stream.labels stream) ∙ ap (λ l. before ++ l) (visited_here selector c.args.from c.args.to rows c.args.position stream c.self.invariant.0.streams.own c.index.ensures)) c.each_selected.result
-    (c.each_selected.ensures.right s.next (kept_there selector c.args.from c.args.to rows c.args.position stream seen seen s.next c.self.invariant.0.streams (Looked-none seen) c.index.ensures) honest))
+    (c.each_selected.ensures.right (kept_there selector c.args.from c.args.to rows c.args.position stream s.chunks s.chunks c.self.invariant.0.streams (Reads-none s.chunks) c.index.ensures) honest))
 
 pub returns-clause-asked : goal.returns-clause-asked
 returns-clause-asked g c =

@@ -3,7 +3,7 @@ use Rattle.std.proofs.Common.{sym, ap, subst, ◌∙◌}
 use Rattle.std.specs.FinMap as map
 use Rattle.rl_chunks.specs.StoreState.{Blobs, LeavesOthers}
 use Rattle.rl_parts.proofs.Puts.{get_put, get_other, one_put}
-use Rattle.rl_parts.proofs.flushing.put_bytes.Goals as goal
+use Rattle.rl_parts.proofs.chunk_store.put_bytes.Goals as goal
 
 pub returns-in-Ok-clause-there : goal.returns-in-Ok-clause-there
 returns-in-Ok-clause-there g c =
