@@ -7,9 +7,9 @@ use Rattle.std.specs.Ordering.{ordering_reverse}
 use Rattle.std.specs.declared.cmp.Ordering.TheVariants.{Less, Equal, Greater}
 use Rattle.std.specs.Cmp.{IsTotalOrder}
 use Rattle.std.proofs.lemmas.Bool.{cases_lt}
-use Rattle.std.proofs.lemmas.List.{length-map, get_or-map, take_all, take_more}
+use Rattle.std.proofs.lemmas.List.{length-map, get_or-map, take_all}
 use Rattle.std.proofs.lemmas.List.Concat.{flat_map-append}
-use Rattle.std.proofs.lemmas.List.Elements.{All-contains, Contains-append_left, Contains-append_right, Contains-append_cases, Contains-push_cases}
+use Rattle.std.proofs.lemmas.List.Elements.{All-contains, Contains-append_left, Contains-append_right, Contains-append_cases}
 use Rattle.rl_labels.specs.LabelSet.{LabelSet}
 use Rattle.rl_labels.specs.laws.OrderLaws.{same_entry}
 use Rattle.rl_labels.specs.declared.entry.Entry.{Entry}
@@ -18,7 +18,7 @@ use Rattle.rl_chunks.specs.declared.line.Line.{Line}
 use Rattle.rl_parts.specs.StreamParts.{Note, PartView}
 use Rattle.rl_parts.specs.StreamState.{AreSealedUpTo}
 use Rattle.rl_parts.specs.Reading.{IsOutside, IsWithout, in_memory, in_store}
-use Rattle.rl_parts.specs.laws.EachLaws.{all_more}
+use Rattle.rl_parts.specs.laws.EachLaws.{all_more, take_next}
 
 no_true : {P : Type 0} → false ≡ true → P
 no_true h = cc
@@ -47,24 +47,14 @@ module _ {K : Type 0} {R : K → K → Ordering} (o : IsTotalOrder R) where
     | inr le ↦ apart (R q q) Less (o.antisymm q q) (inr (sym (ap (λ x. R x q) there.2) ∙ after there.0 q le there.1))
   ]
 
--- one more that is another
-pub absent_more : {A : Type 0} (xs : List A) (i : ℕ) (x q : A) → i < length xs → x ≡ get_or xs i x → (Contains (take i xs) q → ⊥) → (x ≡ q → ⊥) → Contains (take (i + 1) xs) q → ⊥
-absent_more xs i x q within is before other there =
-    let front : take (i + 1) xs ≡ take i xs ++ x ∷ [] = take_more xs i x within ∙ ap (λ y. take i xs ++ y ∷ []) (sym is) in
-    elim (Contains-push_cases (take i xs) x q (subst (λ ys. Contains ys q) front there)) [ inl early ↦ before early | inr here ↦ other here ]
-
 pub absent_all : {A : Type 0} (xs : List A) (i : ℕ) (q : A) → length xs ≤ i → (Contains (take i xs) q → ⊥) → Contains xs q → ⊥
 absent_all xs i q le none there = none (subst (λ ys. Contains ys q) (sym (take_all i xs le)) there)
-
-pub found_at : {A : Type 0} (xs : List A) (i : ℕ) (x q : A) → i < length xs → x ≡ get_or xs i x → x ≡ q → Contains xs q
-found_at xs i x q within is same = subst (λ y. Contains xs y) same (i, within, sym is)
 
 module _ (f : PartView → List Entry) where
   -- one part more, which does not have it
   pub absent_part : (parts : List PartView) (i : ℕ) (p : PartView) (q : Entry) → i < length parts → p ≡ get_or parts i p → (Contains (flat_map f (take i parts)) q → ⊥) → (Contains (f p) q → ⊥) → Contains (flat_map f (take (i + 1) parts)) q → ⊥
   absent_part parts i p q within is before here there =
-      let front : take (i + 1) parts ≡ take i parts ++ p ∷ [] = take_more parts i p within ∙ ap (λ y. take i parts ++ y ∷ []) (sym is) in
-      let all : flat_map f (take (i + 1) parts) ≡ flat_map f (take i parts) ++ f p = ap (flat_map f) front ∙ flat_map-append f (take i parts) (p ∷ []) ∙ ap (λ es. flat_map f (take i parts) ++ es) (append-nil (f p)) in
+      let all : flat_map f (take (i + 1) parts) ≡ flat_map f (take i parts) ++ f p = ap (flat_map f) (take_next parts i p within is) ∙ flat_map-append f (take i parts) (p ∷ []) ∙ ap (λ es. flat_map f (take i parts) ++ es) (append-nil (f p)) in
       elim (Contains-append_cases (flat_map f (take i parts)) (f p) q (subst (λ es. Contains es q) all there)) [ inl early ↦ before early | inr late ↦ here late ]
 
   pub absent_parts : (parts : List PartView) (i : ℕ) (q : Entry) → length parts ≤ i → (Contains (flat_map f (take i parts)) q → ⊥) → Contains (flat_map f parts) q → ⊥
@@ -177,8 +167,7 @@ none_there (part ∷ parts) entry out there = elim (Contains-append_cases (in_st
 -- one more that is so
 pub one_more : {A : Type 0} (P : A → Type 0) (xs : List A) (i : ℕ) (x : A) → i < length xs → x ≡ get_or xs i x → AllByRecursion P (take i xs) → P x → AllByRecursion P (take (i + 1) xs)
 one_more P xs i x within is before here =
-    let front : take (i + 1) xs ≡ take i xs ++ x ∷ [] = take_more xs i x within ∙ ap (λ y. take i xs ++ y ∷ []) (sym is) in
-    subst (AllByRecursion P) (sym front) (all_more P (take i xs) x before here)
+    subst (AllByRecursion P) (sym (take_next xs i x within is)) (all_more P (take i xs) x before here)
 
 -- no part has an entry that is newer than all of them, wherever its entries are
 pub without_above : (top : Option ℕ) (parts : List PartView) (entry : Entry) → AreSealedUpTo top parts → unwrap_or top 0 < entry.timestamp → AllByRecursion (IsWithout entry) parts

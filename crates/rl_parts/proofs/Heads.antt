@@ -11,7 +11,7 @@ use Rattle.rl_labels.specs.laws.OrderLaws.{entry_cmp_total}
 use Rattle.rl_labels.specs.declared.entry.Entry.{Entry}
 use Rattle.rl_parts.specs.StreamParts.{PartView, IsRun, IsPart, unwritten, most_entries}
 use Rattle.rl_parts.specs.PartState.{timestamp_at}
-use Rattle.rl_parts.specs.Changes.{IsInserted, AreSealed}
+use Rattle.rl_parts.specs.Changes.{IsInserted}
 use Rattle.rl_parts.specs.StreamState.{AreSealedUpTo, IsInOrder, IsPut}
 use Rattle.rl_parts.specs.laws.EachLaws.{all_more}
 use Rattle.rl_parts.proofs.InOrder.{insert_in_order, nothing_in_order}
@@ -44,13 +44,6 @@ entries_put front old entry new put =
 -- all entries stay where the head is sealed
 pub entries_sealed : (parts : List PartView) (head : List Entry) → flat_map (λ part. part.entries) (parts ++ unwritten head ∷ []) ++ [] ≡ flat_map (λ part. part.entries) parts ++ head
 entries_sealed parts head = append-nil _ ∙ flat_map-append (λ (part : PartView). part.entries) parts (unwritten head ∷ []) ∙ ap (λ xs. flat_map (λ part. part.entries) parts ++ xs) (append-nil head)
-
--- one part is sealed, or none
-pub one_sealed : (parts : List PartView) (head : List Entry) → AreSealed parts (parts ++ unwritten head ∷ [])
-one_sealed parts head = record { fresh = unwritten head ∷ []; appended = refl; unwritten = refl }
-
-pub none_sealed : (parts : List PartView) → AreSealed parts parts
-none_sealed parts = record { fresh = []; appended = sym (append-nil parts); unwritten = refl }
 
 -- no sealed entry is newer than a later timestamp either
 up_to_later : (old new : Option ℕ) (parts : List PartView) → unwrap_or old 0 ≤ unwrap_or new 0 → AreSealedUpTo old parts → AreSealedUpTo new parts

@@ -4,7 +4,7 @@ use Rattle.std.specs.Option.{unwrap_or}
 use Rattle.std.specs.List.{All, AllByRecursion, filter, range_with_len}
 use Rattle.std.specs.List.Sorted.{IsStrictlySortedBy}
 use Rattle.std.specs.declared.cmp.Ordering.TheVariants.{Less}
-use Rattle.std.proofs.lemmas.List.{length-append, length-map, length-take, map-append, take_more}
+use Rattle.std.proofs.lemmas.List.{length-append, length-map, length-take, map-append}
 use Rattle.std.proofs.lemmas.List.Concat.{flat_map-append}
 use Rattle.std.proofs.lemmas.List.Elements.{All-append, All-filter, All-from_recursion, filter-append, recursion_from_All}
 use Rattle.std.proofs.lemmas.List.Kept.{IsStrictlySortedBy-filter}
@@ -25,7 +25,7 @@ use Rattle.rl_parts.specs.declared.plan.Change.{Change}
 use Rattle.rl_parts.specs.declared.plan.Change.TheVariants.{Stays, Goes, Becomes}
 use Rattle.rl_parts.specs.Fingerprints.{AreFingerprints, fingerprint, fingerprints_of}
 use Rattle.rl_parts.specs.declared.plan.Changes.{Changes}
-use Rattle.rl_parts.specs.laws.EachLaws.{all_after, all_both, all_front}
+use Rattle.rl_parts.specs.laws.EachLaws.{all_after, all_both, all_front, take_next}
 use Rattle.rl_parts.specs.laws.RewriteLaws.{AreRenumbered-all, AreRenumbered-none, AreRenumbered-then, range-none}
 use Rattle.rl_parts.specs.laws.VisitorLaws.{AllZip-append}
 use Rattle.rl_parts.specs.laws.UseLaws.{IsKept-keeps, Keeps-reads, Reads-none, kept_later, kept_then}
@@ -91,10 +91,6 @@ run_of_lines set lines entries are rises = record {
   rising = rising set entries are.own (subst (IsStrictlySortedBy line_cmp) (sym are.same) rises);
 }
 
--- no line
-pub lines_none : (set : LabelSet) → AreOfLines set [] []
-lines_none set = record { own = tt; same = refl }
-
 -- one line more
 pub lines_more : (set : LabelSet) (lines : List Line) (entries : List Entry) (line : Line) (entry : Entry) → AreOfLines set lines entries → entry.labels ≡ set → line_of entry ≡ line → AreOfLines set (lines ++ line ∷ []) (entries ++ entry ∷ [])
 lines_more set lines entries line entry are own same = record {
@@ -143,18 +139,6 @@ rewritten_to covers set part before now after le numbers left sealed fewer up_to
   right = λ honest were. right honest were.0 ∙ ap (uncovered covers) (sym (append-nil part.entries));
 }
 
--- no part
-pub rewritten_none : (covers : Entry → Bool) (set : LabelSet) (chunks : ChunksView) → AreRewritten covers set [] chunks [] [] chunks
-rewritten_none covers set chunks = record {
-  numbers = AreRenumbered-none [] chunks.next chunks.next refl;
-  left = record { lefts = []; each = tt; are = refl };
-  sealed = tt;
-  fewer = omega arith;
-  up_to = λ top h. tt;
-  kept = λ h. tt;
-  right = λ honest kept. refl;
-}
-
 left_then : (covers : Entry → Bool) (set : LabelSet) (xs ys us vs : List PartView) → AreLeft covers set xs us → AreLeft covers set ys vs → AreLeft covers set (xs ++ ys) (us ++ vs)
 left_then covers set xs ys us vs p q = record {
   lefts = p.lefts ++ q.lefts;
@@ -198,9 +182,8 @@ pub planned_more : (covers : Entry → Bool) (set : LabelSet) (a b c : ChunksVie
 planned_more covers set a b c parts i p changes now within is many keeps later so_far one =
     let were = changes.of_parts.items in
     let are = now.of_parts.items in
-    let front : take (i + 1) parts ≡ take i parts ++ p ∷ [] = take_more parts i p within ∙ ap (λ x. take i parts ++ x ∷ []) (sym is) in
     let all : carried (take i parts ++ p ∷ []) are ≡ carried (take i parts) were ++ left_by p one.change = ap (carried (take i parts ++ p ∷ [])) one.appended ∙ carried_more (take i parts) were p one.change (omega (arith, length-take i parts, many, within)) in
-    subst (λ (ps : List PartView). AreRewritten covers set ps a (carried ps are) now.gone.items c) (sym front)
+    subst (λ (ps : List PartView). AreRewritten covers set ps a (carried ps are) now.gone.items c) (sym (take_next parts i p within is))
     (subst (λ (us : List PartView). AreRewritten covers set (take i parts ++ p ∷ []) a us now.gone.items c) (sym all)
     (subst (λ ns. AreRewritten covers set (take i parts ++ p ∷ []) a (carried (take i parts) were ++ left_by p one.change) ns c) (sym one.gone_after)
     (rewritten_then covers set a b c (take i parts) (carried (take i parts) were) changes.gone.items (p ∷ []) (left_by p one.change) (gone_by p one.change) keeps later so_far one.rewritten)))

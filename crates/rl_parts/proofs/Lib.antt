@@ -7,7 +7,6 @@ pub mod Leaving
 pub mod Lines
 pub mod Fingerprinted
 pub mod Puts
-pub mod Refusals
 pub mod Rereading
 pub mod Times
 pub mod Writes

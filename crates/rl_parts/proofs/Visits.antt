@@ -2,7 +2,7 @@
 use Rattle.std.proofs.Common.{◌≡◌, ℕ, ◌+◌, ◌-◌, ◌<◌, ◌≤◌, ◌⊎◌, inl, inr, leb, ◌&&◌, true, false, Bool, cond, List, [], ◌∷◌, ◌++◌, length, get_or, take, map, refl, sym, ap, subst, ◌∙◌, append-nil, arith}
 use Rattle.std.specs.List.{All, AllByRecursion, filter, flat_map, fold}
 use Rattle.std.proofs.lemmas.Bool.Decides.{nat_tests}
-use Rattle.std.proofs.lemmas.List.{map-append, take_more}
+use Rattle.std.proofs.lemmas.List.{map-append}
 use Rattle.std.proofs.lemmas.List.Concat.{flat_map-append}
 use Rattle.std.proofs.lemmas.List.Sums.{fold-append}
 use Rattle.std.proofs.lemmas.List.Elements.{filter-append, recursion_from_All}
@@ -10,6 +10,7 @@ use Rattle.rl_labels.specs.LabelSet.{LabelSet}
 use Rattle.rl_labels.specs.declared.entry.Entry.{Entry}
 use Rattle.rl_chunks.specs.EntryLines.{line_of}
 use Rattle.rl_chunks.specs.declared.line.Line.{Line}
+use Rattle.rl_parts.specs.laws.EachLaws.{take_next}
 use Rattle.rl_parts.specs.StreamParts.{PartView, IsRun}
 use Rattle.rl_parts.specs.PartState.{timestamp_at, IsRange}
 use Rattle.rl_parts.specs.Reading.{is_in_range, visited, visited_in_range, lines_in_range, IsPiece, IsVisited}
@@ -28,9 +29,8 @@ visited-append from to xs ys = ap (map visited) (filter-append (is_in_range from
 pub line_more : {A T : Type 0} (visiting : T → LabelSet × Line → T) (line : A → Line) (set : LabelSet) (from to : ℕ) (xs : List A) (i : ℕ) (x : A) (start taken now : T) → i < length xs → x ≡ get_or xs i x
     → taken ≡ fold visiting start (lines_in_range set from to (map line (take i xs))) → now ≡ fold visiting taken (lines_in_range set from to (line x ∷ [])) → now ≡ fold visiting start (lines_in_range set from to (map line (take (i + 1) xs)))
 line_more visiting line set from to xs i x start taken now within is so_far one =
-    let front : take (i + 1) xs ≡ take i xs ++ x ∷ [] = take_more xs i x within ∙ ap (λ y. take i xs ++ y ∷ []) (sym is) in
     let all : lines_in_range set from to (map line (take (i + 1) xs)) ≡ lines_in_range set from to (map line (take i xs)) ++ lines_in_range set from to (line x ∷ []) =
-    ap (λ ys. lines_in_range set from to (map line ys)) front ∙ ap (lines_in_range set from to) (map-append line (take i xs) (x ∷ [])) ∙ lines-append set from to (map line (take i xs)) (line x ∷ []) in
+    ap (λ ys. lines_in_range set from to (map line ys)) (take_next xs i x within is) ∙ ap (lines_in_range set from to) (map-append line (take i xs) (x ∷ [])) ∙ lines-append set from to (map line (take i xs)) (line x ∷ []) in
     one ∙ ap (λ t. fold visiting t (lines_in_range set from to (line x ∷ []))) so_far ∙ sym (fold-append visiting start (lines_in_range set from to (map line (take i xs))) (lines_in_range set from to (line x ∷ []))) ∙ ap (fold visiting start) (sym all)
 
 -- one part more
@@ -38,9 +38,8 @@ pub part_more : {T : Type 0} (visiting : T → LabelSet × Line → T) (from to 
     → taken ≡ fold visiting start (visited_in_range from to (flat_map (λ part. part.entries) (take i parts))) → now ≡ fold visiting taken (visited_in_range from to p.entries) → now ≡ fold visiting start (visited_in_range from to (flat_map (λ part. part.entries) (take (i + 1) parts)))
 part_more visiting from to parts i p start taken now within is so_far one =
     let entries = λ (part : PartView). part.entries in
-    let front : take (i + 1) parts ≡ take i parts ++ p ∷ [] = take_more parts i p within ∙ ap (λ y. take i parts ++ y ∷ []) (sym is) in
     let all : visited_in_range from to (flat_map entries (take (i + 1) parts)) ≡ visited_in_range from to (flat_map entries (take i parts)) ++ visited_in_range from to p.entries =
-    ap (λ ps. visited_in_range from to (flat_map entries ps)) front ∙ ap (visited_in_range from to) (flat_map-append entries (take i parts) (p ∷ []) ∙ ap (λ es. flat_map entries (take i parts) ++ es) (append-nil p.entries)) ∙ visited-append from to (flat_map entries (take i parts)) p.entries in
+    ap (λ ps. visited_in_range from to (flat_map entries ps)) (take_next parts i p within is) ∙ ap (visited_in_range from to) (flat_map-append entries (take i parts) (p ∷ []) ∙ ap (λ es. flat_map entries (take i parts) ++ es) (append-nil p.entries)) ∙ visited-append from to (flat_map entries (take i parts)) p.entries in
     one ∙ ap (λ t. fold visiting t (visited_in_range from to p.entries)) so_far ∙ sym (fold-append visiting start (visited_in_range from to (flat_map entries (take i parts))) (visited_in_range from to p.entries)) ∙ ap (fold visiting start) (sym all)
 
 -- lines of entries are visited as the entries are
@@ -88,8 +87,7 @@ visited_then visiting set from to xs ys a b c p q = record {
 pub piece_more : {T : Type 0} (visiting : T → LabelSet × Line → T) (set : LabelSet) (from to : ℕ) (parts : List PartView) (i : ℕ) (p : PartView) (start taken now : T) → i < length parts → p ≡ get_or parts i p
     → IsVisited visiting set from to (take i parts) start taken → IsVisited visiting set from to (p ∷ []) taken now → IsVisited visiting set from to (take (i + 1) parts) start now
 piece_more visiting set from to parts i p start taken now within is so_far one =
-    let front : take (i + 1) parts ≡ take i parts ++ p ∷ [] = take_more parts i p within ∙ ap (λ y. take i parts ++ y ∷ []) (sym is) in
-    subst (λ (ps : List PartView). IsVisited visiting set from to ps start now) (sym front) (visited_then visiting set from to (take i parts) (p ∷ []) start taken now so_far one)
+    subst (λ (ps : List PartView). IsVisited visiting set from to ps start now) (sym (take_next parts i p within is)) (visited_then visiting set from to (take i parts) (p ∷ []) start taken now so_far one)
 
 -- one piece
 pub one_piece : {T : Type 0} (visiting : T → LabelSet × Line → T) (set : LabelSet) (from to : ℕ) (p : PartView) (piece : List (LabelSet × Line)) (old new : T) → IsPiece set from to p piece → new ≡ fold visiting old piece → IsVisited visiting set from to (p ∷ []) old new

@@ -2,7 +2,7 @@
 use Rattle.std.proofs.Common.{◌≡◌, ℕ, zero, suc, ◌+◌, ◌<◌, ◌≤◌, List, [], ◌∷◌, ◌++◌, length, take, drop, set, get_or, Option, Some, None, IsSome, refl, sym, ap, subst, ◌∙◌, arith}
 use Rattle.std.specs.Option.{is_none, unwrap_or}
 use Rattle.std.specs.List.{All, AllByRecursion}
-use Rattle.std.proofs.lemmas.List.{length-append, length-set, take-append-drop, take_more, take_more_set, drop-set-lt, drop-drop, get_or-drop}
+use Rattle.std.proofs.lemmas.List.{length-append, length-set, take-append-drop, take_more_set, drop-set-lt, drop-drop, get_or-drop}
 use Rattle.std.proofs.lemmas.List.Elements.{All-from_recursion, filter-append}
 use Rattle.rl_labels.specs.LabelSet.{LabelSet}
 use Rattle.rl_labels.specs.declared.entry.Entry.{Entry}
@@ -12,7 +12,7 @@ use Rattle.rl_parts.specs.StoreUse.{IsKept, Keeps}
 use Rattle.rl_parts.specs.Changes.{AreNoted, unwritten_count, with_notes}
 use Rattle.rl_parts.specs.StreamState.{IsInOrder}
 use Rattle.rl_parts.specs.laws.NoteLaws.{with_notes-keeps, AreNoted-more, AreNoted-rest}
-use Rattle.rl_parts.specs.laws.EachLaws.{all_weaker}
+use Rattle.rl_parts.specs.laws.EachLaws.{all_weaker, take_next}
 use Rattle.rl_parts.specs.laws.UseLaws.{IsKept-keeps}
 
 -- one part was given the next number
@@ -49,10 +49,9 @@ module _ (labels : LabelSet) (old : List PartView) (before : ChunksView) (i : �
       → (IsKept after labels p → IsKept last labels q) → Keeps after last → Goes labels old before (i + 1) (set now i q) last
   turn p q last all within is noted kept keeps =
       let low : i < length now = omega (arith, goes.many) in
-      let front : take (i + 1) old ≡ take i old ++ p ∷ [] = take_more old i p within ∙ ap (λ x. take i old ++ x ∷ []) (sym (is ∙ untouched p)) in
       record {
         many = length-set now i q ∙ goes.many;
-        noted = subst (λ xs. AreNoted xs before.next (take (i + 1) (set now i q)) last.next) (sym front)
+        noted = subst (λ xs. AreNoted xs before.next (take (i + 1) (set now i q)) last.next) (sym (take_next old i p within (is ∙ untouched p)))
             (subst (λ ys. AreNoted (take i old ++ p ∷ []) before.next ys last.next) (sym (take_more_set now i q low)) (AreNoted-more (take i old) (take i now) before.next after.next (p ∷ []) (q ∷ []) last.next goes.noted all noted));
         rest = drop-set-lt (i + 1) now i q (omega arith) ∙ sym (drop-drop 1 i now) ∙ ap (drop 1) goes.rest ∙ drop-drop 1 i old;
         kept = λ were.

@@ -1,6 +1,5 @@
 -- Streams that are asked one after the other, whatever the store does.
-use Rattle.std.proofs.Common.{◌≡◌, ℕ, zero, suc, ◌+◌, ◌-◌, ◌≤◌, Some, None, Option, Result, Ok, Err, List, [], ◌∷◌, ◌++◌, length, take, drop, slice_get, refl, sym, ap, subst, ◌∙◌, append-nil, append_assoc, arith}
-use Rattle.std.specs.Prelude.{MatchOption, OnOk}
+use Rattle.std.proofs.Common.{◌≡◌, ℕ, zero, suc, ◌+◌, ◌-◌, ◌≤◌, Some, List, [], ◌∷◌, ◌++◌, take, drop, slice_get, refl, sym, ap, subst, ◌∙◌, append-nil, append_assoc, arith}
 use Rattle.std.specs.List.{AllByRecursion, AllZip, flat_map}
 use Rattle.std.specs.Map.{values_of}
 use Rattle.std.proofs.Math.Seq.{take-add}
@@ -11,14 +10,9 @@ use Rattle.rl_chunks.specs.declared.line.Line.{Line}
 use Rattle.rl_parts.specs.StreamParts.{StreamView}
 use Rattle.rl_parts.specs.laws.VisitorLaws.{AllZip-append, fold-pushed}
 use Rattle.rl_streams.specs.Asking.{AreOfRow, IsVisitedOf}
-use Rattle.rl_streams.specs.CursorState.{AreAsked, IsGiven}
+use Rattle.rl_streams.specs.CursorState.{AreAsked}
 use Rattle.rl_streams.specs.StreamRows.{Row, IsOwn}
 use Rattle.rl_streams.proofs.RowChanges.{at_row, not_none, same_some, with_key}
-
--- what follows from an answer
-pub ok_then : {A E P Q : Type 0} → (P → Q) → (result : Result A E) → OnOk result P → OnOk result Q
-ok_then f (Ok _) h = f h
-ok_then f (Err _) h = tt
 
 drop_none : {A : Type 0} (j : ℕ) → ◌≡◌ {A = List A} (drop j []) []
 drop_none zero = refl
@@ -44,16 +38,6 @@ take_through xs a b c low high =
     ∙ ap (λ l. take (b - a) (drop a xs) ++ take (c - b) l) (drop_drop a (b - a) xs ∙ ap (λ n. drop n xs) start)
 
 module _ (rows : List Row) (selector : List Matcher) (from to : ℕ) where
-  -- none
-  pub asked_none : (at : ℕ) (waiting : List (LabelSet × Line)) → AreAsked rows selector from to at waiting at waiting
-  asked_none at waiting =
-      let none : at - at ≡ 0 = omega arith in record {
-        up = omega arith;
-        lines = [];
-        each = subst (λ n. AllZip (AreOfRow selector from to) (take n (drop at rows)) []) (sym none) tt;
-        all = append-nil waiting;
-      }
-
   -- some, and then others
   pub asked_then : (a : ℕ) (waiting : List (LabelSet × Line)) (b : ℕ) (between : List (LabelSet × Line)) (c : ℕ) (now : List (LabelSet × Line)) → AreAsked rows selector from to a waiting b between → AreAsked rows selector from to b between c now → AreAsked rows selector from to a waiting c now
   asked_then a waiting b between c now p q = record {
@@ -79,9 +63,3 @@ module _ (rows : List Row) (selector : List Matcher) (from to : ℕ) where
         each = subst (λ rs. AllZip (AreOfRow selector from to) rs (visited.lines ∷ [])) (sym (ap (λ n. take n (drop position rows)) one ∙ take_one rows position (stream.labels, stream) stands)) (visited.of_row, tt);
         all = ap (λ l. before ++ l) (append-nil visited.lines) ∙ sym (visited.visited ∙ fold-pushed before visited.lines);
       }
-
-  -- the first line of those that wait
-  pub asked_given : (before : ℕ) (waiting : List (LabelSet × Line)) (after : ℕ) (now : List (LabelSet × Line)) (found : Option (LabelSet × Line)) (left : List (LabelSet × Line)) → AreAsked rows selector from to before waiting after now
-      → MatchOption found ((now ≡ []) × (left ≡ [])) (λ line. now ≡ line ∷ left) → (now ≡ [] → length rows ≤ after) → IsGiven rows selector from to before waiting found after left
-  asked_given before waiting after now None left asked popped all = record { up = asked.up; lines = asked.lines; each = asked.each; all = asked.all ∙ popped.0 ∙ sym popped.1; end = λ _. all popped.0 }
-  asked_given before waiting after now (Some line) left asked popped all = record { up = asked.up; lines = asked.lines; each = asked.each; all = asked.all ∙ popped; end = λ none. absurd (not_none line (sym none)) }

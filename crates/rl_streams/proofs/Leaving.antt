@@ -1,30 +1,20 @@
 -- All streams without their covered entries.
-use Rattle.std.proofs.Common.{◌≡◌, ℕ, ◌+◌, ◌<◌, ◌≤◌, ◌⊎◌, not, Bool, true, List, length, refl, ap, subst, ◌∙◌, arith}
+use Rattle.std.proofs.Common.{◌≡◌, ℕ, ◌<◌, ◌≤◌, ◌⊎◌, not, Bool, true, List, length, refl, ap, subst, ◌∙◌, arith}
 use Rattle.rl_labels.specs.laws.OrderLaws.{entry_cmp_total, entry_cmp-IsAntisymmetric}
 use Rattle.rl_labels.specs.declared.entry.Entry.{Entry}
 use Rattle.rl_labels.specs.declared.limits.Limits.{Limits}
 use Rattle.rl_parts.specs.ChunksState.{ChunksView}
 use Rattle.rl_parts.specs.StoreUse.{FaultsRise, Puts}
 use Rattle.rl_parts.specs.Rewriting.{PlanView}
-use Rattle.rl_parts.specs.laws.UseLaws.{Keeps-puts}
 use Rattle.rl_streams.specs.HeldSet.{set_of}
 use Rattle.rl_streams.specs.StreamRows.{Row, joined, newest_map}
 use Rattle.rl_streams.specs.StreamsState.{IsWhole, view_of}
-use Rattle.rl_streams.specs.Rewritten.{AreOf, ArePlanned, AreRemoved, Rewrites, Stays, numbers_gone, rewritten, with_faults, without}
+use Rattle.rl_streams.specs.Rewritten.{AreOf, ArePlanned, AreRemoved, Rewrites, numbers_gone, rewritten, with_faults, without}
 use Rattle.rl_streams.specs.laws.HeldLaws.{set-filter}
 use Rattle.rl_streams.proofs.Plans.{fewer_rewritten, newest_rewritten}
 use Rattle.rl_streams.proofs.Removed.{is_removed, joined_left, none_gone, streams_rewritten}
-use Rattle.rl_streams.proofs.Steps.{streams_kept}
 
 module _ (limits : Limits) (rows : List Row) (count : ℕ) (before seen : ChunksView) (whole : IsWhole limits rows before count) where
-  -- a refusal leaves them as they are
-  module _ (puts : Puts before (seen.next + 1) seen) where
-    pub whole_refused : IsWhole limits rows seen count
-    whole_refused = record { streams = streams_kept rows before whole.streams seen (Keeps-puts before seen (seen.next + 1) puts); counted = whole.counted; room = whole.room }
-
-    pub view_refused : Stays (view_of limits rows before) (view_of limits rows seen)
-    view_refused = record { limits = refl; held = refl; newest = refl; next = puts.up; loose = refl; unwritten = refl; rows = refl; seen = puts.seen }
-
   module _ (puts : Puts before seen.next seen) (counted : seen.seen.faults ≡ before.seen.faults) (covers : Entry → Bool) (plans : List PlanView) (after : ChunksView) (of : AreOf rows plans) (planned : ArePlanned covers before plans seen) (removed : AreRemoved seen (numbers_gone plans) after) where
     -- and else the plans are carried out
     pub whole_rewritten : (now : ℕ) → now ≡ length (joined (rewritten rows plans)) → IsWhole limits (rewritten rows plans) after now

@@ -1,11 +1,12 @@
 -- What a store keeps of streams once numbers are removed that they no longer use.
-use Rattle.std.proofs.Common.{◌≡◌, ◌⊎◌, inl, inr, ◌||◌, ℕ, zero, suc, ◌-◌, cond, Contains, not, Bool, true, false, List, [], ◌∷◌, ◌++◌, map, length, Option, Some, None, refl, sym, ap, subst, ◌∙◌, arith, ◌+◌, ◌<◌, get_or, take, Result, Ok, Err, eq-eqb, eqb-true, true≢false}
+use Rattle.std.proofs.Common.{◌≡◌, ◌⊎◌, inl, inr, ◌||◌, ℕ, ◌-◌, cond, Contains, not, Bool, true, false, List, [], ◌∷◌, ◌++◌, map, length, Option, Some, None, refl, sym, ap, subst, ◌∙◌, arith, ◌+◌, ◌<◌, get_or, take, Result, Ok, Err, eq-eqb, eqb-true, true≢false}
 use Rattle.std.specs.Prelude.{IfErr, IfSome, OnErr, OnOk, nat_eq}
 use Rattle.std.specs.FinMap as finite
 use Rattle.std.specs.Cmp.{nat_eq_equiv, unsigned_tied}
 use Rattle.std.proofs.lemmas.Cmp.{nat_cmp_total}
-use Rattle.std.proofs.lemmas.List.{take_more}
-use Rattle.std.proofs.lemmas.List.Elements.{Contains-append_cases, Contains-append_left, Contains-append_right}
+use Rattle.std.proofs.lemmas.List.Elements.{All-contains, All-from_recursion, Contains-append_cases, Contains-append_left, Contains-append_right}
+use Rattle.std.proofs.lemmas.List.Folds.{list_any-append}
+use Rattle.std.proofs.lemmas.Map.Views.{Contains-from_any, list_any-from_Contains}
 use Rattle.std.proofs.lemmas.List.Sorted.{Contains-permutation, IsPermutation-sym}
 use Rattle.rl_chunks.specs.StoreState.{KeepsReads, LeavesOthers, faults_after, with_fault}
 use Rattle.rl_chunks.specs.declared.store.StoreFault.{StoreFault}
@@ -21,27 +22,14 @@ use Rattle.rl_parts.specs.ChunksState.{ChunksView}
 use Rattle.rl_parts.specs.StreamParts.{Note, PartView, chunk_of, listed, notes_of}
 use Rattle.rl_parts.specs.StoreUse.{AreKept, FaultsRise, IsKept, IsNoteOf}
 use Rattle.rl_parts.specs.Rewriting.{PlanView, note_numbers, uncovered}
-use Rattle.rl_parts.specs.laws.EachLaws.{all_after, all_front}
+use Rattle.rl_parts.specs.laws.EachLaws.{all_after, all_front, take_next}
 use Rattle.rl_parts.specs.laws.RewriteLaws.{AreRenumbered-both}
 use Rattle.rl_parts.specs.laws.UseLaws.{with_fault-rises}
+use Rattle.rl_streams.specs.laws.HeldLaws.{none_ties}
 use Rattle.rl_streams.specs.StreamRows.{AreStreams, Row, joined, numbers_in}
 use Rattle.rl_streams.specs.Rewritten.{AreOf, ArePlanned, AreRemoved, IsGone, is_one_of, with_faults, numbers_before, numbers_after, numbers_gone, rewritten}
 use Rattle.rl_streams.proofs.Numbers.{all_below, row_apart}
 use Rattle.rl_streams.proofs.Plans.{joined_rewritten, keys_rewritten, numbers_of_rows, numbers_rewritten, of_rows, own_rewritten, to_rows}
-
--- a number is none of these
-abbrev IsApart : List ℕ → ℕ → Type 0
-IsApart numbers number = AllByRecursion (λ other. nat_eq number other ≡ false) numbers
-
--- what is true of each item is true of one, and the other way round
-of_contained : {A : Type 0} (P : A → Type 0) (xs : List A) (x : A) → AllByRecursion P xs → Contains xs x → P x
-of_contained P [] x h (k, lt, is) = absurd (omega (arith, lt))
-of_contained P (y ∷ ys) x h (zero, lt, is) = subst P is h.0
-of_contained P (y ∷ ys) x h (suc k, lt, is) = of_contained P ys x h.1 (k, omega (arith, lt), is)
-
-all_contained : {A : Type 0} (P : A → Type 0) (xs : List A) → ((x : A) → Contains xs x → P x) → AllByRecursion P xs
-all_contained P [] f = tt
-all_contained P (x ∷ xs) f = (f x (0, omega arith, refl), all_contained P xs (λ y there. f y (Contains-append_right (x ∷ []) xs y there)))
 
 distinct_front : (xs ys : List ℕ) → IsDistinct nat_eq (xs ++ ys) → IsDistinct nat_eq xs
 unfolding IsDistinct
@@ -49,9 +37,9 @@ distinct_front [] ys h = tt
 distinct_front (x ∷ xs) ys h =
     IsDistinct-cons nat_eq x xs (all_front (λ y. nat_eq x y ≡ false) xs ys (IsDistinct-head nat_eq x (xs ++ ys) h)) (distinct_front xs ys (IsDistinct-tail nat_eq x (xs ++ ys) h))
 
-all_apart : (xs ys : List ℕ) → IsDistinct nat_eq (xs ++ ys) → AllByRecursion (IsApart ys) xs
+all_apart : (xs ys : List ℕ) → IsDistinct nat_eq (xs ++ ys) → AllByRecursion (λ x. is_one_of ys x ≡ false) xs
 all_apart [] ys h = tt
-all_apart (x ∷ xs) ys h = (all_after (λ y. nat_eq x y ≡ false) xs ys (IsDistinct-head nat_eq x (xs ++ ys) h), all_apart xs ys (IsDistinct-tail nat_eq x (xs ++ ys) h))
+all_apart (x ∷ xs) ys h = (none_ties (nat_eq x) ys (all_after (λ y. nat_eq x y ≡ false) xs ys (IsDistinct-head nat_eq x (xs ++ ys) h)), all_apart xs ys (IsDistinct-tail nat_eq x (xs ++ ys) h))
 
 all_left : {A : Type 0} (P : A → Type 0) (p : A → Bool) (xs : List A) → AllByRecursion P xs → AllByRecursion P (filter p xs)
 all_left P p [] h = tt
@@ -70,36 +58,6 @@ distinct_left {A} eq p (x ∷ xs) h = by (p x) (distinct_left eq p xs (IsDistinc
     by true others = IsDistinct-cons eq x (filter p xs) (all_left (λ y. eq x y ≡ false) p xs (IsDistinct-head eq x xs h)) others
     by false others = others
 
--- a number is one of some, or apart from all of them
-either_true : (x y : Bool) → (x || y) ≡ true → (x ≡ true) ⊎ (y ≡ true)
-either_true true y is = inl refl
-either_true false y is = inr is
-
-neither_true : (x y : Bool) → (x || y) ≡ false → (x ≡ false) × (y ≡ false)
-neither_true true y is = absurd (true≢false is)
-neither_true false y is = (refl, is)
-
-one_of_front : (xs ys : List ℕ) (number : ℕ) → is_one_of (xs ++ ys) number ≡ (is_one_of xs number || is_one_of ys number)
-one_of_front [] ys number = refl
-one_of_front (x ∷ xs) ys number = by (nat_eq number x) (one_of_front xs ys number)
-  where
-    by : (b : Bool) → is_one_of (xs ++ ys) number ≡ (is_one_of xs number || is_one_of ys number) → (b || is_one_of (xs ++ ys) number) ≡ ((b || is_one_of xs number) || is_one_of ys number)
-    by true others = refl
-    by false others = others
-
-apart_of : (numbers : List ℕ) (number : ℕ) → is_one_of numbers number ≡ false → IsApart numbers number
-apart_of [] number none = tt
-apart_of (x ∷ xs) number none = let both = neither_true (nat_eq number x) (is_one_of xs number) none in (both.0, apart_of xs number both.1)
-
-one_of_contained : (numbers : List ℕ) (number : ℕ) → Contains numbers number → is_one_of numbers number ≡ true
-one_of_contained [] number (k, lt, is) = absurd (omega (arith, lt))
-one_of_contained (x ∷ xs) number (zero, lt, is) = ap (λ b. b || is_one_of xs number) (eq-eqb number x (sym is))
-one_of_contained (x ∷ xs) number (suc k, lt, is) = by (nat_eq number x) (one_of_contained xs number (k, omega (arith, lt), is))
-  where
-    by : (b : Bool) → is_one_of xs number ≡ true → (b || is_one_of xs number) ≡ true
-    by true others = refl
-    by false others = others
-
 -- faults of some refusals, and then of others
 faults_then : (xs ys : List ℕ) (faults : ℕ) → with_faults (length (xs ++ ys)) faults ≡ with_faults (length ys) (with_faults (length xs) faults)
 faults_then [] ys faults = refl
@@ -108,6 +66,10 @@ faults_then (x ∷ xs) ys faults = faults_then xs ys (with_fault faults)
 -- nothing removed
 pub removed_none : (chunks : ChunksView) → AreRemoved chunks [] chunks
 removed_none chunks = record { next = refl; honest = refl; faults = omega arith; refused = []; counted = refl; gone = λ number there. absurd (true≢false (sym there)); others = λ number apart. refl }
+
+neither : (x y : Bool) → (x || y) ≡ false → (x ≡ false) × (y ≡ false)
+neither true y is = absurd (true≢false is)
+neither false y is = (refl, is)
 
 -- some numbers, and then others
 pub removed_then : (a : ChunksView) (xs : List ℕ) (b : ChunksView) (ys : List ℕ) (c : ChunksView) → AreRemoved a xs b → AreRemoved b ys c → AreRemoved a (xs ++ ys) c
@@ -121,18 +83,19 @@ removed_then a xs b ys c p q =
       refused = p.refused ++ q.refused;
       counted = q.counted ∙ ap (with_faults (length q.refused)) p.counted ∙ sym (faults_then p.refused q.refused a.seen.faults);
       gone = λ number there kept.
-          let free = neither_true (is_one_of p.refused number) (is_one_of q.refused number) (sym (one_of_front p.refused q.refused number) ∙ kept) in
-          gone_of number free.0 free.1 (is_one_of ys number) refl (sym (one_of_front xs ys number) ∙ there);
-      others = λ number apart. q.others number (all_after (λ other. nat_eq number other ≡ false) xs ys apart) ∙ p.others number (all_front (λ other. nat_eq number other ≡ false) xs ys apart);
+          let free = neither (is_one_of p.refused number) (is_one_of q.refused number) (sym (list_any-append (nat_eq number) p.refused q.refused) ∙ kept) in
+          gone number free.0 free.1 (is_one_of xs number) (is_one_of ys number) refl refl (sym (list_any-append (nat_eq number) xs ys) ∙ there);
+      others = λ number apart. let free = neither (is_one_of xs number) (is_one_of ys number) (sym (list_any-append (nat_eq number) xs ys) ∙ apart) in q.others number free.1 ∙ p.others number free.0;
     }
   where
-    gone_of : (number : ℕ) → is_one_of p.refused number ≡ false → is_one_of q.refused number ≡ false → (b : Bool) → is_one_of ys number ≡ b → (is_one_of xs number || is_one_of ys number) ≡ true → finite.get c.seen.blobs number ≡ None
-    gone_of number first second true here there = q.gone number here second
-    gone_of number first second false here there = q.others number (apart_of ys number here) ∙ p.gone number (only (either_true (is_one_of xs number) (is_one_of ys number) there)) first
-      where
-        only : (is_one_of xs number ≡ true) ⊎ (is_one_of ys number ≡ true) → is_one_of xs number ≡ true
-        only (inl one) = one
-        only (inr one) = absurd (true≢false (sym one ∙ here))
+    gone : (number : ℕ) → is_one_of p.refused number ≡ false → is_one_of q.refused number ≡ false → (x y : Bool) → is_one_of xs number ≡ x → is_one_of ys number ≡ y → (x || y) ≡ true → finite.get c.seen.blobs number ≡ None
+    gone number first second x true early late there = q.gone number late second
+    gone number first second true false early late there = q.others number late ∙ p.gone number early first
+    gone number first second false false early late there = absurd (true≢false (sym there))
+
+-- a number is none of these
+abbrev IsApart : List ℕ → ℕ → Type 0
+IsApart numbers number = is_one_of numbers number ≡ false
 
 -- parts whose numbers are not removed are kept
 parts_removed : (old new : ChunksView) (gone : List ℕ) (labels : LabelSet) (parts : List PartView) → AreRemoved old gone new → AllByRecursion (IsApart gone) (note_numbers parts) → AllByRecursion (IsKept old labels) parts → AllByRecursion (IsKept new labels) parts
@@ -172,16 +135,16 @@ module _ (covers : Entry → Bool) (rows : List Row) (before : ChunksView) (plan
     subst (λ ns. Contains ns number) (sym (numbers_of_rows rows plans of)) (Contains-permutation (planned.numbers.stay ++ numbers_gone plans) (numbers_before plans) number (IsPermutation-sym _ _ planned.numbers.before) (Contains-append_right planned.numbers.stay (numbers_gone plans) number there)),
     λ still.
         let after = subst (λ ns. Contains ns number) (numbers_rewritten rows plans of) still in
-        let apart = of_contained (IsApart (numbers_gone plans)) (numbers_after plans) number (all_apart (numbers_after plans) (numbers_gone plans) all_distinct) after in
-        true≢false (sym (eq-eqb number number refl) ∙ of_contained (λ other. nat_eq number other ≡ false) (numbers_gone plans) number apart there),
+        let apart = All-contains (IsApart (numbers_gone plans)) (numbers_after plans) number (All-from_recursion (IsApart (numbers_gone plans)) (numbers_after plans) (all_apart (numbers_after plans) (numbers_gone plans) all_distinct)) after in
+        true≢false (sym (list_any-from_Contains nat_eq_equiv number (numbers_gone plans) there) ∙ apart),
   )
 
   pub none_gone : (number : ℕ) → (IsGone rows (rewritten rows plans) number → ⊥) → IsApart (numbers_gone plans) number
-  none_gone number stays = all_contained (λ other. nat_eq number other ≡ false) (numbers_gone plans) (λ other there. by other there (nat_eq number other) refl)
+  none_gone number stays = by (is_one_of (numbers_gone plans) number) refl
     where
-      by : (other : ℕ) → Contains (numbers_gone plans) other → (b : Bool) → nat_eq number other ≡ b → nat_eq number other ≡ false
-      by other there true e = absurd (stays (subst (λ n. IsGone rows (rewritten rows plans) n) (sym (eqb-true number other e)) (is_gone other there)))
-      by other there false e = e
+      by : (b : Bool) → is_one_of (numbers_gone plans) number ≡ b → IsApart (numbers_gone plans) number
+      by true there = absurd (stays (is_gone number (Contains-from_any eqb-true number (numbers_gone plans) there)))
+      by false apart = apart
 
   -- and each number that is gone is removed
   pub is_removed : (number : ℕ) → IsGone rows (rewritten rows plans) number → is_one_of (numbers_gone plans) number ≡ true
@@ -192,7 +155,7 @@ module _ (covers : Entry → Bool) (rows : List Row) (before : ChunksView) (plan
           let range = range_with_len before.next (seen.next - before.next) in
           let there = Contains-permutation (planned.numbers.stay ++ range) (numbers_after plans) number (IsPermutation-sym _ _ planned.numbers.now) (Contains-append_left planned.numbers.stay range number stays) in
           absurd (lost.1 (subst (λ ns. Contains ns number) (sym (numbers_rewritten rows plans of)) there))
-      by (inr there) = one_of_contained (numbers_gone plans) number there
+      by (inr there) = list_any-from_Contains nat_eq_equiv number (numbers_gone plans) there
 
   pub streams_rewritten : AreStreams (rewritten rows plans) after
   streams_rewritten = record {
@@ -205,52 +168,37 @@ module _ (covers : Entry → Bool) (rows : List Row) (before : ChunksView) (plan
         subst (IsDistinct (eq_by_cmp entry_cmp)) (sym (joined_left was)) (distinct_left (eq_by_cmp entry_cmp) (λ entry. not (covers entry)) (joined rows) (are.once was));
   }
 
+alone : (b : Bool) → (b || false) ≡ b
+alone true = refl
+alone false = refl
+
 -- one number, removed or refused
-pub one_removed : (old new : ChunksView) (number : ℕ) (result : Result (Unit {0}) StoreFault) → OnOk result (new.seen.blobs ≡ finite.remove old.seen.blobs number) → OnErr result (LeavesOthers number old.seen.blobs new.seen.blobs) → KeepsReads old.seen new.seen → IfErr result (λ fault. fault ≡ stores.Fault) → new.seen.faults ≡ faults_after result old.seen.faults → new.next ≡ old.next → AreRemoved old (number ∷ []) new
-one_removed old new number result ok err keeps device counted next = record {
+pub one_removed : (old new : ChunksView) (number : ℕ) (result : Result (Unit {0}) StoreFault) → OnOk result (new.seen.blobs ≡ finite.remove old.seen.blobs number) → OnErr result (LeavesOthers number old.seen.blobs new.seen.blobs) → KeepsReads old.seen new.seen → IfErr result (λ fault. fault ≡ stores.Fault)
+    → new.seen.faults ≡ faults_after result old.seen.faults → new.next ≡ old.next → AreRemoved old (number ∷ []) new
+one_removed old new number (Ok _) ok err keeps device counted next = record {
   next = next;
   honest = keeps.honest;
-  faults = subst (FaultsRise old.seen.faults) (sym counted) (rise result);
-  refused = refusals result;
-  counted = counted ∙ are_counted result device;
-  gone = λ other there kept. is_gone_by result ok other there kept;
-  others = λ other apart. by result ok err other apart.0;
+  faults = omega (arith, counted);
+  refused = [];
+  counted = counted;
+  gone = λ other there kept. after other ∙ ap (λ b. cond b None (finite.get old.seen.blobs other)) (sym (alone (nat_eq other number)) ∙ there);
+  others = λ other apart. after other ∙ ap (λ b. cond b None (finite.get old.seen.blobs other)) (sym (alone (nat_eq other number)) ∙ apart);
 }
   where
-    refusals : Result (Unit {0}) StoreFault → List ℕ
-    refusals (Ok _) = []
-    refusals (Err _) = number ∷ []
-
-    are_counted : (result : Result (Unit {0}) StoreFault) → IfErr result (λ fault. fault ≡ stores.Fault) → faults_after result old.seen.faults ≡ with_faults (length (refusals result)) old.seen.faults
-    are_counted (Ok _) device = refl
-    are_counted (Err stores.Fault) device = refl
-    are_counted (Err stores.Memory) device = absurd (apart device)
-      where
-        apart : stores.Memory ≡ stores.Fault → ⊥
-        apart h = cc
-
-    only_one : (other : ℕ) → is_one_of (number ∷ []) other ≡ true → nat_eq other number ≡ true
-    only_one other there = by_case (either_true (nat_eq other number) false there)
-      where
-        by_case : (nat_eq other number ≡ true) ⊎ (false ≡ true) → nat_eq other number ≡ true
-        by_case (inl same) = same
-        by_case (inr never) = absurd (true≢false (sym never))
-
-    is_gone_by : (result : Result (Unit {0}) StoreFault) → OnOk result (new.seen.blobs ≡ finite.remove old.seen.blobs number) → (other : ℕ) → is_one_of (number ∷ []) other ≡ true → is_one_of (refusals result) other ≡ false → finite.get new.seen.blobs other ≡ None
-    is_gone_by (Ok x) ok other there kept = ap (λ blobs. finite.get blobs other) ok ∙ finite.get-remove nat_cmp_total old.seen.blobs number other ∙ ap (λ b. cond b None (finite.get old.seen.blobs other)) (unsigned_tied other number ∙ only_one other there)
-    is_gone_by (Err _) ok other there kept = absurd (true≢false (sym there ∙ kept))
-
-    rise : (result : Result (Unit {0}) StoreFault) → FaultsRise old.seen.faults (faults_after result old.seen.faults)
-    rise (Ok _) = omega arith
-    rise (Err stores.Fault) = with_fault-rises old.seen.faults
-    rise (Err stores.Memory) = omega arith
-
-    by : (result : Result (Unit {0}) StoreFault) → OnOk result (new.seen.blobs ≡ finite.remove old.seen.blobs number) → OnErr result (LeavesOthers number old.seen.blobs new.seen.blobs) → (other : ℕ) → nat_eq other number ≡ false → finite.get new.seen.blobs other ≡ finite.get old.seen.blobs other
-    by (Ok x) ok err other apart = ap (λ blobs. finite.get blobs other) ok ∙ finite.get-remove nat_cmp_total old.seen.blobs number other ∙ ap (λ b. cond b None (finite.get old.seen.blobs other)) (unsigned_tied other number ∙ apart)
-    by (Err _) ok err other apart = err other (λ e. true≢false (sym (eq-eqb other number e) ∙ apart))
+    after : (other : ℕ) → finite.get new.seen.blobs other ≡ cond (nat_eq other number) None (finite.get old.seen.blobs other)
+    after other = ap (λ blobs. finite.get blobs other) ok ∙ finite.get-remove nat_cmp_total old.seen.blobs number other ∙ ap (λ b. cond b None (finite.get old.seen.blobs other)) (unsigned_tied other number)
+one_removed old new number (Err stores.Fault) ok err keeps device counted next = record {
+  next = next;
+  honest = keeps.honest;
+  faults = subst (FaultsRise old.seen.faults) (sym counted) (with_fault-rises old.seen.faults);
+  refused = number ∷ [];
+  counted = counted;
+  gone = λ other there kept. absurd (true≢false (sym there ∙ kept));
+  others = λ other apart. err other (λ e. true≢false (sym (eq-eqb other number e) ∙ sym (alone (nat_eq other number)) ∙ apart));
+}
+one_removed old new number (Err stores.Memory) ok err keeps device counted next = cc
 
 -- one number more
 pub removed_more : (numbers : List ℕ) (i : ℕ) (number : ℕ) (start seen after : ChunksView) → i < length numbers → number ≡ get_or numbers i number → AreRemoved start (take i numbers) seen → AreRemoved seen (number ∷ []) after → AreRemoved start (take (i + 1) numbers) after
 removed_more numbers i number start seen after within is before one =
-    let front : take (i + 1) numbers ≡ take i numbers ++ number ∷ [] = take_more numbers i number within ∙ ap (λ n. take i numbers ++ n ∷ []) (sym is) in
-    subst (λ ns. AreRemoved start ns after) (sym front) (removed_then start (take i numbers) seen (number ∷ []) after before one)
+    subst (λ ns. AreRemoved start ns after) (sym (take_next numbers i number within is)) (removed_then start (take i numbers) seen (number ∷ []) after before one)

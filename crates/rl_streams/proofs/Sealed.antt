@@ -10,9 +10,6 @@ use Rattle.rl_streams.proofs.RowChanges.{with_key, set_by_row_same, set_same, se
 use Rattle.rl_streams.proofs.Steps.{streams_sealed}
 
 -- nothing was sealed
-pub as_they_were : (rows : List Row) → AreCut rows rows
-as_they_were rows = record { entries = refl; order = refl; newest = refl; streams = λ chunks are. are }
-
 pub none_sealed : (old new : StreamView) → new ≡ old → AreSealed old.parts new.parts
 none_sealed old new same = record { fresh = []; appended = ap (λ (stream : StreamView). stream.parts) same ∙ sym (append-nil old.parts); unwritten = refl }
 

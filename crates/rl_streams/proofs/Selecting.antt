@@ -123,9 +123,6 @@ pub record AreFrom {T : Type 0} (R : Row → List (LabelSet × Line) → Type 0)
   pub visited : after ≡ fold visiting before (flat_map (λ of_row. of_row) lines)
 
 module _ {T : Type 0} (R : Row → List (LabelSet × Line) → Type 0) (visiting : T → LabelSet × Line → T) (rows : List Row) where
-  pub from_none : (before : T) → AreFrom R visiting rows [] before before
-  from_none before = record { lines = []; each = tt; visited = refl }
-
   -- one index more
   pub from_more : (positions : List ℕ) (i d : ℕ) (before taken now : T) → i < length positions → AreFrom R visiting rows (take i positions) before taken → (lines : List (LabelSet × Line)) × IsAt R rows (get_or positions i d) lines × (now ≡ fold visiting taken lines)
       → AreFrom R visiting rows (take (i + 1) positions) before now

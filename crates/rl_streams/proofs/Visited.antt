@@ -20,6 +20,7 @@ use Rattle.rl_labels.specs.Selects.{selects}
 use Rattle.rl_labels.specs.laws.TextLaws.{label_set_eq_itself, label_set_eq-true, label_set_cmp_total}
 use Rattle.rl_labels.specs.declared.entry.Entry.{Entry}
 use Rattle.rl_labels.specs.declared.matcher.Matcher.{Matcher}
+use Rattle.rl_parts.specs.laws.AnswerLaws.{right_then}
 use Rattle.rl_parts.specs.ChunksState.{ChunksView}
 use Rattle.rl_chunks.specs.declared.line.Line.{Line}
 use Rattle.rl_parts.specs.StreamParts.{StreamView, entries_of}
@@ -28,7 +29,6 @@ use Rattle.rl_parts.specs.laws.UseLaws.{Keeps-reads}
 use Rattle.rl_parts.specs.laws.VisitorLaws.{fold-pushed}
 use Rattle.rl_parts.specs.Reading.{is_in_range, visited, visited_in_range, IsFoundIn, IsMissingIn, IsVisited}
 use Rattle.rl_parts.specs.declared.fault.ReadFault.{ReadFault}
-use Rattle.rl_parts.specs.declared.fault.ReadFault.TheVariants as reads
 use Rattle.rl_streams.specs.Asking.{is_asked, asked, visited_of, visited_by, visited_at, left, AreOfParts, AreOfRow, AreVisitedOnce, IsVisitedOf, NoneSelected}
 use Rattle.rl_streams.specs.Found.{IsFound, IsMissing, IsStreamOf}
 use Rattle.rl_streams.specs.RowSteps.{AreOthers, IsPositionOf}
@@ -40,19 +40,6 @@ use Rattle.rl_plain.specs.laws.TreeMaps.{get-of_tree}
 use Rattle.rl_streams.proofs.Held.{answer_is, held_at}
 use Rattle.rl_streams.proofs.RowChanges.{at_row, with_key, not_none, same_some}
 use Rattle.rl_streams.proofs.Steps.{streams_kept}
-
--- a fault that was right to answer of one thing is right to answer of another
-pub right_on : {A B : Type 0} (fault : ReadFault) (P : A → Type 0) (Q : B → Type 0) → Right {A = A} (Err fault) P → Right {A = B} (Err fault) Q
-right_on reads.Fault P Q h = tt
-right_on reads.Damaged P Q h = h
-right_on reads.Memory P Q h = tt
-
--- what follows from the answer
-pub right_then : {A : Type 0} (P Q : A → Type 0) → ((answer : A) → P answer → Q answer) → (result : Result A ReadFault) → Right result P → Right result Q
-right_then P Q f (Ok answer) h = f answer h
-right_then P Q f (Err reads.Fault) h = tt
-right_then P Q f (Err reads.Damaged) h = h
-right_then P Q f (Err reads.Memory) h = tt
 
 module _ (rows : List Row) (i : ℕ) (entry : Entry) (stream : StreamView) (position : IsPositionOf rows entry.labels (Some i)) (at : slice_get (values_of rows) i ≡ Some stream) where
   -- there is a stream of its labels

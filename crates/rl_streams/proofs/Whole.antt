@@ -9,7 +9,7 @@ use Rattle.rl_labels.specs.EntryOrder.{EntrySet}
 use Rattle.rl_labels.specs.laws.OrderLaws.{entry_cmp_total, entry_cmp-IsAntisymmetric}
 use Rattle.rl_labels.specs.declared.entry.Entry.{Entry}
 use Rattle.rl_parts.specs.StoreUse.{Reads}
-use Rattle.rl_parts.specs.laws.UseLaws.{Keeps-reads}
+use Rattle.rl_parts.specs.laws.UseLaws.{Keeps-reads, Looked-then}
 use Rattle.rl_parts.specs.declared.fault.ReadFault.TheVariants as reads
 use Rattle.rl_streams.specs.laws.HeldLaws.{contains_key-of_list, len-of_distinct, set-permuted}
 use Rattle.rl_streams.specs.declared.refusal.AddRefusal.{AddRefusal}
@@ -39,6 +39,19 @@ module _ (limits : Limits) (chunks : ChunksView) (count : ℕ) (old new : List R
 
   pub cut_view : Cuts (view_of limits old chunks) (view_of limits new chunks)
   cut_view = record { limits = refl; held = ap set_of cut.entries; newest = ap newest_map cut.newest; next = refl; order = cut.order; seen = refl }
+
+-- looks, one after another
+pub looks_then : (a b c : StreamsView) → Looks a b → Looks b c → Looks a c
+looks_then a b c p q = record {
+  limits = q.limits ∙ p.limits;
+  held = q.held ∙ p.held;
+  newest = q.newest ∙ p.newest;
+  next = q.next ∙ p.next;
+  loose = q.loose ∙ p.loose;
+  unwritten = q.unwritten ∙ p.unwritten;
+  rows = q.rows ∙ p.rows;
+  seen = Looked-then a.seen b.seen c.seen p.seen q.seen;
+}
 
 -- none are left
 pub on_ok_none : {A T E : Type 0} (xs : List A) (result : Result T E) → OnOk result (xs ≡ []) → OnOk result (length xs ≡ 0)

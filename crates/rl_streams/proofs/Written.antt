@@ -12,10 +12,6 @@ use Rattle.rl_streams.specs.RowSteps.{AreFlushed}
 use Rattle.rl_streams.proofs.RowChanges.{at_row, with_key, set_by_row_same, set_long, set_same, set_each_same}
 use Rattle.rl_streams.proofs.Steps.{streams_noted}
 
--- nothing was written
-pub none_written : (rows : List Row) (chunks : ChunksView) → AreFlushed rows chunks rows chunks
-none_written rows chunks = record { entries = refl; order = refl; newest = refl; loose = refl; up = omega arith; numbers = refl; streams = λ are. are }
-
 -- the parts of one stream more, or some of them
 pub one_written : (first : List Row) (a : ChunksView) (rows : List Row) (b : ChunksView) (i : ℕ) (stream new : StreamView) (c : ChunksView)
     → AreFlushed first a rows b → slice_get (values_of rows) i ≡ Some stream → new.labels ≡ stream.labels → new.newest ≡ stream.newest → new.head ≡ stream.head → entries_of new ≡ entries_of stream

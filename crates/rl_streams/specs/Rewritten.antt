@@ -107,4 +107,4 @@ pub record AreRemoved (old : ChunksView) (numbers : List ℕ) (new : ChunksView)
   pub refused : List ℕ
   pub counted : new.seen.faults ≡ with_faults (length refused) old.seen.faults
   pub gone : (number : ℕ) → is_one_of numbers number ≡ true → is_one_of refused number ≡ false → finite.get new.seen.blobs number ≡ None
-  pub others : (number : ℕ) → AllByRecursion (λ gone. nat_eq number gone ≡ false) numbers → finite.get new.seen.blobs number ≡ finite.get old.seen.blobs number
+  pub others : (number : ℕ) → is_one_of numbers number ≡ false → finite.get new.seen.blobs number ≡ finite.get old.seen.blobs number

@@ -1,3 +1,2 @@
 -- Laws that the crates above rest on.
 pub mod HeldLaws
-pub mod SettledLaws

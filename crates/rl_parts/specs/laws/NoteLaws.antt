@@ -102,10 +102,6 @@ range-append first (suc many) more =
     let start : first + 1 + many ≡ first + suc many = omega arith in
     ap (range_with_len first) sum ∙ ap (λ ns. first ∷ ns) (range-append (first + 1) many more ∙ ap (λ n. range_with_len (first + 1) many ++ range_with_len n more) start)
 
--- no part was given a note
-pub AreNoted-none : (parts : List PartView) (first : ℕ) → AreNoted parts first parts first
-AreNoted-none parts first = record { notes = []; few = omega arith; given = sym (with_notes-none parts); numbers = refl; many = omega arith }
-
 -- the notes of others follow, once all of the first parts have one
 pub AreNoted-more : (old new : List PartView) (first mid : ℕ) (others now : List PartView) (next : ℕ) → AreNoted old first new mid → unwritten_count new ≡ 0 → AreNoted others mid now next → AreNoted (old ++ others) first (new ++ now) next
 AreNoted-more old new first mid others now next p all q =

@@ -1,23 +1,16 @@
 -- Calls over a store, one after another, and what a store keeps meanwhile.
-use Rattle.std.specs.Prelude.{◌≡◌, ℕ, ◌+◌, ◌<◌, ◌≤◌, ◌⊎◌, List, [], ◌∷◌, ◌++◌, Option, Some, None, Result, Ok, Err, IfSome, refl}
-use Rattle.std.proofs.Common.{sym, ap, ◌∙◌, inl, inr, arith}
+use Rattle.std.specs.Prelude.{◌≡◌, ℕ, length, get_or, ◌+◌, ◌<◌, ◌≤◌, ◌⊎◌, List, [], ◌∷◌, ◌++◌, Option, Some, None, Result, Ok, Err, IfSome, refl}
+use Rattle.std.proofs.Common.{sym, ap, subst, ◌∙◌, inl, inr, arith}
 use Rattle.std.specs.List.{AllByRecursion}
 use Rattle.std.proofs.lemmas.Bool.{cases_lt}
+use Rattle.std.proofs.lemmas.List.Elements.{All-from_recursion}
 use Rattle.std.specs.FinMap as map
 use Rattle.rl_labels.specs.LabelSet.{LabelSet}
 use Rattle.rl_chunks.specs.StoreState.{Seen, greatest, with_fault}
 use Rattle.rl_parts.specs.ChunksState.{ChunksView}
 use Rattle.rl_parts.specs.laws.EachLaws.{all_after, all_both, all_front, all_weaker}
 use Rattle.rl_parts.specs.StreamParts.{Note, PartView, StreamView, chunk_of, listed, notes_of}
-use Rattle.rl_parts.specs.StoreUse.{FaultsRise, FaultCame, Looked, Reads, Puts, ArePut, Keeps, IsNoteOf, IsKept, AreKept, after_read, after_flush, read_faults, flush_faults}
-use Rattle.rl_parts.specs.declared.fault.ReadFault.{ReadFault}
-use Rattle.rl_parts.specs.declared.fault.ReadFault.TheVariants as reads
-use Rattle.rl_parts.specs.declared.fault.FlushFault.{FlushFault}
-use Rattle.rl_parts.specs.declared.fault.FlushFault.TheVariants as flushes
-use Rattle.rl_parts.specs.Rewriting.{after_rewrite, rewrite_faults}
-use Rattle.rl_parts.specs.RewriteFaults.{unread, unput}
-use Rattle.rl_parts.specs.declared.fault.RewriteFault.{RewriteFault}
-use Rattle.rl_parts.specs.declared.fault.RewriteFault.TheVariants as rewrites
+use Rattle.rl_parts.specs.StoreUse.{FaultsRise, FaultCame, Looked, Reads, Puts, ArePut, Keeps, IsNoteOf, IsKept, AreKept}
 
 -- no call at all
 pub Looked-none : (seen : Seen) → Looked seen seen
@@ -50,14 +43,6 @@ Puts-then a b c end far p q = record {
     earlier (inl low) = inl low
     earlier (inr high) = inr (omega (arith, far, high))
 
-pub ArePut-then : {A E : Type 0} (result : Result A E) (a b c : ChunksView) → Puts a b.next b → ArePut result b c → ArePut result a c
-ArePut-then (Ok answer) a b c p q = Puts-then a b c c.next q.up p q
-ArePut-then (Err fault) a b c p q = Puts-then a b c (c.next + 1) (omega (arith, q.up)) p q
-
--- reads leave what puts may leave
-pub Puts-reads : (a b : ChunksView) (end : ℕ) → Reads a b → Puts a end b
-Puts-reads a b end p = record { up = omega (arith, p.next); seen = record { honest = p.seen.honest; others = λ number apart. ap (λ blobs. map.get blobs number) p.seen.blobs } }
-
 -- puts below an end are puts below a later one
 pub Puts-wider : (a b : ChunksView) → Puts a b.next b → Puts a (b.next + 1) b
 Puts-wider a b p = record { up = p.up; seen = record { honest = p.seen.honest; others = λ number apart. p.seen.others number (earlier apart) } }
@@ -66,7 +51,7 @@ Puts-wider a b p = record { up = p.up; seen = record { honest = p.seen.honest; o
     earlier (inl low) = inl low
     earlier (inr high) = inr (omega arith)
 
--- both keep what was kept, one after another
+-- both keep what was kept
 pub Keeps-reads : (a b : ChunksView) → Reads a b → Keeps a b
 Keeps-reads a b p = record { up = omega (arith, p.next); honest = p.seen.honest; blobs = λ number low. ap (λ blobs. map.get blobs number) p.seen.blobs }
 
@@ -77,24 +62,17 @@ pub Keeps-put : {A E : Type 0} (result : Result A E) (a b : ChunksView) → AreP
 Keeps-put (Ok answer) a b p = Keeps-puts a b b.next p
 Keeps-put (Err fault) a b p = Keeps-puts a b (b.next + 1) p
 
-pub Keeps-then : (a b c : ChunksView) → Keeps a b → Keeps b c → Keeps a c
-Keeps-then a b c p q = record { up = omega (arith, p.up, q.up); honest = q.honest ∙ p.honest; blobs = λ number low. q.blobs number (omega (arith, p.up, low)) ∙ p.blobs number low }
-
--- a fault that came stays one, before and after other calls
-pub FaultCame-after : (a b c : ℕ) → FaultsRise a b → FaultCame b c → FaultCame a c
-FaultCame-after a b c rise (inl came) = inl (omega arith)
-FaultCame-after a b c rise (inr spent) = inr spent
-
-pub FaultCame-before : (a b c : ℕ) → FaultCame a b → FaultsRise b c → FaultCame a c
-FaultCame-before a b c (inl came) rise = inl (omega arith)
-FaultCame-before a b c (inr spent) rise = inr (omega arith)
-
 pub IsKept-keeps : (labels : LabelSet) (old new : ChunksView) (part : PartView) → Keeps old new → IsKept old labels part → IsKept new labels part
 IsKept-keeps labels old new part keeps = at part.note
   where
     at : (note : Option Note) → IfSome note (IsNoteOf old (chunk_of labels part.entries)) → IfSome note (IsNoteOf new (chunk_of labels part.entries))
     at None is = tt
     at (Some note) is = record { given = omega (arith, is.given, keeps.up); digest = is.digest; read = is.read; kept = λ honest. keeps.blobs note.number is.given ∙ is.kept (sym keeps.honest ∙ honest) }
+
+-- also one part of several, after reads
+pub kept_at : (old new : ChunksView) (labels : LabelSet) (parts : List PartView) (i : ℕ) (p : PartView) → i < length parts → p ≡ get_or parts i p → Reads old new → AllByRecursion (IsKept old labels) parts → IsKept new labels p
+kept_at old new labels parts i p within is reads kept =
+    IsKept-keeps labels old new p (Keeps-reads old new reads) (subst (IsKept old labels) (sym is) (All-from_recursion (IsKept old labels) parts kept i p within))
 
 pub AreKept-keeps : (old new : ChunksView) (stream : StreamView) → Keeps old new → AreKept old stream → AreKept new stream
 AreKept-keeps old new stream keeps = all_weaker (IsKept old stream.labels) (IsKept new stream.labels) (λ part. IsKept-keeps stream.labels old new part keeps) stream.parts
@@ -128,33 +106,3 @@ with_fault-rises faults = omega arith
 
 pub with_fault-came : (faults : ℕ) → FaultCame faults (with_fault faults)
 with_fault-came faults = elim (cases_lt faults greatest) [ inl lt ↦ inl (omega arith) | inr le ↦ inr (omega arith) ]
-
-pub after_read-rises : {A : Type 0} (result : Result A ReadFault) (faults : ℕ) → FaultsRise faults (after_read result faults)
-after_read-rises (Ok answer) faults = omega arith
-after_read-rises (Err reads.Fault) faults = with_fault-rises faults
-after_read-rises (Err reads.Damaged) faults = omega arith
-after_read-rises (Err reads.Memory) faults = omega arith
-
-pub after_flush-rises : {A : Type 0} (result : Result A FlushFault) (faults : ℕ) → FaultsRise faults (after_flush result faults)
-after_flush-rises (Ok answer) faults = omega arith
-after_flush-rises (Err flushes.Fault) faults = with_fault-rises faults
-after_flush-rises (Err flushes.NumbersSpent) faults = omega arith
-after_flush-rises (Err flushes.Memory) faults = omega arith
-
-pub after_rewrite-rises : {A : Type 0} (result : Result A RewriteFault) (faults : ℕ) → FaultsRise faults (after_rewrite result faults)
-after_rewrite-rises (Ok answer) faults = omega arith
-after_rewrite-rises (Err rewrites.Fault) faults = with_fault-rises faults
-after_rewrite-rises (Err rewrites.Damaged) faults = omega arith
-after_rewrite-rises (Err rewrites.NumbersSpent) faults = omega arith
-after_rewrite-rises (Err rewrites.Memory) faults = omega arith
-
--- where a stream is rewritten a read and a put count as they do elsewhere
-pub faults_unread : (fault : ReadFault) (faults : ℕ) → rewrite_faults (unread fault) faults ≡ read_faults fault faults
-faults_unread reads.Fault faults = refl
-faults_unread reads.Damaged faults = refl
-faults_unread reads.Memory faults = refl
-
-pub faults_unput : (fault : FlushFault) (faults : ℕ) → rewrite_faults (unput fault) faults ≡ flush_faults fault faults
-faults_unput flushes.Fault faults = refl
-faults_unput flushes.NumbersSpent faults = refl
-faults_unput flushes.Memory faults = refl

@@ -12,7 +12,7 @@ use Rattle.rl_chunks.specs.declared.line.Line.{Line}
 use Rattle.rl_parts.specs.StreamParts.{chunk_of}
 use Rattle.rl_parts.proofs.Finding.{not_both}
 use Rattle.rl_parts.proofs.Leaving.{fingerprints_len}
-use Rattle.rl_parts.proofs.Refusals.{right_on}
+use Rattle.rl_parts.specs.laws.AnswerLaws.{right_on}
 use Rattle.rl_parts.proofs.Times.{up_to_last}
 use Rattle.rl_parts.proofs.rewriting.read_again.Goals as goal
 

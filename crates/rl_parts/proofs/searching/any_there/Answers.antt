@@ -5,9 +5,9 @@ use Rattle.std.specs.List.{AllByRecursion}
 use Rattle.std.proofs.lemmas.List.{take_all}
 use Rattle.std.proofs.lemmas.List.Elements.{All-from_recursion}
 use Rattle.rl_parts.specs.Reading.{IsOutside, IsWithout, in_store}
-use Rattle.rl_parts.specs.laws.UseLaws.{Reads-then}
+use Rattle.rl_parts.specs.laws.UseLaws.{Reads-then, kept_at}
 use Rattle.rl_parts.proofs.Finding.{yes, no, not_both, absent_part, absent_parts, found_part, one_more}
-use Rattle.rl_parts.proofs.Refusals.{right_on, kept_at}
+use Rattle.rl_parts.specs.laws.AnswerLaws.{right_on}
 use Rattle.rl_parts.proofs.searching.any_there.Goals as goal
 
 pub returns-in_err-has_there-clause-right : goal.returns-in_err-has_there-clause-right

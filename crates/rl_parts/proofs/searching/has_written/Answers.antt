@@ -10,7 +10,7 @@ use Rattle.rl_chunks.specs.declared.format.Format.TheVariants.{Short}
 use Rattle.rl_chunks.specs.declared.line.Line.{Line}
 use Rattle.rl_parts.specs.StreamParts.{chunk_of}
 use Rattle.rl_parts.proofs.Finding.{no, not_both, line_found, line_there}
-use Rattle.rl_parts.proofs.Refusals.{right_on}
+use Rattle.rl_parts.specs.laws.AnswerLaws.{right_on}
 use Rattle.rl_parts.proofs.searching.has_written.Goals as goal
 
 pub returns-then-not-may_have-clause-right : goal.returns-then-not-may_have-clause-right

@@ -6,9 +6,9 @@ use Rattle.std.proofs.lemmas.List.Elements.{All-from_recursion}
 use Rattle.std.proofs.lemmas.Result.{err_from_is_err_and}
 use Rattle.rl_parts.specs.StreamParts.{PartView}
 use Rattle.rl_parts.specs.Reading.{IsOutside, IsVisited, visited_in_range}
-use Rattle.rl_parts.specs.laws.UseLaws.{Reads-then}
+use Rattle.rl_parts.specs.laws.UseLaws.{Reads-then, kept_at}
 use Rattle.rl_parts.proofs.Visits.{part_more, piece_more}
-use Rattle.rl_parts.proofs.Refusals.{right_on, kept_at}
+use Rattle.rl_parts.specs.laws.AnswerLaws.{right_on}
 use Rattle.rl_parts.proofs.visiting_lines.visit_parts.Goals as goal
 
 pub returns-in_err-visit_lines-clause-right : goal.returns-in_err-visit_lines-clause-right

@@ -11,7 +11,7 @@ use Rattle.rl_parts.specs.StreamParts.{chunk_of}
 use Rattle.rl_parts.specs.Reading.{lines_in_range}
 use Rattle.rl_parts.proofs.Visits.{nothing_visited, lines_visited}
 use Rattle.rl_parts.proofs.Times.{reaches, apart_from}
-use Rattle.rl_parts.proofs.Refusals.{right_on}
+use Rattle.rl_parts.specs.laws.AnswerLaws.{right_on}
 use Rattle.rl_parts.proofs.visiting_lines.visit_written.Goals as goal
 
 pub returns-then-is_outside-clause-visited : goal.returns-then-is_outside-clause-visited

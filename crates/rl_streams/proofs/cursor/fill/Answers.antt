@@ -2,8 +2,8 @@
 use Rattle.std.proofs.Common.{◌+◌, refl, subst, ◌∙◌, arith}
 use Rattle.std.proofs.lemmas.Grind.{common_steps}
 use Rattle.rl_streams.specs.CursorState.{AreAsked}
-use Rattle.rl_streams.specs.laws.SettledLaws.{Looks-then}
 use Rattle.rl_streams.proofs.Asked.{asked_then}
+use Rattle.rl_streams.proofs.Whole.{looks_then}
 use Rattle.rl_streams.proofs.cursor.fill.Goals as goal
 
 pub loop-next-preserved : goal.loop-next-preserved
@@ -14,7 +14,7 @@ loop-next-preserved g c =
     let next = c.loop-next.next in
     let there = subst (λ rs. AreAsked rs selector c.args.from c.args.to next c.loop-next.lines (next + 1) c.visit_lines.new.lines) before.same.rows c.in_default.ensures.asked in
     record {
-      same = Looks-then c.args.streams.now c.loop-next.streams c.visit_lines.new.self before.same c.in_default.ensures.same;
+      same = looks_then c.args.streams.now c.loop-next.streams c.visit_lines.new.self before.same c.in_default.ensures.same;
       asked = asked_then rows selector c.args.from c.args.to c.args.position.now c.args.lines.now next c.loop-next.lines (next + 1) c.visit_lines.new.lines (subst (λ n. AreAsked rows selector c.args.from c.args.to c.args.position.now c.args.lines.now n c.loop-next.lines) before.at before.asked) there;
       faults = c.in_default.ensures.counted ∙ before.faults;
       at = refl;

@@ -7,10 +7,11 @@ use Rattle.std.proofs.lemmas.Result.{err_from_is_err_and}
 use Rattle.rl_parts.specs.Reading.{visited_in_range}
 use Rattle.rl_parts.specs.StreamParts.{entries_of}
 use Rattle.rl_parts.specs.laws.UseLaws.{Reads-then}
+use Rattle.rl_parts.specs.laws.AnswerLaws.{right_on}
 use Rattle.rl_streams.specs.Asking.{visited_of, AreOfRow}
 use Rattle.rl_streams.proofs.RowChanges.{within}
 use Rattle.rl_streams.proofs.Selecting.{AreFrom, chosen_there, from_more, no_position, right_at_all, selected_there, visited_at_all}
-use Rattle.rl_streams.proofs.Visited.{right_on, kept_there, of_row}
+use Rattle.rl_streams.proofs.Visited.{kept_there, of_row}
 use Rattle.rl_streams.proofs.reading.each.Goals as goal
 
 pub index-requires : goal.index-requires

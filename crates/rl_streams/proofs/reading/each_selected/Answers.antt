@@ -5,8 +5,9 @@ use Rattle.std.specs.List.{fold}
 use Rattle.rl_labels.specs.Selects.{selects}
 use Rattle.rl_parts.specs.StreamParts.{entries_of}
 use Rattle.rl_parts.specs.Reading.{visited_in_range}
+use Rattle.rl_parts.specs.laws.AnswerLaws.{right_then}
 use Rattle.rl_streams.specs.Asking.{visited_of}
-use Rattle.rl_streams.proofs.Visited.{right_then, none_of_row, of_row}
+use Rattle.rl_streams.proofs.Visited.{none_of_row, of_row}
 use Rattle.rl_streams.proofs.reading.each_selected.Goals as goal
 
 pub returns-clause-right : goal.returns-clause-right

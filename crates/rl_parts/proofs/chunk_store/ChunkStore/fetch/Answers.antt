@@ -3,7 +3,7 @@ use Rattle.std.proofs.Common.{◌≡◌, Some, sym, subst, true}
 use Rattle.std.specs.FinMap as map
 use Rattle.std.proofs.lemmas.Result.{err_from_is_err_and}
 use Rattle.rl_parts.specs.ChunksState.{ChunksView}
-use Rattle.rl_parts.proofs.Refusals.{right_on}
+use Rattle.rl_parts.specs.laws.AnswerLaws.{right_on}
 use Rattle.rl_parts.proofs.chunk_store.ChunkStore.fetch.Goals as goal
 
 pub returns-in_err-bytes-clause-right : goal.returns-in_err-bytes-clause-right

@@ -7,7 +7,7 @@ use Rattle.rl_parts.specs.PartState.{part_at}
 use Rattle.rl_parts.specs.StoreUse.{IsKept, Right}
 use Rattle.rl_parts.specs.Reading.{IsWith, IsWithout, in_store}
 use Rattle.rl_parts.specs.declared.part.Location.TheVariants.{Here, InStore}
-use Rattle.rl_parts.proofs.Refusals.{ok_then}
+use Rattle.rl_parts.specs.laws.AnswerLaws.{ok_then}
 use Rattle.rl_parts.proofs.part.Part.has_there.Goals as goal
 
 pub returns-in-InStore-clause-right : goal.returns-in-InStore-clause-right

@@ -9,7 +9,7 @@ use Rattle.rl_parts.specs.StoreUse.{IsKept, Right}
 use Rattle.rl_parts.specs.Reading.{IsVisited, lines_in_range, visited_in_range}
 use Rattle.rl_parts.specs.declared.part.Location.TheVariants.{Here, InStore}
 use Rattle.rl_parts.proofs.Visits.{lines_visited, one_piece}
-use Rattle.rl_parts.proofs.Refusals.{on_ok_then}
+use Rattle.rl_parts.specs.laws.AnswerLaws.{on_ok_then}
 use Rattle.rl_parts.proofs.part.Part.visit_lines.Goals as goal
 
 pub returns-in-InStore-clause-right : goal.returns-in-InStore-clause-right

@@ -8,7 +8,7 @@ use Rattle.rl_parts.specs.StreamParts.{PartView, StreamView, entries_of}
 use Rattle.rl_parts.specs.StoreUse.{IsKept, AreKept}
 use Rattle.rl_parts.specs.Reading.{IsOutside, IsVisited, NoneReaches, lines_in_range, visited_in_range}
 use Rattle.rl_parts.proofs.Visits.{both_visited, lines_visited}
-use Rattle.rl_parts.proofs.Refusals.{right_on}
+use Rattle.rl_parts.specs.laws.AnswerLaws.{right_on}
 use Rattle.rl_parts.proofs.stream.Stream.each.Goals as goal
 
 pub returns-in_err-visit_parts-clause-right : goal.returns-in_err-visit_parts-clause-right

@@ -9,7 +9,7 @@ use Rattle.rl_parts.specs.StreamParts.{PartView, StreamView, entries_of}
 use Rattle.rl_parts.specs.StoreUse.{IsKept, AreKept}
 use Rattle.rl_parts.specs.Reading.{IsFoundIn, IsMissingIn, IsOutside, IsWithout, NoneReaches, entries_here, in_memory, in_store}
 use Rattle.rl_parts.proofs.Finding.{yes, no, not_both, above_all, without_above, of_memory, of_rest, not_here, none_there}
-use Rattle.rl_parts.proofs.Refusals.{right_then, ok_then}
+use Rattle.rl_parts.specs.laws.AnswerLaws.{right_then, ok_then}
 use Rattle.rl_parts.proofs.stream.Stream.holds.Goals as goal
 
 pub returns-then-has_entry-clause-right : goal.returns-then-has_entry-clause-right

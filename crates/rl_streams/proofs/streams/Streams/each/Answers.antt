@@ -5,13 +5,14 @@ use Rattle.std.specs.List.{fold}
 use Rattle.std.specs.Map.{keys_of}
 use Rattle.std.proofs.lemmas.List.{length-map}
 use Rattle.rl_parts.specs.StoreUse.{Right}
+use Rattle.rl_parts.specs.laws.AnswerLaws.{right_then}
 use Rattle.rl_streams.specs.Asking.{NoneSelected, AreVisited, AreVisitedOnce, visited_by}
 use Rattle.rl_streams.specs.StreamsState.{StreamsView, view_of}
 use Rattle.rl_streams.specs.HeldSet.{set_of}
 use Rattle.rl_streams.specs.Selected.{SelectionView}
 use Rattle.rl_streams.specs.StreamRows.{Row, joined, newest_in, newest_map}
 use Rattle.rl_streams.proofs.Selecting.{all_positions, found_is, kept_there}
-use Rattle.rl_streams.proofs.Visited.{right_then, visited_once, rows_not_selected}
+use Rattle.rl_streams.proofs.Visited.{visited_once, rows_not_selected}
 use Rattle.rl_streams.proofs.Whole.{looked_whole}
 use Rattle.rl_streams.proofs.streams.Streams.each.Goals as goal
 

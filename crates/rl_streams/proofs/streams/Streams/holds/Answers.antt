@@ -4,11 +4,12 @@ use Rattle.std.specs.Prelude.{IfOk}
 use Rattle.std.specs.FinMap.{get, contains_key}
 use Rattle.rl_labels.specs.laws.OrderLaws.{entry_cmp_total}
 use Rattle.rl_parts.specs.StoreUse.{Right}
+use Rattle.rl_parts.specs.laws.AnswerLaws.{right_then}
 use Rattle.rl_streams.specs.Found.{IsFound, IsMissing, IsUnreached}
 use Rattle.rl_streams.specs.StreamRows.{joined, is_among}
 use Rattle.rl_streams.specs.StreamsState.{StreamsView, view_of}
 use Rattle.rl_streams.specs.laws.HeldLaws.{contains_key-of_list}
-use Rattle.rl_streams.proofs.Visited.{right_then, rows_others}
+use Rattle.rl_streams.proofs.Visited.{rows_others}
 use Rattle.rl_streams.proofs.Whole.{looked_whole}
 use Rattle.rl_streams.proofs.streams.Streams.holds.Goals as goal
 

@@ -5,12 +5,13 @@ use Rattle.std.specs.List.{fold}
 use Rattle.rl_parts.specs.StoreUse.{Right}
 use Rattle.rl_parts.specs.laws.VisitorLaws.{fold-pushed}
 use Rattle.rl_parts.specs.laws.UseLaws.{Reads-none}
+use Rattle.rl_parts.specs.laws.AnswerLaws.{right_then, on_ok_then}
 use Rattle.rl_streams.specs.Asking.{visited_of, visited_at}
 use Rattle.rl_streams.specs.CursorState.{AreAsked}
 use Rattle.rl_streams.specs.StreamRows.{by_stream}
 use Rattle.rl_streams.specs.StreamsState.{StreamsView, order_of}
-use Rattle.rl_streams.proofs.Asked.{asked_one, ok_then}
-use Rattle.rl_streams.proofs.Visited.{right_then, visited_here, kept_there}
+use Rattle.rl_streams.proofs.Asked.{asked_one}
+use Rattle.rl_streams.proofs.Visited.{visited_here, kept_there}
 use Rattle.rl_streams.proofs.Whole.{looked_whole}
 use Rattle.rl_streams.proofs.streams.Streams.visit_lines.Goals as goal
 
@@ -38,4 +39,4 @@ returns-clause-asked g c =
     let before = c.args.lines.now in
     let after = c.each_selected.new.visitor in
     subst (λ (view : StreamsView). OnOk c.each_selected.result (AreAsked view.rows c.args.selector.now c.args.from c.args.to c.args.position before (c.args.position + 1) after)) c.self.view_is
-    (ok_then (asked_one s.streams.entries c.args.selector.now c.args.from c.args.to c.args.position c.index.result.now before after c.self.invariant.0.streams.own c.index.ensures) c.each_selected.result c.each_selected.ensures.lines)
+    (on_ok_then (asked_one s.streams.entries c.args.selector.now c.args.from c.args.to c.args.position c.index.result.now before after c.self.invariant.0.streams.own c.index.ensures) c.each_selected.result c.each_selected.ensures.lines)
