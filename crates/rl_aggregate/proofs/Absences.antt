@@ -10,7 +10,7 @@ use Rattle.rl_aggregate.specs.Evaluated.{finished, over_vector, range_value, sam
 use Rattle.rl_aggregate.specs.Grouping.{aggregated_by}
 use Rattle.rl_aggregate.specs.Partials.{partial}
 use Rattle.rl_aggregate.specs.declared.outcome.Outcome.TheVariants as outcomes
-use Rattle.rl_aggregate.specs.laws.Absences.{absent-contributions}
+use Rattle.rl_aggregate.specs.laws.Absences.{absent-runs}
 use Rattle.rl_aggregate.specs.declared.partial.Partial.{Partial}
 use Rattle.rl_aggregate.specs.declared.outcome.Outcome.{Outcome}
 
@@ -47,4 +47,4 @@ absence-value query first is =
 pub absent-found : (query : Query) (partials : List Partial) (outcome : Outcome) → outcome ≡ finished query partials → IsAbsent query partials outcome
 absent-found query partials outcome value = λ entries t is same.
     let terms : terms_of query ≡ query.left ∷ [] = ap (λ over. query.left ∷ option_to_list over) is.1.1.0 in
-    value ∙ ap (finished query) (same ∙ ap (map (λ term. partial entries term t)) terms) ∙ absence-value query (partial entries query.left t) is ∙ absent-contributions query.left entries t is.0
+    value ∙ ap (finished query) (same ∙ ap (map (λ term. partial entries term t)) terms) ∙ absence-value query (partial entries query.left t) is ∙ absent-runs query.left entries t is.0

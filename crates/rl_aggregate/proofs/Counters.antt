@@ -7,8 +7,7 @@ use Rattle.rl_query.specs.declared.stages.Stage.{Stage}
 use Rattle.rl_aggregate.specs.Counter.{IsCounter}
 use Rattle.rl_aggregate.specs.Limited.{IsWithin}
 use Rattle.rl_aggregate.specs.Accumulators.{AccumulatorView, nothing_counted, with_line, HasRoom}
-use Rattle.rl_aggregate.specs.laws.Sums.{len-partial_of, counts-partial_of, bytes-partial_of}
-use Rattle.rl_aggregate.specs.laws.Within.{within-more, within-line}
+use Rattle.rl_aggregate.specs.laws.Within.{within-more, within-none, within-line}
 
 all_weaker : {X : Type 0} (P Q : X → Type 0) → ((x : X) → P x → Q x) → (xs : List X) → AllByRecursion P xs → AllByRecursion Q xs
 all_weaker P Q weaker [] all = all
@@ -36,11 +35,7 @@ partly_counted labels text fits accumulators i lines all =
 
 -- nothing is within anything
 nothing-within : (stages : List Stage) (lines : ℕ) → IsWithin lines (nothing_counted stages).found
-nothing-within stages lines = record {
-  sets = omega (arith, len-partial_of []);
-  counts = omega (arith, counts-partial_of []);
-  bytes = omega (arith, bytes-partial_of []);
-}
+nothing-within stages lines = within-more 0 lines (nothing_counted stages).found (omega arith) within-none
 
 pub all_nothing : (lines : ℕ) (pipelines : List (List Stage)) → AllByRecursion (λ accumulator. IsWithin lines accumulator.found) (map nothing_counted pipelines)
 all_nothing lines [] = tt

@@ -1,13 +1,14 @@
 -- What no line of today can show: an error in a line, computed at values that were worked out by hand.
-use Rattle.std.specs.Prelude.{◌≡◌, ◌+◌, Bool, true, false, cond, not, List, [], ◌∷◌, map, codes}
+use Rattle.std.specs.Prelude.{◌≡◌, Bool, true, false, cond, not, List, [], ◌∷◌, Some, None, codes}
 use Rattle.std.specs.Option.{unwrap_or}
 use Rattle.std.specs.FinMap.{from_entries}
 use Rattle.std.specs.FinMap.Entries.{find}
 use Rattle.std.proofs.Common.{ap}
 use Rattle.rl_labels.specs.Name.{name_cmp}
 use Rattle.rl_labels.specs.LabelSet.{Pair, is_empty, proper_set, labels_of-proper_set}
-use Rattle.rl_aggregate.specs.InRange.{Contribution}
-use Rattle.rl_aggregate.specs.Partials.{has_error, total_of, partial_of}
+use Rattle.rl_aggregate.specs.InRange.{has_error, line_run}
+use Rattle.rl_aggregate.specs.Partials.{partial_of}
+use Rattle.rl_aggregate.specs.declared.run.Run.{Run}
 
 -- {app="a"}, and {__error__="E",app="a"}
 abbrev good_pairs : List Pair
@@ -26,11 +27,8 @@ error : has_error (proper_set wrong_pairs tt) ≡ true
 error = ap error_among (labels_of-proper_set wrong_pairs tt)
 
 -- a line of 5 bytes with an error is counted as one, and in no total
-abbrev wrong : List Contribution
-wrong = record { labels = proper_set wrong_pairs tt; bytes = 5 } ∷ []
+abbrev wrong : List Run
+wrong = line_run (proper_set wrong_pairs tt) 5 ∷ []
 
 counted_as_an_error : partial_of wrong ≡ record { errors = 1; totals = from_entries [] }
-counted_as_an_error = λ i. record {
-  errors = 0 + cond (error i) 1 0;
-  totals = from_entries (map (λ contribution. (contribution.labels, total_of wrong contribution.labels)) (cond (not (error i)) wrong []));
-}
+counted_as_an_error = λ i. partial_of (record { labels = cond (error i) None (Some (proper_set wrong_pairs tt)); volume = record { count = 1; bytes = 5 } } ∷ [])

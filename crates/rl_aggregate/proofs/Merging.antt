@@ -1,18 +1,17 @@
 -- Totals while the entries of others go into them, one after another.
-use Rattle.std.proofs.Common.{◌≡◌, ◌+◌, true, false, cond, ◌||◌, [], ◌∷◌, Option, None, Some, T, IsTrue, refl, sym, ap, ◌∙◌, arith}
+use Rattle.std.proofs.Common.{◌≡◌, ◌+◌, true, false, cond, ◌||◌, ◌∷◌, Option, None, Some, T, IsTrue, refl, sym, ap, ◌∙◌, arith}
 use Rattle.std.specs.Option.{unwrap_or, is_some}
-use Rattle.std.specs.Ordering.{eq_by_cmp, is_eq, is_lt}
+use Rattle.std.specs.Ordering.{eq_by_cmp}
 use Rattle.std.specs.FinMap.{get, insert, contains_key, get-insert, get-from_entries}
 use Rattle.std.specs.FinMap.Entries.{find, is_sorted, below_all}
-use Rattle.std.specs.declared.cmp.Ordering.{Ordering}
-use Rattle.std.specs.declared.cmp.Ordering.TheVariants.{Less, Equal, Greater}
-use Rattle.std.proofs.lemmas.Bool.{and_parts, true≢false}
+use Rattle.std.proofs.lemmas.Bool.{and_parts}
 use Rattle.rl_labels.specs.LabelSet.{LabelSet}
 use Rattle.rl_labels.specs.LabelText.{label_set_cmp}
 use Rattle.rl_plain.specs.laws.Bools.{true_from}
 use Rattle.std.proofs.lemmas.Float.{T_from_true}
-use Rattle.rl_labels.specs.laws.TextLaws.{label_set_cmp_total, label_set_eq-true, label_set_eq_itself}
-use Rattle.rl_aggregate.specs.laws.Totals.{label_set_eq-cmp}
+use Rattle.rl_labels.specs.laws.TextLaws.{label_set_cmp_total}
+use Rattle.rl_aggregate.specs.laws.Sums.{find_below, find_first}
+use Rattle.rl_aggregate.specs.laws.Totals.{get-added, same_key}
 use Rattle.rl_aggregate.specs.TotalsMap.{TotalsMap, no_total, plus, total_at, added, HasAll}
 use Rattle.rl_aggregate.specs.declared.volume.Volume.{Volume}
 use Rattle.rl_aggregate.proofs.Maps.{Entries, totals_in}
@@ -44,26 +43,6 @@ pub joined-Some : (a : Option Volume) (b : Volume) → joined a (Some b) ≡ Som
 joined-Some None b = refl
 joined-Some (Some a) b = refl
 
-not_equal : (o : Ordering) → is_lt o ≡ true → is_eq o ≡ false
-not_equal Less h = refl
-not_equal Equal h = absurd (true≢false (sym h))
-not_equal Greater h = refl
-
--- a label set below each of some entries is not among them
-find_below : (k : LabelSet) (es : Entries) → below_all label_set_cmp k es ≡ true → find label_set_cmp k es ≡ None
-find_below k [] h = refl
-find_below k (e ∷ es) h =
-    let parts = and_parts (is_lt (label_set_cmp k e.0)) (below_all label_set_cmp k es) h in
-    ap (λ b. cond b (Some e.1) (find label_set_cmp k es)) (not_equal (label_set_cmp k e.0) parts.0) ∙ find_below k es parts.1
-
--- the label set of an entry that is tested equal
-same_key : (q k : LabelSet) → eq_by_cmp label_set_cmp q k ≡ true → q ≡ k
-same_key q k is = label_set_eq-true q k (label_set_eq-cmp q k ∙ is)
-
--- a look-up by the first entry's label set
-find_first : (k : LabelSet) (v : Volume) (es : Entries) → find label_set_cmp k ((k, v) ∷ es) ≡ Some v
-find_first k v es = ap (λ b. cond b (Some v) (find label_set_cmp k es)) (sym (label_set_eq-cmp k k) ∙ label_set_eq_itself k)
-
 -- a label set that is first in order does not stand again
 find_again : (k : LabelSet) (v : Volume) (rest : Entries) (q : LabelSet) → T (is_sorted label_set_cmp ((k, v) ∷ rest)) → q ≡ k → find label_set_cmp q rest ≡ None
 find_again k v rest q sorted same =
@@ -76,7 +55,7 @@ sorted_rest k v rest sorted = T_from_true _ (and_parts (below_all label_set_cmp 
 -- one entry goes from the rest into the totals, and the sums of both stay
 pub joined-added : (m : TotalsMap) (k : LabelSet) (v : Volume) (rest : Entries) (q : LabelSet) → T (is_sorted label_set_cmp ((k, v) ∷ rest)) → joined (get (added m k v) q) (find label_set_cmp q rest) ≡ joined (get m q) (find label_set_cmp q ((k, v) ∷ rest))
 joined-added m k v rest q sorted =
-    ap (λ t. joined t (find label_set_cmp q rest)) (get-insert label_set_cmp_total m k (plus (total_at m k) v) q)
+    ap (λ t. joined t (find label_set_cmp q rest)) (get-added m k v q)
     ∙ elim (eq_by_cmp label_set_cmp q k) as (λ b. eq_by_cmp label_set_cmp q k ≡ b → joined (cond b (Some (plus (total_at m k) v)) (get m q)) (find label_set_cmp q rest) ≡ joined (get m q) (cond b (Some v) (find label_set_cmp q rest))) [
       | true ↦ λ is.
           let same = same_key q k is in
@@ -90,7 +69,7 @@ joined-added m k v rest q sorted =
 -- what the next entry makes of a total is what both have
 pub total_at-next : (m both : TotalsMap) (k : LabelSet) (v : Volume) (rest : Entries) → joined (get m k) (find label_set_cmp k ((k, v) ∷ rest)) ≡ get both k → plus (total_at m k) v ≡ total_at both k
 total_at-next m both k v rest is =
-    ap (λ t. unwrap_or t no_total) (sym (joined-Some (get m k) v) ∙ ap (joined (get m k)) (sym (find_first k v rest)) ∙ is)
+    ap (λ t. unwrap_or t no_total) (sym (joined-Some (get m k) v) ∙ ap (joined (get m k)) (sym (find_first (k, v) rest)) ∙ is)
 
 -- one entry goes from the rest into a copy, and what either has stays
 pub either-inserted : (m : TotalsMap) (k : LabelSet) (v : Volume) (rest : Entries) (q : LabelSet) → T (is_sorted label_set_cmp ((k, v) ∷ rest)) → either (find label_set_cmp q rest) (get (insert m k v) q) ≡ either (find label_set_cmp q ((k, v) ∷ rest)) (get m q)
@@ -113,12 +92,12 @@ pub known-all : (totals others : TotalsMap) (es : Entries) → totals_in es ≡ 
 known-all totals others es view all = λ q there. all q (ap is_some (sym (find-entries others es q view)) ∙ there)
 
 pub known-first : (totals : TotalsMap) (k : LabelSet) (v : Volume) (rest : Entries) → AreKnown totals ((k, v) ∷ rest) → IsTrue (contains_key totals k)
-known-first totals k v rest known = known k (ap is_some (find_first k v rest))
+known-first totals k v rest known = known k (ap is_some (find_first (k, v) rest))
 
 -- also when one has gone in
 pub known-rest : (totals : TotalsMap) (k : LabelSet) (v : Volume) (rest : Entries) → AreKnown totals ((k, v) ∷ rest) → AreKnown (added totals k v) rest
 known-rest totals k v rest known = λ q there.
-    ap is_some (get-insert label_set_cmp_total totals k (plus (total_at totals k) v) q)
+    ap is_some (get-added totals k v q)
     ∙ elim (eq_by_cmp label_set_cmp q k) as (λ b. (is_some (cond b (Some v) (find label_set_cmp q rest)) ≡ true → is_some (get totals q) ≡ true) → is_some (cond b (Some (plus (total_at totals k) v)) (get totals q)) ≡ true) [
       | true ↦ λ _. refl
       | false ↦ λ here. here there

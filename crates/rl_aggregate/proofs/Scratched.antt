@@ -9,7 +9,7 @@ use Rattle.rl_aggregate.specs.Counter.{CounterView, counted_entry}
 use Rattle.rl_aggregate.specs.InRange.{is_selected}
 use Rattle.rl_aggregate.specs.Partials.{partial}
 use Rattle.rl_aggregate.specs.Accumulators.{nothing_counted}
-use Rattle.rl_aggregate.specs.laws.Counting.{new_counter_counts, partial-stayed}
+use Rattle.rl_aggregate.specs.laws.Counting.{new_counter_counts}
 use Rattle.rl_aggregate.specs.declared.partial.Partial.{Partial}
 
 pub scratched : (entries : List Entry) (term : Term) (t : ℕ) (pipelines : List (List Stage)) (before after : CounterView) (partials : List Partial) → pipelines ≡ term.range.stages ∷ []
@@ -24,4 +24,3 @@ scratched entries term t pipelines before after partials built new counted found
     new ∙ (λ i. record { most = length entries; left = length entries; is_over = false; accumulators = map nothing_counted (built i) }) in
     found
     ∙ ap (λ (counter : CounterView). map (λ accumulator. accumulator.found) counter.accumulators) (counted ∙ ap (λ counter. fold counted_entry counter selected) start ∙ new_counter_counts (length entries) (term.range.stages ∷ []) selected few)
-    ∙ ap (λ one. one ∷ []) (partial-stayed entries term t)

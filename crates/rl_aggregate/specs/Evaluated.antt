@@ -1,6 +1,6 @@
 -- What a query gives at a moment.
 use Rattle.std.specs.Prelude.{◌≡◌, ℕ, ◌==◌, nat_lt, Bool, List, [], ◌∷◌, length, map, Option, Some, None, option_to_list, if◌then◌else◌}
-use Rattle.std.specs.List.{count_by, list_any}
+use Rattle.std.specs.List.{list_any}
 use Rattle.std.specs.FinMap.{entries}
 use Rattle.rl_labels.specs.LabelSet.{LabelSet}
 use Rattle.rl_labels.specs.declared.entry.Entry.{Entry}
@@ -12,11 +12,12 @@ use Rattle.rl_query.specs.declared.query.RangeFunction.{RangeFunction}
 use Rattle.rl_query.specs.declared.query.RangeFunction.TheVariants as functions
 use Rattle.rl_aggregate.specs.Absence.{one, absence, absent_sample}
 use Rattle.rl_aggregate.specs.Grouping.{aggregated_by}
-use Rattle.rl_aggregate.specs.InRange.{Contribution, in_range}
-use Rattle.rl_aggregate.specs.Partials.{has_error, partial}
+use Rattle.rl_aggregate.specs.InRange.{in_range}
+use Rattle.rl_aggregate.specs.Partials.{partial, volume_at}
 use Rattle.rl_aggregate.specs.Ratios.{ratios, tested}
 use Rattle.rl_aggregate.specs.TotalsMap.{TotalsMap}
 use Rattle.rl_aggregate.specs.declared.volume.Volume.{Volume}
+use Rattle.rl_aggregate.specs.declared.run.Run.{Run}
 use Rattle.rl_aggregate.specs.declared.partial.Partial.{Partial}
 use Rattle.rl_aggregate.specs.declared.outcome.Fraction.{Fraction}
 use Rattle.rl_aggregate.specs.declared.outcome.Sample.{Sample}
@@ -71,10 +72,10 @@ abbrev pub have_errors : List Partial → Bool
 have_errors partials = list_any (λ partial. nat_lt 0 partial.errors) partials
 
 -- absent_over_time of the lines of a range: an error in any line fails it; else it has its sample where there is no line, and none where there is one
-abbrev pub absent_of : List Contribution → List Matcher → Outcome
-absent_of contributions matchers =
-    if nat_lt 0 (count_by (λ contribution. has_error contribution.labels) contributions) then outcomes.Failed
-    else outcomes.Vector (if length contributions == 0 then absent_sample matchers ∷ [] else [])
+abbrev pub absent_of : List Run → List Matcher → Outcome
+absent_of runs matchers =
+    if nat_lt 0 (volume_at runs None).count then outcomes.Failed
+    else outcomes.Vector (if length runs == 0 then absent_sample matchers ∷ [] else [])
 
 abbrev pub terms_of : Query → List Term
 terms_of query = query.left ∷ option_to_list query.over

@@ -7,8 +7,8 @@ pub mod InRange
 pub mod Limited
 pub mod Partials
 pub mod Ratios
+pub mod Runs
 pub mod Accumulators
 pub mod TotalsMap
 pub mod Vectors
-pub mod Waiting
 pub mod laws

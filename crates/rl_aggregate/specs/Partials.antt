@@ -1,35 +1,37 @@
 -- What the lines of a range add up to, and how two such sums are merged.
-use Rattle.std.specs.Prelude.{◌≡◌, ℕ, ◌+◌, ◌<◌, ◌^◌, Bool, not, ◌&&◌, List, map, ◌++◌, codes, if◌then◌else◌}
-use Rattle.std.specs.List.{filter, count_by, sum_by}
+use Rattle.std.specs.Prelude.{◌≡◌, ℕ, ◌+◌, ◌<◌, ◌^◌, Bool, List, map, ◌++◌, Option, None, Some, if◌then◌else◌}
+use Rattle.std.specs.List.{filter_map, sum_by}
+use Rattle.std.specs.Option.{option_eq}
+use Rattle.std.specs.Ordering.{eq_by_cmp}
 use Rattle.std.specs.FinMap.{from_entries, keys}
-use Rattle.rl_labels.specs.LabelSet.{LabelSet, value_of, is_empty}
-use Rattle.rl_labels.specs.LabelText.{label_set_eq}
+use Rattle.rl_labels.specs.LabelSet.{LabelSet}
+use Rattle.rl_labels.specs.LabelText.{label_set_cmp}
 use Rattle.rl_labels.specs.declared.entry.Entry.{Entry}
 use Rattle.rl_query.specs.declared.query.Term.{Term}
-use Rattle.rl_aggregate.specs.InRange.{Contribution, in_range}
+use Rattle.rl_aggregate.specs.InRange.{in_range}
 use Rattle.rl_aggregate.specs.TotalsMap.{TotalsMap, plus, total_at}
 use Rattle.rl_aggregate.specs.declared.volume.Volume.{Volume}
+use Rattle.rl_aggregate.specs.declared.run.Run.{Run}
 use Rattle.rl_aggregate.specs.declared.partial.Partial.{Partial}
 
--- a pipeline could not make sense of the line
-abbrev pub has_error : LabelSet → Bool
-has_error labels = not (is_empty (value_of labels (codes "__error__")))
+-- the run has these labels, or none where these are none
+abbrev pub has_labels : Option LabelSet → Run → Bool
+has_labels labels run = option_eq (eq_by_cmp label_set_cmp) labels run.labels
 
--- the line has these labels, and no error
-abbrev pub counts_for : LabelSet → Contribution → Bool
-counts_for labels contribution = label_set_eq labels contribution.labels && not (has_error contribution.labels)
+-- the volume of the runs that have these labels, or none
+abbrev pub volume_at : List Run → Option LabelSet → Volume
+volume_at runs labels = record {
+  count = sum_by (λ run. if has_labels labels run then run.volume.count else 0) runs;
+  bytes = sum_by (λ run. if has_labels labels run then run.volume.bytes else 0) runs;
+}
 
--- how many lines have the labels, and their bytes
-abbrev pub total_of : List Contribution → LabelSet → Volume
-total_of contributions labels = record { count = count_by (counts_for labels) contributions; bytes = sum_by (λ contribution. if counts_for labels contribution then contribution.bytes else 0) contributions }
+-- the volume of each label set that a run has
+abbrev pub totals_of : List Run → TotalsMap
+totals_of runs = from_entries (map (λ labels. (labels, volume_at runs (Some labels))) (filter_map (λ run. run.labels) runs))
 
--- the total of each label set that a line without an error has
-abbrev pub totals_of : List Contribution → TotalsMap
-totals_of contributions = from_entries (map (λ contribution. (contribution.labels, total_of contributions contribution.labels)) (filter (λ contribution. not (has_error contribution.labels)) contributions))
-
--- the number of errors, and the totals
-abbrev pub partial_of : List Contribution → Partial
-partial_of contributions = record { errors = count_by (λ contribution. has_error contribution.labels) contributions; totals = totals_of contributions }
+-- how many lines have an error, and the totals of the others
+abbrev pub partial_of : List Run → Partial
+partial_of runs = record { errors = (volume_at runs None).count; totals = totals_of runs }
 
 abbrev pub partial : List Entry → Term → ℕ → Partial
 partial entries term t = partial_of (in_range entries term t)

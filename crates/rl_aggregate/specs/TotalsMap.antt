@@ -1,8 +1,8 @@
 -- Totals by label set.
-use Rattle.std.specs.Prelude.{ℕ, ◌+◌, IsTrue, refl}
+use Rattle.std.specs.Prelude.{ℕ, ◌+◌, ◌-◌, ◌==◌, nat_le, Bool, false, ◌&&◌, IsTrue, Option, None, Some, if◌then◌else◌, refl}
 use Rattle.std.specs.Coded.{Coded, code_by, coded×, coded_ℕ}
 use Rattle.std.specs.Option.{unwrap_or}
-use Rattle.std.specs.FinMap.{FinMap, get, insert, contains_key, code}
+use Rattle.std.specs.FinMap.{FinMap, get, insert, remove, contains_key, code}
 use Rattle.rl_labels.specs.LabelSet.{LabelSet, label_set_code}
 use Rattle.rl_labels.specs.LabelText.{label_set_cmp}
 use Rattle.rl_aggregate.specs.declared.volume.Volume.{Volume}
@@ -27,6 +27,24 @@ total_at totals labels = unwrap_or (get totals labels) no_total
 -- the totals with one added at a label set
 abbrev pub added : TotalsMap → LabelSet → Volume → TotalsMap
 added totals labels total = insert totals labels (plus (total_at totals labels) total)
+
+abbrev pub minus : Volume → Volume → Volume
+minus a b = record { count = a.count - b.count; bytes = a.bytes - b.bytes }
+
+-- the totals with one taken out at a label set, which goes where no line is left
+abbrev pub taken : TotalsMap → LabelSet → Volume → TotalsMap
+taken totals labels volume =
+    if (minus (total_at totals labels) volume).count == 0 then remove totals labels
+    else insert totals labels (minus (total_at totals labels) volume)
+
+-- a volume, if it has a line
+abbrev pub if_any : Volume → Option Volume
+if_any volume = if volume.count == 0 then None else Some volume
+
+-- there is a total of at least the volume
+abbrev pub has_volume : Option Volume → Volume → Bool
+has_volume None volume = false
+has_volume (Some total) volume = nat_le volume.count total.count && nat_le volume.bytes total.bytes
 
 -- the first totals have each label set that the others have
 abbrev pub HasAll : TotalsMap → TotalsMap → Type 0

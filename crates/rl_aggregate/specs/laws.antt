@@ -3,6 +3,7 @@ pub mod Absences
 pub mod Bounds
 pub mod Counting
 pub mod Groups
+pub mod Runs
 pub mod Sums
 pub mod Totals
 pub mod Within

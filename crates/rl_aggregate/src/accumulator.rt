@@ -1,15 +1,13 @@
 //! What lines add up to after the stages of one pipeline.
-ghost use Rattle.std.specs.Prelude.{◌≡◌, ◌≤◌, ◌+◌, ◌<◌, ◌^◌, false, length, None, IfOk, OnOk, OnErr};
+ghost use Rattle.std.specs.Prelude.{◌≡◌, ◌≤◌, length, None, IfOk, IfSome, OnOk, OnErr};
 ghost use Rattle.rl_labels.specs.EntryParts.{longest_line};
-ghost use Rattle.rl_aggregate.specs.Partials.{has_error, VolumeFits};
-ghost use Rattle.rl_aggregate.specs.Accumulators.{nothing_counted, with_line, with_run, HasRoom};
-ghost use Rattle.rl_aggregate.specs.TotalsMap.{plus, total_at};
-ghost use Rattle.rl_aggregate.specs.Waiting.{with_waiting, IsRun};
+ghost use Rattle.rl_aggregate.specs.InRange.{line_run};
+ghost use Rattle.rl_aggregate.specs.Accumulators.{nothing_counted, with_line, with_waiting, HasRoom};
+ghost use Rattle.rl_aggregate.specs.Runs.{with_run, IsProper};
 
 use crate::partial::Partial;
-use crate::volume::Volume;
+use crate::run::Run;
 use rl_labels::Labels;
-use rl_labels::labels::ERROR_LABEL;
 use rl_pipeline::{Meter, ParsedLine, Pipeline, Running};
 use rl_plain::TryCopy;
 use std::alloc::{AllocError, Global};
@@ -25,27 +23,19 @@ pub(crate) struct Accumulator<'a> {
     waiting: Option<Run>,
 }
 
-// Lines with equal labels: how many, and their bytes.
-#[derive(Drop)]
-pub(crate) struct Run {
-    labels: Labels,
-    total: Volume,
-}
-
 impl<'a> Model for Accumulator<'a> {
-    ghost use Rattle.std.specs.Prelude.{◌≡◌, true};
+    ghost use Rattle.std.specs.Prelude.{◌≡◌, true, IfSome};
     ghost use Rattle.rl_pipeline.specs.Running.{IsPlain};
-    ghost use Rattle.rl_aggregate.specs.Accumulators.{AccumulatorView, accumulator_code};
+    ghost use Rattle.rl_aggregate.specs.Accumulators.{AccumulatorView, accumulator_code, with_waiting};
+    ghost use Rattle.rl_aggregate.specs.Runs.{IsProper};
 
     ghost Value = { AccumulatorView };
 
     ghost coded = { accumulator_code };
 
-    ghost use Rattle.rl_aggregate.specs.Waiting.{with_waiting, IsRun};
-
     ghost view = { λ a. record { running = a.running; found = with_waiting a.waiting a.found } };
 
-    ghost invariant = { λ a. (a.is_plain ≡ true → IsPlain a.running) × IsRun a.waiting };
+    ghost invariant = { λ a. (a.is_plain ≡ true → IsPlain a.running) × IfSome a.waiting IsProper };
 }
 
 impl<'a> Accumulator<'a> {
@@ -92,8 +82,9 @@ impl<'a> Accumulator<'a> {
         let Some(labels_after) = self.running.run_shared(meter, line)? else {
             return Ok(());
         };
+        let run = Run::of_line(labels_after, text.len() as u64);
         add_waiting(&mut self.found, &mut self.waiting)?;
-        add_one(&mut self.found, labels_after, text.len() as u64)
+        self.found.add_owned(run)
     }
 
     // What was counted.
@@ -117,30 +108,28 @@ fn add_line(
     bytes: u64,
 ) -> Result<(), AllocError>
     requires room { HasRoom 1 (with_waiting waiting.old found.old) }
-    requires run { IsRun waiting.old }
+    requires proper { IfSome waiting.old IsProper }
     requires fits { bytes ≤ longest_line }
-    ensures ok { OnOk result (with_waiting waiting.new found.new ≡ with_run labels.now (record { count = 1; bytes = bytes }) (with_waiting waiting.old found.old)) }
+    ensures ok { OnOk result (with_waiting waiting.new found.new ≡ with_run (line_run labels.now bytes) (with_waiting waiting.old found.old)) }
     ensures err { OnErr result (with_waiting waiting.new found.new ≡ with_waiting waiting.old found.old) }
-    ensures run { IsRun waiting.new }
+    ensures proper { IfSome waiting.new IsProper }
 {
     if let Some(run) = waiting {
-        if run.labels == *labels {
-            run.total.count += 1;
-            run.total.bytes += bytes;
+        if run.has(labels) {
+            run.volume.count += 1;
+            run.volume.bytes += bytes;
             return Ok(());
         }
     }
-    let labels = labels.try_copy()?;
+    let run = Run::of_line(labels.try_copy()?, bytes);
     add_waiting(found, waiting)?;
-    let total = Volume { count: 1, bytes };
-    *waiting = Some(Run { labels, total });
+    *waiting = Some(run);
     Ok(())
 }
 
 // Adds the lines that wait.
 fn add_waiting(found: &mut Partial, waiting: &mut Option<Run>) -> Result<(), AllocError>
     requires room { HasRoom 0 (with_waiting waiting.old found.old) }
-    requires run { IsRun waiting.old }
     ensures ok { OnOk result (found.new ≡ with_waiting waiting.old found.old) }
     ensures none { OnOk result (waiting.new ≡ None) }
     ensures err { OnErr result (found.new ≡ found.old) }
@@ -149,42 +138,7 @@ fn add_waiting(found: &mut Partial, waiting: &mut Option<Run>) -> Result<(), All
     let Some(run) = &*waiting else {
         return Ok(());
     };
-    add_run(found, &run.labels, run.total)?;
+    found.add(run)?;
     *waiting = None;
     Ok(())
-}
-
-// Adds lines with these labels.
-fn add_run(found: &mut Partial, labels: &Labels, total: Volume) -> Result<(), AllocError>
-    requires errors { found.old.errors + total.count < 2 ^ 64 }
-    requires totals { has_error labels.now ≡ false → VolumeFits (plus (total_at found.old.totals labels.now) total) }
-    ensures ok { OnOk result (found.new ≡ with_run labels.now total found.old) }
-    ensures err { OnErr result (found.new ≡ found.old) }
-{
-    if has_error(labels) {
-        found.errors += total.count;
-        return Ok(());
-    }
-    found.totals.add(labels, total)
-}
-
-// Adds one line with labels that are owned.
-fn add_one(found: &mut Partial, labels: Labels, bytes: u64) -> Result<(), AllocError>
-    requires room { HasRoom 1 found.old }
-    requires fits { bytes ≤ longest_line }
-    ensures ok { OnOk result (found.new ≡ with_run labels (record { count = 1; bytes = bytes }) found.old) }
-    ensures err { OnErr result (found.new ≡ found.old) }
-{
-    if has_error(&labels) {
-        found.errors += 1;
-        return Ok(());
-    }
-    found.totals.add_owned(labels, Volume { count: 1, bytes })
-}
-
-// Whether a pipeline could not make sense of the line.
-fn has_error(labels: &Labels) -> bool
-    ensures { result ≡ has_error labels.now }
-{
-    labels.get(ERROR_LABEL).is_some()
 }

@@ -1,11 +1,13 @@
 //! What the lines of a range add up to, on one shard or on several.
-ghost use Rattle.std.specs.Prelude.{◌≡◌, IfOk, IsOk};
+ghost use Rattle.std.specs.Prelude.{◌≡◌, IfOk, IsOk, OnErr, OnOk, if◌then◌else◌};
 ghost use Rattle.std.specs.Bool.{Decides};
 ghost use Rattle.std.specs.FinMap as map;
 ghost use Rattle.rl_aggregate.specs.Limited.{IsLimited};
 ghost use Rattle.rl_aggregate.specs.TotalsMap.{HasAll};
 ghost use Rattle.rl_aggregate.specs.Partials.{merge, Fits, IsOfBoth};
+ghost use Rattle.rl_aggregate.specs.Runs.{has_run, with_run, without_run, IsOneLess, IsOneMore};
 
+use crate::run::Run;
 use crate::totals::Totals;
 use rl_plain::{Same, TryCopy};
 use std::alloc::{AllocError, Global};
@@ -36,6 +38,51 @@ impl Partial {
     {
         let sum = self.totals.sum();
         self.totals.len() <= 1 << 30 && sum.count <= 1 << 30 && sum.bytes < 1 << 46
+    }
+
+    /// Adds a run. Takes memory for a label set that is new alone; refused, the partial stays as it was.
+    pub fn add(&mut self, run: &Run) -> Result<(), AllocError>
+        requires { Fits (with_run run.now self.old) }
+        ensures ok { OnOk result (self.new ≡ with_run run.now self.old) }
+        ensures err { OnErr result (self.new ≡ self.old) }
+        ensures known { HasAll self.old.totals (with_run run.now self.old).totals → IsOk result }
+        ensures one_more { OnOk result (IsOneMore run.now self.old self.new) }
+    {
+        let Some(labels) = &run.labels else {
+            self.errors += run.volume.count;
+            return Ok(());
+        };
+        self.totals.add(labels, run.volume)
+    }
+
+    // Like `add`, with a run that is owned.
+    pub(crate) fn add_owned(&mut self, run: Run) -> Result<(), AllocError>
+        requires { Fits (with_run run self.old) }
+        ensures ok { OnOk result (self.new ≡ with_run run self.old) }
+        ensures err { OnErr result (self.new ≡ self.old) }
+    {
+        let Run { labels, volume } = run;
+        let Some(labels) = labels else {
+            self.errors += volume.count;
+            return Ok(());
+        };
+        self.totals.add_owned(labels, volume)
+    }
+
+    /// Takes a run out, if the partial has at least that, and says whether it has; else nothing changes. Takes no memory.
+    pub fn take_out(&mut self, run: &Run) -> bool
+        ensures there { result ≡ has_run run.now self.old }
+        ensures left { self.new ≡ (if has_run run.now self.old then without_run run.now self.old else self.old) }
+        ensures one_less { IsOneLess run.now self.old self.new }
+    {
+        let Some(labels) = &run.labels else {
+            if self.errors < run.volume.count {
+                return false;
+            }
+            self.errors -= run.volume.count;
+            return true;
+        };
+        self.totals.take_out(labels, run.volume)
     }
 }
 

@@ -1,10 +1,10 @@
 //! Totals by label set.
-ghost use Rattle.std.specs.Prelude.{◌≡◌, ◌==◌, ◌-◌, ◌^◌, min, IfOk, IsOk, IsSome, OnOk, OnErr, IsTrue, Some, if◌then◌else◌};
+ghost use Rattle.std.specs.Prelude.{◌≡◌, ◌==◌, ◌&&◌, ◌-◌, ◌^◌, min, IfOk, IsOk, IsSome, OnOk, OnErr, IsTrue, Some, if◌then◌else◌};
 ghost use Rattle.std.specs.BTreeMap as tree;
 ghost use Rattle.std.specs.BTreeMap.{is_at};
 ghost use Rattle.std.specs.FinMap as map;
 ghost use Rattle.std.specs.Option.{unwrap_or};
-ghost use Rattle.rl_aggregate.specs.TotalsMap.{added, no_total, plus, total_at, HasAll};
+ghost use Rattle.rl_aggregate.specs.TotalsMap.{added, has_volume, if_any, minus, no_total, plus, taken, total_at, HasAll};
 ghost use Rattle.rl_aggregate.specs.Partials.{VolumeFits, both_totals};
 ghost use Rattle.rl_aggregate.specs.Evaluated.{samples};
 ghost use Rattle.rl_aggregate.specs.Limited.{sum_of};
@@ -89,6 +89,15 @@ impl Totals {
         ensures err { OnErr result (self.new ≡ self.old) }
     {
         add_at(&mut self.by_labels, labels, total)
+    }
+
+    // Takes a total out at a label set, if at least that stands there, and says whether it does. The label set goes where no
+    // line is left.
+    pub(crate) fn take_out(&mut self, labels: &Labels, total: Volume) -> bool
+        ensures there { result ≡ has_volume (map.get self.old labels.now) total }
+        ensures left { self.new ≡ (if has_volume (map.get self.old labels.now) total then taken self.old labels.now total else self.old) }
+    {
+        take_at(&mut self.by_labels, labels, total)
     }
 
     // Adds each total of the others at its label set.
@@ -182,6 +191,26 @@ fn add_known(
     sum.count += total.count;
     sum.bytes += total.bytes;
     Ok(())
+}
+
+// Takes a total out at a label set, if at least that stands there. The label set goes where no line is left.
+fn take_at(by_labels: &mut BTreeMap<Labels, Volume>, labels: &Labels, total: Volume) -> bool
+    ensures there { result ≡ has_volume (tree.get label_set_cmp by_labels.old labels.now) total }
+    ensures left { (q : LabelSet) → tree.get label_set_cmp by_labels.new q ≡ (if result && is_at (label_set_cmp labels.now) q then if_any (minus (unwrap_or (tree.get label_set_cmp by_labels.old labels.now) no_total) total) else tree.get label_set_cmp by_labels.old q) }
+{
+    let Some(sum) = by_labels.get_mut(labels) else {
+        return false;
+    };
+    let is_there = total.count <= sum.count && total.bytes <= sum.bytes;
+    if !is_there {
+        return false;
+    }
+    sum.count -= total.count;
+    sum.bytes -= total.bytes;
+    if sum.count == 0 {
+        by_labels.remove(labels);
+    }
+    true
 }
 
 impl TryCopy for Totals {

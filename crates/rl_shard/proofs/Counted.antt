@@ -18,11 +18,11 @@ use Rattle.rl_query.specs.declared.query.Selector.{Selector}
 use Rattle.rl_query.specs.declared.stages.Stage.{Stage}
 use Rattle.rl_chunks.specs.declared.line.Line.{Line}
 use Rattle.rl_aggregate.specs.Counter.{CounterView, counted_entry, counted_line}
-use Rattle.rl_aggregate.specs.InRange.{contribution, in_window, is_in_range, second, stays}
+use Rattle.rl_aggregate.specs.InRange.{entry_runs, in_window, is_selected, second}
 use Rattle.rl_aggregate.specs.Partials.{partial, partial_of}
 use Rattle.rl_aggregate.specs.Accumulators.{IsAlike, AccumulatorView, nothing_counted, with_line}
-use Rattle.rl_aggregate.specs.laws.Counting.{filter-both, new_counter_counts, stayed}
-use Rattle.rl_aggregate.specs.laws.Totals.{kept-permuted}
+use Rattle.rl_aggregate.specs.laws.Counting.{filter-both, new_counter_counts}
+use Rattle.rl_aggregate.specs.laws.Runs.{kept-permuted}
 use Rattle.rl_deletes.specs.Deletes.{RequestsView, covered, covered_line}
 use Rattle.rl_parts.specs.Reading.{visited}
 use Rattle.rl_parts.specs.StoreUse.{Right}
@@ -253,15 +253,15 @@ abbrev pub none_counted : ℕ → List (List Stage) → CounterView
 none_counted most pipelines = record { most = most; left = most; is_over = false; accumulators = map nothing_counted pipelines }
 
 -- the first two tests are of a line and of a moment, and the window is of what is asked for
-reorder : (selected asked in_window shown stays : Bool) → (in_window ≡ true → asked ≡ true) → ((selected && asked) && ((in_window && shown) && stays)) ≡ (shown && ((in_window && selected) && stays))
-reorder selected asked false shown stays reaches = and_right (selected && asked) false refl ∙ sym (and_right shown false refl)
-reorder selected asked true shown stays reaches = ap (λ b. (selected && b) && (shown && stays)) (reaches refl) ∙ by selected shown stays
+reorder : (selected asked in_window shown : Bool) → (in_window ≡ true → asked ≡ true) → ((selected && asked) && (in_window && shown)) ≡ (shown && (in_window && selected))
+reorder selected asked false shown reaches = and_right (selected && asked) false refl ∙ sym (and_right shown false refl)
+reorder selected asked true shown reaches = ap (λ b. (selected && b) && shown) (reaches refl) ∙ by selected shown
   where
-    by : (selected shown stays : Bool) → ((selected && true) && (shown && stays)) ≡ (shown && (selected && stays))
-    by true true stays = refl
-    by true false stays = refl
-    by false true stays = refl
-    by false false stays = refl
+    by : (selected shown : Bool) → ((selected && true) && shown) ≡ (shown && selected)
+    by true true = refl
+    by true false = refl
+    by false true = refl
+    by false false = refl
 
 module _ (first : Term) (terms : List Term) (streams : StreamsView) (requests : Bor RequestsView) (t start to : ℕ) (after : LineCounter) (alike : AllByRecursion (IsAlike first) terms) where
   abbrev pub pipelines : List (List Stage)
@@ -284,7 +284,7 @@ module _ (first : Term) (terms : List Term) (streams : StreamsView) (requests : 
     ended : Ends requests range t none.counter (to - t) (map visited once.order) after
     ended = subst (Ends requests range t none.counter (to - t) (map visited once.order)) (sym once.visited) (ends requests range t none.counter (to - t) (map visited once.order))
 
-    counted_once : after.counter ≡ record { most = streams.limits.entries; left = streams.limits.entries - length order; is_over = false; accumulators = map (λ stages. record { running = stages; found = partial_of (stayed stages order) }) pipelines }
+    counted_once : after.counter ≡ record { most = streams.limits.entries; left = streams.limits.entries - length order; is_over = false; accumulators = map (λ stages. record { running = stages; found = partial_of (entry_runs stages order) }) pipelines }
     counted_once =
         ended.counted
         ∙ ap (fold counts_any none.counter) (filter_map (is_counted requests range t) visited once.order)
@@ -295,9 +295,9 @@ module _ (first : Term) (terms : List Term) (streams : StreamsView) (requests : 
     pub not_over : after.counter.is_over ≡ false
     not_over = ap (λ (counter : CounterView). counter.is_over) counted_once
 
-    found_by : (pipelines : List (List Stage)) → map (λ (accumulator : AccumulatorView). accumulator.found) (map (λ stages. record { running = stages; found = partial_of (stayed stages order) }) pipelines) ≡ map (λ stages. partial_of (stayed stages order)) pipelines
+    found_by : (pipelines : List (List Stage)) → map (λ (accumulator : AccumulatorView). accumulator.found) (map (λ stages. record { running = stages; found = partial_of (entry_runs stages order) }) pipelines) ≡ map (λ stages. partial_of (entry_runs stages order)) pipelines
     found_by [] = refl
-    found_by (stages ∷ others) = ap (λ rest. partial_of (stayed stages order) ∷ rest) (found_by others)
+    found_by (stages ∷ others) = ap (λ rest. partial_of (entry_runs stages order) ∷ rest) (found_by others)
 
     module _ (u : ℕ) (starts : IsStartOf first.range.seconds t start) (some : 0 < range) (later : t ≤ u) (within : u ≤ t + after.lasts) (short : t ≤ to) where
       reaches : (ts : ℕ) → in_window first.range.seconds u ts ≡ true → (leb start ts && leb ts to) ≡ true
@@ -308,22 +308,21 @@ module _ (first : Term) (terms : List Term) (streams : StreamsView) (requests : 
           both_true (leb start ts) (leb ts to) (le-leb start ts (omega (arith, from, ltb-true u (ts + range) parts.0))) (le-leb ts to (omega (arith, leb-true ts u parts.1, within, fewer, short)))
 
       -- of the window that ends then, what is shown and stays has an equal sum
-      found_of : (term : Term) → IsAlike first term → partial_of (stayed term.range.stages order) ≡ partial (shown streams requests.now) term u
+      found_of : (term : Term) → IsAlike first term → partial_of (entry_runs term.range.stages order) ≡ partial (shown streams requests.now) term u
       found_of term alike =
           let stages = term.range.stages in
           let held = keys streams.held in
-          let both = λ (e : Entry). (in_window first.range.seconds u e.timestamp && not (covered requests.now e)) && stays stages e in
-          let found = λ (es : List Entry). partial_of (map (contribution stages) es) in
+          let both = λ (e : Entry). in_window first.range.seconds u e.timestamp && not (covered requests.now e) in
+          let found = λ (es : List Entry). partial_of (entry_runs stages es) in
           let tests = same_of_entries requests range t after.lasts u later within once.order ended.noticed in
-          ap (λ es. found (filter (stays stages) es)) (filter_same passes (λ e. in_window first.range.seconds u e.timestamp && not (covered requests.now e)) once.order tests)
-          ∙ ap found (filter-both (λ e. in_window first.range.seconds u e.timestamp && not (covered requests.now e)) (stays stages) once.order)
+          ap found (filter_same passes both once.order tests)
           ∙ sym (kept-permuted both stages (asked first.range.selector.matchers start to held) once.order once.once)
           ∙ ap found (filter-both (is_asked first.range.selector.matchers start to) both held)
-          ∙ (λ i. found (filter (λ (e : Entry). reorder (selects first.range.selector.matchers e.labels) (leb start e.timestamp && leb e.timestamp to) (in_window first.range.seconds u e.timestamp) (not (covered requests.now e)) (stays stages e) (reaches e.timestamp) i) held))
-          ∙ (λ i. found (filter (λ (e : Entry). not (covered requests.now e) && ((in_window (sym alike.0 i) u e.timestamp && selects (ap (λ (s : Selector). s.matchers) (sym alike.1) i) e.labels) && stays stages e)) held))
-          ∙ sym (ap found (filter-both (λ (e : Entry). not (covered requests.now e)) (is_in_range term u) held))
+          ∙ (λ i. found (filter (λ (e : Entry). reorder (selects first.range.selector.matchers e.labels) (leb start e.timestamp && leb e.timestamp to) (in_window first.range.seconds u e.timestamp) (not (covered requests.now e)) (reaches e.timestamp) i) held))
+          ∙ (λ i. found (filter (λ (e : Entry). not (covered requests.now e) && (in_window (sym alike.0 i) u e.timestamp && selects (ap (λ (s : Selector). s.matchers) (sym alike.1) i) e.labels)) held))
+          ∙ sym (ap found (filter-both (λ (e : Entry). not (covered requests.now e)) (is_selected term u) held))
 
-      found_all : (terms : List Term) → AllByRecursion (IsAlike first) terms → map (λ (term : Term). partial_of (stayed term.range.stages order)) terms ≡ map (λ term. partial (shown streams requests.now) term u) terms
+      found_all : (terms : List Term) → AllByRecursion (IsAlike first) terms → map (λ (term : Term). partial_of (entry_runs term.range.stages order)) terms ≡ map (λ term. partial (shown streams requests.now) term u) terms
       found_all [] alike = refl
       found_all (term ∷ terms) alike = λ i. found_of term alike.0 i ∷ found_all terms alike.1 i
 
@@ -332,7 +331,7 @@ module _ (first : Term) (terms : List Term) (streams : StreamsView) (requests : 
       exact_all =
           ap (λ (counter : CounterView). map (λ (accumulator : AccumulatorView). accumulator.found) counter.accumulators) counted_once
           ∙ found_by pipelines
-          ∙ map-map (λ stages. partial_of (stayed stages order)) (λ (term : Term). term.range.stages) terms
+          ∙ map-map (λ stages. partial_of (entry_runs stages order)) (λ (term : Term). term.range.stages) terms
           ∙ found_all terms alike
 
   module _ (given : AreVisited counts first.range.selector.matchers start to streams.rows none after) where

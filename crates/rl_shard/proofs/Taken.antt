@@ -5,6 +5,7 @@ use Rattle.std.specs.Prelude.{MatchBool}
 use Rattle.std.specs.List.{AllByRecursion, AllZip, filter, flat_map, fold}
 use Rattle.std.proofs.lemmas.Bool.{lt-leb, and_right}
 use Rattle.std.proofs.lemmas.List.Concat.{flat_map-cons}
+use Rattle.std.proofs.lemmas.List.Folds.{flat_map-map}
 use Rattle.std.proofs.lemmas.List.Elements.{filter-append, recursion_from_All}
 use Rattle.rl_labels.specs.LabelSet.{LabelSet}
 use Rattle.rl_labels.specs.Selects.{selects}
@@ -15,12 +16,12 @@ use Rattle.rl_chunks.specs.declared.line.Line.{Line}
 use Rattle.rl_query.specs.declared.query.LogRange.{LogRange}
 use Rattle.rl_query.specs.declared.query.Term.{Term}
 use Rattle.rl_query.specs.declared.stages.Stage.{Stage}
-use Rattle.rl_aggregate.specs.InRange.{Contribution, contribution, in_window, stays}
+use Rattle.rl_aggregate.specs.InRange.{runs_of, entry_runs, in_window}
 use Rattle.rl_aggregate.specs.Partials.{partial, partial_of}
-use Rattle.rl_aggregate.specs.Accumulators.{AccumulatorView, contributions_of, nothing_counted, with_line}
-use Rattle.rl_aggregate.specs.Counter.{with_entry}
-use Rattle.rl_aggregate.specs.laws.Counting.{counted_entries, filter-both, stayed}
-use Rattle.rl_aggregate.specs.laws.Totals.{partial_of-append}
+use Rattle.rl_aggregate.specs.Accumulators.{AccumulatorView, nothing_counted, with_line}
+use Rattle.rl_aggregate.specs.declared.run.Run.{Run}
+use Rattle.rl_aggregate.specs.laws.Counting.{filter-both}
+use Rattle.rl_aggregate.specs.laws.Runs.{partial_of-append}
 use Rattle.rl_deletes.specs.Deletes.{RequestsView, covered}
 use Rattle.rl_parts.specs.Reading.{IsApart, IsPiece, IsReadAs, visited, visited_in_range}
 use Rattle.rl_parts.specs.Rewriting.{uncovered}
@@ -131,41 +132,36 @@ abbrev pub accumulators_line : AccumulatorView → LabelSet × Line → Accumula
 accumulators_line accumulator line = with_line line.0 line.1.text accumulator
 
 -- what lines count as after stages, one by one
-abbrev items : List Stage → List (LabelSet × Line) → List Contribution
-items stages lines = flat_map (λ line. contributions_of stages line.0 line.1.text) lines
+abbrev items : List Stage → List (LabelSet × Line) → List Run
+items stages lines = flat_map (λ line. runs_of stages line.0 line.1.text) lines
 
 -- an accumulator of some lines, and then of others
-accumulated_after : (stages : List Stage) (before : List Contribution) (lines : List (LabelSet × Line)) → (fold accumulators_line (record { running = stages; found = partial_of before }) lines).found ≡ partial_of (before ++ items stages lines)
+accumulated_after : (stages : List Stage) (before : List Run) (lines : List (LabelSet × Line)) → (fold accumulators_line (record { running = stages; found = partial_of before }) lines).found ≡ partial_of (before ++ items stages lines)
 accumulated_after stages before [] = ap partial_of (sym (append-nil before))
 accumulated_after stages before (line ∷ lines) =
-    let one = contributions_of stages line.0 line.1.text in
+    let one = runs_of stages line.0 line.1.text in
     (λ i. (fold accumulators_line (record { running = stages; found = sym (partial_of-append before one) i }) lines).found)
     ∙ accumulated_after stages (before ++ one) lines
-    ∙ ap partial_of (append_assoc before one (items stages lines) ∙ ap (λ more. before ++ more) (sym (flat_map-cons (λ (l : LabelSet × Line). contributions_of stages l.0 l.1.text) line lines)))
+    ∙ ap partial_of (append_assoc before one (items stages lines) ∙ ap (λ more. before ++ more) (sym (flat_map-cons (λ (l : LabelSet × Line). runs_of stages l.0 l.1.text) line lines)))
 
 -- it has what the lines add up to after its stages
 pub accumulated : (stages : List Stage) (lines : List (LabelSet × Line)) → (fold accumulators_line (nothing_counted stages) lines).found ≡ counted stages lines
 accumulated stages lines = accumulated_after stages [] lines
 
 -- those of entries are counted as the entries are
-counted_visited : (accumulator : AccumulatorView) (entries : List Entry) → fold accumulators_line accumulator (map visited entries) ≡ fold with_entry accumulator entries
-counted_visited accumulator [] = refl
-counted_visited accumulator (e ∷ es) = counted_visited (with_entry accumulator e) es
-
-counted_lines : (stages : List Stage) (entries : List Entry) → counted stages (map visited entries) ≡ partial_of (stayed stages entries)
-counted_lines stages entries =
-    sym (accumulated stages (map visited entries)) ∙ ap (λ (a : AccumulatorView). a.found) (counted_visited (nothing_counted stages) entries ∙ counted_entries stages entries)
+counted_lines : (stages : List Stage) (entries : List Entry) → counted stages (map visited entries) ≡ partial_of (entry_runs stages entries)
+counted_lines stages entries = ap partial_of (flat_map-map (λ (line : LabelSet × Line). runs_of stages line.0 line.1.text) visited entries)
 
 -- the first test is of a stream, the others of a line
-reorder : (selected in_window shown stays : Bool) → (selected && ((in_window && shown) && stays)) ≡ (shown && ((in_window && selected) && stays))
-reorder true true true stays = refl
-reorder true true false stays = refl
-reorder true false true stays = refl
-reorder true false false stays = refl
-reorder false true true stays = refl
-reorder false true false stays = refl
-reorder false false true stays = refl
-reorder false false false stays = refl
+reorder : (selected in_window shown : Bool) → (selected && (in_window && shown)) ≡ (shown && (in_window && selected))
+reorder true true true = refl
+reorder true true false = refl
+reorder true false true = refl
+reorder true false false = refl
+reorder false true true = refl
+reorder false true false = refl
+reorder false false true = refl
+reorder false false false = refl
 
 -- where streams are taken for what they hold, the lines add up to what LogQL gives from scratch
 taken_for_held : (range : LogRange) (rows : List Row) (requests : RequestsView) (t : ℕ) (taken lines : List (LabelSet × Line)) → lines ≡ filter (λ (line : LabelSet × Line). in_window range.seconds t line.1.timestamp && is_shown requests line) taken
@@ -175,15 +171,13 @@ taken_for_held range rows requests t taken lines shown own term same =
     let matchers = range.selector.matchers in
     let passes = λ (line : LabelSet × Line). in_window range.seconds t line.1.timestamp && is_shown requests line in
     let selected = filter (λ (e : Entry). selects matchers e.labels) (joined rows) in
-    let order = filter (λ (e : Entry). passes (visited e)) selected in
-    let found = λ (es : List Entry). partial_of (map (contribution stages) es) in
+    let found = λ (es : List Entry). partial_of (entry_runs stages es) in
     ap (counted stages) (shown ∙ ap (filter passes) own ∙ filter_map passes visited selected)
-    ∙ counted_lines stages order
-    ∙ ap found (filter-both (λ (e : Entry). passes (visited e)) (stays stages) selected)
-    ∙ ap found (filter-both (λ (e : Entry). selects matchers e.labels) (λ (e : Entry). passes (visited e) && stays stages e) (joined rows))
-    ∙ (λ i. found (filter (λ (e : Entry). reorder (selects matchers e.labels) (in_window range.seconds t e.timestamp) (not (covered requests e)) (stays stages e) i) (joined rows)))
-    ∙ sym (ap found (filter-both (λ (e : Entry). not (covered requests e)) (λ (e : Entry). (in_window range.seconds t e.timestamp && selects matchers e.labels) && stays stages e) (joined rows)))
-    ∙ (λ i. partial_of (map (contribution (sym same i).stages) (filter (λ (e : Entry). (in_window (sym same i).seconds t e.timestamp && selects (sym same i).selector.matchers e.labels) && stays (sym same i).stages e) (uncovered (covered requests) (joined rows)))))
+    ∙ counted_lines stages (filter (λ (e : Entry). passes (visited e)) selected)
+    ∙ ap found (filter-both (λ (e : Entry). selects matchers e.labels) (λ (e : Entry). passes (visited e)) (joined rows))
+    ∙ (λ i. found (filter (λ (e : Entry). reorder (selects matchers e.labels) (in_window range.seconds t e.timestamp) (not (covered requests e)) i) (joined rows)))
+    ∙ sym (ap found (filter-both (λ (e : Entry). not (covered requests e)) (λ (e : Entry). in_window range.seconds t e.timestamp && selects matchers e.labels) (joined rows)))
+    ∙ (λ i. partial_of (entry_runs (sym same i).stages (filter (λ (e : Entry). in_window (sym same i).seconds t e.timestamp && selects (sym same i).selector.matchers e.labels) (uncovered (covered requests) (joined rows)))))
 
 -- what is visited for a range's window, and is shown, are lines of what its streams are taken for
 pub lines_of : (range : LogRange) (rows : List Row) (requests : RequestsView) (t : ℕ) (lines : List (List (LabelSet × Line))) → AllZip (AreOfRow range.selector.matchers (start_at range.seconds t) t) rows lines

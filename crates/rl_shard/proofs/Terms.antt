@@ -7,7 +7,7 @@ use Rattle.rl_labels.specs.declared.entry.Entry.{Entry}
 use Rattle.rl_labels.specs.Selects.{selects}
 use Rattle.rl_query.specs.declared.query.LogRange.{LogRange}
 use Rattle.rl_query.specs.declared.query.Term.{Term}
-use Rattle.rl_aggregate.specs.InRange.{contribution, in_window, stays}
+use Rattle.rl_aggregate.specs.InRange.{entry_runs, in_window}
 use Rattle.rl_aggregate.specs.Limited.{IsWithin}
 use Rattle.rl_aggregate.specs.Partials.{partial, partial_of}
 use Rattle.rl_aggregate.specs.declared.partial.Partial.{Partial}
@@ -26,7 +26,7 @@ all_append P (x ∷ xs) ys p q = (p.0, all_append P xs ys p.1 q)
 
 -- a partial is by the range alone
 abbrev partial_by : List Entry → ℕ → LogRange → Partial
-partial_by entries t range = partial_of (map (contribution range.stages) (filter (λ e. (in_window range.seconds t e.timestamp && selects range.selector.matchers e.labels) && stays range.stages e) entries))
+partial_by entries t range = partial_of (entry_runs range.stages (filter (λ e. in_window range.seconds t e.timestamp && selects range.selector.matchers e.labels) entries))
 
 -- a term after others: they read the same lines, and the first stays in front
 pub alike_more : (lead : Term) {X : Type 0} (of : X → Term) (xs : List X) (x : X) → AllByRecursion (λ y. IsAlike lead (of y)) xs → IsAlike lead (of x) → AllByRecursion (λ y. IsAlike lead (of y)) (xs ++ x ∷ [])

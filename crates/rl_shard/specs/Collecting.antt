@@ -12,10 +12,9 @@ use Rattle.rl_chunks.specs.declared.line.Line.{Line}
 use Rattle.rl_query.specs.declared.query.LogRange.{LogRange}
 use Rattle.rl_query.specs.declared.query.Term.{Term}
 use Rattle.rl_query.specs.declared.stages.Stage.{Stage}
-use Rattle.rl_aggregate.specs.InRange.{in_window}
+use Rattle.rl_aggregate.specs.InRange.{in_window, runs_of}
 use Rattle.rl_aggregate.specs.Limited.{IsWithin}
 use Rattle.rl_aggregate.specs.Partials.{partial, partial_of}
-use Rattle.rl_aggregate.specs.Accumulators.{contributions_of}
 use Rattle.rl_aggregate.specs.declared.partial.Partial.{Partial}
 use Rattle.rl_deletes.specs.Deletes.{RequestsView, covered, covered_line}
 use Rattle.rl_parts.specs.Reading.{IsApart, IsReadAs, visited}
@@ -40,7 +39,7 @@ is_shown requests line = not (covered_line requests line.0 line.1.timestamp line
 
 -- what lines add up to after stages
 abbrev pub counted : List Stage → List (LabelSet × Line) → Partial
-counted stages lines = partial_of (flat_map (λ line. contributions_of stages line.0 line.1.text) lines)
+counted stages lines = partial_of (flat_map (λ line. runs_of stages line.0 line.1.text) lines)
 
 -- what a part is taken for over any store: its own entries where it is in memory or none is of the range, or the lines of a chunk
 -- that bytes with its digest are

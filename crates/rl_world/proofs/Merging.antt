@@ -2,12 +2,12 @@
 use Rattle.std.proofs.Common.{◌≡◌, ℕ, zero, suc, ◌+◌, ◌-◌, ◌*◌, ◌<◌, ◌≤◌, List, [], ◌∷◌, ◌++◌, length, get_or, drop, flat_map, cond, ◌||◌, Option, None, Some, is_some, option_to_list, refl, sym, ap, subst, ◌∙◌, append_assoc, add-one, arith}
 use Rattle.std.specs.List.{AllByRecursion}
 use Rattle.std.specs.Option.{unwrap_or}
-use Rattle.std.specs.FinMap.{get, empty, get-empty, len-empty}
+use Rattle.std.specs.FinMap.{get, empty, get-empty}
 use Rattle.std.proofs.lemmas.List.{at_drop_more, drop_all, get_or_default}
 use Rattle.std.proofs.lemmas.List.Elements.{All-from_recursion}
 use Rattle.rl_labels.specs.LabelText.{label_set_cmp}
-use Rattle.rl_aggregate.specs.laws.Sums.{len-both_totals, counts-both_totals, bytes-both_totals, sum_of-empty, total_at-sum_of}
 use Rattle.rl_aggregate.specs.laws.Totals.{same_totals, get-both_totals}
+use Rattle.rl_aggregate.specs.laws.Within.{within-fits, within-merge, within-more, within-none}
 use Rattle.rl_aggregate.specs.Limited.{IsLimited, IsWithin}
 use Rattle.rl_aggregate.specs.Partials.{both_totals, merge, most_entries, Fits}
 use Rattle.rl_aggregate.specs.TotalsMap.{no_total, plus, total_at}
@@ -34,43 +34,9 @@ merge-into_nothing partial =
         let bytes : 0 + total.bytes ≡ total.bytes = omega arith in
         λ i. Some (record { count = count i; bytes = bytes i })
 
--- no entry gives the numbers of no partial
-pub within-none : IsWithin 0 no_partial
-within-none = record {
-  sets = omega (arith, len-empty label_set_cmp Volume);
-  counts = omega (arith, sum_of-empty (λ total. total.count));
-  bytes = omega (arith, sum_of-empty (λ total. total.bytes));
-}
-
--- the numbers of a merge are within what both may hold
-pub within-merge : (m n : ℕ) (a b : Partial) → IsWithin m a → IsWithin n b → IsWithin (m + n) (merge a b)
-within-merge m n a b here there = record {
-  sets = omega (arith, len-both_totals a.totals b.totals, here.sets, there.sets);
-  counts = omega (arith, counts-both_totals a.totals b.totals, here.counts, there.counts);
-  bytes = omega (arith, bytes-both_totals a.totals b.totals, here.bytes, there.bytes);
-}
-
--- numbers within what all shards hold fit
-pub within-fits : (n : ℕ) (partial : Partial) → IsWithin n partial → n ≤ most_entries → Fits partial
-within-fits n partial within few = (
-  omega (arith, within.counts),
-  λ labels. (
-    omega (arith, within.counts, total_at-sum_of (λ total. total.count) refl partial.totals labels),
-    omega (arith, within.bytes, total_at-sum_of (λ total. total.bytes) refl partial.totals labels),
-  ),
-)
-
--- and are within the limits of one term
+-- numbers within what all shards hold are within the limits of one term
 pub within-limited : (n : ℕ) (partial : Partial) → IsWithin n partial → n ≤ most_shards * most_in_shard → IsLimited partial
 within-limited n partial within few = record {
-  sets = omega (arith, within.sets);
-  counts = omega (arith, within.counts);
-  bytes = omega (arith, within.bytes);
-}
-
--- what is within is so for more entries
-pub within-more : (m n : ℕ) (partial : Partial) → m ≤ n → IsWithin m partial → IsWithin n partial
-within-more m n partial more within = record {
   sets = omega (arith, within.sets);
   counts = omega (arith, within.counts);
   bytes = omega (arith, within.bytes);

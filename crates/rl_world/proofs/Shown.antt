@@ -12,7 +12,7 @@ use Rattle.rl_shard.specs.declared.step.ShardReply.{ShardReply}
 use Rattle.rl_shard.specs.declared.step.ShardReply.TheVariants as replies
 use Rattle.rl_shard.specs.declared.step.ShardStep.TheVariants as shard_steps
 use Rattle.rl_world.specs.ShardAnswers.{AreOfOneShard, most_in_shard}
-use Rattle.rl_world.proofs.Merging.{within-more}
+use Rattle.rl_aggregate.specs.laws.Within.{within-more}
 
 each_within : (entries : ℕ) (partials : List Partial) → entries ≤ most_in_shard → AllByRecursion (IsWithin entries) partials → AllByRecursion (IsWithin most_in_shard) partials
 each_within entries [] few all = all

@@ -10,10 +10,10 @@ use Rattle.rl_labels.specs.LabelSet.{LabelSet}
 use Rattle.rl_chunks.specs.declared.line.Line.{Line}
 use Rattle.rl_query.specs.declared.query.Term.{Term}
 use Rattle.rl_query.specs.declared.stages.Stage.{Stage}
-use Rattle.rl_aggregate.specs.Accumulators.{contributions_of}
+use Rattle.rl_aggregate.specs.InRange.{runs_of}
 use Rattle.rl_aggregate.specs.Partials.{merge, partial_of}
 use Rattle.rl_aggregate.specs.declared.partial.Partial.{Partial}
-use Rattle.rl_aggregate.specs.laws.Totals.{partial_of-append}
+use Rattle.rl_aggregate.specs.laws.Runs.{partial_of-append}
 use Rattle.rl_shard.specs.Collecting.{AreLinesOf, IsRead, counted}
 use Rattle.rl_shard.specs.ShardState.{ShardView, journalled}
 use Rattle.rl_rules.specs.declared.alert.Alert.{Alert}
@@ -46,7 +46,7 @@ none_some x h = cc
 -- lines followed by others add up to the merge
 counted-append : (stages : List Stage) (first second : List (LabelSet × Line)) → counted stages (first ++ second) ≡ merge (counted stages first) (counted stages second)
 counted-append stages first second =
-    let one = λ (line : LabelSet × Line). contributions_of stages line.0 line.1.text in
+    let one = λ (line : LabelSet × Line). runs_of stages line.0 line.1.text in
     ap partial_of (flat_map-append one first second) ∙ partial_of-append (flat_map one first) (flat_map one second)
 
 -- what is at the next index of a list is at the index of its rest

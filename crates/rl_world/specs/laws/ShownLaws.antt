@@ -4,7 +4,7 @@ use Rattle.std.proofs.Common.{sym, ap, ◌∙◌, append_assoc, append-nil}
 use Rattle.rl_labels.specs.declared.entry.Entry.{Entry}
 use Rattle.rl_query.specs.declared.query.Term.{Term}
 use Rattle.rl_aggregate.specs.Evaluated.{terms_of, finished}
-use Rattle.rl_aggregate.specs.laws.Totals.{partial-append}
+use Rattle.rl_aggregate.specs.laws.Runs.{partial-append}
 use Rattle.rl_aggregate.specs.Partials.{partial, merge}
 use Rattle.rl_aggregate.specs.declared.partial.Partial.{Partial}
 use Rattle.rl_rules.specs.declared.alert.Alert.{Alert}

@@ -1,7 +1,8 @@
 -- Merged totals fit where the merge does, and a merge of the partials of two lists is that of both.
 use Rattle.std.proofs.Common.{◌+◌, sym, ap, subst, ◌∙◌}
 use Rattle.rl_aggregate.specs.Partials.{merge, VolumeFits}
-use Rattle.rl_aggregate.specs.laws.Totals.{partial-append, total_at-both_totals}
+use Rattle.rl_aggregate.specs.laws.Runs.{partial-append}
+use Rattle.rl_aggregate.specs.laws.Totals.{total_at-both_totals}
 use Rattle.rl_aggregate.proofs.partial.merge.Goals as goal
 
 pub add_all-requires : goal.add_all-requires

@@ -1,6 +1,6 @@
 -- The one partial is that of the entries, in whatever order they come.
 use Rattle.std.proofs.Common.{length, slice_index_or, ap, ◌∙◌, arith}
-use Rattle.rl_aggregate.specs.laws.Totals.{partial-permuted}
+use Rattle.rl_aggregate.specs.laws.Runs.{partial-permuted}
 use Rattle.rl_aggregate.proofs.Scratched.{scratched}
 use Rattle.rl_aggregate.proofs.range.scratch.Goals as goal
 

@@ -1,6 +1,6 @@
 -- Few entries fit.
 use Rattle.std.proofs.Common.{arith}
-use Rattle.rl_aggregate.specs.laws.Totals.{merge_fits}
+use Rattle.rl_aggregate.specs.laws.Within.{merge_fits}
 use Rattle.worked_cases.proofs.aggregate.merged.Goals as goal
 
 pub merge-requires : goal.merge-requires
