@@ -1,7 +1,8 @@
--- Totals by label set.
+-- Totals by label set, and by other keys.
 use Rattle.std.specs.Prelude.{ℕ, ◌+◌, ◌-◌, ◌==◌, nat_le, Bool, false, ◌&&◌, IsTrue, Option, None, Some, if◌then◌else◌, refl}
 use Rattle.std.specs.Coded.{Coded, code_by, coded×, coded_ℕ}
 use Rattle.std.specs.Option.{unwrap_or}
+use Rattle.std.specs.declared.cmp.Ordering.{Ordering}
 use Rattle.std.specs.FinMap.{FinMap, get, insert, remove, contains_key, code}
 use Rattle.rl_labels.specs.LabelSet.{LabelSet, label_set_code}
 use Rattle.rl_labels.specs.LabelText.{label_set_cmp}
@@ -20,22 +21,22 @@ no_total = record { count = 0; bytes = 0 }
 abbrev pub plus : Volume → Volume → Volume
 plus a b = record { count = a.count + b.count; bytes = a.bytes + b.bytes }
 
--- the total of a label set, 0 where there is none
-abbrev pub total_at : TotalsMap → LabelSet → Volume
-total_at totals labels = unwrap_or (get totals labels) no_total
+-- the total at a key, 0 where there is none
+abbrev pub total_at : {K : Type 0} {R : K → K → Ordering} → FinMap R Volume → K → Volume
+total_at totals key = unwrap_or (get totals key) no_total
 
--- the totals with one added at a label set
-abbrev pub added : TotalsMap → LabelSet → Volume → TotalsMap
-added totals labels total = insert totals labels (plus (total_at totals labels) total)
+-- the totals with one added at a key
+abbrev pub added : {K : Type 0} {R : K → K → Ordering} → FinMap R Volume → K → Volume → FinMap R Volume
+added totals key total = insert totals key (plus (total_at totals key) total)
 
 abbrev pub minus : Volume → Volume → Volume
 minus a b = record { count = a.count - b.count; bytes = a.bytes - b.bytes }
 
--- the totals with one taken out at a label set, which goes where no line is left
-abbrev pub taken : TotalsMap → LabelSet → Volume → TotalsMap
-taken totals labels volume =
-    if (minus (total_at totals labels) volume).count == 0 then remove totals labels
-    else insert totals labels (minus (total_at totals labels) volume)
+-- the totals with one taken out at a key, which goes where no line is left
+abbrev pub taken : {K : Type 0} {R : K → K → Ordering} → FinMap R Volume → K → Volume → FinMap R Volume
+taken totals key volume =
+    if (minus (total_at totals key) volume).count == 0 then remove totals key
+    else insert totals key (minus (total_at totals key) volume)
 
 -- a volume, if it has a line
 abbrev pub if_any : Volume → Option Volume

@@ -138,7 +138,7 @@ fn add_waiting(found: &mut Partial, waiting: &mut Option<Run>) -> Result<(), All
     let Some(run) = &*waiting else {
         return Ok(());
     };
-    found.add(run)?;
+    found.add(&run.labels, run.volume)?;
     *waiting = None;
     Ok(())
 }

@@ -5,10 +5,12 @@ ghost use Rattle.std.specs.FinMap as map;
 ghost use Rattle.rl_aggregate.specs.Limited.{IsLimited};
 ghost use Rattle.rl_aggregate.specs.TotalsMap.{HasAll};
 ghost use Rattle.rl_aggregate.specs.Partials.{merge, Fits, IsOfBoth};
-ghost use Rattle.rl_aggregate.specs.Runs.{has_run, with_run, without_run, IsOneLess, IsOneMore};
+ghost use Rattle.rl_aggregate.specs.Runs.{has_at_least, with_run, with_volume, without_volume, IsOneLess, IsOneMore};
 
 use crate::run::Run;
 use crate::totals::Totals;
+use crate::volume::Volume;
+use rl_labels::Labels;
 use rl_plain::{Same, TryCopy};
 use std::alloc::{AllocError, Global};
 
@@ -40,19 +42,20 @@ impl Partial {
         self.totals.len() <= 1 << 30 && sum.count <= 1 << 30 && sum.bytes < 1 << 46
     }
 
-    /// Adds a run. Takes memory for a label set that is new alone; refused, the partial stays as it was.
-    pub fn add(&mut self, run: &Run) -> Result<(), AllocError>
-        requires { Fits (with_run run.now self.old) }
-        ensures ok { OnOk result (self.new ≡ with_run run.now self.old) }
+    /// Adds lines of a label set, or lines with an error. Takes memory for a label set that is new alone; refused, the partial
+    /// stays as it was.
+    pub fn add(&mut self, labels: &Option<Labels>, volume: Volume) -> Result<(), AllocError>
+        requires { Fits (with_volume labels.now volume self.old) }
+        ensures ok { OnOk result (self.new ≡ with_volume labels.now volume self.old) }
         ensures err { OnErr result (self.new ≡ self.old) }
-        ensures known { HasAll self.old.totals (with_run run.now self.old).totals → IsOk result }
-        ensures one_more { OnOk result (IsOneMore run.now self.old self.new) }
+        ensures known { HasAll self.old.totals (with_volume labels.now volume self.old).totals → IsOk result }
+        ensures one_more { OnOk result (IsOneMore (record { labels = labels.now; volume = volume }) self.old self.new) }
     {
-        let Some(labels) = &run.labels else {
-            self.errors += run.volume.count;
+        let Some(own) = labels else {
+            self.errors += volume.count;
             return Ok(());
         };
-        self.totals.add(labels, run.volume)
+        self.totals.add(own, volume)
     }
 
     // Like `add`, with a run that is owned.
@@ -61,28 +64,32 @@ impl Partial {
         ensures ok { OnOk result (self.new ≡ with_run run self.old) }
         ensures err { OnErr result (self.new ≡ self.old) }
     {
-        let Run { labels, volume } = run;
+        let Run {
+            labels,
+            volume: lines,
+        } = run;
         let Some(labels) = labels else {
-            self.errors += volume.count;
+            self.errors += lines.count;
             return Ok(());
         };
-        self.totals.add_owned(labels, volume)
+        self.totals.add_owned(labels, lines)
     }
 
-    /// Takes a run out, if the partial has at least that, and says whether it has; else nothing changes. Takes no memory.
-    pub fn take_out(&mut self, run: &Run) -> bool
-        ensures there { result ≡ has_run run.now self.old }
-        ensures left { self.new ≡ (if has_run run.now self.old then without_run run.now self.old else self.old) }
-        ensures one_less { IsOneLess run.now self.old self.new }
+    /// Takes lines of a label set out, or lines with an error, if the partial has at least that, and says whether it has; else
+    /// nothing changes. Takes no memory.
+    pub fn take_out(&mut self, labels: &Option<Labels>, volume: Volume) -> bool
+        ensures there { result ≡ has_at_least labels.now volume self.old }
+        ensures left { self.new ≡ (if has_at_least labels.now volume self.old then without_volume labels.now volume self.old else self.old) }
+        ensures one_less { IsOneLess (record { labels = labels.now; volume = volume }) self.old self.new }
     {
-        let Some(labels) = &run.labels else {
-            if self.errors < run.volume.count {
+        let Some(own) = labels else {
+            if self.errors < volume.count {
                 return false;
             }
-            self.errors -= run.volume.count;
+            self.errors -= volume.count;
             return true;
         };
-        self.totals.take_out(labels, run.volume)
+        self.totals.take_out(own, volume)
     }
 }
 

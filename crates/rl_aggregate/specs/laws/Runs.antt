@@ -233,6 +233,7 @@ module _ (runs : Entry → List Run) where
 line_of : (stages : List Stage) (e : Entry) → AllByRecursion HasLine (runs_of stages e.labels e.line)
 line_of stages e = elim (run stages e.line e.labels) as (λ o. AllByRecursion HasLine (map (λ labels. line_run labels (length e.line)) (option_to_list o))) [ None ↦ tt | Some labels ↦ (omega arith, tt) ]
 
+-- each of them has a line
 pub entry_lines : (stages : List Stage) (entries : List Entry) → AllByRecursion HasLine (entry_runs stages entries)
 entry_lines stages entries = all_lines (λ e. runs_of stages e.labels e.line) (line_of stages) entries
 

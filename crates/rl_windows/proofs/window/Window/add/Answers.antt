@@ -1,0 +1,25 @@
+-- An element that is needed comes.
+use Rattle.std.proofs.Common.{◌+◌, ◌≤◌, ◌∷◌, sym, ap, subst, ◌∙◌, arith}
+use Rattle.rl_windows.specs.Windows.{count_of, StandsFor}
+use Rattle.rl_windows.specs.laws.Alike.{count_of-added}
+use Rattle.rl_windows.proofs.Standing.{comes, window_of}
+use Rattle.rl_windows.proofs.window.Window.add.Goals as goal
+
+pub invariant_of-self-2 : goal.invariant_of-self-2
+invariant_of-self-2 c =
+    let e = c.args.element.now in
+    let counted = c.self.invariant.counted in
+    let room = subst (λ w. count_of w.buckets + e.volume.count ≤ w.most) (sym c.self.view_is) c.requires.room in
+    record {
+      range = c.self.invariant.range;
+      sum = c.in_ok-add_to.ensures.sum;
+      counted = omega (arith, counted, ap (λ b. count_of b) c.in_ok-add_to.ensures.ok, count_of-added c.self.inside.buckets e.stamp e.volume);
+      room = omega (arith, counted, room);
+      few = c.self.invariant.few;
+    }
+
+pub returns-clause-stands : goal.returns-clause-stands
+returns-clause-stands c = λ es stands.
+    let w = c.self.inside in
+    let e = c.args.element.now in
+    subst (λ b. StandsFor (window_of w.seconds w.moment w.most b) (e ∷ es)) (sym c.in_ok-add_to.ensures.ok) (comes w.seconds w.moment w.most w.buckets e (sym c.is_needed.ensures ∙ c.if-not-is_needed.false) c.requires.short es (subst (λ view. StandsFor view es) (sym c.self.view_is) stands))

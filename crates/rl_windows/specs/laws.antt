@@ -1,0 +1,4 @@
+-- Laws and lemmas that the crates above rest on.
+pub mod Alike
+pub mod Stamps
+pub mod Sums
