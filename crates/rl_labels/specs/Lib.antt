@@ -19,4 +19,5 @@ pub mod Rising
 pub mod Routing
 pub mod Selects
 pub mod Short
+pub mod TimeRange
 pub mod laws

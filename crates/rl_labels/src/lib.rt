@@ -10,7 +10,7 @@
 //! - `short`: `ShortText`, which lies in the value itself where it is short.
 //! - `decimal`: rows of digits, and `Decimal`. `duration`: `Duration`. `size`: `Size`. `signed`: `Signed`, which labels' values are.
 //! - `sending`: built matchers may be sent to another thread.
-//! - `ns`: `Ns`, moments in nanoseconds, and `SECOND`.
+//! - `ns`: `Ns`, moments in nanoseconds, and `SECOND`. `time_range`: `TimeRange`, from one moment to another.
 //! - `limits`: `Limits`, made from numbers that are in their ranges.
 #![tactic(auto)]
 
@@ -31,6 +31,7 @@ pub mod sending;
 pub mod short;
 pub mod signed;
 pub mod size;
+pub mod time_range;
 
 pub use builder::LabelsBuilder;
 pub use covers::Covers;
@@ -46,3 +47,4 @@ pub use selector::SelectorCode;
 pub use short::ShortText;
 pub use signed::Signed;
 pub use size::{Size, SizeUnit};
+pub use time_range::TimeRange;

@@ -39,22 +39,22 @@ abbrev pub IsGrown : {A E : Type 0} → Result A E → Seen → ℕ → ℕ → 
 IsGrown (Ok _) old first next new = Grown old first next new
 IsGrown (Err _) old first next new = Grown old first (next + 1) new
 
--- calls that only read leave this
+-- what calls leave that only read
 pub record Reads (old new : ChunksView) : Type 0 where
   pub seen : Looked old.seen new.seen
   pub next : new.next ≡ old.next
 
--- puts under the numbers from the next one on, and below the end
+-- what puts under the numbers from the next one on, and below the end, leave
 pub record Puts (old : ChunksView) (end : ℕ) (new : ChunksView) : Type 0 where
   pub up : old.next ≤ new.next
   pub seen : Grown old.seen old.next end new.seen
 
--- up to the number that is next by now; one that was refused may have lost what that has
+-- where none was refused they end at the number that is next by now; one that was refused may have lost what that has
 abbrev pub ArePut : {A E : Type 0} → Result A E → ChunksView → ChunksView → Type 0
 ArePut (Ok _) old new = Puts old new.next new
 ArePut (Err _) old new = Puts old (new.next + 1) new
 
--- what chunks keep they keep: each number that was given has what it had
+-- what chunks kept they keep: each number that was given has what it had
 pub record Keeps (old new : ChunksView) : Type 0 where
   pub up : old.next ≤ new.next
   pub honest : new.seen.honest ≡ old.seen.honest

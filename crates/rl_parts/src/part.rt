@@ -9,7 +9,7 @@ use crate::stored::StoredEntry;
 use crate::visiting_lines::{visit_all, visit_written};
 use crate::visitor::Visitor;
 use rl_chunks::Store;
-use rl_labels::{Covers, Entry, Labels, Ns};
+use rl_labels::{Covers, Entry, Labels, Ns, TimeRange};
 use rl_plain::PlainList;
 use std::marker::Model;
 use std::snapshot::Snapshot;
@@ -165,22 +165,21 @@ impl Part {
         &self,
         chunks: &mut ChunkStore<S>,
         labels: &Labels,
-        from: Ns,
-        to: Ns,
+        range: TimeRange,
         visitor: &mut T,
     ) -> Result<(), ReadFault>
         requires { IsPart labels.now self.now }
         ensures reads { Reads chunks.old chunks.new }
         ensures counted { chunks.new.seen.faults ≡ after_read result chunks.old.seen.faults }
-        ensures unread { IsOutside from to self.now → chunks.new ≡ chunks.old }
-        ensures visited { IsOutside from to self.now → OnOk result (visitor.new ≡ fold T.visiting visitor.old (visited_in_range from to self.now.entries)) }
-        ensures piece { OnOk result (IsVisited T.visiting labels.now from to (self.now ∷ []) visitor.old visitor.new) }
-        ensures right { IsKept chunks.old labels.now self.now → chunks.old.seen.honest ≡ true → Right result (λ _. visitor.new ≡ fold T.visiting visitor.old (visited_in_range from to self.now.entries)) }
+        ensures unread { IsOutside range.from range.to self.now → chunks.new ≡ chunks.old }
+        ensures visited { IsOutside range.from range.to self.now → OnOk result (visitor.new ≡ fold T.visiting visitor.old (visited_in_range range.from range.to self.now.entries)) }
+        ensures piece { OnOk result (IsVisited T.visiting labels.now range.from range.to (self.now ∷ []) visitor.old visitor.new) }
+        ensures right { IsKept chunks.old labels.now self.now → chunks.old.seen.honest ≡ true → Right result (λ _. visitor.new ≡ fold T.visiting visitor.old (visited_in_range range.from range.to self.now.entries)) }
     {
         match &self.location {
-            Location::Here(entries) => visit_all(labels, entries.as_slice(), from, to, visitor)?,
+            Location::Here(entries) => visit_all(labels, entries.as_slice(), range, visitor)?,
             Location::InStore(written) => {
-                return visit_written(chunks, written, labels, from, to, visitor);
+                return visit_written(chunks, written, labels, range, visitor);
             }
         }
         Ok(())

@@ -1,5 +1,5 @@
 //! Whether a stream has an entry.
-ghost use Rattle.std.specs.Prelude.{◌≡◌, ◌<◌, ◌≤◌, ◌⊎◌, true, false, IsTrue, ◌↔◌, IfOk, Ok};
+ghost use Rattle.std.specs.Prelude.{◌≡◌, ◌<◌, ◌⊎◌, true, false, IsTrue, ◌↔◌, IfOk, Ok};
 ghost use Rattle.std.specs.Option.{unwrap_or};
 ghost use Rattle.std.specs.List.{AllByRecursion, Contains, flat_map};
 ghost use Rattle.rl_chunks.specs.EntryLines.{line_of};
@@ -18,7 +18,7 @@ use crate::part::{Part, Written};
 use crate::sealing::search;
 use crate::stored::StoredEntry;
 use rl_chunks::{Line, Store};
-use rl_labels::{Entry, Ns};
+use rl_labels::{Entry, Ns, TimeRange};
 
 // Whether entries in order have this one.
 pub(crate) fn has_entry(entries: &[StoredEntry], entry: &Entry) -> bool
@@ -60,14 +60,6 @@ pub(crate) fn is_above(sealed_to: Option<Ns>, timestamp: Ns) -> bool
     }
 }
 
-// Whether none of a written part's entries is in a range of time, both ends included.
-pub(crate) fn is_outside(written: &Written, from: Ns, to: Ns) -> bool
-    ensures out { result ≡ true → (written.now.last < from) ⊎ (to < written.now.first) }
-    ensures reaches { result ≡ false → (from ≤ written.now.last) × (written.now.first ≤ to) }
-{
-    written.last < from || to < written.first
-}
-
 // Whether the entry may be one of a written part's: the range of time has its timestamp, and one entry has its fingerprint.
 fn may_have(written: &Written, entry: &Entry) -> bool
     requires part { IsPart entry.now.labels (unwritten written.now.entries.value) }
@@ -76,7 +68,11 @@ fn may_have(written: &Written, entry: &Entry) -> bool
     ensures absent { result ≡ false → Contains written.now.entries.value entry.now → ⊥ }
     ensures reaches { result ≡ true → IsApart entry.now.timestamp entry.now.timestamp written.now.entries.value → ⊥ }
 {
-    if is_outside(written, entry.timestamp, entry.timestamp) {
+    let moment = TimeRange {
+        from: entry.timestamp,
+        to: entry.timestamp,
+    };
+    if moment.is_apart(written.first, written.last) {
         return false;
     }
     let fingerprint = fingerprint_of(entry.timestamp, entry.line.as_str());

@@ -13,7 +13,7 @@ use crate::stored::{StoredEntry, with_labels};
 use crate::visiting_lines::{visit_all, visit_parts};
 use crate::visitor::Visitor;
 use rl_chunks::Store;
-use rl_labels::{Covers, Entry, Labels, Ns};
+use rl_labels::{Covers, Entry, Labels, Ns, TimeRange};
 use rl_plain::{Shared, TryCopy};
 use std::alloc::{AllocError, Global};
 use std::marker::Model;
@@ -201,25 +201,24 @@ impl Stream {
         any_there(chunks, &self.parts, entry)
     }
 
-    /// Visits the entries of a range of time, both ends included, each once: part by part, and then the head. A part
+    /// Visits the entries of a range of time, each once: part by part, and then the head. A part
     /// that a store has is read only where its range of time reaches into the range.
     pub fn each<S: Store, T: Visitor>(
         &self,
         chunks: &mut ChunkStore<S>,
-        from: Ns,
-        to: Ns,
+        range: TimeRange,
         visitor: &mut T,
     ) -> Result<(), ReadFault>
         ensures reads { Reads chunks.old chunks.new }
         ensures counted { chunks.new.seen.faults ≡ after_read result chunks.old.seen.faults }
-        ensures unread { NoneReaches from to self.now → chunks.new ≡ chunks.old }
-        ensures visited { NoneReaches from to self.now → OnOk result (visitor.new ≡ fold T.visiting visitor.old (visited_in_range from to (entries_of self.now))) }
+        ensures unread { NoneReaches range.from range.to self.now → chunks.new ≡ chunks.old }
+        ensures visited { NoneReaches range.from range.to self.now → OnOk result (visitor.new ≡ fold T.visiting visitor.old (visited_in_range range.from range.to (entries_of self.now))) }
         // What is visited of a part that a store has follows from bytes with the digest, whatever the store does.
-        ensures pieces { OnOk result ((mid : T) × IsVisited T.visiting self.now.labels from to self.now.parts visitor.old mid × (visitor.new ≡ fold T.visiting mid (visited_in_range from to self.now.head))) }
-        ensures right { AreKept chunks.old self.now → chunks.old.seen.honest ≡ true → Right result (λ _. visitor.new ≡ fold T.visiting visitor.old (visited_in_range from to (entries_of self.now))) }
+        ensures pieces { OnOk result ((mid : T) × IsVisited T.visiting self.now.labels range.from range.to self.now.parts visitor.old mid × (visitor.new ≡ fold T.visiting mid (visited_in_range range.from range.to self.now.head))) }
+        ensures right { AreKept chunks.old self.now → chunks.old.seen.honest ≡ true → Right result (λ _. visitor.new ≡ fold T.visiting visitor.old (visited_in_range range.from range.to (entries_of self.now))) }
     {
-        visit_parts(chunks, &self.labels, &self.parts, from, to, visitor)?;
-        visit_all(&self.labels, &self.head, from, to, visitor)?;
+        visit_parts(chunks, &self.labels, &self.parts, range, visitor)?;
+        visit_all(&self.labels, &self.head, range, visitor)?;
         Ok(())
     }
 

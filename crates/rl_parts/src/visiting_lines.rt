@@ -1,5 +1,5 @@
 //! Lines of a range of time, visited.
-ghost use Rattle.std.specs.Prelude.{◌≡◌, nat_le, ◌&&◌, ◌⊎◌, true, List, [], ◌∷◌, map, OnOk};
+ghost use Rattle.std.specs.Prelude.{◌≡◌, ◌⊎◌, true, List, [], ◌∷◌, map, OnOk};
 ghost use Rattle.std.specs.List.{AllByRecursion, flat_map, fold};
 ghost use Rattle.rl_parts.specs.StreamParts.{IsPart, unwritten};
 ghost use Rattle.rl_parts.specs.PartState.{IsRange, part_at};
@@ -13,31 +13,22 @@ ghost use Rattle.rl_chunks.specs.declared.line.Line.{Line};
 use crate::chunk_store::ChunkStore;
 use crate::fault::ReadFault;
 use crate::part::{Part, Written};
-use crate::searching::is_outside;
 use crate::visitor::Visitor;
 use rl_chunks::{AsLine, Store};
-use rl_labels::{Labels, Ns};
+use rl_labels::{Labels, TimeRange};
 use std::alloc::AllocError;
-
-// Whether a timestamp is in a range, both ends included.
-fn is_within(from: Ns, to: Ns, timestamp: Ns) -> bool
-    ensures { result ≡ (nat_le from timestamp && nat_le timestamp to) }
-{
-    from <= timestamp && timestamp <= to
-}
 
 // Visits a line, if it is in the range.
 fn visit_line<L: AsLine, T: Visitor>(
     labels: &Labels,
     line: &L,
-    from: Ns,
-    to: Ns,
+    range: TimeRange,
     visitor: &mut T,
 ) -> Result<(), AllocError>
-    ensures { OnOk result (visitor.new ≡ fold T.visiting visitor.old (lines_in_range labels.now from to (L.line line.now ∷ []))) }
+    ensures { OnOk result (visitor.new ≡ fold T.visiting visitor.old (lines_in_range labels.now range.from range.to (L.line line.now ∷ []))) }
 {
     let timestamp = line.timestamp();
-    if is_within(from, to, timestamp) {
+    if range.contains(timestamp) {
         return visitor.visit(labels, timestamp, line.text());
     }
     Ok(())
@@ -47,14 +38,13 @@ fn visit_line<L: AsLine, T: Visitor>(
 pub(crate) fn visit_all<L: AsLine, T: Visitor>(
     labels: &Labels,
     lines: &[L],
-    from: Ns,
-    to: Ns,
+    range: TimeRange,
     visitor: &mut T,
 ) -> Result<(), AllocError>
-    ensures { OnOk result (visitor.new ≡ fold T.visiting visitor.old (lines_in_range labels.now from to (map L.line lines.now))) }
+    ensures { OnOk result (visitor.new ≡ fold T.visiting visitor.old (lines_in_range labels.now range.from range.to (map L.line lines.now))) }
 {
     for line in lines {
-        visit_line(labels, line, from, to, visitor)?;
+        visit_line(labels, line, range, visitor)?;
     }
     Ok(())
 }
@@ -64,24 +54,23 @@ pub(crate) fn visit_written<S: Store, T: Visitor>(
     chunks: &mut ChunkStore<S>,
     written: &Written,
     labels: &Labels,
-    from: Ns,
-    to: Ns,
+    range: TimeRange,
     visitor: &mut T,
 ) -> Result<(), ReadFault>
     requires part { IsPart labels.now (unwritten written.now.entries.value) }
     requires range { IsRange written.now.entries.value written.now.first written.now.last }
     ensures reads { Reads chunks.old chunks.new }
     ensures counted { chunks.new.seen.faults ≡ after_read result chunks.old.seen.faults }
-    ensures unread { IsApart from to written.now.entries.value → chunks.new ≡ chunks.old }
-    ensures visited { IsApart from to written.now.entries.value → OnOk result (visitor.new ≡ fold T.visiting visitor.old (visited_in_range from to written.now.entries.value)) }
-    ensures piece { OnOk result ((piece : List (LabelSet × Line)) × ((IsApart from to written.now.entries.value × (piece ≡ [])) ⊎ ((chunk : Chunk) × IsReadAs written.now.digest chunk × (piece ≡ lines_in_range labels.now from to chunk.lines))) × (visitor.new ≡ fold T.visiting visitor.old piece)) }
-    ensures right { IsKept chunks.old labels.now (part_at (InStore written.now)) → chunks.old.seen.honest ≡ true → Right result (λ _. visitor.new ≡ fold T.visiting visitor.old (visited_in_range from to written.now.entries.value)) }
+    ensures unread { IsApart range.from range.to written.now.entries.value → chunks.new ≡ chunks.old }
+    ensures visited { IsApart range.from range.to written.now.entries.value → OnOk result (visitor.new ≡ fold T.visiting visitor.old (visited_in_range range.from range.to written.now.entries.value)) }
+    ensures piece { OnOk result ((piece : List (LabelSet × Line)) × ((IsApart range.from range.to written.now.entries.value × (piece ≡ [])) ⊎ ((chunk : Chunk) × IsReadAs written.now.digest chunk × (piece ≡ lines_in_range labels.now range.from range.to chunk.lines))) × (visitor.new ≡ fold T.visiting visitor.old piece)) }
+    ensures right { IsKept chunks.old labels.now (part_at (InStore written.now)) → chunks.old.seen.honest ≡ true → Right result (λ _. visitor.new ≡ fold T.visiting visitor.old (visited_in_range range.from range.to written.now.entries.value)) }
 {
-    if is_outside(written, from, to) {
+    if range.is_apart(written.first, written.last) {
         return Ok(());
     }
     let chunk = chunks.fetch(written.number, &written.digest)?;
-    visit_all(labels, chunk.lines.as_slice(), from, to, visitor)?;
+    visit_all(labels, chunk.lines.as_slice(), range, visitor)?;
     Ok(())
 }
 
@@ -90,20 +79,19 @@ pub(crate) fn visit_parts<S: Store, T: Visitor>(
     chunks: &mut ChunkStore<S>,
     labels: &Labels,
     parts: &[Part],
-    from: Ns,
-    to: Ns,
+    range: TimeRange,
     visitor: &mut T,
 ) -> Result<(), ReadFault>
     requires { AllByRecursion (IsPart labels.now) parts.now }
     ensures reads { Reads chunks.old chunks.new }
     ensures counted { chunks.new.seen.faults ≡ after_read result chunks.old.seen.faults }
-    ensures unread { AllByRecursion (IsOutside from to) parts.now → chunks.new ≡ chunks.old }
-    ensures visited { AllByRecursion (IsOutside from to) parts.now → OnOk result (visitor.new ≡ fold T.visiting visitor.old (visited_in_range from to (flat_map (λ part. part.entries) parts.now))) }
-    ensures pieces { OnOk result (IsVisited T.visiting labels.now from to parts.now visitor.old visitor.new) }
-    ensures right { AllByRecursion (IsKept chunks.old labels.now) parts.now → chunks.old.seen.honest ≡ true → Right result (λ _. visitor.new ≡ fold T.visiting visitor.old (visited_in_range from to (flat_map (λ part. part.entries) parts.now))) }
+    ensures unread { AllByRecursion (IsOutside range.from range.to) parts.now → chunks.new ≡ chunks.old }
+    ensures visited { AllByRecursion (IsOutside range.from range.to) parts.now → OnOk result (visitor.new ≡ fold T.visiting visitor.old (visited_in_range range.from range.to (flat_map (λ part. part.entries) parts.now))) }
+    ensures pieces { OnOk result (IsVisited T.visiting labels.now range.from range.to parts.now visitor.old visitor.new) }
+    ensures right { AllByRecursion (IsKept chunks.old labels.now) parts.now → chunks.old.seen.honest ≡ true → Right result (λ _. visitor.new ≡ fold T.visiting visitor.old (visited_in_range range.from range.to (flat_map (λ part. part.entries) parts.now))) }
 {
     for part in parts {
-        part.visit_lines(chunks, labels, from, to, visitor)?;
+        part.visit_lines(chunks, labels, range, visitor)?;
     }
     Ok(())
 }

@@ -17,7 +17,7 @@ use crate::step::ShardFault;
 use rl_aggregate::{Counter, Partial, pipelines_of};
 use rl_chunks::Store;
 use rl_deletes::Requests;
-use rl_labels::{Ns, SECOND};
+use rl_labels::{Ns, SECOND, TimeRange};
 use rl_plain::{PlainList, Same, Shared, TryCopy};
 use rl_query::{LogRange, Term};
 use rl_streams::Streams;
@@ -136,7 +136,8 @@ fn add_up<S: Store>(
         lasts: to.get() - t.get(),
     };
     let start = start_of(first.range.seconds, t);
-    streams.each(&first.range.selector.matchers, start, to, &mut lines)?;
+    let range = TimeRange { from: start, to };
+    streams.each(&first.range.selector.matchers, range, &mut lines)?;
     if lines.counter.is_over() {
         // More lines, or longer ones, than entries are held: the store lies.
         return Err(ShardFault::Damaged);

@@ -11,7 +11,7 @@ use Rattle.rl_streams.specs.declared.cursor.Cursor.{Cursor}
 
 -- the lines that wait, and what is asked of the streams that follow
 abbrev pub left_in : {S : Type 0} → Cursor S → List (LabelSet × Line)
-left_in cursor = left cursor.selector.now cursor.from cursor.to (order_of cursor.streams.now) cursor.position cursor.lines
+left_in cursor = left cursor.selector.now cursor.range.from cursor.range.to (order_of cursor.streams.now) cursor.position cursor.lines
 
 -- the streams from one index up to another were asked in turn, over any store, and their lines wait after the others
 pub record AreAsked (rows : List Row) (selector : List Matcher) (from to before : ℕ) (waiting : List (LabelSet × Line)) (after : ℕ) (now : List (LabelSet × Line)) : Type 0 where

@@ -42,17 +42,18 @@ IsAnswered (Err (TooFarBehind _)) Found Missing is_full = ⊥
 abbrev pub IsAnsweredUnread : Result Bool AddRefusal → Bool → Bool → Type 0
 IsAnsweredUnread result held is_full = MatchBool held (result ≡ Ok false) (MatchBool is_full (result ≡ Err Full) ((result ≡ Ok true) ⊎ (result ≡ Err (Read reads.Memory))))
 
--- what becomes of an entry that is not too old, over any store
-abbrev pub IsSettled : {A : Type 0} → Result A AddRefusal → StreamsView → Entry → StreamsView → Type 0
-IsSettled (Ok _) old entry new = (IsFound old.rows entry × Looks old new) ⊎ (IsMissing old.rows entry × ((length (joined old.rows) < old.limits.entries) × Takes old entry new))
+-- what becomes of an entry that is not too old, over any store: it was missing and is held now, or it was held
+abbrev pub IsSettled : Result Bool AddRefusal → StreamsView → Entry → StreamsView → Type 0
+IsSettled (Ok true) old entry new = IsMissing old.rows entry × ((length (joined old.rows) < old.limits.entries) × Takes old entry new)
+IsSettled (Ok false) old entry new = IsFound old.rows entry × Looks old new
 IsSettled (Err Full) old entry new = IsMissing old.rows entry × ((old.limits.entries ≤ length (joined old.rows)) × Looks old new)
 IsSettled (Err (Read _)) old entry new = Looks old new
 IsSettled (Err (Expired _)) old entry new = ⊥
 IsSettled (Err (TooFarBehind _)) old entry new = ⊥
 
 -- the same where no written part reaches it: exactly, and the store is not asked
-abbrev pub IsSettledUnread : Result (Unit {0}) AddRefusal → StreamsView → Entry → StreamsView → Type 0
+abbrev pub IsSettledUnread : Result Bool AddRefusal → StreamsView → Entry → StreamsView → Type 0
 IsSettledUnread result old entry new =
-    MatchBool (contains_key old.held entry) ((result ≡ Ok tt) × (new ≡ old))
+    MatchBool (contains_key old.held entry) ((result ≡ Ok false) × (new ≡ old))
     (MatchBool (nat_le old.limits.entries (length (joined old.rows))) ((result ≡ Err Full) × (new ≡ old))
-    (MatchResult result (λ _. Takes old entry new × (new.seen ≡ old.seen)) (λ refusal. (refusal ≡ Read reads.Memory) × (new ≡ old))))
+    (MatchResult result (λ taken. (taken ≡ true) × (Takes old entry new × (new.seen ≡ old.seen))) (λ refusal. (refusal ≡ Read reads.Memory) × (new ≡ old))))

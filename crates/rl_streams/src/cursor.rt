@@ -8,7 +8,7 @@ ghost use Rattle.rl_streams.specs.StreamsState.{order_of, Looks};
 use crate::lines::WaitingLines;
 use crate::streams::Streams;
 use rl_chunks::{Line, Store};
-use rl_labels::{Labels, Ns, SelectorCode};
+use rl_labels::{Labels, SelectorCode, TimeRange};
 use rl_parts::ReadFault;
 use rl_plain::Shared;
 
@@ -17,8 +17,7 @@ use rl_plain::Shared;
 pub struct Cursor<'a, S: Store> {
     streams: &'a mut Streams<S>,
     selector: &'a SelectorCode,
-    from: Ns,
-    to: Ns,
+    range: TimeRange,
     // Where the next stream stands.
     position: usize,
     // Lines of the streams before it, which wait here.
@@ -29,23 +28,22 @@ pub struct Cursor<'a, S: Store> {
 fn fill<S: Store>(
     streams: &mut Streams<S>,
     selector: &SelectorCode,
-    from: Ns,
-    to: Ns,
+    range: TimeRange,
     position: &mut usize,
     lines: &mut WaitingLines,
 ) -> Result<(), ReadFault>
     ensures same { Looks streams.old streams.new }
     ensures counted { streams.new.seen.faults ≡ after_read result streams.old.seen.faults }
     ensures undamaged { streams.old.seen.honest ≡ true → Right result (λ _. Unit {0}) }
-    ensures left { streams.old.seen.honest ≡ true → left selector.now from to (order_of streams.new) position.new lines.new ≡ left selector.now from to (order_of streams.old) position.old lines.old }
-    ensures asked { AreAsked streams.old.rows selector.now from to position.old lines.old position.new lines.new }
+    ensures left { streams.old.seen.honest ≡ true → left selector.now range.from range.to (order_of streams.new) position.new lines.new ≡ left selector.now range.from range.to (order_of streams.old) position.old lines.old }
+    ensures asked { AreAsked streams.old.rows selector.now range.from range.to position.old lines.old position.new lines.new }
     ensures all { OnOk result (lines.new ≡ [] → length (order_of streams.new) ≤ position.new) }
 {
     for next in *position..streams.stream_count() {
         if !lines.is_empty() {
             return Ok(());
         }
-        if let Err(fault) = streams.visit_lines(next, selector, from, to, lines) {
+        if let Err(fault) = streams.visit_lines(next, selector, range, lines) {
             lines.clear();
             return Err(fault);
         }
@@ -61,21 +59,19 @@ impl<'a, S: Store> Cursor<'a, S> {
     pub(crate) fn new(
         streams: &'a mut Streams<S>,
         selector: &'a SelectorCode,
-        from: Ns,
-        to: Ns,
+        range: TimeRange,
         lines: WaitingLines,
     ) -> Self
         ensures same_reference { result.streams.ghost_name ≡ streams.entry.ghost_name }
         ensures streams { result.streams.now ≡ streams.old }
-        ensures asks { (result.selector.now ≡ selector.now) × (result.from ≡ from) × (result.to ≡ to) }
+        ensures asks { (result.selector.now ≡ selector.now) × (result.range ≡ range) }
         ensures position { result.position ≡ 0 }
         ensures lines { result.lines ≡ lines }
     {
         Cursor {
             streams,
             selector,
-            from,
-            to,
+            range,
             position: 0,
             lines,
         }
@@ -85,24 +81,17 @@ impl<'a, S: Store> Cursor<'a, S> {
     /// read to its end is asked again.
     pub fn next(&mut self) -> Result<Option<(Shared<Labels>, Line)>, ReadFault>
         ensures same_reference { self.new.streams.ghost_name ≡ self.old.streams.ghost_name }
-        ensures asks { (self.new.selector.now ≡ self.old.selector.now) × (self.new.from ≡ self.old.from) × (self.new.to ≡ self.old.to) }
+        ensures asks { (self.new.selector.now ≡ self.old.selector.now) × (self.new.range ≡ self.old.range) }
         ensures same { Looks self.old.streams.now self.new.streams.now }
         ensures counted { self.new.streams.now.seen.faults ≡ after_read result self.old.streams.now.seen.faults }
         // What is given of a part that the store has follows from bytes with its digest, over any store.
-        ensures read { IfOk result (λ found. IsGiven self.old.streams.now.rows self.old.selector.now self.old.from self.old.to self.old.position self.old.lines found self.new.position self.new.lines) }
-        ensures again { OnErr result (AreAsked self.old.streams.now.rows self.old.selector.now self.old.from self.old.to self.old.position self.old.lines self.new.position self.new.lines) }
+        ensures read { IfOk result (λ found. IsGiven self.old.streams.now.rows self.old.selector.now self.old.range.from self.old.range.to self.old.position self.old.lines found self.new.position self.new.lines) }
+        ensures again { OnErr result (AreAsked self.old.streams.now.rows self.old.selector.now self.old.range.from self.old.range.to self.old.position self.old.lines self.new.position self.new.lines) }
         ensures right { self.old.streams.now.seen.honest ≡ true → Right result (λ found. MatchOption found (left_in self.old ≡ []) (λ line. left_in self.old ≡ line ∷ left_in self.new)) }
         ensures refused { OnErr result (self.old.streams.now.seen.honest ≡ true → left_in self.new ≡ left_in self.old) }
     {
         let (position, lines) = (&mut self.position, &mut self.lines);
-        fill(
-            self.streams,
-            self.selector,
-            self.from,
-            self.to,
-            position,
-            lines,
-        )?;
+        fill(self.streams, self.selector, self.range, position, lines)?;
         Ok(self.lines.pop())
     }
 }

@@ -14,7 +14,7 @@ use crate::adding::position_of;
 use crate::selections::Selection;
 use indexmap::IndexMap;
 use rl_chunks::Store;
-use rl_labels::{Entry, Labels, Ns, SelectorCode};
+use rl_labels::{Entry, Labels, SelectorCode, TimeRange};
 use rl_parts::{ChunkStore, ReadFault, Stream, Visitor};
 
 // Whether a stream holds the entry. Where no stream has its labels, nothing is read.
@@ -44,19 +44,18 @@ pub(crate) fn each_selected<S: Store, T: Visitor>(
     chunks: &mut ChunkStore<S>,
     stream: &Stream,
     selector: &SelectorCode,
-    from: Ns,
-    to: Ns,
+    range: TimeRange,
     visitor: &mut T,
 ) -> Result<(), ReadFault>
     ensures reads { Reads chunks.old chunks.new }
     ensures counted { chunks.new.seen.faults ≡ after_read result chunks.old.seen.faults }
-    ensures lines { OnOk result (IsVisitedOf T.visiting selector.now from to (stream.now.labels, stream.now) visitor.old visitor.new) }
-    ensures right { AreKept chunks.old stream.now → chunks.old.seen.honest ≡ true → Right result (λ _. visitor.new ≡ fold T.visiting visitor.old (visited_of selector.now from to stream.now.labels stream.now)) }
+    ensures lines { OnOk result (IsVisitedOf T.visiting selector.now range.from range.to (stream.now.labels, stream.now) visitor.old visitor.new) }
+    ensures right { AreKept chunks.old stream.now → chunks.old.seen.honest ≡ true → Right result (λ _. visitor.new ≡ fold T.visiting visitor.old (visited_of selector.now range.from range.to stream.now.labels stream.now)) }
 {
     if !selector.accepts(stream.labels())? {
         return Ok(());
     }
-    stream.each(chunks, from, to, visitor)
+    stream.each(chunks, range, visitor)
 }
 
 // Visits the lines in the range of the streams of a selection, of which all were asked. The others are not read.
@@ -64,8 +63,7 @@ pub(crate) fn each<S: Store, T: Visitor>(
     chunks: &mut ChunkStore<S>,
     streams: &IndexMap<Labels, Stream>,
     selection: &Selection,
-    from: Ns,
-    to: Ns,
+    range: TimeRange,
     visitor: &mut T,
 ) -> Result<(), ReadFault>
     requires own { AllByRecursion IsOwn streams.now.entries }
@@ -73,11 +71,11 @@ pub(crate) fn each<S: Store, T: Visitor>(
     ensures reads { Reads chunks.old chunks.new }
     ensures counted { chunks.new.seen.faults ≡ after_read result chunks.old.seen.faults }
     ensures unread { AllByRecursion (λ row. selects selection.now.selector row.0 ≡ false) streams.now.entries → chunks.new ≡ chunks.old }
-    ensures visited { OnOk result (AreVisited T.visiting selection.now.selector from to streams.now.entries visitor.old visitor.new) }
-    ensures right { AreStreams streams.now.entries chunks.old → chunks.old.seen.honest ≡ true → Right result (λ _. visitor.new ≡ fold T.visiting visitor.old (visited_by selection.now.selector from to streams.now.entries)) }
+    ensures visited { OnOk result (AreVisited T.visiting selection.now.selector range.from range.to streams.now.entries visitor.old visitor.new) }
+    ensures right { AreStreams streams.now.entries chunks.old → chunks.old.seen.honest ≡ true → Right result (λ _. visitor.new ≡ fold T.visiting visitor.old (visited_by selection.now.selector range.from range.to streams.now.entries)) }
 {
     for position in selection.positions() {
-        streams[*position].each(chunks, from, to, visitor)?;
+        streams[*position].each(chunks, range, visitor)?;
     }
     Ok(())
 }

@@ -10,7 +10,7 @@ use crate::selections::Selections;
 use crate::{cutting, flushing, reading, rewriting};
 use indexmap::IndexMap;
 use rl_chunks::Store;
-use rl_labels::{Covers, Entry, Labels, Limits, Matcher, Ns, SelectorCode};
+use rl_labels::{Covers, Entry, Labels, Limits, Matcher, Ns, SelectorCode, TimeRange};
 use rl_parts::{ChunkStore, FlushFault, ReadFault, RewriteFault, Stream, Visitor};
 use rl_plain::{PlainList, Shared};
 use std::alloc::{AllocError, Global};
@@ -177,14 +177,13 @@ impl<S: Store> Streams<S> {
         reading::holds(&mut self.chunks, &self.streams, entry)
     }
 
-    /// Visits the lines from one moment to another, both included, of the streams that the selector selects: each once,
-    /// one stream after the other. A stream that is not selected is asked for its labels alone, and once for a selector while
-    /// no more than 1,024 are asked for. After a refusal some lines may have been visited.
+    /// Visits the lines in a range of time of the streams that the selector selects: each once, one stream after the other.
+    /// A stream that is not selected is asked for its labels alone, and once for a selector while no more than 1,024 are
+    /// asked for. After a refusal some lines may have been visited.
     pub fn each<T: Visitor>(
         &mut self,
         selector: &PlainList<Matcher>,
-        from: Ns,
-        to: Ns,
+        range: TimeRange,
         visitor: &mut T,
     ) -> Result<(), ReadFault>
         ensures same { Looks self.old self.new }
@@ -198,19 +197,19 @@ impl<S: Store> Streams<S> {
         let position = self.selections.select(alloc, &self.streams, selector)?;
         let selection = self.selections.at(position);
         let (chunks, streams) = (&mut self.chunks, &self.streams);
-        reading::each(chunks, streams, selection, from, to, visitor)
+        reading::each(chunks, streams, selection, range, visitor)
     }
 
-    /// A cursor over the lines from one moment to another, both included, of the streams that the selector selects. Over an
-    /// honest store it gives each once.
-    pub fn cursor<'a>(&'a mut self, selector: &'a SelectorCode, from: Ns, to: Ns) -> Cursor<'a, S>
+    /// A cursor over the lines in a range of time of the streams that the selector selects. Over an honest store it gives
+    /// each once.
+    pub fn cursor<'a>(&'a mut self, selector: &'a SelectorCode, range: TimeRange) -> Cursor<'a, S>
         ensures same_reference { result.streams.ghost_name ≡ self.entry.ghost_name }
         ensures streams { result.streams.now ≡ self.old }
-        ensures asks { (result.selector.now ≡ selector.now) × (result.from ≡ from) × (result.to ≡ to) }
-        ensures left { self.old.seen.honest ≡ true → AreVisitedOnce selector.now from to self.old.held (λ lines line. lines ++ line ∷ []) [] (left_in result) }
+        ensures asks { (result.selector.now ≡ selector.now) × (result.range ≡ range) }
+        ensures left { self.old.seen.honest ≡ true → AreVisitedOnce selector.now range.from range.to self.old.held (λ lines line. lines ++ line ∷ []) [] (left_in result) }
     {
         let lines = WaitingLines::new(*self.chunks.allocator());
-        Cursor::new(self, selector, from, to, lines)
+        Cursor::new(self, selector, range, lines)
     }
 
     // How many streams there are.
@@ -225,17 +224,16 @@ impl<S: Store> Streams<S> {
         &mut self,
         position: usize,
         selector: &SelectorCode,
-        from: Ns,
-        to: Ns,
+        range: TimeRange,
         lines: &mut WaitingLines,
     ) -> Result<(), ReadFault>
         requires { position < length (order_of self.old) }
         ensures same { Looks self.old self.new }
         ensures counted { self.new.seen.faults ≡ after_read result self.old.seen.faults }
-        ensures asked { OnOk result (AreAsked self.old.rows selector.now from to position lines.old (position + 1) lines.new) }
-        ensures right { self.old.seen.honest ≡ true → Right result (λ _. lines.new ≡ lines.old ++ visited_at selector.now from to (order_of self.old) position) }
+        ensures asked { OnOk result (AreAsked self.old.rows selector.now range.from range.to position lines.old (position + 1) lines.new) }
+        ensures right { self.old.seen.honest ≡ true → Right result (λ _. lines.new ≡ lines.old ++ visited_at selector.now range.from range.to (order_of self.old) position) }
     {
         let (chunks, stream) = (&mut self.chunks, &self.streams[position]);
-        reading::each_selected(chunks, stream, selector, from, to, lines)
+        reading::each_selected(chunks, stream, selector, range, lines)
     }
 }

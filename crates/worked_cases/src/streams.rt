@@ -8,7 +8,7 @@ use crate::output::push_value;
 use crate::streams_random::random;
 use crate::trouble::Trouble;
 use rl_chunks::{MemStore, Spoil, SpoilStore};
-use rl_labels::{Labels, MatchOp, Matcher, Ns, SelectorCode};
+use rl_labels::{Labels, MatchOp, Matcher, Ns, SelectorCode, TimeRange};
 use rl_parts::Visitor;
 use rl_plain::{PlainList, PlainText, Shared};
 use rl_streams::{Cursor, Streams};
@@ -104,7 +104,10 @@ fn call(
 fn push(output: &mut String, streams: &mut Asked, horizon: Ns, entry: &str) -> Result<(), Trouble> {
     let alloc = *output.allocator();
     let entry = entry_in(alloc, entry)?;
-    push_ended(output, &streams.add(Shared::new(alloc, entry)?, horizon))
+    match streams.add(Shared::new(alloc, entry)?, horizon) {
+        Ok(_) => push_value(output, &"ok"),
+        Err(refusal) => push_value(output, &refusal),
+    }
 }
 
 fn holds(output: &mut String, streams: &mut Asked, entry: &str) -> Result<(), Trouble> {
@@ -168,11 +171,14 @@ fn push_line(
 fn each(output: &mut String, streams: &mut Asked, rest: &str) -> Result<(), Trouble> {
     let (labels, range) = words_of(rest);
     let (from, to) = words_of(range);
-    let (from, to) = (moment_in(from)?, moment_in(to)?);
+    let range = TimeRange {
+        from: moment_in(from)?,
+        to: moment_in(to)?,
+    };
     let mut visited = Visited {
         text: String::new(*output.allocator()),
     };
-    let ended = visit_lines(&mut visited, streams, labels, from, to);
+    let ended = visit_lines(&mut visited, streams, labels, range);
     output.push_str(visited.text.as_str())?;
     ended
 }
@@ -181,14 +187,21 @@ fn visit_lines(
     visited: &mut Visited,
     streams: &mut Asked,
     labels: &str,
-    from: Ns,
-    to: Ns,
+    range: TimeRange,
 ) -> Result<(), Trouble> {
     let selector = selector_in(*visited.text.allocator(), labels)?;
-    match streams.each(&selector, from, to, visited) {
+    match streams.each(&selector, range, visited) {
         Ok(()) => Ok(()),
         Err(fault) => push_value(&mut visited.text, &fault),
     }
+}
+
+/// More time than the lines of a case have.
+pub(crate) fn all_time() -> Result<TimeRange, Trouble> {
+    Ok(TimeRange {
+        from: moment_in("0")?,
+        to: moment_in("9000000000s")?,
+    })
 }
 
 // The lines that a cursor gives, one by one. After a fault it is asked again, at most a hundred times in all.
@@ -196,8 +209,7 @@ fn walk(output: &mut String, streams: &mut Asked, rest: &str) -> Result<(), Trou
     let alloc = *output.allocator();
     let selector = selector_in(alloc, rest)?;
     let selector = SelectorCode::build(alloc, selector.as_slice()).or(Err(Trouble::BadInput))?;
-    let (from, to) = (moment_in("0")?, moment_in("9000000000s")?);
-    push_walk(output, &mut streams.cursor(&selector, from, to))
+    push_walk(output, &mut streams.cursor(&selector, all_time()?))
 }
 
 fn push_walk(output: &mut String, cursor: &mut Walker<'_>) -> Result<(), Trouble> {

@@ -1,7 +1,7 @@
 //! Streams, and one plain list that is asked the same questions.
 use crate::chunks::Draws;
 use crate::given::{entry_in, moment_in};
-use crate::streams::{Asked, Visited, opened, selector_in};
+use crate::streams::{Asked, Visited, all_time, opened, selector_in};
 use crate::trouble::Trouble;
 use rl_labels::Entry;
 use rl_plain::Shared;
@@ -81,9 +81,10 @@ fn asked(
     Ok((is_held, word_of(added)))
 }
 
-fn word_of(added: Result<(), AddRefusal>) -> &'static str {
+fn word_of(added: Result<bool, AddRefusal>) -> &'static str {
     match added {
-        Ok(()) => "ok",
+        Ok(true) => "taken",
+        Ok(false) => "held",
         Err(AddRefusal::TooFarBehind { newest: _ }) => "behind",
         Err(AddRefusal::Full) => "full",
         Err(_) => "failed",
@@ -102,13 +103,13 @@ fn plain(held: &mut Vec<Drawn>, drawn: Drawn) -> Result<&'static str, AllocError
         return Ok("behind");
     }
     if held.contains(&drawn) {
-        return Ok("ok");
+        return Ok("held");
     }
     if held.len() >= 600 {
         return Ok("full");
     }
     held.push(drawn)?;
-    Ok("ok")
+    Ok("taken")
 }
 
 // Whether streams have the number of lines that the plain list has, and each of its lines, of which no two are equal.
@@ -125,10 +126,9 @@ fn hold_the_same(alloc: Global, streams: &mut Asked, held: &[Drawn]) -> Result<b
 // All lines of streams.
 fn visited_by(alloc: Global, streams: &mut Asked) -> Result<Visited, Trouble> {
     let selector = selector_in(alloc, "-")?;
-    let (from, to) = (moment_in("0")?, moment_in("9000000000s")?);
     let text = String::new(alloc);
     let mut output = Visited { text };
-    let ended = streams.each(&selector, from, to, &mut output);
+    let ended = streams.each(&selector, all_time()?, &mut output);
     ended.ok().ok_or(Trouble::BadInput)?;
     Ok(output)
 }

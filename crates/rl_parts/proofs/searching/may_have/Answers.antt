@@ -8,9 +8,9 @@ use Rattle.rl_parts.proofs.Fingerprinted.{fingerprint_there}
 use Rattle.rl_parts.proofs.Times.{outside, reaches}
 use Rattle.rl_parts.proofs.searching.may_have.Goals as goal
 
-pub returns-then-is_outside-clause-absent : goal.returns-then-is_outside-clause-absent
-returns-then-is_outside-clause-absent c = λ _ there.
-    outside c.args.entry.now.labels c.args.written.now.entries.value c.args.written.now.first c.args.written.now.last c.args.entry.now c.requires.part.run c.requires.range (c.is_outside.ensures.out c.if-is_outside.true) there
+pub returns-then-is_apart-clause-absent : goal.returns-then-is_apart-clause-absent
+returns-then-is_apart-clause-absent c = λ _ there.
+    outside c.args.entry.now.labels c.args.written.now.entries.value c.args.written.now.first c.args.written.now.last c.args.entry.now c.requires.part.run c.requires.range (c.is_apart.ensures.apart c.if-is_apart.true) there
 
 pub returns-clause-absent : goal.returns-clause-absent
 returns-clause-absent c = λ not_there there.
@@ -21,5 +21,5 @@ returns-clause-absent c = λ not_there there.
 
 pub returns-clause-reaches : goal.returns-clause-reaches
 returns-clause-reaches c = λ _ apart.
-    let within = c.is_outside.ensures.reaches c.if-is_outside.false in
+    let within = c.is_apart.ensures.reaches c.if-is_apart.false in
     reaches c.args.written.now.entries.value c.args.written.now.first c.args.written.now.last c.args.entry.now.timestamp c.args.entry.now.timestamp c.requires.range c.requires.part.some within.0 within.1 apart

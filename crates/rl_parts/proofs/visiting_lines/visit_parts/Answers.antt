@@ -21,8 +21,8 @@ pub loop-part-preserved : goal.loop-part-preserved
 loop-part-preserved g c =
     let start = c.args.chunks.now in
     let now = c.loop-part.chunks in
-    let outside : AllByRecursion (IsOutside c.args.from c.args.to) c.args.parts.now → IsOutside c.args.from c.args.to c.part-item.result = λ apart. subst (IsOutside c.args.from c.args.to) (sym c.part-item.is) (All-from_recursion (IsOutside c.args.from c.args.to) c.args.parts.now apart c.loop-part.part-index c.part-item.result c.loop-part-test.true) in
-    let more = part_more g.T.Visitor.visiting c.args.from c.args.to c.args.parts.now c.loop-part.part-index c.part-item.result c.args.visitor.now c.loop-part.visitor c.visit_lines.new.visitor c.loop-part-test.true c.part-item.is in
+    let outside : AllByRecursion (IsOutside c.args.range.from c.args.range.to) c.args.parts.now → IsOutside c.args.range.from c.args.range.to c.part-item.result = λ apart. subst (IsOutside c.args.range.from c.args.range.to) (sym c.part-item.is) (All-from_recursion (IsOutside c.args.range.from c.args.range.to) c.args.parts.now apart c.loop-part.part-index c.part-item.result c.loop-part-test.true) in
+    let more = part_more g.T.Visitor.visiting c.args.range.from c.args.range.to c.args.parts.now c.loop-part.part-index c.part-item.result c.args.visitor.now c.loop-part.visitor c.visit_lines.new.visitor c.loop-part-test.true c.part-item.is in
     record {
       reads = Reads-then start now c.visit_lines.new.chunks c.loop-part.invariant.reads c.visit_lines.ensures.reads;
       counted = c.in_ok-visit_lines.ensures.counted ∙ c.loop-part.invariant.counted;
@@ -31,14 +31,14 @@ loop-part-preserved g c =
       right = λ kept honest.
           let here = kept_at start now c.args.labels.now c.args.parts.now c.loop-part.part-index c.part-item.result c.loop-part-test.true c.part-item.is c.loop-part.invariant.reads kept in
           more (c.loop-part.invariant.right kept honest) (c.in_ok-visit_lines.ensures.right here (c.loop-part.invariant.reads.seen.honest ∙ honest));
-      pieces = piece_more g.T.Visitor.visiting c.args.labels.now c.args.from c.args.to c.args.parts.now c.loop-part.part-index c.part-item.result c.args.visitor.now c.loop-part.visitor c.visit_lines.new.visitor c.loop-part-test.true c.part-item.is c.loop-part.invariant.pieces c.in_ok-visit_lines.ensures.piece;
+      pieces = piece_more g.T.Visitor.visiting c.args.labels.now c.args.range.from c.args.range.to c.args.parts.now c.loop-part.part-index c.part-item.result c.args.visitor.now c.loop-part.visitor c.visit_lines.new.visitor c.loop-part-test.true c.part-item.is c.loop-part.invariant.pieces c.in_ok-visit_lines.ensures.piece;
     }
 
 pub returns-clause-visited : goal.returns-clause-visited
-returns-clause-visited g c = λ apart. c.loop-part.invariant.visited apart ∙ ap (λ (ps : List PartView). fold g.T.Visitor.visiting c.args.visitor.now (visited_in_range c.args.from c.args.to (flat_map (λ part. part.entries) ps))) (take_all c.loop-part.part-index c.args.parts.now c.loop-part-test.false)
+returns-clause-visited g c = λ apart. c.loop-part.invariant.visited apart ∙ ap (λ (ps : List PartView). fold g.T.Visitor.visiting c.args.visitor.now (visited_in_range c.args.range.from c.args.range.to (flat_map (λ part. part.entries) ps))) (take_all c.loop-part.part-index c.args.parts.now c.loop-part-test.false)
 
 pub returns-clause-right : goal.returns-clause-right
-returns-clause-right g c = λ kept honest. c.loop-part.invariant.right kept honest ∙ ap (λ (ps : List PartView). fold g.T.Visitor.visiting c.args.visitor.now (visited_in_range c.args.from c.args.to (flat_map (λ part. part.entries) ps))) (take_all c.loop-part.part-index c.args.parts.now c.loop-part-test.false)
+returns-clause-right g c = λ kept honest. c.loop-part.invariant.right kept honest ∙ ap (λ (ps : List PartView). fold g.T.Visitor.visiting c.args.visitor.now (visited_in_range c.args.range.from c.args.range.to (flat_map (λ part. part.entries) ps))) (take_all c.loop-part.part-index c.args.parts.now c.loop-part-test.false)
 
 pub returns-clause-pieces : goal.returns-clause-pieces
-returns-clause-pieces g c = subst (λ (ps : List PartView). IsVisited g.T.Visitor.visiting c.args.labels.now c.args.from c.args.to ps c.args.visitor.now c.loop-part.visitor) (take_all c.loop-part.part-index c.args.parts.now c.loop-part-test.false) c.loop-part.invariant.pieces
+returns-clause-pieces g c = subst (λ (ps : List PartView). IsVisited g.T.Visitor.visiting c.args.labels.now c.args.range.from c.args.range.to ps c.args.visitor.now c.loop-part.visitor) (take_all c.loop-part.part-index c.args.parts.now c.loop-part-test.false) c.loop-part.invariant.pieces

@@ -9,8 +9,8 @@ abbrev pub invariant-loop-part : goal.invariant-loop-part
 invariant-loop-part g l = record {
   reads : Reads l.fn.chunks l.chunks;
   counted : l.chunks.seen.faults ≡ l.fn.chunks.seen.faults;
-  unread : AllByRecursion (IsOutside l.from l.to) l.parts → l.chunks ≡ l.fn.chunks;
-  visited : AllByRecursion (IsOutside l.from l.to) l.parts → l.visitor ≡ fold g.T.Visitor.visiting l.fn.visitor (visited_in_range l.from l.to (flat_map (λ part. part.entries) (take l.part-index l.parts)));
-  right : AllByRecursion (IsKept l.fn.chunks l.labels) l.parts → l.fn.chunks.seen.honest ≡ true → l.visitor ≡ fold g.T.Visitor.visiting l.fn.visitor (visited_in_range l.from l.to (flat_map (λ part. part.entries) (take l.part-index l.parts)));
-  pieces : IsVisited g.T.Visitor.visiting l.labels l.from l.to (take l.part-index l.parts) l.fn.visitor l.visitor;
+  unread : AllByRecursion (IsOutside l.range.from l.range.to) l.parts → l.chunks ≡ l.fn.chunks;
+  visited : AllByRecursion (IsOutside l.range.from l.range.to) l.parts → l.visitor ≡ fold g.T.Visitor.visiting l.fn.visitor (visited_in_range l.range.from l.range.to (flat_map (λ part. part.entries) (take l.part-index l.parts)));
+  right : AllByRecursion (IsKept l.fn.chunks l.labels) l.parts → l.fn.chunks.seen.honest ≡ true → l.visitor ≡ fold g.T.Visitor.visiting l.fn.visitor (visited_in_range l.range.from l.range.to (flat_map (λ part. part.entries) (take l.part-index l.parts)));
+  pieces : IsVisited g.T.Visitor.visiting l.labels l.range.from l.range.to (take l.part-index l.parts) l.fn.visitor l.visitor;
 }

@@ -11,8 +11,8 @@ abbrev pub invariant-loop-position : goal.invariant-loop-position
 invariant-loop-position g l = record {
   reads : Reads l.fn.chunks l.chunks;
   faults : l.chunks.seen.faults ≡ l.fn.chunks.seen.faults;
-  visited : AreFrom (AreOfRow l.selection.selector l.from l.to) g.T.Visitor.visiting l.streams.entries (take l.position-index l.selection.positions) l.fn.visitor l.visitor;
+  visited : AreFrom (AreOfRow l.selection.selector l.range.from l.range.to) g.T.Visitor.visiting l.streams.entries (take l.position-index l.selection.positions) l.fn.visitor l.visitor;
   unread : AllByRecursion (λ row. selects l.selection.selector row.0 ≡ false) l.streams.entries → l.chunks ≡ l.fn.chunks;
   right : AreStreams l.streams.entries l.fn.chunks → l.fn.chunks.seen.honest ≡ true
-      → AreFrom (λ row lines. lines ≡ visited_of l.selection.selector l.from l.to row.0 row.1) g.T.Visitor.visiting l.streams.entries (take l.position-index l.selection.positions) l.fn.visitor l.visitor;
+      → AreFrom (λ row lines. lines ≡ visited_of l.selection.selector l.range.from l.range.to row.0 row.1) g.T.Visitor.visiting l.streams.entries (take l.position-index l.selection.positions) l.fn.visitor l.visitor;
 }

@@ -21,8 +21,8 @@ returns-in_err-visit_parts-clause-right g c = λ kept honest.
 
 pub returns-clause-visited : goal.returns-clause-visited
 returns-clause-visited g c = λ apart.
-    let from = c.args.from in
-    let to = c.args.to in
+    let from = c.args.range.from in
+    let to = c.args.range.to in
     let start = c.args.visitor.now in
     let mid = c.visit_parts.new.visitor in
     let out : AllByRecursion (IsOutside from to) c.self.inside.parts.items = subst (λ (s : StreamView). NoneReaches from to s) (sym c.self.view_is) apart in
@@ -36,8 +36,8 @@ returns-clause-visited g c = λ apart.
 
 pub returns-clause-right : goal.returns-clause-right
 returns-clause-right g c = λ kept honest.
-    let from = c.args.from in
-    let to = c.args.to in
+    let from = c.args.range.from in
+    let to = c.args.range.to in
     let chunks = c.args.chunks.now in
     let start = c.args.visitor.now in
     let mid = c.visit_parts.new.visitor in
@@ -52,8 +52,8 @@ returns-clause-right g c = λ kept honest.
 
 pub returns-clause-pieces : goal.returns-clause-pieces
 returns-clause-pieces g c =
-    let from = c.args.from in
-    let to = c.args.to in
+    let from = c.args.range.from in
+    let to = c.args.range.to in
     let start = c.args.visitor.now in
     let mid = c.visit_parts.new.visitor in
     let now = c.visit_all.new.visitor in

@@ -40,8 +40,8 @@ returns-clause-unread g c = λ none.
 pub returns-clause-visited : goal.returns-clause-visited
 returns-clause-visited g c =
     let chosen = found_is (λ (one : SelectionView). one.selector) c.select.new.self c.in_ok-position.position c.at-selection.result.now c.args.selector.now c.at-selection.ensures c.in_ok-position.ensures.found in
-    subst (λ (view : StreamsView). OnOk c.each.result (AreVisited g.T.Visitor.visiting c.args.selector.now c.args.from c.args.to view.rows c.args.visitor.now c.each.new.visitor)) c.self.view_is
-    (subst (λ matchers. OnOk c.each.result (AreVisited g.T.Visitor.visiting matchers c.args.from c.args.to c.self.inside.streams.entries c.args.visitor.now c.each.new.visitor)) chosen c.each.ensures.visited)
+    subst (λ (view : StreamsView). OnOk c.each.result (AreVisited g.T.Visitor.visiting c.args.selector.now c.args.range.from c.args.range.to view.rows c.args.visitor.now c.each.new.visitor)) c.self.view_is
+    (subst (λ matchers. OnOk c.each.result (AreVisited g.T.Visitor.visiting matchers c.args.range.from c.args.range.to c.self.inside.streams.entries c.args.visitor.now c.each.new.visitor)) chosen c.each.ensures.visited)
 
 pub returns-clause-right : goal.returns-clause-right
 returns-clause-right g c =
@@ -50,7 +50,7 @@ returns-clause-right g c =
     let before = c.args.visitor.now in
     let after = c.each.new.visitor in
     let chosen = found_is (λ (one : SelectionView). one.selector) c.select.new.self c.in_ok-position.position c.at-selection.result.now c.args.selector.now c.at-selection.ensures c.in_ok-position.ensures.found in
-    subst (λ (view : StreamsView). view.seen.honest ≡ true → Right c.each.result (λ _. AreVisitedOnce c.args.selector.now c.args.from c.args.to view.held g.T.Visitor.visiting before after)) c.self.view_is
-    (subst (λ matchers. s.chunks.seen.honest ≡ true → Right c.each.result (λ _. AreVisitedOnce matchers c.args.from c.args.to (set_of (joined rows)) g.T.Visitor.visiting before after)) chosen
-    (λ honest. right_then (λ _. after ≡ fold g.T.Visitor.visiting before (visited_by c.at-selection.result.now.selector c.args.from c.args.to rows)) (λ _. AreVisitedOnce c.at-selection.result.now.selector c.args.from c.args.to (set_of (joined rows)) g.T.Visitor.visiting before after)
-    (λ _ is. visited_once g.T.Visitor.visiting c.at-selection.result.now.selector c.args.from c.args.to rows before after c.self.invariant.0.streams.own (c.self.invariant.0.streams.once honest) is) c.each.result (c.each.ensures.right c.self.invariant.0.streams honest)))
+    subst (λ (view : StreamsView). view.seen.honest ≡ true → Right c.each.result (λ _. AreVisitedOnce c.args.selector.now c.args.range.from c.args.range.to view.held g.T.Visitor.visiting before after)) c.self.view_is
+    (subst (λ matchers. s.chunks.seen.honest ≡ true → Right c.each.result (λ _. AreVisitedOnce matchers c.args.range.from c.args.range.to (set_of (joined rows)) g.T.Visitor.visiting before after)) chosen
+    (λ honest. right_then (λ _. after ≡ fold g.T.Visitor.visiting before (visited_by c.at-selection.result.now.selector c.args.range.from c.args.range.to rows)) (λ _. AreVisitedOnce c.at-selection.result.now.selector c.args.range.from c.args.range.to (set_of (joined rows)) g.T.Visitor.visiting before after)
+    (λ _ is. visited_once g.T.Visitor.visiting c.at-selection.result.now.selector c.args.range.from c.args.range.to rows before after c.self.invariant.0.streams.own (c.self.invariant.0.streams.once honest) is) c.each.result (c.each.ensures.right c.self.invariant.0.streams honest)))

@@ -28,15 +28,15 @@ returns-clause-right g c =
     let selector = c.args.selector.now in
     let before = c.args.lines.now in
     let after = c.each_selected.new.visitor in
-    subst (λ (view : StreamsView). view.seen.honest ≡ true → Right c.each_selected.result (λ _. after ≡ before ++ visited_at selector c.args.from c.args.to (order_of view) c.args.position)) c.self.view_is
-    (λ honest. right_then (λ _. after ≡ fold (λ lines line. lines ++ line ∷ []) before (visited_of selector c.args.from c.args.to stream.labels stream)) (λ _. after ≡ before ++ visited_at selector c.args.from c.args.to (by_stream rows) c.args.position)
-    (λ _ is. is ∙ fold-pushed before (visited_of selector c.args.from c.args.to stream.labels stream) ∙ ap (λ l. before ++ l) (visited_here selector c.args.from c.args.to rows c.args.position stream c.self.invariant.0.streams.own c.index.ensures)) c.each_selected.result
-    (c.each_selected.ensures.right (kept_there selector c.args.from c.args.to rows c.args.position stream s.chunks s.chunks c.self.invariant.0.streams (Reads-none s.chunks) c.index.ensures) honest))
+    subst (λ (view : StreamsView). view.seen.honest ≡ true → Right c.each_selected.result (λ _. after ≡ before ++ visited_at selector c.args.range.from c.args.range.to (order_of view) c.args.position)) c.self.view_is
+    (λ honest. right_then (λ _. after ≡ fold (λ lines line. lines ++ line ∷ []) before (visited_of selector c.args.range.from c.args.range.to stream.labels stream)) (λ _. after ≡ before ++ visited_at selector c.args.range.from c.args.range.to (by_stream rows) c.args.position)
+    (λ _ is. is ∙ fold-pushed before (visited_of selector c.args.range.from c.args.range.to stream.labels stream) ∙ ap (λ l. before ++ l) (visited_here selector c.args.range.from c.args.range.to rows c.args.position stream c.self.invariant.0.streams.own c.index.ensures)) c.each_selected.result
+    (c.each_selected.ensures.right (kept_there selector c.args.range.from c.args.range.to rows c.args.position stream s.chunks s.chunks c.self.invariant.0.streams (Reads-none s.chunks) c.index.ensures) honest))
 
 pub returns-clause-asked : goal.returns-clause-asked
 returns-clause-asked g c =
     let s = c.self.inside in
     let before = c.args.lines.now in
     let after = c.each_selected.new.visitor in
-    subst (λ (view : StreamsView). OnOk c.each_selected.result (AreAsked view.rows c.args.selector.now c.args.from c.args.to c.args.position before (c.args.position + 1) after)) c.self.view_is
-    (on_ok_then (asked_one s.streams.entries c.args.selector.now c.args.from c.args.to c.args.position c.index.result.now before after c.self.invariant.0.streams.own c.index.ensures) c.each_selected.result c.each_selected.ensures.lines)
+    subst (λ (view : StreamsView). OnOk c.each_selected.result (AreAsked view.rows c.args.selector.now c.args.range.from c.args.range.to c.args.position before (c.args.position + 1) after)) c.self.view_is
+    (on_ok_then (asked_one s.streams.entries c.args.selector.now c.args.range.from c.args.range.to c.args.position c.index.result.now before after c.self.invariant.0.streams.own c.index.ensures) c.each_selected.result c.each_selected.ensures.lines)
