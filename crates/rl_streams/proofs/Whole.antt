@@ -82,10 +82,10 @@ not_ok {A} refusal answer e = true≢false (sym (ap is_answer e))
     is_answer (Err _) = false
 
 -- what becomes of an entry, by its age
-abbrev pub IsSettledBy : Result (Unit {0}) AddRefusal → ℕ → Entry → StreamsView → StreamsView → Type 0
+abbrev pub IsSettledBy : Result Bool AddRefusal → ℕ → Entry → StreamsView → StreamsView → Type 0
 IsSettledBy result horizon entry new old = MatchOption (age_refusal old.limits old.newest horizon entry) (IsSettled result old entry new) (λ refusal. (result ≡ Err refusal) × (new ≡ old))
 
-pub settled_young : (result : Result (Unit {0}) AddRefusal) (horizon : ℕ) (entry : Entry) (new old : StreamsView) → age_refusal old.limits old.newest horizon entry ≡ None → IsSettled result old entry new → IsSettledBy result horizon entry new old
+pub settled_young : (result : Result Bool AddRefusal) (horizon : ℕ) (entry : Entry) (new old : StreamsView) → age_refusal old.limits old.newest horizon entry ≡ None → IsSettled result old entry new → IsSettledBy result horizon entry new old
 settled_young result horizon entry new old young is = subst (λ refusal. MatchOption refusal (IsSettled result old entry new) (λ refusal. (result ≡ Err refusal) × (new ≡ old))) (sym young) is
 
 module _ (limits : Limits) (rows new : List Row) (old now : ChunksView) (count : ℕ) (whole : IsWhole limits rows old count) (looked : Reads old now) where
@@ -126,7 +126,7 @@ module _ (limits : Limits) (rows new : List Row) (old now : ChunksView) (count :
     taken_view added = record { limits = refl; held = set-permuted entry_cmp_total entry_cmp-IsAntisymmetric (entry ∷ joined rows) (joined new) added.entries; newest = added.newest; next = looked.next; rows = added.rows; seen = looked.seen }
 
     -- what was decided, where it was refused
-    pub decided_refused : (refusal : AddRefusal) (is_full : Bool) (to : StreamsView) → old.seen.honest ≡ true → IsOfferedRight (Err refusal) (is_among entry (joined rows)) → IsAnswered (Err refusal) (IsFound rows entry) (IsMissing rows entry) is_full → is_full ≡ nat_le limits.entries count → IsDecided {A = Unit {0}} (Err refusal) (view_of limits rows old) entry to
+    pub decided_refused : (refusal : AddRefusal) (is_full : Bool) (to : StreamsView) → old.seen.honest ≡ true → IsOfferedRight (Err refusal) (is_among entry (joined rows)) → IsAnswered (Err refusal) (IsFound rows entry) (IsMissing rows entry) is_full → is_full ≡ nat_le limits.entries count → IsDecided (Err refusal) (view_of limits rows old) entry to
     decided_refused Full is_full to honest right (_, full) is = (is_held ∙ right, let le = sym is ∙ full in let many = many_held honest in grind (arith, nat_tests, le, many))
     decided_refused (Read reads.Fault) is_full to honest right full is = tt
     decided_refused (Read reads.Damaged) is_full to honest right full is = right
@@ -135,18 +135,18 @@ module _ (limits : Limits) (rows new : List Row) (old now : ChunksView) (count :
     decided_refused (TooFarBehind newest) is_full to honest right full is = right
 
     -- where it was held already, and where it was taken
-    pub decided_held : old.seen.honest ≡ true → IsOfferedRight (Ok false) (is_among entry (joined rows)) → new ≡ rows → IsDecided {A = Unit {0}} (Ok tt) (view_of limits rows old) entry (view_of limits new now)
-    decided_held honest right same = subst (λ b. MatchBool b (Looks before after) ((len before.held < limits.entries) × Takes before entry after)) (sym (is_held ∙ was (is_among entry (joined rows)) right)) (looked_view same)
+    pub decided_held : old.seen.honest ≡ true → IsOfferedRight (Ok false) (is_among entry (joined rows)) → new ≡ rows → IsDecided (Ok false) (view_of limits rows old) entry (view_of limits new now)
+    decided_held honest right same = (is_held ∙ was (is_among entry (joined rows)) right, looked_view same)
       where
         was : (b : Bool) → false ≡ not b → b ≡ true
         was true e = refl
         was false e = e
 
-    pub decided_taken : old.seen.honest ≡ true → IsOfferedRight (Ok true) (is_among entry (joined rows)) → AreAdded limits.chunk_entries rows entry new → count < limits.entries → IsDecided {A = Unit {0}} (Ok tt) (view_of limits rows old) entry (view_of limits new now)
-    decided_taken honest right added room = subst (λ b. MatchBool b (Looks before after) ((len before.held < limits.entries) × Takes before entry after)) (sym (is_held ∙ taken_new (is_among entry (joined rows)) right)) (subst (λ n. n < limits.entries) (sym (many_held honest)) room, taken_view added)
+    pub decided_taken : old.seen.honest ≡ true → IsOfferedRight (Ok true) (is_among entry (joined rows)) → AreAdded limits.chunk_entries rows entry new → count < limits.entries → IsDecided (Ok true) (view_of limits rows old) entry (view_of limits new now)
+    decided_taken honest right added room = (is_held ∙ taken_new (is_among entry (joined rows)) right, (subst (λ n. n < limits.entries) (sym (many_held honest)) room, taken_view added))
 
     -- over any store: where it was refused, where it was found, and where it was taken
-    pub settled_refused : (refusal : AddRefusal) (is_full : Bool) → IsAnswered (Err refusal) (IsFound rows entry) (IsMissing rows entry) is_full → is_full ≡ nat_le limits.entries count → new ≡ rows → IsSettled {A = Unit {0}} (Err refusal) before entry after
+    pub settled_refused : (refusal : AddRefusal) (is_full : Bool) → IsAnswered (Err refusal) (IsFound rows entry) (IsMissing rows entry) is_full → is_full ≡ nat_le limits.entries count → new ≡ rows → IsSettled (Err refusal) before entry after
     settled_refused Full is_full (missing, full) is same =
         let le = sym is ∙ full in
         let room : limits.entries ≤ count = grind (arith, nat_tests, le) in
@@ -155,18 +155,18 @@ module _ (limits : Limits) (rows new : List Row) (old now : ChunksView) (count :
     settled_refused (Expired _) is_full h is same = h
     settled_refused (TooFarBehind _) is_full h is same = h
 
-    pub settled_held : IsFound rows entry → new ≡ rows → IsSettled {A = Unit {0}} (Ok tt) before entry after
-    settled_held found same = inl (found, looked_view same)
+    pub settled_held : IsFound rows entry → new ≡ rows → IsSettled (Ok false) before entry after
+    settled_held found same = (found, looked_view same)
 
-    pub settled_taken : IsMissing rows entry → AreAdded limits.chunk_entries rows entry new → count < limits.entries → IsSettled {A = Unit {0}} (Ok tt) before entry after
-    settled_taken missing added room = inr (missing, (omega (arith, room, whole.counted), taken_view added))
+    pub settled_taken : IsMissing rows entry → AreAdded limits.chunk_entries rows entry new → count < limits.entries → IsSettled (Ok true) before entry after
+    settled_taken missing added room = (missing, (omega (arith, room, whole.counted), taken_view added))
 
     -- and where no written part reaches it
     module _ (is_full : Bool) (full : is_full ≡ nat_le limits.entries count) (same_store : now ≡ old) where
-      abbrev Cases : Result (Unit {0}) AddRefusal → Bool → Bool → Type 0
-      Cases result is_held no_room = MatchBool is_held ((result ≡ Ok tt) × (after ≡ before)) (MatchBool no_room ((result ≡ Err Full) × (after ≡ before)) (MatchResult result (λ _. Takes before entry after × (after.seen ≡ before.seen)) (λ refusal. (refusal ≡ Read reads.Memory) × (after ≡ before))))
+      abbrev Cases : Result Bool AddRefusal → Bool → Bool → Type 0
+      Cases result is_held no_room = MatchBool is_held ((result ≡ Ok false) × (after ≡ before)) (MatchBool no_room ((result ≡ Err Full) × (after ≡ before)) (MatchResult result (λ taken. (taken ≡ true) × (Takes before entry after × (after.seen ≡ before.seen))) (λ refusal. (refusal ≡ Read reads.Memory) × (after ≡ before))))
 
-      by_cases : (result : Result (Unit {0}) AddRefusal) → Cases result (is_among entry (joined rows)) is_full → IsSettledUnread result before entry after
+      by_cases : (result : Result Bool AddRefusal) → Cases result (is_among entry (joined rows)) is_full → IsSettledUnread result before entry after
       by_cases result is =
           let room : is_full ≡ nat_le limits.entries (length (joined rows)) = full ∙ ap (nat_le limits.entries) whole.counted in
           subst (λ b. Cases result b (nat_le limits.entries (length (joined rows)))) (sym is_held) (subst (λ b. Cases result (is_among entry (joined rows)) b) room is)
@@ -183,19 +183,19 @@ module _ (limits : Limits) (rows new : List Row) (old now : ChunksView) (count :
           by false false (inl e) = absurd (not_ok refusal true e)
           by false false (inr e) = (ap (refusal_in refusal) e, same_view same)
 
-      pub unread_held : IsAnsweredUnread (Ok false) (is_among entry (joined rows)) is_full → new ≡ rows → IsSettledUnread (Ok tt) before entry after
-      unread_held answers same = by_cases (Ok tt) (by (is_among entry (joined rows)) is_full answers)
+      pub unread_held : IsAnsweredUnread (Ok false) (is_among entry (joined rows)) is_full → new ≡ rows → IsSettledUnread (Ok false) before entry after
+      unread_held answers same = by_cases (Ok false) (by (is_among entry (joined rows)) is_full answers)
         where
-          by : (held no_room : Bool) → IsAnsweredUnread (Ok false) held no_room → Cases (Ok tt) held no_room
+          by : (held no_room : Bool) → IsAnsweredUnread (Ok false) held no_room → Cases (Ok false) held no_room
           by true no_room e = (refl, same_view same)
           by false true e = absurd (not_ok Full false (sym e))
           by false false (inl e) = absurd (true≢false (sym (ap (answer_in true) e)))
           by false false (inr e) = absurd (not_ok (Read reads.Memory) false (sym e))
 
-      pub unread_taken : IsAnsweredUnread (Ok true) (is_among entry (joined rows)) is_full → AreAdded limits.chunk_entries rows entry new → IsSettledUnread (Ok tt) before entry after
-      unread_taken answers added = by_cases (Ok tt) (by (is_among entry (joined rows)) is_full answers)
+      pub unread_taken : IsAnsweredUnread (Ok true) (is_among entry (joined rows)) is_full → AreAdded limits.chunk_entries rows entry new → IsSettledUnread (Ok true) before entry after
+      unread_taken answers added = by_cases (Ok true) (by (is_among entry (joined rows)) is_full answers)
         where
-          by : (held no_room : Bool) → IsAnsweredUnread (Ok true) held no_room → Cases (Ok tt) held no_room
+          by : (held no_room : Bool) → IsAnsweredUnread (Ok true) held no_room → Cases (Ok true) held no_room
           by true no_room e = absurd (true≢false (ap (answer_in true) e))
           by false true e = absurd (not_ok Full true (sym e))
-          by false false e = (taken_view added, ap (λ (chunks : ChunksView). chunks.seen) same_store)
+          by false false e = (refl, (taken_view added, ap (λ (chunks : ChunksView). chunks.seen) same_store))

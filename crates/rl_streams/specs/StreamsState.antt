@@ -1,5 +1,5 @@
 -- All streams of a shard as one set, and what the calls make of it.
-use Rattle.std.specs.Prelude.{◌≡◌, ℕ, ◌+◌, ◌*◌, ◌<◌, ◌≤◌, nat_lt, Bool, false, List, [], length, Option, None, Some, Result, Ok, Err, MatchBool, if◌then◌else◌, refl}
+use Rattle.std.specs.Prelude.{◌≡◌, ℕ, ◌+◌, ◌*◌, ◌<◌, ◌≤◌, nat_lt, Bool, true, false, List, [], length, Option, None, Some, Result, Ok, Err, if◌then◌else◌, refl}
 use base.Stored.{coded_unit}
 use Rattle.std.specs.Coded.{Coded, code_by, coded×, coded_ℕ, coded_list}
 use Rattle.std.specs.FinMap.{FinMap, insert, empty, len, contains_key, code}
@@ -133,8 +133,9 @@ after_add (Err refusal) faults = add_faults refusal faults
 
 -- what becomes of an entry that is not refused for its age, over an honest store: one that is held changes nothing; for a new one there
 -- must be room. The search for it may fail, but finds nothing damaged
-abbrev pub IsDecided : {A : Type 0} → Result A AddRefusal → StreamsView → Entry → StreamsView → Type 0
-IsDecided (Ok _) old entry new = MatchBool (contains_key old.held entry) (Looks old new) ((len old.held < old.limits.entries) × Takes old entry new)
+abbrev pub IsDecided : Result Bool AddRefusal → StreamsView → Entry → StreamsView → Type 0
+IsDecided (Ok true) old entry new = (contains_key old.held entry ≡ false) × ((len old.held < old.limits.entries) × Takes old entry new)
+IsDecided (Ok false) old entry new = (contains_key old.held entry ≡ true) × Looks old new
 IsDecided (Err Full) old entry new = (contains_key old.held entry ≡ false) × (old.limits.entries ≤ len old.held)
 IsDecided (Err (Read reads.Fault)) old entry new = Unit {0}
 IsDecided (Err (Read reads.Damaged)) old entry new = ⊥

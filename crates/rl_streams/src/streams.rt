@@ -97,9 +97,9 @@ impl<S: Store> Streams<S> {
         self.count
     }
 
-    /// Takes an entry. One that is held changes nothing. The search for it may read from the store, so a fault of the store
+    /// Takes an entry, and answers whether it was missing and is held now. One that was held changes nothing. The search for it may read from the store, so a fault of the store
     /// may be answered where the entry is held, or where there is no room. A refusal takes nothing.
-    pub fn add(&mut self, entry: Shared<Entry>, horizon: Ns) -> Result<(), AddRefusal>
+    pub fn add(&mut self, entry: Shared<Entry>, horizon: Ns) -> Result<bool, AddRefusal>
         // An entry that is too old is refused without a read. What becomes of another follows from memory and from bytes with
         // the digests that were kept, over any store.
         ensures settled { MatchOption (age_refusal self.old.limits self.old.newest horizon entry) (IsSettled result self.old entry self.new) (λ refusal. (result ≡ Err refusal) × (self.new ≡ self.old)) }
@@ -119,10 +119,10 @@ impl<S: Store> Streams<S> {
         };
         let (chunks, streams) = (&mut self.chunks, &mut self.streams);
         if !put(chunks, streams, position, entry, room)? {
-            return Ok(());
+            return Ok(false);
         }
         self.count += 1;
-        Ok(())
+        Ok(true)
     }
 
     /// Writes the sealed parts that the store does not have, stream by stream. What was written before a refusal stays
@@ -136,6 +136,7 @@ impl<S: Store> Streams<S> {
         ensures numbers { self.new.next ≤ greatest }
     {
         let flushed = flushing::flush(&mut self.chunks, &mut self.streams);
+        // Read for contracts, which learn that it is within the greatest.
         let _next = self.chunks.next();
         flushed
     }
@@ -155,6 +156,7 @@ impl<S: Store> Streams<S> {
         ensures numbers { self.new.next ≤ greatest }
     {
         let planned = rewriting::plan_all(&mut self.chunks, &self.streams, covered);
+        // Read for contracts, as in `flush`.
         let _next = self.chunks.next();
         let plans = planned?;
         rewriting::carry_out_all(&mut self.chunks, &mut self.streams, plans);
@@ -190,8 +192,8 @@ impl<S: Store> Streams<S> {
         ensures counted { self.new.seen.faults ≡ after_read result self.old.seen.faults }
         ensures unread { NoneSelected selector.now self.old.newest → self.new ≡ self.old }
         // What is visited of a part that the store has follows from bytes with its digest, over any store.
-        ensures visited { OnOk result (AreVisited T.visiting selector.now from to self.old.rows visitor.old visitor.new) }
-        ensures right { self.old.seen.honest ≡ true → Right result (λ _. AreVisitedOnce selector.now from to self.old.held T.visiting visitor.old visitor.new) }
+        ensures visited { OnOk result (AreVisited T.visiting selector.now range.from range.to self.old.rows visitor.old visitor.new) }
+        ensures right { self.old.seen.honest ≡ true → Right result (λ _. AreVisitedOnce selector.now range.from range.to self.old.held T.visiting visitor.old visitor.new) }
     {
         let alloc = *self.chunks.allocator();
         let position = self.selections.select(alloc, &self.streams, selector)?;

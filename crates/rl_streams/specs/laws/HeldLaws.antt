@@ -1,13 +1,13 @@
 -- Lists and their sets: what a set has, that order does not matter, and that a list with no item twice is its set in another order.
-use Rattle.std.proofs.Common.{◌≡◌, ℕ, suc, ◌+◌, ◌≤◌, Bool, true, false, cond, is_some, ◌||◌, ◌&&◌, Some, None, List, [], ◌∷◌, ◌++◌, length, map, filter, refl, sym, ap, subst, ◌∙◌, true≢false, arith}
+use Rattle.std.proofs.Common.{◌≡◌, ℕ, suc, ◌+◌, ◌≤◌, Bool, true, false, cond, is_some, ◌||◌, ◌&&◌, Option, Some, None, List, [], ◌∷◌, ◌++◌, length, map, filter, refl, sym, ap, subst, ◌∙◌, true≢false, arith}
 use Rattle.std.specs.List.{list_any, AllByRecursion, IsDistinct}
 use Rattle.std.specs.List.Sorted.{IsPermutation, IsStrictlySortedBy}
 use Rattle.std.specs.Ordering.{eq_by_cmp, is_eq}
 use Rattle.std.specs.declared.cmp.Ordering.{Ordering}
 use Rattle.std.specs.declared.cmp.Ordering.TheVariants.{Less, Equal, Greater}
 use Rattle.std.specs.Cmp.{Equal-is, IsTotalOrder}
-use Rattle.std.specs.FinMap.{IsAntisymmetric, entries, keys, len, contains_key, get, from_entries, get-entries, get-from_entries, get-retain_keys, retain_keys, entries-insert, len-insert, len-empty, same_map}
-use Rattle.std.specs.FinMap.Entries.{find, put, by_order}
+use Rattle.std.specs.FinMap.{IsAntisymmetric, entries, keys, len, FinMap, contains_key, get, insert, from_entries, from_sorted, entries_sorted, entries-from_sorted, get-entries, get-from_entries, get-from_sorted, get-retain_keys, retain_keys, entries-insert, len-insert, len-empty, same_map}
+use Rattle.std.specs.FinMap.Entries.{find, find-where_key, is_sorted-where_key, put, by_order, where_key}
 use Rattle.std.proofs.lemmas.List.Elements.{filter-append}
 use Rattle.std.proofs.lemmas.List.Sorted.{IsPermutation-refl, IsPermutation-sym, IsPermutation-trans, IsPermutation-cons, IsPermutation-middle, list_any-IsPermutation}
 use Rattle.std.proofs.lemmas.List.{map-append}
@@ -90,6 +90,19 @@ module _ {K : Type 0} {R : K → K → Ordering} (o : IsTotalOrder R) where
       by many true le = omega (arith, le)
       by many false le = omega (arith, le)
 
+  -- with a new key, the keys that pass a test are that one, if it does, and those that did, in another order
+  pub keys-inserted : (p : K → Bool) (m : FinMap R (Unit {0})) (x : K) → contains_key m x ≡ false → IsPermutation (filter p (x ∷ keys m)) (filter p (keys (insert m x tt)))
+  keys-inserted p m x new =
+      let there = put_new R x tt (entries m) (sym (get-entries m x) ∙ none_of (get m x) new) in
+      let before = ap (map (λ (e : K × Unit {0}). e.0)) there.old ∙ map-append (λ e. e.0) there.front there.back in
+      let after = ap (map (λ (e : K × Unit {0}). e.0)) (entries-insert o m x tt ∙ there.new) ∙ map-append (λ e. e.0) there.front ((x, tt) ∷ there.back) in
+      subst (λ l. IsPermutation (filter p (x ∷ keys m)) (filter p l)) (sym after)
+      (one_more_kept p x (keys m) (map (λ e. e.0) there.front) (map (λ e. e.0) there.back) (subst (λ l. IsPermutation (filter p (keys m)) (filter p l)) before (IsPermutation-refl (filter p (keys m)))))
+    where
+      none_of : (found : Option (Unit {0})) → is_some found ≡ false → found ≡ None
+      none_of None _ = refl
+      none_of (Some _) some = absurd (true≢false some)
+
   module _ (same : IsAntisymmetric R) where
     -- the order of the list does not matter
     pub set-permuted : (xs ys : List K) → IsPermutation xs ys → from_entries {R = R} (map mark ys) ≡ from_entries (map mark xs)
@@ -112,14 +125,29 @@ module _ {K : Type 0} {R : K → K → Ordering} (o : IsTotalOrder R) where
     unfolding IsStrictlySortedBy
     empty_keys = ap (map (λ (e : K × Unit {0}). e.0)) (entries-of_tree {X = Unit {0}} o same [] tt)
 
+    -- the keys of a map that are kept
+    pub keys-kept : {X : Type 0} (m : FinMap R X) (p : K → Bool) → keys (retain_keys m p) ≡ filter p (keys m)
+    keys-kept {X} m p =
+        let es = where_key R p (entries m) in
+        let sorted = is_sorted-where_key R p (entries m) (entries_sorted m) in
+        let alike = λ (q x : K) (tied : R q x ≡ Equal). ap p (sym (same q x tied)) in
+        let is : retain_keys m p ≡ from_sorted es = same_map o same _ _ (λ q.
+        get-retain_keys m p q (alike q)
+        ∙ ap (λ found. cond (p q) found None) (get-entries m q)
+        ∙ sym (get-from_sorted R es q sorted ∙ find-where_key R p q (alike q) (entries m))) in
+        ap keys is ∙ ap (map (λ (e : K × X). e.0)) (entries-from_sorted R es sorted) ∙ by (entries m)
+      where
+        by : (es : List (K × X)) → map (λ e. e.0) (filter (λ e. p e.0) es) ≡ filter p (map (λ e. e.0) es)
+        by [] = refl
+        by (e ∷ es) = elim (p e.0) as (λ b. map (λ e. e.0) (cond b (e ∷ filter (λ e. p e.0) es) (filter (λ e. p e.0) es)) ≡ cond b (e.0 ∷ filter p (map (λ e. e.0) es)) (filter p (map (λ e. e.0) es))) [
+          | true ↦ ap (λ rest. e.0 ∷ rest) (by es)
+          | false ↦ by es
+        ]
+
     -- the keys of a set that pass a test are those items of its list, in another order
     pub keys-of_distinct : (p : K → Bool) (xs : List K) → IsDistinct (eq_by_cmp R) xs → IsPermutation (filter p xs) (filter p (keys (from_entries {R = R} (map mark xs))))
     keys-of_distinct p [] h = subst (λ l. IsPermutation [] (filter p l)) (sym empty_keys) (IsPermutation-refl [])
     keys-of_distinct p (x ∷ xs) h =
         let others = from_entries {R = R} (map mark xs) in
-        let is_new : find R x (entries others) ≡ None = sym (get-entries others x) ∙ get_marked xs x ∙ ap (λ b. cond b (Some tt) None) (none_ties (eq_by_cmp R x) xs (IsDistinct-head (eq_by_cmp R) x xs h)) in
-        let there = put_new R x tt (entries others) is_new in
-        let old = ap (map (λ (e : K × Unit {0}). e.0)) there.old ∙ map-append (λ e. e.0) there.front there.back in
-        let new = ap (map (λ (e : K × Unit {0}). e.0)) (entries-insert o others x tt ∙ there.new) ∙ map-append (λ e. e.0) there.front ((x, tt) ∷ there.back) in
-        subst (λ l. IsPermutation (filter p (x ∷ xs)) (filter p l)) (sym new)
-        (one_more_kept p x xs (map (λ e. e.0) there.front) (map (λ e. e.0) there.back) (subst (λ l. IsPermutation (filter p xs) (filter p l)) old (keys-of_distinct p xs (IsDistinct-tail (eq_by_cmp R) x xs h))))
+        let is_new = contains_key-of_list xs x ∙ none_ties (eq_by_cmp R x) xs (IsDistinct-head (eq_by_cmp R) x xs h) in
+        IsPermutation-trans _ _ _ (one_more_kept p x xs [] (keys others) (keys-of_distinct p xs (IsDistinct-tail (eq_by_cmp R) x xs h))) (keys-inserted p others x is_new)

@@ -1,5 +1,5 @@
 -- What was put among the streams is held.
-use Rattle.std.proofs.Common.{◌≡◌, true, None, Ok, refl, sym, ap, subst, ◌∙◌}
+use Rattle.std.proofs.Common.{◌≡◌, true, false, None, Ok, refl, sym, ap, subst, ◌∙◌}
 use Rattle.std.specs.Prelude.{nat_le}
 use Rattle.std.proofs.lemmas.Result.{err_from_is_err_and}
 use Rattle.rl_streams.specs.StreamRows.{joined, newest_in, newest_map, is_among}
@@ -37,7 +37,7 @@ pub returns-then-not-branch-clause-decided : goal.returns-then-not-branch-clause
 returns-then-not-branch-clause-decided g c =
     let s = c.self.inside in
     let same = subst (λ more. AreOffered s.limits.chunk_entries more s.streams.entries c.args.entry c.put.new.streams.entries) c.if-not-branch.true c.in_ok-put.ensures.taken in
-    subst (λ (old : StreamsView). age_refusal old.limits old.newest c.args.horizon c.args.entry ≡ None → old.seen.honest ≡ true → IsDecided {A = Unit {0}} (Ok tt) old c.args.entry (view_of s.limits c.put.new.streams.entries c.put.new.chunks)) c.self.view_is
+    subst (λ (old : StreamsView). age_refusal old.limits old.newest c.args.horizon c.args.entry ≡ None → old.seen.honest ≡ true → IsDecided (Ok false) old c.args.entry (view_of s.limits c.put.new.streams.entries c.put.new.chunks)) c.self.view_is
     (λ aged honest. decided_held s.limits s.streams.entries c.put.new.streams.entries s.chunks c.put.new.chunks s.count c.self.invariant.0 c.put.ensures.reads c.args.entry honest
     (subst (λ more. IsOfferedRight (Ok more) (is_among c.args.entry (joined s.streams.entries))) c.if-not-branch.true (c.in_ok-put.ensures.right c.self.invariant.0.streams honest)) same)
 
@@ -57,7 +57,7 @@ returns-clause-decided g c =
     let s = c.self.inside in
     let answers = subst (λ more. IsAnswered (Ok more) (IsFound s.streams.entries c.args.entry) (IsMissing s.streams.entries c.args.entry) (nat_le s.limits.entries s.count)) c.if-not-branch.false c.in_ok-put.ensures.answers in
     let added = subst (λ more. AreOffered s.limits.chunk_entries more s.streams.entries c.args.entry c.put.new.streams.entries) c.if-not-branch.false c.in_ok-put.ensures.taken in
-    subst (λ (old : StreamsView). age_refusal old.limits old.newest c.args.horizon c.args.entry ≡ None → old.seen.honest ≡ true → IsDecided {A = Unit {0}} (Ok tt) old c.args.entry (view_of s.limits c.put.new.streams.entries c.put.new.chunks)) c.self.view_is
+    subst (λ (old : StreamsView). age_refusal old.limits old.newest c.args.horizon c.args.entry ≡ None → old.seen.honest ≡ true → IsDecided (Ok true) old c.args.entry (view_of s.limits c.put.new.streams.entries c.put.new.chunks)) c.self.view_is
     (λ aged honest. decided_taken s.limits s.streams.entries c.put.new.streams.entries s.chunks c.put.new.chunks s.count c.self.invariant.0 c.put.ensures.reads c.args.entry honest
     (subst (λ more. IsOfferedRight (Ok more) (is_among c.args.entry (joined s.streams.entries))) c.if-not-branch.false (c.in_ok-put.ensures.right c.self.invariant.0.streams honest)) added (has_room s.limits s.count answers.1))
 
@@ -81,15 +81,15 @@ returns-then-not-branch-clause-settled g c =
     let s = c.self.inside in
     let same = subst (λ more. AreOffered s.limits.chunk_entries more s.streams.entries c.args.entry c.put.new.streams.entries) c.if-not-branch.true c.in_ok-put.ensures.taken in
     let answers = subst (λ more. IsAnswered (Ok more) (IsFound s.streams.entries c.args.entry) (IsMissing s.streams.entries c.args.entry) (nat_le s.limits.entries s.count)) c.if-not-branch.true c.in_ok-put.ensures.answers in
-    subst (IsSettledBy (Ok tt) c.args.horizon c.args.entry (view_of s.limits c.put.new.streams.entries c.put.new.chunks)) c.self.view_is
-    (settled_young (Ok tt) c.args.horizon c.args.entry (view_of s.limits c.put.new.streams.entries c.put.new.chunks) (view_of s.limits s.streams.entries s.chunks) (ap (age_refusal s.limits (newest_map (newest_in s.streams.entries)) c.args.horizon) (sym c.get-2.ensures) ∙ sym c.age_refusal-refusal.ensures ∙ c.in_default.is)
+    subst (IsSettledBy (Ok false) c.args.horizon c.args.entry (view_of s.limits c.put.new.streams.entries c.put.new.chunks)) c.self.view_is
+    (settled_young (Ok false) c.args.horizon c.args.entry (view_of s.limits c.put.new.streams.entries c.put.new.chunks) (view_of s.limits s.streams.entries s.chunks) (ap (age_refusal s.limits (newest_map (newest_in s.streams.entries)) c.args.horizon) (sym c.get-2.ensures) ∙ sym c.age_refusal-refusal.ensures ∙ c.in_default.is)
     (settled_held s.limits s.streams.entries c.put.new.streams.entries s.chunks c.put.new.chunks s.count c.self.invariant.0 c.put.ensures.reads c.args.entry answers same))
 
 pub returns-then-not-branch-clause-exact : goal.returns-then-not-branch-clause-exact
 returns-then-not-branch-clause-exact g c =
     let s = c.self.inside in
     let same = subst (λ more. AreOffered s.limits.chunk_entries more s.streams.entries c.args.entry c.put.new.streams.entries) c.if-not-branch.true c.in_ok-put.ensures.taken in
-    subst (λ (old : StreamsView). age_refusal old.limits old.newest c.args.horizon c.args.entry ≡ None → IsUnreached old.rows c.args.entry → IsSettledUnread (Ok tt) old c.args.entry (view_of s.limits c.put.new.streams.entries c.put.new.chunks)) c.self.view_is
+    subst (λ (old : StreamsView). age_refusal old.limits old.newest c.args.horizon c.args.entry ≡ None → IsUnreached old.rows c.args.entry → IsSettledUnread (Ok false) old c.args.entry (view_of s.limits c.put.new.streams.entries c.put.new.chunks)) c.self.view_is
     (λ _ unreached. let exact = c.in_ok-put.ensures.exact unreached in unread_held s.limits s.streams.entries c.put.new.streams.entries s.chunks c.put.new.chunks s.count c.self.invariant.0 c.put.ensures.reads c.args.entry (nat_le s.limits.entries s.count) refl exact.1 (subst (λ more. IsAnsweredUnread (Ok more) (is_among c.args.entry (joined s.streams.entries)) (nat_le s.limits.entries s.count)) c.if-not-branch.true exact.0) same)
 
 pub returns-clause-settled : goal.returns-clause-settled
@@ -97,13 +97,13 @@ returns-clause-settled g c =
     let s = c.self.inside in
     let answers = subst (λ more. IsAnswered (Ok more) (IsFound s.streams.entries c.args.entry) (IsMissing s.streams.entries c.args.entry) (nat_le s.limits.entries s.count)) c.if-not-branch.false c.in_ok-put.ensures.answers in
     let added = subst (λ more. AreOffered s.limits.chunk_entries more s.streams.entries c.args.entry c.put.new.streams.entries) c.if-not-branch.false c.in_ok-put.ensures.taken in
-    subst (IsSettledBy (Ok tt) c.args.horizon c.args.entry (view_of s.limits c.put.new.streams.entries c.put.new.chunks)) c.self.view_is
-    (settled_young (Ok tt) c.args.horizon c.args.entry (view_of s.limits c.put.new.streams.entries c.put.new.chunks) (view_of s.limits s.streams.entries s.chunks) (ap (age_refusal s.limits (newest_map (newest_in s.streams.entries)) c.args.horizon) (sym c.get-2.ensures) ∙ sym c.age_refusal-refusal.ensures ∙ c.in_default.is)
+    subst (IsSettledBy (Ok true) c.args.horizon c.args.entry (view_of s.limits c.put.new.streams.entries c.put.new.chunks)) c.self.view_is
+    (settled_young (Ok true) c.args.horizon c.args.entry (view_of s.limits c.put.new.streams.entries c.put.new.chunks) (view_of s.limits s.streams.entries s.chunks) (ap (age_refusal s.limits (newest_map (newest_in s.streams.entries)) c.args.horizon) (sym c.get-2.ensures) ∙ sym c.age_refusal-refusal.ensures ∙ c.in_default.is)
     (settled_taken s.limits s.streams.entries c.put.new.streams.entries s.chunks c.put.new.chunks s.count c.self.invariant.0 c.put.ensures.reads c.args.entry answers.0 added (has_room s.limits s.count answers.1)))
 
 pub returns-clause-exact : goal.returns-clause-exact
 returns-clause-exact g c =
     let s = c.self.inside in
     let added = subst (λ more. AreOffered s.limits.chunk_entries more s.streams.entries c.args.entry c.put.new.streams.entries) c.if-not-branch.false c.in_ok-put.ensures.taken in
-    subst (λ (old : StreamsView). age_refusal old.limits old.newest c.args.horizon c.args.entry ≡ None → IsUnreached old.rows c.args.entry → IsSettledUnread (Ok tt) old c.args.entry (view_of s.limits c.put.new.streams.entries c.put.new.chunks)) c.self.view_is
+    subst (λ (old : StreamsView). age_refusal old.limits old.newest c.args.horizon c.args.entry ≡ None → IsUnreached old.rows c.args.entry → IsSettledUnread (Ok true) old c.args.entry (view_of s.limits c.put.new.streams.entries c.put.new.chunks)) c.self.view_is
     (λ _ unreached. let exact = c.in_ok-put.ensures.exact unreached in unread_taken s.limits s.streams.entries c.put.new.streams.entries s.chunks c.put.new.chunks s.count c.self.invariant.0 c.put.ensures.reads c.args.entry (nat_le s.limits.entries s.count) refl exact.1 (subst (λ more. IsAnsweredUnread (Ok more) (is_among c.args.entry (joined s.streams.entries)) (nat_le s.limits.entries s.count)) c.if-not-branch.false exact.0) added)
