@@ -13,16 +13,19 @@ use Rattle.rl_deletes.specs.contracts.horizon.Horizon as Horizon
 use Rattle.rl_chunks.specs.declared.store.Store as Store
 use Rattle.rl_streams.proofs.Crossing.{Streams-send}
 use Rattle.rl_shard.specs.contracts.kept.KeptRanges as KeptRanges
+use Rattle.rl_shard.specs.contracts.parts.ShardParts as Parts
+use Rattle.rl_shard.specs.contracts.parts.ShardParts.TheInside as parts
 use Rattle.rl_shard.specs.contracts.shard.Shard as Shard
 use Rattle.rl_shard.specs.contracts.shard.Shard.TheInside as inside
 
-fields-send : (T : RattleType) (g : Store.Ghosts T.Denot) → IsSend T → IsSend (inside.the_row T g)
-fields-send T g s =
+parts-send : (T : RattleType) (g : Store.Ghosts T.Denot) → IsSend T → IsSend (Parts.the_row T g)
+parts-send T g s =
     let moment : IsSend (Horizon.the_field).row = search (sendable, heap.crosses) depth 20 in
-    let number : IsSend (Field.u64-field).row = search sendable depth 20 in
     let ranges : IsSend (KeptRanges.the_field).row = search (queries.crosses, partial.the_send, partial.the_sync, shared.the_send, sendable, heap.crosses) depth 20 in
-    recorded_send (inside.the_field T g).row _ _ (inside.the_type T g).to_one (struct_send (shape (inside.the_type T g))
-    (global.the_field_send, (Streams-send T g s, (Requests-send, (moment, (number, (ranges, tt)))))))
+    view_send _ _ _ _ _ (recorded_send (parts.the_field T g).row _ _ (parts.the_type T g).to_one (struct_send (shape (parts.the_type T g))
+    (global.the_field_send, (Streams-send T g s, (Requests-send, (moment, (ranges, tt)))))))
 
 pub Shard-send : (T : RattleType) (g : Store.Ghosts T.Denot) → IsSend T → IsSend (Shard.the_row T g)
-Shard-send T g s = view_send _ _ _ _ _ (fields-send T g s)
+Shard-send T g s =
+    let number : IsSend (Field.u64-field).row = search sendable depth 20 in
+    view_send _ _ _ _ _ (recorded_send (inside.the_field T g).row _ _ (inside.the_type T g).to_one (struct_send (shape (inside.the_type T g)) (parts-send T g s, (number, tt))))

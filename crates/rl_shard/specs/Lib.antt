@@ -1,6 +1,9 @@
 pub mod Collecting
+pub mod Deciding
 pub mod Pushing
 pub mod ShardFault
 pub mod ShardState
 pub mod ShardStep
+pub mod Showing
 pub mod Standing
+pub mod laws

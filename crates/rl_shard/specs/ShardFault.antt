@@ -1,7 +1,8 @@
 -- When a shard may answer each fault, and what its steps leave of its store.
-use Rattle.std.specs.Prelude.{◌≡◌, ◌+◌, ◌≤◌, ℕ, None, IsSome, Bool, true, false, IsTrue, Result, Ok, Err}
+use Rattle.std.specs.Prelude.{◌≡◌, ◌+◌, ◌≤◌, ℕ, None, IsSome, Bool, true, false, IsTrue, Option, Result, Ok, Err}
 use Rattle.rl_chunks.specs.StoreState.{greatest, with_fault}
 use Rattle.std.specs.Option.{MatchOption}
+use Rattle.rl_labels.specs.declared.entry.Entry.{Entry}
 use Rattle.rl_labels.specs.declared.limits.Limits.{Limits}
 use Rattle.rl_deletes.specs.Deletes.{asked, IsReceiveFault}
 use Rattle.rl_parts.specs.StoreUse.{FaultsRise, Grown}
@@ -117,19 +118,30 @@ IsWritten steps.Cut new = new.loose ≡ 0
 IsWritten steps.Flush new = new.unwritten ≡ 0
 IsWritten step new = Unit {0}
 
+-- it gives no number, and leaves what the store has
+abbrev pub GivesNone : StreamsView → StreamsView → Type 0
+GivesNone old new = (new.next ≡ old.next) × (new.seen.blobs ≡ old.seen.blobs)
+
 -- what a step makes of the numbers with any answer: a flush gives one to each part that it writes, and one that neither flushes nor
 -- removes gives none, and leaves what the store has
 abbrev pub Gives : ShardStep → StreamsView → StreamsView → Type 0
 Gives steps.Flush old new = new.next + new.unwritten ≡ old.next + old.unwritten
 Gives (steps.Process id now) old new = old.next ≤ new.next
 Gives (steps.Retain now) old new = old.next ≤ new.next
-Gives step old new = (new.next ≡ old.next) × (new.seen.blobs ≡ old.seen.blobs)
+Gives step old new = GivesNone old new
 
--- what is decided was done, over any store. A step that removes no entry leaves what stood in the store under other numbers than
--- those that it gave; and what is left where entries are removed follows from bytes with the digests that were kept
+-- what stood in the store under other numbers than those that were given still does, and its device did not fail
+abbrev pub LeavesStore : StreamsView → StreamsView → Type 0
+LeavesStore old new = Grown old.seen old.next new.next new.seen × (new.seen.faults ≡ old.seen.faults)
+
+-- where entries are removed, what is left follows from bytes with the digests that were kept
+abbrev pub IsRemoved : Option (Entry → Bool) → StreamsView → StreamsView → Type 0
+IsRemoved removed old new = MatchOption removed (LeavesStore old new) (λ covers. AreLeftIn covers old.rows new.rows × Rewrites old new)
+
+-- what is decided was done, over any store
 pub record IsDone (limits : Limits) (shard : ShardState) (step : ShardStep) (old new : StreamsView) : Type 0 where
   pub written : IsWritten step new
-  pub left : MatchOption (removes limits shard step) (Grown old.seen old.next new.next new.seen × (new.seen.faults ≡ old.seen.faults)) (λ covers. AreLeftIn covers old.rows new.rows × Rewrites old new)
+  pub left : IsRemoved (removes limits shard step) old new
 
 -- what any step leaves of the store: it is as honest as it was, and faults and numbers never go down
 pub record Stored (old new : StreamsView) : Type 0 where

@@ -46,21 +46,36 @@ pub record ShardView : Type 0 where
   pub horizon : ℕ
   pub records : ℕ
 
--- what streams hold, under requests and a horizon
-abbrev pub state_of : StreamsView → RequestsView → ℕ → ShardState
-state_of streams requests horizon = record { held = streams.held; newest = streams.newest; requests = requests; horizon = horizon }
+-- the same without its journal
+pub record PartsView : Type 0 where
+  pub streams : StreamsView
+  pub requests : RequestsView
+  pub horizon : ℕ
 
--- the part of it that is promised
+abbrev pub parts_of : ShardView → PartsView
+parts_of shard = record { streams = shard.streams; requests = shard.requests; horizon = shard.horizon }
+
+-- what it holds
+abbrev pub state_of : PartsView → ShardState
+state_of parts = record { held = parts.streams.held; newest = parts.streams.newest; requests = parts.requests; horizon = parts.horizon }
+
+-- the part of a shard that is promised
 abbrev pub journalled : ShardView → Journalled
-journalled shard = record { limits = shard.streams.limits; state = state_of shard.streams shard.requests shard.horizon; records = shard.records }
+journalled shard = record { limits = shard.streams.limits; state = state_of (parts_of shard); records = shard.records }
 
 -- an empty shard over a store
 abbrev pub opened_over : Limits → Seen → ShardView
 opened_over limits seen = record { streams = no_streams limits seen; requests = no_requests limits; horizon = 0; records = 0 }
 
--- a shard as numbers, for a store
+-- both as numbers, for a store
+abbrev pub parts_code : Coded PartsView
+parts_code = code_by (StreamsView × (RequestsView × ℕ)) (coded× streams_code (coded× requests_code coded_ℕ))
+    (λ s. (s.streams, (s.requests, s.horizon)))
+    (λ p. record { streams = p.0; requests = p.1.0; horizon = p.1.1 })
+    (λ _. refl)
+
 abbrev pub shard_view_code : Coded ShardView
-shard_view_code = code_by (StreamsView × (RequestsView × (ℕ × ℕ))) (coded× streams_code (coded× requests_code (coded× coded_ℕ coded_ℕ)))
-    (λ s. (s.streams, (s.requests, (s.horizon, s.records))))
-    (λ p. record { streams = p.0; requests = p.1.0; horizon = p.1.1.0; records = p.1.1.1 })
+shard_view_code = code_by (PartsView × ℕ) (coded× parts_code coded_ℕ)
+    (λ s. (parts_of s, s.records))
+    (λ p. record { streams = p.0.streams; requests = p.0.requests; horizon = p.0.horizon; records = p.1 })
     (λ _. refl)

@@ -3,8 +3,8 @@
 //! `Shard::apply` answers a step exactly as the definition of the shard step says, and leaves exactly the state that it
 //! says, where its store is honest. A step that is refused for a fault changes nothing of what is held, over any store.
 //!
-//! - `step`: `ShardStep`, `ShardReply`, `ShardFault`. `shard`: `Shard`. `deciding`, with `deleting`: what becomes of each step. `collecting`, with
-//!   `lines` and `kept`: what it shows of the ranges of terms. `sending`: a probe for what may cross to another thread.
+//! - `step`: `ShardStep`, `ShardReply`, `ShardFault`. `shard`: `Shard`. `parts`: what its steps change; `deciding`, with `deleting`: what becomes
+//!   of each step. `collecting`, with `lines` and `kept`: what it shows of the ranges of terms. `sending`: a probe for what may cross to another thread.
 #![tactic(auto)]
 
 mod collecting;
@@ -12,6 +12,7 @@ mod deciding;
 mod deleting;
 mod kept;
 mod lines;
+mod parts;
 pub mod sending;
 pub mod shard;
 pub mod step;

@@ -1,27 +1,18 @@
 //! A shard, by its steps.
 ghost use Rattle.std.specs.Prelude.{◌≡◌, ◌+◌, ◌≤◌, false, IsTrue, Err, length, IfOk, IfErr, OnOk, OnErr};
 
-use crate::collecting::show_few;
-use crate::deciding::decide;
-use crate::kept::KeptRanges;
+use crate::parts::ShardParts;
 use crate::step::{ShardFault, ShardReply, ShardStep};
 use rl_chunks::Store;
-use rl_deletes::{Horizon, Requests};
 use rl_labels::Limits;
-use rl_streams::Streams;
 use std::alloc::Global;
 use std::marker::Model;
 
 /// One shard. Contracts see a `ShardView`; worlds speak of the part of it that is `journalled`, and of its store.
 #[derive(Drop)]
 pub struct Shard<S: Store> {
-    alloc: Global,
-    streams: Streams<S>,
-    requests: Requests,
-    horizon: Horizon,
+    parts: ShardParts<S>,
     records: u64,
-    // What the ranges add up to that were asked for last.
-    kept: KeptRanges,
 }
 
 impl<S: Store> Model for Shard<S> {
@@ -32,12 +23,9 @@ impl<S: Store> Model for Shard<S> {
 
     ghost coded = { shard_view_code };
 
-    ghost view = { λ a. record { streams = a.streams; requests = a.requests; horizon = a.horizon; records = a.records } };
+    ghost view = { λ a. record { streams = a.parts.streams; requests = a.parts.requests; horizon = a.parts.horizon; records = a.records } };
 
-    ghost use Rattle.rl_chunks.specs.StoreState.{greatest};
-    ghost use Rattle.rl_shard.specs.Standing.{AreKept};
-
-    ghost invariant = { λ a. (a.records ≤ a.streams.limits.records) × ((a.streams.next ≤ greatest) × AreKept a.streams a.requests a.kept) };
+    ghost invariant = { λ a. a.records ≤ a.parts.streams.limits.records };
 }
 
 impl<S: Store> Shard<S> {
@@ -48,6 +36,7 @@ impl<S: Store> Shard<S> {
     ghost use Rattle.rl_shard.specs.ShardState.{journalled, opened_over, visible};
     ghost use Rattle.rl_parts.specs.StoreUse.{Grown};
     ghost use Rattle.rl_shard.specs.ShardStep.{recorded, is_journal_full, IsAnswered, IsReply};
+    ghost use Rattle.rl_shard.specs.Showing.{Shows};
     ghost use Rattle.rl_shard.specs.declared.step.ShardFault.TheVariants as faults;
 
     /// A shard over a store that holds nothing, with an empty journal.
@@ -55,12 +44,8 @@ impl<S: Store> Shard<S> {
         ensures { result ≡ opened_over limits (S.seen store) }
     {
         Shard {
-            alloc,
-            requests: Requests::new(alloc, &limits),
-            streams: Streams::new(alloc, store, limits),
-            horizon: Horizon::first(),
+            parts: ShardParts::new(alloc, store, limits),
             records: 0,
-            kept: KeptRanges::new(alloc, Horizon::first().moment()),
         }
     }
 
@@ -68,7 +53,7 @@ impl<S: Store> Shard<S> {
     pub fn store(&self) -> &S
         ensures { S.seen result.now ≡ self.now.streams.seen }
     {
-        self.streams.store()
+        self.parts.streams().store()
     }
 
     /// How many records the journal has.
@@ -82,7 +67,7 @@ impl<S: Store> Shard<S> {
     pub fn is_journal_full(&self) -> bool
         ensures { result ≡ is_journal_full (journalled self.now) }
     {
-        self.records >= self.streams.limits().records
+        self.records >= self.parts.streams().limits().records
     }
 
     /// Decides a step, and answers its place in the journal, counted from 0, with the reply. JournalFull comes before
@@ -107,20 +92,14 @@ impl<S: Store> Shard<S> {
         // Over an honest store.
         ensures decided { IsHonest self.old → IfOk result (λ answer. IsReply (journalled self.old).limits (journalled self.old).state step answer.1) }
         ensures changed { IsHonest self.old → OnOk result (journalled self.new ≡ recorded (journalled self.old) step) }
+        ensures shown { IsHonest self.old → OnOk result (Shows (journalled self.old).limits (journalled self.old).state step (visible (journalled self.new).state)) }
         ensures few { length (visible (journalled self.old).state) ≤ (journalled self.old).limits.entries }
     {
-        show_few(&self.streams, &self.requests);
+        self.parts.show_bounds();
         if self.is_journal_full() {
             return Err(ShardFault::JournalFull);
         }
-        let reply = decide(
-            self.alloc,
-            &mut self.streams,
-            &mut self.requests,
-            &mut self.horizon,
-            &mut self.kept,
-            step,
-        )?;
+        let reply = self.parts.decide(step)?;
         let place = self.records;
         self.records += 1;
         Ok((place, reply))

@@ -1,0 +1,2 @@
+-- Laws that the crates above rest on.
+pub mod Shown
