@@ -14,6 +14,7 @@ use Rattle.rl_rules.specs.declared.rule.RuleKind.{RuleKind}
 use Rattle.rl_rules.specs.declared.rule.RuleKind.TheVariants as kinds
 use Rattle.rl_rules.specs.declared.evaluation.RuleOutcome.{RuleOutcome}
 use Rattle.rl_rules.specs.declared.evaluation.RuleOutcome.TheVariants as made
+use Rattle.rl_rules.specs.declared.evaluation.RuleResult.{RuleResult}
 use Rattle.rl_rules.specs.declared.evaluation.Cause.{Cause}
 use Rattle.rl_rules.specs.declared.evaluation.Cause.TheVariants as causes
 use Rattle.rl_rules.specs.declared.alert.Alert.{Alert}
@@ -85,3 +86,7 @@ alerts_left alerts (made.Failed cause) = kept_at cause alerts
 -- the step of a rule: its alerts from then on, and what it made
 abbrev pub rule_step : Rule → ℕ → List Alert → Outcome → ℕ → List Alert × RuleOutcome
 rule_step rule limit alerts outcome t = (alerts_left alerts (rule_outcome rule limit alerts outcome t), rule_outcome rule limit alerts outcome t)
+
+-- what a rule of a group with this limit, which has these alerts, gives at a moment of the outcome of its query
+abbrev pub result_of : ℕ → ℕ → Rule → List Alert → Outcome → RuleResult
+result_of limit t rule alerts outcome = record { kind = rule.kind; name = rule.name; annotations = rule.annotations; outcome = rule_outcome rule limit alerts outcome t }

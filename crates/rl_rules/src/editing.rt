@@ -4,25 +4,27 @@ ghost use Rattle.rl_rules.specs.Editing.{taken, handed_on};
 ghost use Rattle.rl_rules.specs.SameRule.{is_same_rule};
 
 use crate::alert::Alert;
+use crate::kept::KeptRule;
 use crate::rule::Rule;
 use rl_plain::{PlainList, Same};
 use std::alloc::{AllocError, Global};
 
-/// What the rules of an edited group have of alerts, given the rules before with theirs: each rule in order takes those of the
+/// What is kept of the rules of an edited group, given the rules before with their alerts: each rule in order takes those of the
 /// first rule before that is equal in all fields and was not yet taken, and none where there is no such rule.
 pub fn hand_on(
     alloc: Global,
     rules: &[Rule],
     mut before: Vec<(Rule, PlainList<Alert>)>,
-) -> Result<Vec<PlainList<Alert>>, AllocError>
-    ensures { IfOk result (λ alerts. alerts.items ≡ handed_on rules.now before.items) }
+) -> Result<Vec<KeptRule>, AllocError>
+    ensures { IfOk result (λ kept. kept.items ≡ handed_on rules.now before.items) }
 {
-    let mut alerts = Vec::with_capacity(alloc, rules.len())?;
+    let mut kept = Vec::with_capacity(alloc, rules.len())?;
     for rule in rules {
         let own = take_first(&mut before, rule);
-        alerts.push(own.unwrap_or(PlainList::new(alloc)))?;
+        let alerts = own.unwrap_or(PlainList::new(alloc));
+        kept.push(KeptRule::new(alloc, alerts))?;
     }
-    Ok(alerts)
+    Ok(kept)
 }
 
 // Removes the first rule that is equal, if there is one: its alerts.

@@ -13,20 +13,14 @@ use Rattle.rl_plain.specs.contracts.list.PlainList as PlainList
 use Rattle.rl_plain.specs.contracts.shared.Shared as Shared
 use Rattle.rl_query.specs.contracts.query.Term as Term
 use Rattle.rl_aggregate.specs.contracts.partial.Partial as Partial
-use Rattle.rl_rules.specs.contracts.alert.Alert as Alert
 use Rattle.rl_rules.specs.contracts.evaluation.Evaluation as Evaluation
+use Rattle.rl_rules.specs.contracts.kept.KeptRule as KeptRule
 use Rattle.rl_rules.specs.contracts.rule.Group as Group
 use Rattle.rl_sinks.specs.declared.sink.Sink as Sink
-use Rattle.rl_aggregate.proofs.outcome.Outcome.TheSendSync as outcome
 use Rattle.rl_aggregate.proofs.partial.Partial.TheSendSync as partial
-use Rattle.rl_labels.proofs.labels.Labels.TheSendSync as labels
-use Rattle.rl_plain.proofs.text.PlainText.TheSendSync as text
-use Rattle.rl_rules.proofs.alert.Alert.TheSendSync as alert
-use Rattle.rl_rules.proofs.rule.RuleKind.TheSendSync as kind
 use Rattle.rl_world.proofs.opened.OpenEvaluation.TheSendSync as opening
 use Rattle.rl_query.proofs.Crossing as queries
 use Rattle.rl_rules.proofs.Crossing as groups
-use Rattle.rl_world.specs.contracts.evaluating.RuleCache as RuleCache
 use Rattle.rl_world.specs.contracts.item.Item as Item
 use Rattle.rl_world.specs.contracts.opened.OpenEvaluation as OpenEvaluation
 use Rattle.rl_world.specs.contracts.book.Book as Book
@@ -35,17 +29,11 @@ use Rattle.rl_world.specs.contracts.book.Book.TheInside as inside
 Item-send : IsSend Item.the_row
 Item-send = search (groups.crosses, sendable, heap.crosses) depth 20
 
-RuleCache-send : IsSend RuleCache.the_row
-RuleCache-send =
-    search (outcome.the_field_send, partial.the_send, partial.the_sync, kind.the_field_send, labels.the_send, text.the_send, queries.crosses, groups.crosses, sendable, heap.crosses) depth 30
-
 fields-send : (T : RattleType) (g : Sink.Ghosts T.Denot) → IsSend T → IsSend (inside.the_row T g)
 fields-send T g s =
     let group : IsSend (Shared.the_field Group.the_row).row = search (groups.crosses, sendable, heap.crosses) depth 20 in
     let terms : IsSend (Shared.the_field (PlainList.the_row Term.the_row)).row = search (queries.crosses, groups.crosses, sendable, heap.crosses) depth 20 in
-    let alerts : IsSend (Vec.the_field (PlainList.the_row Alert.the_row) Global.the_row allocator.ghosts).row = search (alert.the_send, groups.crosses, sendable, heap.crosses) depth 20 in
-    let memory = RuleCache-send in
-    let caches : IsSend (Vec.the_field RuleCache.the_row Global.the_row allocator.ghosts).row = search (memory, sendable, heap.crosses) depth 20 in
+    let kept : IsSend (Vec.the_field KeptRule.the_row Global.the_row allocator.ghosts).row = search (groups.crosses, sendable, heap.crosses) depth 20 in
     let item = Item-send in
     let items : IsSend (Vec.the_field Item.the_row Global.the_row allocator.ghosts).row = search (item, sendable, heap.crosses) depth 20 in
     let evaluations : IsSend (Vec.the_field (Shared.the_row Evaluation.the_row) Global.the_row allocator.ghosts).row = search (groups.crosses, sendable, heap.crosses) depth 20 in
@@ -54,7 +42,7 @@ fields-send T g s =
     let number : IsSend (Field.u64-field).row = search sendable depth 20 in
     let size : IsSend (Field.usize-field).row = search sendable depth 20 in
     recorded_send (inside.the_field T g).row _ _ (inside.the_type T g).to_one (struct_send (shape (inside.the_type T g))
-    (global.the_field_send, (group, (group, (terms, (number, (size, (number, (alerts, (caches, (items, (evaluations, (opened, (sinks, tt))))))))))))))
+    (global.the_field_send, (group, (group, (terms, (number, (size, (number, (kept, (items, (evaluations, (opened, (sinks, tt)))))))))))))
 
 pub Book-send : (T : RattleType) (g : Sink.Ghosts T.Denot) → IsSend T → IsSend (Book.the_row T g)
 Book-send T g s = view_send _ _ _ _ _ (fields-send T g s)

@@ -1,7 +1,9 @@
 -- What one item more makes of the group, its alerts and its evaluations.
 use Rattle.std.proofs.Common.{◌≡◌, ℕ, zero, suc, ◌+◌, ◌<◌, ◌≤◌, List, [], ◌∷◌, ◌++◌, length, zip, drop, get_or, refl, sym, ap, ◌∙◌, arith, append_assoc, append-nil, add-one}
+use Rattle.rl_rules.specs.Editing.{handed_on, taken}
 use Rattle.rl_rules.specs.declared.alert.Alert.{Alert}
 use Rattle.rl_rules.specs.declared.rule.Group.{Group}
+use Rattle.rl_rules.specs.declared.rule.Rule.{Rule}
 use Rattle.rl_rules.specs.declared.evaluation.Evaluation.{Evaluation}
 use Rattle.rl_world.specs.History.{alerts_then, alerts_edited, alerts_after, group_after, evaluations_in}
 use Rattle.rl_world.specs.declared.item.Item.{Item}
@@ -38,6 +40,11 @@ module _ (to : Group) where
   evaluations-edited [] = refl
   evaluations-edited (kinds.Edited next ∷ items) = evaluations-edited items
   evaluations-edited (kinds.Evaluated first ∷ items) = ap (λ (rest : List Evaluation). first ∷ rest) (evaluations-edited items)
+
+-- each rule is handed alerts on, or none
+pub length_handed_on : (rules : List Rule) (olds : List (Rule × List Alert)) → length (handed_on rules olds) ≡ length rules
+length_handed_on [] olds = refl
+length_handed_on (rule ∷ rules) olds = ap suc (length_handed_on rules (taken rule olds).1)
 
 -- there are no more evaluations than items
 pub few_evaluations : (items : List Item) → length (evaluations_in items) ≤ length items

@@ -55,7 +55,7 @@ within_none None = refl
 within_none (Some limit) = drop-nil (0 - limit)
 
 -- sinks that have taken nothing took a prefix of no evaluation
-fresh_took : (sinks : List SinkState) → AllByRecursion IsFresh sinks → AllByRecursion (TookPrefix []) sinks
+pub fresh_took : (sinks : List SinkState) → AllByRecursion IsFresh sinks → AllByRecursion (TookPrefix []) sinks
 fresh_took [] all = all
 fresh_took (sink ∷ sinks) all =
     let none : texts_of sink.kind (take sink.count []) ≡ [] = ap (texts_of sink.kind) (take-nil {A = Evaluation} sink.count) in

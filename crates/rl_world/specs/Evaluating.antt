@@ -4,7 +4,7 @@ use Rattle.rl_labels.specs.declared.entry.Entry.{Entry}
 use Rattle.rl_query.specs.declared.query.Term.{Term}
 use Rattle.rl_aggregate.specs.Evaluated.{terms_of, evaluated}
 use Rattle.rl_aggregate.specs.declared.outcome.Outcome.{Outcome}
-use Rattle.rl_rules.specs.Outcomes.{rule_outcome}
+use Rattle.rl_rules.specs.Outcomes.{result_of}
 use Rattle.rl_rules.specs.declared.alert.Alert.{Alert}
 use Rattle.rl_rules.specs.declared.rule.Rule.{Rule}
 use Rattle.rl_rules.specs.declared.rule.Group.{Group}
@@ -20,10 +20,6 @@ group_terms group = flat_map (λ rule. terms_of rule.query) group.rules
 -- what was gathered of the shards that were asked, in the order of the shards
 abbrev pub answers : {X : Type 0} → OpenEvaluation X → List (Gathered X)
 answers opened = flat_map option_to_list opened.gathered
-
--- what a rule of a group with this limit, which has these alerts, makes of the outcome of its query at a moment
-abbrev pub result_of : ℕ → ℕ → Rule → List Alert → Outcome → RuleResult
-result_of limit t rule alerts outcome = record { kind = rule.kind; name = rule.name; annotations = rule.annotations; outcome = rule_outcome rule limit alerts outcome t }
 
 -- the alerts of the first rule, none where none are known
 abbrev pub first_alerts : List (List Alert) → List Alert

@@ -65,9 +65,9 @@ not_later None t = None
 not_later (Some last) t = if nat_le t last then Some (faults.MomentNotLater last) else None
 
 module _ {X : Type 0} where
-  -- the alerts that the rules have now: at first they had none
+  -- the alerts that the rules have now: at first each had none
   abbrev pub alerts_of : History X → List (List Alert)
-  alerts_of history = alerts_after history.first [] history.items
+  alerts_of history = alerts_after history.first (handed_on history.first.rules []) history.items
 
   -- the moment of the last evaluation that was committed
   abbrev pub last_moment : History X → Option ℕ

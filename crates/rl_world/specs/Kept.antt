@@ -6,6 +6,7 @@ use Rattle.rl_query.specs.declared.query.Term.{Term}
 use Rattle.rl_aggregate.specs.Evaluated.{terms_of, finished}
 use Rattle.rl_aggregate.specs.Partials.{partial, merge}
 use Rattle.rl_aggregate.specs.declared.partial.Partial.{Partial}
+use Rattle.rl_rules.specs.Outcomes.{result_of}
 use Rattle.rl_rules.specs.declared.alert.Alert.{Alert}
 use Rattle.rl_rules.specs.declared.rule.Rule.{Rule}
 use Rattle.rl_rules.specs.declared.rule.Group.{Group}
@@ -13,7 +14,7 @@ use Rattle.rl_rules.specs.declared.evaluation.RuleResult.{RuleResult}
 use Rattle.rl_rules.specs.declared.evaluation.Evaluation.{Evaluation}
 use Rattle.rl_world.specs.declared.opened.Gathered.{Gathered}
 use Rattle.rl_world.specs.declared.opened.OpenEvaluation.{OpenEvaluation}
-use Rattle.rl_world.specs.Evaluating.{group_terms, answers, result_of, first_alerts, evaluation_with}
+use Rattle.rl_world.specs.Evaluating.{group_terms, answers, first_alerts, evaluation_with}
 
 -- what is kept of a list: its partial for each term
 abbrev pub partials_of : List Entry → List Term → ℕ → List Partial

@@ -66,10 +66,11 @@ Stands kept world = kept ≡ kept_world world
 abbrev pub StandsForSome : WorldState (List Partial) → Type 0
 StandsForSome kept = (shown : WorldState (List Entry)) × Stands kept shown
 
--- what holds of every book: its terms are the group's, its alerts are what its history left, the group and the evaluations are those of its items, an open evaluation has room for each shard, and its sinks took prefixes
+-- what holds of every book: its terms are the group's, its alerts are what its history left, a list for each rule, the group and the evaluations are those of its items, an open evaluation has room for each shard, and its sinks took prefixes
 pub record IsBook (terms : List Term) (alerts : List (List Alert)) (book : BookState) : Type 0 where
   pub terms_are : terms ≡ group_terms book.history.group
   pub alerts_are : alerts ≡ alerts_of book.history
+  pub each : length alerts ≡ length book.history.group.rules
   pub few_shards : book.shards ≤ most_shards
   pub few_records : book.history.records ≤ 1048576
   pub few : length book.history.items ≤ book.history.records

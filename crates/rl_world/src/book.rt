@@ -8,8 +8,8 @@ ghost use Rattle.rl_world.specs.WorldRun.{ArePumped};
 ghost use Rattle.std.specs.List.{AllByRecursion, AllZip, list_all};
 ghost use Rattle.std.specs.Option.{option_copied};
 
-use crate::editing::alerts_edited;
-use crate::evaluating::{RuleCache, ShardAnswer, evaluate, terms_of_group};
+use crate::editing::{kept_edited, kept_of};
+use crate::evaluating::{ShardAnswer, evaluate, terms_of_group};
 use crate::fault::{BookError, BookFault};
 use crate::item::Item;
 use crate::offering::{catch_up_all, offer_all};
@@ -19,7 +19,7 @@ use rl_aggregate::Partial;
 use rl_labels::Ns;
 use rl_plain::{PlainList, Shared, TryCopy};
 use rl_query::Term;
-use rl_rules::{Alert, Evaluation, Group};
+use rl_rules::{Alert, Evaluation, Group, KeptRule};
 use rl_sinks::Sink;
 use std::alloc::{AllocError, Global};
 use std::marker::Model;
@@ -37,10 +37,8 @@ pub struct Book<S: Sink> {
     slot: u64,
     shards: usize,
     records: u64,
-    // What the history left to each rule.
-    alerts: Vec<PlainList<Alert>>,
-    // What is kept for each rule from one evaluation to the next.
-    caches: Vec<RuleCache>,
+    // Of each of the group's rules.
+    kept: Vec<KeptRule>,
     // Edits and evaluations in order, and the evaluations alone.
     items: Vec<Item>,
     evaluations: Vec<Shared<Evaluation>>,
@@ -63,7 +61,7 @@ impl<S: Sink> Model for Book<S> {
 
     ghost view = { λ a. record { history = record { first = a.first; records = a.records; items = a.items.items; group = a.group; evaluations = a.evaluations.items; opened = a.opened }; shards = a.shards; slot = a.slot; sinks = map S.state a.sinks.items } };
 
-    ghost invariant = { λ a. IsBook a.terms a.alerts.items (record { history = record { first = a.first; records = a.records; items = a.items.items; group = a.group; evaluations = a.evaluations.items; opened = a.opened }; shards = a.shards; slot = a.slot; sinks = map S.state a.sinks.items }) };
+    ghost invariant = { λ a. IsBook a.terms a.kept.items (record { history = record { first = a.first; records = a.records; items = a.items.items; group = a.group; evaluations = a.evaluations.items; opened = a.opened }; shards = a.shards; slot = a.slot; sinks = map S.state a.sinks.items }) };
 }
 
 impl<S: Sink> Book<S> {
@@ -93,6 +91,7 @@ impl<S: Sink> Book<S> {
         ensures { IfOk result (λ book. book ≡ new_book slot records shards group (map S.state sinks.items)) }
     {
         let terms = terms_of_group(alloc, &group)?;
+        let kept = kept_of(alloc, &group, Vec::new(alloc))?;
         let first = Shared::new(alloc, group)?;
         let now = first.try_copy()?;
         Ok(Book {
@@ -103,8 +102,7 @@ impl<S: Sink> Book<S> {
             slot,
             shards,
             records,
-            alerts: Vec::new(alloc),
-            caches: Vec::new(alloc),
+            kept,
             items: Vec::new(alloc),
             evaluations: Vec::new(alloc),
             opened: None,
@@ -130,13 +128,13 @@ impl<S: Sink> Book<S> {
             return Err(BookError::Fault(BookFault::SessionFull));
         }
         let terms = terms_of_group(self.alloc, &group)?;
-        let handed = alerts_edited(self.alloc, self.group.get(), &self.alerts, &group)?;
+        let kept = kept_edited(self.alloc, self.group.get(), &self.kept, &group)?;
         let group = Shared::new(self.alloc, group)?;
         let item = Item::Edited(group.try_copy()?);
         self.items.push(item)?;
         self.group = group;
         self.terms = terms;
-        self.alerts = handed;
+        self.kept = kept;
         Ok(place)
     }
 
@@ -204,16 +202,18 @@ impl<S: Sink> Book<S> {
         ensures err { OnErr result (self.new ≡ self.old) }
     {
         let number = self.evaluations.len() as u64;
-        let mut caches = mem::replace(&mut self.caches, Vec::new(self.alloc));
-        let evaluated = self.evaluated(&mut caches);
-        self.caches = caches;
-        let (evaluation, copy, alerts) = evaluated?;
+        let full = self.items.len() as u64 >= self.records;
+        let opened = complete(&self.opened, full)?;
+        let terms = self.terms.get().len();
+        let group = self.group.get();
+        let (evaluation, alerts) = evaluate(self.alloc, group, terms, &mut self.kept, opened)?;
+        let copy = evaluation.try_copy()?;
         let item = Item::Evaluated(evaluation.try_copy()?);
         let mut behind = Vec::with_capacity(self.alloc, self.sinks.len())?;
         self.items.reserve(1)?;
         self.evaluations.push(evaluation)?;
         self.items.push_reserved(item);
-        self.alerts = alerts;
+        keep_all(&mut self.kept, alerts);
         close(&mut self.opened);
         offer_all(&mut self.sinks, &self.evaluations, &mut behind);
         Ok(Committed {
@@ -221,43 +221,6 @@ impl<S: Sink> Book<S> {
             evaluation: copy,
             behind: PlainList::from_vec(behind),
         })
-    }
-
-    // The evaluation that a commit adds, its copy for the caller, and the alerts that it leaves to the rules.
-    fn evaluated(
-        &self,
-        caches: &mut Vec<RuleCache>,
-    ) -> Result<
-        (
-            Shared<Evaluation>,
-            Shared<Evaluation>,
-            Vec<PlainList<Alert>>,
-        ),
-        BookError,
-    >
-        ensures answer { Answers (commit_fault self.now.history) result }
-        ensures room { OnOk result (length self.now.history.items < self.now.history.records) }
-        ensures evaluation { IfOk result (λ made. IfSome self.now.history.opened (λ opened. made.0 ≡ evaluation_from self.now.history.group (alerts_of self.now.history) opened)) }
-        ensures from_scratch { IfOk result (λ made. (shown : OpenEvaluation (List Entry)) → self.now.history.opened ≡ Some (kept_open (group_terms self.now.history.group) shown) → made.0 ≡ evaluation_of self.now.history.group (alerts_of self.now.history) shown) }
-        ensures copy { IfOk result (λ made. made.1 ≡ made.0) }
-        ensures alerts { IfOk result (λ made. made.2.items ≡ alerts_then (alerts_of self.now.history) made.0.outcomes) }
-    {
-        let full = self.items.len() as u64 >= self.records;
-        let opened = match complete(&self.opened, full) {
-            Ok(opened) => opened,
-            Err(fault) => return Err(BookError::Fault(fault)),
-        };
-        let terms = self.terms.get().len();
-        let (evaluation, alerts) = evaluate(
-            self.alloc,
-            self.group.get(),
-            terms,
-            &self.alerts,
-            opened,
-            caches,
-        )?;
-        let copy = evaluation.try_copy()?;
-        Ok((evaluation, copy, alerts))
     }
 
     /// Closes the open evaluation, of which nothing is left.
@@ -335,11 +298,11 @@ impl<S: Sink> Book<S> {
         &self.terms
     }
 
-    /// What each rule has of alerts, in the order of the rules. None are listed before the first edit or evaluation.
-    pub fn alerts(&self) -> &[PlainList<Alert>]
+    /// What is kept of each rule, in their order: the alerts that it has.
+    pub fn alerts(&self) -> &[KeptRule]
         ensures { result.now ≡ alerts_of self.now.history }
     {
-        &self.alerts
+        &self.kept
     }
 
     /// A committed evaluation by its number, counted from 0 among the evaluations of the history.
@@ -399,8 +362,7 @@ impl<S: Sink> Book<S> {
             first,
             group,
             terms,
-            alerts,
-            caches,
+            kept,
             items,
             evaluations,
             opened,
@@ -410,8 +372,7 @@ impl<S: Sink> Book<S> {
         mem::forget(first);
         mem::forget(group);
         mem::forget(terms);
-        mem::forget(alerts);
-        mem::forget(caches);
+        mem::forget(kept);
         mem::forget(items);
         mem::forget(evaluations);
         mem::forget(opened);
@@ -478,6 +439,18 @@ fn put(
 {
     if let Some(opened) = opened {
         opened.gathered.set(shard, Some(answer));
+    }
+}
+
+// Each rule has its alerts from now on.
+fn keep_all(kept: &mut [KeptRule], alerts: Vec<PlainList<Alert>>)
+    requires { length kept.old ≡ length alerts.items }
+    ensures { kept.new ≡ alerts.items }
+{
+    let mut index = 0;
+    for own in alerts {
+        kept[index].keep(own);
+        index += 1;
     }
 }
 

@@ -8,7 +8,7 @@ use crate::trouble::Trouble;
 use crate::world::{Kept, Sunk};
 use rl_plain::{PlainList, Same};
 use rl_query_text::print_term;
-use rl_rules::{Alert, Evaluation, Group};
+use rl_rules::{Alert, Evaluation, Group, KeptRule};
 use rl_shard::ShardReply;
 use rl_sinks::{SinkKind, evaluation_text};
 use rl_world::{Book, Committed, Item, Reply, Step, World};
@@ -268,10 +268,10 @@ fn push_kept(
 }
 
 // The alerts of each rule, each after the number of the rule.
-fn push_alerts(output: &mut String, of_rules: &[PlainList<Alert>]) -> Result<(), Trouble> {
-    writeln!(output, "of {} rules", of_rules.len())?;
-    for (number, alerts) in of_rules.iter().enumerate() {
-        for alert in alerts.as_slice() {
+fn push_alerts(output: &mut String, rules: &[KeptRule]) -> Result<(), Trouble> {
+    writeln!(output, "of {} rules", rules.len())?;
+    for (number, kept) in rules.iter().enumerate() {
+        for alert in kept.alerts().as_slice() {
             push_alert(output, number, alert)?;
         }
     }

@@ -7,10 +7,11 @@ use Rattle.rl_aggregate.specs.Evaluated.{terms_of, finished}
 use Rattle.rl_aggregate.specs.laws.Runs.{partial-append}
 use Rattle.rl_aggregate.specs.Partials.{partial, merge}
 use Rattle.rl_aggregate.specs.declared.partial.Partial.{Partial}
+use Rattle.rl_rules.specs.Outcomes.{result_of}
 use Rattle.rl_rules.specs.declared.alert.Alert.{Alert}
 use Rattle.rl_rules.specs.declared.rule.Rule.{Rule}
 use Rattle.rl_rules.specs.declared.rule.Group.{Group}
-use Rattle.rl_world.specs.Evaluating.{group_terms, answers, result_of, results_of, first_alerts, shown_entries, evaluation_of}
+use Rattle.rl_world.specs.Evaluating.{group_terms, answers, results_of, first_alerts, shown_entries, evaluation_of}
 use Rattle.rl_world.specs.Kept.{partials_of, no_partial, merged_from, merged_terms, results_from, evaluation_from}
 use Rattle.rl_world.specs.WorldState.{kept_answer, kept_open}
 use Rattle.rl_world.specs.declared.opened.Gathered.{Gathered}

@@ -15,6 +15,7 @@ invariant_of-self g c =
     record {
       terms_are = c.self.invariant.terms_are;
       alerts_are = c.self.invariant.alerts_are;
+      each = c.self.invariant.each;
       few_shards = c.self.invariant.few_shards;
       few_records = c.self.invariant.few_records;
       few = c.self.invariant.few;

@@ -1,5 +1,8 @@
 -- The book has one edit more, and its rules what was handed on.
-use Rattle.std.proofs.Common.{◌≡◌, ◌<◌, ◌++◌, [], ◌∷◌, length, arith, sym, ap, ◌∙◌}
+use Rattle.std.proofs.Common.{◌≡◌, ◌<◌, ◌++◌, List, [], ◌∷◌, length, arith, sym, ap, ◌∙◌}
+use Rattle.rl_rules.specs.Editing.{handed_on}
+use Rattle.rl_rules.specs.declared.alert.Alert.{Alert}
+use Rattle.rl_rules.specs.declared.rule.Group.{Group}
 use Rattle.rl_world.specs.Evaluating.{group_terms}
 use Rattle.rl_world.specs.History.{alerts_after, alerts_edited, group_after, evaluations_in}
 use Rattle.rl_world.specs.declared.item.Item.TheVariants as kinds
@@ -12,15 +15,17 @@ invariant_of-self-2 g c =
     let inside = c.self.inside in
     let items = c.self.inside.items.items in
     let to = c.args.group in
+    let start : List (List Alert) = handed_on inside.first.rules [] in
     let more : c.push.new.self.items ≡ items ++ kinds.Edited to ∷ [] = c.in_ok-push.ensures.items ∙ (λ k. items ++ kinds.Edited ((c.in_ok-try_copy.ensures ∙ c.in_ok-group.ensures) k) ∷ []) in
     let room : length items < inside.records = omega (arith, c.if-place-self.false, c.len-place.ensures, c.self.inside.items.ok.0) in
     record {
       terms_are = c.in_ok-terms.ensures ∙ ap group_terms (sym c.in_ok-group.ensures);
       alerts_are =
-          c.in_ok-handed.ensures
+          c.in_ok-kept.ensures.alerts
           ∙ (λ k. alerts_edited ((c.get.ensures ∙ c.self.invariant.group_is) k) ((c.deref.ensures.value ∙ c.self.invariant.alerts_are) k) to)
-          ∙ sym (alerts-edited to inside.first [] items)
-          ∙ ap (alerts_after inside.first []) (sym more);
+          ∙ sym (alerts-edited to inside.first start items)
+          ∙ ap (alerts_after inside.first start) (sym more);
+      each = c.in_ok-kept.ensures.each ∙ ap (λ (group : Group). length group.rules) (sym c.in_ok-group.ensures);
       few_shards = c.self.invariant.few_shards;
       few_records = c.self.invariant.few_records;
       few = omega (arith, one_more items c.push.new.self.items (kinds.Edited to) more, room);
