@@ -34,13 +34,7 @@ impl ActiveRequest {
             return Err(AllocError);
         };
         Ok(ActiveRequest {
-            deletion: Deletion {
-                id: asked.id,
-                selector,
-                start: asked.start,
-                end: asked.end,
-                created: asked.created,
-            },
+            deletion: asked.with_selector(selector),
         })
     }
 

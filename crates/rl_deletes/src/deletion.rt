@@ -1,4 +1,7 @@
 //! What a delete request asks for.
+ghost use Rattle.std.specs.Prelude.{◌≡◌};
+ghost use Rattle.rl_deletes.specs.Deletes.{with_selector};
+
 use rl_labels::Ns;
 use rl_plain::{Same, Shared, TryCopy};
 use rl_query::Sieve;
@@ -6,7 +9,7 @@ use std::alloc::AllocError;
 
 /// What is to be deleted under a number, and when that was asked for: what the selector with its line filters selects from the
 /// start to the end, both included (Loki's log deletion). The selector is a text in a command, and a sieve in a request.
-#[derive(Drop)]
+#[derive(Clone, Copy, Drop)]
 pub struct Deletion<S> {
     pub id: u64,
     pub selector: S,
@@ -15,16 +18,26 @@ pub struct Deletion<S> {
     pub created: Ns,
 }
 
-impl TryCopy for Deletion<Shared<Sieve>> {
-    /// Shares the sieve, and takes no memory.
-    fn try_copy(&self) -> Result<Self, AllocError> {
-        Ok(Deletion {
+impl<S> Deletion<S> {
+    /// The deletion of what something else selects.
+    pub fn with_selector<T>(&self, selector: T) -> Deletion<T>
+        ensures { result ≡ with_selector selector self.now }
+    {
+        Deletion {
             id: self.id,
-            selector: self.selector.try_copy()?,
+            selector,
             start: self.start,
             end: self.end,
             created: self.created,
-        })
+        }
+    }
+}
+
+impl TryCopy for Deletion<Shared<Sieve>> {
+    /// Shares the sieve, and takes no memory.
+    fn try_copy(&self) -> Result<Self, AllocError> {
+        let selector = self.selector.try_copy()?;
+        Ok(self.with_selector(selector))
     }
 }
 

@@ -3,6 +3,7 @@ use Rattle.std.specs.Prelude.{ℕ, ◌==◌, ◌^◌, nat_lt, Bool, ◌&&◌, �
 use Rattle.std.specs.Char.{is_ascii_digit}
 use Rattle.std.specs.List.{list_all, position_or_len, before_first, after_first}
 use Rattle.std.specs.Str.Parse.{digits_value}
+use Rattle.rl_deletes.specs.Deletes.{with_selector}
 use Rattle.rl_deletes.specs.declared.deletion.Deletion.{Deletion}
 use Rattle.rl_labels.specs.Decimals.{number_of, billionths, decimal_of}
 use Rattle.rl_labels.specs.Name.{is_text}
@@ -30,7 +31,7 @@ abbrev pub asked : Command → Asked
 asked (commands.Push json) = pushes json.now
 asked commands.Cut = cuts
 asked commands.Flush = flushes
-asked (commands.Delete id start end created selector) = deletes (record { id = id; selector = selector.now; start = start; end = end; created = created })
+asked (commands.Delete deletion) = deletes (with_selector deletion.selector.now deletion)
 asked (commands.Cancel id) = cancels id
 asked (commands.Process id now) = processes id now
 asked (commands.Retain now) = retains now

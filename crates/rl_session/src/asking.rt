@@ -79,18 +79,15 @@ pub(crate) fn ask_all<E: Engine>(engine: &mut E, step: ShardStep) -> CommandResu
 pub(crate) fn delete<E: Engine>(
     alloc: Global,
     engine: &mut E,
-    deletion: Deletion<&str>,
+    deletion: &Deletion<&str>,
 ) -> CommandResult
-    ensures { IsForDelete E.calls engine.old (with_selector deletion.entry.selector.now deletion.entry) result engine.new }
+    ensures { IsForDelete E.calls engine.old (with_selector deletion.now.selector.now deletion.now) result engine.new }
 {
     match read_sieve(alloc, deletion.selector) {
-        Ok(selector) => CommandResult::Asked(engine.ask_all(ShardStep::Delete(Deletion {
-            id: deletion.id,
-            selector,
-            start: deletion.start,
-            end: deletion.end,
-            created: deletion.created,
-        }))),
+        Ok(selector) => {
+            let step = ShardStep::Delete(deletion.with_selector(selector));
+            CommandResult::Asked(engine.ask_all(step))
+        }
         Err(error) => CommandResult::NoSelector(error),
     }
 }

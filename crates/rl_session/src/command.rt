@@ -5,6 +5,7 @@ ghost use Rattle.std.specs.List.{list_all};
 ghost use Rattle.std.specs.Option.{option_map, option_and_then};
 ghost use Rattle.rl_session.specs.Command.{Asked, asked, cut_at, delete_of, ticks, time_of, eval_of, id_of, process_of, request_of_words, show_of, command_of_words, command_of, is_blank_byte, is_number};
 
+use rl_deletes::Deletion;
 use rl_labels::{Decimal, Ns, number_of};
 
 /// What a command line asks for.
@@ -16,45 +17,24 @@ pub enum Command<'a> {
     Cut,
     /// To write the sealed chunks to the stores.
     Flush,
-    /// To receive a request, made at the moment, to delete what a selector with line filters selects from the start to the end.
-    Delete {
-        id: u64,
-        start: Ns,
-        end: Ns,
-        created: Ns,
-        selector: &'a str,
-    },
+    /// To receive a request to delete what a selector with line filters selects.
+    Delete(Deletion<&'a str>),
     /// To cancel a request.
-    Cancel {
-        id: u64,
-    },
+    Cancel { id: u64 },
     /// To remove what a request covers.
-    Process {
-        id: u64,
-        now: Ns,
-    },
+    Process { id: u64, now: Ns },
     /// To remove what retention no longer keeps at the moment.
-    Retain {
-        now: Ns,
-    },
+    Retain { now: Ns },
     /// To put the one group of a TOML document instead of the group with its name.
     Edit(&'a str),
     /// To evaluate a group at a moment.
-    Eval {
-        t: Ns,
-        group: &'a str,
-    },
+    Eval { t: Ns, group: &'a str },
     /// To evaluate each group that is due at a moment.
-    Tick {
-        now: Ns,
-    },
+    Tick { now: Ns },
     /// To pump the sinks of a group, and to offer each what it has not taken.
     Pump(&'a str),
     /// To show the texts that a sink of a group keeps.
-    Show {
-        sink: usize,
-        group: &'a str,
-    },
+    Show { sink: usize, group: &'a str },
     /// To end the session.
     End,
 }
@@ -138,13 +118,13 @@ fn read_delete(words: &str) -> Option<Command<'_>>
     let (created, selector) = cut_at(words, ' ')?;
     let (id, start) = (id_of(id)?, time_of(start)?);
     let (end, created) = (time_of(end)?, time_of(created)?);
-    Some(Command::Delete {
+    Some(Command::Delete(Deletion {
         id,
+        selector,
         start,
         end,
         created,
-        selector,
-    })
+    }))
 }
 
 fn read_process(words: &str) -> Option<Command<'_>>

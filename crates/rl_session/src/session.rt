@@ -12,7 +12,6 @@ use crate::front::first_line;
 use crate::output::{Answer, CommandResult, write_closed, write_result};
 use crate::printer::Printer;
 use crate::push::PushReader;
-use rl_deletes::Deletion;
 use rl_shard::ShardStep;
 use rl_world::Refusal;
 use std::alloc::{AllocError, AllocFailed, Global};
@@ -184,7 +183,7 @@ fn answer_command<E: Engine, W: Write>(
     ensures { Executes E.calls engine.old (command_of line.now) out.old result out.new engine.new }
 {
     match read_command(line) {
-        Some(command) => execute(alloc, reader, engine, command, out),
+        Some(command) => execute(alloc, reader, engine, &command, out),
         None => write_result(&CommandResult::Refused, out),
     }
 }
@@ -193,31 +192,16 @@ fn execute<E: Engine, W: Write>(
     alloc: Global,
     reader: &mut PushReader,
     engine: &mut E,
-    command: Command<'_>,
+    command: &Command<'_>,
     out: &mut Printer<W>,
 ) -> Answer
-    ensures { Executes E.calls engine.old (Some (asked command.entry)) out.old result out.new engine.new }
+    ensures { Executes E.calls engine.old (Some (asked command.now)) out.old result out.new engine.new }
 {
-    match command {
+    match *command {
         Command::Push(json) => write_result(&push(alloc, reader, engine, json), out),
         Command::Cut => write_result(&ask_all(engine, ShardStep::Cut), out),
         Command::Flush => write_result(&ask_all(engine, ShardStep::Flush), out),
-        Command::Delete {
-            id,
-            start,
-            end,
-            created,
-            selector,
-        } => {
-            let deletion = Deletion {
-                id,
-                selector,
-                start,
-                end,
-                created,
-            };
-            write_result(&delete(alloc, engine, deletion), out)
-        }
+        Command::Delete(ref deletion) => write_result(&delete(alloc, engine, deletion), out),
         Command::Cancel { id } => write_result(&ask_all(engine, ShardStep::Cancel { id }), out),
         Command::Process { id, now } => {
             write_result(&ask_all(engine, ShardStep::Process { id, now }), out)

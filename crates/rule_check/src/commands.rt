@@ -77,7 +77,7 @@ pub(crate) fn push_command(
     let ends = match read_command(line) {
         Some(Command::End) => true,
         Some(command) => {
-            push_asked(findings, known, &location, number, command)?;
+            push_asked(findings, known, &location, number, &command)?;
             false
         }
         None => {
@@ -99,12 +99,12 @@ fn push_asked(
     known: &mut Known<'_>,
     location: &Location<'_>,
     number: usize,
-    command: Command<'_>,
+    command: &Command<'_>,
 ) -> Result<(), OutOfMemory> {
-    match command {
+    match *command {
         Command::Push(body) => push_body(findings, known, location, body),
         Command::Edit(document) => push_edit(findings, known, location, number, document),
-        Command::Delete { selector, .. } => push_selector(findings, location, selector),
+        Command::Delete(ref deletion) => push_selector(findings, location, deletion.selector),
         Command::Eval { t, group } => {
             push_unnamed(findings, known, location, group)?;
             known.evaluations.eval(findings, location, t, group)
