@@ -1,5 +1,5 @@
 -- What lines that come and go make of what is due.
-use Rattle.std.proofs.Common.{◌≡◌, ℕ, ◌+◌, ◌<◌, ◌≤◌, nat_le, true, false, cond, Bool, List, [], ◌∷◌, map, length, Ok, Err, Result, refl, sym, ap, subst, ◌∙◌, arith}
+use Rattle.std.proofs.Common.{◌≡◌, ℕ, ◌+◌, ◌<◌, ◌≤◌, nat_le, true, false, Bool, [], ◌∷◌, map, length, Ok, Err, Result, refl, sym, ap, subst, ◌∙◌, arith}
 use Rattle.std.specs.List.{filter}
 use Rattle.std.specs.FinMap.{empty, entries, get, get-empty, len-empty, len-entries}
 use Rattle.std.specs.Prelude.{IfSome, OnErr, OnOk, is_err}
@@ -9,9 +9,9 @@ use Rattle.rl_aggregate.specs.Runs.{IsOneLess, IsOneMore}
 use Rattle.rl_aggregate.specs.TotalsMap.{added, taken}
 use Rattle.rl_aggregate.specs.declared.volume.Volume.{Volume}
 use Rattle.rl_aggregate.specs.declared.partial.Partial.{Partial}
-use Rattle.rl_windows.specs.Buckets.{stamp_cmp, BucketsMap, Lines, volume_of, AreAlike, IsShort, may_go}
+use Rattle.rl_windows.specs.Buckets.{stamp_cmp, BucketsMap, Lines, IsShort, may_go}
 use Rattle.rl_windows.specs.Windows.{run_of, partial_in, is_due, count_of, IsSumOf}
-use Rattle.rl_windows.specs.laws.Alike.{all-filter, count_of-added, first_in, first_out, gone, have-lines, partial_in-alike, runs-lines, short-added, short-entries, short-taken, HaveLines}
+use Rattle.rl_windows.specs.laws.Alike.{all-filter, count_of-added, first_in, first_out, gone, have-lines, partial_in-alike, runs-lines, short-added, short-entries, short-taken}
 use Rattle.rl_windows.specs.laws.Sums.{added-taken, alike-added, alike-taken}
 use Rattle.rl_windows.specs.declared.element.Stamp.{Stamp}
 

@@ -8,7 +8,6 @@ use Rattle.std.specs.Map.{keys_of}
 use Rattle.std.specs.Option.{option_cmp}
 use Rattle.std.specs.Ordering.{eq_by_cmp, nat_cmp, ordering_then, is_le, is_lt}
 use Rattle.std.specs.Set.{distinct_count, unique_keys}
-use Rattle.std.specs.declared.cmp.Ordering.{Ordering}
 use Rattle.std.specs.declared.cmp.Ordering.TheVariants.{Less, Equal, Greater}
 use Rattle.std.specs.declared.ops.Bound.TheVariants.{Excluded, Included}
 use Rattle.std.specs.FinMap.{entries, get, get-entries}

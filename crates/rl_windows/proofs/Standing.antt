@@ -1,21 +1,18 @@
 -- What a window stands for, when lines come and go, and what it shows.
-use Rattle.std.proofs.Common.{◌≡◌, ℕ, ◌+◌, ◌≤◌, ◌&&◌, Bool, true, false, cond, List, [], ◌∷◌, map, refl, sym, ap, subst, ◌∙◌, arith}
+use Rattle.std.proofs.Common.{◌≡◌, ℕ, true, false, cond, List, ◌∷◌, map, sym, ap, subst, ◌∙◌, arith}
 use Rattle.std.specs.List.{filter}
 use Rattle.std.specs.FinMap.{entries, get}
-use Rattle.rl_aggregate.specs.InRange.{in_window}
 use Rattle.rl_aggregate.specs.Limited.{IsWithin}
 use Rattle.rl_aggregate.specs.Partials.{partial_of}
 use Rattle.rl_aggregate.specs.TotalsMap.{added, taken}
 use Rattle.rl_aggregate.specs.laws.Counting.{filter-both}
 use Rattle.rl_aggregate.specs.laws.Within.{within-more}
-use Rattle.rl_aggregate.specs.declared.volume.Volume.{Volume}
 use Rattle.rl_aggregate.specs.declared.partial.Partial.{Partial}
-use Rattle.rl_windows.specs.Buckets.{BucketsMap, Lines, volume_of, AreAlike, AreShort, IsShort, may_go}
-use Rattle.rl_windows.specs.Windows.{run_of, partial_in, lines_of, is_needed, is_due, in_range, count_of, IsSumOf, IsWindow, StandsFor, WindowView}
-use Rattle.rl_windows.specs.laws.Alike.{all-filter, alike-cons, alike-rest, have-lines, may-go-alike, partial_in-alike, short-entries, short-filter, within-partial_in}
+use Rattle.rl_windows.specs.Buckets.{BucketsMap, Lines, volume_of, AreAlike, IsShort, may_go}
+use Rattle.rl_windows.specs.Windows.{run_of, lines_of, is_needed, is_due, in_range, count_of, IsSumOf, IsWindow, StandsFor, WindowView}
+use Rattle.rl_windows.specs.laws.Alike.{alike-cons, alike-rest, have-lines, may-go-alike, partial_in-alike, short-entries, short-filter, within-partial_in}
 use Rattle.rl_windows.specs.laws.Sums.{alike-added, alike-taken}
 use Rattle.rl_windows.specs.declared.element.Element.{Element}
-use Rattle.rl_windows.specs.declared.element.Stamp.{Stamp}
 
 module _ (seconds moment most : ℕ) where
   abbrev pub window_of : BucketsMap → WindowView

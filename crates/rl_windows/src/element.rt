@@ -1,5 +1,5 @@
 //! Lines that count in a range, by timestamp and label set.
-ghost use Rattle.std.specs.Prelude.{◌≡◌, IfOk};
+ghost use Rattle.std.specs.Prelude.{◌≡◌};
 
 use rl_aggregate::{Run, Volume};
 use rl_labels::{Labels, Ns};

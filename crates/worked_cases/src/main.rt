@@ -22,6 +22,7 @@ mod sinks;
 mod streams;
 mod streams_random;
 mod trouble;
+mod windows;
 mod world;
 mod world_steps;
 
@@ -128,6 +129,7 @@ fn push_answer(
         "sinks" => sinks::answer(output, directive, input),
         "shard" => shard::answer(output, directive, input),
         "streams" => streams::answer(output, directive, input),
+        "windows" => windows::answer(output, directive, input),
         "world" => world::answer(output, directive, input),
         _ => Err(Trouble::NoSuchDirective),
     }

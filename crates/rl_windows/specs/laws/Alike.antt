@@ -1,11 +1,11 @@
 -- What lines add up to, told by sums alone: those at some stamps, with more, and with fewer.
-use Rattle.std.specs.Prelude.{◌≡◌, ℕ, zero, suc, ◌+◌, ◌-◌, ◌*◌, ◌≤◌, ◌==◌, nat_le, nat_lt, Bool, true, false, cond, ◌&&◌, List, [], ◌∷◌, map, Option, None, Some, IfSome, refl}
+use Rattle.std.specs.Prelude.{◌≡◌, ℕ, zero, suc, ◌+◌, ◌-◌, ◌*◌, ◌≤◌, ◌==◌, nat_le, nat_lt, Bool, true, false, cond, ◌&&◌, [], ◌∷◌, map, Option, None, Some, IfSome, refl}
 use Rattle.std.specs.Option.{unwrap_or, option_eq}
 use Rattle.std.specs.List.{AllByRecursion, filter, sum_by}
 use Rattle.std.specs.Ordering.{eq_by_cmp, is_eq, is_lt}
 use Rattle.std.specs.declared.cmp.Ordering.{Ordering}
 use Rattle.std.specs.declared.cmp.Ordering.TheVariants.{Less, Equal, Greater}
-use Rattle.std.specs.FinMap.{FinMap, get, entries, get-entries, get-insert, entries_sorted}
+use Rattle.std.specs.FinMap.{get, entries, get-entries, get-insert, entries_sorted}
 use Rattle.std.specs.FinMap.Entries.{find, is_sorted, below_all}
 use Rattle.std.proofs.Common.{sym, ap, subst, ◌∙◌, arith}
 use Rattle.std.proofs.lemmas.Bool.{and_parts, and_from, eqb-false, le-leb, leb-true, lt-ltb, ltb-true, true≢false}
@@ -23,7 +23,6 @@ use Rattle.rl_aggregate.specs.laws.Runs.{partial_of-more, partial_of-sums}
 use Rattle.rl_aggregate.specs.laws.Within.{within-fits, within-more, within-none, within-run}
 use Rattle.rl_aggregate.specs.declared.volume.Volume.{Volume}
 use Rattle.rl_aggregate.specs.declared.run.Run.{Run}
-use Rattle.rl_aggregate.specs.declared.partial.Partial.{Partial}
 use Rattle.rl_windows.specs.Buckets.{stamp_cmp, BucketsMap, Lines, volume_of, AreAlike, AreShort, IsShort, may_go}
 use Rattle.rl_windows.specs.Windows.{run_of, partial_in, count_of}
 use Rattle.rl_windows.specs.laws.Stamps.{stamp_cmp_total, stamp_cmp-IsAntisymmetric}

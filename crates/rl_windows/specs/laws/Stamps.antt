@@ -1,5 +1,5 @@
 -- The order of stamps.
-use Rattle.std.specs.Prelude.{◌≡◌, ℕ, Option, None, Some, refl}
+use Rattle.std.specs.Prelude.{◌≡◌, Option, None, Some, refl}
 use Rattle.std.specs.Cmp.{IsTotalOrder, then_total, on_total, nat_cmp_total}
 use Rattle.std.specs.Cmp.Lexicographic.{options_total}
 use Rattle.std.specs.FinMap.{IsAntisymmetric, nat_cmp-IsAntisymmetric}

@@ -1,5 +1,5 @@
 -- Lines that come due fit, and come one by one; refused, those that came are taken back.
-use Rattle.std.proofs.Common.{◌≡◌, ◌+◌, ◌≤◌, true, length, sym, ap, subst, ◌∙◌, arith}
+use Rattle.std.proofs.Common.{◌≡◌, ◌≤◌, true, length, sym, ap, subst, ◌∙◌, arith}
 use Rattle.std.specs.BTreeMap.Range.{entries_between}
 use Rattle.rl_aggregate.specs.Partials.{most_entries}
 use Rattle.rl_windows.specs.Buckets.{stamp_cmp, volume_of, AreShort}

@@ -1,8 +1,7 @@
 -- The first line goes; what is left adds up, and where no early line is left, the others are all.
-use Rattle.std.proofs.Common.{◌≡◌, ◌+◌, nat_le, sym, ap, ◌∙◌, arith}
+use Rattle.std.proofs.Common.{nat_le, sym, ap, ◌∙◌, arith}
 use Rattle.std.specs.FinMap.{entries}
 use Rattle.std.specs.List.{filter}
-use Rattle.rl_windows.specs.Windows.{count_of}
 use Rattle.rl_windows.proofs.Running.{keeps_all, popped_count, popped_left, popped_sum, tree_entries}
 use Rattle.rl_windows.proofs.Trees.{buckets_in}
 use Rattle.rl_aggregate.specs.declared.volume.Volume.{Volume}

@@ -1,5 +1,5 @@
 -- A range has the lines between two moments, whose times rise.
-use Rattle.std.proofs.Common.{◌≡◌, ◌+◌, ◌≤◌, true, None, length, sym, ap, ◌∙◌, add-zero, zero-add, arith}
+use Rattle.std.proofs.Common.{◌≡◌, ◌+◌, true, None, length, sym, ap, ◌∙◌, add-zero, zero-add, arith}
 use Rattle.std.specs.BTreeMap.Range.{entries_between}
 use Rattle.std.specs.FinMap.Entries.{is_sorted}
 use Rattle.std.specs.List.{filter}

@@ -1,7 +1,6 @@
 -- Those that are left go one by one.
 use Rattle.std.proofs.Common.{◌≡◌, sym, ap, subst, ◌∙◌}
 use Rattle.std.specs.BTreeMap.Range.{entries_between}
-use Rattle.std.specs.List.{filter}
 use Rattle.rl_windows.specs.Buckets.{stamp_cmp}
 use Rattle.rl_windows.specs.Windows.{is_between, is_due}
 use Rattle.rl_windows.specs.laws.Alike.{have-lines, short-filter, HaveLines}
