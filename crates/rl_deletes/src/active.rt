@@ -1,10 +1,10 @@
 //! A received request with its built sieve, which decides what it covers.
 ghost use Rattle.std.specs.Prelude.{◌≡◌, IfOk};
-ghost use Rattle.rl_deletes.specs.Deletes.{asked, covers_line};
+ghost use Rattle.rl_deletes.specs.Deletes.{asked};
 
 use crate::deletion::Deletion;
 use crate::request::Request;
-use rl_labels::{Covers, Entry, Labels, Ns};
+use rl_labels::{Covers, Labels, Ns};
 use rl_pipeline::SieveCode;
 use std::alloc::{AllocError, Global};
 use std::marker::Model;
@@ -37,31 +37,25 @@ impl ActiveRequest {
             deletion: asked.with_selector(selector),
         })
     }
+}
 
-    // Whether it covers an entry with these parts. The time is asked first, then the stream, then the line.
-    pub(crate) fn covers_line(
-        &self,
-        labels: &Labels,
-        timestamp: Ns,
-        line: &str,
-    ) -> Result<bool, AllocError>
-        ensures { IfOk result (λ answer. answer ≡ covers_line self.now labels.now timestamp line.now) }
-    {
+impl Covers for ActiveRequest {
+    ghost use Rattle.std.specs.Prelude.{refl};
+    ghost use Rattle.rl_deletes.specs.Deletes.{covers_line, covers_one};
+
+    ghost covers_line = { covers_line };
+
+    ghost covers = { covers_one };
+
+    ghost by_parts = { λ _ _. refl };
+
+    // The time is asked first, then the stream, then the line.
+    fn covers_line(&self, labels: &Labels, timestamp: Ns, line: &str) -> Result<bool, AllocError> {
         let asked = &self.deletion;
         if timestamp < asked.start || asked.end < timestamp {
             return Ok(false);
         }
         asked.selector.selects(labels, line)
-    }
-}
-
-impl Covers for ActiveRequest {
-    ghost use Rattle.rl_deletes.specs.Deletes.{covers_one};
-
-    ghost covers = { covers_one };
-
-    fn covers(&self, entry: &Entry) -> Result<bool, AllocError> {
-        self.covers_line(&entry.labels, entry.timestamp, entry.line.as_str())
     }
 
     fn may_cover(&self, labels: &Labels, from: Ns, to: Ns) -> Result<bool, AllocError> {

@@ -3,7 +3,7 @@ ghost use Rattle.std.specs.Prelude.{◌≡◌, ◌≤◌};
 ghost use Rattle.rl_labels.specs.Quantity.{greatest_moment};
 ghost use Rattle.rl_deletes.specs.Horizons.{advanced};
 
-use rl_labels::{Covers, Entry, Labels, Ns, SECOND};
+use rl_labels::{Covers, Labels, Ns, SECOND};
 use std::alloc::AllocError;
 use std::marker::Model;
 
@@ -55,12 +55,22 @@ impl Horizon {
 }
 
 impl Covers for Horizon {
+    ghost use Rattle.std.specs.Prelude.{nat_lt, refl};
     ghost use Rattle.rl_deletes.specs.Horizons.{is_below};
+
+    ghost covers_line = { λ horizon _ timestamp _. nat_lt timestamp horizon };
 
     ghost covers = { is_below };
 
-    fn covers(&self, entry: &Entry) -> Result<bool, AllocError> {
-        Ok(entry.timestamp < self.moment)
+    ghost by_parts = { λ _ _. refl };
+
+    fn covers_line(
+        &self,
+        _labels: &Labels,
+        timestamp: Ns,
+        _line: &str,
+    ) -> Result<bool, AllocError> {
+        Ok(timestamp < self.moment)
     }
 
     fn may_cover(&self, _labels: &Labels, from: Ns, _to: Ns) -> Result<bool, AllocError> {

@@ -5,7 +5,7 @@ ghost use Rattle.std.specs.FinMap as map;
 ghost use Rattle.std.specs.Map.{lookup};
 ghost use Rattle.std.specs.Option.{option_map};
 ghost use Rattle.std.specs.Ordering.{nat_cmp};
-ghost use Rattle.rl_deletes.specs.Deletes.{asked, cancel_fault, cancelled, covered_beside, covered_line, ended, is_in_force, no_requests, process_fault, processed, received, received_at, with_request, with_status, IsReceiveAnswer, IsReceiveFault};
+ghost use Rattle.rl_deletes.specs.Deletes.{asked, cancel_fault, cancelled, covered_beside, ended, is_in_force, no_requests, process_fault, processed, received, received_at, with_request, with_status, IsReceiveAnswer, IsReceiveFault};
 
 use crate::active::ActiveRequest;
 use crate::deletion::Deletion;
@@ -152,26 +152,6 @@ impl Requests {
         Ok(false)
     }
 
-    /// Whether a received request covers an entry with these parts.
-    pub fn covers_line(
-        &self,
-        labels: &Labels,
-        timestamp: Ns,
-        line: &str,
-    ) -> Result<bool, AllocError>
-        ensures { IfOk result (λ answer. answer ≡ covered_line self.now labels.now timestamp line.now) }
-    {
-        if self.active.len() == 0 {
-            return Ok(false);
-        }
-        for active in self.active.values() {
-            if active.covers_line(labels, timestamp, line)? {
-                return Ok(true);
-            }
-        }
-        Ok(false)
-    }
-
     // How many requests there are, whatever their status.
     fn len(&self) -> usize
         ensures { result ≡ map.len self.now.requests }
@@ -209,12 +189,25 @@ impl Requests {
 }
 
 impl Covers for Requests {
-    ghost use Rattle.rl_deletes.specs.Deletes.{covered};
+    ghost use Rattle.std.specs.Prelude.{refl};
+    ghost use Rattle.rl_deletes.specs.Deletes.{covered, covered_line};
+
+    ghost covers_line = { covered_line };
 
     ghost covers = { covered };
 
-    fn covers(&self, entry: &Entry) -> Result<bool, AllocError> {
-        self.covers_line(&entry.labels, entry.timestamp, entry.line.as_str())
+    ghost by_parts = { λ _ _. refl };
+
+    fn covers_line(&self, labels: &Labels, timestamp: Ns, line: &str) -> Result<bool, AllocError> {
+        if self.active.len() == 0 {
+            return Ok(false);
+        }
+        for active in self.active.values() {
+            if active.covers_line(labels, timestamp, line)? {
+                return Ok(true);
+            }
+        }
+        Ok(false)
     }
 
     fn may_cover(&self, labels: &Labels, from: Ns, to: Ns) -> Result<bool, AllocError> {

@@ -7,7 +7,7 @@ ghost use Rattle.rl_pipeline.specs.Filtering.{passes};
 ghost use Rattle.rl_pipeline.specs.Sieving.{are_by_pattern, selects_line, sieve_by_pattern};
 
 use crate::filter::FilterCode;
-use rl_labels::{Covers, Entry, Labels, Ns, SelectorCode};
+use rl_labels::{Covers, Labels, Ns, SelectorCode};
 use rl_patterns::{PatternError, PatternFault};
 use rl_plain::{OrMemory, TryCopy};
 use rl_query::{LineFilter, Sieve};
@@ -68,12 +68,17 @@ impl SieveCode {
 }
 
 impl Covers for SieveCode {
-    ghost use Rattle.rl_pipeline.specs.Sieving.{sieve_selects};
+    ghost use Rattle.std.specs.Prelude.{refl};
+    ghost use Rattle.rl_pipeline.specs.Sieving.{selects_line, sieve_selects};
+
+    ghost covers_line = { λ sieve labels _ line. selects_line sieve labels line };
 
     ghost covers = { sieve_selects };
 
-    fn covers(&self, entry: &Entry) -> Result<bool, AllocError> {
-        self.selects(&entry.labels, entry.line.as_str())
+    ghost by_parts = { λ _ _. refl };
+
+    fn covers_line(&self, labels: &Labels, _timestamp: Ns, line: &str) -> Result<bool, AllocError> {
+        self.selects(labels, line)
     }
 
     fn may_cover(&self, labels: &Labels, _from: Ns, _to: Ns) -> Result<bool, AllocError> {

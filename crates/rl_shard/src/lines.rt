@@ -5,7 +5,7 @@ ghost use Rattle.rl_deletes.specs.Deletes.{covered_line};
 
 use rl_aggregate::Counter;
 use rl_deletes::Requests;
-use rl_labels::{Labels, Ns};
+use rl_labels::{Covers, Labels, Ns};
 use rl_parts::Visitor;
 use std::alloc::AllocError;
 

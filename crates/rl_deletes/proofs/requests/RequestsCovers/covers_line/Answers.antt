@@ -4,7 +4,7 @@ use Rattle.std.specs.List.{list_any}
 use Rattle.rl_deletes.specs.Deletes.{covered_line, covers_line}
 use Rattle.rl_deletes.specs.declared.request.Request.{Request}
 use Rattle.rl_deletes.proofs.Received.{any_built, none_pass}
-use Rattle.rl_deletes.proofs.requests.Requests.covers_line.Goals as goal
+use Rattle.rl_deletes.proofs.requests.RequestsCovers.covers_line.Goals as goal
 
 pub loop-active-init : goal.loop-active-init
 loop-active-init c =
