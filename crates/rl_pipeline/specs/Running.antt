@@ -1,10 +1,11 @@
 -- What becomes of a line that goes through stages. Line filters read the line as it was pushed, wherever they stand.
-use Rattle.std.specs.Prelude.{◌≡◌, ℕ, Bool, true, false, List, [], ◌∷◌, Option, Some, None, if◌then◌else◌}
+use Rattle.std.specs.Prelude.{◌≡◌, ℕ, Bool, true, false, not, ◌&&◌, ◌||◌, List, [], ◌∷◌, Option, Some, None, if◌then◌else◌}
 use Rattle.std.specs.List.{list_all}
 use Rattle.std.specs.Option.{option_and_then}
 use Rattle.rl_labels.specs.LabelSet.{LabelSet}
 use Rattle.rl_query.specs.declared.stages.Stage.{Stage}
 use Rattle.rl_query.specs.declared.stages.Stage.TheVariants.{Filter, Parser, Tests}
+use Rattle.rl_pipeline.specs.Building.{is_by_pattern}
 use Rattle.rl_pipeline.specs.Filtering.{passes}
 use Rattle.rl_pipeline.specs.LabelTests.{tests_answer}
 use Rattle.rl_pipeline.specs.Parsed.{parsed}
@@ -46,6 +47,11 @@ labels_after (stage ∷ stages) line labels = option_and_then (labels_after stag
 abbrev pub is_filter : Stage → Bool
 is_filter (Filter filter) = true
 is_filter _ = false
+
+-- a line filter in front leaves the line out by its text, and none before it is by pattern
+abbrev pub text_leaves_out : List Stage → (line : List ℕ) → Bool
+text_leaves_out (Filter filter ∷ stages) line = not (is_by_pattern filter) && (not (passes filter line) || text_leaves_out stages line)
+text_leaves_out _ line = false
 
 -- lines keep the labels of their stream, and only line filters leave them out
 abbrev pub IsPlain : List Stage → Type 0

@@ -1,5 +1,5 @@
 //! Built line filters.
-ghost use Rattle.std.specs.Prelude.{◌≡◌, true, IfOk, IfErr};
+ghost use Rattle.std.specs.Prelude.{◌≡◌, false, true, IfOk, IfErr, IsOk};
 ghost use Rattle.rl_patterns.specs.Matching.{has_match};
 ghost use Rattle.rl_pipeline.specs.Building.{is_by_pattern, IsUnbuilt};
 ghost use Rattle.rl_pipeline.specs.Filtering.{passes};
@@ -104,10 +104,11 @@ impl FilterCode {
         })
     }
 
-    // Whether the filter lets one line pass. A `Search` is faster where there are many.
+    // Whether the filter lets one line pass. One by text takes no memory. A `Search` is faster where there are many lines.
     #[tactic(auto, using(crate::proofs::Standing::found))]
     pub(crate) fn passes(&self, line: &str) -> Result<bool, AllocError>
-        ensures { IfOk result (λ answer. answer ≡ passes self.now line.now) }
+        ensures answer { IfOk result (λ answer. answer ≡ passes self.now line.now) }
+        ensures by_text { is_by_pattern self.now ≡ false → IsOk result }
     {
         let is_found = match &self.sought {
             Sought::Text(finder) => finder.find(line.as_bytes()).is_some(),

@@ -44,15 +44,15 @@ impl<'a> ParsedLine<'a> {
         }
     }
 
-    // The labels of the stream.
-    pub(crate) fn labels(&self) -> &'a Labels
+    /// The labels of the stream.
+    pub fn labels(&self) -> &'a Labels
         ensures { result.now ≡ self.now.labels }
     {
         self.labels
     }
 
-    // The bytes that were pushed.
-    pub(crate) fn text(&self) -> &'a str
+    /// The bytes that were pushed.
+    pub fn text(&self) -> &'a str
         ensures { result.now ≡ self.now.text }
     {
         self.text

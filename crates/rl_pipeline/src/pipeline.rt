@@ -1,8 +1,10 @@
 //! Pipelines: the built stages of a range.
-ghost use Rattle.std.specs.Prelude.{◌≡◌, IfOk, IfErr};
+ghost use Rattle.std.specs.Prelude.{◌≡◌, ◌≤◌, None, Ok, IfOk, IfErr, IfSome, IsOk, drop, length, map, true};
+ghost use Rattle.std.specs.Option.{option_and_then};
+ghost use Rattle.rl_labels.specs.LabelSet.{LabelSet};
 ghost use Rattle.rl_pipeline.specs.Building.{has_pattern, have_pattern, IsUnbuilt};
 ghost use Rattle.rl_pipeline.specs.Metering.{with_run};
-ghost use Rattle.rl_pipeline.specs.Running.{run};
+ghost use Rattle.rl_pipeline.specs.Running.{run, text_leaves_out};
 ghost use Rattle.rl_pipeline.specs.Steps.{code_stage};
 
 use crate::filter::FilterCode;
@@ -71,21 +73,43 @@ impl Pipeline {
         Running::new(*self.codes.allocator(), &self.codes)
     }
 
-    /// The labels that a line of a stream has after the stages, if it stays. The run is counted. Many lines go through
-    /// `running`, which makes the caches once.
-    pub fn run(
+    /// The labels that a line of a stream has after the stages, if it stays. What its first parser finds is shared with other
+    /// pipelines that have the line. The run is counted. Only what follows the line filters in front takes caches, anew for
+    /// each line, so what has many lines sends them through `running`.
+    pub fn run_shared(
         &self,
         meter: &mut Meter,
-        labels: &Labels,
-        line: &str,
+        line: &mut ParsedLine<'_>,
     ) -> Result<Option<Labels>, AllocError>
-        ensures run { IfOk result (λ found. found ≡ run self.now line.now labels.now) }
+        ensures run { IfOk result (λ found. found ≡ run self.now line.old.text line.old.labels) }
         ensures counted { meter.new ≡ with_run meter.old }
+        ensures left_out { text_leaves_out self.now line.old.text ≡ true → IsOk result }
+        ensures line { line.new ≡ line.old }
     {
         meter.count_run();
-        let mut running = self.running()?;
-        running.labels_of(&mut ParsedLine::new(labels, line))
+        let Some(front) = passed_in_front(&self.codes, line.text())? else {
+            return Ok(None);
+        };
+        let mut running = Running::new(*self.codes.allocator(), &self.codes[front..])?;
+        running.labels_of(line)
     }
+}
+
+// How many line filters stand in front, if each lets the line pass. Those by text take no memory.
+fn passed_in_front(codes: &[StageCode], line: &str) -> Result<Option<usize>, AllocError>
+    ensures run { IfOk result (λ front. (labels : LabelSet) → run (map code_stage codes.now) line.now labels ≡ option_and_then (λ n. run (map code_stage (drop n codes.now)) line.now labels) front) }
+    ensures within { IfOk result (λ front. IfSome front (λ n. n ≤ length codes.now)) }
+    ensures left_out { text_leaves_out (map code_stage codes.now) line.now ≡ true → result ≡ Ok None }
+{
+    for (position, code) in codes.iter().enumerate() {
+        let StageCode::Filter(filter) = code else {
+            return Ok(Some(position));
+        };
+        if !filter.passes(line)? {
+            return Ok(None);
+        }
+    }
+    Ok(Some(codes.len()))
 }
 
 fn stage_code(alloc: Global, stage: &Stage) -> Result<StageCode, PatternError>
