@@ -6,4 +6,5 @@ pub mod Groups
 pub mod Runs
 pub mod Sums
 pub mod Totals
+pub mod Trees
 pub mod Within

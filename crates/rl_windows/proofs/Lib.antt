@@ -1,5 +1,6 @@
+pub mod Fillings
 pub mod Moving
 pub mod Running
 pub mod Sliding
 pub mod Standing
-pub mod Trees
+pub mod Visiting

@@ -1,7 +1,7 @@
 -- Lines by timestamp and label set: how many at each, and their bytes.
 use Rattle.std.specs.Prelude.{◌≡◌, ℕ, ◌*◌, ◌≤◌, nat_le, nat_lt, Bool, false, ◌&&◌, List, Option, None, Some, if◌then◌else◌, refl}
 use Rattle.std.specs.Coded.{Coded, code_by, coded×, coded_ℕ, coded_option}
-use Rattle.std.specs.FinMap.{FinMap, code}
+use Rattle.std.specs.FinMap.{FinMap, code, from_entries}
 use Rattle.std.specs.List.{AllByRecursion, sum_by}
 use Rattle.std.specs.Option.{option_cmp}
 use Rattle.std.specs.Ordering.{nat_cmp, ordering_then}
@@ -38,6 +38,10 @@ may_go (Some there) volume = nat_lt 0 volume.count && has_volume (Some there) vo
 -- lines by stamp, some of one stamp perhaps apart
 abbrev pub Lines : Type 0
 Lines = List (Stamp × Volume)
+
+-- the buckets that the entries of a tree make
+abbrev pub buckets_in : Lines → BucketsMap
+buckets_in es = from_entries {R = stamp_cmp} es
 
 -- the lines at the stamps that pass a test
 abbrev pub volume_of : (Stamp → Bool) → Lines → Volume

@@ -1,5 +1,5 @@
 -- What numbers at label sets add up to, where each label set stands once: those of totals with one added, and merged.
-use Rattle.std.specs.Prelude.{◌≡◌, ℕ, ◌+◌, ◌≤◌, Bool, true, false, cond, List, [], ◌∷◌, ◌++◌, map, length, Option, Some, None, refl}
+use Rattle.std.specs.Prelude.{◌≡◌, ℕ, ◌+◌, ◌≤◌, Bool, true, false, cond, List, [], ◌∷◌, ◌++◌, map, length, Option, Some, refl}
 use Rattle.std.specs.Option.{unwrap_or}
 use Rattle.std.specs.List.{sum_by}
 use Rattle.std.specs.Ordering.{eq_by_cmp, is_eq, is_lt, ordering_reverse}
@@ -19,6 +19,7 @@ use Rattle.rl_aggregate.specs.Limited.{sum_of}
 use Rattle.rl_aggregate.specs.Partials.{both_totals}
 use Rattle.rl_aggregate.specs.TotalsMap.{TotalsMap, no_total, plus, total_at, added}
 use Rattle.rl_aggregate.specs.laws.Totals.{same_key, ties_itself, total_at-added, total_at-both_totals}
+use Rattle.rl_aggregate.specs.laws.Trees.{find_below}
 use Rattle.rl_aggregate.specs.declared.volume.Volume.{Volume}
 
 before_apart : (s t : LabelSet) → is_lt (label_set_cmp s t) ≡ true → eq_by_cmp label_set_cmp t s ≡ false
@@ -61,20 +62,6 @@ module _ {X : Type 0} where
         | false ↦ λ apart. omega (arith, first, ap (λ b. cond b n 0) apart, once k n es parts.1)
       ] refl
 
-  -- a label set below each of some entries is not among them
-  pub find_below : (k : LabelSet) (es : List (LabelSet × X)) → below_all label_set_cmp k es ≡ true → find label_set_cmp k es ≡ None
-  find_below k [] below = refl
-  find_below k (e ∷ es) below =
-      let parts = and_parts (is_lt (label_set_cmp k e.0)) (below_all label_set_cmp k es) below in
-      ap (λ b. cond b (Some e.1) (find label_set_cmp k es)) (label_set_cmp-apart k e.0 parts.0) ∙ find_below k es parts.1
-    where
-      label_set_cmp-apart : (s t : LabelSet) → is_lt (label_set_cmp s t) ≡ true → eq_by_cmp label_set_cmp s t ≡ false
-      label_set_cmp-apart s t = elim (label_set_cmp s t) as (λ o. is_lt o ≡ true → is_eq o ≡ false) [
-        | Less ↦ λ _. refl
-        | Equal ↦ λ h. absurd (true≢false (sym h))
-        | Greater ↦ λ _. refl
-      ]
-
   -- a look-up by the first entry's label set
   pub find_first : (e : LabelSet × X) (es : List (LabelSet × X)) → find label_set_cmp e.0 (e ∷ es) ≡ Some e.1
   find_first e es = ap (λ b. cond b (Some e.1) (find label_set_cmp e.0 es)) (ties_itself e.0)
@@ -82,7 +69,7 @@ module _ {X : Type 0} where
   -- what stands after the first of entries in order is found also with it
   find_later : (e : LabelSet × X) (es : List (LabelSet × X)) (q : LabelSet) (v : X) → below_all label_set_cmp e.0 es ≡ true → find label_set_cmp q es ≡ Some v → find label_set_cmp q (e ∷ es) ≡ Some v
   find_later e es q v below is = elim (eq_by_cmp label_set_cmp q e.0) as (λ b. eq_by_cmp label_set_cmp q e.0 ≡ b → cond b (Some e.1) (find label_set_cmp q es) ≡ Some v) [
-    | true ↦ λ same. absurd (none-some v (sym (find_below q es (ap (λ s. below_all label_set_cmp s es) (same_key q e.0 same) ∙ below)) ∙ is))
+    | true ↦ λ same. absurd (none-some v (sym (find_below label_set_cmp q es (ap (λ s. below_all label_set_cmp s es) (same_key q e.0 same) ∙ below)) ∙ is))
     | false ↦ λ _. is
   ] refl
 

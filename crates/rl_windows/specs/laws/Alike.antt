@@ -1,4 +1,4 @@
--- What lines add up to, told by sums alone: those at some stamps, with more, and with fewer.
+-- What lines add up to, by sums alone: those at some stamps, with more, and with fewer.
 use Rattle.std.specs.Prelude.{◌≡◌, ℕ, zero, suc, ◌+◌, ◌-◌, ◌*◌, ◌≤◌, ◌==◌, nat_le, nat_lt, Bool, true, false, cond, ◌&&◌, [], ◌∷◌, map, Option, None, Some, IfSome, refl}
 use Rattle.std.specs.Option.{unwrap_or, option_eq}
 use Rattle.std.specs.List.{AllByRecursion, filter, sum_by}
@@ -20,13 +20,14 @@ use Rattle.rl_aggregate.specs.Partials.{has_labels, volume_at, partial_of, most_
 use Rattle.rl_aggregate.specs.Runs.{with_volume, HasLine}
 use Rattle.rl_aggregate.specs.TotalsMap.{no_total, plus, minus, if_any, total_at, added, taken, has_volume}
 use Rattle.rl_aggregate.specs.laws.Runs.{partial_of-more, partial_of-sums}
+use Rattle.rl_aggregate.specs.laws.Trees.{find_below, get-taken_at}
 use Rattle.rl_aggregate.specs.laws.Within.{within-fits, within-more, within-none, within-run}
 use Rattle.rl_aggregate.specs.declared.volume.Volume.{Volume}
 use Rattle.rl_aggregate.specs.declared.run.Run.{Run}
 use Rattle.rl_windows.specs.Buckets.{stamp_cmp, BucketsMap, Lines, volume_of, AreAlike, AreShort, IsShort, may_go}
 use Rattle.rl_windows.specs.Windows.{run_of, partial_in, count_of}
 use Rattle.rl_windows.specs.laws.Stamps.{stamp_cmp_total, stamp_cmp-IsAntisymmetric}
-use Rattle.rl_windows.specs.laws.Sums.{alike-added, find_below, get-taken_at}
+use Rattle.rl_windows.specs.laws.Sums.{alike-added}
 use Rattle.rl_windows.specs.declared.element.Stamp.{Stamp}
 
 ties : (k : Stamp) → eq_by_cmp stamp_cmp k k ≡ true
@@ -68,7 +69,7 @@ module _ (number : Volume → ℕ) where
       apart Equal h = absurd (true≢false (sym h))
       apart Greater h = refl
 
-  -- what stands at a stamp is told by the sum there
+  -- what stands at a stamp is the sum there
   number-find : number no_total ≡ 0 → (k : Stamp) (es : Lines) → is_sorted stamp_cmp es ≡ true → number (unwrap_or (find stamp_cmp k es) no_total) ≡ number_of number (eq_by_cmp stamp_cmp k) es
   number-find nothing k [] sorted = nothing
   number-find nothing k (e ∷ es) sorted =
@@ -96,9 +97,9 @@ volume_of-cons test l ls =
 pub volume_of-filter : (p test : Stamp → Bool) (ls : Lines) → volume_of test (filter (λ line. p line.0) ls) ≡ volume_of (λ s. p s && test s) ls
 volume_of-filter p test ls = λ i. record { count = number-filter (λ v. v.count) p test ls i; bytes = number-filter (λ v. v.bytes) p test ls i }
 
--- what stands at a stamp is told by the lines there
-total_at-told : (b : BucketsMap) (k : Stamp) → total_at b k ≡ volume_of (eq_by_cmp stamp_cmp k) (entries b)
-total_at-told b k =
+-- what stands at a stamp is what the lines there add up to
+total_at-lines : (b : BucketsMap) (k : Stamp) → total_at b k ≡ volume_of (eq_by_cmp stamp_cmp k) (entries b)
+total_at-lines b k =
     let sorted = true_from _ (entries_sorted b) in
     ap (λ o. unwrap_or o no_total) (get-entries b k)
     ∙ (λ i. record { count = number-find (λ v. v.count) refl k (entries b) sorted i; bytes = number-find (λ v. v.bytes) refl k (entries b) sorted i })
@@ -158,7 +159,7 @@ short-entries b short = each (entries b) (true_from _ (entries_sorted b)) (λ q.
     later : (k q : Stamp) (v : Volume) (es : Lines) → below_all stamp_cmp k es ≡ true → IfSome (cond (eq_by_cmp stamp_cmp q k) (Some v) (find stamp_cmp q es)) IsShort → IfSome (find stamp_cmp q es) IsShort
     later k q v es below = elim (stamp_cmp q k) as (λ r. stamp_cmp q k ≡ r → IfSome (cond (is_eq r) (Some v) (find stamp_cmp q es)) IsShort → IfSome (find stamp_cmp q es) IsShort) [
       | Less ↦ λ _ h. h
-      | Equal ↦ λ p _. subst (λ o. IfSome o IsShort) (sym (find_below q es (ap (λ s. below_all stamp_cmp s es) (stamp_cmp-IsAntisymmetric q k p) ∙ below))) tt
+      | Equal ↦ λ p _. subst (λ o. IfSome o IsShort) (sym (find_below stamp_cmp q es (ap (λ s. below_all stamp_cmp s es) (stamp_cmp-IsAntisymmetric q k p) ∙ below))) tt
       | Greater ↦ λ _ h. h
     ] refl
 
@@ -199,7 +200,7 @@ pub short-taken : (b : BucketsMap) (k : Stamp) (v : Volume) → AreShortAt b →
 short-taken b k v short may q =
     let parts = gone (get b k) v may in
     let left = minus (total_at b k) v in
-    subst (λ o. IfSome o IsShort) (sym (get-taken_at b k v q)) (
+    subst (λ o. IfSome o IsShort) (sym (get-taken_at stamp_cmp_total b k v q)) (
     elim (eq_by_cmp stamp_cmp q k) as (λ t. IfSome (cond t (if_any left) (get b q)) IsShort) [
       | true ↦ elim (left.count == 0) as (λ s. left.count == 0 ≡ s → IfSome (cond s None (Some left)) IsShort) [
         | true ↦ λ _. tt
@@ -227,7 +228,7 @@ pub may-go-alike : (b : BucketsMap) (k : Stamp) (v : Volume) (ls : Lines) → Ar
 may-go-alike b k v ls alike some short =
     let own = eq_by_cmp stamp_cmp k in
     may-go (get b k) v (volume_of own ls) (
-    total_at-told b k ∙ alike own ∙ volume_of-cons own (k, v) ls ∙ ap (λ t. cond t (plus v (volume_of own ls)) (volume_of own ls)) (ties k)
+    total_at-lines b k ∙ alike own ∙ volume_of-cons own (k, v) ls ∙ ap (λ t. cond t (plus v (volume_of own ls)) (volume_of own ls)) (ties k)
     ) some (volume_of-short own ls short)
 
 -- PARTIALS
@@ -292,7 +293,7 @@ pub bucket-fits : (b : BucketsMap) (k : Stamp) (v : Volume) → AreShortAt b →
 bucket-fits b k v short line few =
     let count : (total_at b k).count ≤ count_of b = omega (
       arith,
-      ap (λ (t : Volume). t.count) (total_at-told b k),
+      ap (λ (t : Volume). t.count) (total_at-lines b k),
       sum_by-le-sum_by (λ (l : Stamp × Volume). cond (eq_by_cmp stamp_cmp k l.0) l.1.count 0) (λ l. l.1.count) (entries b) (λ l. part (eq_by_cmp stamp_cmp k l.0) l.1.count),
     ) in
     let bytes = short_total (get b k) (short k) in (

@@ -5,7 +5,7 @@ use Rattle.std.specs.List.{sum_by}
 use Rattle.std.specs.Ordering.{eq_by_cmp, is_eq, is_lt}
 use Rattle.std.specs.declared.cmp.Ordering.{Ordering}
 use Rattle.std.specs.declared.cmp.Ordering.TheVariants.{Less, Equal, Greater}
-use Rattle.std.specs.FinMap.{get, insert, remove, entries, get-entries, get-insert, get-remove, entries-insert, entries_sorted, same_map}
+use Rattle.std.specs.FinMap.{get, entries, get-entries, get-insert, entries-insert, entries_sorted, same_map}
 use Rattle.std.specs.FinMap.Entries.{find, put, by_order, is_sorted, below_all}
 use Rattle.std.proofs.Common.{sym, ap, ◌∙◌, arith}
 use Rattle.std.proofs.lemmas.Bool.{and_parts, and_from, leb-true, eqb-true, true≢false}
@@ -14,6 +14,7 @@ use Rattle.std.proofs.lemmas.List.Sums.{sum_by-cons}
 use Rattle.rl_plain.specs.laws.Bools.{true_from}
 use Rattle.rl_labels.specs.EntryParts.{longest_line}
 use Rattle.rl_aggregate.specs.TotalsMap.{no_total, plus, minus, if_any, total_at, added, taken, has_volume}
+use Rattle.rl_aggregate.specs.laws.Trees.{find_below, get-taken_at}
 use Rattle.rl_aggregate.specs.declared.volume.Volume.{Volume}
 use Rattle.rl_windows.specs.Buckets.{stamp_cmp, BucketsMap, Lines, volume_of, AreAlike, may_go}
 use Rattle.rl_windows.specs.laws.Stamps.{stamp_cmp_total, stamp_cmp-IsAntisymmetric}
@@ -31,12 +32,6 @@ below-less x y (e ∷ es) p h =
     let parts = and_parts (is_lt (stamp_cmp y e.0)) (below_all stamp_cmp y es) h in
     and_from _ _ (ap is_lt (stamp_cmp_total.trans x y e.0 p (less _ parts.0))) (below-less x y es p parts.1)
 
-pub find_below : (x : Stamp) (es : Lines) → below_all stamp_cmp x es ≡ true → find stamp_cmp x es ≡ None
-find_below x [] h = refl
-find_below x (e ∷ es) h =
-    let parts = and_parts (is_lt (stamp_cmp x e.0)) (below_all stamp_cmp x es) h in
-    ap (λ r. cond (is_eq r) (Some e.1) (find stamp_cmp x es)) (less _ parts.0) ∙ find_below x es parts.1
-
 -- NUMBERS THAT ADD UP
 
 module _ (f : Stamp × Volume → ℕ) (adds : (k : Stamp) (a b : Volume) → f (k, plus a b) ≡ f (k, a) + f (k, b)) (nothing : (k : Stamp) → f (k, no_total) ≡ 0) where
@@ -47,7 +42,7 @@ module _ (f : Stamp × Volume → ℕ) (adds : (k : Stamp) (a b : Volume) → f 
       let first = sum_by-cons f e es in
       elim (stamp_cmp k e.0) as (λ r. stamp_cmp k e.0 ≡ r → sum_by f (by_order r ((k, plus (unwrap_or (cond (is_eq r) (Some e.1) (find stamp_cmp k es)) no_total) v) ∷ e ∷ es) ((e.0, plus (unwrap_or (cond (is_eq r) (Some e.1) (find stamp_cmp k es)) no_total) v) ∷ es) (e ∷ put stamp_cmp k (plus (unwrap_or (cond (is_eq r) (Some e.1) (find stamp_cmp k es)) no_total) v) es)) ≡ f (k, v) + sum_by f (e ∷ es)) [
         | Less ↦ λ p.
-            let none = find_below k es (below-less k e.0 es p parts.0) in
+            let none = find_below stamp_cmp k es (below-less k e.0 es p parts.0) in
             omega (
               arith,
               sum_by-cons f (k, plus (unwrap_or (find stamp_cmp k es) no_total) v) (e ∷ es),
@@ -96,14 +91,6 @@ alike-added b k v test =
 
 -- TAKEN OUT
 
-pub get-taken_at : (b : BucketsMap) (k : Stamp) (v : Volume) (q : Stamp) → get (taken b k v) q ≡ cond (eq_by_cmp stamp_cmp q k) (if_any (minus (total_at b k) v)) (get b q)
-get-taken_at b k v q =
-    let left = minus (total_at b k) v in
-    elim (left.count == 0) as (λ s. get (cond s (remove b k) (insert b k left)) q ≡ cond (eq_by_cmp stamp_cmp q k) (cond s None (Some left)) (get b q)) [
-      | true ↦ get-remove stamp_cmp_total b k q
-      | false ↦ get-insert stamp_cmp_total b k left q
-    ]
-
 -- what may go and what is left are what was there
 whole : (there v : Volume) → may_go (Some there) v ≡ true → plus (unwrap_or (if_any (minus there v)) no_total) v ≡ there
 whole there v may =
@@ -129,7 +116,7 @@ whole there v may =
 pub added-taken : (b : BucketsMap) (k : Stamp) (v : Volume) → may_go (get b k) v ≡ true → added (taken b k v) k v ≡ b
 added-taken b k v may = same_map stamp_cmp_total stamp_cmp-IsAntisymmetric _ _ (λ q.
     get-insert stamp_cmp_total (taken b k v) k (plus (total_at (taken b k v) k) v) q
-    ∙ (λ i. cond (eq_by_cmp stamp_cmp q k) (Some (plus (unwrap_or (there i) no_total) v)) (get-taken_at b k v q i))
+    ∙ (λ i. cond (eq_by_cmp stamp_cmp q k) (Some (plus (unwrap_or (there i) no_total) v)) (get-taken_at stamp_cmp_total b k v q i))
     ∙ elim (eq_by_cmp stamp_cmp q k) as (λ t. eq_by_cmp stamp_cmp q k ≡ t → cond t (Some (plus (unwrap_or (if_any (minus (total_at b k) v)) no_total) v)) (cond t (if_any (minus (total_at b k) v)) (get b q)) ≡ get b q) [
       | true ↦ λ is. at (get b k) refl ∙ ap (get b) (sym (stamp_cmp-IsAntisymmetric q k (equal _ is)))
       | false ↦ λ _. refl
@@ -141,7 +128,7 @@ added-taken b k v may = same_map stamp_cmp_total stamp_cmp-IsAntisymmetric _ _ (
     equal Greater h = absurd (true≢false (sym h))
 
     there : get (taken b k v) k ≡ if_any (minus (total_at b k) v)
-    there = get-taken_at b k v k ∙ ap (λ t. cond (is_eq t) (if_any (minus (total_at b k) v)) (get b k)) (tied_itself stamp_cmp_total k)
+    there = get-taken_at stamp_cmp_total b k v k ∙ ap (λ t. cond (is_eq t) (if_any (minus (total_at b k) v)) (get b k)) (tied_itself stamp_cmp_total k)
 
     at : (o : Option Volume) → get b k ≡ o → Some (plus (unwrap_or (if_any (minus (unwrap_or (get b k) no_total) v)) no_total) v) ≡ get b k
     at None is = absurd (true≢false (sym may ∙ ap (λ o. may_go o v) is))

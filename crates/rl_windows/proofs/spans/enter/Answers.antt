@@ -2,12 +2,11 @@
 use Rattle.std.proofs.Common.{◌≡◌, ◌≤◌, true, length, sym, ap, subst, ◌∙◌, arith}
 use Rattle.std.specs.BTreeMap.Range.{entries_between}
 use Rattle.rl_aggregate.specs.Partials.{most_entries}
-use Rattle.rl_windows.specs.Buckets.{stamp_cmp, volume_of, AreShort}
+use Rattle.rl_windows.specs.Buckets.{buckets_in, stamp_cmp, volume_of, AreShort}
 use Rattle.rl_windows.specs.Windows.{is_due, partial_in}
 use Rattle.rl_windows.specs.laws.Alike.{short-entries}
 use Rattle.rl_windows.proofs.Moving.{when_ok}
 use Rattle.rl_windows.proofs.Running.{between_is, due_at, entered_all, entering_few, entering_fits, entering_more, entering_none, span, tree_entries, AreEntering}
-use Rattle.rl_windows.proofs.Trees.{buckets_in}
 use Rattle.rl_windows.proofs.spans.enter.Goals as goal
 
 pub loop-stamp-init : goal.loop-stamp-init

@@ -2,8 +2,8 @@
 use Rattle.std.proofs.Common.{nat_le, sym, ap, ◌∙◌, arith}
 use Rattle.std.specs.FinMap.{entries}
 use Rattle.std.specs.List.{filter}
+use Rattle.rl_windows.specs.Buckets.{buckets_in}
 use Rattle.rl_windows.proofs.Running.{keeps_all, popped_count, popped_left, popped_sum, tree_entries}
-use Rattle.rl_windows.proofs.Trees.{buckets_in}
 use Rattle.rl_aggregate.specs.declared.volume.Volume.{Volume}
 use Rattle.rl_windows.specs.declared.element.Stamp.{Stamp}
 use Rattle.rl_windows.proofs.spans.leave.Goals as goal

@@ -2,8 +2,8 @@
 use Rattle.std.proofs.Common.{◌≡◌, ◌+◌, nat_le, length}
 use Rattle.std.specs.FinMap.{entries}
 use Rattle.std.specs.List.{filter}
+use Rattle.rl_windows.specs.Buckets.{buckets_in}
 use Rattle.rl_windows.specs.Windows.{count_of, IsSumOf}
-use Rattle.rl_windows.proofs.Trees.{buckets_in}
 use Rattle.rl_windows.proofs.spans.leave.Given as goal
 
 abbrev pub invariant-loop-stamp : goal.invariant-loop-stamp

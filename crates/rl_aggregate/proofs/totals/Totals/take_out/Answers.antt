@@ -1,10 +1,10 @@
 -- The tree has at the label set what is left there.
 use Rattle.std.proofs.Common.{cond, sym, ap, ◌∙◌}
 use Rattle.std.specs.FinMap.{get}
-use Rattle.rl_labels.specs.laws.TextLaws.{label_set_cmp_total}
+use Rattle.rl_labels.specs.laws.TextLaws.{label_set_cmp_total, label_set_cmp-IsAntisymmetric}
 use Rattle.rl_plain.specs.laws.TreeMaps.{get-of_tree}
 use Rattle.rl_aggregate.specs.TotalsMap.{has_volume, taken}
-use Rattle.rl_aggregate.proofs.Maps.{one_taken}
+use Rattle.rl_aggregate.specs.laws.Trees.{one_taken}
 use Rattle.rl_aggregate.proofs.totals.Totals.take_out.Goals as goal
 
 pub returns-clause-there : goal.returns-clause-there
@@ -14,5 +14,5 @@ returns-clause-there c =
 
 pub returns-clause-left : goal.returns-clause-left
 returns-clause-left c =
-    one_taken c.self.inside.by_labels.entries c.take_at.new.by_labels.entries c.args.labels.now c.args.total c.take_at.result c.take_at.ensures.there c.take_at.ensures.left
+    one_taken label_set_cmp_total label_set_cmp-IsAntisymmetric has_volume c.self.inside.by_labels.entries c.take_at.new.by_labels.entries c.args.labels.now c.args.total c.take_at.result c.take_at.ensures.there c.take_at.ensures.left
     ∙ ap (λ totals. cond (has_volume (get totals c.args.labels.now) c.args.total) (taken totals c.args.labels.now c.args.total) totals) c.self.view_is
