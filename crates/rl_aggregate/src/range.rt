@@ -83,15 +83,15 @@ fn accepts_next(
     }
 }
 
-// The built selector of a term. Its patterns were built when it was read, so a refusal is one for memory.
-fn selector_of(alloc: Global, term: &Term) -> Result<SelectorCode, AllocError>
+/// The built selector of a term. Its patterns were built when it was read, so a refusal is one for memory.
+pub fn selector_of(alloc: Global, term: &Term) -> Result<SelectorCode, AllocError>
     ensures { IfOk result (λ selector. selector ≡ term.now.range.selector.matchers) }
 {
     SelectorCode::build(alloc, term.range.selector.matchers.as_slice()).or(Err(AllocError))
 }
 
-// The built stages of a term. Their patterns were built when it was read, so a refusal is one for memory.
-fn pipeline_of(alloc: Global, term: &Term) -> Result<Pipeline, AllocError>
+/// The built stages of a term. Their patterns were built when it was read, so a refusal is one for memory.
+pub fn pipeline_of(alloc: Global, term: &Term) -> Result<Pipeline, AllocError>
     ensures { IfOk result (λ pipeline. pipeline ≡ term.now.range.stages) }
 {
     Pipeline::build(alloc, term).or(Err(AllocError))

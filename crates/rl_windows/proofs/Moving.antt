@@ -1,9 +1,9 @@
 -- What lines that come and go make of what is due.
-use Rattle.std.proofs.Common.{◌≡◌, ℕ, ◌+◌, ◌<◌, ◌≤◌, nat_le, true, false, Bool, [], ◌∷◌, map, length, Ok, Err, Result, refl, sym, ap, subst, ◌∙◌, arith}
+use Rattle.std.proofs.Common.{◌≡◌, ℕ, ◌+◌, ◌≤◌, true, false, Bool, [], ◌∷◌, map, length, Ok, Err, Result, refl, sym, ap, subst, ◌∙◌, arith}
 use Rattle.std.specs.List.{filter}
 use Rattle.std.specs.FinMap.{empty, entries, get, get-empty, len-empty, len-entries}
 use Rattle.std.specs.Prelude.{IfSome, OnErr, OnOk, is_err}
-use Rattle.std.proofs.lemmas.Bool.{leb-true, true≢false}
+use Rattle.std.proofs.lemmas.Bool.{true≢false}
 use Rattle.rl_aggregate.specs.Partials.{partial_of}
 use Rattle.rl_aggregate.specs.Runs.{IsOneLess, IsOneMore}
 use Rattle.rl_aggregate.specs.TotalsMap.{added, taken}
@@ -76,13 +76,6 @@ sum_of_none moment = (
   (λ stamp. subst (λ o. IfSome o IsShort) (sym (get-empty stamp_cmp stamp)) tt),
   (λ i. partial_in (is_due moment) (sym no_entries i)),
 )
-
--- a later timestamp is not due
-pub not_due : (n m : ℕ) → m < n → nat_le n m ≡ false
-not_due n m lt = elim (nat_le n m) as (λ b. nat_le n m ≡ b → b ≡ false) [
-  | true ↦ λ is. absurd (omega (arith, leb-true n m is, lt))
-  | false ↦ λ _. refl
-] refl
 
 -- what an answer says of the new value, where it is known which it is
 pub when_err : {T E P : Type 0} (r : Result T E) → OnErr r P → is_err r ≡ true → P

@@ -12,7 +12,7 @@ use Rattle.std.specs.declared.cmp.Ordering.TheVariants.{Less, Equal, Greater}
 use Rattle.std.specs.declared.ops.Bound.TheVariants.{Excluded, Included}
 use Rattle.std.specs.FinMap.{entries, get, get-entries}
 use Rattle.std.specs.FinMap.Entries.{find, is_sorted, below_all}
-use Rattle.std.proofs.lemmas.Bool.{and_parts, eqb-false, le-leb, leb-true, leb-false, lt-ltb, ltb-true, ltb-false, ne_eqb, true≢false}
+use Rattle.std.proofs.lemmas.Bool.{and_parts, eqb-false, le-leb, le-ltb, leb-true, leb-false, lt-leb, lt-ltb, ltb-true, ltb-false, ne_eqb, true≢false}
 use Rattle.std.proofs.lemmas.Cmp.{ranked}
 use Rattle.std.proofs.lemmas.Map.Keys.{sorted_tail}
 use Rattle.rl_plain.specs.laws.TreeMaps.{entries-of_tree}
@@ -27,11 +27,10 @@ use Rattle.rl_aggregate.specs.laws.Runs.{partial_of-more}
 use Rattle.rl_aggregate.specs.laws.Within.{within-fits}
 use Rattle.rl_aggregate.specs.declared.volume.Volume.{Volume}
 use Rattle.rl_aggregate.specs.declared.partial.Partial.{Partial}
-use Rattle.rl_windows.specs.Buckets.{stamp_cmp, BucketsMap, Lines, volume_of, AreAlike, AreShort, IsShort}
+use Rattle.rl_windows.specs.Buckets.{buckets_in, stamp_cmp, BucketsMap, Lines, volume_of, AreAlike, AreShort, IsShort}
 use Rattle.rl_windows.specs.Windows.{run_of, partial_in, count_of, is_between, is_due, moments, one_if_new, HaveEntered, IsSumOf}
 use Rattle.rl_windows.specs.laws.Alike.{all-filter, count-filter, first_in, have-lines, short-entries, partial-alike, runs-lines, short-filter, volume_of-filter, within-lines, HaveLines}
 use Rattle.rl_windows.specs.laws.Stamps.{stamp_cmp_total, stamp_cmp-IsAntisymmetric}
-use Rattle.rl_windows.proofs.Trees.{buckets_in}
 use Rattle.rl_windows.specs.declared.element.Stamp.{Stamp}
 
 head_is : (x y : Stamp × Volume) (xs ys : Lines) → x ∷ xs ≡ y ∷ ys → x ≡ y
@@ -42,21 +41,9 @@ tail_is x y xs ys is = ap (λ (ls : Lines). elim ls as (λ _. Lines) [ [] ↦ xs
 
 -- TESTS OF NUMBERS
 
-not-le : (n m : ℕ) → m < n → nat_le n m ≡ false
-not-le n m lt = elim (nat_le n m) as (λ b. nat_le n m ≡ b → b ≡ false) [
-  | true ↦ λ is. absurd (omega (arith, leb-true n m is, lt))
-  | false ↦ λ _. refl
-] refl
-
-not-lt : (n m : ℕ) → m ≤ n → nat_lt n m ≡ false
-not-lt n m le = elim (nat_lt n m) as (λ b. nat_lt n m ≡ b → b ≡ false) [
-  | true ↦ λ is. absurd (omega (arith, ltb-true n m is, le))
-  | false ↦ λ _. refl
-] refl
-
 opposite : (n m : ℕ) → not (nat_le n m) ≡ nat_lt m n
 opposite n m = elim (nat_le n m) as (λ b. nat_le n m ≡ b → not b ≡ nat_lt m n) [
-  | true ↦ λ is. sym (not-lt m n (leb-true n m is))
+  | true ↦ λ is. sym (le-ltb m n (leb-true n m is))
   | false ↦ λ is. sym (lt-ltb m n (leb-false n m is))
 ] refl
 
@@ -67,7 +54,7 @@ from_first : (n m : ℕ) (o : Option LabelSet) → is_le (ordering_then (nat_cmp
 from_first n m o = elim (nat_cmp n m) as (λ r. r ≡ nat_cmp n m → is_le (ordering_then r (option_cmp label_set_cmp None o)) ≡ nat_le n m) [
   | Less ↦ λ is. sym (le-leb n m (let lt : n < m = ranked n m Less is in omega (arith, lt)))
   | Equal ↦ λ is. none_first o ∙ sym (le-leb n m (let same : n ≡ m = ranked n m Equal is in omega (arith, same)))
-  | Greater ↦ λ is. sym (not-le n m (ranked n m Greater is))
+  | Greater ↦ λ is. sym (lt-leb n m (ranked n m Greater is))
 ] refl
   where
     none_first : (o : Option LabelSet) → is_le (option_cmp label_set_cmp None o) ≡ true
@@ -103,7 +90,7 @@ volume_of-append test xs ys = λ i. record {
 lt-le : (n m : ℕ) → nat_lt n (m + 1) ≡ nat_le n m
 lt-le n m = elim (nat_le n m) as (λ b. nat_le n m ≡ b → nat_lt n (m + 1) ≡ b) [
   | true ↦ λ is. lt-ltb n (m + 1) (omega (arith, leb-true n m is))
-  | false ↦ λ is. not-lt n (m + 1) (omega (arith, leb-false n m is))
+  | false ↦ λ is. le-ltb n (m + 1) (omega (arith, leb-false n m is))
 ] refl
 
 -- what came due after one moment and by another, and what was due at the first, is what is due at the second
@@ -111,7 +98,7 @@ due_parts : (from to ts : ℕ) → from ≤ to → (b : Bool) (n : ℕ) → cond
 due_parts from to ts later b n = elim (nat_le ts from) as (λ d. nat_le ts from ≡ d → cond ((nat_le (from + 1) ts && nat_lt ts (to + 1)) && b) n 0 + cond (d && b) n 0 ≡ cond (nat_le ts to && b) n 0) [
   | true ↦ λ is.
       let early = leb-true ts from is in
-      (λ i. cond ((not-le (from + 1) ts (omega (arith, early)) i && nat_lt ts (to + 1)) && b) n 0 + cond b n 0)
+      (λ i. cond ((lt-leb (from + 1) ts (omega (arith, early)) i && nat_lt ts (to + 1)) && b) n 0 + cond b n 0)
       ∙ zero-add (cond b n 0)
       ∙ (λ i. cond (sym (le-leb ts to (omega (arith, early, later))) i && b) n 0)
   | false ↦ λ is.
@@ -160,9 +147,6 @@ AreEntering n lines others rest found = (first : Lines) × (first ++ rest ≡ li
 
 pub entering_none : (lines others rest : Lines) (found : Partial) → rest ≡ lines → found ≡ partial_of (map run_of others) → AreEntering 0 lines others rest found
 entering_none lines others rest found all sum = ([], all, refl, sum)
-
-pub have_entered : (n : ℕ) (lines others rest : Lines) (found : Partial) → AreEntering n lines others rest found → HaveEntered n lines others found
-have_entered n lines others rest found h = (h.0, rest, h.1, h.2, h.3)
 
 module _ (n : ℕ) (from to : ℕ) (es : Lines) (short : AreShort es) (e : Stamp × Volume) (more : Lines) (found : Partial) (h : AreEntering n (span from to es) (due_at from es) (e ∷ more) found) where
   abbrev come : Lines
@@ -400,7 +384,7 @@ module _ (high moment : ℕ) (es rest : Lines) (l : Stamp × Volume) (ordered : 
     pub popped_left : filter (λ line. nat_le high line.0.timestamp) (entries (buckets_in rest)) ≡ filter (λ line. nat_le high line.0.timestamp) (entries (buckets_in es))
     popped_left =
         let kept = filter (λ (line : Stamp × Volume). nat_le high line.0.timestamp) (entries (buckets_in rest)) in
-        sym (ap (λ ls. filter (λ (line : Stamp × Volume). nat_le high line.0.timestamp) ls) popped ∙ ap (λ b. cond b (l ∷ kept) kept) (not-le high l.0.timestamp before))
+        sym (ap (λ ls. filter (λ (line : Stamp × Volume). nat_le high line.0.timestamp) ls) popped ∙ ap (λ b. cond b (l ∷ kept) kept) (lt-leb high l.0.timestamp before))
 
     pub popped_sum : high ≤ moment + 1 → (found after : Partial) → IsSumOf moment (buckets_in es) found → IsOneLess (run_of l) found after → IsSumOf moment (buckets_in rest) after
     popped_sum due found after sum less =

@@ -2,13 +2,12 @@
 use Rattle.std.proofs.Common.{◌≡◌, ℕ, ◌+◌, ◌-◌, ◌*◌, ◌≤◌, ◌&&◌, nat_le, nat_lt, Bool, true, false, List, refl, ap, ◌∙◌, arith}
 use Rattle.std.specs.FinMap.{entries}
 use Rattle.std.specs.List.{filter}
-use Rattle.std.proofs.lemmas.Bool.{and_from, le-leb, lt-ltb, ltb-true, ltb-false}
+use Rattle.std.proofs.lemmas.Bool.{and_from, le-leb, lt-leb, lt-ltb, ltb-true, ltb-false}
 use Rattle.rl_aggregate.specs.InRange.{second}
 use Rattle.rl_aggregate.specs.laws.Counting.{filter-both}
 use Rattle.rl_windows.specs.Buckets.{BucketsMap, volume_of}
 use Rattle.rl_windows.specs.Windows.{first_needed, is_needed, lines_of, StandsFor}
 use Rattle.rl_windows.specs.laws.Alike.{alike-filter}
-use Rattle.rl_windows.proofs.Moving.{not_due}
 use Rattle.rl_windows.proofs.Standing.{window_of}
 use Rattle.rl_windows.specs.declared.element.Element.{Element}
 use Rattle.rl_windows.specs.declared.element.Stamp.{Stamp}
@@ -19,7 +18,7 @@ later_needed m t ts r later = elim (nat_lt t (ts + r)) as (λ b. nat_lt t (ts + 
   | true ↦ λ is.
       let lt = ltb-true t (ts + r) is in
       and_from (nat_lt m (ts + r)) (nat_le (t + 1 - r) ts) (lt-ltb m (ts + r) (omega (arith, later, lt))) (le-leb (t + 1 - r) ts (omega (arith, lt)))
-  | false ↦ λ is. ap (λ b. nat_lt m (ts + r) && b) (not_due (t + 1 - r) ts (omega (arith, ltb-false t (ts + r) is))) ∙ none (nat_lt m (ts + r))
+  | false ↦ λ is. ap (λ b. nat_lt m (ts + r) && b) (lt-leb (t + 1 - r) ts (omega (arith, ltb-false t (ts + r) is))) ∙ none (nat_lt m (ts + r))
 ] refl
   where
     none : (b : Bool) → (b && false) ≡ false

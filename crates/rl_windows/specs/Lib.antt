@@ -1,3 +1,6 @@
 pub mod Buckets
+pub mod Built
+pub mod Filling
+pub mod Ranges
 pub mod Windows
 pub mod laws

@@ -7,6 +7,7 @@ use Rattle.std.specs.Set.{distinct_count}
 use Rattle.rl_query.specs.Limits.{longest_range}
 use Rattle.rl_aggregate.specs.InRange.{in_window, second}
 use Rattle.rl_aggregate.specs.Partials.{partial_of, most_entries}
+use Rattle.rl_aggregate.specs.TotalsMap.{added}
 use Rattle.rl_aggregate.specs.declared.partial.Partial.{Partial}
 use Rattle.rl_aggregate.specs.declared.run.Run.{Run}
 use Rattle.rl_aggregate.specs.declared.volume.Volume.{Volume}
@@ -51,6 +52,10 @@ is_due moment stamp = nat_le stamp.timestamp moment
 -- a window stands for elements: it has the lines of those that are still needed
 abbrev pub StandsFor : WindowView → List Element → Type 0
 StandsFor window elements = AreShort (lines_of elements) × AreAlike (entries window.buckets) (filter (λ line. is_needed window.seconds window.moment line.0) (lines_of elements))
+
+-- a window with the lines of an element more, if they are needed
+abbrev pub with_element : Element → WindowView → WindowView
+with_element element window = if is_needed window.seconds window.moment element.stamp then record window { buckets = added window.buckets element.stamp element.volume } else window
 
 -- what the range has of elements at a moment, added up
 abbrev pub in_range : (seconds moment : ℕ) → List Element → Partial

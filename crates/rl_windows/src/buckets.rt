@@ -31,14 +31,13 @@ pub(crate) struct Buckets {
 }
 
 impl Model for Buckets {
-    ghost use Rattle.rl_windows.specs.Buckets.{BucketsMap, buckets_code};
-    ghost use Rattle.std.specs.FinMap as map;
+    ghost use Rattle.rl_windows.specs.Buckets.{buckets_in, BucketsMap, buckets_code};
 
     ghost Value = { BucketsMap };
 
     ghost coded = { buckets_code };
 
-    ghost view = { λ a. map.from_entries a.by_stamp.entries };
+    ghost view = { λ a. buckets_in a.by_stamp.entries };
 }
 
 impl Buckets {

@@ -1,11 +1,11 @@
 //! Lines that come due, and lines that leave: spans of a tree of lines by stamp.
 ghost use Rattle.std.specs.Prelude.{◌≡◌, ◌+◌, ◌<◌, ◌≤◌, ◌^◌, nat_le, ◌∷◌, None, IfNone, IfSome, OnErr, OnOk};
 ghost use Rattle.std.specs.BTreeMap.{IsOrdered};
-ghost use Rattle.std.specs.FinMap as map;
+ghost use Rattle.std.specs.FinMap.{entries};
 ghost use Rattle.std.specs.declared.ops.Bound.TheVariants.{Excluded, Included};
 ghost use Rattle.std.specs.List.{filter, AllByRecursion};
 ghost use Rattle.rl_aggregate.specs.Partials.{most_entries};
-ghost use Rattle.rl_windows.specs.Buckets.{stamp_cmp, AreShort};
+ghost use Rattle.rl_windows.specs.Buckets.{buckets_in, stamp_cmp, AreShort};
 ghost use Rattle.rl_windows.specs.Windows.{count_of, is_between, is_due, moments, partial_in, one_if_new, HaveEntered, IsSumOf};
 
 use crate::element::Stamp;
@@ -39,9 +39,9 @@ pub(crate) fn enter(
 ) -> Result<(), AllocError>
     requires later { from ≤ to }
     requires bound { to < 2 ^ 63 }
-    requires few { count_of (map.from_entries by_stamp.now.entries) ≤ most_entries }
-    requires sum { IsSumOf from (map.from_entries by_stamp.now.entries) found.old }
-    ensures sum { OnOk result (IsSumOf to (map.from_entries by_stamp.now.entries) found.new) }
+    requires few { count_of (buckets_in by_stamp.now.entries) ≤ most_entries }
+    requires sum { IsSumOf from (buckets_in by_stamp.now.entries) found.old }
+    ensures sum { OnOk result (IsSumOf to (buckets_in by_stamp.now.entries) found.new) }
     ensures err { OnErr result (found.new ≡ found.old) }
 {
     let span = bounds(from + 1, to + 1);
@@ -84,7 +84,7 @@ fn take_back(
 // How many different timestamps there are from one up to another, which is past them.
 pub(crate) fn moments(by_stamp: &BTreeMap<Stamp, Volume>, low: u64, high: u64) -> u64
     requires { low ≤ high }
-    ensures moments { result ≡ moments (filter (λ line. is_between low high line.0) (map.entries (map.from_entries {R = stamp_cmp} by_stamp.now.entries))) }
+    ensures moments { result ≡ moments (filter (λ line. is_between low high line.0) (entries (buckets_in by_stamp.now.entries))) }
     ensures bound { result < 2 ^ 63 }
 {
     let span = bounds(low, high);
@@ -115,11 +115,11 @@ pub(crate) fn leave(
     moment: u64,
 ) -> u64
     requires due { high ≤ moment + 1 }
-    requires few { count_of (map.from_entries by_stamp.old.entries) ≤ most_entries }
-    requires sum { IsSumOf moment (map.from_entries by_stamp.old.entries) found.old }
-    ensures left { map.entries (map.from_entries {R = stamp_cmp} by_stamp.new.entries) ≡ filter (λ line. nat_le high line.0.timestamp) (map.entries (map.from_entries {R = stamp_cmp} by_stamp.old.entries)) }
-    ensures sum { IsSumOf moment (map.from_entries by_stamp.new.entries) found.new }
-    ensures count { result + count_of (map.from_entries by_stamp.new.entries) ≡ count_of (map.from_entries by_stamp.old.entries) }
+    requires few { count_of (buckets_in by_stamp.old.entries) ≤ most_entries }
+    requires sum { IsSumOf moment (buckets_in by_stamp.old.entries) found.old }
+    ensures left { entries (buckets_in by_stamp.new.entries) ≡ filter (λ line. nat_le high line.0.timestamp) (entries (buckets_in by_stamp.old.entries)) }
+    ensures sum { IsSumOf moment (buckets_in by_stamp.new.entries) found.new }
+    ensures count { result + count_of (buckets_in by_stamp.new.entries) ≡ count_of (buckets_in by_stamp.old.entries) }
 {
     let mut gone = 0;
     while let Some((stamp, volume)) = pop_before(by_stamp, high) {

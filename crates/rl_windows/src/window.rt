@@ -1,15 +1,18 @@
 //! Windows that run over the lines of a range.
-ghost use Rattle.std.specs.Prelude.{◌≡◌, ◌+◌, ◌*◌, ◌≤◌, nat_lt, false, List, [], ◌∷◌, IfOk, OnErr, OnOk, if◌then◌else◌};
+ghost use Rattle.std.specs.Prelude.{◌≡◌, ◌+◌, ◌*◌, ◌≤◌, nat_le, nat_lt, false, List, [], ◌∷◌, IfOk, OnErr, OnOk, if◌then◌else◌};
 ghost use Rattle.std.specs.Bool.{Decides};
 ghost use Rattle.std.specs.FinMap as map;
 ghost use Rattle.rl_pipeline.specs.Metering.{with_visits};
+ghost use Rattle.rl_labels.specs.declared.entry.Entry.{Entry};
 ghost use Rattle.rl_query.specs.Limits.{longest_range};
+ghost use Rattle.rl_query.specs.declared.query.Term.{Term};
 ghost use Rattle.rl_aggregate.specs.InRange.{second};
 ghost use Rattle.rl_aggregate.specs.Limited.{IsWithin};
-ghost use Rattle.rl_aggregate.specs.Partials.{most_entries};
+ghost use Rattle.rl_aggregate.specs.Partials.{most_entries, partial};
 ghost use Rattle.rl_aggregate.specs.TotalsMap.{added, taken};
 ghost use Rattle.rl_windows.specs.Buckets.{may_go, IsShort};
-ghost use Rattle.rl_windows.specs.Windows.{count_of, first_needed, in_range, visits, IsOfSameRange, IsSumOf, StandsFor};
+ghost use Rattle.rl_windows.specs.Ranges.{code_of, elements_for};
+ghost use Rattle.rl_windows.specs.Windows.{count_of, first_needed, in_range, visits, with_element, IsOfSameRange, IsSumOf, StandsFor};
 ghost use Rattle.rl_windows.specs.declared.element.Element.{Element};
 
 use crate::buckets::Buckets;
@@ -83,6 +86,7 @@ impl Window {
     pub fn add(&mut self, element: &Element) -> Result<(), AllocError>
         requires short { IsShort element.now.volume }
         requires room { count_of self.old.buckets + element.now.volume.count ≤ self.old.most }
+        ensures ok { OnOk result (self.new ≡ with_element element.now self.old) }
         ensures stands { OnOk result ((es : List Element) → StandsFor self.old es → StandsFor self.new (element.now ∷ es)) }
         ensures range { IsOfSameRange self.old self.new }
         ensures err { OnErr result (self.new ≡ self.old) }
@@ -135,6 +139,7 @@ impl Window {
     /// What the lines in the range add up to at the moment. It is copied where something has changed since.
     pub fn partial(&mut self) -> Result<Shared<Partial>, AllocError>
         ensures partial { IfOk result (λ partial. (es : List Element) → StandsFor self.old es → partial ≡ in_range self.old.seconds self.old.moment es) }
+        ensures scratch { IfOk result (λ found. (term : Term) (entries : List Entry) → term.range.seconds ≡ self.old.seconds → StandsFor self.old (elements_for (code_of term) entries) → found ≡ partial entries term self.old.moment) }
         ensures within { IfOk result (λ partial. IsWithin self.old.most partial) }
         ensures same { self.new ≡ self.old }
     {
@@ -153,11 +158,18 @@ fn is_needed(seconds: u64, moment: Ns, timestamp: u64) -> bool
 }
 
 // The first timestamp that a range needs at the moment.
-fn first_needed(seconds: u64, moment: Ns) -> u64
+pub(crate) fn first_needed(seconds: u64, moment: Ns) -> u64
     requires { seconds ≤ longest_range }
     ensures { result ≡ first_needed seconds moment }
 {
     (moment.get() + 1).saturating_sub(seconds * SECOND)
+}
+
+// Whether lines of the timestamp were written by the moment.
+fn is_due(moment: Ns, timestamp: u64) -> bool
+    ensures { result ≡ nat_le timestamp moment }
+{
+    timestamp <= moment.get()
 }
 
 // Adds lines that are needed, to what is due too where they are due. Refused, both stay as they were.
@@ -175,7 +187,7 @@ fn add_to(
     ensures err { OnErr result ((buckets.new ≡ buckets.old) × (found.new ≡ found.old)) }
 {
     let stamp = element.stamp.try_copy()?;
-    if moment.get() < element.stamp.timestamp {
+    if !is_due(moment, element.stamp.timestamp) {
         return buckets.add(stamp, element.volume);
     }
     found.add(&element.stamp.labels, element.volume)?;
@@ -197,7 +209,7 @@ fn take_from(buckets: &mut Buckets, found: &mut Found, moment: Ns, element: &Ele
     if !buckets.take_out(&element.stamp, element.volume) {
         return false;
     }
-    if moment.get() < element.stamp.timestamp {
+    if !is_due(moment, element.stamp.timestamp) {
         return true;
     }
     found.take_out(&element.stamp.labels, element.volume);

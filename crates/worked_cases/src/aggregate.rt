@@ -71,8 +71,12 @@ fn entries_in(alloc: Global, text: &str) -> Result<Vec<Shared<Entry>>, Trouble>
     Ok(entries)
 }
 
-// Writes what a partial has, and what its query gives.
-fn push_partial(output: &mut String, query: &Query, partial: &Partial) -> Result<(), Trouble> {
+/// Writes what a partial has, and what its query gives.
+pub(crate) fn push_partial(
+    output: &mut String,
+    query: &Query,
+    partial: &Partial,
+) -> Result<(), Trouble> {
     let (errors, many) = (partial.errors, partial.totals.len());
     writeln!(output, "{errors} errors, {many} label sets")?;
     let outcome = finished(*output.allocator(), query, partial)?;

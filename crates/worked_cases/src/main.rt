@@ -23,6 +23,7 @@ mod streams;
 mod streams_random;
 mod trouble;
 mod windows;
+mod windows_built;
 mod world;
 mod world_steps;
 

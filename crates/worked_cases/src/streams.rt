@@ -2,11 +2,13 @@
 //!
 //! The first line of an input has limits by their names, and after a `|` how reads of the store are spoilt: `0=gone` and
 //! `1=flip:9`, `2=cut:3`, `3=swap:7`. Each line after it is a call: `push` and `holds` with an entry, `horizon` with a
-//! moment, `cut`, `flush`, `len`, `reads`, `chunks`, `each` with labels and two moments, `walk` with labels, by a cursor.
+//! moment, `cut`, `flush`, `len`, `reads`, `chunks`, `each` with labels and two moments, `walk` with labels, by a cursor, and
+//! `windows`, which are built.
 use crate::given::{Read, entry_in, limits_in, list_in, moment_in, number_in, words_of};
 use crate::output::push_value;
 use crate::streams_random::random;
 use crate::trouble::Trouble;
+use crate::windows_built::push_windows;
 use rl_chunks::{MemStore, Spoil, SpoilStore};
 use rl_labels::{Labels, MatchOp, Matcher, Ns, SelectorCode, TimeRange};
 use rl_parts::Visitor;
@@ -97,6 +99,7 @@ fn call(
         "reads" => push_value(output, &streams.store().inner().reads()),
         "each" => each(output, streams, rest),
         "walk" => walk(output, streams, rest),
+        "windows" => push_windows(output, streams, rest),
         _ => Err(Trouble::BadInput),
     }
 }

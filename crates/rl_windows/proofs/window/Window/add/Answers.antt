@@ -1,6 +1,7 @@
 -- An element that is needed comes.
-use Rattle.std.proofs.Common.{◌+◌, ◌≤◌, ◌∷◌, sym, ap, subst, ◌∙◌, arith}
-use Rattle.rl_windows.specs.Windows.{count_of, StandsFor}
+use Rattle.std.proofs.Common.{◌+◌, ◌≤◌, cond, ◌∷◌, sym, ap, subst, ◌∙◌, arith}
+use Rattle.rl_aggregate.specs.TotalsMap.{added}
+use Rattle.rl_windows.specs.Windows.{count_of, with_element, StandsFor}
 use Rattle.rl_windows.specs.laws.Alike.{count_of-added}
 use Rattle.rl_windows.proofs.Standing.{comes, window_of}
 use Rattle.rl_windows.proofs.window.Window.add.Goals as goal
@@ -17,6 +18,15 @@ invariant_of-self-2 c =
       room = omega (arith, counted, room);
       few = c.self.invariant.few;
     }
+
+pub returns-clause-ok : goal.returns-clause-ok
+returns-clause-ok c =
+    let w = c.self.inside in
+    let e = c.args.element.now in
+    let more = window_of w.seconds w.moment w.most (added w.buckets e.stamp e.volume) in
+    (λ i. window_of w.seconds w.moment w.most (c.in_ok-add_to.ensures.ok i))
+    ∙ sym (ap (λ b. cond b more (window_of w.seconds w.moment w.most w.buckets)) (sym c.is_needed.ensures ∙ c.if-not-is_needed.false))
+    ∙ ap (with_element e) c.self.view_is
 
 pub returns-clause-stands : goal.returns-clause-stands
 returns-clause-stands c = λ es stands.
