@@ -2,7 +2,7 @@
 use Rattle.std.proofs.Common.{◌≡◌, ◌+◌, true, false, cond, ◌||◌, ◌∷◌, Option, None, Some, T, IsTrue, refl, sym, ap, ◌∙◌, arith}
 use Rattle.std.specs.Option.{unwrap_or, is_some}
 use Rattle.std.specs.Ordering.{eq_by_cmp}
-use Rattle.std.specs.FinMap.{get, insert, contains_key, get-insert, get-from_entries}
+use Rattle.std.specs.FinMap.{get, contains_key, get-from_entries}
 use Rattle.std.specs.FinMap.Entries.{find, is_sorted, below_all}
 use Rattle.std.proofs.lemmas.Bool.{and_parts}
 use Rattle.rl_labels.specs.LabelSet.{LabelSet}
@@ -10,8 +10,9 @@ use Rattle.rl_labels.specs.LabelText.{label_set_cmp}
 use Rattle.rl_plain.specs.laws.Bools.{true_from}
 use Rattle.std.proofs.lemmas.Float.{T_from_true}
 use Rattle.rl_labels.specs.laws.TextLaws.{label_set_cmp_total}
-use Rattle.rl_aggregate.specs.laws.Sums.{find_below, find_first}
+use Rattle.rl_aggregate.specs.laws.Sums.{find_first}
 use Rattle.rl_aggregate.specs.laws.Totals.{get-added, same_key}
+use Rattle.rl_aggregate.specs.laws.Trees.{find_below}
 use Rattle.rl_aggregate.specs.TotalsMap.{TotalsMap, no_total, plus, total_at, added, HasAll}
 use Rattle.rl_aggregate.specs.declared.volume.Volume.{Volume}
 use Rattle.rl_aggregate.proofs.Maps.{Entries, totals_in}
@@ -19,15 +20,6 @@ use Rattle.rl_aggregate.proofs.Maps.{Entries, totals_in}
 -- the sum of two totals, of which either may be missing
 abbrev pub joined : Option Volume → Option Volume → Option Volume
 joined a b = cond (is_some a || is_some b) (Some (plus (unwrap_or a no_total) (unwrap_or b no_total))) None
-
--- the first, or else the second
-abbrev pub either : Option Volume → Option Volume → Option Volume
-either None b = b
-either (Some a) b = Some a
-
-pub either-None : (a : Option Volume) → either a None ≡ a
-either-None None = refl
-either-None (Some a) = refl
 
 plus-none : (total : Volume) → plus total no_total ≡ total
 plus-none total =
@@ -46,7 +38,7 @@ joined-Some (Some a) b = refl
 -- a label set that is first in order does not stand again
 find_again : (k : LabelSet) (v : Volume) (rest : Entries) (q : LabelSet) → T (is_sorted label_set_cmp ((k, v) ∷ rest)) → q ≡ k → find label_set_cmp q rest ≡ None
 find_again k v rest q sorted same =
-    ap (λ s. find label_set_cmp s rest) same ∙ find_below k rest (and_parts (below_all label_set_cmp k rest) (is_sorted label_set_cmp rest) (true_from _ sorted)).0
+    ap (λ s. find label_set_cmp s rest) same ∙ find_below label_set_cmp k rest (and_parts (below_all label_set_cmp k rest) (is_sorted label_set_cmp rest) (true_from _ sorted)).0
 
 -- the rest of entries in order is in order
 pub sorted_rest : (k : LabelSet) (v : Volume) (rest : Entries) → T (is_sorted label_set_cmp ((k, v) ∷ rest)) → T (is_sorted label_set_cmp rest)
@@ -70,15 +62,6 @@ joined-added m k v rest q sorted =
 pub total_at-next : (m both : TotalsMap) (k : LabelSet) (v : Volume) (rest : Entries) → joined (get m k) (find label_set_cmp k ((k, v) ∷ rest)) ≡ get both k → plus (total_at m k) v ≡ total_at both k
 total_at-next m both k v rest is =
     ap (λ t. unwrap_or t no_total) (sym (joined-Some (get m k) v) ∙ ap (joined (get m k)) (sym (find_first (k, v) rest)) ∙ is)
-
--- one entry goes from the rest into a copy, and what either has stays
-pub either-inserted : (m : TotalsMap) (k : LabelSet) (v : Volume) (rest : Entries) (q : LabelSet) → T (is_sorted label_set_cmp ((k, v) ∷ rest)) → either (find label_set_cmp q rest) (get (insert m k v) q) ≡ either (find label_set_cmp q ((k, v) ∷ rest)) (get m q)
-either-inserted m k v rest q sorted =
-    ap (either (find label_set_cmp q rest)) (get-insert label_set_cmp_total m k v q)
-    ∙ elim (eq_by_cmp label_set_cmp q k) as (λ b. eq_by_cmp label_set_cmp q k ≡ b → either (find label_set_cmp q rest) (cond b (Some v) (get m q)) ≡ either (cond b (Some v) (find label_set_cmp q rest)) (get m q)) [
-      | true ↦ λ is. ap (λ t. either t (Some v)) (find_again k v rest q sorted (same_key q k is))
-      | false ↦ λ _. refl
-    ] refl
 
 -- what the entries of totals find, the totals have
 pub find-entries : (totals : TotalsMap) (es : Entries) (q : LabelSet) → totals_in es ≡ totals → find label_set_cmp q es ≡ get totals q

@@ -26,7 +26,6 @@ const NOTHING: Volume = Volume { count: 0, bytes: 0 };
 /// Totals by label set. Contracts see a finite map.
 #[derive(Drop)]
 pub struct Totals {
-    alloc: Global,
     by_labels: BTreeMap<Labels, Volume>,
 }
 
@@ -47,7 +46,6 @@ impl Totals {
         ensures { result ≡ map.empty }
     {
         Totals {
-            alloc,
             by_labels: BTreeMap::new(alloc),
         }
     }
@@ -216,13 +214,8 @@ fn take_at(by_labels: &mut BTreeMap<Labels, Volume>, labels: &Labels, total: Vol
 impl TryCopy for Totals {
     /// Takes memory for the copy's tree, and shares the label sets.
     fn try_copy(&self) -> Result<Self, AllocError> {
-        let mut by_labels = BTreeMap::new(self.alloc);
-        for (labels, total) in self.by_labels.iter() {
-            by_labels.insert(labels.try_copy()?, *total)?;
-        }
         Ok(Totals {
-            alloc: self.alloc,
-            by_labels,
+            by_labels: self.by_labels.clone()?,
         })
     }
 }

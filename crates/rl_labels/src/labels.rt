@@ -507,6 +507,17 @@ impl TryCopy for Labels {
     }
 }
 
+impl Clone for Labels {
+    ghost use Rattle.std.specs.Prelude.{◌≡◌};
+
+    ghost is_clone = { λ labels copy. copy ≡ labels };
+
+    /// Shares the labels, as `try_copy` does.
+    fn clone(&self) -> Result<Self, AllocError> {
+        self.try_copy()
+    }
+}
+
 impl Same for Labels {
     fn is_same(&self, other: &Self) -> bool {
         self == other
