@@ -144,17 +144,25 @@ impl<S: Sink> Book<S> {
         ensures ok { OnOk result (self.new ≡ with_history self.old (begun self.old.shards self.old.history t)) }
         ensures err { OnErr result (self.new ≡ self.old) }
     {
+        self.may_begin(t)?;
+        let gathered = no_answers(self.alloc, self.shards)?;
+        self.opened = Some(OpenEvaluation { t, gathered });
+        Ok(())
+    }
+
+    // Refuses where one is open, and a moment that is not later than the last evaluation's.
+    fn may_begin(&self, t: Ns) -> Result<(), BookFault>
+        ensures { Refuses (begin_fault self.now.history t) result }
+    {
         if self.opened.is_some() {
-            return Err(BookError::Fault(BookFault::Busy));
+            return Err(BookFault::Busy);
         }
         if let Some(last) = self.evaluations.last() {
             let last = last.get().t;
             if t <= last {
-                return Err(BookError::Fault(BookFault::MomentNotLater { last }));
+                return Err(BookFault::MomentNotLater { last });
             }
         }
-        let gathered = no_answers(self.alloc, self.shards)?;
-        self.opened = Some(OpenEvaluation { t, gathered });
         Ok(())
     }
 
