@@ -108,17 +108,6 @@ room-fits found room = within-fits room.0 found room.2 (omega (arith, room.1))
 pub line-fits : (labels : LabelSet) (bytes : ℕ) (found : Partial) → bytes ≤ longest_line → HasRoom 1 found → Fits (with_run (line_run labels bytes) found)
 line-fits labels bytes found short room = within-fits (room.0 + 1) _ (within-run room.0 found (line_run labels bytes) (omega arith) (omega (arith, short)) room.2) room.1
 
--- what has room for one line has room for none
-pub room-less : (found : Partial) → HasRoom 1 found → HasRoom 0 found
-room-less found room = (room.0, omega (arith, room.1), room.2)
-
--- a line has labels without an error, or none
-pub line-proper : (labels : LabelSet) (bytes : ℕ) → IsProper (line_run labels bytes)
-line-proper labels bytes = elim (has_error labels) as (λ b. has_error labels ≡ b → IfSome (cond b None (Some labels)) (λ own. has_error own ≡ false)) [
-  | true ↦ λ _. tt
-  | false ↦ λ good. good
-] refl
-
 -- labels that are tested equal are those of the run
 pub labels_had : (run : Run) (labels : LabelSet) → has_labels (Some labels) run ≡ true → run.labels ≡ Some labels
 labels_had run labels = elim (run.labels) as (λ o. option_eq (eq_by_cmp label_set_cmp) (Some labels) o ≡ true → o ≡ Some labels) [

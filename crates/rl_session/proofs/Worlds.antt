@@ -1,8 +1,6 @@
 -- What the calls of an engine over a world make of the world.
-use Rattle.std.proofs.Common.{◌≡◌, ℕ, zero, suc, ◌+◌, ◌<◌, Bool, true, false, cond, List, [], ◌∷◌, ◌++◌, map, length, take, Option, None, Some, Ok, Err, refl, sym, ap, subst, ◌∙◌, arith}
-use Rattle.std.specs.Prelude.{Result, slice_get, option_map}
-use Rattle.std.proofs.lemmas.List.{take_all}
-use Rattle.std.proofs.lemmas.Option.{slice_get-map}
+use Rattle.std.proofs.Common.{◌≡◌, ℕ, zero, suc, ◌+◌, Bool, true, false, cond, List, [], ◌∷◌, ◌++◌, map, length, take, Option, None, Some, Ok, refl, sym, ap, subst, ◌∙◌, arith}
+use Rattle.std.specs.Prelude.{slice_get, option_map}
 use Rattle.std.proofs.lemmas.Slice.Zip.{AllZip-long}
 use Rattle.std.specs.List.{AllZip}
 use Rattle.rl_labels.specs.Name.{is_text}
@@ -11,7 +9,6 @@ use Rattle.rl_shard.specs.declared.step.ShardReply.{ShardReply}
 use Rattle.rl_shard.specs.declared.step.ShardStep.{ShardStep}
 use Rattle.rl_world.specs.Closed.{IsBookClosed, IsClosed}
 use Rattle.rl_world.specs.WorldState.{BookState, WorldBooks}
-use Rattle.rl_world.specs.declared.fault.Refusal.{Refusal}
 use Rattle.rl_session.specs.Engine.{Listed, number_named}
 use Rattle.rl_session.specs.WorldEngine.{IsAskedFor, AreDecided, first_refused, listed, or_else, refusing}
 
@@ -88,7 +85,3 @@ named_here name (first ∷ books) zero book none there same = sym (named_by name
 named_here name (first ∷ books) (suc i) book none there same =
     let both = apart name (listed first) (map listed (take i books)) none in
     sym (named_by name (listed first) (map listed books) false both.0 ∙ ap (option_map suc) (sym (named_here name books i book both.1 there same)))
-
--- no group has it
-pub named_none : (name : List ℕ) (books : List BookState) → number_named name (map listed (take (length books) books)) ≡ None → None ≡ number_named name (map listed books)
-named_none name books none = sym (ap (λ b. number_named name (map listed b)) (sym (take_all (length books) books (omega arith))) ∙ none)

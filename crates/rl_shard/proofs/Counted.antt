@@ -1,5 +1,5 @@
 -- What lines add up to that were visited once.
-use Rattle.std.proofs.Common.{◌≡◌, ◌≤◌, ◌<◌, leb, ltb, ℕ, ◌+◌, ◌-◌, ◌*◌, Bool, Bor, true, false, cond, not, ◌&&◌, ◌||◌, List, [], ◌∷◌, length, map, Err, refl, sym, ap, subst, ◌∙◌, arith}
+use Rattle.std.proofs.Common.{◌≡◌, ◌≤◌, ◌<◌, leb, ltb, ℕ, ◌+◌, ◌-◌, ◌*◌, Bool, Bor, true, false, cond, not, ◌&&◌, ◌||◌, List, [], ◌∷◌, length, map, refl, sym, ap, subst, ◌∙◌, arith}
 use Rattle.std.specs.Prelude.{◌==◌, min, nat_le, nat_lt}
 use Rattle.std.specs.List.{AllByRecursion, AllZip, filter, flat_map, fold}
 use Rattle.std.proofs.lemmas.Simd.{map-map}
@@ -25,14 +25,10 @@ use Rattle.rl_aggregate.specs.laws.Counting.{filter-both, new_counter_counts}
 use Rattle.rl_aggregate.specs.laws.Runs.{kept-permuted}
 use Rattle.rl_deletes.specs.Deletes.{RequestsView, covered, covered_line}
 use Rattle.rl_parts.specs.Reading.{visited}
-use Rattle.rl_parts.specs.StoreUse.{Right}
-use Rattle.rl_parts.specs.declared.fault.ReadFault.{ReadFault}
-use Rattle.rl_parts.specs.declared.fault.ReadFault.TheVariants as reads
 use Rattle.rl_streams.specs.Asking.{asked, is_asked, AreOfRow, AreVisited, AreVisitedOnce}
 use Rattle.rl_streams.specs.StreamRows.{Row}
 use Rattle.rl_streams.specs.StreamsState.{StreamsView}
-use Rattle.rl_shard.specs.Collecting.{is_shown, shown, IsOfReading, IsRead, IsStartOf}
-use Rattle.rl_shard.specs.ShardFault.{IsOfStore, fault_of_read}
+use Rattle.rl_shard.specs.Collecting.{is_shown, shown, IsRead, IsStartOf}
 use Rattle.rl_shard.specs.declared.lines.LineCounter.{LineCounter}
 use Rattle.rl_shard.proofs.Taken.{accumulated, accumulators_line, lines_of}
 use Rattle.rl_shard.proofs.Windows.{and_true, both_true, filter_flat, filter_map, filter_same, is_between, narrow_rows, start_at, starts_at, starts_before}
@@ -176,17 +172,6 @@ module _ (requests : Bor RequestsView) (range t : ℕ) where
 pub counted_all : (counter : CounterView) (order : List Entry) → fold counts_any counter (map visited order) ≡ fold counted_entry counter order
 counted_all counter [] = refl
 counted_all counter (e ∷ es) = counted_all (counted_entry counter e) es
-
--- why reading was refused
-pub of_store_read : (old new : StreamsView) (P : Unit {0} → Type 0) (fault : ReadFault) → (old.seen.honest ≡ true → Right {A = Unit {0}} (Err fault) P) → IsOfStore old (fault_of_read fault) new
-of_store_read old new P reads.Fault right = tt
-of_store_read old new P reads.Damaged right = not_true old.seen.honest right
-of_store_read old new P reads.Memory right = tt
-
-pub of_reading : (fault : ReadFault) → IsOfReading (fault_of_read fault)
-of_reading reads.Fault = tt
-of_reading reads.Damaged = tt
-of_reading reads.Memory = tt
 
 module _ (counter : CounterView) (line : LabelSet × Line) where
   -- a counter after a line that it may not count, and after one that it may

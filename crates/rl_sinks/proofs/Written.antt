@@ -1,8 +1,8 @@
 -- What was written, step by step.
 use Rattle.std.proofs.Common.{◌≡◌, ◌≢◌, ◌⊎◌, inl, inr, Bool, true, false, ℕ, zero, suc, ◌∷◌, slice_index_or, ◌+◌, ◌-◌, ◌<◌, ◌≤◌, List, [], ◌++◌, length, take, drop, get_or, Option, None, Some, Result, Ok, Err, OnOk, OnErr, sym, ap, subst, ◌∙◌, refl, arith, append_assoc, length-append}
-use Rattle.std.proofs.lemmas.List.{get_or_append_left, take-append-drop, append-nil, take_all, drop-append-le, drop_more, length-drop}
+use Rattle.std.proofs.lemmas.List.{get_or_append_left, take-append-drop, take_all, drop-append-le, drop_more, length-drop}
 use Rattle.std.specs.List.{flat_map}
-use Rattle.std.specs.Io.KnownBytes.{Appends, Keeps}
+use Rattle.std.specs.Io.KnownBytes.{Appends}
 use Rattle.rl_sinks.specs.Pieces.{Writes, IsPosition, end_pieces, pieces, rest_of}
 
 -- one write after another
@@ -11,17 +11,6 @@ Appends-trans None m n f g a b = tt
 Appends-trans (Some xs) None n f g a b = absurd a
 Appends-trans (Some xs) (Some ys) None f g a b = absurd b
 Appends-trans (Some xs) (Some ys) (Some zs) f g a b = b ∙ ap (λ l. l ++ g) a ∙ append_assoc xs f g
-
--- nothing was written
-pub Writes-none : (o : Option (List ℕ)) (rest : List ℕ) → Writes o o rest rest
-Writes-none None rest = ([], refl, tt)
-Writes-none (Some xs) rest = ([], refl, sym (append-nil xs))
-
--- a write that failed
-pub Writes-kept : (o n : Option (List ℕ)) (rest : List ℕ) → Keeps o n → Writes o n rest rest
-Writes-kept None n rest k = ([], refl, tt)
-Writes-kept (Some xs) None rest k = absurd k
-Writes-kept (Some xs) (Some ys) rest k = ([], refl, k ∙ sym (append-nil xs))
 
 -- a write that took some bytes of the rest
 pub Writes-step : (o m n : Option (List ℕ)) (all rest : List ℕ) (count : ℕ) → Writes o m all rest → Appends m n (take count rest) → Writes o n all (drop count rest)

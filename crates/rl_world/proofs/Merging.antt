@@ -9,7 +9,7 @@ use Rattle.rl_labels.specs.LabelText.{label_set_cmp}
 use Rattle.rl_aggregate.specs.laws.Totals.{same_totals, get-both_totals}
 use Rattle.rl_aggregate.specs.laws.Within.{within-fits, within-merge, within-more, within-none}
 use Rattle.rl_aggregate.specs.Limited.{IsLimited, IsWithin}
-use Rattle.rl_aggregate.specs.Partials.{both_totals, merge, most_entries, Fits}
+use Rattle.rl_aggregate.specs.Partials.{both_totals, merge, Fits}
 use Rattle.rl_aggregate.specs.TotalsMap.{no_total, plus, total_at}
 use Rattle.rl_aggregate.specs.declared.volume.Volume.{Volume}
 use Rattle.rl_aggregate.specs.declared.partial.Partial.{Partial}

@@ -1,11 +1,8 @@
 -- The step is a turn of the world.
-use Rattle.std.proofs.Common.{sym, subst, ◌∙◌}
-use Rattle.rl_world.specs.WorldRun.{Turned}
-use Rattle.rl_world.specs.WorldState.{WorldBooks}
+use Rattle.std.proofs.Common.{sym, ◌∙◌}
 use Rattle.rl_world.specs.WorldStep.{as_reply}
 use Rattle.rl_world.specs.declared.step.Reply.TheVariants as replies
 use Rattle.rl_world.specs.declared.step.Step.TheVariants as steps
-use Rattle.rl_session.specs.WorldEngine.{IsAlike}
 use Rattle.rl_session.proofs.Following.{turn_alike}
 use Rattle.rl_session.proofs.world_engine.WorldEngine.ask_one.Goals as goal
 

@@ -1,6 +1,5 @@
 -- The call is a turn of the world, which keeps its groups, sinks and shards.
-use Rattle.std.proofs.Common.{map, sym, ap, subst, ◌∙◌}
-use Rattle.rl_world.specs.WorldRun.{Turned}
+use Rattle.std.proofs.Common.{map, sym, ap, ◌∙◌}
 use Rattle.rl_world.specs.WorldState.{WorldBooks}
 use Rattle.rl_world.specs.WorldStep.{as_reply}
 use Rattle.rl_world.specs.declared.step.Reply.TheVariants as replies

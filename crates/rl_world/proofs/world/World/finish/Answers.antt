@@ -1,5 +1,4 @@
 -- Each shard was asked, and the evaluation is committed or still open.
-use Rattle.std.proofs.Common.{ap, is_some, ◌∙◌}
 use Rattle.rl_world.proofs.Moments.{finished_moment, finished_named, finished_open}
 use Rattle.rl_world.proofs.world.World.finish.Goals as goal
 
