@@ -97,8 +97,9 @@ impl<S: Store> Streams<S> {
         self.count
     }
 
-    /// Takes an entry, and answers whether it was missing and is held now. One that was held changes nothing. The search for it may read from the store, so a fault of the store
-    /// may be answered where the entry is held, or where there is no room. A refusal takes nothing.
+    /// Takes an entry, and answers whether it was missing and is held now. One that was held changes nothing. The search for
+    /// it may read from the store, so a fault of the store may be answered where the entry is held, or where there is no
+    /// room. A refusal takes nothing.
     pub fn add(&mut self, entry: Shared<Entry>, horizon: Ns) -> Result<bool, AddRefusal>
         // An entry that is too old is refused without a read. What becomes of another follows from memory and from bytes with
         // the digests that were kept, over any store.
