@@ -138,7 +138,7 @@ enum Turn {
 
 // How many turns of each kind there were, and after how many the partial had several label sets and an error.
 #[derive(Clone, Copy)]
-struct Tally {
+struct TurnCounts {
     added: u64,
     full: u64,
     taken: u64,
@@ -147,9 +147,9 @@ struct Tally {
     mixed: u64,
 }
 
-impl Tally {
-    fn new() -> Tally {
-        Tally {
+impl TurnCounts {
+    fn new() -> TurnCounts {
+        TurnCounts {
             added: 0,
             full: 0,
             taken: 0,
@@ -209,17 +209,17 @@ impl Driven {
         drawn: &mut Drawn,
         count: u64,
     ) -> Result<(), Trouble> {
-        let mut tally = Tally::new();
+        let mut counts = TurnCounts::new();
         let mut same = 0u64;
         for number in 0..count {
             let turn = self.take(drawn, number, range_of(term))?;
-            tally.count(turn);
-            let is_same = self.is_as_list(term, drawn.timestamp(self.moment)?, &mut tally)?;
+            counts.count(turn);
+            let is_same = self.is_as_list(term, drawn.timestamp(self.moment)?, &mut counts)?;
             if is_same && !matches!(turn, Turn::Differs) {
                 same = same.saturating_add(1);
             }
         }
-        let is_varied = tally.is_each_often();
+        let is_varied = counts.is_each_often();
         writeln!(
             output,
             "{same} of {count}; each kind came often: {is_varied}"
@@ -250,8 +250,8 @@ impl Driven {
 
     // Takes a line out that may not be there. One that is not is asked for only where it cannot be there.
     fn take_out(&mut self, entry: &Entry) -> Result<Turn, Trouble> {
-        if let Some(place) = place_of(&self.lines, entry) {
-            return self.take_at(place);
+        if let Some(index) = index_of(&self.lines, entry) {
+            return self.take_at(index);
         }
         if cannot_have(&self.lines, entry) {
             self.window.take_out(&element_of(entry)?);
@@ -265,11 +265,11 @@ impl Driven {
         self.take_at(last.saturating_sub(drawn.draws.up_to(15) as usize))
     }
 
-    fn take_at(&mut self, place: usize) -> Result<Turn, Trouble> {
-        if place >= self.lines.len() {
+    fn take_at(&mut self, index: usize) -> Result<Turn, Trouble> {
+        if index >= self.lines.len() {
             return Ok(Turn::TakesNothing);
         }
-        let line = self.lines.swap_remove(place);
+        let line = self.lines.swap_remove(index);
         self.window.take_out(&element_of(line.get())?);
         Ok(Turn::TakesOut)
     }
@@ -291,14 +291,19 @@ impl Driven {
     }
 
     // Whether the window answers as its lines do.
-    fn is_as_list(&mut self, term: &Term, probe: Ns, tally: &mut Tally) -> Result<bool, Trouble> {
+    fn is_as_list(
+        &mut self,
+        term: &Term,
+        probe: Ns,
+        counts: &mut TurnCounts,
+    ) -> Result<bool, Trouble> {
         if self.lines.len() > 100_000 {
             return Err(Trouble::BadInput);
         }
         let anew = scratch(*self.lines.allocator(), &self.lines, term, self.moment)?;
         let shown = self.window.partial()?;
         let needed = count_needed(&self.lines, range_of(term), self.moment);
-        let is_same = is_same_partial(shown.get(), &anew, tally);
+        let is_same = is_same_partial(shown.get(), &anew, counts);
         let has_room = self.window.has_room() == (needed < self.most);
         let needs = self.window.needs(probe) == is_needed(probe, range_of(term), self.moment);
         Ok(is_same && has_room && needs)
@@ -339,10 +344,10 @@ fn is_alike(entry: &Entry, other: &Entry) -> bool {
     has_error(entry) || entry.labels == other.labels
 }
 
-fn place_of(lines: &[Shared<Entry>], entry: &Entry) -> Option<usize> {
-    for (place, line) in lines.iter().enumerate() {
+fn index_of(lines: &[Shared<Entry>], entry: &Entry) -> Option<usize> {
+    for (index, line) in lines.iter().enumerate() {
         if line.get() == entry {
-            return Some(place);
+            return Some(index);
         }
     }
     None
@@ -370,15 +375,15 @@ fn is_needed(timestamp: Ns, range: u64, moment: Ns) -> bool {
 
 // Lets go of lines that were needed a range before and longer ago.
 fn forget_old(lines: &mut Vec<Shared<Entry>>, range: u64, moment: Ns) {
-    for place in (0..lines.len()).rev() {
-        if place < lines.len()
+    for index in (0..lines.len()).rev() {
+        if index < lines.len()
             && !is_needed(
-                lines[place].get().timestamp,
+                lines[index].get().timestamp,
                 range.saturating_mul(2),
                 moment,
             )
         {
-            lines.swap_remove(place);
+            lines.swap_remove(index);
         }
     }
 }
@@ -416,9 +421,9 @@ fn push_once(seen: &mut Vec<(Ns, bool)>, one: (Ns, bool)) -> Result<(), AllocErr
 }
 
 // Whether the partials are one. It is counted where they have several label sets and an error.
-fn is_same_partial(shown: &Partial, anew: &Partial, tally: &mut Tally) -> bool {
+fn is_same_partial(shown: &Partial, anew: &Partial, counts: &mut TurnCounts) -> bool {
     if anew.errors > 0 && anew.totals.len() > 1 {
-        tally.mixed = tally.mixed.saturating_add(1);
+        counts.mixed = counts.mixed.saturating_add(1);
     }
     shown.is_same(anew)
 }
