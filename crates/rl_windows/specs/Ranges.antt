@@ -1,10 +1,11 @@
 -- What lines add to the windows of a range.
-use Rattle.std.specs.Prelude.{ℕ, List, Option, None, length, option_to_list, if◌then◌else◌}
+use Rattle.std.specs.Prelude.{◌≡◌, ℕ, ◌+◌, ◌≤◌, List, Option, None, length, option_to_list, if◌then◌else◌}
 use Rattle.std.specs.List.{flat_map}
 use Rattle.std.specs.Option.{option_map}
 use Rattle.rl_labels.specs.Selects.{selects}
 use Rattle.rl_labels.specs.declared.entry.Entry.{Entry}
 use Rattle.rl_pipeline.specs.Lines.{StreamLine}
+use Rattle.rl_pipeline.specs.Metering.{Metered}
 use Rattle.rl_pipeline.specs.Running.{run}
 use Rattle.rl_query.specs.declared.query.Term.{Term}
 use Rattle.rl_query.specs.declared.stages.Stage.{Stage}
@@ -35,3 +36,7 @@ entry_elements code entry = option_to_list (element_for code (record { labels = 
 
 abbrev pub elements_for : RangeCode → List Entry → List Element
 elements_for code entries = flat_map (entry_elements code) entries
+
+-- at most so many runs were counted, and nothing else
+abbrev pub HasRuns : ℕ → Metered → Metered → Type 0
+HasRuns runs before after = (after.visits ≡ before.visits) × (after.runs ≤ before.runs + runs)

@@ -1,6 +1,5 @@
 //! Windows of several ranges that the lines of streams come into.
 ghost use Rattle.std.specs.Prelude.{◌≡◌, ◌≤◌, ◌+◌, ℕ, false, length, map, OnOk, OnErr, IfOk};
-ghost use Rattle.std.specs.List.{AllByRecursion};
 ghost use Rattle.rl_labels.specs.EntryParts.{longest_line};
 ghost use Rattle.rl_pipeline.specs.Metering.{with_run};
 ghost use Rattle.rl_aggregate.specs.Partials.{most_entries};

@@ -2,7 +2,7 @@
 ghost use Rattle.std.specs.Prelude.{◌≡◌, IfOk, OnOk, true, false};
 ghost use Rattle.rl_labels.specs.Selects.{selects};
 ghost use Rattle.rl_pipeline.specs.Metering.{with_run};
-ghost use Rattle.rl_windows.specs.Ranges.{code_of, element_for};
+ghost use Rattle.rl_windows.specs.Ranges.{code_of, element_for, HasRuns};
 
 use crate::element::Element;
 use rl_aggregate::Run;
@@ -40,6 +40,7 @@ impl RangeCode {
     ) -> Result<Option<Element>, AllocError>
         ensures element { IfOk result (λ element. element ≡ element_for self.now line.old timestamp) }
         ensures counted { OnOk result (selects self.now.selector line.old.labels ≡ true → meter.new ≡ with_run meter.old) }
+        ensures runs { HasRuns 1 meter.old meter.new }
         ensures uncounted { selects self.now.selector line.old.labels ≡ false → meter.new ≡ meter.old }
         ensures line { line.new ≡ line.old }
     {

@@ -122,6 +122,7 @@ impl Window {
         ensures moved { OnOk result (self.new.moment ≡ moment) }
         ensures range { (self.new.seconds ≡ self.old.seconds) × (self.new.most ≡ self.old.most) }
         ensures visits { OnOk result (meter.new ≡ with_visits (visits self.old moment) meter.old) }
+        ensures unvisited { OnErr result (meter.new ≡ meter.old) }
         ensures err { OnErr result (self.new ≡ self.old) }
     {
         self.buckets.enter(&mut self.found, self.moment, moment)?;
