@@ -1,0 +1,73 @@
+-- The windows moved on and stand for what they stood for.
+use Rattle.std.proofs.Common.{◌≡◌, ◌<◌, ◌≤◌, length, map, Some, sym, ap, subst, ◌∙◌, arith}
+use Rattle.std.specs.Prelude.{slice_get}
+use Rattle.std.specs.List.{AllByRecursion, AllZip}
+use Rattle.std.proofs.lemmas.List.{length-map, with_items_is}
+use Rattle.rl_query.specs.declared.query.Term.{Term}
+use Rattle.rl_aggregate.specs.Partials.{partial}
+use Rattle.rl_slots.specs.Slots.{key_of, term_key, AreExactIn, IsPartialAt, IsSlot, SlotView, StandIn}
+use Rattle.rl_slots.proofs.Asking.{not_past, partials_of, within_of}
+use Rattle.rl_slots.proofs.slot.Slot.collect.Goals as goal
+
+pub collect_each-requires-clause-there : goal.collect_each-requires-clause-there
+collect_each-requires-clause-there c =
+    let own = c.self.inside in
+    subst (λ is. AllByRecursion (λ index. index < length c.deref_mut.result.now) is) (sym c.deref.ensures.value)
+    (subst (λ ws. AllByRecursion (λ index. index < length ws) own.indices.items) (sym c.deref_mut.ensures.value) (within_of own.windows.items own.terms own.indices.items c.self.invariant.of_terms))
+
+pub collect_each-requires-clause-moments : goal.collect_each-requires-clause-moments
+collect_each-requires-clause-moments c =
+    let own = c.self.inside in
+    let less : own.reached ≤ c.args.t = omega (arith, ap (λ (v : SlotView). v.reached) c.self.view_is, c.requires) in
+    subst (AllByRecursion (λ it. it.window.moment ≤ c.args.t)) (sym c.deref_mut.ensures.value) (not_past own.windows.items own.reached c.args.t less c.self.invariant.moments)
+
+pub invariant_of-self : goal.invariant_of-self
+invariant_of-self c =
+    let own = c.self.inside in
+    let same : own.windows.items ≡ c.args.self.now.windows = ap (λ (v : SlotView). v.windows) c.self.view_is in
+    let more = c.collect_each.new.windows in
+    let ranges : map key_of more ≡ map key_of own.windows.items = c.collect_each.ensures.ranges ∙ ap (map key_of) c.deref_mut.ensures.value in
+    let is = with_items_is own.windows more (omega (arith, own.windows.ok.0, length-map more key_of, ap length ranges, length-map own.windows.items key_of)) in
+    subst (λ ws. IsSlot own.terms c.args.t ws own.indices.items) (sym is) (record {
+      of_terms = subst (λ keys. AllZip (λ term index. slice_get keys index ≡ Some (term_key term)) own.terms own.indices.items) (sym ranges) c.self.invariant.of_terms;
+      moments = c.collect_each.ensures.moments;
+    })
+
+pub returns-in_err-partials-clause-stand : goal.returns-in_err-partials-clause-stand
+returns-in_err-partials-clause-stand c =
+    let own = c.self.inside in
+    let same : own.windows.items ≡ c.args.self.now.windows = ap (λ (v : SlotView). v.windows) c.self.view_is in
+    let more = c.collect_each.new.windows in
+    let ranges : map key_of more ≡ map key_of own.windows.items = c.collect_each.ensures.ranges ∙ ap (map key_of) c.deref_mut.ensures.value in
+    let is = with_items_is own.windows more (omega (arith, own.windows.ok.0, length-map more key_of, ap length ranges, length-map own.windows.items key_of)) in
+    λ contents before. subst (λ ws. StandIn ws contents) (sym is) (c.collect_each.ensures.stand contents (subst (λ ws. StandIn ws contents) (sym (c.deref_mut.ensures.value ∙ same)) before))
+
+pub invariant_of-self-2 : goal.invariant_of-self-2
+invariant_of-self-2 c =
+    let own = c.self.inside in
+    let same : own.windows.items ≡ c.args.self.now.windows = ap (λ (v : SlotView). v.windows) c.self.view_is in
+    let more = c.collect_each.new.windows in
+    let ranges : map key_of more ≡ map key_of own.windows.items = c.collect_each.ensures.ranges ∙ ap (map key_of) c.deref_mut.ensures.value in
+    let is = with_items_is own.windows more (omega (arith, own.windows.ok.0, length-map more key_of, ap length ranges, length-map own.windows.items key_of)) in
+    subst (λ ws. IsSlot own.terms c.args.t ws own.indices.items) (sym is) (record {
+      of_terms = subst (λ keys. AllZip (λ term index. slice_get keys index ≡ Some (term_key term)) own.terms own.indices.items) (sym ranges) c.self.invariant.of_terms;
+      moments = c.collect_each.ensures.moments;
+    })
+
+pub returns-clause-partials : goal.returns-clause-partials
+returns-clause-partials c = λ entries exact.
+    let own = c.self.inside in
+    let same : own.windows.items ≡ c.args.self.now.windows = ap (λ (v : SlotView). v.windows) c.self.view_is in
+    let given = c.in_ok-partials.ensures.partials entries (subst (λ ws. AreExactIn ws entries) (sym (c.deref_mut.ensures.value ∙ same)) exact) in
+    let given_of = subst (λ is. AllZip (IsPartialAt own.windows.items entries c.args.t) is c.in_ok-partials.partials.items) c.deref.ensures.value (subst (λ ws. AllZip (IsPartialAt ws entries c.args.t) c.deref.result.now c.in_ok-partials.partials.items) c.deref_mut.ensures.value given) in
+    c.from_vec.ensures ∙ partials_of own.windows.items entries c.args.t own.terms own.indices.items c.in_ok-partials.partials.items c.self.invariant.of_terms given_of
+    ∙ ap (λ (v : SlotView). map (λ (term : Term). partial entries term c.args.t) v.terms) c.self.view_is
+
+pub returns-clause-stand : goal.returns-clause-stand
+returns-clause-stand c =
+    let own = c.self.inside in
+    let same : own.windows.items ≡ c.args.self.now.windows = ap (λ (v : SlotView). v.windows) c.self.view_is in
+    let more = c.collect_each.new.windows in
+    let ranges : map key_of more ≡ map key_of own.windows.items = c.collect_each.ensures.ranges ∙ ap (map key_of) c.deref_mut.ensures.value in
+    let is = with_items_is own.windows more (omega (arith, own.windows.ok.0, length-map more key_of, ap length ranges, length-map own.windows.items key_of)) in
+    λ contents before. subst (λ ws. StandIn ws contents) (sym is) (c.collect_each.ensures.stand contents (subst (λ ws. StandIn ws contents) (sym (c.deref_mut.ensures.value ∙ same)) before))

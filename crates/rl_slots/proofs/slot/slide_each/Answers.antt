@@ -1,0 +1,63 @@
+-- One window more moved on.
+use Rattle.std.proofs.Common.{◌≡◌, ℕ, ◌<◌, ◌≤◌, ◌+◌, drop, length, slice_index_or, slice_set, take, Some, sym, ap, subst, ◌∙◌, arith}
+use Rattle.std.specs.Prelude.{slice_get}
+use Rattle.std.specs.List.{AllByRecursion}
+use Rattle.std.proofs.lemmas.List.{drop-set-lt, length-map, take_more_set}
+use Rattle.std.proofs.lemmas.List.Sums.{sum_by-drop_more}
+use Rattle.std.proofs.lemmas.Option.{slice_get-get_or}
+use Rattle.rl_windows.specs.Windows.{visits}
+use Rattle.rl_windows.specs.declared.range.RangeCode.{RangeCode}
+use Rattle.rl_slots.specs.Slots.{key_of, visits_of}
+use Rattle.rl_slots.specs.declared.range_window.RangeWindow.{RangeWindow}
+use Rattle.rl_slots.proofs.Setting.{all_one_more, kept_at, set_keeps, set_seen}
+use Rattle.rl_slots.proofs.slot.slide_each.Goals as goal
+
+pub returns-in_err-slide-clause-stand : goal.returns-in_err-slide-clause-stand
+returns-in_err-slide-clause-stand c =
+    let windows = c.loop-index.windows in
+    let k = c.loop-index.index in
+    let x = slice_index_or windows k c.index-windows-index.result in
+    let y = c.slide.new.self in
+    let less : k < length windows = omega (arith, c.loop-index-test.true, c.loop-index.auto.index-end, length-map windows key_of, ap length c.loop-index.invariant.ranges, length-map c.args.windows.now key_of) in
+    let there : slice_get windows k ≡ Some x = slice_get-get_or windows k c.index-windows-index.result less in
+    λ contents before. kept_at windows k contents x y there (ap (λ (p : RangeCode × ℕ). p.0) c.slide.ensures.range) c.slide.ensures.stands (c.loop-index.invariant.stand contents before)
+
+pub returns-in_err-slide-clause-ranges : goal.returns-in_err-slide-clause-ranges
+returns-in_err-slide-clause-ranges c =
+    let windows = c.loop-index.windows in
+    let k = c.loop-index.index in
+    let x = slice_index_or windows k c.index-windows-index.result in
+    let y = c.slide.new.self in
+    let less : k < length windows = omega (arith, c.loop-index-test.true, c.loop-index.auto.index-end, length-map windows key_of, ap length c.loop-index.invariant.ranges, length-map c.args.windows.now key_of) in
+    let there : slice_get windows k ≡ Some x = slice_get-get_or windows k c.index-windows-index.result less in
+    set_seen key_of windows k x y there c.slide.ensures.range ∙ c.loop-index.invariant.ranges
+
+pub returns-in_err-slide-clause-visits : goal.returns-in_err-slide-clause-visits
+returns-in_err-slide-clause-visits c =
+    let windows = c.loop-index.windows in
+    let k = c.loop-index.index in
+    let x = slice_index_or windows k c.index-windows-index.result in
+    let y = c.slide.new.self in
+    let less : k < length windows = omega (arith, c.loop-index-test.true, c.loop-index.auto.index-end, length-map windows key_of, ap length c.loop-index.invariant.ranges, length-map c.args.windows.now key_of) in
+    let there : slice_get windows k ≡ Some x = slice_get-get_or windows k c.index-windows-index.result less in
+    let left = sum_by-drop_more (λ (it : RangeWindow). visits it.window c.args.t) windows k c.index-windows-index.result less in
+    (c.slide.ensures.visits.0 ∙ c.loop-index.invariant.runs, omega (arith, c.slide.ensures.visits.1, c.loop-index.invariant.visits, left))
+
+pub loop-index-preserved : goal.loop-index-preserved
+loop-index-preserved c =
+    let windows = c.loop-index.windows in
+    let k = c.loop-index.index in
+    let x = slice_index_or windows k c.index-windows-index.result in
+    let y = c.slide.new.self in
+    let less : k < length windows = omega (arith, c.loop-index-test.true, c.loop-index.auto.index-end, length-map windows key_of, ap length c.loop-index.invariant.ranges, length-map c.args.windows.now key_of) in
+    let there : slice_get windows k ≡ Some x = slice_get-get_or windows k c.index-windows-index.result less in
+    let left = sum_by-drop_more (λ (it : RangeWindow). visits it.window c.args.t) windows k c.index-windows-index.result less in
+    let rest : visits_of (drop (k + 1) (slice_set windows k y)) c.args.t ≡ visits_of (drop (k + 1) windows) c.args.t = ap (λ ws. visits_of ws c.args.t) (drop-set-lt (k + 1) windows k y (omega arith)) in
+    record {
+      stand = λ contents before. kept_at windows k contents x y there (ap (λ (p : RangeCode × ℕ). p.0) c.slide.ensures.range) c.slide.ensures.stands (c.loop-index.invariant.stand contents before);
+      ranges = set_seen key_of windows k x y there c.slide.ensures.range ∙ c.loop-index.invariant.ranges;
+      moments = set_keeps (λ it. it.window.moment ≤ c.args.t) windows k x y there (λ _. c.slide.ensures.moment) c.loop-index.invariant.moments;
+      moved = subst (AllByRecursion (λ it. it.window.moment ≡ c.args.t)) (sym (take_more_set windows k y less)) (all_one_more (λ it. it.window.moment ≡ c.args.t) (take k windows) y c.loop-index.invariant.moved c.in_ok-slide.ensures.moved);
+      runs = c.slide.ensures.visits.0 ∙ c.loop-index.invariant.runs;
+      visits = omega (arith, c.slide.ensures.visits.1, c.loop-index.invariant.visits, left, rest);
+    }

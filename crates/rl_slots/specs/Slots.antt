@@ -1,0 +1,174 @@
+-- Slots: the windows of the terms that a group asks about, and what lines change in them.
+use Rattle.std.specs.Prelude.{◌≡◌, ℕ, suc, ◌+◌, ◌*◌, ◌≤◌, nat_eq, nat_lt, List, [], ◌∷◌, ◌++◌, map, Option, None, Some, IfSome, IsSome, option_to_list, slice_get, slice_set, length, ◌==◌, if◌then◌else◌, refl}
+use Rattle.std.specs.Coded.{Coded, code_by, coded×, coded_list, coded_ℕ}
+use Rattle.std.specs.FinMap.{empty}
+use Rattle.std.specs.List.{position, AllByRecursion, AllZip, sum_by}
+use Rattle.rl_labels.specs.EntryParts.{longest_line}
+use Rattle.rl_labels.specs.declared.entry.Entry.{Entry}
+use Rattle.rl_query.specs.contracts.query.Term as term
+use Rattle.rl_query.specs.declared.query.Term.{Term}
+use Rattle.rl_pipeline.specs.Lines.{StreamLine}
+use Rattle.rl_pipeline.specs.Metering.{Metered}
+use Rattle.rl_aggregate.specs.InRange.{second}
+use Rattle.rl_aggregate.specs.Partials.{partial}
+use Rattle.rl_aggregate.specs.declared.partial.Partial.{Partial}
+use Rattle.rl_aggregate.specs.declared.volume.Volume.{Volume}
+use Rattle.rl_windows.specs.Ranges.{code_of, element_for, elements_for}
+use Rattle.rl_windows.specs.Windows.{count_of, visits, window_code, StandsFor, WindowView}
+use Rattle.rl_windows.specs.contracts.range.RangeCode as range
+use Rattle.rl_windows.specs.declared.element.Element.{Element}
+use Rattle.rl_windows.specs.declared.range.RangeCode.{RangeCode}
+use Rattle.rl_slots.specs.declared.change.Change.{Change}
+use Rattle.rl_slots.specs.declared.range_window.RangeWindow.{RangeWindow}
+
+-- the number of a group's slot, the terms that it asked about last, the moment that was answered last, one that no window is past, and
+-- the windows
+pub record SlotView : Type 0 where
+  pub number : ℕ
+  pub terms : List Term
+  pub collected : ℕ
+  pub reached : ℕ
+  pub windows : List RangeWindow
+
+-- as its parts, for a store
+abbrev range_window_code : Coded RangeWindow
+range_window_code = code_by (RangeCode × WindowView) (coded× range.the_row.coded window_code) (λ it. (it.code, it.window)) (λ p. record { code = p.0; window = p.1 }) (λ _. refl)
+
+abbrev pub slot_code : Coded SlotView
+slot_code =
+    code_by (ℕ × (List Term × (ℕ × (ℕ × List RangeWindow)))) (coded× coded_ℕ (coded× (coded_list term.the_row.coded) (coded× coded_ℕ (coded× coded_ℕ (coded_list range_window_code)))))
+    (λ slot. (slot.number, (slot.terms, (slot.collected, (slot.reached, slot.windows)))))
+    (λ p. record { number = p.0; terms = p.1.0; collected = p.1.1.0; reached = p.1.1.1.0; windows = p.1.1.1.1 })
+    (λ _. refl)
+
+-- the range that a window is of, and that of a term
+abbrev pub key_of : RangeWindow → RangeCode × ℕ
+key_of it = (it.code, it.window.seconds)
+
+abbrev pub term_key : Term → RangeCode × ℕ
+term_key term = (code_of term, term.range.seconds)
+
+-- the window at an index is of the term's range
+abbrev pub IsWindowOf : List RangeWindow → Term → (index : ℕ) → Type 0
+IsWindowOf windows term index = slice_get (map key_of windows) index ≡ Some (term_key term)
+
+-- what holds of a slot's parts
+pub record IsSlot (terms : List Term) (reached : ℕ) (windows : List RangeWindow) (indices : List ℕ) : Type 0 where
+  pub of_terms : AllZip (IsWindowOf windows) terms indices
+  pub moments : AllByRecursion (λ it. it.window.moment ≤ reached) windows
+
+-- all of a slot but the lines of its windows
+abbrev pub range_of : RangeWindow → RangeWindow
+range_of it = record { code = it.code; window = record { seconds = it.window.seconds; moment = it.window.moment; buckets = empty; most = it.window.most } }
+
+abbrev pub outline : SlotView → SlotView
+outline slot = record slot { windows = map range_of slot.windows }
+
+-- LINES
+
+-- the line of an entry
+abbrev pub line_of : Entry → StreamLine
+line_of entry = record { labels = entry.labels; text = entry.line }
+
+-- what one line counts as
+abbrev pub IsOfLine : Volume → Type 0
+IsOfLine volume = (volume.count ≡ 1) × (volume.bytes ≤ longest_line)
+
+-- what a line adds to a window: nothing where the window does not need it or the range does not have it
+abbrev pub wanted : StreamLine → (timestamp : ℕ) → RangeWindow → Option Element
+wanted line timestamp it = if nat_lt it.window.moment (timestamp + it.window.seconds * second) then element_for it.code line timestamp else None
+
+-- what it changes in windows of a slot, the first of which has an index, and in all windows of slots
+abbrev pub changes_in : StreamLine → (timestamp : ℕ) → (slot first : ℕ) → List RangeWindow → List Change
+changes_in line timestamp slot first [] = []
+changes_in line timestamp slot first (it ∷ windows) =
+    map (λ element. record { slot = slot; window = first; element = element }) (option_to_list (wanted line timestamp it)) ++ changes_in line timestamp slot (suc first) windows
+
+abbrev pub changes_from : StreamLine → (timestamp : ℕ) → (first : ℕ) → List SlotView → List Change
+changes_from line timestamp first [] = []
+changes_from line timestamp first (slot ∷ slots) = changes_in line timestamp first 0 slot.windows ++ changes_from line timestamp (suc first) slots
+
+abbrev pub changes_of : StreamLine → (timestamp : ℕ) → List SlotView → List Change
+changes_of line timestamp slots = changes_from line timestamp 0 slots
+
+-- a window that wants the line has room for it
+abbrev pub HasRoomFor : StreamLine → (timestamp : ℕ) → RangeWindow → Type 0
+HasRoomFor line timestamp it = IsSome (wanted line timestamp it) → count_of it.window.buckets + 1 ≤ it.window.most
+
+-- some window has as many lines as it may have
+abbrev pub IsFull : RangeWindow → Type 0
+IsFull it = it.window.most ≤ count_of it.window.buckets
+
+abbrev pub IsFullIn : List RangeWindow → Type 0
+IsFullIn windows = (index : ℕ) × (it : RangeWindow) × (slice_get windows index ≡ Some it) × IsFull it
+
+abbrev pub AreFull : List SlotView → Type 0
+AreFull slots = (index : ℕ) × (slot : SlotView) × (slice_get slots index ≡ Some slot) × IsFullIn slot.windows
+
+-- how many windows there are
+abbrev pub window_count : List SlotView → ℕ
+window_count slots = sum_by (λ slot. length slot.windows) slots
+
+-- STANDING
+
+-- elements that windows stand for, by their indices and the codes of their ranges
+abbrev pub ContentsIn : Type 0
+ContentsIn = (window : ℕ) → RangeCode → List Element
+
+abbrev pub Contents : Type 0
+Contents = (slot : ℕ) → ContentsIn
+
+abbrev pub StandIn : List RangeWindow → ContentsIn → Type 0
+StandIn windows contents = (index : ℕ) → IfSome (slice_get windows index) (λ it. StandsFor it.window (contents index it.code))
+
+abbrev pub AllStand : List SlotView → Contents → Type 0
+AllStand slots contents = (index : ℕ) → IfSome (slice_get slots index) (λ slot. StandIn slot.windows (contents index))
+
+-- with an element more at one window, and with those of changes
+abbrev pub with_element_at : (window : ℕ) → Element → ContentsIn → ContentsIn
+with_element_at window element contents index code = if nat_eq index window then element ∷ contents index code else contents index code
+
+abbrev pub with_change : Change → Contents → Contents
+with_change change contents index = if nat_eq index change.slot then with_element_at change.window change.element (contents index) else contents index
+
+abbrev pub with_changes : List Change → Contents → Contents
+with_changes [] contents = contents
+with_changes (change ∷ changes) contents = with_changes changes (with_change change contents)
+
+-- each window stands for what the lines of entries add to it
+abbrev pub AreExact : List SlotView → List Entry → Type 0
+AreExact slots entries = AllStand slots (λ _ _ code. elements_for code entries)
+
+abbrev pub AreExactIn : List RangeWindow → List Entry → Type 0
+AreExactIn windows entries = StandIn windows (λ _ code. elements_for code entries)
+
+-- ASKING
+
+-- at most so many visits were counted, and nothing else
+abbrev pub HasVisits : ℕ → Metered → Metered → Type 0
+HasVisits more before after = (after.runs ≡ before.runs) × (after.visits ≤ before.visits + more)
+
+-- the timestamps that come due or leave where windows move on to a moment
+abbrev pub visits_of : List RangeWindow → (t : ℕ) → ℕ
+visits_of windows t = sum_by (λ it. visits it.window t) windows
+
+-- what the range of the window at an index has of entries at a moment, for whichever term it is of
+abbrev pub IsPartialAt : List RangeWindow → List Entry → (t index : ℕ) → Partial → Type 0
+IsPartialAt windows entries t index found = (term : Term) → IsWindowOf windows term index → found ≡ partial entries term t
+
+-- the slot answers terms at a moment
+abbrev pub IsLive : List Term → (t : ℕ) → SlotView → Type 0
+IsLive terms t slot = (slot.terms ≡ terms) × (slot.reached ≤ t)
+
+-- one at an index, or beside the others
+abbrev pub put_at : Option ℕ → SlotView → List SlotView → List SlotView
+put_at None slot slots = slots ++ slot ∷ []
+put_at (Some index) slot slots = slice_set slots index slot
+
+-- slots with one in the stead of that of its number, or beside them
+abbrev pub with_slot : SlotView → List SlotView → List SlotView
+with_slot slot slots = put_at (position (λ own. own.number == slot.number) slots) slot slots
+
+-- of slots the one at an index answers its terms from a moment on, and the others are as they were
+abbrev pub IsMovedOn : (index t : ℕ) → List SlotView → List SlotView → Type 0
+IsMovedOn index t slots others = (slot : SlotView) × (others ≡ slice_set slots index slot) × IfSome (slice_get slots index) (λ own. (slot.number ≡ own.number) × (slot.terms ≡ own.terms) × (slot.reached ≡ t))

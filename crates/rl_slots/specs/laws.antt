@@ -1,0 +1,2 @@
+-- Laws and lemmas that the crates above rest on.
+pub mod Exact

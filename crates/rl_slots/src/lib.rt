@@ -1,0 +1,19 @@
+//! Slots of running windows: what a shard keeps of the ranges that groups ask it about.
+//!
+//! A group asks again and again about the same terms. Its slot has a window for each range of them, lines that come and go
+//! change the windows that need them, and a later question moves the windows on. Nothing here knows a store.
+//!
+//! - `range_window`: `RangeWindow`, a window with the code of its range.
+//! - `change`: `Change`, an element that a line adds to one window of a slot.
+//! - `slot`: `Slot`, the windows of a group's terms. `slots`: `Slots`, those of all groups.
+#![tactic(auto)]
+
+pub mod change;
+pub mod range_window;
+pub mod slot;
+pub mod slots;
+
+pub use change::Change;
+pub use range_window::RangeWindow;
+pub use slot::Slot;
+pub use slots::Slots;

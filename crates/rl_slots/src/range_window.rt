@@ -1,0 +1,84 @@
+//! Windows with the code of their range.
+ghost use Rattle.std.specs.Prelude.{◌≡◌, ◌≤◌, List, ◌∷◌, IfOk, OnErr, OnOk};
+ghost use Rattle.rl_labels.specs.declared.entry.Entry.{Entry};
+ghost use Rattle.rl_query.specs.declared.query.Term.{Term};
+ghost use Rattle.rl_aggregate.specs.Partials.{partial};
+ghost use Rattle.rl_windows.specs.Ranges.{code_of, elements_for, HasRuns};
+ghost use Rattle.rl_windows.specs.Windows.{visits, StandsFor};
+ghost use Rattle.rl_windows.specs.declared.element.Element.{Element};
+ghost use Rattle.rl_slots.specs.Slots.{key_of, range_of, wanted, HasVisits, IsOfLine};
+
+use rl_aggregate::Partial;
+use rl_labels::Ns;
+use rl_pipeline::{Meter, ParsedLine};
+use rl_plain::Shared;
+use rl_windows::{Element, RangeCode, Window};
+use std::alloc::AllocError;
+
+/// A window with the code of its range, which says what a line adds to it.
+#[derive(Drop)]
+pub struct RangeWindow {
+    pub code: RangeCode,
+    pub window: Window,
+}
+
+impl RangeWindow {
+    // What a line adds to the window: nothing where the window does not need it or the range does not have it.
+    pub(crate) fn element_of(
+        &self,
+        meter: &mut Meter,
+        line: &mut ParsedLine<'_>,
+        timestamp: Ns,
+    ) -> Result<Option<Element>, AllocError>
+        ensures element { IfOk result (λ element. element ≡ wanted line.old timestamp self.now) }
+        ensures runs { HasRuns 1 meter.old meter.new }
+        ensures line { line.new ≡ line.old }
+    {
+        if !self.window.needs(timestamp) {
+            return Ok(None);
+        }
+        self.code.element_for(meter, line, timestamp)
+    }
+
+    // Adds an element of one line, if there is room for it. Refused, the window stays as it was.
+    pub(crate) fn add(&mut self, element: &Element) -> Result<(), AllocError>
+        requires { IsOfLine element.now.volume }
+        ensures stands { OnOk result ((es : List Element) → StandsFor self.old.window es → StandsFor self.new.window (element.now ∷ es)) }
+        ensures err { OnErr result (self.new ≡ self.old) }
+        ensures range { range_of self.new ≡ range_of self.old }
+    {
+        // What is listed has room.
+        if !self.window.has_room() {
+            return Err(AllocError);
+        }
+        self.window.add(element)
+    }
+
+    // Takes an element out, if it can be there.
+    pub(crate) fn take_out(&mut self, element: &Element)
+        ensures stands { (es : List Element) → StandsFor self.old.window (element.now ∷ es) → StandsFor self.new.window es }
+        ensures range { range_of self.new ≡ range_of self.old }
+    {
+        self.window.take_out(element);
+    }
+
+    // Moves the window on to a moment.
+    pub(crate) fn slide(&mut self, t: Ns, meter: &mut Meter) -> Result<(), AllocError>
+        requires { self.old.window.moment ≤ t }
+        ensures stands { (es : List Element) → StandsFor self.old.window es → StandsFor self.new.window es }
+        ensures range { key_of self.new ≡ key_of self.old }
+        ensures moment { self.new.window.moment ≤ t }
+        ensures moved { OnOk result (self.new.window.moment ≡ t) }
+        ensures visits { HasVisits (visits self.old.window t) meter.old meter.new }
+    {
+        self.window.slide(t, meter)
+    }
+
+    // What its range has at the moment of the window.
+    pub(crate) fn partial(&mut self) -> Result<Shared<Partial>, AllocError>
+        ensures same { self.new ≡ self.old }
+        ensures partial { IfOk result (λ found. (term : Term) (entries : List Entry) → term.range.seconds ≡ self.old.window.seconds → StandsFor self.old.window (elements_for (code_of term) entries) → found ≡ partial entries term self.old.window.moment) }
+    {
+        self.window.partial()
+    }
+}

@@ -1,0 +1,215 @@
+//! The windows of a group's terms.
+ghost use Rattle.std.specs.Prelude.{◌≡◌, ◌≤◌, ◌<◌, ◌++◌, ℕ, List, length, map, true, false, IfOk, Ok, OnErr, OnOk};
+ghost use Rattle.std.specs.Bool.{Decides};
+ghost use Rattle.std.specs.List.{AllByRecursion, AllZip};
+ghost use Rattle.rl_labels.specs.declared.entry.Entry.{Entry};
+ghost use Rattle.rl_aggregate.specs.Partials.{partial};
+ghost use Rattle.rl_windows.specs.Ranges.{HasRuns};
+ghost use Rattle.rl_windows.specs.declared.element.Element.{Element};
+ghost use Rattle.rl_windows.specs.declared.range.RangeCode.{RangeCode};
+ghost use Rattle.rl_query.specs.declared.query.Term.{Term};
+ghost use Rattle.rl_slots.specs.Slots.{changes_in, key_of, outline, visits_of, with_element_at, AreExactIn, HasRoomFor, HasVisits, IsFullIn, IsLive, IsOfLine, IsPartialAt, IsWindowOf, StandIn, ContentsIn};
+
+use crate::change::Change;
+use crate::range_window::RangeWindow;
+use rl_aggregate::Partial;
+use rl_labels::Ns;
+use rl_pipeline::{Meter, ParsedLine};
+use rl_plain::{PlainList, Same, Shared};
+use rl_query::Term;
+use rl_windows::Element;
+use std::alloc::{AllocError, Global};
+use std::marker::Model;
+
+/// The windows of the terms that a group asked about last, one for each range. Contracts see the number of the group's slot, the
+/// terms, the moment that was answered last, one that no window is past, and the windows.
+#[derive(Drop)]
+pub struct Slot {
+    number: u64,
+    terms: Shared<PlainList<Term>>,
+    collected: Ns,
+    reached: Ns,
+    windows: Vec<RangeWindow>,
+    // Where the window of each term is.
+    indices: Vec<usize>,
+}
+
+impl Model for Slot {
+    ghost use Rattle.rl_slots.specs.Slots.{slot_code, IsSlot, SlotView};
+
+    ghost Value = { SlotView };
+
+    ghost coded = { slot_code };
+
+    ghost view = { λ a. record { number = a.number; terms = a.terms; collected = a.collected; reached = a.reached; windows = a.windows.items } };
+
+    ghost invariant = { λ a. IsSlot a.terms a.reached a.windows.items a.indices.items };
+}
+
+impl Slot {
+    /// The slot of a group that was answered at a moment, with the window of each term by its index.
+    pub fn new(
+        number: u64,
+        terms: Shared<PlainList<Term>>,
+        t: Ns,
+        windows: Vec<RangeWindow>,
+        indices: Vec<usize>,
+    ) -> Slot
+        requires of_terms { AllZip (IsWindowOf windows.items) terms indices.items }
+        requires moments { AllByRecursion (λ it. it.window.moment ≤ t) windows.items }
+        ensures { result ≡ record { number = number; terms = terms; collected = t; reached = t; windows = windows.items } }
+    {
+        Slot {
+            number,
+            terms,
+            collected: t,
+            reached: t,
+            windows,
+            indices,
+        }
+    }
+
+    /// The number of the group's slot.
+    pub fn number(&self) -> u64
+        ensures { result ≡ self.now.number }
+    {
+        self.number
+    }
+
+    /// Whether it answers the terms at the moment.
+    pub fn is_live(&self, terms: &PlainList<Term>, t: Ns) -> bool
+        ensures { Decides result (IsLive terms.now t self.now) }
+    {
+        self.reached <= t && self.terms.get().is_same(terms)
+    }
+
+    // Lists what a line changes here, and answers whether each window that it changes has room.
+    pub(crate) fn list(
+        &self,
+        slot: usize,
+        meter: &mut Meter,
+        line: &mut ParsedLine<'_>,
+        timestamp: Ns,
+        changes: &mut Vec<Change>,
+    ) -> Result<bool, AllocError>
+        ensures listed { result ≡ Ok true → changes.new.items ≡ changes.old.items ++ changes_in line.old timestamp slot 0 self.now.windows }
+        ensures room { result ≡ Ok true → AllByRecursion (HasRoomFor line.old timestamp) self.now.windows }
+        ensures full { result ≡ Ok false → IsFullIn self.now.windows }
+        ensures runs { HasRuns (length self.now.windows) meter.old meter.new }
+        ensures line { line.new ≡ line.old }
+    {
+        for (window, it) in self.windows.iter().enumerate() {
+            let Some(element) = it.element_of(meter, line, timestamp)? else {
+                continue;
+            };
+            if !it.window.has_room() {
+                return Ok(false);
+            }
+            changes.push(Change {
+                slot,
+                window,
+                element,
+            })?;
+        }
+        Ok(true)
+    }
+
+    // Adds an element to a window that has room for it. Refused, the slot stays as it was.
+    pub(crate) fn add(&mut self, window: usize, element: &Element) -> Result<(), AllocError>
+        requires { IsOfLine element.now.volume }
+        ensures stands { OnOk result ((contents : ℕ → RangeCode → List Element) → StandIn self.old.windows contents → StandIn self.new.windows (with_element_at window element.now contents)) }
+        ensures err { OnErr result (self.new ≡ self.old) }
+        ensures outline { outline self.new ≡ outline self.old }
+    {
+        if window >= self.windows.len() {
+            return Ok(());
+        }
+        self.windows[window].add(element)
+    }
+
+    // Takes an element out of a window.
+    pub(crate) fn take_out(&mut self, window: usize, element: &Element)
+        ensures stands { (contents : ℕ → RangeCode → List Element) → StandIn self.old.windows (with_element_at window element.now contents) → StandIn self.new.windows contents }
+        ensures outline { outline self.new ≡ outline self.old }
+    {
+        if window >= self.windows.len() {
+            return;
+        }
+        self.windows[window].take_out(element);
+    }
+    // Answers what each term's range has at a moment, which the windows move on to.
+    pub(crate) fn collect(
+        &mut self,
+        alloc: Global,
+        t: Ns,
+        meter: &mut Meter,
+    ) -> Result<PlainList<Shared<Partial>>, AllocError>
+        requires { self.old.reached ≤ t }
+        ensures partials { IfOk result (λ partials. (entries : List Entry) → AreExactIn self.old.windows entries → partials ≡ map (λ term. partial entries term t) self.old.terms) }
+        ensures stand { (contents : ContentsIn) → StandIn self.old.windows contents → StandIn self.new.windows contents }
+        ensures visits { HasVisits (visits_of self.old.windows t) meter.old meter.new }
+        ensures asked { (self.new.number ≡ self.old.number) × (self.new.terms ≡ self.old.terms) × (self.new.reached ≡ t) }
+        ensures collected { OnOk result (self.new.collected ≡ t) }
+        ensures kept { OnErr result (self.new.collected ≡ self.old.collected) }
+    {
+        self.reached = t;
+        let partials = collect_each(alloc, &mut self.windows, &self.indices, t, meter)?;
+        self.collected = t;
+        Ok(PlainList::from_vec(partials))
+    }
+}
+
+// What the ranges of windows by their indices have at a moment, which all move on to.
+fn collect_each(
+    alloc: Global,
+    windows: &mut [RangeWindow],
+    indices: &[usize],
+    t: Ns,
+    meter: &mut Meter,
+) -> Result<Vec<Shared<Partial>>, AllocError>
+    requires there { AllByRecursion (λ index. index < length windows.old) indices.now }
+    requires moments { AllByRecursion (λ it. it.window.moment ≤ t) windows.old }
+    ensures partials { IfOk result (λ partials. (entries : List Entry) → AreExactIn windows.old entries → AllZip (IsPartialAt windows.old entries t) indices.now partials.items) }
+    ensures stand { (contents : ContentsIn) → StandIn windows.old contents → StandIn windows.new contents }
+    ensures ranges { map key_of windows.new ≡ map key_of windows.old }
+    ensures moments { AllByRecursion (λ it. it.window.moment ≤ t) windows.new }
+    ensures visits { HasVisits (visits_of windows.old t) meter.old meter.new }
+{
+    slide_each(windows, t, meter)?;
+    partials_at(alloc, windows, indices, t)
+}
+
+// Moves windows on to a moment.
+fn slide_each(windows: &mut [RangeWindow], t: Ns, meter: &mut Meter) -> Result<(), AllocError>
+    requires { AllByRecursion (λ it. it.window.moment ≤ t) windows.old }
+    ensures stand { (contents : ContentsIn) → StandIn windows.old contents → StandIn windows.new contents }
+    ensures ranges { map key_of windows.new ≡ map key_of windows.old }
+    ensures moments { AllByRecursion (λ it. it.window.moment ≤ t) windows.new }
+    ensures moved { OnOk result (AllByRecursion (λ it. it.window.moment ≡ t) windows.new) }
+    ensures visits { HasVisits (visits_of windows.old t) meter.old meter.new }
+{
+    for index in 0..windows.len() {
+        windows[index].slide(t, meter)?;
+    }
+    Ok(())
+}
+
+// What the ranges of windows by their indices have at the moment of these.
+fn partials_at(
+    alloc: Global,
+    windows: &mut [RangeWindow],
+    indices: &[usize],
+    t: Ns,
+) -> Result<Vec<Shared<Partial>>, AllocError>
+    requires there { AllByRecursion (λ index. index < length windows.old) indices.now }
+    requires moments { AllByRecursion (λ it. it.window.moment ≡ t) windows.old }
+    ensures same { windows.new ≡ windows.old }
+    ensures partials { IfOk result (λ partials. (entries : List Entry) → AreExactIn windows.old entries → AllZip (IsPartialAt windows.old entries t) indices.now partials.items) }
+{
+    let mut partials = Vec::with_capacity(alloc, indices.len())?;
+    for index in indices {
+        let partial = windows[*index].partial()?;
+        partials.push(partial)?;
+    }
+    Ok(partials)
+}
