@@ -1,5 +1,5 @@
 //! Ratios of vectors.
-ghost use Rattle.std.specs.Prelude.{◌≡◌, ◌<◌, ◌≤◌, ◌^◌, IfOk};
+ghost use Rattle.std.specs.Prelude.{◌≡◌, ◌<◌, ◌^◌, IfOk};
 ghost use Rattle.std.specs.List.{AllByRecursion};
 ghost use Rattle.rl_aggregate.specs.Ratios.{not_before, quotient, ratios, value_over};
 ghost use Rattle.rl_aggregate.specs.Vectors.{AreInOrder, IsOfOneTerm};

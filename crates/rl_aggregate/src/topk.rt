@@ -1,5 +1,5 @@
 //! The samples of a vector with the greatest values.
-ghost use Rattle.std.specs.Prelude.{◌≡◌, IfOk, OnOk, IsTrue};
+ghost use Rattle.std.specs.Prelude.{◌≡◌, IfOk, IsTrue};
 ghost use Rattle.std.specs.List.{filter};
 ghost use Rattle.std.specs.List.Sorted.{IsPermutation, IsSorted, IsStrictlySortedBy};
 ghost use Rattle.rl_aggregate.specs.Grouping.{rank_cmp, sample_cmp, is_among_first, rises};

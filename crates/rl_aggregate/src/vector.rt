@@ -1,5 +1,5 @@
 //! What a query gives, of what its terms add up to.
-ghost use Rattle.std.specs.Prelude.{◌≡◌, ◌<◌, ◌^◌, length, IfOk, IsOk};
+ghost use Rattle.std.specs.Prelude.{◌≡◌, ◌<◌, length, IfOk, IsOk};
 ghost use Rattle.std.specs.List.{AllByRecursion};
 ghost use Rattle.rl_aggregate.specs.Evaluated.{finished, have_errors, over_vector, query_vector, samples_by, term_vector, tested_by, terms_of, IsEvaluated, IsAbsent};
 ghost use Rattle.rl_aggregate.specs.Limited.{IsLimited};

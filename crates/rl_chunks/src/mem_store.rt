@@ -13,7 +13,7 @@ pub struct MemStore {
 }
 
 impl MemStore {
-    ghost use Rattle.std.specs.Prelude.{◌≡◌, true};
+    ghost use Rattle.std.specs.Prelude.{◌≡◌};
     ghost use Rattle.std.specs.Option.{option_map};
     ghost use Rattle.std.specs.FinMap as map;
     ghost use Rattle.rl_chunks.specs.MemState.{blobs_of, mem_seen};

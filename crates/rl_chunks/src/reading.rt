@@ -1,5 +1,5 @@
 //! Chunks read from bytes. Each reader lends what it reads from the bytes; memory is taken for what a chunk keeps.
-ghost use Rattle.std.specs.Prelude.{◌≡◌, ◌-◌, ◌<◌, length, slice_get, IfOk, Ok, None, map};
+ghost use Rattle.std.specs.Prelude.{◌≡◌, ◌-◌, ◌<◌, length, slice_get, IfOk, Ok, None};
 ghost use Rattle.std.specs.Int.{w16, w32, w64};
 ghost use Rattle.rl_labels.specs.Pairs.{labels_from};
 ghost use Rattle.rl_chunks.specs.declared.chunk.Chunk.{Chunk};

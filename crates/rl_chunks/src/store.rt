@@ -1,5 +1,5 @@
 //! What a store is, and why it refuses.
-ghost use Rattle.std.specs.Prelude.{◌≡◌, ℕ, Option, List, true, OnOk, OnErr, IfOk, IfErr};
+ghost use Rattle.std.specs.Prelude.{◌≡◌, Option, true, OnOk, OnErr, IfOk, IfErr};
 ghost use Rattle.std.specs.Option.{option_map};
 ghost use Rattle.std.specs.FinMap as map;
 ghost use Rattle.rl_chunks.specs.StoreState.{Seen, KeepsReads, IsRead, LeavesOthers, faults_after};

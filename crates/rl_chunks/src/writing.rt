@@ -1,12 +1,10 @@
 //! Chunks written as bytes.
 ghost use Rattle.std.specs.Prelude.{◌≡◌, ◌<◌, ◌≤◌, ◌^◌, ◌++◌, length, map, IsTrue, OnOk, IfOk, Ok};
 ghost use Rattle.std.specs.Int.{w16};
-ghost use Rattle.std.specs.List.{All, flat_map};
+ghost use Rattle.std.specs.List.{All};
 ghost use Rattle.std.specs.List.Sorted.{IsStrictlySortedBy};
 ghost use Rattle.std.specs.Str.{is_utf8};
 ghost use Rattle.rl_labels.specs.EntryParts.{is_stream, longest_line};
-ghost use Rattle.rl_labels.specs.LabelSet.{labels_of};
-ghost use Rattle.rl_labels.specs.Quantity.{greatest_moment};
 ghost use Rattle.rl_chunks.specs.ChunkText.{magic, line_width, sized, labels_bytes, label_bytes, line_bytes, lines_bytes, line_cmp, IsText, IsLine, IsChunkText};
 ghost use Rattle.rl_chunks.specs.ChunkReading.{read_chunk};
 

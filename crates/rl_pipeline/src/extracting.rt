@@ -1,7 +1,7 @@
 //! The labels that the pairs of a parser become.
 ghost use Rattle.std.specs.Prelude.{◌≡◌, ◌<◌, ◌++◌, IfOk, OnOk, true, false, codes, string_bytes};
 ghost use Rattle.rl_labels.specs.LabelSet.{is_empty};
-ghost use Rattle.rl_labels.specs.Name.{is_name, is_name_byte};
+ghost use Rattle.rl_labels.specs.Name.{is_name};
 ghost use Rattle.rl_pipeline.specs.Extracting.{name_byte, begins_with_digit, name_of_key, gives_none, with_named, with_pair, with_error};
 
 use rl_labels::labels::{ERROR_LABEL, is_label_name};

@@ -1,6 +1,5 @@
 //! Groupings and operators of vector aggregations, and thresholds, read from their tokens.
-ghost use Rattle.std.specs.Prelude.{◌≡◌, ◌==◌, ◌<◌, nat_le, Some, IfOk, IfSome, IsTrue, List, length, position};
-ghost use Rattle.std.specs.Option.{option_map};
+ghost use Rattle.std.specs.Prelude.{◌≡◌, ◌==◌, ◌<◌, nat_le, Some, IfOk, IfSome, IsTrue, length, position};
 ghost use Rattle.std.specs.Char.{is_ascii_digit};
 ghost use Rattle.std.specs.List.{list_all};
 ghost use Rattle.rl_labels.specs.Decimals.{decimal_of};

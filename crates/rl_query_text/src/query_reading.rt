@@ -1,5 +1,5 @@
 //! Queries, read from their tokens: ratios of terms and their thresholds.
-ghost use Rattle.std.specs.Prelude.{◌≡◌, ◌-◌, Ok, IfOk, suc, map, length, option_map};
+ghost use Rattle.std.specs.Prelude.{◌≡◌, ◌-◌, Ok, IfOk, suc, map, option_map};
 ghost use Rattle.rl_plain.specs.Answers.{Gives, Answers};
 ghost use Rattle.rl_query_text.specs.Drafts.{term_draft, query_draft, KeepsQuery};
 ghost use Rattle.rl_query.specs.Form.{stage_form, tests_of, label_tests, query_form, threshold_form};

@@ -1,5 +1,5 @@
 //! Terms, read from their tokens: vector aggregations around a range aggregation.
-ghost use Rattle.std.specs.Prelude.{◌≡◌, ◌∷◌, Ok, IfOk, suc};
+ghost use Rattle.std.specs.Prelude.{◌≡◌, Ok, IfOk, suc};
 ghost use Rattle.rl_plain.specs.Answers.{Gives};
 ghost use Rattle.rl_query_text.specs.Drafts.{term_draft};
 ghost use Rattle.rl_query.specs.Form.{aggregation_form};

@@ -1,7 +1,7 @@
 //! What a rule makes of the outcome of its query.
 ghost use Rattle.std.specs.Prelude.{◌≡◌, map, IfOk, OnOk, Ok};
 ghost use Rattle.std.specs.List.Sorted.{IsPermutation, IsSorted};
-ghost use Rattle.rl_rules.specs.Outcomes.{rule_step, rule_outcome, outcome_of, made_by, alerts_left, kept_at, final_samples, is_exceeded};
+ghost use Rattle.rl_rules.specs.Outcomes.{rule_step, outcome_of, made_by, alerts_left, kept_at, final_samples, is_exceeded};
 ghost use Rattle.rl_rules.specs.Recording.{named, named_by, sample_cmp, has_same_neighbours};
 
 use crate::alert::Alert;

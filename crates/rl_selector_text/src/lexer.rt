@@ -1,5 +1,5 @@
 //! The lexer: the tokens of a text.
-ghost use Rattle.std.specs.Prelude.{◌≡◌, [], ◌∷◌, ◌+◌, ◌-◌, ◌<◌, ◌≤◌, Bool, true, false, length, drop, IfSome, IfOk, Some, slice_index, string_bytes, encode_utf8, ◌++◌};
+ghost use Rattle.std.specs.Prelude.{◌≡◌, [], ◌∷◌, ◌+◌, ◌-◌, ◌<◌, ◌≤◌, true, false, length, drop, IfSome, IfOk, Some, slice_index, ◌++◌};
 ghost use Rattle.std.specs.Option.{option_map};
 ghost use Rattle.rl_labels.specs.Name.{is_name_start, is_name_byte};
 ghost use Rattle.rl_selector_text.specs.Lexing.{is_space, gap_len, character, unicode_at, escape_at, escape_front, quoted, backquoted, sign_at, token_at, lexemes_of, or_bad, is_in_run};

@@ -1,9 +1,7 @@
 //! Line filters and stages, read from their tokens.
-ghost use Rattle.std.specs.Prelude.{◌≡◌, ℕ, ◌≤◌, Bool, ◌||◌, List, [], ◌∷◌, Option, None, Some, IfOk, IfErr, length, map, true, false};
+ghost use Rattle.std.specs.Prelude.{◌≡◌, ℕ, ◌≤◌, Bool, ◌||◌, [], Option, None, Some, IfOk, length, map, false};
 ghost use Rattle.rl_plain.specs.Answers.{Gives, Answers};
-ghost use Rattle.rl_labels.specs.Operators.{is_by_pattern};
-ghost use Rattle.rl_query.specs.TestTree.{any_test};
-ghost use Rattle.rl_query.specs.Form.{test_form, tests_form, test_has_pattern, filter_form, filters_have_pattern, stage_form, stage_has_pattern, stages_have_pattern, parses};
+ghost use Rattle.rl_query.specs.Form.{filter_form, stage_form, parses};
 ghost use Rattle.rl_query.specs.Limits.{is_line_pattern, most_stages};
 ghost use Rattle.rl_selector_text.specs.Testing.{operator_comes};
 ghost use Rattle.rl_selector_text.specs.Parsing.{filter_op, filter_text, checked_filter, filter_at, filters_at, begins_stage, stage_comes, named_parser, parser_of, only_parser, is_later_stage_word, word_begins, parenthesis_begins, tests_begin, tested_at, piped_at, stage_at, stages_at, stages_in, after_stage, after_stages};

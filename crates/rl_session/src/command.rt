@@ -3,7 +3,7 @@ ghost use Rattle.std.specs.Prelude.{◌≡◌, ◌<◌};
 ghost use Rattle.std.specs.Char.{is_ascii_digit};
 ghost use Rattle.std.specs.List.{list_all};
 ghost use Rattle.std.specs.Option.{option_map, option_and_then};
-ghost use Rattle.rl_session.specs.Command.{Asked, asked, cut_at, delete_of, ticks, time_of, eval_of, id_of, process_of, request_of_words, show_of, command_of_words, command_of, is_blank_byte, is_number};
+ghost use Rattle.rl_session.specs.Command.{asked, cut_at, delete_of, ticks, time_of, eval_of, id_of, process_of, request_of_words, show_of, command_of_words, command_of, is_blank_byte, is_number};
 
 use rl_deletes::Deletion;
 use rl_labels::{Decimal, Ns, number_of};

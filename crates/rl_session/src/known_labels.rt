@@ -1,5 +1,5 @@
 //! The label sets that push bodies had, kept so that a body of a stream that came before makes none.
-ghost use Rattle.std.specs.Prelude.{◌≡◌, ◌<◌, IfOk, IfSome, IsTrue, OnOk, Ok, length, vec_len};
+ghost use Rattle.std.specs.Prelude.{◌≡◌, ◌<◌, IfOk, IfSome, IsTrue, Ok};
 ghost use Rattle.json.specs.Json.{string};
 ghost use Rattle.json.specs.Value.{members_view, value_view};
 ghost use Rattle.serde_json.specs.Data.{no_members};

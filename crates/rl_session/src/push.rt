@@ -1,5 +1,5 @@
 //! Push bodies: log entries from the JSON that a Loki client sends.
-ghost use Rattle.std.specs.Prelude.{◌≡◌, IsTrue, IfOk, codes, map, option_map, string_bytes};
+ghost use Rattle.std.specs.Prelude.{◌≡◌, IsTrue, IfOk, map, option_map};
 ghost use Rattle.json.specs.Value.{items_view, members_view};
 ghost use Rattle.serde_json.specs.Data.{no_members};
 ghost use Rattle.serde_json.specs.Find.{get, as_str, as_object};

@@ -1,5 +1,5 @@
 //! A world on one thread as an engine: a call is a step, and an evaluation a list of steps.
-ghost use Rattle.std.specs.Prelude.{◌≡◌, ◌≤◌, length, map, slice_get, option_map, is_some, Some, IsSome, IfOk, IfSome, OnOk, OnErr};
+ghost use Rattle.std.specs.Prelude.{◌≡◌, ◌≤◌, length, map, slice_get, option_map, is_some, Some, IfOk, IfSome};
 ghost use Rattle.std.specs.List.{AllByRecursion, concat};
 ghost use Rattle.rl_shard.specs.ShardState.{opened_over};
 ghost use Rattle.rl_world.specs.BookCalls.{books_from, IsFresh};

@@ -1,5 +1,5 @@
 //! Texts that are all kept, and written to a writer.
-ghost use Rattle.std.specs.Prelude.{◌≡◌, ◌+◌, ◌<◌, ◌^◌, length, true, IsTrue, IfOk, OnOk, OnErr, IfErr, is_err, slice_get, string_bytes};
+ghost use Rattle.std.specs.Prelude.{◌≡◌, ◌+◌, ◌<◌, ◌^◌, length, true, IfOk, OnOk, OnErr, IfErr, is_err, slice_get, string_bytes};
 ghost use Rattle.std.specs.Option.{option_copied};
 ghost use Rattle.rl_sinks.specs.Pieces.{Writes};
 ghost use Rattle.rl_sinks.specs.Texts.{evaluation_text};

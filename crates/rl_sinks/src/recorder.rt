@@ -1,5 +1,5 @@
 //! A sink that writes the samples of recording rules, and keeps every text.
-ghost use Rattle.std.specs.Prelude.{◌≡◌, ◌+◌, ◌<◌, ◌^◌, length, true, OnOk, OnErr, IfErr, is_err};
+ghost use Rattle.std.specs.Prelude.{◌≡◌, ◌+◌, ◌<◌, ◌^◌, length, OnOk, OnErr, IfErr, is_err};
 ghost use Rattle.rl_sinks.specs.Pieces.{Writes};
 
 use crate::log::TextLog;

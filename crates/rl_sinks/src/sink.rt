@@ -1,5 +1,5 @@
 //! What a sink is, and why it refuses.
-ghost use Rattle.std.specs.Prelude.{◌≡◌, ℕ, ◌+◌, ◌<◌, ◌^◌, ⊤, not, IsTrue, Result, Err, OnOk, OnErr, IfErr, is_err, slice_get};
+ghost use Rattle.std.specs.Prelude.{◌≡◌, ◌+◌, ◌<◌, ◌^◌, ⊤, not, IsTrue, Result, Err, OnOk, OnErr, IfErr, is_err, slice_get};
 ghost use Rattle.std.specs.Option.{option_copied};
 ghost use Rattle.rl_sinks.specs.SinkState.{SinkState, taken, refused, pumped, closed, is_open_refusal};
 ghost use Rattle.rl_sinks.specs.Texts.{evaluation_text};

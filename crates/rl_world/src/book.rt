@@ -1,5 +1,5 @@
 //! A book: one rule group, its history, and its sinks.
-ghost use Rattle.std.specs.Prelude.{◌≡◌, ◌≤◌, ◌<◌, ◌^◌, List, [], map, length, replicate, slice_get, option_map, option_and_then, IfOk, IfErr, OnOk, OnErr, IfSome, None, Some, is_some, false};
+ghost use Rattle.std.specs.Prelude.{◌≡◌, ◌≤◌, ◌<◌, ◌^◌, List, map, length, replicate, slice_get, option_map, option_and_then, IfOk, IfErr, OnOk, OnErr, IfSome, None, Some, is_some, false};
 ghost use Rattle.rl_sinks.specs.SinkState.{SinkState};
 ghost use Rattle.rl_world.specs.BookCalls.{Refuses};
 ghost use Rattle.rl_world.specs.Closed.{HasAnswered, IsBookClosed, IsClosed, failures};
@@ -71,7 +71,7 @@ impl<S: Sink> Book<S> {
     ghost use Rattle.rl_world.specs.WorldState.{kept_open};
     ghost use Rattle.rl_world.specs.Evaluating.{group_terms, evaluation_of};
     ghost use Rattle.rl_world.specs.Kept.{evaluation_from};
-    ghost use Rattle.rl_world.specs.History.{alerts_of, alerts_then, group_after, evaluations_in, is_due, begin_fault, edit_fault, gather_fault, commit_fault, abandon_fault, begun, edited, gathered, committed, abandoned};
+    ghost use Rattle.rl_world.specs.History.{alerts_of, group_after, evaluations_in, is_due, begin_fault, edit_fault, gather_fault, commit_fault, abandon_fault, begun, edited, gathered, committed, abandoned};
     ghost use Rattle.rl_world.specs.Offering.{AllOffered, behind_of};
     ghost use Rattle.rl_world.specs.ShardAnswers.{AreOfOneShard, most_shards};
 
