@@ -10,9 +10,10 @@ use Rattle.rl_query.specs.declared.query.Term.{Term}
 use Rattle.rl_aggregate.specs.Partials.{partial}
 use Rattle.rl_aggregate.specs.declared.partial.Partial.{Partial}
 use Rattle.rl_windows.specs.Ranges.{code_of, elements_for}
-use Rattle.rl_windows.specs.Windows.{StandsFor}
+use Rattle.rl_windows.specs.Windows.{in_range, StandsFor}
+use Rattle.rl_windows.specs.declared.element.Element.{Element}
 use Rattle.rl_windows.specs.declared.range.RangeCode.{RangeCode}
-use Rattle.rl_slots.specs.Slots.{key_of, term_key, AreExactIn, IsPartialAt, IsWindowOf}
+use Rattle.rl_slots.specs.Slots.{key_of, term_key, AreExactIn, AreSums, ContentsIn, IsPartialAt, IsSumAt, IsWindowOf, StandIn}
 use Rattle.rl_slots.specs.declared.range_window.RangeWindow.{RangeWindow}
 use Rattle.rl_slots.proofs.Setting.{at_index}
 
@@ -32,6 +33,14 @@ shows_at old windows entries t k x shown there same exact shows term is =
     let key : key_of x ≡ term_key term = some_same (key_of x) (term_key term) (sym (slice_get-map key_of windows k ∙ ap (option_map key_of) there) ∙ ap (λ keys. slice_get keys k) same ∙ is) in
     let stands : StandsFor x.window (elements_for x.code entries) = subst (λ o. IfSome o (λ it. StandsFor it.window (elements_for it.code entries))) there (exact k) in
     shows term entries (sym (ap (λ (p : RangeCode × ℕ). p.1) key)) (subst (λ c. StandsFor x.window (elements_for c entries)) (ap (λ (p : RangeCode × ℕ). p.0) key) stands)
+
+-- and what one that stands for elements gives is what its range has of these
+pub sums_at : (old windows : List RangeWindow) (contents : ContentsIn) (t k : ℕ) (x : RangeWindow) (shown : Partial) → slice_get windows k ≡ Some x → map key_of windows ≡ map key_of old → StandIn windows contents
+    → ((es : List Element) → StandsFor x.window es → shown ≡ in_range x.window.seconds t es) → IsSumAt old t contents k shown
+sums_at old windows contents t k x shown there same stand sums term is =
+    let key : key_of x ≡ term_key term = some_same (key_of x) (term_key term) (sym (slice_get-map key_of windows k ∙ ap (option_map key_of) there) ∙ ap (λ keys. slice_get keys k) same ∙ is) in
+    let stands : StandsFor x.window (contents k x.code) = subst (λ o. IfSome o (λ it. StandsFor it.window (contents k it.code))) there (stand k) in
+    sums (contents k x.code) stands ∙ ap (λ (p : RangeCode × ℕ). in_range p.1 t (contents k p.0)) key
 
 -- each term's window is among them
 pub within_of : (windows : List RangeWindow) (terms : List Term) (indices : List ℕ) → AllZip (IsWindowOf windows) terms indices → AllByRecursion (λ index. index < length windows) indices
@@ -55,3 +64,13 @@ partials_of windows entries t (term ∷ terms) [] shown all given = absurd all
 partials_of windows entries t (term ∷ terms) (index ∷ indices) [] all given = absurd given
 partials_of windows entries t (term ∷ terms) (index ∷ indices) (one ∷ shown) all given =
     (λ i. given.0 term all.0 i ∷ partials_of windows entries t terms indices shown all.1 given.1 i)
+
+-- and sums for the terms
+pub sums_of : (windows : List RangeWindow) (t : ℕ) (contents : ContentsIn) (terms : List Term) (indices : List ℕ) (shown : List Partial) → AllZip (IsWindowOf windows) terms indices → AllZip (IsSumAt windows t contents) indices shown → AreSums windows t contents terms shown
+sums_of windows t contents [] [] [] all given = tt
+sums_of windows t contents [] [] (one ∷ shown) all given = absurd given
+sums_of windows t contents [] (index ∷ indices) shown all given = absurd all
+sums_of windows t contents (term ∷ terms) [] shown all given = absurd all
+sums_of windows t contents (term ∷ terms) (index ∷ indices) [] all given = absurd given
+sums_of windows t contents (term ∷ terms) (index ∷ indices) (one ∷ shown) all given =
+    ((index, all.0, given.0 term all.0), sums_of windows t contents terms indices shown all.1 given.1)

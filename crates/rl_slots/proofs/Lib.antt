@@ -1,3 +1,4 @@
 pub mod Asking
+pub mod Crossing
 pub mod Listing
 pub mod Setting

@@ -1,5 +1,5 @@
 -- One window or slot of a list is replaced by another.
-use Rattle.std.proofs.Common.{◌≡◌, ◌≢◌, ℕ, zero, suc, ◌≤◌, ◌<◌, ◌∷◌, ◌++◌, [], cond, List, slice_set, slice_index_or, map, length, Some, refl, sym, ap, subst, ◌∙◌, arith}
+use Rattle.std.proofs.Common.{◌≡◌, ◌≢◌, ℕ, zero, suc, ◌≤◌, ◌<◌, ◌∷◌, ◌++◌, [], cond, List, slice_set, slice_index_or, length, Some, sym, ap, subst, ◌∙◌, arith}
 use Rattle.std.specs.Prelude.{slice_get}
 use Rattle.std.specs.List.{AllByRecursion, AllZip}
 use Rattle.std.specs.Option.{IfSome}
@@ -11,6 +11,7 @@ use Rattle.rl_windows.specs.declared.element.Element.{Element}
 use Rattle.rl_windows.specs.declared.range.RangeCode.{RangeCode}
 use Rattle.rl_slots.specs.Slots.{key_of, range_of, term_key, with_change, with_element_at, AllStand, Contents, ContentsIn, IsSlot, SlotView, StandIn}
 use Rattle.rl_slots.specs.laws.Exact.{eqb-self}
+pub use Rattle.rl_slots.specs.laws.Living.{all_one_more, set_keeps, set_seen}
 use Rattle.rl_slots.specs.declared.change.Change.{Change}
 use Rattle.rl_slots.specs.declared.range_window.RangeWindow.{RangeWindow}
 
@@ -26,18 +27,6 @@ set_all P Q (z ∷ xs) zero x y there others own all (suc i) = IfSome_then (slic
 set_all P Q (z ∷ xs) (suc k) x y there others own all zero = others 0 z (λ same. cc) (all 0)
 set_all P Q (z ∷ xs) (suc k) x y there others own all (suc i) =
     set_all (λ j. P (suc j)) (λ j. Q (suc j)) xs k x y there (λ j it apart. others (suc j) it (λ same. apart cc)) own (λ j. all (suc j)) i
-
--- an item that is seen as the old one leaves the list as it was seen
-pub set_seen : {X Y : Type 0} (f : X → Y) (xs : List X) (k : ℕ) (x y : X) → slice_get xs k ≡ Some x → f y ≡ f x → map f (slice_set xs k y) ≡ map f xs
-set_seen f [] k x y there same = refl
-set_seen f (z ∷ xs) zero x y there same = ap (λ first. first ∷ map f xs) (same ∙ ap f (sym (some_same z x there)))
-set_seen f (z ∷ xs) (suc k) x y there same = ap (λ rest. f z ∷ rest) (set_seen f xs k x y there same)
-
--- what holds of all, and of the new one where it holds of the old one
-pub set_keeps : {X : Type 0} (P : X → Type 0) (xs : List X) (k : ℕ) (x y : X) → slice_get xs k ≡ Some x → (P x → P y) → AllByRecursion P xs → AllByRecursion P (slice_set xs k y)
-set_keeps P [] k x y there keeps all = tt
-set_keeps P (z ∷ xs) zero x y there keeps all = (keeps (subst P (some_same z x there) all.0), all.1)
-set_keeps P (z ∷ xs) (suc k) x y there keeps all = (all.0, set_keeps P xs k x y there keeps all.1)
 
 module _ (windows : List RangeWindow) (w : ℕ) (e : Element) (contents : ContentsIn) (x y : RangeWindow) (there : slice_get windows w ≡ Some x) (code : y.code ≡ x.code) where
   other_is : (i : ℕ) (c : RangeCode) → i ≢ w → with_element_at w e contents i c ≡ contents i c
@@ -114,11 +103,6 @@ at_index P [] i less all = absurd (not_below_zero i less)
     not_below_zero n less = omega (arith, less)
 at_index P (x ∷ xs) zero less all = all.0
 at_index P (x ∷ xs) (suc i) less all = at_index P xs i (omega (arith, less)) all.1
-
--- and one item more
-pub all_one_more : {X : Type 0} (P : X → Type 0) (xs : List X) (y : X) → AllByRecursion P xs → P y → AllByRecursion P (xs ++ y ∷ [])
-all_one_more P [] y all one = (one, tt)
-all_one_more P (x ∷ xs) y all one = (all.0, all_one_more P xs y all.1 one)
 
 -- what holds of each item holds of one
 pub at_place : {X : Type 0} (P : X → Type 0) (xs : List X) (k : ℕ) (x : X) → slice_get xs k ≡ Some x → AllByRecursion P xs → P x

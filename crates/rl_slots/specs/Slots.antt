@@ -14,7 +14,7 @@ use Rattle.rl_aggregate.specs.Partials.{partial}
 use Rattle.rl_aggregate.specs.declared.partial.Partial.{Partial}
 use Rattle.rl_aggregate.specs.declared.volume.Volume.{Volume}
 use Rattle.rl_windows.specs.Ranges.{code_of, element_for, elements_for}
-use Rattle.rl_windows.specs.Windows.{count_of, visits, window_code, StandsFor, WindowView}
+use Rattle.rl_windows.specs.Windows.{count_of, in_range, visits, window_code, StandsFor, WindowView}
 use Rattle.rl_windows.specs.contracts.range.RangeCode as range
 use Rattle.rl_windows.specs.declared.element.Element.{Element}
 use Rattle.rl_windows.specs.declared.range.RangeCode.{RangeCode}
@@ -105,6 +105,10 @@ IsFullIn windows = (index : ℕ) × (it : RangeWindow) × (slice_get windows ind
 abbrev pub AreFull : List SlotView → Type 0
 AreFull slots = (index : ℕ) × (slot : SlotView) × (slice_get slots index ≡ Some slot) × IsFullIn slot.windows
 
+-- each window is for as many lines
+abbrev pub AreOfMost : (most : ℕ) → List SlotView → Type 0
+AreOfMost most slots = AllByRecursion (λ slot. AllByRecursion (λ it. it.window.most ≡ most) slot.windows) slots
+
 -- how many windows there are
 abbrev pub window_count : List SlotView → ℕ
 window_count slots = sum_by (λ slot. length slot.windows) slots
@@ -156,9 +160,25 @@ visits_of windows t = sum_by (λ it. visits it.window t) windows
 abbrev pub IsPartialAt : List RangeWindow → List Entry → (t index : ℕ) → Partial → Type 0
 IsPartialAt windows entries t index found = (term : Term) → IsWindowOf windows term index → found ≡ partial entries term t
 
+-- and so of the elements that the windows stand for
+abbrev pub IsSumAt : List RangeWindow → (t : ℕ) → ContentsIn → (index : ℕ) → Partial → Type 0
+IsSumAt windows t contents index found = (term : Term) → IsWindowOf windows term index → found ≡ in_range term.range.seconds t (contents index (code_of term))
+
+-- what the windows of terms have at a moment of the elements that they stand for, one for each term
+abbrev pub AreSums : List RangeWindow → (t : ℕ) → ContentsIn → List Term → List Partial → Type 0
+AreSums windows t contents terms partials = AllZip (λ term found. (index : ℕ) × IsWindowOf windows term index × (found ≡ in_range term.range.seconds t (contents index (code_of term)))) terms partials
+
 -- the slot answers terms at a moment
 abbrev pub IsLive : List Term → (t : ℕ) → SlotView → Type 0
 IsLive terms t slot = (slot.terms ≡ terms) × (slot.reached ≤ t)
+
+-- so the slot of a number among others
+pub record IsLiveIn (number : ℕ) (terms : List Term) (t : ℕ) (slots : List SlotView) : Type 0 where
+  pub index : ℕ
+  pub at : position (λ slot. slot.number == number) slots ≡ Some index
+  pub slot : SlotView
+  pub there : slice_get slots index ≡ Some slot
+  pub live : IsLive terms t slot
 
 -- one at an index, or beside the others
 abbrev pub put_at : Option ℕ → SlotView → List SlotView → List SlotView

@@ -6,10 +6,12 @@
 //! - `range_window`: `RangeWindow`, a window with the code of its range.
 //! - `change`: `Change`, an element that a line adds to one window of a slot.
 //! - `slot`: `Slot`, the windows of a group's terms. `slots`: `Slots`, those of all groups.
+//! - `sending`: slots may be sent to another thread.
 #![tactic(auto)]
 
 pub mod change;
 pub mod range_window;
+pub mod sending;
 pub mod slot;
 pub mod slots;
 

@@ -2,9 +2,10 @@
 ghost use Rattle.std.specs.Prelude.{◌≡◌, ◌≤◌, List, ◌∷◌, IfOk, OnErr, OnOk};
 ghost use Rattle.rl_labels.specs.declared.entry.Entry.{Entry};
 ghost use Rattle.rl_query.specs.declared.query.Term.{Term};
+ghost use Rattle.rl_aggregate.specs.Limited.{IsWithin};
 ghost use Rattle.rl_aggregate.specs.Partials.{partial};
 ghost use Rattle.rl_windows.specs.Ranges.{code_of, elements_for, HasRuns};
-ghost use Rattle.rl_windows.specs.Windows.{visits, StandsFor};
+ghost use Rattle.rl_windows.specs.Windows.{in_range, visits, StandsFor};
 ghost use Rattle.rl_windows.specs.declared.element.Element.{Element};
 ghost use Rattle.rl_slots.specs.Slots.{key_of, range_of, wanted, HasVisits, IsOfLine};
 
@@ -67,6 +68,7 @@ impl RangeWindow {
         requires { self.old.window.moment ≤ t }
         ensures stands { (es : List Element) → StandsFor self.old.window es → StandsFor self.new.window es }
         ensures range { key_of self.new ≡ key_of self.old }
+        ensures most { self.new.window.most ≡ self.old.window.most }
         ensures moment { self.new.window.moment ≤ t }
         ensures moved { OnOk result (self.new.window.moment ≡ t) }
         ensures visits { HasVisits (visits self.old.window t) meter.old meter.new }
@@ -77,6 +79,8 @@ impl RangeWindow {
     // What its range has at the moment of the window.
     pub(crate) fn partial(&mut self) -> Result<Shared<Partial>, AllocError>
         ensures same { self.new ≡ self.old }
+        ensures sum { IfOk result (λ found. (es : List Element) → StandsFor self.old.window es → found ≡ in_range self.old.window.seconds self.old.window.moment es) }
+        ensures within { IfOk result (IsWithin self.old.window.most) }
         ensures partial { IfOk result (λ found. (term : Term) (entries : List Entry) → term.range.seconds ≡ self.old.window.seconds → StandsFor self.old.window (elements_for (code_of term) entries) → found ≡ partial entries term self.old.window.moment) }
     {
         self.window.partial()

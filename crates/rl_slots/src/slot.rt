@@ -3,12 +3,13 @@ ghost use Rattle.std.specs.Prelude.{◌≡◌, ◌≤◌, ◌<◌, ◌++◌, ℕ
 ghost use Rattle.std.specs.Bool.{Decides};
 ghost use Rattle.std.specs.List.{AllByRecursion, AllZip};
 ghost use Rattle.rl_labels.specs.declared.entry.Entry.{Entry};
+ghost use Rattle.rl_aggregate.specs.Limited.{IsWithin};
 ghost use Rattle.rl_aggregate.specs.Partials.{partial};
 ghost use Rattle.rl_windows.specs.Ranges.{HasRuns};
 ghost use Rattle.rl_windows.specs.declared.element.Element.{Element};
 ghost use Rattle.rl_windows.specs.declared.range.RangeCode.{RangeCode};
 ghost use Rattle.rl_query.specs.declared.query.Term.{Term};
-ghost use Rattle.rl_slots.specs.Slots.{changes_in, key_of, outline, visits_of, with_element_at, AreExactIn, HasRoomFor, HasVisits, IsFullIn, IsLive, IsOfLine, IsPartialAt, IsWindowOf, StandIn, ContentsIn};
+ghost use Rattle.rl_slots.specs.Slots.{changes_in, key_of, outline, visits_of, with_element_at, AreExactIn, AreSums, HasRoomFor, HasVisits, IsFullIn, IsLive, IsOfLine, IsPartialAt, IsSumAt, IsWindowOf, StandIn, ContentsIn};
 
 use crate::change::Change;
 use crate::range_window::RangeWindow;
@@ -137,8 +138,10 @@ impl Slot {
         }
         self.windows[window].take_out(element);
     }
-    // Answers what each term's range has at a moment, which the windows move on to.
-    pub(crate) fn collect(
+
+    /// Answers what each term's range has at a moment, which the windows move on to. Whatever comes of it, the slot answers its terms
+    /// from the moment on.
+    pub fn collect(
         &mut self,
         alloc: Global,
         t: Ns,
@@ -146,7 +149,11 @@ impl Slot {
     ) -> Result<PlainList<Shared<Partial>>, AllocError>
         requires { self.old.reached ≤ t }
         ensures partials { IfOk result (λ partials. (entries : List Entry) → AreExactIn self.old.windows entries → partials ≡ map (λ term. partial entries term t) self.old.terms) }
+        ensures each { IfOk result (λ partials. length partials ≡ length self.old.terms) }
+        ensures sums { IfOk result (λ partials. (contents : ContentsIn) → StandIn self.old.windows contents → AreSums self.old.windows t contents self.old.terms partials) }
+        ensures within { IfOk result (λ partials. (most : ℕ) → AllByRecursion (λ it. it.window.most ≡ most) self.old.windows → AllByRecursion (IsWithin most) partials) }
         ensures stand { (contents : ContentsIn) → StandIn self.old.windows contents → StandIn self.new.windows contents }
+        ensures most { (most : ℕ) → AllByRecursion (λ it. it.window.most ≡ most) self.old.windows → AllByRecursion (λ it. it.window.most ≡ most) self.new.windows }
         ensures visits { HasVisits (visits_of self.old.windows t) meter.old meter.new }
         ensures asked { (self.new.number ≡ self.old.number) × (self.new.terms ≡ self.old.terms) × (self.new.reached ≡ t) }
         ensures collected { OnOk result (self.new.collected ≡ t) }
@@ -170,8 +177,12 @@ fn collect_each(
     requires there { AllByRecursion (λ index. index < length windows.old) indices.now }
     requires moments { AllByRecursion (λ it. it.window.moment ≤ t) windows.old }
     ensures partials { IfOk result (λ partials. (entries : List Entry) → AreExactIn windows.old entries → AllZip (IsPartialAt windows.old entries t) indices.now partials.items) }
+    ensures each { IfOk result (λ partials. length partials.items ≡ length indices.now) }
+    ensures sums { IfOk result (λ partials. (contents : ContentsIn) → StandIn windows.old contents → AllZip (IsSumAt windows.old t contents) indices.now partials.items) }
+    ensures within { IfOk result (λ partials. (most : ℕ) → AllByRecursion (λ it. it.window.most ≡ most) windows.old → AllByRecursion (IsWithin most) partials.items) }
     ensures stand { (contents : ContentsIn) → StandIn windows.old contents → StandIn windows.new contents }
     ensures ranges { map key_of windows.new ≡ map key_of windows.old }
+    ensures most { (most : ℕ) → AllByRecursion (λ it. it.window.most ≡ most) windows.old → AllByRecursion (λ it. it.window.most ≡ most) windows.new }
     ensures moments { AllByRecursion (λ it. it.window.moment ≤ t) windows.new }
     ensures visits { HasVisits (visits_of windows.old t) meter.old meter.new }
 {
@@ -184,6 +195,7 @@ fn slide_each(windows: &mut [RangeWindow], t: Ns, meter: &mut Meter) -> Result<(
     requires { AllByRecursion (λ it. it.window.moment ≤ t) windows.old }
     ensures stand { (contents : ContentsIn) → StandIn windows.old contents → StandIn windows.new contents }
     ensures ranges { map key_of windows.new ≡ map key_of windows.old }
+    ensures most { (most : ℕ) → AllByRecursion (λ it. it.window.most ≡ most) windows.old → AllByRecursion (λ it. it.window.most ≡ most) windows.new }
     ensures moments { AllByRecursion (λ it. it.window.moment ≤ t) windows.new }
     ensures moved { OnOk result (AllByRecursion (λ it. it.window.moment ≡ t) windows.new) }
     ensures visits { HasVisits (visits_of windows.old t) meter.old meter.new }
@@ -205,6 +217,9 @@ fn partials_at(
     requires moments { AllByRecursion (λ it. it.window.moment ≡ t) windows.old }
     ensures same { windows.new ≡ windows.old }
     ensures partials { IfOk result (λ partials. (entries : List Entry) → AreExactIn windows.old entries → AllZip (IsPartialAt windows.old entries t) indices.now partials.items) }
+    ensures each { IfOk result (λ partials. length partials.items ≡ length indices.now) }
+    ensures sums { IfOk result (λ partials. (contents : ContentsIn) → StandIn windows.old contents → AllZip (IsSumAt windows.old t contents) indices.now partials.items) }
+    ensures within { IfOk result (λ partials. (most : ℕ) → AllByRecursion (λ it. it.window.most ≡ most) windows.old → AllByRecursion (IsWithin most) partials.items) }
 {
     let mut partials = Vec::with_capacity(alloc, indices.len())?;
     for index in indices {

@@ -1,11 +1,12 @@
 //! The slots of all groups.
-ghost use Rattle.std.specs.Prelude.{◌≡◌, ◌≤◌, ◌<◌, ◌==◌, List, [], ◌∷◌, length, map, option_map, slice_get, None, Some, IfOk, IfSome, Ok, OnErr, OnOk};
+ghost use Rattle.std.specs.Prelude.{◌≡◌, ◌≤◌, ◌<◌, ◌==◌, ℕ, List, [], ◌∷◌, length, map, option_map, slice_get, None, Some, IfNone, IfOk, IfSome, Ok, OnErr, OnOk};
 ghost use Rattle.std.specs.List.{AllByRecursion, position};
 ghost use Rattle.rl_labels.specs.EntryParts.{longest_line};
 ghost use Rattle.rl_labels.specs.declared.entry.Entry.{Entry};
+ghost use Rattle.rl_aggregate.specs.Limited.{IsWithin};
 ghost use Rattle.rl_aggregate.specs.Partials.{partial};
 ghost use Rattle.rl_windows.specs.Ranges.{HasRuns};
-ghost use Rattle.rl_slots.specs.Slots.{changes_of, line_of, outline, visits_of, window_count, with_change, with_changes, with_slot, AllStand, AreExact, AreFull, Contents, HasRoomFor, HasVisits, IsMovedOn, IsOfLine, SlotView};
+ghost use Rattle.rl_slots.specs.Slots.{changes_of, line_of, outline, visits_of, window_count, with_change, with_changes, with_slot, AllStand, AreExact, AreFull, AreOfMost, Contents, HasRoomFor, HasVisits, IsLive, IsLiveIn, IsMovedOn, IsOfLine, SlotView};
 
 use crate::change::Change;
 use crate::slot::Slot;
@@ -13,6 +14,7 @@ use rl_aggregate::Partial;
 use rl_labels::Ns;
 use rl_pipeline::{Meter, ParsedLine};
 use rl_plain::{PlainList, Shared};
+use rl_query::Term;
 use std::alloc::{AllocError, Global};
 use std::marker::Model;
 
@@ -56,6 +58,18 @@ impl Slots {
         ensures { option_map (λ slot. slot.now) result ≡ slice_get self.now index }
     {
         self.slots.get(index)
+    }
+
+    /// Where the slot of a number is, if it answers the terms at the moment. Takes no memory.
+    pub fn live(&self, number: u64, terms: &PlainList<Term>, t: Ns) -> Option<usize>
+        ensures some { IfSome result (λ index. (index < length self.now) × (position (λ slot. slot.number == number) self.now ≡ Some index) × IfSome (slice_get self.now index) (IsLive terms.now t)) }
+        ensures none { IfNone result (IsLiveIn number terms.now t self.now → ⊥) }
+    {
+        let index = self.index_of(number)?;
+        if !self.slots[index].is_live(terms, t) {
+            return None;
+        }
+        Some(index)
     }
 
     /// What a line changes in all windows; none, if one that it changes has as many lines as it may have.
@@ -123,7 +137,10 @@ impl Slots {
         requires there { index < length self.old }
         requires live { IfSome (slice_get self.old index) (λ slot. slot.reached ≤ t) }
         ensures partials { IfOk result (λ partials. IfSome (slice_get self.old index) (λ slot. (entries : List Entry) → AreExact self.old entries → partials ≡ map (λ term. partial entries term t) slot.terms)) }
+        ensures each { IfOk result (λ partials. IfSome (slice_get self.old index) (λ slot. length partials ≡ length slot.terms)) }
+        ensures within { IfOk result (λ partials. (most : ℕ) → AreOfMost most self.old → AllByRecursion (IsWithin most) partials) }
         ensures stand { (contents : Contents) → AllStand self.old contents → AllStand self.new contents }
+        ensures most { (most : ℕ) → AreOfMost most self.old → AreOfMost most self.new }
         ensures moved { IsMovedOn index t self.old self.new }
         ensures visits { IfSome (slice_get self.old index) (λ slot. HasVisits (visits_of slot.windows t) meter.old meter.new) }
     {

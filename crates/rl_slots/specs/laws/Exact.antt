@@ -1,7 +1,7 @@
 -- Windows that stand for what entries add to them, while entries come and go.
 use Rattle.std.specs.Prelude.{◌≡◌, ◌≢◌, ◌≤◌, ◌<◌, ℕ, zero, suc, ◌+◌, ◌*◌, nat_eq, nat_lt, Bool, true, false, cond, List, [], ◌∷◌, ◌++◌, map, length, Option, None, Some, IfSome, option_map, option_to_list, slice_get, refl}
 use Rattle.std.specs.FinMap.{entries}
-use Rattle.std.specs.List.{filter}
+use Rattle.std.specs.List.{AllByRecursion, filter}
 use Rattle.std.proofs.Common.{sym, ap, subst, ◌∙◌, arith}
 use Rattle.std.proofs.lemmas.Bool.{eq-eqb, ne_eqb}
 use Rattle.std.proofs.lemmas.Option.{none-some, slice_get-map}
@@ -235,3 +235,35 @@ changes_of-outline line timestamp slots = from 0 slots
     from : (first : ℕ) (slots : List SlotView) → changes_from line timestamp first slots ≡ changes_from line timestamp first (map outline slots)
     from first [] = refl
     from first (slot ∷ slots) = (λ i. within first 0 slot.windows i ++ from (suc first) slots i)
+
+-- changes are of one line each
+abbrev AreOfLine : List Change → Type 0
+AreOfLine changes = AllByRecursion (λ (change : Change). IsOfLine change.element.volume) changes
+
+of_both : (xs ys : List Change) → AreOfLine xs → AreOfLine ys → AreOfLine (xs ++ ys)
+of_both [] ys p q = q
+of_both (x ∷ xs) ys p q = (p.0, of_both xs ys p.1 q)
+
+module _ (line : StreamLine) (timestamp : ℕ) (short : length line.text ≤ longest_line) where
+  of_found : (slot window : ℕ) (found : Option Element) → IfSome found (IsLineAt timestamp) → AreOfLine (map (λ (element : Element). record { slot = slot; window = window; element = element }) (option_to_list found))
+  of_found slot window None is = tt
+  of_found slot window (Some element) is = (is.1, tt)
+
+  of_window : (slot window : ℕ) (it : RangeWindow) → AreOfLine (own line timestamp slot window it)
+  of_window slot window it =
+      elim (nat_lt it.window.moment (timestamp + it.window.seconds * second)) as (λ b. AreOfLine (map (λ (element : Element). record { slot = slot; window = window; element = element }) (option_to_list (cond b (element_for it.code line timestamp) None)))) [
+        | true ↦ of_found slot window (element_for it.code line timestamp) (line_at it.code line timestamp short)
+        | false ↦ tt
+      ]
+
+  of_windows : (slot first : ℕ) (windows : List RangeWindow) → AreOfLine (changes_in line timestamp slot first windows)
+  of_windows slot first [] = tt
+  of_windows slot first (it ∷ windows) = of_both (own line timestamp slot first it) (changes_in line timestamp slot (suc first) windows) (of_window slot first it) (of_windows slot (suc first) windows)
+
+  of_slots : (first : ℕ) (slots : List SlotView) → AreOfLine (changes_from line timestamp first slots)
+  of_slots first [] = tt
+  of_slots first (slot ∷ slots) = of_both (changes_in line timestamp first 0 slot.windows) (changes_from line timestamp (suc first) slots) (of_windows first 0 slot.windows) (of_slots (suc first) slots)
+
+-- what a line changes are elements of one line
+pub changes-lines : (line : StreamLine) (timestamp : ℕ) → length line.text ≤ longest_line → (slots : List SlotView) → AllByRecursion (λ (change : Change). IsOfLine change.element.volume) (changes_of line timestamp slots)
+changes-lines line timestamp short slots = of_slots line timestamp short 0 slots

@@ -32,6 +32,16 @@ returns-in_err-slide-clause-ranges c =
     let there : slice_get windows k ≡ Some x = slice_get-get_or windows k c.index-windows-index.result less in
     set_seen key_of windows k x y there c.slide.ensures.range ∙ c.loop-index.invariant.ranges
 
+pub returns-in_err-slide-clause-most : goal.returns-in_err-slide-clause-most
+returns-in_err-slide-clause-most c = λ most all.
+    let windows = c.loop-index.windows in
+    let k = c.loop-index.index in
+    let x = slice_index_or windows k c.index-windows-index.result in
+    let y = c.slide.new.self in
+    let less : k < length windows = omega (arith, c.loop-index-test.true, c.loop-index.auto.index-end, length-map windows key_of, ap length c.loop-index.invariant.ranges, length-map c.args.windows.now key_of) in
+    let there : slice_get windows k ≡ Some x = slice_get-get_or windows k c.index-windows-index.result less in
+    set_keeps (λ it. it.window.most ≡ most) windows k x y there (λ is. c.slide.ensures.most ∙ is) (c.loop-index.invariant.most most all)
+
 pub returns-in_err-slide-clause-visits : goal.returns-in_err-slide-clause-visits
 returns-in_err-slide-clause-visits c =
     let windows = c.loop-index.windows in
@@ -56,6 +66,7 @@ loop-index-preserved c =
     record {
       stand = λ contents before. kept_at windows k contents x y there (ap (λ (p : RangeCode × ℕ). p.0) c.slide.ensures.range) c.slide.ensures.stands (c.loop-index.invariant.stand contents before);
       ranges = set_seen key_of windows k x y there c.slide.ensures.range ∙ c.loop-index.invariant.ranges;
+      most = λ most all. set_keeps (λ it. it.window.most ≡ most) windows k x y there (λ is. c.slide.ensures.most ∙ is) (c.loop-index.invariant.most most all);
       moments = set_keeps (λ it. it.window.moment ≤ c.args.t) windows k x y there (λ _. c.slide.ensures.moment) c.loop-index.invariant.moments;
       moved = subst (AllByRecursion (λ it. it.window.moment ≡ c.args.t)) (sym (take_more_set windows k y less)) (all_one_more (λ it. it.window.moment ≡ c.args.t) (take k windows) y c.loop-index.invariant.moved c.in_ok-slide.ensures.moved);
       runs = c.slide.ensures.visits.0 ∙ c.loop-index.invariant.runs;

@@ -1,5 +1,5 @@
 -- The windows so far moved on, and all stand for what they stood for.
-use Rattle.std.proofs.Common.{◌≡◌, ◌≤◌, ◌+◌, drop, map, take}
+use Rattle.std.proofs.Common.{◌≡◌, ℕ, ◌≤◌, ◌+◌, drop, map, take}
 use Rattle.std.specs.List.{AllByRecursion}
 use Rattle.rl_slots.specs.Slots.{key_of, visits_of, ContentsIn, StandIn}
 use Rattle.rl_slots.proofs.slot.slide_each.Given as goal
@@ -8,6 +8,7 @@ abbrev pub invariant-loop-index : goal.invariant-loop-index
 invariant-loop-index l = record {
   stand : (contents : ContentsIn) → StandIn l.initial.windows contents → StandIn l.windows contents;
   ranges : map key_of l.windows ≡ map key_of l.initial.windows;
+  most : (most : ℕ) → AllByRecursion (λ it. it.window.most ≡ most) l.initial.windows → AllByRecursion (λ it. it.window.most ≡ most) l.windows;
   moments : AllByRecursion (λ it. it.window.moment ≤ l.t) l.windows;
   moved : AllByRecursion (λ it. it.window.moment ≡ l.t) (take l.index l.windows);
   runs : l.meter.runs ≡ l.initial.meter.runs;

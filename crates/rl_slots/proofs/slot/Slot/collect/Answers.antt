@@ -3,10 +3,12 @@ use Rattle.std.proofs.Common.{◌≡◌, ◌<◌, ◌≤◌, length, map, Some, 
 use Rattle.std.specs.Prelude.{slice_get}
 use Rattle.std.specs.List.{AllByRecursion, AllZip}
 use Rattle.std.proofs.lemmas.List.{length-map, with_items_is}
+use Rattle.std.proofs.lemmas.Slice.Zip.{AllZip-long}
 use Rattle.rl_query.specs.declared.query.Term.{Term}
+use Rattle.rl_aggregate.specs.Limited.{IsWithin}
 use Rattle.rl_aggregate.specs.Partials.{partial}
-use Rattle.rl_slots.specs.Slots.{key_of, term_key, AreExactIn, IsPartialAt, IsSlot, SlotView, StandIn}
-use Rattle.rl_slots.proofs.Asking.{not_past, partials_of, within_of}
+use Rattle.rl_slots.specs.Slots.{key_of, term_key, AreExactIn, AreSums, IsPartialAt, IsSlot, IsSumAt, SlotView, StandIn, IsWindowOf}
+use Rattle.rl_slots.proofs.Asking.{not_past, partials_of, sums_of, within_of}
 use Rattle.rl_slots.proofs.slot.Slot.collect.Goals as goal
 
 pub collect_each-requires-clause-there : goal.collect_each-requires-clause-there
@@ -71,3 +73,42 @@ returns-clause-stand c =
     let ranges : map key_of more ≡ map key_of own.windows.items = c.collect_each.ensures.ranges ∙ ap (map key_of) c.deref_mut.ensures.value in
     let is = with_items_is own.windows more (omega (arith, own.windows.ok.0, length-map more key_of, ap length ranges, length-map own.windows.items key_of)) in
     λ contents before. subst (λ ws. StandIn ws contents) (sym is) (c.collect_each.ensures.stand contents (subst (λ ws. StandIn ws contents) (sym (c.deref_mut.ensures.value ∙ same)) before))
+
+pub returns-in_err-partials-clause-most : goal.returns-in_err-partials-clause-most
+returns-in_err-partials-clause-most c =
+    let own = c.self.inside in
+    let same : own.windows.items ≡ c.args.self.now.windows = ap (λ (v : SlotView). v.windows) c.self.view_is in
+    let more = c.collect_each.new.windows in
+    let ranges : map key_of more ≡ map key_of own.windows.items = c.collect_each.ensures.ranges ∙ ap (map key_of) c.deref_mut.ensures.value in
+    let is = with_items_is own.windows more (omega (arith, own.windows.ok.0, length-map more key_of, ap length ranges, length-map own.windows.items key_of)) in
+    λ most all. subst (AllByRecursion (λ it. it.window.most ≡ most)) (sym is) (c.collect_each.ensures.most most (subst (AllByRecursion (λ it. it.window.most ≡ most)) (sym (c.deref_mut.ensures.value ∙ same)) all))
+
+pub returns-clause-most : goal.returns-clause-most
+returns-clause-most c =
+    let own = c.self.inside in
+    let same : own.windows.items ≡ c.args.self.now.windows = ap (λ (v : SlotView). v.windows) c.self.view_is in
+    let more = c.collect_each.new.windows in
+    let ranges : map key_of more ≡ map key_of own.windows.items = c.collect_each.ensures.ranges ∙ ap (map key_of) c.deref_mut.ensures.value in
+    let is = with_items_is own.windows more (omega (arith, own.windows.ok.0, length-map more key_of, ap length ranges, length-map own.windows.items key_of)) in
+    λ most all. subst (AllByRecursion (λ it. it.window.most ≡ most)) (sym is) (c.collect_each.ensures.most most (subst (AllByRecursion (λ it. it.window.most ≡ most)) (sym (c.deref_mut.ensures.value ∙ same)) all))
+
+pub returns-clause-sums : goal.returns-clause-sums
+returns-clause-sums c = λ contents stand.
+    let own = c.self.inside in
+    let same : own.windows.items ≡ c.args.self.now.windows = ap (λ (v : SlotView). v.windows) c.self.view_is in
+    let given = c.in_ok-partials.ensures.sums contents (subst (λ ws. StandIn ws contents) (sym (c.deref_mut.ensures.value ∙ same)) stand) in
+    let given_of = subst (λ is. AllZip (IsSumAt own.windows.items c.args.t contents) is c.in_ok-partials.partials.items) c.deref.ensures.value (subst (λ ws. AllZip (IsSumAt ws c.args.t contents) c.deref.result.now c.in_ok-partials.partials.items) c.deref_mut.ensures.value given) in
+    subst (λ (v : SlotView). AreSums v.windows c.args.t contents v.terms c.from_vec.result) c.self.view_is
+    (subst (AreSums own.windows.items c.args.t contents own.terms) (sym c.from_vec.ensures) (sums_of own.windows.items c.args.t contents own.terms own.indices.items c.in_ok-partials.partials.items c.self.invariant.of_terms given_of))
+
+pub returns-clause-within : goal.returns-clause-within
+returns-clause-within c = λ most all.
+    let own = c.self.inside in
+    let same : own.windows.items ≡ c.args.self.now.windows = ap (λ (v : SlotView). v.windows) c.self.view_is in
+    subst (AllByRecursion (IsWithin most)) (sym c.from_vec.ensures) (c.in_ok-partials.ensures.within most (subst (AllByRecursion (λ it. it.window.most ≡ most)) (sym (c.deref_mut.ensures.value ∙ same)) all))
+
+pub returns-clause-each : goal.returns-clause-each
+returns-clause-each c =
+    let own = c.self.inside in
+    ap length c.from_vec.ensures ∙ c.in_ok-partials.ensures.each ∙ ap length c.deref.ensures.value
+    ∙ AllZip-long (IsWindowOf own.windows.items) own.terms own.indices.items c.self.invariant.of_terms ∙ ap (λ (v : SlotView). length v.terms) c.self.view_is

@@ -1,0 +1,250 @@
+-- Slots that answer terms still do while other slots and the lines of windows change, and windows stay for as many lines.
+use Rattle.std.specs.Prelude.{◌≡◌, ◌≢◌, ℕ, zero, suc, ◌+◌, ◌≤◌, ◌==◌, Bool, true, false, cond, not, nat_lt, List, [], ◌∷◌, ◌++◌, map, length, Option, None, Some, IfSome, option_map, slice_get, slice_set, refl}
+use Rattle.std.specs.List.{position, position_from, position_or_len, AllByRecursion}
+use Rattle.std.proofs.Common.{sym, ap, subst, ◌∙◌, arith}
+use Rattle.std.proofs.lemmas.Bool.{eqb-true, eq-eqb, false≢true}
+use Rattle.std.proofs.lemmas.Iterator.Adapters.{position_from-zero}
+use Rattle.std.proofs.lemmas.List.{length-map}
+use Rattle.std.proofs.lemmas.List.Quantifiers.{position-Some}
+use Rattle.std.proofs.lemmas.Option.{none-some, same_Some, slice_get-get_or, slice_get-map}
+use Rattle.rl_query.specs.declared.query.Term.{Term}
+use Rattle.rl_slots.specs.Slots.{outline, put_at, range_of, with_slot, AreOfMost, IsLiveIn, IsMovedOn, SlotView}
+use Rattle.rl_slots.specs.declared.range_window.RangeWindow.{RangeWindow}
+
+-- LISTS
+
+-- an item that is seen as the one before it leaves the list as it was seen
+pub set_seen : {X Y : Type 0} (f : X → Y) (xs : List X) (k : ℕ) (x y : X) → slice_get xs k ≡ Some x → f y ≡ f x → map f (slice_set xs k y) ≡ map f xs
+set_seen f [] k x y there same = refl
+set_seen f (z ∷ xs) zero x y there same = ap (λ first. first ∷ map f xs) (same ∙ ap f (sym (same_Some z x there)))
+set_seen f (z ∷ xs) (suc k) x y there same = ap (λ rest. f z ∷ rest) (set_seen f xs k x y there same)
+
+-- what holds of all, and of the new one where it holds of the one before it
+pub set_keeps : {X : Type 0} (P : X → Type 0) (xs : List X) (k : ℕ) (x y : X) → slice_get xs k ≡ Some x → (P x → P y) → AllByRecursion P xs → AllByRecursion P (slice_set xs k y)
+set_keeps P [] k x y there keeps all = tt
+set_keeps P (z ∷ xs) zero x y there keeps all = (keeps (subst P (same_Some z x there) all.0), all.1)
+set_keeps P (z ∷ xs) (suc k) x y there keeps all = (all.0, set_keeps P xs k x y there keeps all.1)
+
+-- and of one item more
+pub all_one_more : {X : Type 0} (P : X → Type 0) (xs : List X) (y : X) → AllByRecursion P xs → P y → AllByRecursion P (xs ++ y ∷ [])
+all_one_more P [] y all one = (one, tt)
+all_one_more P (x ∷ xs) y all one = (all.0, all_one_more P xs y all.1 one)
+
+-- where the new one is, and the others
+set_there : {X : Type 0} (xs : List X) (k : ℕ) (x y : X) → slice_get xs k ≡ Some x → slice_get (slice_set xs k y) k ≡ Some y
+set_there [] k x y there = absurd (none-some x there)
+set_there (z ∷ xs) zero x y there = refl
+set_there (z ∷ xs) (suc k) x y there = set_there xs k x y there
+
+set_other : {X : Type 0} (xs : List X) (k j : ℕ) (y : X) → j ≢ k → slice_get (slice_set xs k y) j ≡ slice_get xs j
+set_other [] k j y apart = refl
+set_other (z ∷ xs) zero zero y apart = absurd (apart refl)
+set_other (z ∷ xs) zero (suc j) y apart = refl
+set_other (z ∷ xs) (suc k) zero y apart = refl
+set_other (z ∷ xs) (suc k) (suc j) y apart = set_other xs k j y (λ same. apart cc)
+
+set_nowhere : {X : Type 0} (xs : List X) (k : ℕ) (y : X) → slice_get xs k ≡ None → slice_set xs k y ≡ xs
+set_nowhere [] k y none = refl
+set_nowhere (z ∷ xs) zero y none = absurd (none-some z (sym none))
+set_nowhere (z ∷ xs) (suc k) y none = ap (λ rest. z ∷ rest) (set_nowhere xs k y none)
+
+get_before : {X : Type 0} (xs : List X) (k : ℕ) (x y : X) → slice_get xs k ≡ Some x → slice_get (xs ++ y ∷ []) k ≡ Some x
+get_before [] k x y there = absurd (none-some x there)
+get_before (z ∷ xs) zero x y there = there
+get_before (z ∷ xs) (suc k) x y there = get_before xs k x y there
+
+get_last : {X : Type 0} (xs : List X) (y : X) → slice_get (xs ++ y ∷ []) (length xs) ≡ Some y
+get_last [] y = refl
+get_last (x ∷ xs) y = get_last xs y
+
+-- what was seen through a function is there
+seen : {X Y : Type 0} (f : X → Y) (o : Option X) (y : Y) → option_map f o ≡ Some y → (x : X) × (o ≡ Some x) × (f x ≡ y)
+seen f None y is = absurd (none-some y is)
+seen f (Some x) y is = (x, refl, same_Some (f x) y is)
+
+-- the first item that passes a test, with an item more behind all
+module _ {X : Type 0} (test : X → Bool) (y : X) where
+  from_more : (i k : ℕ) (xs : List X) → position_from test i xs ≡ Some k → position_from test i (xs ++ y ∷ []) ≡ Some k
+  from_more i k [] is = absurd (none-some k is)
+  from_more i k (x ∷ xs) is =
+      elim (test x) as (λ b. cond b (Some i) (position_from test (i + 1) xs) ≡ Some k → cond b (Some i) (position_from test (i + 1) (xs ++ y ∷ [])) ≡ Some k) [
+        | true ↦ λ here. here
+        | false ↦ λ later. from_more (i + 1) k xs later
+      ] is
+
+  from_last : (i : ℕ) (xs : List X) → test y ≡ true → position_from test i xs ≡ None → position_from test i (xs ++ y ∷ []) ≡ Some (i + length xs)
+  from_last i [] passes none = ap (λ b. cond b (Some i) None) passes ∙ ap Some (omega arith)
+  from_last i (x ∷ xs) passes none =
+      elim (test x) as (λ b. cond b (Some i) (position_from test (i + 1) xs) ≡ None → cond b (Some i) (position_from test (i + 1) (xs ++ y ∷ [])) ≡ Some (i + length (x ∷ xs))) [
+        | true ↦ λ here. absurd (none-some i (sym here))
+        | false ↦ λ later. from_last (i + 1) xs passes later ∙ ap Some (omega arith)
+      ] none
+
+  position_more : (k : ℕ) (xs : List X) → position test xs ≡ Some k → position test (xs ++ y ∷ []) ≡ Some k
+  position_more k xs is = position_from-zero test (xs ++ y ∷ []) ∙ from_more 0 k xs (sym (position_from-zero test xs) ∙ is)
+
+  position_last : (xs : List X) → test y ≡ true → position test xs ≡ None → position test (xs ++ y ∷ []) ≡ Some (length xs)
+  position_last xs passes none = position_from-zero test (xs ++ y ∷ []) ∙ from_last 0 xs passes (sym (position_from-zero test xs) ∙ none) ∙ ap Some (omega arith)
+
+-- NUMBERS
+
+abbrev numbers : List SlotView → List ℕ
+numbers slots = map (λ (slot : SlotView). slot.number) slots
+
+-- where the slot of a number is
+abbrev place : ℕ → List SlotView → Option ℕ
+place number slots = position (λ (slot : SlotView). slot.number == number) slots
+
+-- the numbers of slots alone say it
+first_by : (number : ℕ) (slots : List SlotView) → position_or_len (λ (slot : SlotView). slot.number == number) slots ≡ position_or_len (λ n. n == number) (numbers slots)
+first_by number [] = refl
+first_by number (slot ∷ slots) = ap (λ n. cond (not (slot.number == number)) (1 + n) 0) (first_by number slots)
+
+place_by : (number : ℕ) (slots : List SlotView) → place number slots ≡ position (λ n. n == number) (numbers slots)
+place_by number slots =
+    let long : length slots ≡ length (numbers slots) = sym (length-map slots (λ (slot : SlotView). slot.number)) in
+    λ i. cond (nat_lt (first_by number slots i) (long i)) (Some (first_by number slots i)) None
+
+same_place : (number : ℕ) (slots others : List SlotView) → numbers others ≡ numbers slots → place number others ≡ place number slots
+same_place number slots others same = place_by number others ∙ ap (position (λ n. n == number)) same ∙ sym (place_by number slots)
+
+-- the slot that is there
+placed : (number index : ℕ) (slots : List SlotView) (any : SlotView) → place number slots ≡ Some index → (slot : SlotView) × (slice_get slots index ≡ Some slot) × (slot.number ≡ number)
+placed number index slots any is =
+    let at = position-Some (λ (slot : SlotView). slot.number == number) slots index any is in
+    (_, slice_get-get_or slots index any at.0, eqb-true _ number at.1)
+
+-- an outline has the number of its slot
+outline_numbers : (slots : List SlotView) → numbers slots ≡ numbers (map outline slots)
+outline_numbers [] = refl
+outline_numbers (slot ∷ slots) = ap (λ rest. slot.number ∷ rest) (outline_numbers slots)
+
+-- LIVE
+
+-- slots that differ in the lines of their windows alone are live alike
+pub live-outline : (slots others : List SlotView) → map outline others ≡ map outline slots → (number : ℕ) (terms : List Term) (t : ℕ) → IsLiveIn number terms t slots → IsLiveIn number terms t others
+live-outline slots others same number terms t live =
+    let there = sym (slice_get-map outline others live.index) ∙ ap (λ o. slice_get o live.index) same ∙ slice_get-map outline slots live.index ∙ ap (option_map outline) live.there in
+    let own = seen outline (slice_get others live.index) (outline live.slot) there in
+    record {
+      index = live.index;
+      at = same_place number slots others (outline_numbers others ∙ ap numbers same ∙ sym (outline_numbers slots)) ∙ live.at;
+      slot = own.0;
+      there = own.1;
+      live = (ap (λ (o : SlotView). o.terms) own.2 ∙ live.live.0, subst (λ r. r ≤ t) (sym (ap (λ (o : SlotView). o.reached) own.2)) live.live.1);
+    }
+
+-- where one moved on, the others are live as before, and it is so from the moment on
+pub live-moved : (index t : ℕ) (slots others : List SlotView) → IsMovedOn index t slots others → (number : ℕ) (terms : List Term) (u : ℕ) → (position (λ slot. slot.number == number) slots ≡ Some index → t ≤ u) → IsLiveIn number terms u slots → IsLiveIn number terms u others
+live-moved index t slots others moved number terms u past live = subst (IsLiveIn number terms u) (sym moved.1) (with_one (slice_get slots index) refl moved.2)
+  where
+    new : SlotView
+    new = moved.0
+
+    with_one : (o : Option SlotView) → slice_get slots index ≡ o → IfSome o (λ own. (new.number ≡ own.number) × (new.terms ≡ own.terms) × (new.reached ≡ t)) → IsLiveIn number terms u (slice_set slots index new)
+    with_one None none is = subst (IsLiveIn number terms u) (sym (set_nowhere slots index new none)) live
+    with_one (Some own) there is =
+        let at = same_place number slots (slice_set slots index new) (set_seen (λ (slot : SlotView). slot.number) slots index own new there is.0) ∙ live.at in
+        elim (live.index == index) as (λ b. (live.index == index) ≡ b → IsLiveIn number terms u (slice_set slots index new)) [
+          | true ↦ λ e.
+              let here : live.index ≡ index = eqb-true live.index index e in
+              let same : own ≡ live.slot = same_Some own live.slot (sym there ∙ ap (slice_get slots) (sym here) ∙ live.there) in
+              record {
+                index = live.index;
+                at = at;
+                slot = new;
+                there = ap (slice_get (slice_set slots index new)) here ∙ set_there slots index own new there;
+                live = (is.1 ∙ ap (λ (slot : SlotView). slot.terms) same ∙ live.live.0, subst (λ r. r ≤ u) (sym is.2) (past (live.at ∙ ap Some here)));
+              }
+          | false ↦ λ e.
+              record {
+                index = live.index;
+                at = at;
+                slot = live.slot;
+                there = set_other slots index live.index new (λ same. false≢true (sym e ∙ eq-eqb live.index index same)) ∙ live.there;
+                live = live.live;
+              }
+        ] refl
+
+-- a slot of another number that is put in leaves one live
+pub live-set : (slot : SlotView) (slots : List SlotView) (number : ℕ) (terms : List Term) (u : ℕ) → (number ≡ slot.number → ⊥) → IsLiveIn number terms u slots → IsLiveIn number terms u (with_slot slot slots)
+live-set slot slots number terms u apart live = with_one (place slot.number slots) refl
+  where
+    with_one : (o : Option ℕ) → place slot.number slots ≡ o → IsLiveIn number terms u (put_at o slot slots)
+    with_one None none = record {
+      index = live.index;
+      at = position_more (λ (own : SlotView). own.number == number) slot live.index slots live.at;
+      slot = live.slot;
+      there = get_before slots live.index live.slot slot live.there;
+      live = live.live;
+    }
+    with_one (Some index) is =
+        let own = placed slot.number index slots slot is in
+        let one = placed number live.index slots slot live.at in
+        let other : live.index ≢ index = λ same.
+        apart (sym one.2 ∙ ap (λ (s : SlotView). s.number) (same_Some one.0 own.0 (sym one.1 ∙ ap (slice_get slots) same ∙ own.1)) ∙ own.2) in
+        record {
+          index = live.index;
+          at = same_place number slots (slice_set slots index slot) (set_seen (λ (s : SlotView). s.number) slots index own.0 slot own.1 (sym own.2)) ∙ live.at;
+          slot = live.slot;
+          there = set_other slots index live.index slot other ∙ live.there;
+          live = live.live;
+        }
+
+-- and it is live itself
+pub live-new : (slot : SlotView) (slots : List SlotView) (u : ℕ) → slot.reached ≤ u → IsLiveIn slot.number slot.terms u (with_slot slot slots)
+live-new slot slots u reached = with_one (place slot.number slots) refl
+  where
+    with_one : (o : Option ℕ) → place slot.number slots ≡ o → IsLiveIn slot.number slot.terms u (put_at o slot slots)
+    with_one None none = record {
+      index = length slots;
+      at = position_last (λ (own : SlotView). own.number == slot.number) slot slots (eq-eqb slot.number slot.number refl) none;
+      slot = slot;
+      there = get_last slots slot;
+      live = (refl, reached);
+    }
+    with_one (Some index) is =
+        let own = placed slot.number index slots slot is in
+        record {
+          index = index;
+          at = same_place slot.number slots (slice_set slots index slot) (set_seen (λ (s : SlotView). s.number) slots index own.0 slot own.1 (sym own.2)) ∙ is;
+          slot = slot;
+          there = set_there slots index own.0 slot own.1;
+          live = (refl, reached);
+        }
+
+-- MOST
+
+module _ (most : ℕ) where
+  abbrev IsOfMost : RangeWindow → Type 0
+  IsOfMost it = it.window.most ≡ most
+
+  windows_shown : (windows : List RangeWindow) → AllByRecursion IsOfMost windows → AllByRecursion IsOfMost (map range_of windows)
+  windows_shown [] all = tt
+  windows_shown (it ∷ windows) all = (all.0, windows_shown windows all.1)
+
+  windows_hidden : (windows : List RangeWindow) → AllByRecursion IsOfMost (map range_of windows) → AllByRecursion IsOfMost windows
+  windows_hidden [] all = tt
+  windows_hidden (it ∷ windows) all = (all.0, windows_hidden windows all.1)
+
+  slots_shown : (slots : List SlotView) → AreOfMost most slots → AreOfMost most (map outline slots)
+  slots_shown [] all = tt
+  slots_shown (slot ∷ slots) all = (windows_shown slot.windows all.0, slots_shown slots all.1)
+
+  slots_hidden : (slots : List SlotView) → AreOfMost most (map outline slots) → AreOfMost most slots
+  slots_hidden [] all = tt
+  slots_hidden (slot ∷ slots) all = (windows_hidden slot.windows all.0, slots_hidden slots all.1)
+
+-- slots that differ in the lines of their windows alone have windows for as many lines
+pub most-outline : (slots others : List SlotView) → map outline others ≡ map outline slots → (most : ℕ) → AreOfMost most slots → AreOfMost most others
+most-outline slots others same most all = slots_hidden most others (subst (AreOfMost most) (sym same) (slots_shown most slots all))
+
+-- and so with a slot that is put in
+pub most-set : (slot : SlotView) (slots : List SlotView) (most : ℕ) → AllByRecursion (λ it. it.window.most ≡ most) slot.windows → AreOfMost most slots → AreOfMost most (with_slot slot slots)
+most-set slot slots most own all = with_one (place slot.number slots) refl
+  where
+    with_one : (o : Option ℕ) → place slot.number slots ≡ o → AreOfMost most (put_at o slot slots)
+    with_one None none = all_one_more (λ (it : SlotView). AllByRecursion (IsOfMost most) it.windows) slots slot all own
+    with_one (Some index) is =
+        let old = placed slot.number index slots slot is in
+        set_keeps (λ (it : SlotView). AllByRecursion (IsOfMost most) it.windows) slots index old.0 slot old.1 (λ before. own) all
