@@ -97,6 +97,14 @@ impl<S: Store> Streams<S> {
         self.count
     }
 
+    /// Why an entry would be refused for its age, if it would be. Takes no memory, and reads nothing.
+    pub fn age_refusal(&self, entry: &Entry, horizon: Ns) -> Option<AddRefusal>
+        ensures { result ≡ age_refusal self.now.limits self.now.newest horizon entry.now }
+    {
+        let position = position_of(&self.streams, &entry.labels);
+        age_refusal(&self.limits, &self.streams, position, horizon, entry)
+    }
+
     /// Takes an entry, and answers whether it was missing and is held now. One that was held changes nothing. The search for
     /// it may read from the store, so a fault of the store may be answered where the entry is held, or where there is no
     /// room. A refusal takes nothing.
