@@ -5,14 +5,12 @@ use denote.Struct.Field
 use denote.Param.Send.{IsSend, sendable, view_send, recorded_send, struct_send}
 use Rattle.std.proofs.Crossing as heap
 use Rattle.std.proofs.alloc.Global.TheSendSync as global
-use Rattle.rl_plain.proofs.shared.Shared.TheSendSync as shared
-use Rattle.rl_query.proofs.Crossing as queries
-use Rattle.rl_aggregate.proofs.partial.Partial.TheSendSync as partial
+use Rattle.rl_pipeline.specs.contracts.meter.Meter as Meter
 use Rattle.rl_deletes.proofs.Crossing.{Requests-send}
 use Rattle.rl_deletes.specs.contracts.horizon.Horizon as Horizon
 use Rattle.rl_chunks.specs.declared.store.Store as Store
+use Rattle.rl_slots.proofs.Crossing.{Slots-send}
 use Rattle.rl_streams.proofs.Crossing.{Streams-send}
-use Rattle.rl_shard.specs.contracts.kept.KeptRanges as KeptRanges
 use Rattle.rl_shard.specs.contracts.parts.ShardParts as Parts
 use Rattle.rl_shard.specs.contracts.parts.ShardParts.TheInside as parts
 use Rattle.rl_shard.specs.contracts.shard.Shard as Shard
@@ -21,9 +19,9 @@ use Rattle.rl_shard.specs.contracts.shard.Shard.TheInside as inside
 parts-send : (T : RattleType) (g : Store.Ghosts T.Denot) → IsSend T → IsSend (Parts.the_row T g)
 parts-send T g s =
     let moment : IsSend (Horizon.the_field).row = search (sendable, heap.crosses) depth 20 in
-    let ranges : IsSend (KeptRanges.the_field).row = search (queries.crosses, partial.the_send, partial.the_sync, shared.the_send, sendable, heap.crosses) depth 20 in
+    let meter : IsSend (Meter.the_field).row = search (sendable, heap.crosses) depth 20 in
     view_send _ _ _ _ _ (recorded_send (parts.the_field T g).row _ _ (parts.the_type T g).to_one (struct_send (shape (parts.the_type T g))
-    (global.the_field_send, (Streams-send T g s, (Requests-send, (moment, (ranges, tt)))))))
+    (global.the_field_send, (Streams-send T g s, (Requests-send, (moment, (Slots-send, (meter, tt))))))))
 
 pub Shard-send : (T : RattleType) (g : Store.Ghosts T.Denot) → IsSend T → IsSend (Shard.the_row T g)
 Shard-send T g s =

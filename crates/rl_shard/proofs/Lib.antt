@@ -1,7 +1,10 @@
 mod Examples
+pub mod Asked
+pub mod Built
+pub mod Few
+pub mod Right
+pub mod Settled
 pub mod Terms
 pub mod Taken
-pub mod Counted
-pub mod Keeping
-pub mod Windows
+pub mod Narrow
 pub mod Crossing

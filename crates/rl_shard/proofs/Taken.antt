@@ -29,7 +29,7 @@ use Rattle.rl_parts.specs.StreamParts.{PartView, StreamView}
 use Rattle.rl_streams.specs.Asking.{AreOfParts, AreOfRow}
 use Rattle.rl_streams.specs.StreamRows.{Row, joined}
 use Rattle.rl_shard.specs.Collecting.{counted, held_lines, is_shown, AreLinesOf, AreTakenFor, IsPartTakenFor, IsRowTakenFor}
-use Rattle.rl_shard.proofs.Windows.{filter_flat, filter_map, is_between, start_at, starts_at}
+use Rattle.rl_shard.proofs.Narrow.{filter_flat, filter_map, is_between, start_at, starts_at}
 
 -- what is read of a part is what it is taken for, as far as that is of the range
 record PartTaken (labels : LabelSet) (from to : ℕ) (part : PartView) (piece : List (LabelSet × Line)) : Type 0 where

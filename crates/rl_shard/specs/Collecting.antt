@@ -20,6 +20,7 @@ use Rattle.rl_deletes.specs.Deletes.{RequestsView, covered, covered_line}
 use Rattle.rl_parts.specs.Reading.{IsApart, IsReadAs, visited}
 use Rattle.rl_parts.specs.Rewriting.{uncovered}
 use Rattle.rl_parts.specs.StreamParts.{PartView, StreamView}
+use Rattle.rl_slots.specs.Slots.{IsLiveIn, SlotView}
 use Rattle.rl_streams.specs.StreamRows.{Row, joined}
 use Rattle.rl_streams.specs.StreamsState.{StreamsView}
 use Rattle.rl_shard.specs.declared.step.ShardStep.{ShardStep}
@@ -82,23 +83,14 @@ pub record IsRead (rows : List Row) (requests : RequestsView) (range : LogRange)
 abbrev pub shown : StreamsView → RequestsView → List Entry
 shown streams requests = uncovered (covered requests) (keys streams.held)
 
--- partials of terms, one for each: within what may be held add up to, read from the store, and over an honest one right
-pub record ArePartialsOf (streams : StreamsView) (requests : RequestsView) (terms : List Term) (t : ℕ) (partials : List Partial) : Type 0 where
-  pub each : length partials ≡ length terms
-  pub within : AllByRecursion (IsWithin streams.limits.entries) partials
-  pub read : AllZip (λ term found. IsRead streams.rows requests term.range t found) terms partials
-  pub exact : streams.seen.honest ≡ true → partials ≡ map (λ term. partial (shown streams requests) term t) terms
+-- partials of terms, one for each: what was read for them
+abbrev pub AreReadFor : StreamsView → RequestsView → List Term → (t : ℕ) → List Partial → Type 0
+AreReadFor streams requests terms t partials = AllZip (λ term found. IsRead streams.rows requests term.range t found) terms partials
 
--- and the partial of one term
-pub record IsPartialOf (streams : StreamsView) (requests : RequestsView) (term : Term) (t : ℕ) (found : Partial) : Type 0 where
-  pub within : IsWithin streams.limits.entries found
-  pub read : IsRead streams.rows requests term.range t found
-  pub exact : streams.seen.honest ≡ true → found ≡ partial (shown streams requests) term t
-
--- what is collected was read
-abbrev pub AreRead : StreamsView → RequestsView → ShardStep → ShardReply → Type 0
-AreRead streams requests (steps.Collect slot terms t) (replies.Collected partials) = AllZip (λ term found. IsRead streams.rows requests term.range t found) terms partials
-AreRead streams requests step reply = Unit {0}
+-- what is collected is what windows of the slot have that answer these terms, or was read
+abbrev pub AreRead : StreamsView → RequestsView → List SlotView → ShardStep → ShardReply → Type 0
+AreRead streams requests slots (steps.Collect slot terms t) (replies.Collected partials) = IsLiveIn slot terms t slots ⊎ AreReadFor streams requests terms t partials
+AreRead streams requests slots step reply = Unit {0}
 
 -- a fault that reading may meet
 abbrev pub IsOfReading : ShardFault → Type 0

@@ -1,9 +1,12 @@
 -- What becomes of a step, by what a shard is without its journal.
-use Rattle.std.specs.Prelude.{◌≡◌, ◌+◌, ◌≤◌, true, IsTrue, Result, IfErr, IfOk, OnErr, OnOk}
+use Rattle.std.specs.Prelude.{◌≡◌, ◌+◌, ◌≤◌, ℕ, true, IsTrue, List, Result, IfErr, IfOk, OnErr, OnOk}
 use Rattle.rl_chunks.specs.StoreState.{greatest}
 use Rattle.rl_parts.specs.StoreUse.{Grown}
+use Rattle.rl_query.specs.declared.query.Term.{Term}
+use Rattle.rl_slots.specs.Slots.{window_count, IsLiveIn}
 use Rattle.rl_streams.specs.StreamsState.{StreamsView}
 use Rattle.rl_shard.specs.Collecting.{AreRead}
+use Rattle.rl_shard.specs.Live.{IsAnsweredLive, IsOfWindows, IsPush, Keeps}
 use Rattle.rl_shard.specs.Pushing.{Pushes}
 use Rattle.rl_shard.specs.ShardFault.{Gives, IsDone, IsOfStore, IsUndecided, Stored, may_meet, step_faults}
 use Rattle.rl_shard.specs.ShardState.{PartsView, state_of}
@@ -36,6 +39,10 @@ pub record Decides (step : ShardStep) (old : PartsView) (result : Result ShardRe
   pub refused : IfErr result (λ fault. Refuses old fault new)
   pub answered : IfOk result (λ reply. IsAnswered old.streams.limits (state_of old) step reply (state_of new))
   pub done : OnOk result (IsDone old.streams.limits (state_of old) step old.streams new.streams)
-  pub read : IfOk result (AreRead old.streams old.requests step)
+  pub read : IfOk result (AreRead old.streams old.requests old.slots step)
+  pub keeps : (number : ℕ) (terms : List Term) (u : ℕ) → Keeps step result number u → IsLiveIn number terms u old.slots → IsLiveIn number terms u new.slots
+  pub live : OnOk result (IsAnsweredLive step new.slots)
+  pub unread : IsOfWindows step old.slots → (new.streams ≡ old.streams) × (new.meter.runs ≡ old.meter.runs)
+  pub runs : IsPush step → new.meter.runs ≤ old.meter.runs + window_count old.slots
   pub decided : old.streams.seen.honest ≡ true → IfOk result (λ reply. IsReply old.streams.limits (state_of old) step reply)
   pub changed : old.streams.seen.honest ≡ true → OnOk result (state_of new ≡ stepped old.streams.limits (state_of old) step)

@@ -1,9 +1,9 @@
 pub mod Collecting
 pub mod Deciding
+pub mod Live
 pub mod Pushing
 pub mod ShardFault
 pub mod ShardState
 pub mod ShardStep
 pub mod Showing
-pub mod Standing
 pub mod laws

@@ -1,6 +1,6 @@
 -- What a shard holds, and what it shows.
-use Rattle.std.specs.Prelude.{ℕ, List, refl}
-use Rattle.std.specs.Coded.{Coded, code_by, coded×, coded_ℕ}
+use Rattle.std.specs.Prelude.{ℕ, List, [], refl}
+use Rattle.std.specs.Coded.{Coded, code_by, coded×, coded_ℕ, coded_list}
 use Rattle.std.specs.FinMap.{FinMap, empty, keys}
 use Rattle.rl_labels.specs.LabelText.{label_set_cmp}
 use Rattle.rl_labels.specs.EntryOrder.{EntrySet}
@@ -10,6 +10,8 @@ use Rattle.rl_chunks.specs.StoreState.{Seen}
 use Rattle.rl_deletes.specs.Deletes.{RequestsView, covered, no_requests}
 use Rattle.rl_deletes.specs.Views.{requests_code}
 use Rattle.rl_parts.specs.Rewriting.{uncovered}
+use Rattle.rl_pipeline.specs.Metering.{Metered}
+use Rattle.rl_slots.specs.Slots.{slot_code, SlotView}
 use Rattle.rl_streams.specs.StreamsState.{StreamsView, streams_code, no_streams}
 
 pub record ShardState : Type 0 where
@@ -39,11 +41,14 @@ pub record Journalled : Type 0 where
 abbrev pub opened : Limits → Journalled
 opened limits = record { limits = limits; state = empty_shard limits; records = 0 }
 
--- a shard as it is seen: its streams with their store, the requests, the horizon, and how many records its journal has
+-- a shard as it is seen: its streams with their store, the requests, the horizon, the windows that groups ask about, what these
+-- cost, and how many records its journal has
 pub record ShardView : Type 0 where
   pub streams : StreamsView
   pub requests : RequestsView
   pub horizon : ℕ
+  pub slots : List SlotView
+  pub meter : Metered
   pub records : ℕ
 
 -- the same without its journal
@@ -51,9 +56,11 @@ pub record PartsView : Type 0 where
   pub streams : StreamsView
   pub requests : RequestsView
   pub horizon : ℕ
+  pub slots : List SlotView
+  pub meter : Metered
 
 abbrev pub parts_of : ShardView → PartsView
-parts_of shard = record { streams = shard.streams; requests = shard.requests; horizon = shard.horizon }
+parts_of shard = record { streams = shard.streams; requests = shard.requests; horizon = shard.horizon; slots = shard.slots; meter = shard.meter }
 
 -- what it holds
 abbrev pub state_of : PartsView → ShardState
@@ -65,17 +72,20 @@ journalled shard = record { limits = shard.streams.limits; state = state_of (par
 
 -- an empty shard over a store
 abbrev pub opened_over : Limits → Seen → ShardView
-opened_over limits seen = record { streams = no_streams limits seen; requests = no_requests limits; horizon = 0; records = 0 }
+opened_over limits seen = record { streams = no_streams limits seen; requests = no_requests limits; horizon = 0; slots = []; meter = record { runs = 0; visits = 0 }; records = 0 }
 
 -- both as numbers, for a store
+abbrev metered_code : Coded Metered
+metered_code = code_by (ℕ × ℕ) (coded× coded_ℕ coded_ℕ) (λ m. (m.runs, m.visits)) (λ p. record { runs = p.0; visits = p.1 }) (λ _. refl)
+
 abbrev pub parts_code : Coded PartsView
-parts_code = code_by (StreamsView × (RequestsView × ℕ)) (coded× streams_code (coded× requests_code coded_ℕ))
-    (λ s. (s.streams, (s.requests, s.horizon)))
-    (λ p. record { streams = p.0; requests = p.1.0; horizon = p.1.1 })
+parts_code = code_by (StreamsView × (RequestsView × (ℕ × (List SlotView × Metered)))) (coded× streams_code (coded× requests_code (coded× coded_ℕ (coded× (coded_list slot_code) metered_code))))
+    (λ s. (s.streams, (s.requests, (s.horizon, (s.slots, s.meter)))))
+    (λ p. record { streams = p.0; requests = p.1.0; horizon = p.1.1.0; slots = p.1.1.1.0; meter = p.1.1.1.1 })
     (λ _. refl)
 
 abbrev pub shard_view_code : Coded ShardView
 shard_view_code = code_by (PartsView × ℕ) (coded× parts_code coded_ℕ)
     (λ s. (parts_of s, s.records))
-    (λ p. record { streams = p.0.streams; requests = p.0.requests; horizon = p.0.horizon; records = p.1 })
+    (λ p. record { streams = p.0.streams; requests = p.0.requests; horizon = p.0.horizon; slots = p.0.slots; meter = p.0.meter; records = p.1 })
     (λ _. refl)

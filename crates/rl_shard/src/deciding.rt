@@ -1,30 +1,29 @@
 //! What becomes of each step.
-ghost use Rattle.std.specs.Prelude.{◌≡◌, ◌≤◌, None, true, IfErr, IfOk, IsErrOf, OnErr, OnOk};
+ghost use Rattle.std.specs.Prelude.{◌≡◌, ◌≤◌, ◌+◌, ℕ, List, None, true, IfErr, IfOk, IsErrOf, OnErr, OnOk};
 ghost use Rattle.rl_chunks.specs.StoreState.{greatest};
 ghost use Rattle.rl_parts.specs.StoreUse.{IsGrown, after_flush};
 ghost use Rattle.rl_parts.specs.declared.fault.FlushFault.TheVariants as flushes;
-ghost use Rattle.rl_streams.specs.StreamsState.{Cuts, Flushes, Looks};
-ghost use Rattle.rl_shard.specs.Collecting.{ArePartialsOf, IsOfReading};
+ghost use Rattle.rl_slots.specs.Slots.{window_count, IsLiveIn};
+ghost use Rattle.rl_query.specs.declared.query.Term.{Term};
+ghost use Rattle.rl_streams.specs.StreamsState.{age_refusal, Cuts, Flushes};
+ghost use Rattle.rl_shard.specs.Collecting.{IsOfReading};
 ghost use Rattle.rl_shard.specs.Deciding.{Decides, Lasts, Refuses};
-ghost use Rattle.rl_shard.specs.Pushing.{IsPushed};
+ghost use Rattle.rl_shard.specs.Pushing.{is_taken, unsought, IsPushed};
 ghost use Rattle.rl_shard.specs.ShardFault.{GivesNone, IsOfStore, LeavesStore, after_step, refused};
 ghost use Rattle.rl_shard.specs.ShardState.{state_of};
 ghost use Rattle.rl_shard.specs.ShardStep.{age_answer, push_reply, pushed, IsAnswered};
 ghost use Rattle.rl_shard.specs.declared.step.ShardStep.TheVariants as steps;
 
-use crate::collecting::collect;
 use crate::parts::ShardParts;
+use crate::pushing::{let_in, settle};
 use crate::step::{ShardFault, ShardReply, ShardStep};
-use rl_aggregate::Partial;
 use rl_chunks::Store;
 use rl_labels::{Entry, Ns};
 use rl_parts::FlushFault;
-use rl_plain::{PlainList, Shared};
-use rl_query::Term;
-use rl_streams::AddRefusal;
+use rl_plain::Shared;
+use rl_streams::{AddRefusal, Streams};
 use std::alloc::AllocError;
 
-// After a step that may change what is shown, what is kept of ranges no longer stands.
 impl<S: Store> ShardParts<S> {
     pub(crate) fn decide(&mut self, step: ShardStep) -> Result<ShardReply, ShardFault>
         ensures { Decides step self.old result self.new }
@@ -43,8 +42,8 @@ impl<S: Store> ShardParts<S> {
             ShardStep::Cancel { id } => Ok(self.cancel(id)),
             ShardStep::Process { id, now } => self.process(id, now),
             ShardStep::Retain { now } => self.retain(now),
-            ShardStep::Collect { slot: _, terms, t } => {
-                let partials = self.collect(terms.get().as_slice(), t)?;
+            ShardStep::Collect { slot, terms, t } => {
+                let partials = self.collect(slot, terms, t)?;
                 Ok(ShardReply::Collected(partials))
             }
         }
@@ -55,6 +54,8 @@ impl<S: Store> ShardParts<S> {
         ensures lasts { Lasts self.old.streams self.new.streams }
         ensures gives { GivesNone self.old.streams self.new.streams }
         ensures pushed { IsPushed self.old.streams self.old.horizon entry result self.new.streams }
+        ensures live { (number : ℕ) (terms : List Term) (u : ℕ) → IsLiveIn number terms u self.old.slots → IsLiveIn number terms u self.new.slots }
+        ensures runs { self.new.meter.runs ≤ self.old.meter.runs + window_count self.old.slots }
         ensures meets { IfErr result IsOfReading }
         ensures undecided { OnErr result (age_answer self.old.streams.limits (state_of self.old) entry ≡ None) }
         ensures refused { IfErr result (λ fault. Refuses self.old fault self.new) }
@@ -63,8 +64,14 @@ impl<S: Store> ShardParts<S> {
         ensures decided { self.old.streams.seen.honest ≡ true → IfOk result (λ reply. reply ≡ push_reply self.old.streams.limits (state_of self.old) entry) }
         ensures changed { self.old.streams.seen.honest ≡ true → OnOk result (state_of self.new ≡ pushed self.old.streams.limits (state_of self.old) entry) }
     {
-        self.kept.push(entry.get().timestamp);
-        match self.streams.add(entry, self.horizon.moment()) {
+        let horizon = self.horizon.moment();
+        let (slots, meter) = (&mut self.slots, &mut self.meter);
+        let Ok(changes) = let_in(self.alloc, slots, &self.requests, meter, entry.get()) else {
+            return not_sought(&self.streams, entry.get(), horizon);
+        };
+        let added = self.streams.add(entry, horizon);
+        settle(&mut self.slots, &changes, is_taken(&added));
+        match added {
             Ok(_) => Ok(ShardReply::Accepted),
             Err(refusal) => refused(refusal),
         }
@@ -75,9 +82,8 @@ impl<S: Store> ShardParts<S> {
         ensures cuts { Cuts self.old.streams self.new.streams }
         ensures all { OnOk result (self.new.streams.loose ≡ 0) }
         ensures numbers { self.new.streams.next ≤ greatest }
-        ensures others { (self.new.requests ≡ self.old.requests) × (self.new.horizon ≡ self.old.horizon) }
+        ensures others { (self.new.requests ≡ self.old.requests) × (self.new.horizon ≡ self.old.horizon) × (self.new.slots ≡ self.old.slots) }
     {
-        self.kept.forget();
         self.streams.cut()
     }
 
@@ -89,30 +95,33 @@ impl<S: Store> ShardParts<S> {
         ensures counted { self.new.streams.seen.faults ≡ after_flush result self.old.streams.seen.faults }
         ensures spent { IsErrOf result flushes.NumbersSpent → self.new.streams.next ≡ greatest }
         ensures numbers { self.new.streams.next ≤ greatest }
-        ensures others { (self.new.requests ≡ self.old.requests) × (self.new.horizon ≡ self.old.horizon) }
+        ensures others { (self.new.requests ≡ self.old.requests) × (self.new.horizon ≡ self.old.horizon) × (self.new.slots ≡ self.old.slots) }
     {
-        self.kept.forget();
         self.streams.flush()
     }
+}
 
-    // What the entries in each term's range add up to that no received request covers.
-    fn collect(&mut self, terms: &[Term], t: Ns) -> Result<PlainList<Shared<Partial>>, ShardFault>
-        ensures same { Looks self.old.streams self.new.streams }
-        ensures meets { IfErr result IsOfReading }
-        ensures counted { self.new.streams.seen.faults ≡ after_step result self.old.streams.seen.faults }
-        ensures of_store { IfErr result (λ fault. IsOfStore self.old.streams fault self.new.streams) }
-        ensures partials { IfOk result (ArePartialsOf self.old.streams self.old.requests terms.now t) }
-        ensures numbers { self.new.streams.next ≤ greatest }
-        ensures others { (self.new.requests ≡ self.old.requests) × (self.new.horizon ≡ self.old.horizon) }
-    {
-        collect(
-            self.alloc,
-            &mut self.streams,
-            &self.requests,
-            &mut self.kept,
-            terms,
-            t,
-        )
+// Whether streams took an entry.
+fn is_taken(added: &Result<bool, AddRefusal>) -> bool
+    ensures { result ≡ is_taken added.now }
+{
+    match added {
+        Ok(taken) => *taken,
+        Err(_) => false,
+    }
+}
+
+// What becomes of an entry for which windows have no memory.
+fn not_sought<S: Store>(
+    streams: &Streams<S>,
+    entry: &Entry,
+    horizon: Ns,
+) -> Result<ShardReply, ShardFault>
+    ensures { result ≡ unsought (age_refusal streams.now.limits streams.now.newest horizon entry.now) }
+{
+    match streams.age_refusal(entry, horizon) {
+        Some(refusal) => refused(refusal),
+        None => Err(ShardFault::Memory),
     }
 }
 

@@ -30,7 +30,7 @@ impl<S: Store> ShardParts<S> {
         ensures numbers { self.new.streams.next ≤ greatest }
         ensures others { (self.new.streams ≡ self.old.streams) × (self.new.horizon ≡ self.old.horizon) }
     {
-        self.kept.forget();
+        self.slots.clear();
         match self.requests.receive(deletion) {
             Ok(()) => Ok(ShardReply::Done),
             Err(OrMemory::Fault(ReceiveFault::IdTaken)) => Ok(ShardReply::IdTaken),
@@ -46,7 +46,7 @@ impl<S: Store> ShardParts<S> {
         ensures numbers { self.new.streams.next ≤ greatest }
         ensures others { (self.new.streams ≡ self.old.streams) × (self.new.horizon ≡ self.old.horizon) }
     {
-        self.kept.forget();
+        self.slots.clear();
         match self.requests.cancel(id) {
             Ok(()) => ShardReply::Done,
             Err(CancelFault::NoSuchRequest) => ShardReply::NoSuchRequest,
@@ -62,12 +62,11 @@ impl<S: Store> ShardParts<S> {
         ensures refused { IfErr result (λ fault. Refuses self.old fault self.new) }
         ensures reply { IfOk result (λ reply. reply ≡ reply_to_process (process_fault self.old.requests id now)) }
         ensures requests { OnOk result (self.new.requests ≡ processed_if (process_fault self.old.requests id now) self.old.requests id) }
-        ensures others { (self.new.streams.newest ≡ self.old.streams.newest) × (self.new.horizon ≡ self.old.horizon) }
+        ensures others { (self.new.streams.newest ≡ self.old.streams.newest) × (self.new.horizon ≡ self.old.horizon) × (self.new.slots ≡ self.old.slots) }
         ensures unless { OnOk result (removed_if (process_fault self.old.requests id now) self.old.requests id ≡ None → self.new.streams.held ≡ self.old.streams.held) }
         ensures left { OnOk result (IsRemoved (removed_if (process_fault self.old.requests id now) self.old.requests id) self.old.streams self.new.streams) }
         ensures right { self.old.streams.seen.honest ≡ true → OnOk result (self.new.streams.held ≡ left_of (removed_if (process_fault self.old.requests id now) self.old.requests id) self.old.streams.held) }
     {
-        self.kept.forget();
         match self.requests.due(id, now) {
             Ok(None) => return Ok(ShardReply::Done),
             Ok(Some(request)) => self.streams.rewrite(request)?,
@@ -92,7 +91,7 @@ impl<S: Store> ShardParts<S> {
         ensures left { OnOk result (IsRemoved (removed_by self.old.streams.limits self.old.horizon now) self.old.streams self.new.streams) }
         ensures right { self.old.streams.seen.honest ≡ true → OnOk result (self.new.streams.held ≡ left_of (removed_by self.old.streams.limits self.old.horizon now) self.old.streams.held) }
     {
-        self.kept.forget();
+        self.slots.clear();
         let keep = self.streams.limits().keep;
         if keep == 0 {
             return Ok(ShardReply::Done);

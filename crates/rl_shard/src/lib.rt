@@ -4,18 +4,19 @@
 //! says, where its store is honest. A step that is refused for a fault changes nothing of what is held, over any store.
 //!
 //! - `step`: `ShardStep`, `ShardReply`, `ShardFault`. `shard`: `Shard`. `parts`: what its steps change; `deciding`, with `deleting`: what becomes
-//!   of each step. `collecting`, with `lines` and `kept`: what it shows of the ranges of terms. `sending`: a probe for what may cross to another thread.
+//!   of each step; `pushing`: what an entry changes in windows. `collecting`, with `windows`: what it shows of the ranges of terms. `sending`: a
+//!   probe for what may cross to another thread.
 #![tactic(auto)]
 
 mod collecting;
 mod deciding;
 mod deleting;
-mod kept;
-mod lines;
 mod parts;
+mod pushing;
 pub mod sending;
 pub mod shard;
 pub mod step;
+mod windows;
 
 pub use shard::Shard;
 pub use step::{ShardFault, ShardReply, ShardStep};

@@ -1,10 +1,13 @@
 //! A shard, by its steps.
-ghost use Rattle.std.specs.Prelude.{◌≡◌, ◌+◌, ◌≤◌, false, IsTrue, Err, length, IfOk, IfErr, OnOk, OnErr};
+ghost use Rattle.std.specs.Prelude.{◌≡◌, ◌+◌, ◌≤◌, ℕ, List, false, IsTrue, Err, length, IfOk, IfErr, OnOk, OnErr};
 
 use crate::parts::ShardParts;
 use crate::step::{ShardFault, ShardReply, ShardStep};
 use rl_chunks::Store;
-use rl_labels::Limits;
+use rl_labels::{Limits, Ns};
+use rl_pipeline::Meter;
+use rl_plain::PlainList;
+use rl_query::Term;
 use std::alloc::Global;
 use std::marker::Model;
 
@@ -23,14 +26,18 @@ impl<S: Store> Model for Shard<S> {
 
     ghost coded = { shard_view_code };
 
-    ghost view = { λ a. record { streams = a.parts.streams; requests = a.parts.requests; horizon = a.parts.horizon; records = a.records } };
+    ghost view = { λ a. record { streams = a.parts.streams; requests = a.parts.requests; horizon = a.parts.horizon; slots = a.parts.slots; meter = a.parts.meter; records = a.records } };
 
     ghost invariant = { λ a. a.records ≤ a.parts.streams.limits.records };
 }
 
 impl<S: Store> Shard<S> {
     ghost use Rattle.rl_chunks.specs.StoreState.{greatest};
+    ghost use Rattle.std.specs.Bool.{Decides};
+    ghost use Rattle.rl_query.specs.declared.query.Term.{Term};
+    ghost use Rattle.rl_slots.specs.Slots.{window_count, IsLiveIn};
     ghost use Rattle.rl_shard.specs.Collecting.{AreRead};
+    ghost use Rattle.rl_shard.specs.Live.{IsAnsweredLive, IsOfWindows, IsPush, Keeps};
     ghost use Rattle.rl_shard.specs.Pushing.{Pushes, replied};
     ghost use Rattle.rl_shard.specs.ShardFault.{Gives, IsDone, IsHonest, MayCome, Stored};
     ghost use Rattle.rl_shard.specs.ShardState.{journalled, opened_over, visible};
@@ -70,6 +77,20 @@ impl<S: Store> Shard<S> {
         self.records >= self.parts.streams().limits().records
     }
 
+    /// Whether the windows of a group's slot answer terms at a moment, so that a Collect of these reads nothing. Takes no memory.
+    pub fn is_live(&self, slot: u64, terms: &PlainList<Term>, t: Ns) -> bool
+        ensures { Decides result (IsLiveIn slot terms.now t self.now.slots) }
+    {
+        self.parts.is_live(slot, terms, t)
+    }
+
+    /// How many lines went through pipelines, and how many buckets of windows were visited.
+    pub fn meter(&self) -> &Meter
+        ensures { result.now ≡ self.now.meter }
+    {
+        self.parts.meter()
+    }
+
     /// Decides a step, and answers its place in the journal, counted from 0, with the reply. JournalFull comes before
     /// all else. A step that is refused makes no record and changes nothing of what is held, the requests or the horizon; parts that
     /// were written before a fault stay in the store.
@@ -88,7 +109,12 @@ impl<S: Store> Shard<S> {
         ensures done { OnOk result (IsDone (journalled self.old).limits (journalled self.old).state step self.old.streams self.new.streams) }
         // What is read of a chunk follows from bytes with the digest that was kept.
         ensures pushed { is_journal_full (journalled self.old) ≡ false → Pushes self.old.streams self.old.horizon step (replied result) self.new.streams }
-        ensures read { IfOk result (λ answer. AreRead self.old.streams self.old.requests step answer.1) }
+        ensures read { IfOk result (λ answer. AreRead self.old.streams self.old.requests self.old.slots step answer.1) }
+        // What windows answer is neither read nor run.
+        ensures keeps { (number : ℕ) (terms : List Term) (u : ℕ) → Keeps step (replied result) number u → IsLiveIn number terms u self.old.slots → IsLiveIn number terms u self.new.slots }
+        ensures live { OnOk result (IsAnsweredLive step self.new.slots) }
+        ensures unread { IsOfWindows step self.old.slots → (self.new.streams ≡ self.old.streams) × (self.new.meter.runs ≡ self.old.meter.runs) }
+        ensures runs { IsPush step → self.new.meter.runs ≤ self.old.meter.runs + window_count self.old.slots }
         // Over an honest store.
         ensures decided { IsHonest self.old → IfOk result (λ answer. IsReply (journalled self.old).limits (journalled self.old).state step answer.1) }
         ensures changed { IsHonest self.old → OnOk result (journalled self.new ≡ recorded (journalled self.old) step) }

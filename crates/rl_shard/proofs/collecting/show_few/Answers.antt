@@ -3,7 +3,7 @@ use Rattle.std.proofs.Common.{◌≡◌, not, length, arith}
 use Rattle.std.specs.FinMap.{entries, keys, len-entries}
 use Rattle.std.proofs.lemmas.List.{length-map}
 use Rattle.rl_deletes.specs.Deletes.{covered}
-use Rattle.rl_shard.proofs.Counted.{few_pass}
+use Rattle.rl_shard.proofs.Few.{few_pass}
 use Rattle.rl_shard.proofs.collecting.show_few.Goals as goal
 
 pub returns-clause-held : goal.returns-clause-held

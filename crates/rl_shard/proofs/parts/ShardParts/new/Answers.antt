@@ -1,9 +1,11 @@
--- No range is kept yet.
-use Rattle.std.proofs.Common.{rules, ◌≤◌}
+-- No slot is there yet.
+use Rattle.std.proofs.Common.{rules, ◌≤◌, sym, subst}
 use Rattle.rl_chunks.specs.StoreState.{greatest}
+use Rattle.rl_shard.specs.Live.{AreRight}
+use Rattle.rl_shard.proofs.Right.{right_none}
 use Rattle.rl_shard.proofs.parts.ShardParts.new.Goals as goal
 
 pub invariant_of-result : goal.invariant_of-result
 invariant_of-result g c =
     let next : c.new-2.result.next ≤ greatest = search rules in
-    (next, c.new-3.ensures c.new-2.result c.new.result)
+    (next, subst (AreRight _ _) (sym c.new-3.ensures) (right_none _ _))

@@ -1,44 +1,71 @@
--- An entry is answered as the streams settled it, and what is kept of ranges was forgotten.
-use Rattle.std.proofs.Common.{◌≡◌, ℕ, ◌≤◌, Bool, true, false, Option, None, Some, MatchOption, Result, Ok, Err, refl, sym, ap, subst, ◌∙◌}
+-- The windows took the entry where the streams did, and are as before where they did not.
+use Rattle.std.proofs.Common.{◌≤◌, map, Ok, sym, ap, subst, ◌∙◌}
+use Rattle.rl_labels.specs.Quantity.{greatest_moment}
 use Rattle.rl_labels.specs.declared.entry.Entry.{Entry}
 use Rattle.rl_chunks.specs.StoreState.{greatest}
-use Rattle.rl_streams.specs.Found.{IsSettled, IsSettledUnread, IsUnreached}
-use Rattle.rl_streams.specs.StreamsState.{StreamsView, age_refusal}
-use Rattle.rl_streams.specs.declared.refusal.AddRefusal.{AddRefusal}
-use Rattle.rl_streams.specs.declared.refusal.AddRefusal.TheVariants.{Expired, TooFarBehind, Full, Read}
+use Rattle.rl_slots.specs.Slots.{outline, with_changes, AllStand}
+use Rattle.rl_slots.specs.laws.Living.{live-outline, most-outline}
+use Rattle.rl_shard.specs.Deciding.{Lasts}
+use Rattle.rl_shard.specs.Live.{IsListed}
 use Rattle.rl_shard.specs.Pushing.{reply_to_add, IsPushed}
 use Rattle.rl_shard.specs.ShardState.{PartsView}
+use Rattle.rl_shard.specs.declared.step.ShardReply.TheVariants.{Accepted}
+use Rattle.rl_shard.proofs.Right.{right_others, right_pushed}
+use Rattle.rl_shard.proofs.Settled.{lasts, sought, stays, was_missing}
 use Rattle.rl_shard.proofs.parts.ShardParts.push.Goals as goal
-use Rattle.rl_shard.proofs.parts.ShardParts.push.Goals.{in-Ok, in-Err}
-
--- what holds where there is none holds besides
-both_of : {X : Type 0} (maybe : Option X) (A B : Type 0) (P : X → Type 0) → MatchOption maybe A P → (maybe ≡ None → B) → MatchOption maybe (A × B) P
-both_of None A B P first second = (first, second refl)
-both_of (Some x) A B P first second = first
-
--- no number is given
-next_stays : (age : Option AddRefusal) (result : Result Bool AddRefusal) (old : StreamsView) (entry : Entry) (new : StreamsView) → MatchOption age (IsSettled result old entry new) (λ refusal. (result ≡ Err refusal) × (new ≡ old)) → new.next ≡ old.next
-next_stays None (Ok true) old entry new is = is.1.1.next
-next_stays None (Ok false) old entry new is = is.1.next
-next_stays None (Err Full) old entry new is = is.1.1.next
-next_stays None (Err (Read _)) old entry new is = is.next
-next_stays None (Err (Expired _)) old entry new is = absurd is
-next_stays None (Err (TooFarBehind _)) old entry new is = absurd is
-next_stays (Some refusal) result old entry new is = ap (λ (streams : StreamsView). streams.next) is.1
 
 pub invariant_of-self : goal.invariant_of-self
-invariant_of-self g c =
-    let stays = next_stays _ c.add.result c.self.inside.streams c.args.entry c.add.new.self c.add.ensures.settled in
-    (subst (λ next. next ≤ greatest) (sym stays) c.self.invariant.0, c.push.ensures _ _ _ _ c.self.invariant.1)
+invariant_of-self g c = (
+  c.self.invariant.0,
+  right_others c.self.inside.streams c.self.inside.requests c.self.inside.slots c.let_in.new.slots (most-outline c.self.inside.slots c.let_in.new.slots c.let_in.ensures.outline c.self.inside.streams.limits.entries) c.in_default.ensures.refused c.self.invariant.1,
+)
+
+pub returns-in_default-clause-live : goal.returns-in_default-clause-live
+returns-in_default-clause-live g c = live-outline c.args.self.now.slots c.let_in.new.slots (c.let_in.ensures.outline ∙ ap (λ (p : PartsView). map outline p.slots) c.self.view_is)
+
+pub invariant_of-self-in-Ok-added : goal.invariant_of-self-in-Ok-added
+invariant_of-self-in-Ok-added g c =
+    let old = c.self.inside.streams in
+    let new = c.add-added.new.self in
+    let result = c.add-added.result in
+    let s = stays _ result old c.args.entry new c.add-added.ensures.settled in (
+      subst (λ next. next ≤ greatest) (sym s.next) c.self.invariant.0,
+      right_pushed old new c.self.inside.requests c.args.entry c.self.inside.slots c.let_in.new.slots c.settle.new.slots c.in-Ok.changes.items (subst (λ (e : Entry). e.timestamp ≤ greatest_moment) c.get.ensures c.let_in.ensures.timely) c.self.invariant.1
+          (subst (λ (e : Entry). IsListed c.self.inside.slots c.self.inside.requests e c.in-Ok.changes.items) c.get.ensures c.in-Ok.ensures.listed) c.in-Ok.ensures.stand c.let_in.ensures.outline
+          c.is_taken.result c.settle.ensures.taken (λ not contents. subst (λ cs. AllStand c.let_in.new.slots (with_changes cs contents) → AllStand c.settle.new.slots contents) c.deref.ensures.value (c.settle.ensures.back not contents)) c.settle.ensures.outline
+          s.limits s.honest (λ honest taken. was_missing _ result old c.args.entry new c.add-added.ensures.settled c.add-added.ensures.decided honest (sym c.is_taken.ensures ∙ taken)) (λ not. s.held (sym c.is_taken.ensures ∙ not)),
+    )
+
+pub returns-in-Ok-added-clause-pushed : goal.returns-in-Ok-added-clause-pushed
+returns-in-Ok-added-clause-pushed g c =
+    subst (λ (old : PartsView). IsPushed old.streams old.horizon c.args.entry (Ok Accepted) c.add-added.new.self) c.self.view_is
+    (subst (λ horizon. IsPushed c.self.inside.streams horizon c.args.entry (Ok Accepted) c.add-added.new.self) c.moment-horizon.ensures
+    (sought _ c.add-added.result c.self.inside.streams c.args.entry c.add-added.new.self (Ok Accepted) c.add-added.ensures.settled c.add-added.ensures.exact (sym (ap reply_to_add c.in-Ok-added.is))))
+
+pub returns-in-Ok-added-clause-live : goal.returns-in-Ok-added-clause-live
+returns-in-Ok-added-clause-live g c = live-outline c.args.self.now.slots c.settle.new.slots (c.settle.ensures.outline ∙ c.let_in.ensures.outline ∙ ap (λ (p : PartsView). map outline p.slots) c.self.view_is)
+
+pub invariant_of-self-2 : goal.invariant_of-self-2
+invariant_of-self-2 g c =
+    let old = c.self.inside.streams in
+    let new = c.add-added.new.self in
+    let result = c.add-added.result in
+    let s = stays _ result old c.args.entry new c.add-added.ensures.settled in (
+      subst (λ next. next ≤ greatest) (sym s.next) c.self.invariant.0,
+      right_pushed old new c.self.inside.requests c.args.entry c.self.inside.slots c.let_in.new.slots c.settle.new.slots c.in-Ok.changes.items (subst (λ (e : Entry). e.timestamp ≤ greatest_moment) c.get.ensures c.let_in.ensures.timely) c.self.invariant.1
+          (subst (λ (e : Entry). IsListed c.self.inside.slots c.self.inside.requests e c.in-Ok.changes.items) c.get.ensures c.in-Ok.ensures.listed) c.in-Ok.ensures.stand c.let_in.ensures.outline
+          c.is_taken.result c.settle.ensures.taken (λ not contents. subst (λ cs. AllStand c.let_in.new.slots (with_changes cs contents) → AllStand c.settle.new.slots contents) c.deref.ensures.value (c.settle.ensures.back not contents)) c.settle.ensures.outline
+          s.limits s.honest (λ honest taken. was_missing _ result old c.args.entry new c.add-added.ensures.settled c.add-added.ensures.decided honest (sym c.is_taken.ensures ∙ taken)) (λ not. s.held (sym c.is_taken.ensures ∙ not)),
+    )
+
+pub returns-clause-lasts : goal.returns-clause-lasts
+returns-clause-lasts g c = subst (λ (old : PartsView). Lasts old.streams c.add-added.new.self) c.self.view_is (lasts _ c.add-added.result c.self.inside.streams c.args.entry c.add-added.new.self c.add-added.ensures.settled c.add-added.ensures.counted c.self.invariant.0)
 
 pub returns-clause-pushed : goal.returns-clause-pushed
 returns-clause-pushed g c =
-    let streams = c.self.inside.streams in
-    let added = c.add.result in
-    let settled = subst (λ (horizon : ℕ). MatchOption (age_refusal streams.limits streams.newest horizon c.args.entry) (IsSettled added streams c.args.entry c.add.new.self × (IsUnreached streams.rows c.args.entry → IsSettledUnread added streams c.args.entry c.add.new.self)) (λ refusal. (added ≡ Err refusal) × (c.add.new.self ≡ streams))) c.moment.ensures
-    (both_of _ _ _ _ c.add.ensures.settled c.add.ensures.exact) in
-    let answered : c.match-add.result ≡ reply_to_add added = elim c.match-add.branch [
-      | in-Ok w ↦ w.result-is ∙ sym (ap reply_to_add w.in-Ok.is)
-      | in-Err w ↦ w.result-is ∙ w.refused.ensures ∙ sym (ap reply_to_add w.in-Err.is)
-    ] in
-    subst (λ (old : PartsView). IsPushed old.streams old.horizon c.args.entry c.match-add.result c.add.new.self) c.self.view_is (added, answered, settled)
+    subst (λ (old : PartsView). IsPushed old.streams old.horizon c.args.entry c.refused.result c.add-added.new.self) c.self.view_is
+    (subst (λ horizon. IsPushed c.self.inside.streams horizon c.args.entry c.refused.result c.add-added.new.self) c.moment-horizon.ensures
+    (sought _ c.add-added.result c.self.inside.streams c.args.entry c.add-added.new.self c.refused.result c.add-added.ensures.settled c.add-added.ensures.exact (c.refused.ensures ∙ sym (ap reply_to_add c.in-Err.is))))
+
+pub returns-clause-live : goal.returns-clause-live
+returns-clause-live g c = live-outline c.args.self.now.slots c.settle.new.slots (c.settle.ensures.outline ∙ c.let_in.ensures.outline ∙ ap (λ (p : PartsView). map outline p.slots) c.self.view_is)

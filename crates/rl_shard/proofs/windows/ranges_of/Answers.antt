@@ -1,0 +1,20 @@
+-- One term more has its range.
+use Rattle.std.proofs.Common.{◌+◌, Bor, map, take, sym, subst, arith}
+use Rattle.std.specs.List.{AllZip}
+use Rattle.rl_query.specs.declared.query.Term.{Term}
+use Rattle.rl_slots.specs.Slots.{term_key}
+use Rattle.rl_shard.specs.Live.{IsRangeAt}
+use Rattle.rl_shard.proofs.Terms.{ranges_more}
+use Rattle.rl_shard.proofs.windows.ranges_of.Goals as goal
+
+pub loop-term-preserved : goal.loop-term-preserved
+loop-term-preserved c =
+    let key = λ (one : Bor Term). term_key one.now in
+    let terms = c.args.terms.now in
+    let i = c.loop-term.term-index in
+    let new = map key c.index_in.new.terms.items in
+    let more = c.in_ok-index.ensures.more in
+    record {
+      found = subst (AllZip (IsRangeAt new) (take (i + 1) terms)) (sym c.in_ok-push.ensures.items)
+          (ranges_more (map key c.loop-term.first.items) new more.0 terms i c.term-item.result c.loop-term.indices.items c.in_ok-index.index (omega (arith, c.loop-term-test.true, c.loop-term.auto.term-index-end)) c.term-item.is more.1 c.loop-term.invariant.found c.in_ok-index.ensures.found);
+    }

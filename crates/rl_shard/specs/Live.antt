@@ -1,0 +1,78 @@
+-- Windows of ranges that a shard keeps, and when it answers by them.
+use Rattle.std.specs.Prelude.{◌≡◌, ◌≤◌, ◌⊎◌, ℕ, true, false, List, [], Some, Result, Ok, Err, slice_get}
+use Rattle.std.specs.FinMap.{keys}
+use Rattle.rl_labels.specs.declared.entry.Entry.{Entry}
+use Rattle.rl_query.specs.declared.query.Term.{Term}
+use Rattle.rl_aggregate.specs.declared.partial.Partial.{Partial}
+use Rattle.rl_deletes.specs.Deletes.{RequestsView, covered}
+use Rattle.rl_parts.specs.Rewriting.{uncovered}
+use Rattle.rl_windows.specs.Built.{timely}
+use Rattle.rl_windows.specs.Ranges.{elements_for}
+use Rattle.rl_windows.specs.Windows.{in_range, StandsFor}
+use Rattle.rl_windows.specs.declared.element.Element.{Element}
+use Rattle.rl_windows.specs.declared.range.RangeCode.{RangeCode}
+use Rattle.rl_slots.specs.Slots.{changes_of, key_of, line_of, term_key, AreExact, AreFull, AreOfMost, IsLiveIn, SlotView}
+use Rattle.rl_slots.specs.declared.change.Change.{Change}
+use Rattle.rl_slots.specs.declared.range_window.RangeWindow.{RangeWindow}
+use Rattle.rl_streams.specs.StreamsState.{StreamsView}
+use Rattle.rl_shard.specs.Collecting.{IsRead}
+use Rattle.rl_shard.specs.declared.step.ShardStep.{ShardStep}
+use Rattle.rl_shard.specs.declared.step.ShardStep.TheVariants as steps
+use Rattle.rl_shard.specs.declared.step.ShardReply.{ShardReply}
+use Rattle.rl_shard.specs.declared.step.ShardFault.{ShardFault}
+
+-- the entries that windows stand for: those that are shown, at the moments that there are
+abbrev pub windowed : StreamsView → RequestsView → List Entry
+windowed streams requests = uncovered (covered requests) (timely (keys streams.held))
+
+-- what holds of the windows of slots: each is for as many lines as may be held, and over an honest store it stands for what is shown
+pub record AreRight (streams : StreamsView) (requests : RequestsView) (slots : List SlotView) : Type 0 where
+  pub most : AreOfMost streams.limits.entries slots
+  pub exact : streams.seen.honest ≡ true → AreExact slots (windowed streams requests)
+
+-- a window at a moment, built of what streams hold: it stands for elements, and what a term of its range has of these was read
+pub record IsBuiltFrom (streams : StreamsView) (requests : RequestsView) (t : ℕ) (it : RangeWindow) : Type 0 where
+  pub moment : it.window.moment ≡ t
+  pub most : it.window.most ≡ streams.limits.entries
+  pub elements : List Element
+  pub stands : StandsFor it.window elements
+  pub reads : (term : Term) (found : Partial) → term_key term ≡ key_of it → found ≡ in_range term.range.seconds t elements → IsRead streams.rows requests term.range t found
+  pub exact : streams.seen.honest ≡ true → StandsFor it.window (elements_for it.code (windowed streams requests))
+
+-- the range at an index is that of the term
+abbrev pub IsRangeAt : List (RangeCode × ℕ) → Term → (index : ℕ) → Type 0
+IsRangeAt ranges term index = slice_get ranges index ≡ Some (term_key term)
+
+-- what an entry changes in windows was listed: nothing where a received request covers it, or where one of them has no room
+abbrev pub IsListed : List SlotView → RequestsView → Entry → List Change → Type 0
+IsListed slots requests entry changes =
+    ((changes ≡ []) × ((covered requests entry ≡ true) ⊎ ((covered requests entry ≡ false) × AreFull slots)))
+    ⊎ ((covered requests entry ≡ false) × (changes ≡ changes_of (line_of entry) entry.timestamp slots))
+
+-- a step that keeps what the slot of a number answers from a moment on: one that hides and shows nothing, a Collect of another slot,
+-- and one that is refused, from its own moment on
+abbrev pub Keeps : ShardStep → Result ShardReply ShardFault → (number u : ℕ) → Type 0
+Keeps (steps.Push entry) result number u = Unit {0}
+Keeps steps.Cut result number u = Unit {0}
+Keeps steps.Flush result number u = Unit {0}
+Keeps (steps.Process id now) result number u = Unit {0}
+Keeps (steps.Collect slot terms t) (Ok _) number u = number ≡ slot → ⊥
+Keeps (steps.Collect slot terms t) (Err _) number u = number ≡ slot → t ≤ u
+Keeps (steps.Delete deletion) result number u = ⊥
+Keeps (steps.Cancel id) result number u = ⊥
+Keeps (steps.Retain now) result number u = ⊥
+
+-- what is answered by windows after a Collect was answered: its own terms, from its moment on
+abbrev pub IsAnsweredLive : ShardStep → List SlotView → Type 0
+IsAnsweredLive (steps.Collect slot terms t) slots = (u : ℕ) → t ≤ u → IsLiveIn slot terms u slots
+IsAnsweredLive step slots = Unit {0}
+
+-- a Collect that windows answer
+abbrev pub IsOfWindows : ShardStep → List SlotView → Type 0
+IsOfWindows (steps.Collect slot terms t) slots = IsLiveIn slot terms t slots
+IsOfWindows step slots = ⊥
+
+-- a step that pushes
+abbrev pub IsPush : ShardStep → Type 0
+IsPush (steps.Push entry) = Unit {0}
+IsPush step = ⊥
