@@ -2,7 +2,7 @@
 use Rattle.std.proofs.Common.{◌≡◌, ◌⊎◌, inl, inr, ℕ, suc, ◌-◌, List, [], ◌∷◌, ◌++◌, map, length, take, Option, None, Some, refl, sym, ap, subst, ◌∙◌, arith, append_assoc, length-append}
 use Rattle.std.proofs.Math.Seq.{drop-nil, take-nil}
 use Rattle.std.proofs.lemmas.List.{append-nil, nil_from_length}
-use Rattle.std.specs.List.{AllByRecursion, AllZip}
+use Rattle.std.specs.List.{AllByRecursion}
 use Rattle.std.specs.Vec.Iter.{into_iter_items, into_iter_steps}
 use Rattle.std.specs.declared.vec.IntoIter.{IntoIter}
 use Rattle.rl_rules.specs.declared.evaluation.Evaluation.{Evaluation}
@@ -13,8 +13,7 @@ use Rattle.rl_world.specs.Offering.{TookPrefix, texts_of}
 use Rattle.rl_labels.specs.declared.entry.Entry.{Entry}
 use Rattle.rl_shard.specs.ShardState.{ShardView, journalled}
 use Rattle.rl_world.specs.History.{History}
-use Rattle.rl_world.specs.Reads.{AreSomeReadings, IsReading}
-use Rattle.rl_world.specs.WorldState.{BookState, IsBookOf, StandsForSome, kept_history, seen_as, world_of}
+use Rattle.rl_world.specs.WorldState.{BookState, IsBookOf, StandsForSome, kept_history, world_of}
 
 -- with no group, or no sinks, there is no book
 no_books : (slot records shards : ℕ) (groups : List Group) (sinks : List (List SinkState)) → (groups ≡ []) ⊎ (sinks ≡ []) → books_from slot records shards groups sinks ≡ []
@@ -91,12 +90,3 @@ pub opened_shown : (opened : List ShardView) (books : List BookState) (slot reco
 opened_shown opened books slot records shards groups sinks are =
     let shown = histories_shown books (subst (AllByRecursion IsUnopened) (sym are) (books_unopened slot records shards groups sinks)) in
     (record { shards = map journalled opened; histories = shown.0 }, λ i. record { shards = map journalled opened; histories = shown.1 i })
-
--- in which no shard read anything
-nothing_read : (books : List BookState) → AllByRecursion IsUnopened books → AllZip IsReading (map (λ (book : BookState). book.history) books) (map (λ (book : BookState). None) books)
-nothing_read [] all = tt
-nothing_read (book ∷ books) all = (all.0, nothing_read books all.1)
-
-pub opened_read : (opened : List ShardView) (books : List BookState) (slot records shards : ℕ) (groups : List Group) (sinks : List (List SinkState)) → books ≡ books_from slot records shards groups sinks → AreSomeReadings (seen_as opened books)
-opened_read opened books slot records shards groups sinks are =
-    (map (λ (book : BookState). None) books, nothing_read books (subst (AllByRecursion IsUnopened) (sym are) (books_unopened slot records shards groups sinks)))

@@ -27,9 +27,9 @@ pub collected_is : (a b : List Partial) → replies.Collected a ≡ replies.Coll
 collected_is a b h = cc
 
 -- it was read
-pub collected_read : (shard : ShardView) (slot t : ℕ) (terms : List Term) (reply : ShardReply) (shown : List Partial) → AreRead shard.streams shard.requests (shard_steps.Collect slot terms t) reply → reply ≡ replies.Collected shown
-    → AreRead shard.streams shard.requests (shard_steps.Collect slot terms t) (replies.Collected shown)
-collected_read shard slot t terms reply shown read is = subst (AreRead shard.streams shard.requests (shard_steps.Collect slot terms t)) is read
+pub collected_read : (shard : ShardView) (slot t : ℕ) (terms : List Term) (reply : ShardReply) (shown : List Partial) → AreRead shard.streams shard.requests shard.slots (shard_steps.Collect slot terms t) reply → reply ≡ replies.Collected shown
+    → AreRead shard.streams shard.requests shard.slots (shard_steps.Collect slot terms t) (replies.Collected shown)
+collected_read shard slot t terms reply shown read is = subst (AreRead shard.streams shard.requests shard.slots (shard_steps.Collect slot terms t)) is read
 
 -- a Collect is answered in no other way
 pub only_collected : (limits : Limits) (old new : ShardState) (slot t : ℕ) (terms : List Term) (reply : ShardReply) → IsAnswered limits old (shard_steps.Collect slot terms t) reply new → ((shown : List Partial) → reply ≡ replies.Collected shown → ⊥) → ⊥

@@ -86,7 +86,7 @@ refused_ok None x h = refl
 -- a shard decided a step, or met a fault
 pub stores_decided : (shards : List ShardView) (books : List BookState) (number place : ℕ) (step : ShardStep) (reply : ShardReply) (shard after : ShardView) → slice_get shards number ≡ Some shard → Stored shard.streams after.streams → after.streams.next ≤ greatest
     → place ≡ (journalled shard).records → (journalled after).limits ≡ (journalled shard).limits → (journalled after).records ≡ (journalled shard).records + 1 → IsAnswered (journalled shard).limits (journalled shard).state step reply (journalled after).state
-    → IsDone (journalled shard).limits (journalled shard).state step shard.streams after.streams → AreRead shard.streams shard.requests step reply → Gives step shard.streams after.streams → Pushes shard.streams shard.horizon step (Ok reply) after.streams
+    → IsDone (journalled shard).limits (journalled shard).state step shard.streams after.streams → AreRead shard.streams shard.requests shard.slots step reply → Gives step shard.streams after.streams → Pushes shard.streams shard.horizon step (Ok reply) after.streams
     → ShardsTurn (seen_as shards books) (steps.Shard number step) (replies.Decided place reply) (seen_as (slice_set shards number after) books)
 stores_decided shards books number place step reply shard after there stored numbers place_is limits records answered done read gives pushed = (
   record {

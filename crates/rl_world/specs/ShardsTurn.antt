@@ -48,7 +48,7 @@ pub record Decides (place : ℕ) (step : ShardStep) (reply : ShardReply) (before
   pub records : (journalled after).records ≡ (journalled before).records + 1
   pub answered : IsAnswered (journalled before).limits (journalled before).state step reply (journalled after).state
   pub done : IsDone (journalled before).limits (journalled before).state step before.streams after.streams
-  pub read : AreRead before.streams before.requests step reply
+  pub read : AreRead before.streams before.requests before.slots step reply
   pub gives : Gives step before.streams after.streams
   pub pushed : Pushes before.streams before.horizon step (Ok reply) after.streams
 

@@ -46,7 +46,7 @@ impl<D: Store, S: Sink> Model for World<D, S> {
 impl<D: Store, S: Sink> World<D, S> {
     ghost use Rattle.rl_world.specs.Listings.{SinksFollow};
     ghost use Rattle.rl_world.specs.ShardsTurn.{AreHonest};
-    ghost use Rattle.rl_world.specs.Reads.{AreSomeReadings, ReadsThrough};
+    ghost use Rattle.rl_world.specs.Reads.{ReadsThrough};
     ghost use Rattle.rl_world.specs.Stores.{StoresFollow};
     ghost use Rattle.rl_world.specs.WorldRun.{Turned, Ran, Replays, gained};
     ghost use Rattle.rl_world.specs.WorldState.{world_of, StandsForSome, TookPrefixes};
@@ -68,7 +68,6 @@ impl<D: Store, S: Sink> World<D, S> {
         ensures shards { IfOk result (λ world. world.shards ≡ map (λ store. opened_over limits (D.seen store)) stores.items) }
         ensures books { IfOk result (λ world. world.books ≡ books_from 0 limits.records (length stores.items) groups.items (map (λ own. map S.state own.items) sinks.items)) }
         ensures shown { IfOk result (λ world. StandsForSome (world_of world.shards world.books)) }
-        ensures read { IfOk result (λ world. AreSomeReadings world) }
     {
         let books = open_books(alloc, limits.records, stores.len(), groups, sinks)?;
         let shards = open_shards(alloc, limits, stores)?;

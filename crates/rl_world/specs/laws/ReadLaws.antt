@@ -1,5 +1,6 @@
--- A run over any stores, on the lines that shards read: what is kept of an open evaluation is what they add up to.
-use Rattle.std.proofs.Common.{◌≡◌, ℕ, zero, suc, List, [], ◌∷◌, ◌++◌, map, length, drop, replicate, flat_map, Option, None, Some, option_map, option_to_list, slice_get, slice_set, refl, sym, ap, subst, ◌∙◌, append_assoc, append-nil}
+-- A run over any stores, on the lines that shards read: what is kept of an open evaluation is what they add up to, where no windows
+-- answered for it.
+use Rattle.std.proofs.Common.{◌≡◌, ◌⊎◌, inl, inr, ℕ, zero, suc, List, [], ◌∷◌, ◌++◌, map, length, drop, replicate, flat_map, Option, None, Some, option_map, option_to_list, slice_get, slice_set, refl, sym, ap, subst, ◌∙◌, append_assoc, append-nil}
 use Rattle.std.specs.Prelude.{slice_index_or}
 use Rattle.std.specs.List.{AllZip}
 use Rattle.std.proofs.lemmas.Grind.{flat_map-append}
@@ -14,15 +15,17 @@ use Rattle.rl_aggregate.specs.InRange.{runs_of}
 use Rattle.rl_aggregate.specs.Partials.{merge, partial_of}
 use Rattle.rl_aggregate.specs.declared.partial.Partial.{Partial}
 use Rattle.rl_aggregate.specs.laws.Runs.{partial_of-append}
-use Rattle.rl_shard.specs.Collecting.{AreLinesOf, IsRead, counted}
+use Rattle.rl_shard.specs.Collecting.{AreLinesOf, AreReadFor, counted}
+use Rattle.rl_shard.specs.Live.{IsOfWindows}
 use Rattle.rl_shard.specs.ShardState.{ShardView, journalled}
+use Rattle.rl_shard.specs.declared.step.ShardStep.TheVariants as shard_steps
 use Rattle.rl_rules.specs.declared.alert.Alert.{Alert}
 use Rattle.rl_rules.specs.declared.rule.Group.{Group}
 use Rattle.rl_world.specs.BookCalls.{with_history}
 use Rattle.rl_world.specs.Evaluating.{group_terms, answers}
 use Rattle.rl_world.specs.History.{History, alerts_of, begun, edited, gathered, committed, abandoned, with_shown}
 use Rattle.rl_world.specs.Kept.{evaluation_from, merged_from, merged_terms, no_partial, results_from}
-use Rattle.rl_world.specs.Reads.{AreReadings, CommitsReading, IsReading, ReadTurn, Reading, Reads, ReadsThrough, TermLines, added_answer, added_open, added_up, added_up_from, evaluation_on, lines_of_term}
+use Rattle.rl_world.specs.Reads.{AnswersByWindows, AreReadings, CommitsReading, IsReading, ReadTurn, Reading, Reads, ReadsThrough, StaysUnread, TermLines, added_answer, added_open, added_up, added_up_from, evaluation_on, lines_of_term}
 use Rattle.rl_world.specs.ShardsTurn.{IsGathered}
 use Rattle.rl_world.specs.WorldRun.{Ran, Turned}
 use Rattle.rl_world.specs.WorldState.{BookState, WorldBooks, WorldState, world_of}
@@ -101,7 +104,7 @@ record LinesBehind (shard : ShardView) (t : ℕ) (terms : List Term) (found : Li
   pub read : AllZip (λ (term : Term) lines. AreLinesOf shard.streams.rows shard.requests term.range t lines) terms lines
   pub added : found ≡ added_up terms lines
 
-lines_read : (shard : ShardView) (t : ℕ) (terms : List Term) (found : List Partial) → AllZip (λ (term : Term) partial. IsRead shard.streams.rows shard.requests term.range t partial) terms found → LinesBehind shard t terms found
+lines_read : (shard : ShardView) (t : ℕ) (terms : List Term) (found : List Partial) → AreReadFor shard.streams shard.requests terms t found → LinesBehind shard t terms found
 lines_read shard t [] [] all = record { lines = []; read = tt; added = refl }
 lines_read shard t [] (partial ∷ found) all = absurd all
 lines_read shard t (term ∷ terms) [] all = absurd all
@@ -128,12 +131,16 @@ record OpenReading (readings : List Reading) (group : ℕ) (terms : List Term) (
   pub there : slice_get readings group ≡ Some (Some lines)
   pub keeps : opened ≡ added_open terms lines
 
-open_reading : (readings : List Reading) (group : ℕ) (history : History (List Partial)) (opened : OpenEvaluation (List Partial)) → ReadingAt readings group history → history.opened ≡ Some opened → OpenReading readings group (group_terms history.group) opened
-open_reading readings group history opened at open_is = by at.reading at.there (sym open_is ∙ at.is)
+-- or no lines stand for it
+abbrev OpenOrUnread : List Reading → (group : ℕ) → List Term → OpenEvaluation (List Partial) → Type 0
+OpenOrUnread readings group terms opened = OpenReading readings group terms opened ⊎ (slice_get readings group ≡ Some None)
+
+open_reading : (readings : List Reading) (group : ℕ) (history : History (List Partial)) (opened : OpenEvaluation (List Partial)) → ReadingAt readings group history → history.opened ≡ Some opened → OpenOrUnread readings group (group_terms history.group) opened
+open_reading readings group history opened at open_is = by at.reading at.there at.is
   where
-    by : (reading : Reading) → slice_get readings group ≡ Some reading → Some opened ≡ option_map (added_open (group_terms history.group)) reading → OpenReading readings group (group_terms history.group) opened
-    by None there is = absurd (none_some opened (sym is))
-    by (Some lines) there is = record { lines = lines; there = there; keeps = some_is opened (added_open (group_terms history.group) lines) is }
+    by : (reading : Reading) → slice_get readings group ≡ Some reading → IsReading history reading → OpenOrUnread readings group (group_terms history.group) opened
+    by None there is = inr there
+    by (Some lines) there is = inl (record { lines = lines; there = there; keeps = some_is opened (added_open (group_terms history.group) lines) (sym open_is ∙ is) })
 
 -- a history and what was read for it are replaced
 both_set : (histories : List (History (List Partial))) (readings : List Reading) (group : ℕ) (history : History (List Partial)) (reading : Reading) → AllZip IsReading histories readings → IsReading history reading → AllZip IsReading (slice_set histories group history) (slice_set readings group reading)
@@ -172,54 +179,112 @@ replaced old new before group history reading now all is = (
 shown-added : (terms : List Term) (opened : OpenEvaluation TermLines) (number place : ℕ) (lines : TermLines) → with_shown number place (added_up terms lines) (added_open terms opened) ≡ added_open terms (with_shown number place lines opened)
 shown-added terms opened number place lines = λ i. record { t = opened.t; gathered = sym (map-set (option_map (added_answer terms)) opened.gathered number (Some (record { place = place; shown = lines }))) i }
 
-gather_read : (old new : WorldBooks) (before : List Reading) (group number place : ℕ) → IsGathered old group number place new → AreReadings old before → (after : List Reading) × AreReadings new after × Reads old before group number place after
-gather_read old new before group number place turn all =
-    let book = turn.asked.book in
-    let history = book.history in
-    let terms = group_terms history.group in
-    let shard = turn.decided.before in
-    let there = slice_get-map (λ (b : BookState). b.history) old.books group ∙ ap (option_map (λ (b : BookState). b.history)) turn.asked.there in
-    let found = open_reading before group history turn.asked.opened (reading_at (histories_of old) before group history all there) turn.asked.open_is in
-    let behind = lines_read shard turn.asked.opened.t terms turn.partials turn.decided.as_said.read in
-    let now = ap (map (λ (b : BookState). b.history)) turn.kept ∙ map-set (λ (b : BookState). b.history) old.books group (with_history book (gathered history number place turn.partials)) in
-    let is =
-    ap (option_map (with_shown number place turn.partials)) turn.asked.open_is
-    ∙ (λ i. Some (with_shown number place (behind.added i) (found.keeps i)))
-    ∙ ap (λ (o : OpenEvaluation (List Partial)). Some o) (shown-added terms found.lines number place behind.lines) in
-    let done = replaced old new before group (gathered history number place turn.partials) (Some (with_shown number place behind.lines found.lines)) now all is in (
-      done.0,
-      done.1,
-      record {
-        shard = shard;
-        shard_there = turn.decided.there;
-        history = history;
-        there = there;
-        opened = found.lines;
-        open_is = found.there;
-        lines = behind.lines;
-        read = subst (λ t. AllZip (λ (term : Term) lines. AreLinesOf shard.streams.rows shard.requests term.range t lines) terms behind.lines) (ap (λ (o : OpenEvaluation (List Partial)). o.t) found.keeps) behind.read;
-        now = done.2;
-      },
-    )
+-- where no lines stood for a group's evaluation, none do after its history changed
+unread : (old new : WorldBooks) (before : List Reading) (group : ℕ) (history : History (List Partial)) → histories_of new ≡ slice_set (histories_of old) group history → AreReadings old before → slice_get before group ≡ Some None
+    → (after : List Reading) × AreReadings new after × StaysUnread before group after
+unread old new before group history now all none =
+    let done = replaced old new before group history None now all tt in
+    (done.0, done.1, (none, done.2 ∙ set_same before group None none))
 
--- an evaluation that is committed is one on what was read
-commit_read : (old new : WorldBooks) (before : List Reading) (group : ℕ) (answer : Committed) → CommitTurn partials (world_of old.shards old.books) group answer (world_of new.shards new.books) → AreReadings old before
-    → (after : List Reading) × AreReadings new after × CommitsReading old before group answer after
-commit_read old new before group answer turn all =
-    let history = turn.history in
-    let found = open_reading before group history turn.opened (reading_at (histories_of old) before group history all turn.there) turn.open_is in
-    let done = replaced old new before group (committed history answer.evaluation) None (ap (λ (w : WorldState (List Partial)). w.histories) turn.after) all refl in (
-      done.0,
-      done.1,
-      record {
-        history = history;
-        there = turn.there;
-        opened = found.lines;
-        open_is = found.there;
-        evaluation_is = turn.evaluation_is ∙ ap (evaluation_from history.group (alerts_of history)) found.keeps ∙ added_evaluation history.group (alerts_of history) found.lines;
-        now = done.2;
-      },
-    )
+module _ (old new : WorldBooks) (before : List Reading) (group number place : ℕ) (turn : IsGathered old group number place new) (all : AreReadings old before) where
+  abbrev asked_history : History (List Partial)
+  asked_history = turn.asked.book.history
+
+  abbrev asked_terms : List Term
+  asked_terms = group_terms asked_history.group
+
+  abbrev asked_shard : ShardView
+  asked_shard = turn.decided.before
+
+  abbrev Gathers : Type 0
+  Gathers = (after : List Reading) × AreReadings new after × (Reads old before group number place after ⊎ AnswersByWindows old before group number after ⊎ StaysUnread before group after)
+
+  asked_there : slice_get (histories_of old) group ≡ Some asked_history
+  asked_there = slice_get-map (λ (b : BookState). b.history) old.books group ∙ ap (option_map (λ (b : BookState). b.history)) turn.asked.there
+
+  now_gathered : histories_of new ≡ slice_set (histories_of old) group (gathered asked_history number place turn.partials)
+  now_gathered = ap (map (λ (b : BookState). b.history)) turn.kept ∙ map-set (λ (b : BookState). b.history) old.books group (with_history turn.asked.book (gathered asked_history number place turn.partials))
+
+  -- the shard read, and its lines join those that were read before
+  joined_lines : AreReadFor asked_shard.streams asked_shard.requests asked_terms turn.asked.opened.t turn.partials → OpenReading before group asked_terms turn.asked.opened → Gathers
+  joined_lines read found =
+      let shard = asked_shard in
+      let terms = asked_terms in
+      let behind = lines_read shard turn.asked.opened.t terms turn.partials read in
+      let is =
+      ap (option_map (with_shown number place turn.partials)) turn.asked.open_is
+      ∙ (λ i. Some (with_shown number place (behind.added i) (found.keeps i)))
+      ∙ ap (λ (o : OpenEvaluation (List Partial)). Some o) (shown-added terms found.lines number place behind.lines) in
+      let done = replaced old new before group (gathered asked_history number place turn.partials) (Some (with_shown number place behind.lines found.lines)) now_gathered all is in (
+        done.0,
+        done.1,
+        inl (record {
+          shard = shard;
+          shard_there = turn.decided.there;
+          history = asked_history;
+          there = asked_there;
+          opened = found.lines;
+          open_is = found.there;
+          lines = behind.lines;
+          read = subst (λ t. AllZip (λ (term : Term) lines. AreLinesOf shard.streams.rows shard.requests term.range t lines) terms behind.lines) (ap (λ (o : OpenEvaluation (List Partial)). o.t) found.keeps) behind.read;
+          now = done.2;
+        }),
+      )
+
+  -- or windows answered
+  answered_live : IsOfWindows (shard_steps.Collect group asked_terms turn.asked.opened.t) asked_shard.slots → Gathers
+  answered_live live =
+      let done = replaced old new before group (gathered asked_history number place turn.partials) None now_gathered all tt in (
+        done.0,
+        done.1,
+        inr (inl (record {
+          shard = asked_shard;
+          shard_there = turn.decided.there;
+          history = asked_history;
+          there = asked_there;
+          opened = turn.asked.opened;
+          open_is = turn.asked.open_is;
+          live = live;
+          now = done.2;
+        })),
+      )
+
+  -- so the shard read or not, and lines stood for the evaluation or not
+  gather_read : Gathers
+  gather_read = by turn.decided.as_said.read (open_reading before group asked_history turn.asked.opened (reading_at (histories_of old) before group asked_history all asked_there) turn.asked.open_is)
+    where
+      by : IsOfWindows (shard_steps.Collect group asked_terms turn.asked.opened.t) asked_shard.slots ⊎ AreReadFor asked_shard.streams asked_shard.requests asked_terms turn.asked.opened.t turn.partials → OpenOrUnread before group asked_terms turn.asked.opened → Gathers
+      by (inl live) found = answered_live live
+      by (inr read) (inl found) = joined_lines read found
+      by (inr read) (inr none) = let left = unread old new before group (gathered asked_history number place turn.partials) now_gathered all none in (left.0, left.1, inr (inr left.2))
+
+-- an evaluation that is committed is one on what was read for it, if lines stand for it
+module _ (old new : WorldBooks) (before : List Reading) (group : ℕ) (answer : Committed) (turn : CommitTurn partials (world_of old.shards old.books) group answer (world_of new.shards new.books)) (all : AreReadings old before) where
+  abbrev Commits : Type 0
+  Commits = (after : List Reading) × AreReadings new after × (CommitsReading old before group answer after ⊎ StaysUnread before group after)
+
+  now_committed : histories_of new ≡ slice_set (histories_of old) group (committed turn.history answer.evaluation)
+  now_committed = ap (λ (w : WorldState (List Partial)). w.histories) turn.after
+
+  commit_read : Commits
+  commit_read = by (open_reading before group turn.history turn.opened (reading_at (histories_of old) before group turn.history all turn.there) turn.open_is)
+    where
+      by : OpenOrUnread before group (group_terms turn.history.group) turn.opened → Commits
+      by (inl found) =
+          let history = turn.history in
+          let done = replaced old new before group (committed history answer.evaluation) None now_committed all tt in (
+            done.0,
+            done.1,
+            inl (record {
+              history = history;
+              there = turn.there;
+              opened = found.lines;
+              open_is = found.there;
+              evaluation_is = turn.evaluation_is ∙ ap (evaluation_from history.group (alerts_of history)) found.keeps ∙ added_evaluation history.group (alerts_of history) found.lines;
+              now = done.2;
+            }),
+          )
+      by (inr none) = let left = unread old new before group (committed turn.history answer.evaluation) now_committed all none in (left.0, left.1, inr left.2)
 
 -- what is kept of a history changes, with what was read for its group
 changed_read : (old new : WorldBooks) (before : List Reading) (group : ℕ) (reading : Reading) (change : History (List Partial) → History (List Partial)) → HistoryTurn change (world_of old.shards old.books) group (world_of new.shards new.books)
@@ -245,7 +310,7 @@ read_turn old (steps.CatchUp group) (replies.Refused refusal) new before turn al
 read_turn old (steps.Shard number step) (replies.Decided place reply) new before turn all = stays_read old new before (ap (map (λ (b : BookState). b.history)) turn.stores.1) all
 read_turn old (steps.Edit group to) (replies.Edited place) new before turn all =
     let edit = (turn.on_kept refl).1 in
-    replaced old new before group (edited edit.history to) None (ap (λ (w : WorldState (List Partial)). w.histories) edit.after) all refl
+    replaced old new before group (edited edit.history to) None (ap (λ (w : WorldState (List Partial)). w.histories) edit.after) all tt
 read_turn old (steps.Begin group t) replies.Begun new before turn all =
     let shards = length (map journalled old.shards) in
     let none = ap (λ n. Some (record { t = t; gathered = replicate n None })) (length-map old.shards journalled) in
@@ -254,7 +319,7 @@ read_turn old (steps.Begin group t) replies.Begun new before turn all =
     (done.0, done.1, done.2 ∙ ap (slice_set before group) none)
 read_turn old (steps.Gather group number) (replies.Gathered place) new before turn all = gather_read old new before group number place turn.stores all
 read_turn old (steps.Commit group) (replies.Committed answer) new before turn all = commit_read old new before group answer (turn.on_kept refl).1 all
-read_turn old (steps.Abandon group) replies.Abandoned new before turn all = changed_read old new before group None abandoned (turn.on_kept refl).1 (λ history. refl) all
+read_turn old (steps.Abandon group) replies.Abandoned new before turn all = changed_read old new before group None abandoned (turn.on_kept refl).1 (λ history. tt) all
 read_turn old (steps.CatchUp group) (replies.CaughtUp behind) new before turn all =
     let kept = (turn.on_kept refl).1 in
     stays_read old new before (ap (λ (w : WorldState (List Partial)). w.histories) kept.after ∙ set_same (histories_of old) group kept.history kept.there) all

@@ -4,7 +4,7 @@ use Rattle.std.proofs.lemmas.List.{length-map}
 use Rattle.std.specs.List.{AllByRecursion}
 use Rattle.rl_shard.specs.ShardState.{opened_over}
 use Rattle.rl_world.specs.WorldState.{IsBookOf}
-use Rattle.rl_world.proofs.Opening.{books_from-fit, opened_read, opened_shown}
+use Rattle.rl_world.proofs.Opening.{books_from-fit, opened_shown}
 use Rattle.rl_world.proofs.world.World.open.Goals as goal
 
 pub invariant_of-result : goal.invariant_of-result
@@ -15,6 +15,3 @@ invariant_of-result g c =
 
 pub returns-clause-shown : goal.returns-clause-shown
 returns-clause-shown g c = opened_shown c.in_ok-shards.shards.items c.in_ok-books.books.items 0 c.args.limits.records c.len.result c.args.groups.items (map (λ own. map g.S.Sink.state own.items) c.args.sinks.items) c.in_ok-books.ensures
-
-pub returns-clause-read : goal.returns-clause-read
-returns-clause-read g c = opened_read c.in_ok-shards.shards.items c.in_ok-books.books.items 0 c.args.limits.records c.len.result c.args.groups.items (map (λ own. map g.S.Sink.state own.items) c.args.sinks.items) c.in_ok-books.ensures
