@@ -1,23 +1,20 @@
 -- What windows of a slot have for its terms, and when a slot answers.
-use Rattle.std.proofs.Common.{◌≡◌, ◌≤◌, ◌<◌, ℕ, zero, suc, ◌==◌, true, List, [], ◌∷◌, length, map, get_or, slice_get, Option, None, Some, IfSome, is_some, refl, sym, ap, subst, ◌∙◌, true≢false, arith}
+use Rattle.std.proofs.Common.{◌≡◌, ◌≤◌, ◌<◌, ℕ, zero, suc, ◌==◌, true, List, [], ◌∷◌, length, map, get_or, slice_get, Option, None, Some, IfSome, is_some, refl, sym, ◌∙◌, true≢false, arith}
 use Rattle.std.specs.Prelude.{IfNone}
 use Rattle.std.specs.Bool.{Decides}
 use Rattle.std.specs.FinMap.{keys}
-use Rattle.std.specs.List.{position, AllByRecursion, AllZip}
+use Rattle.std.specs.List.{position, AllByRecursion}
 use Rattle.std.proofs.lemmas.Bool.{eqb-true}
 use Rattle.std.proofs.lemmas.List.Quantifiers.{position-Some}
 use Rattle.std.proofs.lemmas.Option.{none-some, same_Some}
 use Rattle.rl_labels.specs.Quantity.{greatest_moment}
-use Rattle.rl_labels.specs.declared.entry.Entry.{Entry}
 use Rattle.rl_query.specs.declared.query.Term.{Term}
 use Rattle.rl_aggregate.specs.Partials.{partial}
 use Rattle.rl_aggregate.specs.declared.partial.Partial.{Partial}
 use Rattle.rl_deletes.specs.Deletes.{RequestsView, covered}
-use Rattle.rl_windows.specs.Ranges.{code_of, elements_for}
-use Rattle.rl_windows.specs.Windows.{in_range, StandsFor}
+use Rattle.rl_windows.specs.Windows.{in_range}
 use Rattle.rl_windows.specs.laws.Ranges.{partial-timely}
 use Rattle.rl_windows.specs.declared.element.Element.{Element}
-use Rattle.rl_windows.specs.declared.range.RangeCode.{RangeCode}
 use Rattle.rl_slots.specs.Slots.{key_of, term_key, AreExactIn, AreSums, IsLive, IsLiveIn, IsWindowOf, SlotView, StandIn}
 use Rattle.rl_slots.specs.declared.range_window.RangeWindow.{RangeWindow}
 use Rattle.rl_streams.specs.StreamsState.{StreamsView}

@@ -1,21 +1,19 @@
 -- Windows that were built of what streams hold: what they have in range was read.
-use Rattle.std.proofs.Common.{◌≡◌, ◌≤◌, ℕ, Bool, true, false, not, ◌&&◌, List, [], ◌∷◌, ◌++◌, map, length, Some, None, refl, sym, ap, subst, ◌∙◌, arith}
-use Rattle.std.specs.List.{AllByRecursion, AllZip, filter, flat_map}
+use Rattle.std.proofs.Common.{◌≡◌, ◌≤◌, ℕ, Bool, true, false, ◌&&◌, List, [], ◌∷◌, ◌++◌, map, refl, sym, ap, subst, ◌∙◌}
+use Rattle.std.specs.List.{AllZip, filter, flat_map}
 use Rattle.rl_labels.specs.LabelSet.{LabelSet}
 use Rattle.rl_labels.specs.Quantity.{greatest_moment}
 use Rattle.rl_labels.specs.declared.matcher.Matcher.{Matcher}
 use Rattle.rl_chunks.specs.declared.line.Line.{Line}
 use Rattle.rl_pipeline.specs.Metering.{Metered}
 use Rattle.rl_query.specs.declared.query.Term.{Term}
-use Rattle.rl_query.specs.declared.stages.Stage.{Stage}
-use Rattle.rl_aggregate.specs.InRange.{in_window, runs_of}
-use Rattle.rl_aggregate.specs.Partials.{partial_of}
+use Rattle.rl_aggregate.specs.InRange.{in_window}
 use Rattle.rl_aggregate.specs.declared.partial.Partial.{Partial}
 use Rattle.rl_aggregate.specs.laws.Counting.{filter-both}
 use Rattle.rl_deletes.specs.Deletes.{RequestsView, covered_line}
 use Rattle.rl_streams.specs.Asking.{AreOfRow}
 use Rattle.rl_streams.specs.StreamsState.{StreamsView}
-use Rattle.rl_windows.specs.Built.{elements_of, not_hidden, AreBuilt, IsBuiltOf}
+use Rattle.rl_windows.specs.Built.{elements_of, AreBuilt, IsBuiltOf}
 use Rattle.rl_windows.specs.Ranges.{code_of, elements_for}
 use Rattle.rl_windows.specs.Windows.{in_range, StandsFor, WindowView}
 use Rattle.rl_windows.specs.laws.Ranges.{in_range-elements_of}

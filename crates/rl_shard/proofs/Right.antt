@@ -1,5 +1,5 @@
 -- What windows stand for while a shard takes its steps.
-use Rattle.std.proofs.Common.{◌≡◌, ◌≤◌, ◌<◌, ◌⊎◌, ℕ, ◌+◌, leb, Bool, true, false, cond, not, List, [], ◌∷◌, ◌++◌, map, length, Some, Result, Ok, Err, refl, sym, ap, subst, ◌∙◌, ⊎_elim, true≢false, le-leb, arith}
+use Rattle.std.proofs.Common.{◌≡◌, ◌≤◌, ◌<◌, ◌⊎◌, ℕ, ◌+◌, leb, Bool, true, false, cond, not, List, [], ◌∷◌, ◌++◌, map, length, Result, Ok, Err, refl, sym, ap, subst, ◌∙◌, ⊎_elim, le-leb, arith}
 use Rattle.std.specs.FinMap.{contains_key, entries, insert, keys, len, len-entries}
 use Rattle.std.specs.List.{AllByRecursion, filter, sum_by}
 use Rattle.std.proofs.lemmas.List.{length-map}
@@ -16,7 +16,7 @@ use Rattle.rl_parts.specs.Rewriting.{uncovered}
 use Rattle.rl_parts.specs.StoreUse.{IsGrown}
 use Rattle.rl_windows.specs.Built.{timely}
 use Rattle.rl_windows.specs.Ranges.{elements_for}
-use Rattle.rl_slots.specs.Slots.{changes_of, line_of, outline, with_changes, with_slot, AllStand, AreExact, AreExactIn, AreFull, AreOfMost, Contents, SlotView}
+use Rattle.rl_slots.specs.Slots.{outline, with_changes, with_slot, AllStand, AreExact, AreExactIn, AreFull, AreOfMost, Contents, SlotView}
 use Rattle.rl_slots.specs.laws.Alike.{exact-alike, exact-none, exact-set, full-many}
 use Rattle.rl_slots.specs.laws.Exact.{exact-added}
 use Rattle.rl_slots.specs.laws.Living.{most-outline, most-set}
@@ -25,9 +25,8 @@ use Rattle.rl_slots.specs.declared.range_window.RangeWindow.{RangeWindow}
 use Rattle.rl_streams.specs.StreamsState.{StreamsView}
 use Rattle.rl_streams.specs.laws.HeldLaws.{keys-inserted}
 use Rattle.rl_shard.specs.Live.{windowed, AreRight, IsListed}
-use Rattle.rl_shard.specs.ShardState.{ShardState, visible}
+use Rattle.rl_shard.specs.ShardState.{ShardState}
 use Rattle.rl_shard.specs.ShardStep.{left_of, processed_if, removed_if, stepped}
-use Rattle.rl_shard.specs.Showing.{Shows}
 use Rattle.rl_shard.specs.laws.Shown.{shows-stepped}
 use Rattle.rl_shard.specs.declared.step.ShardStep.TheVariants as steps
 use Rattle.rl_shard.proofs.Few.{few_pass}

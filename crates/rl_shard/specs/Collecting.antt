@@ -1,6 +1,6 @@
 -- What is read and added up for the terms of a Collect.
-use Rattle.std.specs.Prelude.{◌≡◌, ◌⊎◌, ℕ, nat_le, Bool, not, ◌&&◌, true, List, [], ◌++◌, map, length, MatchBool}
-use Rattle.std.specs.List.{AllByRecursion, AllZip, filter, flat_map}
+use Rattle.std.specs.Prelude.{◌≡◌, ◌⊎◌, ℕ, nat_le, Bool, not, ◌&&◌, List, [], ◌++◌, map, MatchBool}
+use Rattle.std.specs.List.{AllZip, filter, flat_map}
 use Rattle.std.specs.Option.{MatchOption}
 use Rattle.std.specs.FinMap.{keys}
 use Rattle.rl_labels.specs.LabelSet.{LabelSet}
@@ -13,7 +13,6 @@ use Rattle.rl_query.specs.declared.query.LogRange.{LogRange}
 use Rattle.rl_query.specs.declared.query.Term.{Term}
 use Rattle.rl_query.specs.declared.stages.Stage.{Stage}
 use Rattle.rl_aggregate.specs.InRange.{in_window, runs_of}
-use Rattle.rl_aggregate.specs.Limited.{IsWithin}
 use Rattle.rl_aggregate.specs.Partials.{partial, partial_of}
 use Rattle.rl_aggregate.specs.declared.partial.Partial.{Partial}
 use Rattle.rl_deletes.specs.Deletes.{RequestsView, covered, covered_line}

@@ -23,9 +23,9 @@ use Rattle.rl_windows.specs.Ranges.{code_of, element_of, elements_for, entry_ele
 use Rattle.rl_windows.specs.Windows.{in_range, lines_of, run_of}
 use Rattle.rl_windows.specs.declared.element.Element.{Element}
 
-cases : {A : Type 0} (first second : Bool) (xs : List A) → cond second (cond first xs []) [] ≡ cond (first && second) xs []
-cases true second xs = refl
-cases {A} false second xs = elim second as (λ b. ◌≡◌ {A = List A} (cond b [] []) []) [ true ↦ refl | false ↦ refl ]
+cases : {A : Type 0} (first other : Bool) (xs : List A) → cond other (cond first xs []) [] ≡ cond (first && other) xs []
+cases true other xs = refl
+cases {A} false other xs = elim other as (λ b. ◌≡◌ {A = List A} (cond b [] []) []) [ true ↦ refl | false ↦ refl ]
 
 module _ (seconds t : ℕ) where
   -- the runs of the elements in the window

@@ -1,5 +1,5 @@
 -- A term more is the last.
-use Rattle.std.proofs.Common.{◌≡◌, ◌-◌, ◌∷◌, [], Bor, length, map, slice_get, Some, sym, ap, subst, ◌∙◌, arith}
+use Rattle.std.proofs.Common.{◌≡◌, ◌-◌, ◌∷◌, [], Bor, length, map, slice_get, Some, ap, subst, ◌∙◌, arith}
 use Rattle.std.proofs.lemmas.List.{length-append, length-map, map-append}
 use Rattle.rl_query.specs.declared.query.Term.{Term}
 use Rattle.rl_slots.specs.Slots.{term_key}

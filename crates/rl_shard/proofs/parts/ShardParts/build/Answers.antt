@@ -1,5 +1,5 @@
 -- The windows that were built answer the terms, and take the place of those of the slot.
-use Rattle.std.proofs.Common.{◌≡◌, ◌≤◌, true, map, refl, sym, ap, subst, ◌∙◌, arith}
+use Rattle.std.proofs.Common.{◌≡◌, ◌≤◌, true, map, sym, ap, subst, ◌∙◌, arith}
 use Rattle.std.specs.List.{AllByRecursion}
 use Rattle.rl_chunks.specs.StoreState.{greatest}
 use Rattle.rl_labels.specs.Quantity.{greatest_moment}

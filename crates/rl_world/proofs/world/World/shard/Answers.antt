@@ -1,5 +1,5 @@
 -- The shard that the list has.
-use Rattle.std.proofs.Common.{◌≡◌, ℕ, Bor, true, false, List, length, get_or, ltb, Option, None, Some, IfSome, is_some, refl, sym, ap, ◌∙◌}
+use Rattle.std.proofs.Common.{◌≡◌, ℕ, Bor, List, length, get_or, ltb, Option, None, Some, IfSome, is_some, refl, sym, ap, ◌∙◌}
 use Rattle.std.specs.Prelude.{slice_get}
 use Rattle.std.specs.Option.{option_copied}
 use Rattle.std.proofs.lemmas.Bool.{ltb-true, ltb-false}
