@@ -9,7 +9,7 @@ use crate::world::{Kept, Sunk};
 use rl_plain::{PlainList, Same};
 use rl_query_text::print_term;
 use rl_rules::{Alert, Evaluation, Group, KeptRule};
-use rl_shard::ShardReply;
+use rl_shard::{Shard, ShardReply, ShardStep};
 use rl_sinks::{SinkKind, evaluation_text};
 use rl_world::{Book, Committed, Item, Reply, Step, World};
 use std::alloc::Global;
@@ -47,7 +47,8 @@ fn push_line(
 
 fn is_look_up(word: &str) -> bool {
     match word {
-        "groups" | "close" | "store" | "group" | "first" => true,
+        "groups" | "close" | "store" | "meter" | "live" => true,
+        "group" | "first" => true,
         "alerts" | "due" | "item" | "evaluation" | "show" => true,
         _ => false,
     }
@@ -213,6 +214,8 @@ fn look_at(
         "groups" => push_value(output, &world.groups()),
         "close" => Ok(writeln!(output, "{} not written", world.close_sinks())?),
         "store" => push_store(output, world, number_in(group)? as usize),
+        "meter" => push_meter(output, world, number_in(group)? as usize),
+        "live" => push_live(output, world, number_in(group)? as usize, rest),
         _ => match world.book(number_in(group)? as usize) {
             Some(book) => look(output, book, word, rest),
             None => push_value(output, &"None"),
@@ -232,6 +235,42 @@ fn push_store(
     let store = shard.store().inner();
     writeln!(output, "{} chunks, {} reads", store.len(), store.reads())?;
     Ok(())
+}
+
+// How many lines went through pipelines for the windows of a shard, and how many buckets of these were visited.
+fn push_meter(
+    output: &mut String,
+    world: &World<Kept, Sunk>,
+    number: usize,
+) -> Result<(), Trouble> {
+    let Some(shard) = world.shard(number) else {
+        return push_value(output, &"None");
+    };
+    let meter = shard.meter();
+    writeln!(output, "{} runs, {} visits", meter.runs(), meter.visits())?;
+    Ok(())
+}
+
+// Whether windows of a shard answer a question: the number of a slot, a moment and a query, as a step `collect` has them.
+fn push_live(
+    output: &mut String,
+    world: &World<Kept, Sunk>,
+    number: usize,
+    question: &str,
+) -> Result<(), Trouble> {
+    let step = shard::step_in(*output.allocator(), "collect", question)?;
+    let is_live = is_live(world.shard(number), &step);
+    mem::forget(step);
+    push_value(output, &is_live)
+}
+
+fn is_live(shard: Option<&Shard<Kept>>, step: &ShardStep) -> bool {
+    match (shard, step) {
+        (Some(shard), ShardStep::Collect { slot, terms, t }) => {
+            shard.is_live(*slot, terms.get(), *t)
+        }
+        _ => false,
+    }
 }
 
 // What a look-up finds in a book: its group, the group as it began, the alerts of each rule, whether it is due, an item of
