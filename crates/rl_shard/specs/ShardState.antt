@@ -74,10 +74,11 @@ journalled shard = record { limits = shard.streams.limits; state = state_of (par
 abbrev pub opened_over : Limits → Seen → ShardView
 opened_over limits seen = record { streams = no_streams limits seen; requests = no_requests limits; horizon = 0; slots = []; meter = record { runs = 0; visits = 0 }; records = 0 }
 
--- both as numbers, for a store
+-- counters as numbers, for a store
 abbrev metered_code : Coded Metered
 metered_code = code_by (ℕ × ℕ) (coded× coded_ℕ coded_ℕ) (λ m. (m.runs, m.visits)) (λ p. record { runs = p.0; visits = p.1 }) (λ _. refl)
 
+-- both views of a shard as numbers, for a store
 abbrev pub parts_code : Coded PartsView
 parts_code = code_by (StreamsView × (RequestsView × (ℕ × (List SlotView × Metered)))) (coded× streams_code (coded× requests_code (coded× coded_ℕ (coded× (coded_list slot_code) metered_code))))
     (λ s. (s.streams, (s.requests, (s.horizon, (s.slots, s.meter)))))

@@ -76,6 +76,7 @@ impl<S: Store> ShardParts<S> {
         ensures kept { (other : ℕ) (asked : List Term) (u : ℕ) → (other ≡ number → ⊥) → IsLiveIn other asked u self.old.slots → IsLiveIn other asked u self.new.slots }
         ensures refused { OnErr result (self.new.slots ≡ self.old.slots) }
     {
+        // Read for contracts, as in `collect`.
         let _moment = t.get();
         let alloc = self.alloc;
         let asked = terms.get().as_slice();
