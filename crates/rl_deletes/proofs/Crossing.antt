@@ -26,7 +26,7 @@ fields-send =
     let number : IsSend (Field.u64-field).row = search sendable depth 20 in
     let requests = tree.the_send _ _ _ _ (record { eq = ◌==◌ }) (record { partial_cmp = λ x y. Some (nat_cmp x y) }) _ number Request-send heap.send heap.frees in
     let active = tree.the_send _ _ _ _ (record { eq = ◌==◌ }) (record { partial_cmp = λ x y. Some (nat_cmp x y) }) _ number ActiveRequest-send heap.send heap.frees in
-    recorded_send (inside.the_field).row _ _ (inside.the_type).to_one (struct_send (shape inside.the_type) (global.the_field_send, (number, (requests, (active, tt)))))
+    recorded_send (inside.the_field).row _ _ (inside.the_type).to_one (struct_send (shape inside.the_type) (global.the_field_send, (number, (requests, (active, (number, tt))))))
 
 pub Requests-send : IsSend Requests.the_row
 Requests-send = view_send _ _ _ _ _ fields-send

@@ -1,2 +1,3 @@
 pub mod Crossing
+mod Ends
 mod Received

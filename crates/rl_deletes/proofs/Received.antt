@@ -1,5 +1,5 @@
 -- Requests in a tree, those of them that are received, and what these cover.
-use Rattle.std.proofs.Common.{◌≡◌, ℕ, Bool, true, false, cond, not, ◌&&◌, List, [], ◌∷◌, length, Option, None, Some, IsSome, refl, sym, ap, ◌∙◌, arith}
+use Rattle.std.proofs.Common.{◌≡◌, ℕ, Bool, true, false, cond, not, ◌&&◌, List, [], ◌∷◌, length, Option, None, Some, IsSome, refl, sym, ap, subst, ◌∙◌, arith}
 use Rattle.std.specs.Prelude.{◌==◌}
 use Rattle.std.specs.BTreeMap.{is_at}
 use Rattle.std.specs.Cmp.{unsigned_tied}
@@ -16,7 +16,7 @@ use Rattle.std.proofs.lemmas.Cmp.{nat_cmp_total}
 use Rattle.rl_plain.specs.laws.TreeMaps.{find_lookup, get-of_tree, one_set, sorted_entries}
 use Rattle.rl_deletes.specs.Deletes.{RequestsView, ended, ended_from, if_received, is_received, received_at, with_request, with_status}
 use Rattle.rl_deletes.specs.Views.{AreBuilt, view_of}
-use Rattle.rl_deletes.specs.laws.Passing.{passes_at, any_alike, any_values}
+use Rattle.rl_deletes.specs.laws.Passing.{passes_at, any_alike, any_values, tied_one}
 use Rattle.rl_deletes.specs.declared.request.RequestStatus.{RequestStatus}
 use Rattle.rl_deletes.specs.declared.request.Request.{Request}
 
@@ -39,11 +39,24 @@ found_at es q = sym (get-of_tree nat_cmp_total es q)
 pub one_put : (es fs : Tree) (id : ℕ) (request : Request) → ((q : ℕ) → lookup (is_at (nat_cmp q)) fs ≡ cond (is_at (nat_cmp id) q) (Some request) (lookup (is_at (nat_cmp q)) es)) → map_of fs ≡ map.insert (map_of es) id request
 one_put es fs id request answers = one_set nat_cmp_total nat_cmp-IsAntisymmetric es fs id request answers
 
-passing_received : (p : Request → Bool) (known : Option Request) → passes_at p (if_received known) ≡ passes_at (λ request. is_received request && p request) known
+-- where what was put at a new number is taken again, a tree finds what it found before
+pub taken_again : (es puts takes : Tree) (id : ℕ) (request : Request) → lookup (is_at (nat_cmp id)) es ≡ None
+    → ((q : ℕ) → lookup (is_at (nat_cmp q)) puts ≡ cond (is_at (nat_cmp id) q) (Some request) (lookup (is_at (nat_cmp q)) es))
+    → ((q : ℕ) → lookup (is_at (nat_cmp q)) takes ≡ cond (is_at (nat_cmp id) q) None (lookup (is_at (nat_cmp q)) puts))
+    → (q : ℕ) → lookup (is_at (nat_cmp q)) takes ≡ lookup (is_at (nat_cmp q)) es
+taken_again es puts takes id request absent put taken q =
+    taken q
+    ∙ ap (cond (is_at (nat_cmp id) q) None) (put q)
+    ∙ elim (is_at (nat_cmp id) q) as (λ b. is_at (nat_cmp id) q ≡ b → cond b None (cond b (Some request) (lookup (is_at (nat_cmp q)) es)) ≡ lookup (is_at (nat_cmp q)) es) [
+      | true ↦ λ is. sym (subst (λ n. lookup (is_at (nat_cmp n)) es ≡ None) (tied_one id q is) absent)
+      | false ↦ λ _. refl
+    ] refl
+
+pub passing_received : (p : Request → Bool) (known : Option Request) → passes_at p (if_received known) ≡ passes_at (λ request. is_received request && p request) known
 passing_received p None = refl
 passing_received p (Some request) = elim (is_received request) as (λ b. passes_at p (cond b (Some request) None) ≡ (b && p request)) [ true ↦ refl | false ↦ refl ]
 
-module _ (cancel : ℕ) (requests active : Tree) (are : AreBuilt cancel requests active) where
+module _ (cancel latest : ℕ) (requests active : Tree) (are : AreBuilt cancel requests active latest) where
   -- what is built under a number
   pub built_at : (q : ℕ) → lookup (is_at (nat_cmp q)) active ≡ if_received (map.get (map_of requests) q)
   built_at q = are.built q ∙ ap if_received (found_at requests q)

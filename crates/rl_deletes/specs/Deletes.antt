@@ -1,5 +1,5 @@
 -- Delete requests: what they cover, and what becomes of them.
-use Rattle.std.specs.Prelude.{◌≡◌, ℕ, ◌+◌, ◌*◌, ◌^◌, nat_lt, nat_le, Bool, true, false, ◌&&◌, List, Option, None, Some, Result, Ok, Err, if◌then◌else◌}
+use Rattle.std.specs.Prelude.{◌≡◌, ℕ, ◌+◌, ◌*◌, ◌^◌, nat_lt, nat_le, Bool, true, false, not, ◌&&◌, List, Option, None, Some, is_none, Result, Ok, Err, if◌then◌else◌}
 use Rattle.std.specs.List.{list_any}
 use Rattle.std.specs.FinMap as map
 use Rattle.std.specs.FinMap.{FinMap}
@@ -60,9 +60,17 @@ covered_line all labels timestamp line = list_any (λ request. is_received reque
 abbrev pub covered : RequestsView → Entry → Bool
 covered all entry = covered_line all entry.labels entry.timestamp entry.line
 
+-- the requests but that with the number
+abbrev pub without_request : RequestsView → ℕ → RequestsView
+without_request all id = record { requests = map.remove all.requests id; cancel = all.cancel }
+
 -- some received request but that with the number covers it
 abbrev pub covered_beside : RequestsView → ℕ → Entry → Bool
-covered_beside all id entry = covered (record { requests = map.remove all.requests id; cancel = all.cancel }) entry
+covered_beside all id entry = covered (without_request all id) entry
+
+-- the request covers the entry, and no received one does but that with the number
+abbrev pub hidden_alone : RequestsView → ℕ → Request → Entry → Bool
+hidden_alone all id request entry = covers_one request entry && not (covered_beside all id entry)
 
 -- the request, if it is received
 abbrev pub if_received : Option Request → Option Request
@@ -121,6 +129,10 @@ IsReceiveAnswer all id request (Err (Fault fault)) = IsReceiveFault all id reque
 abbrev pub received_beside : Option Request → RequestsView → ℕ → Request → RequestsView
 received_beside None all id request = with_request all id request
 received_beside (Some known) all id request = all
+
+-- there is room for a request, and none has the number
+abbrev pub is_new_request : RequestsView → ℕ → Bool
+is_new_request all id = not (nat_le most_requests (map.len all.requests)) && is_none (map.get all.requests id)
 
 -- the request is there; one that was there stays as it was first received
 abbrev pub received : RequestsView → ℕ → Request → RequestsView

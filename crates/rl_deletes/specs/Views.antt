@@ -3,6 +3,7 @@ use Rattle.std.specs.Prelude.{◌≡◌, ℕ, ◌≤◌, List, refl}
 use Rattle.std.specs.BTreeMap.{is_at}
 use Rattle.std.specs.Coded.{Coded, code_by, coded×, coded_ℕ}
 use Rattle.std.specs.FinMap as map
+use Rattle.std.specs.List.{AllByRecursion}
 use Rattle.std.specs.FinMap.{FinMap}
 use Rattle.std.specs.Map.{lookup}
 use Rattle.std.specs.Ordering.{nat_cmp}
@@ -18,7 +19,8 @@ requests_code = code_by (FinMap nat_cmp Request × ℕ) (coded× (map.code coded
 abbrev pub view_of : (cancel : ℕ) → List (ℕ × Request) → RequestsView
 view_of cancel requests = record { requests = map.from_entries requests; cancel = cancel }
 
--- what is built are those that are received, each under its number; and each waits for a year at most
-pub record AreBuilt (cancel : ℕ) (requests active : List (ℕ × Request)) : Type 0 where
+-- what is built are those that are received, each under its number, and none of them ends later; and each waits for a year at most
+pub record AreBuilt (cancel : ℕ) (requests active : List (ℕ × Request)) (latest : ℕ) : Type 0 where
   pub cancel_in_range : cancel ≤ 31536000
   pub built : (q : ℕ) → lookup (is_at (nat_cmp q)) active ≡ if_received (lookup (is_at (nat_cmp q)) requests)
+  pub ends : AllByRecursion (λ request. request.1.deletion.end ≤ latest) active

@@ -3,9 +3,10 @@ ghost use Rattle.std.specs.Prelude.{◌≡◌, IfOk};
 ghost use Rattle.rl_deletes.specs.Deletes.{asked};
 
 use crate::deletion::Deletion;
-use crate::request::Request;
 use rl_labels::{Covers, Labels, Ns};
 use rl_pipeline::SieveCode;
+use rl_plain::Shared;
+use rl_query::Sieve;
 use std::alloc::{AllocError, Global};
 use std::marker::Model;
 
@@ -25,16 +26,18 @@ impl Model for ActiveRequest {
 }
 
 impl ActiveRequest {
-    // The request built, as it is received. A pattern that no longer builds is answered as lack of memory.
-    pub(crate) fn build(alloc: Global, request: &Request) -> Result<ActiveRequest, AllocError>
-        ensures { IfOk result (λ active. active ≡ asked request.now.deletion) }
+    /// The request for a deletion built, as it is received. A pattern that no longer builds is answered as lack of memory.
+    pub fn build(
+        alloc: Global,
+        deletion: &Deletion<Shared<Sieve>>,
+    ) -> Result<ActiveRequest, AllocError>
+        ensures { IfOk result (λ active. active ≡ asked deletion.now) }
     {
-        let asked = &request.deletion;
-        let Ok(selector) = SieveCode::build(alloc, asked.selector.get()) else {
+        let Ok(selector) = SieveCode::build(alloc, deletion.selector.get()) else {
             return Err(AllocError);
         };
         Ok(ActiveRequest {
-            deletion: asked.with_selector(selector),
+            deletion: deletion.with_selector(selector),
         })
     }
 }

@@ -2,7 +2,7 @@
 ghost use Rattle.std.specs.Prelude.{◌≡◌};
 ghost use Rattle.rl_deletes.specs.Deletes.{with_selector};
 
-use rl_labels::Ns;
+use rl_labels::{Ns, TimeRange};
 use rl_plain::{Same, Shared, TryCopy};
 use rl_query::Sieve;
 use std::alloc::AllocError;
@@ -19,6 +19,16 @@ pub struct Deletion<S> {
 }
 
 impl<S> Deletion<S> {
+    /// The range of time, in nanoseconds.
+    pub fn range(&self) -> TimeRange
+        ensures { result ≡ record { from = self.now.start; to = self.now.end } }
+    {
+        TimeRange {
+            from: self.start,
+            to: self.end,
+        }
+    }
+
     /// The deletion of what something else selects.
     pub fn with_selector<T>(&self, selector: T) -> Deletion<T>
         ensures { result ≡ with_selector selector self.now }

@@ -3,7 +3,8 @@
 //! - `deletion`: `Deletion`, what a request asks for. `request`: `Request`, and `RequestStatus`, its status.
 //! - `requests`: `Requests`, all requests of a shard by their numbers, with what those that are received cover.
 //! - `active`: `ActiveRequest`, a received request with its built sieve. `fault`: why a call is refused.
-//! - `horizon`: `Horizon`, below which entries are expired.
+//! - `horizon`: `Horizon`, below which entries are expired. `turning`: the entries that a step hides or shows, as
+//!   `HiddenAlone` and `NewlyExpired`.
 //! - `sending`: requests may be sent to another thread.
 #![tactic(auto)]
 
@@ -14,6 +15,7 @@ pub mod horizon;
 pub mod request;
 pub mod requests;
 pub mod sending;
+pub mod turning;
 
 pub use active::ActiveRequest;
 pub use deletion::Deletion;
@@ -21,3 +23,4 @@ pub use fault::{CancelFault, ProcessFault, ReceiveError, ReceiveFault};
 pub use horizon::Horizon;
 pub use request::{Request, RequestStatus};
 pub use requests::{MOST_REQUESTS, Requests};
+pub use turning::{HiddenAlone, NewlyExpired};

@@ -5,7 +5,7 @@ ghost use Rattle.std.specs.FinMap as map;
 ghost use Rattle.std.specs.Map.{lookup};
 ghost use Rattle.std.specs.Option.{option_map};
 ghost use Rattle.std.specs.Ordering.{nat_cmp};
-ghost use Rattle.rl_deletes.specs.Deletes.{asked, cancel_fault, cancelled, covered_beside, ended, is_in_force, no_requests, process_fault, processed, received, received_at, with_request, with_status, IsReceiveAnswer, IsReceiveFault};
+ghost use Rattle.rl_deletes.specs.Deletes.{asked, cancel_fault, cancelled, covered_beside, covered_line, ended, is_in_force, is_new_request, no_requests, process_fault, processed, received, received_at, with_request, with_status, without_request, IsReceiveAnswer, IsReceiveFault};
 
 use crate::active::ActiveRequest;
 use crate::deletion::Deletion;
@@ -29,6 +29,8 @@ pub struct Requests {
     requests: BTreeMap<u64, Request>,
     // Those that are received.
     active: BTreeMap<u64, ActiveRequest>,
+    // None of these covers a later timestamp.
+    latest: u64,
 }
 
 impl Model for Requests {
@@ -41,7 +43,7 @@ impl Model for Requests {
 
     ghost view = { λ a. view_of a.cancel a.requests.entries };
 
-    ghost invariant = { λ a. AreBuilt a.cancel a.requests.entries a.active.entries };
+    ghost invariant = { λ a. AreBuilt a.cancel a.requests.entries a.active.entries a.latest };
 }
 
 impl Requests {
@@ -54,6 +56,7 @@ impl Requests {
             cancel: limits.cancel,
             requests: BTreeMap::new(alloc),
             active: BTreeMap::new(alloc),
+            latest: 0,
         }
     }
 
@@ -64,10 +67,9 @@ impl Requests {
         ensures err { OnErr result (self.new ≡ self.old) }
     {
         let id = deletion.id;
-        let status = RequestStatus::Received;
-        let request = Request { deletion, status };
         if let Some(known) = self.request(id) {
-            if request.repeats(known) {
+            let status = RequestStatus::Received;
+            if (Request { deletion, status }).repeats(known) {
                 return Ok(());
             }
             return Err(OrMemory::Fault(ReceiveFault::IdTaken));
@@ -75,7 +77,7 @@ impl Requests {
         if self.len() >= MOST_REQUESTS {
             return Err(OrMemory::Fault(ReceiveFault::Full));
         }
-        self.add(id, request)?;
+        self.add(deletion)?;
         Ok(())
     }
 
@@ -130,22 +132,45 @@ impl Requests {
         self.requests.get(&id)
     }
 
-    // The received request with the number.
-    fn received(&self, id: u64) -> Option<&ActiveRequest>
+    /// The received request with the number.
+    pub fn received(&self, id: u64) -> Option<&ActiveRequest>
         ensures { option_map (λ active. active.now) result ≡ received_at self.now id }
     {
         self.active.get(&id)
+    }
+
+    /// Whether a request under the number would be received: no request has it, and there is room for one more.
+    pub fn is_new(&self, id: u64) -> bool
+        ensures { result ≡ is_new_request self.now id }
+    {
+        self.len() < MOST_REQUESTS && self.request(id).is_none()
     }
 
     /// Whether a received request covers the entry, but for the one with the number.
     pub fn covers_beside(&self, id: u64, entry: &Entry) -> Result<bool, AllocError>
         ensures { IfOk result (λ answer. answer ≡ covered_beside self.now id entry.now) }
     {
+        self.covers_line_beside(id, &entry.labels, entry.timestamp, entry.line.as_str())
+    }
+
+    // Whether one covers a line, but for the one with the number.
+    pub(crate) fn covers_line_beside(
+        &self,
+        id: u64,
+        labels: &Labels,
+        timestamp: Ns,
+        line: &str,
+    ) -> Result<bool, AllocError>
+        ensures { IfOk result (λ answer. answer ≡ covered_line (without_request self.now id) labels.now timestamp line.now) }
+    {
+        if self.latest < timestamp.get() {
+            return Ok(false);
+        }
         for (number, active) in self.active.iter() {
             if *number == id {
                 continue;
             }
-            if active.covers(entry)? {
+            if active.covers_line(labels, timestamp, line)? {
                 return Ok(true);
             }
         }
@@ -160,15 +185,17 @@ impl Requests {
     }
 
     // Adds a request whose number is new, built.
-    fn add(&mut self, id: u64, request: Request) -> Result<(), AllocError>
-        requires new { map.get self.old.requests id ≡ None }
-        requires received { request ≡ asked request.deletion }
-        ensures ok { OnOk result (self.new ≡ with_request self.old id request) }
+    fn add(&mut self, deletion: Deletion<Shared<Sieve>>) -> Result<(), AllocError>
+        requires { map.get self.old.requests deletion.id ≡ None }
+        ensures ok { OnOk result (self.new ≡ with_request self.old deletion.id (asked deletion)) }
         ensures err { OnErr result (self.new ≡ self.old) }
     {
-        let active = ActiveRequest::build(self.alloc, &request)?;
+        let id = deletion.id;
+        self.latest = self.latest.max(deletion.end.get());
+        let active = ActiveRequest::build(self.alloc, &deletion)?;
         self.active.insert(id, active)?;
-        match self.requests.insert(id, request) {
+        let status = RequestStatus::Received;
+        match self.requests.insert(id, Request { deletion, status }) {
             Ok(_) => Ok(()),
             Err(refused) => {
                 self.active.remove(&id);
@@ -199,7 +226,7 @@ impl Covers for Requests {
     ghost by_parts = { λ _ _. refl };
 
     fn covers_line(&self, labels: &Labels, timestamp: Ns, line: &str) -> Result<bool, AllocError> {
-        if self.active.len() == 0 {
+        if self.active.len() == 0 || self.latest < timestamp.get() {
             return Ok(false);
         }
         for active in self.active.values() {

@@ -1,4 +1,4 @@
--- What requests cover when one is added or ended.
+-- What requests cover, also when one is added or ended.
 use Rattle.std.specs.Prelude.{◌≡◌, ℕ, Bool, true, false, cond, ◌&&◌, ◌||◌, Option, None, Some, IsSome, refl}
 use Rattle.std.specs.FinMap as map
 use Rattle.std.specs.FinMap.{get-insert, get-remove}
@@ -79,9 +79,13 @@ module _ (all : RequestsView) (id : ℕ) (entry : Entry) where
       split q true is passes = or_first (covers_at (map.get all.requests id)) (covered_beside all id entry) (at_received (map.get all.requests id) ∙ ap (λ n. passes_at (covers_if_received entry) (map.get all.requests n)) (sym (tied_one q id is)) ∙ passes)
       split q false is passes = or_second (covers_at (map.get all.requests id)) (covered_beside all id entry) (covers_other q is passes)
 
+  -- where no request has the number, the others cover all that is covered
+  pub hidden-new : map.get all.requests id ≡ None → covered_beside all id entry ≡ covered all entry
+  hidden-new new = sym (covered-parts ∙ ap (λ known. covers_at known || covered_beside all id entry) new)
+
   -- a request under a number that is new covers besides what was covered before
   pub covered-new : (request : Request) → map.get all.requests id ≡ None → covered (with_request all id request) entry ≡ (covers_if_received entry request || covered all entry)
-  covered-new request new = covered-with_request request ∙ ap (λ b. covers_if_received entry request || b) (sym (covered-parts ∙ ap (λ known. covers_at known || covered_beside all id entry) new))
+  covered-new request new = covered-with_request request ∙ ap (λ b. covers_if_received entry request || b) (hidden-new new)
 
   -- where a received request is ended, what others cover stays covered
   pub covered-ended : (status : RequestStatus) → is_in_force status ≡ false → IsSome (received_at all id) → covered (ended status all id) entry ≡ covered_beside all id entry

@@ -7,4 +7,4 @@ use Rattle.rl_deletes.proofs.requests.Requests.received.Goals as goal
 pub returns : goal.returns
 returns c =
     let inside = c.self.inside in
-    c.get.ensures.value ∙ built_at inside.cancel inside.requests.entries inside.active.entries c.self.invariant c.args.id ∙ ap (λ all. received_at all c.args.id) c.self.view_is
+    c.get.ensures.value ∙ built_at inside.cancel inside.latest inside.requests.entries inside.active.entries c.self.invariant c.args.id ∙ ap (λ all. received_at all c.args.id) c.self.view_is

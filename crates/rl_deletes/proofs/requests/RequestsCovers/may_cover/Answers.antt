@@ -10,5 +10,5 @@ pub loop-active-init : goal.loop-active-init
 loop-active-init c = λ entry of from to.
     let inside = c.self.inside in
     ap (list_any (λ (request : Request). covers_one request entry)) (c.into_iter-active-iterator.ensures.into_iter_gives ∙ c.values-active-items.ensures.rest)
-    ∙ any_built inside.cancel inside.requests.entries inside.active.entries c.self.invariant c.values-active-items.ensures.ordered (λ request. covers_one request entry)
+    ∙ any_built inside.cancel inside.latest inside.requests.entries inside.active.entries c.self.invariant c.values-active-items.ensures.ordered (λ request. covers_one request entry)
     ∙ ap (λ all. covered all entry) c.self.view_is
