@@ -10,7 +10,7 @@ ghost use Rattle.rl_aggregate.specs.InRange.{second};
 ghost use Rattle.rl_aggregate.specs.Limited.{IsWithin};
 ghost use Rattle.rl_aggregate.specs.Partials.{most_entries, partial};
 ghost use Rattle.rl_aggregate.specs.TotalsMap.{added, taken};
-ghost use Rattle.rl_windows.specs.Buckets.{may_go, IsShort};
+ghost use Rattle.rl_windows.specs.Buckets.{may_go, AreShort, IsShort};
 ghost use Rattle.rl_windows.specs.Ranges.{code_of, elements_for};
 ghost use Rattle.rl_windows.specs.Windows.{count_of, first_needed, in_range, visits, with_element, IsOfSameRange, IsSumOf, StandsFor};
 ghost use Rattle.rl_windows.specs.declared.element.Element.{Element};
@@ -74,6 +74,13 @@ impl Window {
         is_needed(self.seconds, self.moment, timestamp.get())
     }
 
+    /// The first timestamp that it needs, in nanoseconds.
+    pub fn first_needed(&self) -> u64
+        ensures { result ≡ first_needed self.now.seconds self.now.moment }
+    {
+        first_needed(self.seconds, self.moment)
+    }
+
     /// Whether there may be a line more.
     pub fn has_room(&self) -> bool
         ensures { Decides result (count_of self.now.buckets + 1 ≤ self.now.most) }
@@ -123,6 +130,7 @@ impl Window {
         ensures range { (self.new.seconds ≡ self.old.seconds) × (self.new.most ≡ self.old.most) }
         ensures visits { OnOk result (meter.new ≡ with_visits (visits self.old moment) meter.old) }
         ensures unvisited { OnErr result (meter.new ≡ meter.old) }
+        ensures lines { AreShort (map.entries self.old.buckets) }
         ensures err { OnErr result (self.new ≡ self.old) }
     {
         self.buckets.enter(&mut self.found, self.moment, moment)?;

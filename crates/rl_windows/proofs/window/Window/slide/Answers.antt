@@ -3,7 +3,9 @@ use Rattle.std.proofs.Common.{◌≡◌, ◌+◌, ◌≤◌, nat_le, sym, ap, su
 use Rattle.std.specs.FinMap.{entries}
 use Rattle.std.specs.List.{filter}
 use Rattle.rl_pipeline.specs.Metering.{with_visits}
+use Rattle.rl_windows.specs.Buckets.{AreShort}
 use Rattle.rl_windows.specs.Windows.{first_needed, is_between, moments, visits, StandsFor}
+use Rattle.rl_windows.specs.laws.Alike.{short-entries}
 use Rattle.rl_windows.proofs.Sliding.{slides}
 use Rattle.rl_windows.proofs.window.Window.slide.Goals as goal
 
@@ -22,3 +24,9 @@ returns-clause-visits c =
     c.count_visits.ensures
     ∙ (λ i. with_visits (entered i + left i) c.args.meter.now)
     ∙ ap (λ view. with_visits (visits view c.args.moment) c.args.meter.now) c.self.view_is
+
+pub returns-clause-lines : goal.returns-clause-lines
+returns-clause-lines c = subst (λ view. AreShort (entries view.buckets)) c.self.view_is (short-entries c.self.inside.buckets c.self.invariant.sum.0)
+
+pub returns-in_err-enter-clause-lines : goal.returns-in_err-enter-clause-lines
+returns-in_err-enter-clause-lines c = subst (λ view. AreShort (entries view.buckets)) c.self.view_is (short-entries c.self.inside.buckets c.self.invariant.sum.0)
