@@ -55,6 +55,11 @@ pub not_past : (windows : List RangeWindow) (moment later : ℕ) → moment ≤ 
 not_past [] moment later less all = tt
 not_past (it ∷ windows) moment later less all = (omega (arith, less, all.0), not_past windows moment later less all.1)
 
+-- what is at a moment is not before it, and not past it
+pub at_moment : (windows : List RangeWindow) (moment : ℕ) → AllByRecursion (λ it. it.window.moment ≡ moment) windows → AllByRecursion (λ it. moment ≤ it.window.moment) windows × AllByRecursion (λ it. it.window.moment ≤ moment) windows
+at_moment [] moment all = (tt, tt)
+at_moment (it ∷ windows) moment all = let rest = at_moment windows moment all.1 in ((omega (arith, all.0), rest.0), (omega (arith, all.0), rest.1))
+
 -- so what they give are the partials of the terms
 pub partials_of : (windows : List RangeWindow) (entries : List Entry) (t : ℕ) (terms : List Term) (indices : List ℕ) (shown : List Partial) → AllZip (IsWindowOf windows) terms indices → AllZip (IsPartialAt windows entries t) indices shown → shown ≡ map (λ term. partial entries term t) terms
 partials_of windows entries t [] [] [] all given = refl

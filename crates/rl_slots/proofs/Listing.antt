@@ -1,13 +1,11 @@
 -- What a line changes, window by window and slot by slot.
-use Rattle.std.proofs.Common.{◌≡◌, ℕ, suc, ◌+◌, ◌<◌, List, [], ◌∷◌, ◌++◌, take, length, map, get_or, Option, Result, Ok, Err, OnOk, false, sym, ap, ◌∙◌, append_assoc, append-nil, arith}
+use Rattle.std.proofs.Common.{◌≡◌, ℕ, suc, ◌+◌, ◌<◌, List, [], ◌∷◌, ◌++◌, take, length, map, get_or, Option, sym, ap, ◌∙◌, append_assoc, append-nil, arith}
 use Rattle.std.specs.Prelude.{option_to_list}
-use Rattle.std.specs.Result.{is_err}
-use Rattle.std.proofs.lemmas.Bool.{true≢false}
 use Rattle.std.proofs.lemmas.List.{length-take-le, take_more}
-use Rattle.std.proofs.lemmas.List.Sums.{sum_by-append}
+use Rattle.std.proofs.lemmas.List.Sums.{sum_by_more}
 use Rattle.rl_pipeline.specs.Lines.{StreamLine}
 use Rattle.rl_windows.specs.declared.element.Element.{Element}
-use Rattle.rl_slots.specs.Slots.{changes_from, changes_in, wanted, window_count, with_change, with_changes, Contents, SlotView}
+use Rattle.rl_slots.specs.Slots.{changes_from, changes_in, term_count, wanted, with_change, with_changes, Contents, SlotView}
 use Rattle.rl_slots.specs.laws.Exact.{own, with_changes-append}
 use Rattle.rl_slots.specs.declared.change.Change.{Change}
 use Rattle.rl_slots.specs.declared.range_window.RangeWindow.{RangeWindow}
@@ -43,19 +41,13 @@ module _ (line : StreamLine) (timestamp : ℕ) where
       ∙ ap (λ m. changes_from line timestamp 0 (take n slots) ++ changes_from line timestamp m (slot ∷ [])) (omega (arith, length-take-le n slots (omega (arith, less))))
       ∙ ap (λ rest. changes_from line timestamp 0 (take n slots) ++ rest) (append-nil (changes_in line timestamp n 0 slot.windows))
 
-pub count_more : (n : ℕ) (slots : List SlotView) (slot : SlotView) → n < length slots → slot ≡ get_or slots n slot → window_count (take (n + 1) slots) ≡ window_count (take n slots) + length slot.windows
+-- the terms of one slot more
+pub count_more : (n : ℕ) (slots : List SlotView) (slot : SlotView) → n < length slots → slot ≡ get_or slots n slot → term_count (take (n + 1) slots) ≡ term_count (take n slots) + length slot.terms
 count_more n slots slot less there =
-    ap window_count (take_more slots n slot less ∙ ap (λ x. take n slots ++ x ∷ []) (sym there))
-    ∙ sum_by-append (λ (s : SlotView). length s.windows) (take n slots) (slot ∷ [])
-    ∙ omega arith
+    sum_by_more (λ (s : SlotView). length s.terms) slots n slot less ∙ ap (λ (s : SlotView). term_count (take n slots) + length s.terms) (sym there)
 
 -- one change more
 pub one_change : (n : ℕ) (changes : List Change) (change : Change) (contents : Contents) → n < length changes → change ≡ get_or changes n change → with_changes (take (n + 1) changes) contents ≡ with_change change (with_changes (take n changes) contents)
 one_change n changes change contents less there =
     ap (λ cs. with_changes cs contents) (take_more changes n change less ∙ ap (λ x. take n changes ++ x ∷ []) (sym there))
     ∙ with_changes-append (take n changes) (change ∷ []) contents
-
--- what was promised of an answer that is no error
-pub when_ok : {T E P : Type 0} (r : Result T E) → OnOk r P → is_err r ≡ false → P
-when_ok (Ok value) h ok = h
-when_ok (Err error) h ok = absurd (true≢false ok)

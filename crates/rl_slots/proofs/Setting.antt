@@ -1,5 +1,5 @@
 -- One window or slot of a list is replaced by another.
-use Rattle.std.proofs.Common.{◌≡◌, ◌≢◌, ℕ, zero, suc, ◌≤◌, ◌<◌, ◌∷◌, ◌++◌, [], cond, List, slice_set, slice_index_or, length, Some, sym, ap, subst, ◌∙◌, arith}
+use Rattle.std.proofs.Common.{◌≡◌, ◌≢◌, ℕ, zero, suc, ◌≤◌, ◌<◌, ◌∷◌, ◌++◌, [], cond, List, slice_set, slice_index_or, length, map, Some, sym, ap, subst, ◌∙◌, arith}
 use Rattle.std.specs.Prelude.{slice_get}
 use Rattle.std.specs.List.{AllByRecursion, AllZip}
 use Rattle.std.specs.Option.{IfSome}
@@ -9,7 +9,7 @@ use Rattle.rl_query.specs.declared.query.Term.{Term}
 use Rattle.rl_windows.specs.Windows.{StandsFor}
 use Rattle.rl_windows.specs.declared.element.Element.{Element}
 use Rattle.rl_windows.specs.declared.range.RangeCode.{RangeCode}
-use Rattle.rl_slots.specs.Slots.{key_of, range_of, term_key, with_change, with_element_at, AllStand, Contents, ContentsIn, IsSlot, SlotView, StandIn}
+use Rattle.rl_slots.specs.Slots.{key_of, range_of, term_key, with_change, with_element_at, AllStand, ArePicked, Contents, ContentsIn, IsSlot, SlotView, StandIn}
 use Rattle.rl_slots.specs.laws.Exact.{eqb-self}
 pub use Rattle.rl_slots.specs.laws.Living.{all_one_more, set_keeps, set_seen}
 use Rattle.rl_slots.specs.declared.change.Change.{Change}
@@ -82,11 +82,16 @@ pub slot_moved : (slots : List SlotView) (index : ℕ) (contents : Contents) (x 
 slot_moved slots index contents x y there keeps = set_all (λ i slot. StandIn slot.windows (contents i)) (λ i slot. StandIn slot.windows (contents i)) slots index x y there (λ i slot apart stands. stands) keeps
 
 -- a slot whose window has other lines of the same range at the same moment
-pub slot_kept : (terms : List Term) (reached : ℕ) (windows : List RangeWindow) (indices : List ℕ) (w : ℕ) (x y : RangeWindow) → slice_get windows w ≡ Some x → range_of y ≡ range_of x → IsSlot terms reached windows indices → IsSlot terms reached (slice_set windows w y) indices
-slot_kept terms reached windows indices w x y there range slot = record {
-  of_terms = subst (λ keys. AllZip (λ term index. slice_get keys index ≡ Some (term_key term)) terms indices) (sym (set_seen key_of windows w x y there (ap key_of range))) slot.of_terms;
-  moments = set_keeps (λ it. it.window.moment ≤ reached) windows w x y there (subst (λ m. m ≤ reached) (sym (ap (λ (it : RangeWindow). it.window.moment) range))) slot.moments;
-}
+pub slot_kept : (terms : List Term) (collected reached : ℕ) (windows : List RangeWindow) (indices : List ℕ) (w : ℕ) (x y : RangeWindow) → slice_get windows w ≡ Some x → range_of y ≡ range_of x → IsSlot terms collected reached windows indices → IsSlot terms collected reached (slice_set windows w y) indices
+slot_kept terms collected reached windows indices w x y there range slot =
+    let keys = set_seen key_of windows w x y there (ap key_of range) in
+    let moment = ap (λ (it : RangeWindow). it.window.moment) range in
+    record {
+      of_terms = subst (λ keys. AllZip (λ term index. slice_get keys index ≡ Some (term_key term)) terms indices) (sym keys) slot.of_terms;
+      picked = subst (λ keys. ArePicked keys (map term_key terms)) (sym keys) slot.picked;
+      since = set_keeps (λ it. collected ≤ it.window.moment) windows w x y there (subst (λ m. collected ≤ m) (sym moment)) slot.since;
+      moments = set_keeps (λ it. it.window.moment ≤ reached) windows w x y there (subst (λ m. m ≤ reached) (sym moment)) slot.moments;
+    }
 
 -- one pair more
 pub one_pair : {X Y : Type 0} (R : X → Y → Type 0) (xs : List X) (ys : List Y) (x : X) (y : Y) → AllZip R xs ys → R x y → AllZip R (xs ++ x ∷ []) (ys ++ y ∷ [])

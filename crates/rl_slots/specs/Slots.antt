@@ -1,8 +1,8 @@
 -- Slots: the windows of the terms that a group asks about, and what lines change in them.
-use Rattle.std.specs.Prelude.{◌≡◌, ℕ, suc, ◌+◌, ◌*◌, ◌≤◌, nat_eq, nat_lt, List, [], ◌∷◌, ◌++◌, map, Option, None, Some, IfSome, IsSome, option_to_list, slice_get, slice_set, length, ◌==◌, if◌then◌else◌, refl}
+use Rattle.std.specs.Prelude.{◌≡◌, ◌⊎◌, ℕ, suc, ◌+◌, ◌*◌, ◌≤◌, nat_eq, nat_lt, List, [], ◌∷◌, ◌++◌, map, Option, None, Some, IfSome, option_to_list, slice_get, slice_set, length, ◌==◌, if◌then◌else◌, refl}
 use Rattle.std.specs.Coded.{Coded, code_by, coded×, coded_list, coded_ℕ}
 use Rattle.std.specs.FinMap.{empty}
-use Rattle.std.specs.List.{position, AllByRecursion, AllZip, sum_by}
+use Rattle.std.specs.List.{filter, flat_map, position, AllByRecursion, AllZip, sum_by}
 use Rattle.rl_labels.specs.EntryParts.{longest_line}
 use Rattle.rl_labels.specs.declared.entry.Entry.{Entry}
 use Rattle.rl_query.specs.contracts.query.Term as term
@@ -14,7 +14,7 @@ use Rattle.rl_aggregate.specs.Partials.{partial}
 use Rattle.rl_aggregate.specs.declared.partial.Partial.{Partial}
 use Rattle.rl_aggregate.specs.declared.volume.Volume.{Volume}
 use Rattle.rl_windows.specs.Ranges.{code_of, element_for, elements_for}
-use Rattle.rl_windows.specs.Windows.{count_of, in_range, visits, window_code, StandsFor, WindowView}
+use Rattle.rl_windows.specs.Windows.{count_of, first_needed, in_range, is_between, lines_of, moments, visits, window_code, StandsFor, WindowView}
 use Rattle.rl_windows.specs.contracts.range.RangeCode as range
 use Rattle.rl_windows.specs.declared.element.Element.{Element}
 use Rattle.rl_windows.specs.declared.range.RangeCode.{RangeCode}
@@ -52,9 +52,18 @@ term_key term = (code_of term, term.range.seconds)
 abbrev pub IsWindowOf : List RangeWindow → Term → (index : ℕ) → Type 0
 IsWindowOf windows term index = slice_get (map key_of windows) index ≡ Some (term_key term)
 
--- what holds of a slot's parts
-pub record IsSlot (terms : List Term) (reached : ℕ) (windows : List RangeWindow) (indices : List ℕ) : Type 0 where
+-- the items are some of others, in their order
+abbrev pub ArePicked : {X : Type 0} → List X → List X → Type 0
+ArePicked [] others = Unit {0}
+ArePicked (item ∷ items) [] = ⊥
+ArePicked (item ∷ items) (other ∷ others) = ((item ≡ other) × ArePicked items others) ⊎ ArePicked (item ∷ items) others
+
+-- what holds of a slot's parts: each term has its window, each window is of some term, and none is before the moment that was answered
+-- last
+pub record IsSlot (terms : List Term) (collected reached : ℕ) (windows : List RangeWindow) (indices : List ℕ) : Type 0 where
   pub of_terms : AllZip (IsWindowOf windows) terms indices
+  pub picked : ArePicked (map key_of windows) (map term_key terms)
+  pub since : AllByRecursion (λ it. collected ≤ it.window.moment) windows
   pub moments : AllByRecursion (λ it. it.window.moment ≤ reached) windows
 
 -- all of a slot but the lines of its windows
@@ -91,27 +100,28 @@ changes_from line timestamp first (slot ∷ slots) = changes_in line timestamp f
 abbrev pub changes_of : StreamLine → (timestamp : ℕ) → List SlotView → List Change
 changes_of line timestamp slots = changes_from line timestamp 0 slots
 
--- a window that wants the line has room for it
-abbrev pub HasRoomFor : StreamLine → (timestamp : ℕ) → RangeWindow → Type 0
-HasRoomFor line timestamp it = IsSome (wanted line timestamp it) → count_of it.window.buckets + 1 ≤ it.window.most
+-- what the lines of entries change, one after the other
+abbrev pub changes_of_all : List Entry → List SlotView → List Change
+changes_of_all entries slots = flat_map (λ entry. changes_of (line_of entry) entry.timestamp slots) entries
 
--- some window has as many lines as it may have
+-- a window has as many lines as it may have
 abbrev pub IsFull : RangeWindow → Type 0
 IsFull it = it.window.most ≤ count_of it.window.buckets
 
-abbrev pub IsFullIn : List RangeWindow → Type 0
-IsFullIn windows = (index : ℕ) × (it : RangeWindow) × (slice_get windows index ≡ Some it) × IsFull it
+-- no window needs a line before a timestamp
+abbrev pub IsNeededFrom : (first : ℕ) → RangeWindow → Type 0
+IsNeededFrom first it = first ≤ first_needed it.window.seconds it.window.moment
 
-abbrev pub AreFull : List SlotView → Type 0
-AreFull slots = (index : ℕ) × (slot : SlotView) × (slice_get slots index ≡ Some slot) × IsFullIn slot.windows
+abbrev pub AreNeededFrom : (first : ℕ) → List SlotView → Type 0
+AreNeededFrom first slots = AllByRecursion (λ slot. AllByRecursion (IsNeededFrom first) slot.windows) slots
 
 -- each window is for as many lines
 abbrev pub AreOfMost : (most : ℕ) → List SlotView → Type 0
 AreOfMost most slots = AllByRecursion (λ slot. AllByRecursion (λ it. it.window.most ≡ most) slot.windows) slots
 
--- how many windows there are
-abbrev pub window_count : List SlotView → ℕ
-window_count slots = sum_by (λ slot. length slot.windows) slots
+-- how many terms slots answer
+abbrev pub term_count : List SlotView → ℕ
+term_count slots = sum_by (λ slot. length slot.terms) slots
 
 -- STANDING
 
@@ -156,6 +166,15 @@ HasVisits more before after = (after.runs ≡ before.runs) × (after.visits ≤ 
 abbrev pub visits_of : List RangeWindow → (t : ℕ) → ℕ
 visits_of windows t = sum_by (λ it. visits it.window t) windows
 
+-- the timestamps of a range's lines that came due after one moment and by a later one, and of those that left it between them
+abbrev pub visits_by : List Entry → (since t : ℕ) → RangeCode × ℕ → ℕ
+visits_by entries since t key =
+    let lines = lines_of (elements_for key.0 entries) in
+    moments (filter (λ line. is_between (since + 1) (t + 1) line.0) lines) + moments (filter (λ line. is_between (first_needed key.1 since) (first_needed key.1 t) line.0) lines)
+
+abbrev pub visits_for : List Entry → (since t : ℕ) → Term → ℕ
+visits_for entries since t term = visits_by entries since t (term_key term)
+
 -- what the range of the window at an index has of entries at a moment, for whichever term it is of
 abbrev pub IsPartialAt : List RangeWindow → List Entry → (t index : ℕ) → Partial → Type 0
 IsPartialAt windows entries t index found = (term : Term) → IsWindowOf windows term index → found ≡ partial entries term t
@@ -188,6 +207,11 @@ put_at (Some index) slot slots = slice_set slots index slot
 -- slots with one in the stead of that of its number, or beside them
 abbrev pub with_slot : SlotView → List SlotView → List SlotView
 with_slot slot slots = put_at (position (λ own. own.number == slot.number) slots) slot slots
+
+-- the moment at which the slot of a number was answered last
+abbrev pub collected_in : (number : ℕ) → List SlotView → Option ℕ
+collected_in number [] = None
+collected_in number (slot ∷ slots) = if slot.number == number then Some slot.collected else collected_in number slots
 
 -- of slots the one at an index answers its terms from a moment on, and the others are as they were
 abbrev pub IsMovedOn : (index t : ℕ) → List SlotView → List SlotView → Type 0

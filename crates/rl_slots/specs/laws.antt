@@ -2,3 +2,4 @@
 pub mod Alike
 pub mod Exact
 pub mod Living
+pub mod Visits

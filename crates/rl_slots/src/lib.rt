@@ -4,7 +4,7 @@
 //! change the windows that need them, and a later question moves the windows on. Nothing here knows a store.
 //!
 //! - `range_window`: `RangeWindow`, a window with the code of its range.
-//! - `change`: `Change`, an element that a line adds to one window of a slot.
+//! - `change`: `Change`, an element that a line adds to one window of a slot; `AddFault`, why changes are not added.
 //! - `slot`: `Slot`, the windows of a group's terms. `slots`: `Slots`, those of all groups.
 //! - `sending`: slots may be sent to another thread.
 #![tactic(auto)]
@@ -15,7 +15,7 @@ pub mod sending;
 pub mod slot;
 pub mod slots;
 
-pub use change::Change;
+pub use change::{AddFault, Change};
 pub use range_window::RangeWindow;
 pub use slot::Slot;
 pub use slots::Slots;

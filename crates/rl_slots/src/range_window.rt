@@ -1,5 +1,5 @@
 //! Windows with the code of their range.
-ghost use Rattle.std.specs.Prelude.{◌≡◌, ◌≤◌, List, ◌∷◌, IfOk, OnErr, OnOk};
+ghost use Rattle.std.specs.Prelude.{◌≡◌, ◌≤◌, ℕ, List, ◌∷◌, IfOk, IsErrOf, OnErr, OnOk};
 ghost use Rattle.rl_labels.specs.declared.entry.Entry.{Entry};
 ghost use Rattle.rl_query.specs.declared.query.Term.{Term};
 ghost use Rattle.rl_aggregate.specs.Limited.{IsWithin};
@@ -7,8 +7,10 @@ ghost use Rattle.rl_aggregate.specs.Partials.{partial};
 ghost use Rattle.rl_windows.specs.Ranges.{code_of, elements_for, HasRuns};
 ghost use Rattle.rl_windows.specs.Windows.{in_range, visits, StandsFor};
 ghost use Rattle.rl_windows.specs.declared.element.Element.{Element};
-ghost use Rattle.rl_slots.specs.Slots.{key_of, range_of, wanted, HasVisits, IsOfLine};
+ghost use Rattle.rl_slots.specs.Slots.{key_of, range_of, visits_by, wanted, HasVisits, IsFull, IsOfLine};
+ghost use Rattle.rl_slots.specs.declared.change.AddFault.TheVariants as adds;
 
+use crate::change::AddFault;
 use rl_aggregate::Partial;
 use rl_labels::Ns;
 use rl_pipeline::{Meter, ParsedLine};
@@ -42,17 +44,18 @@ impl RangeWindow {
     }
 
     // Adds an element of one line, if there is room for it. Refused, the window stays as it was.
-    pub(crate) fn add(&mut self, element: &Element) -> Result<(), AllocError>
+    pub(crate) fn add(&mut self, element: &Element) -> Result<(), AddFault>
         requires { IsOfLine element.now.volume }
         ensures stands { OnOk result ((es : List Element) → StandsFor self.old.window es → StandsFor self.new.window (element.now ∷ es)) }
         ensures err { OnErr result (self.new ≡ self.old) }
+        ensures full { IsErrOf result adds.Full → IsFull self.old }
         ensures range { range_of self.new ≡ range_of self.old }
     {
-        // What is listed has room.
         if !self.window.has_room() {
-            return Err(AllocError);
+            return Err(AddFault::Full);
         }
-        self.window.add(element)
+        self.window.add(element)?;
+        Ok(())
     }
 
     // Takes an element out, if it can be there.
@@ -69,9 +72,10 @@ impl RangeWindow {
         ensures stands { (es : List Element) → StandsFor self.old.window es → StandsFor self.new.window es }
         ensures range { key_of self.new ≡ key_of self.old }
         ensures most { self.new.window.most ≡ self.old.window.most }
-        ensures moment { self.new.window.moment ≤ t }
+        ensures moment { (self.old.window.moment ≤ self.new.window.moment) × (self.new.window.moment ≤ t) }
         ensures moved { OnOk result (self.new.window.moment ≡ t) }
         ensures visits { HasVisits (visits self.old.window t) meter.old meter.new }
+        ensures few { (entries : List Entry) (since : ℕ) → since ≤ self.old.window.moment → StandsFor self.old.window (elements_for self.old.code entries) → visits self.old.window t ≤ visits_by entries since t (key_of self.old) }
     {
         self.window.slide(t, meter)
     }

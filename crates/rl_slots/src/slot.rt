@@ -1,7 +1,7 @@
 //! The windows of a group's terms.
-ghost use Rattle.std.specs.Prelude.{◌≡◌, ◌≤◌, ◌<◌, ◌++◌, ℕ, List, length, map, true, false, IfOk, Ok, OnErr, OnOk};
+ghost use Rattle.std.specs.Prelude.{◌≡◌, ◌≤◌, ◌<◌, ◌++◌, ℕ, List, length, map, slice_get, IfOk, IfSome, IsErrOf, OnErr, OnOk};
 ghost use Rattle.std.specs.Bool.{Decides};
-ghost use Rattle.std.specs.List.{AllByRecursion, AllZip};
+ghost use Rattle.std.specs.List.{AllByRecursion, AllZip, sum_by};
 ghost use Rattle.rl_labels.specs.declared.entry.Entry.{Entry};
 ghost use Rattle.rl_aggregate.specs.Limited.{IsWithin};
 ghost use Rattle.rl_aggregate.specs.Partials.{partial};
@@ -9,9 +9,10 @@ ghost use Rattle.rl_windows.specs.Ranges.{HasRuns};
 ghost use Rattle.rl_windows.specs.declared.element.Element.{Element};
 ghost use Rattle.rl_windows.specs.declared.range.RangeCode.{RangeCode};
 ghost use Rattle.rl_query.specs.declared.query.Term.{Term};
-ghost use Rattle.rl_slots.specs.Slots.{changes_in, key_of, outline, visits_of, with_element_at, AreExactIn, AreSums, HasRoomFor, HasVisits, IsFullIn, IsLive, IsOfLine, IsPartialAt, IsSumAt, IsWindowOf, StandIn, ContentsIn};
+ghost use Rattle.rl_slots.specs.Slots.{changes_in, key_of, outline, term_key, visits_by, visits_for, visits_of, with_element_at, AreExactIn, ArePicked, AreSums, HasVisits, IsFull, IsLive, IsNeededFrom, IsOfLine, IsPartialAt, IsSumAt, IsWindowOf, StandIn, ContentsIn};
+ghost use Rattle.rl_slots.specs.declared.change.AddFault.TheVariants as adds;
 
-use crate::change::Change;
+use crate::change::{AddFault, Change};
 use crate::range_window::RangeWindow;
 use rl_aggregate::Partial;
 use rl_labels::Ns;
@@ -44,11 +45,12 @@ impl Model for Slot {
 
     ghost view = { λ a. record { number = a.number; terms = a.terms; collected = a.collected; reached = a.reached; windows = a.windows.items } };
 
-    ghost invariant = { λ a. IsSlot a.terms a.reached a.windows.items a.indices.items };
+    ghost invariant = { λ a. IsSlot a.terms a.collected a.reached a.windows.items a.indices.items };
 }
 
 impl Slot {
-    /// The slot of a group that was answered at a moment, with the window of each term by its index.
+    /// The slot of a group that was answered at a moment, with the window of each term by its index. The windows are of ranges of the
+    /// terms, in their order.
     pub fn new(
         number: u64,
         terms: Shared<PlainList<Term>>,
@@ -57,7 +59,8 @@ impl Slot {
         indices: Vec<usize>,
     ) -> Slot
         requires of_terms { AllZip (IsWindowOf windows.items) terms indices.items }
-        requires moments { AllByRecursion (λ it. it.window.moment ≤ t) windows.items }
+        requires picked { ArePicked (map key_of windows.items) (map term_key terms) }
+        requires moments { AllByRecursion (λ it. it.window.moment ≡ t) windows.items }
         ensures { result ≡ record { number = number; terms = terms; collected = t; reached = t; windows = windows.items } }
     {
         Slot {
@@ -84,7 +87,7 @@ impl Slot {
         self.reached <= t && self.terms.get().is_same(terms)
     }
 
-    // Lists what a line changes here, and answers whether each window that it changes has room.
+    // Lists what a line changes here.
     pub(crate) fn list(
         &self,
         slot: usize,
@@ -92,34 +95,42 @@ impl Slot {
         line: &mut ParsedLine<'_>,
         timestamp: Ns,
         changes: &mut Vec<Change>,
-    ) -> Result<bool, AllocError>
-        ensures listed { result ≡ Ok true → changes.new.items ≡ changes.old.items ++ changes_in line.old timestamp slot 0 self.now.windows }
-        ensures room { result ≡ Ok true → AllByRecursion (HasRoomFor line.old timestamp) self.now.windows }
-        ensures full { result ≡ Ok false → IsFullIn self.now.windows }
-        ensures runs { HasRuns (length self.now.windows) meter.old meter.new }
+    ) -> Result<(), AllocError>
+        ensures listed { OnOk result (changes.new.items ≡ changes.old.items ++ changes_in line.old timestamp slot 0 self.now.windows) }
+        ensures runs { HasRuns (length self.now.terms) meter.old meter.new }
         ensures line { line.new ≡ line.old }
     {
         for (window, it) in self.windows.iter().enumerate() {
             let Some(element) = it.element_of(meter, line, timestamp)? else {
                 continue;
             };
-            if !it.window.has_room() {
-                return Ok(false);
-            }
             changes.push(Change {
                 slot,
                 window,
                 element,
             })?;
         }
-        Ok(true)
+        Ok(())
+    }
+
+    // The first timestamp that one of the windows needs, if it is before another.
+    pub(crate) fn first_needed(&self, other: u64) -> u64
+        ensures first { AllByRecursion (IsNeededFrom result) self.now.windows }
+        ensures least { result ≤ other }
+    {
+        let mut first = other;
+        for it in &self.windows {
+            first = first.min(it.window.first_needed());
+        }
+        first
     }
 
     // Adds an element to a window that has room for it. Refused, the slot stays as it was.
-    pub(crate) fn add(&mut self, window: usize, element: &Element) -> Result<(), AllocError>
+    pub(crate) fn add(&mut self, window: usize, element: &Element) -> Result<(), AddFault>
         requires { IsOfLine element.now.volume }
         ensures stands { OnOk result ((contents : ℕ → RangeCode → List Element) → StandIn self.old.windows contents → StandIn self.new.windows (with_element_at window element.now contents)) }
         ensures err { OnErr result (self.new ≡ self.old) }
+        ensures full { IsErrOf result adds.Full → IfSome (slice_get self.old.windows window) IsFull }
         ensures outline { outline self.new ≡ outline self.old }
     {
         if window >= self.windows.len() {
@@ -154,7 +165,8 @@ impl Slot {
         ensures within { IfOk result (λ partials. (most : ℕ) → AllByRecursion (λ it. it.window.most ≡ most) self.old.windows → AllByRecursion (IsWithin most) partials) }
         ensures stand { (contents : ContentsIn) → StandIn self.old.windows contents → StandIn self.new.windows contents }
         ensures most { (most : ℕ) → AllByRecursion (λ it. it.window.most ≡ most) self.old.windows → AllByRecursion (λ it. it.window.most ≡ most) self.new.windows }
-        ensures visits { HasVisits (visits_of self.old.windows t) meter.old meter.new }
+        ensures visits { (entries : List Entry) → AreExactIn self.old.windows entries → HasVisits (sum_by (visits_for entries self.old.collected t) self.old.terms) meter.old meter.new }
+        ensures runs { meter.new.runs ≡ meter.old.runs }
         ensures asked { (self.new.number ≡ self.old.number) × (self.new.terms ≡ self.old.terms) × (self.new.reached ≡ t) }
         ensures collected { OnOk result (self.new.collected ≡ t) }
         ensures kept { OnErr result (self.new.collected ≡ self.old.collected) }
@@ -184,7 +196,10 @@ fn collect_each(
     ensures ranges { map key_of windows.new ≡ map key_of windows.old }
     ensures most { (most : ℕ) → AllByRecursion (λ it. it.window.most ≡ most) windows.old → AllByRecursion (λ it. it.window.most ≡ most) windows.new }
     ensures moments { AllByRecursion (λ it. it.window.moment ≤ t) windows.new }
+    ensures moved { OnOk result (AllByRecursion (λ it. it.window.moment ≡ t) windows.new) }
+    ensures since { (since : ℕ) → AllByRecursion (λ it. since ≤ it.window.moment) windows.old → AllByRecursion (λ it. since ≤ it.window.moment) windows.new }
     ensures visits { HasVisits (visits_of windows.old t) meter.old meter.new }
+    ensures few { (entries : List Entry) (since : ℕ) → AreExactIn windows.old entries → AllByRecursion (λ it. since ≤ it.window.moment) windows.old → HasVisits (sum_by (visits_by entries since t) (map key_of windows.old)) meter.old meter.new }
 {
     slide_each(windows, t, meter)?;
     partials_at(alloc, windows, indices, t)
@@ -198,7 +213,9 @@ fn slide_each(windows: &mut [RangeWindow], t: Ns, meter: &mut Meter) -> Result<(
     ensures most { (most : ℕ) → AllByRecursion (λ it. it.window.most ≡ most) windows.old → AllByRecursion (λ it. it.window.most ≡ most) windows.new }
     ensures moments { AllByRecursion (λ it. it.window.moment ≤ t) windows.new }
     ensures moved { OnOk result (AllByRecursion (λ it. it.window.moment ≡ t) windows.new) }
+    ensures since { (since : ℕ) → AllByRecursion (λ it. since ≤ it.window.moment) windows.old → AllByRecursion (λ it. since ≤ it.window.moment) windows.new }
     ensures visits { HasVisits (visits_of windows.old t) meter.old meter.new }
+    ensures few { (entries : List Entry) (since : ℕ) → AreExactIn windows.old entries → AllByRecursion (λ it. since ≤ it.window.moment) windows.old → HasVisits (sum_by (visits_by entries since t) (map key_of windows.old)) meter.old meter.new }
 {
     for index in 0..windows.len() {
         windows[index].slide(t, meter)?;

@@ -1,14 +1,14 @@
 //! The slots of all groups.
-ghost use Rattle.std.specs.Prelude.{◌≡◌, ◌≤◌, ◌<◌, ◌==◌, ℕ, List, [], ◌∷◌, length, map, option_map, slice_get, None, Some, IfNone, IfOk, IfSome, Ok, OnErr, OnOk};
-ghost use Rattle.std.specs.List.{AllByRecursion, position};
-ghost use Rattle.rl_labels.specs.EntryParts.{longest_line};
+ghost use Rattle.std.specs.Prelude.{◌≡◌, ◌≤◌, ◌<◌, ◌+◌, ◌==◌, ℕ, List, [], ◌++◌, length, map, option_map, slice_get, Some, IfNone, IfOk, IfSome, IsErrOf, OnErr, OnOk};
+ghost use Rattle.std.specs.List.{AllByRecursion, position, sum_by};
 ghost use Rattle.rl_labels.specs.declared.entry.Entry.{Entry};
 ghost use Rattle.rl_aggregate.specs.Limited.{IsWithin};
 ghost use Rattle.rl_aggregate.specs.Partials.{partial};
 ghost use Rattle.rl_windows.specs.Ranges.{HasRuns};
-ghost use Rattle.rl_slots.specs.Slots.{changes_of, line_of, outline, visits_of, window_count, with_change, with_changes, with_slot, AllStand, AreExact, AreFull, AreOfMost, Contents, HasRoomFor, HasVisits, IsLive, IsLiveIn, IsMovedOn, IsOfLine, SlotView};
+ghost use Rattle.rl_slots.specs.Slots.{changes_of, changes_of_all, collected_in, outline, term_count, visits_for, with_change, with_changes, with_slot, AllStand, AreExact, AreNeededFrom, AreOfMost, Contents, HasVisits, IsFull, IsLive, IsLiveIn, IsMovedOn, IsOfLine, SlotView};
+ghost use Rattle.rl_slots.specs.declared.change.AddFault.TheVariants as adds;
 
-use crate::change::Change;
+use crate::change::{AddFault, Change};
 use crate::slot::Slot;
 use rl_aggregate::Partial;
 use rl_labels::Ns;
@@ -72,41 +72,49 @@ impl Slots {
         Some(index)
     }
 
-    /// What a line changes in all windows; none, if one that it changes has as many lines as it may have.
+    /// Lists what a line changes in all windows.
     pub fn list(
         &self,
-        alloc: Global,
         meter: &mut Meter,
         line: &mut ParsedLine<'_>,
         timestamp: Ns,
-    ) -> Result<Option<Vec<Change>>, AllocError>
-        ensures listed { IfOk result (λ listed. IfSome listed (λ changes. changes.items ≡ changes_of line.old timestamp self.now)) }
-        ensures room { IfOk result (λ listed. IfSome listed (λ _. AllByRecursion (λ slot. AllByRecursion (HasRoomFor line.old timestamp) slot.windows) self.now)) }
-        ensures full { result ≡ Ok None → AreFull self.now }
-        ensures runs { HasRuns (window_count self.now) meter.old meter.new }
+        changes: &mut Vec<Change>,
+    ) -> Result<(), AllocError>
+        ensures listed { OnOk result (changes.new.items ≡ changes.old.items ++ changes_of line.old timestamp self.now) }
+        ensures runs { HasRuns (term_count self.now) meter.old meter.new }
         ensures line { line.new ≡ line.old }
     {
-        let mut changes = Vec::new(alloc);
         for (index, slot) in self.slots.iter().enumerate() {
-            if !slot.list(index, meter, line, timestamp, &mut changes)? {
-                return Ok(None);
-            }
+            slot.list(index, meter, line, timestamp, changes)?;
         }
-        Ok(Some(changes))
+        Ok(())
     }
 
-    /// Adds what changes have to their windows. Refused, each window stands for what it stood for.
-    pub fn add(&mut self, changes: &[Change]) -> Result<(), AllocError>
+    /// The first timestamp that a window needs, in nanoseconds, if it is before another.
+    pub fn first_needed(&self, other: u64) -> u64
+        ensures first { AreNeededFrom result self.now }
+        ensures least { result ≤ other }
+    {
+        let mut first = other;
+        for slot in &self.slots {
+            first = slot.first_needed(first);
+        }
+        first
+    }
+
+    /// Adds what changes have to their windows, each of which has to have room. Refused, each window stands for what it stood for.
+    pub fn add(&mut self, changes: &[Change]) -> Result<(), AddFault>
         requires { AllByRecursion (λ change. IsOfLine change.element.volume) changes.now }
         ensures stand { OnOk result ((contents : Contents) → AllStand self.old contents → AllStand self.new (with_changes changes.now contents)) }
-        ensures exact { OnOk result ((entry : Entry) (entries : List Entry) → length entry.line ≤ longest_line → changes.now ≡ changes_of (line_of entry) entry.timestamp self.old → AreExact self.old entries → AreExact self.new (entry ∷ entries)) }
+        ensures exact { OnOk result ((gained entries : List Entry) → changes.now ≡ changes_of_all gained self.old → AreExact self.old entries → AreExact self.new (gained ++ entries)) }
         ensures refused { OnErr result ((contents : Contents) → AllStand self.old contents → AllStand self.new contents) }
+        ensures full { IsErrOf result adds.Full → (most : ℕ) (gained entries : List Entry) → AreOfMost most self.old → changes.now ≡ changes_of_all gained self.old → AreExact self.old entries → most < length gained + length entries }
         ensures outline { map outline self.new ≡ map outline self.old }
     {
         for (index, change) in changes.iter().enumerate() {
-            if self.add_one(change).is_err() {
+            if let Err(fault) = self.add_one(change) {
                 self.take_out(&changes[..index]);
-                return Err(AllocError);
+                return Err(fault);
             }
         }
         Ok(())
@@ -115,7 +123,7 @@ impl Slots {
     /// Takes what changes have out of their windows. Takes no memory.
     pub fn take_out(&mut self, changes: &[Change])
         ensures stand { (contents : Contents) → AllStand self.old (with_changes changes.now contents) → AllStand self.new contents }
-        ensures exact { (entry : Entry) (entries : List Entry) (slots : List SlotView) → length entry.line ≤ longest_line → map outline slots ≡ map outline self.old → changes.now ≡ changes_of (line_of entry) entry.timestamp slots → AreExact self.old (entry ∷ entries) → AreExact self.new entries }
+        ensures exact { (lost entries : List Entry) (slots : List SlotView) → map outline slots ≡ map outline self.old → changes.now ≡ changes_of_all lost slots → AreExact self.old (lost ++ entries) → AreExact self.new entries }
         ensures outline { map outline self.new ≡ map outline self.old }
     {
         let mut left = changes.len();
@@ -142,7 +150,11 @@ impl Slots {
         ensures stand { (contents : Contents) → AllStand self.old contents → AllStand self.new contents }
         ensures most { (most : ℕ) → AreOfMost most self.old → AreOfMost most self.new }
         ensures moved { IsMovedOn index t self.old self.new }
-        ensures visits { IfSome (slice_get self.old index) (λ slot. HasVisits (visits_of slot.windows t) meter.old meter.new) }
+        ensures collected { OnOk result ((number : ℕ) → position (λ slot. slot.number == number) self.old ≡ Some index → collected_in number self.new ≡ Some t) }
+        ensures others { (number : ℕ) → (position (λ slot. slot.number == number) self.old ≡ Some index → ⊥) → collected_in number self.new ≡ collected_in number self.old }
+        ensures kept { OnErr result ((number : ℕ) → collected_in number self.new ≡ collected_in number self.old) }
+        ensures visits { (entries : List Entry) → AreExact self.old entries → IfSome (slice_get self.old index) (λ slot. HasVisits (sum_by (visits_for entries slot.collected t) slot.terms) meter.old meter.new) }
+        ensures runs { meter.new.runs ≡ meter.old.runs }
     {
         self.slots[index].collect(alloc, t, meter)
     }
@@ -159,18 +171,12 @@ impl Slots {
         Ok(())
     }
 
-    /// Lets all slots go.
-    pub fn clear(&mut self)
-        ensures { self.new ≡ [] }
-    {
-        self.slots.clear();
-    }
-
     // Adds what one change has. Refused, the slots stay as they were.
-    fn add_one(&mut self, change: &Change) -> Result<(), AllocError>
+    fn add_one(&mut self, change: &Change) -> Result<(), AddFault>
         requires { IsOfLine change.now.element.volume }
         ensures stand { OnOk result ((contents : Contents) → AllStand self.old contents → AllStand self.new (with_change change.now contents)) }
         ensures err { OnErr result (self.new ≡ self.old) }
+        ensures full { IsErrOf result adds.Full → IfSome (slice_get self.old change.now.slot) (λ slot. IfSome (slice_get slot.windows change.now.window) IsFull) }
         ensures outline { map outline self.new ≡ map outline self.old }
     {
         if change.slot >= self.slots.len() {

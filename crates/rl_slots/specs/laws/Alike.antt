@@ -1,41 +1,48 @@
--- Windows that stand for what entries add to them: whatever the order of the entries, how many these are where one is full, and in slots that are set.
-use Rattle.std.specs.Prelude.{◌≡◌, ℕ, zero, suc, ◌+◌, ◌*◌, ◌≤◌, ◌==◌, nat_le, Bool, true, false, cond, ◌&&◌, List, [], ◌∷◌, ◌++◌, length, Option, None, Some, IfSome, option_to_list, slice_get, slice_set, slice_index_or, refl}
+-- Windows that stand for what entries add to them: whatever the order of the entries, and in slots that are set.
+use Rattle.std.specs.Prelude.{◌≡◌, ℕ, zero, suc, ◌+◌, ◌*◌, ◌==◌, nat_le, Bool, true, false, cond, ◌&&◌, List, [], ◌∷◌, ◌++◌, None, Some, IfSome, slice_get, slice_set, refl}
 use Rattle.std.specs.List.{position, AllByRecursion, sum_by}
-use Rattle.std.specs.Option.{option_map}
 use Rattle.std.proofs.Common.{sym, ap, subst, ◌∙◌, arith}
 use Rattle.std.proofs.lemmas.Bool.{and_from, and_parts, le-leb, leb-true}
 use Rattle.std.proofs.lemmas.List.{map-append}
-use Rattle.std.proofs.lemmas.List.Sums.{sum_by-append, sum_by-cons, sum_by-le}
+use Rattle.std.proofs.lemmas.List.Sums.{sum_by-append, sum_by-cons}
 use Rattle.std.proofs.lemmas.Option.{none-some, same_Some, IfSome_then}
 use Rattle.rl_labels.specs.EntryParts.{longest_line}
-use Rattle.rl_labels.specs.LabelSet.{LabelSet}
-use Rattle.rl_labels.specs.Selects.{selects}
 use Rattle.rl_labels.specs.declared.entry.Entry.{Entry}
-use Rattle.rl_pipeline.specs.Running.{run}
-use Rattle.rl_aggregate.specs.InRange.{line_run}
 use Rattle.rl_aggregate.specs.declared.volume.Volume.{Volume}
 use Rattle.rl_windows.specs.Buckets.{AreAlike, AreShort, Lines}
-use Rattle.rl_windows.specs.Ranges.{element_of, elements_for, entry_elements}
+use Rattle.rl_windows.specs.Ranges.{elements_for, entry_elements}
 use Rattle.rl_windows.specs.Windows.{is_needed, lines_of, StandsFor, WindowView}
 use Rattle.rl_windows.specs.declared.element.Element.{Element}
 use Rattle.rl_windows.specs.declared.element.Stamp.{Stamp}
 use Rattle.rl_windows.specs.declared.range.RangeCode.{RangeCode}
-use Rattle.rl_windows.specs.laws.Alike.{alike-filter, count-filter}
-use Rattle.rl_slots.specs.Slots.{put_at, with_slot, AreExact, AreExactIn, AreFull, AreOfMost, SlotView}
+use Rattle.rl_windows.specs.laws.Alike.{alike-filter}
+use Rattle.rl_slots.specs.Slots.{put_at, with_slot, AreExact, AreExactIn, SlotView}
 use Rattle.rl_slots.specs.declared.range_window.RangeWindow.{RangeWindow}
 
 -- SUMS
+
+module _ (number : Stamp × Volume → ℕ) where
+  -- a number for each line of one stamp, added up over elements
+  abbrev pub total : List Element → ℕ
+  total elements = sum_by number (lines_of elements)
+
+  pub total-append : (xs ys : List Element) → total (xs ++ ys) ≡ total xs + total ys
+  total-append xs ys = ap (sum_by number) (map-append (λ (element : Element). (element.stamp, element.volume)) xs ys) ∙ sum_by-append number (lines_of xs) (lines_of ys)
+
+  pub total-cons : (element : Element) (elements : List Element) → total (element ∷ elements) ≡ number (element.stamp, element.volume) + total elements
+  total-cons element elements = sum_by-cons number (element.stamp, element.volume) (lines_of elements)
+
+  -- an element counts the same wherever it stands
+  pub total-between : (element : Element) (xs ys : List Element) → total (element ∷ (xs ++ ys)) ≡ total (xs ++ element ∷ ys)
+  total-between element xs ys = omega (arith, total-cons element (xs ++ ys), total-append xs ys, total-append xs (element ∷ ys), total-cons element ys)
 
 -- a number for each line of one stamp, added up over what entries add to windows of a range
 entry-sums : (number : Stamp × Volume → ℕ) (code : RangeCode) (entries : List Entry)
     → sum_by number (lines_of (elements_for code entries)) ≡ sum_by (λ entry. sum_by number (lines_of (entry_elements code entry))) entries
 entry-sums number code [] = refl
 entry-sums number code (entry ∷ entries) =
-    let own = lines_of (entry_elements code entry) in
-    let others = lines_of (elements_for code entries) in
-    ap (sum_by number) (map-append (λ (element : Element). (element.stamp, element.volume)) (entry_elements code entry) (elements_for code entries))
-    ∙ sum_by-append number own others
-    ∙ ap (λ n. sum_by number own + n) (entry-sums number code entries)
+    total-append number (entry_elements code entry) (elements_for code entries)
+    ∙ ap (λ n. total number (entry_elements code entry) + n) (entry-sums number code entries)
     ∙ sym (sum_by-cons (λ entry. sum_by number (lines_of (entry_elements code entry))) entry entries)
 
 -- 1 for lines that are not short
@@ -63,7 +70,7 @@ short-lines (line ∷ lines) none =
 -- ENTRIES IN ANOTHER ORDER
 
 -- a window stands for elements with the same sums
-stands-alike : (window : WindowView) (elements others : List Element)
+pub stands-alike : (window : WindowView) (elements others : List Element)
     → ((number : Stamp × Volume → ℕ) → sum_by number (lines_of others) ≡ sum_by number (lines_of elements)) → StandsFor window elements → StandsFor window others
 stands-alike window elements others same stands = (
   short-lines (lines_of others) (same one_if_long ∙ none-long (lines_of elements) stands.0),
@@ -86,43 +93,13 @@ exact-alike slots entries others same exact s = IfSome_then (slice_get slots s) 
         ∙ same (λ entry. sum_by number (lines_of (entry_elements it.code entry)))
         ∙ sym (entry-sums number it.code entries))
 
--- FULL WINDOWS
+-- ONE OF SEVERAL
 
 -- what holds of each item of a list holds of the one at an index
 pub at_place : {X : Type 0} (P : X → Type 0) (items : List X) (index : ℕ) (item : X) → slice_get items index ≡ Some item → AllByRecursion P items → P item
 at_place P [] index item there all = absurd (none-some item there)
 at_place P (first ∷ items) zero item there all = subst P (same_Some first item there) all.0
 at_place P (first ∷ items) (suc index) item there all = at_place P items index item there all.1
-
--- where the windows of all slots stand for what entries add to them, those of one do
-pub exact-in : (slots : List SlotView) (index : ℕ) (slot : SlotView) (entries : List Entry) → slice_get slots index ≡ Some slot → AreExact slots entries → AreExactIn slot.windows entries
-exact-in slots index slot entries there exact = subst (λ o. IfSome o (λ slot. AreExactIn slot.windows entries)) there (exact index)
-
--- an entry adds at most one line to windows of a range
-one_line : (code : RangeCode) (entry : Entry) → sum_by (λ line. line.1.count) (lines_of (entry_elements code entry)) ≤ 1
-one_line code entry =
-    let after = run code.pipeline entry.line entry.labels in
-    let added = λ (o : Option LabelSet). option_map (λ labels. element_of entry.timestamp (line_run labels (length entry.line))) o in
-    let count = λ (o : Option Element). sum_by (λ (line : Stamp × Volume). line.1.count) (lines_of (option_to_list o)) in
-    elim (selects code.selector entry.labels) as (λ b. count (cond b (added after) None) ≤ 1) [
-      | true ↦ elim after as (λ o. count (added o) ≤ 1) [ None ↦ omega arith | Some labels ↦ omega arith ]
-      | false ↦ omega arith
-    ]
-
--- so there are as many entries as a full window that stands for what they add to it has room for
-pub full-many : (slots : List SlotView) (entries : List Entry) (most : ℕ) → AreOfMost most slots → AreExact slots entries → AreFull slots → most ≤ length entries
-full-many slots entries most of_most exact full =
-    let slot = full.1 in
-    let it = full.3.1 in
-    let each_most = at_place (λ slot. AllByRecursion (λ it. it.window.most ≡ most) slot.windows) slots full.0 slot full.2 of_most in
-    let is_most = at_place (λ it. it.window.most ≡ most) slot.windows full.3.0 it full.3.2 each_most in
-    let stand = exact-in slots full.0 slot entries full.2 exact in
-    let stands = subst (λ o. IfSome o (λ it. StandsFor it.window (elements_for it.code entries))) full.3.2 (stand full.3.0) in
-    let lines = lines_of (elements_for it.code entries) in
-    let counted = ap (λ (v : Volume). v.count) (stands.1 (λ _. true)) in
-    let needed = count-filter (λ stamp. is_needed it.window.seconds it.window.moment stamp) lines in
-    let each = sum_by-le (λ entry. sum_by (λ line. line.1.count) (lines_of (entry_elements it.code entry))) 1 entries (λ k d _. one_line it.code (slice_index_or entries k d)) in
-    omega (arith, full.3.3, is_most, counted, needed, entry-sums (λ line. line.1.count) it.code entries, each)
 
 -- SLOTS
 

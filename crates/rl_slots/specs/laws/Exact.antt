@@ -2,8 +2,9 @@
 use Rattle.std.specs.Prelude.{◌≡◌, ◌≢◌, ◌≤◌, ◌<◌, ℕ, zero, suc, ◌+◌, ◌*◌, nat_eq, nat_lt, Bool, true, false, cond, List, [], ◌∷◌, ◌++◌, map, length, Option, None, Some, IfSome, option_map, option_to_list, slice_get, refl}
 use Rattle.std.specs.FinMap.{entries}
 use Rattle.std.specs.List.{AllByRecursion, filter}
-use Rattle.std.proofs.Common.{sym, ap, subst, ◌∙◌, arith}
-use Rattle.std.proofs.lemmas.Bool.{eq-eqb, ne_eqb}
+use Rattle.std.proofs.Common.{sym, ap, subst, ◌∙◌, append_assoc, arith}
+use Rattle.std.proofs.lemmas.Bool.{eq-eqb, le-ltb, ne_eqb}
+use Rattle.std.proofs.lemmas.Grind.{flat_map-append}
 use Rattle.std.proofs.lemmas.Option.{none-some, slice_get-map}
 use Rattle.rl_labels.specs.EntryParts.{longest_line}
 use Rattle.rl_labels.specs.LabelSet.{LabelSet}
@@ -12,12 +13,13 @@ use Rattle.rl_labels.specs.declared.entry.Entry.{Entry}
 use Rattle.rl_pipeline.specs.Lines.{StreamLine}
 use Rattle.rl_pipeline.specs.Running.{run}
 use Rattle.rl_aggregate.specs.InRange.{line_run, second}
-use Rattle.rl_windows.specs.Ranges.{element_for, element_of, elements_for}
+use Rattle.rl_windows.specs.Ranges.{element_for, element_of, elements_for, entry_elements}
 use Rattle.rl_windows.specs.Windows.{is_needed, lines_of, StandsFor, WindowView}
 use Rattle.rl_windows.specs.Buckets.{AreAlike}
 use Rattle.rl_windows.specs.declared.element.Element.{Element}
 use Rattle.rl_windows.specs.declared.range.RangeCode.{RangeCode}
-use Rattle.rl_slots.specs.Slots.{changes_from, changes_in, changes_of, line_of, outline, range_of, wanted, with_change, with_changes, with_element_at, AllStand, AreExact, Contents, IsOfLine, SlotView, StandIn}
+use Rattle.rl_slots.specs.Slots.{changes_from, changes_in, changes_of, changes_of_all, line_of, outline, range_of, wanted, with_change, with_changes, with_element_at, AllStand, AreExact, AreNeededFrom, Contents, IsNeededFrom, IsOfLine, SlotView}
+use Rattle.rl_slots.specs.laws.Alike.{at_place, stands-alike, total-between}
 use Rattle.rl_slots.specs.declared.change.Change.{Change}
 use Rattle.rl_slots.specs.declared.range_window.RangeWindow.{RangeWindow}
 
@@ -128,13 +130,20 @@ module _ (line : StreamLine) (timestamp : ℕ) where
       ∙ from-here (suc first) k w slots (with_changes (changes_in line timestamp first 0 own_slot.windows) contents) slot it code there window
       ∙ ap (put (wanted line timestamp it)) (in-slot first 0 own_slot.windows contents (suc first + k) w code (λ same. omega (arith, same))))
 
+  -- so each window of slots has what it wants
+  pub changed_at : (slots : List SlotView) (contents : Contents) (s w : ℕ) (slot : SlotView) (it : RangeWindow) (code : RangeCode) → slice_get slots s ≡ Some slot → slice_get slot.windows w ≡ Some it
+      → with_changes (changes_of line timestamp slots) contents s w code ≡ put (wanted line timestamp it) (contents s w code)
+  changed_at slots contents s w slot it code there window =
+      subst (λ n. with_changes (changes_of line timestamp slots) contents n w code ≡ put (wanted line timestamp it) (contents n w code)) (the_same s) (from-here 0 s w slots contents slot it code there window)
+
 -- ENTRIES
 
 -- an element of one line at a timestamp
-abbrev IsLineAt : (timestamp : ℕ) → Element → Type 0
+abbrev pub IsLineAt : (timestamp : ℕ) → Element → Type 0
 IsLineAt timestamp element = (element.stamp.timestamp ≡ timestamp) × IsOfLine element.volume
 
-line_at : (code : RangeCode) (line : StreamLine) (timestamp : ℕ) → length line.text ≤ longest_line → IfSome (element_for code line timestamp) (IsLineAt timestamp)
+-- what a line adds is such an element
+pub line_at : (code : RangeCode) (line : StreamLine) (timestamp : ℕ) → length line.text ≤ longest_line → IfSome (element_for code line timestamp) (IsLineAt timestamp)
 line_at code line timestamp short =
     elim (selects code.selector line.labels) as (λ b. IfSome (cond b (option_map (λ labels. element_of timestamp (line_run labels (length line.text))) (run code.pipeline line.text line.labels)) None) (IsLineAt timestamp)) [
       | true ↦ elim (run code.pipeline line.text line.labels) as (λ (o : Option LabelSet). IfSome (option_map (λ labels. element_of timestamp (line_run labels (length line.text))) o) (IsLineAt timestamp)) [
@@ -173,7 +182,7 @@ seen f None y is = absurd (none-some y is)
 seen f (Some x) y is = (x, refl, cc)
 
 -- slots that differ in the lines of their windows alone have windows of the same ranges at the same indices
-range_there : (slots others : List SlotView) (s w : ℕ) (slot : SlotView) (it : RangeWindow) → map outline others ≡ map outline slots → slice_get others s ≡ Some slot → slice_get slot.windows w ≡ Some it
+pub range_there : (slots others : List SlotView) (s w : ℕ) (slot : SlotView) (it : RangeWindow) → map outline others ≡ map outline slots → slice_get others s ≡ Some slot → slice_get slot.windows w ≡ Some it
     → (own : SlotView) × (slice_get slots s ≡ Some own) × ((own_it : RangeWindow) × (slice_get own.windows w ≡ Some own_it) × (range_of own_it ≡ range_of it))
 range_there slots others s w slot it same there window =
     let own = seen outline (slice_get slots s) (outline slot) (sym (slice_get-map outline slots s) ∙ ap (λ o. slice_get o s) (sym same) ∙ slice_get-map outline others s ∙ ap (option_map outline) there) in
@@ -181,68 +190,175 @@ range_there slots others s w slot it same there window =
     let range = seen range_of (slice_get own.0.windows w) (range_of it) (sym (slice_get-map range_of own.0.windows w) ∙ ap (λ o. slice_get o w) windows ∙ slice_get-map range_of slot.windows w ∙ ap (option_map range_of) window) in
     (own.0, own.1, range)
 
-module _ (entry : Entry) (entries_before : List Entry) (short : length entry.line ≤ longest_line) where
-  abbrev before : Contents
-  before _ _ code = elements_for code entries_before
+-- what follows from what holds of the value of an option
+some_then : {X : Type 0} (P Q : X → Type 0) (o : Option X) → ((x : X) → o ≡ Some x → P x → Q x) → IfSome o P → IfSome o Q
+some_then P Q None follows own = tt
+some_then P Q (Some x) follows own = follows x refl own
 
-  -- what windows of slots want of the entry, where they stand for other entries
-  changed_at : (slots : List SlotView) (s w : ℕ) (slot : SlotView) (it : RangeWindow) (code : RangeCode) → slice_get slots s ≡ Some slot → slice_get slot.windows w ≡ Some it
-      → with_changes (changes_of (line_of entry) entry.timestamp slots) before s w code ≡ put (wanted (line_of entry) entry.timestamp it) (elements_for code entries_before)
-  changed_at slots s w slot it code there window =
-      let same : 0 + s ≡ s = omega arith in
-      subst (λ n. with_changes (changes_of (line_of entry) entry.timestamp slots) before n w code ≡ put (wanted (line_of entry) entry.timestamp it) (elements_for code entries_before)) same
-      (from-here (line_of entry) entry.timestamp 0 s w slots before slot it code there window)
+-- what follows at each window from what holds there
+each_window : (slots : List SlotView) (P Q : (slot window : ℕ) → RangeWindow → Type 0)
+    → ((s w : ℕ) (slot : SlotView) (it : RangeWindow) → slice_get slots s ≡ Some slot → slice_get slot.windows w ≡ Some it → P s w it → Q s w it)
+    → ((s : ℕ) → IfSome (slice_get slots s) (λ slot. (w : ℕ) → IfSome (slice_get slot.windows w) (P s w))) → (s : ℕ) → IfSome (slice_get slots s) (λ slot. (w : ℕ) → IfSome (slice_get slot.windows w) (Q s w))
+each_window slots P Q follows all s = some_then (λ slot. (w : ℕ) → IfSome (slice_get slot.windows w) (P s w)) (λ slot. (w : ℕ) → IfSome (slice_get slot.windows w) (Q s w)) (slice_get slots s) (λ slot there own w.
+    some_then (P s w) (Q s w) (slice_get slot.windows w) (λ it window. follows s w slot it there window) (own w)) (all s)
 
-  -- the changes of an entry went in, so the windows stand for one entry more
-  pub exact-added : (slots others : List SlotView) → map outline others ≡ map outline slots → AllStand others (with_changes (changes_of (line_of entry) entry.timestamp slots) before) → AreExact others (entry ∷ entries_before)
-  exact-added slots others same stand s = at_slot (slice_get others s) refl (stand s)
-    where
-      at_window : (slot : SlotView) (w : ℕ) (o : Option RangeWindow) → slice_get others s ≡ Some slot → slice_get slot.windows w ≡ o
-          → IfSome o (λ it. StandsFor it.window (with_changes (changes_of (line_of entry) entry.timestamp slots) before s w it.code)) → IfSome o (λ it. StandsFor it.window (elements_for it.code (entry ∷ entries_before)))
-      at_window slot w None there is stands = tt
-      at_window slot w (Some it) there is stands =
-          let own = range_there slots others s w slot it same there is in
-          with_wanted it.window entry.timestamp (elements_for it.code entries_before) (element_for it.code (line_of entry) entry.timestamp) (line_at it.code (line_of entry) entry.timestamp short)
-          (subst (StandsFor it.window) (changed_at slots s w own.0 own.2.0 it.code own.1 own.2.1 ∙ ap (λ (r : RangeWindow). put (wanted (line_of entry) entry.timestamp r) (elements_for it.code entries_before)) own.2.2) stands)
+-- a window that stands for elements stands for them with one moved to the front
+put-between : (window : WindowView) (found : Option Element) (xs ys : List Element) → StandsFor window (xs ++ put found ys) → StandsFor window (put found (xs ++ ys))
+put-between window None xs ys stands = stands
+put-between window (Some e) xs ys stands = stands-alike window (xs ++ e ∷ ys) (e ∷ (xs ++ ys)) (λ number. total-between number e xs ys) stands
 
-      at_slot : (o : Option SlotView) → slice_get others s ≡ o → IfSome o (λ slot. StandIn slot.windows (with_changes (changes_of (line_of entry) entry.timestamp slots) before s)) → IfSome o (λ slot. StandIn slot.windows (λ _ code. elements_for code (entry ∷ entries_before)))
-      at_slot None is stands = tt
-      at_slot (Some slot) is stands = λ w. at_window slot w (slice_get slot.windows w) is refl (stands w)
+-- and the other way
+between-put : (window : WindowView) (found : Option Element) (xs ys : List Element) → StandsFor window (put found (xs ++ ys)) → StandsFor window (xs ++ put found ys)
+between-put window None xs ys stands = stands
+between-put window (Some e) xs ys stands = stands-alike window (e ∷ (xs ++ ys)) (xs ++ e ∷ ys) (λ number. sym (total-between number e xs ys)) stands
 
-  -- and that they stand for one more says what they are to stand for while its changes are in
-  pub changed-exact : (slots : List SlotView) → AreExact slots (entry ∷ entries_before) → AllStand slots (with_changes (changes_of (line_of entry) entry.timestamp slots) before)
-  changed-exact slots exact s = at_slot (slice_get slots s) refl (exact s)
-    where
-      at_window : (slot : SlotView) (w : ℕ) (o : Option RangeWindow) → slice_get slots s ≡ Some slot → slice_get slot.windows w ≡ o
-          → IfSome o (λ it. StandsFor it.window (elements_for it.code (entry ∷ entries_before))) → IfSome o (λ it. StandsFor it.window (with_changes (changes_of (line_of entry) entry.timestamp slots) before s w it.code))
-      at_window slot w None there is stands = tt
-      at_window slot w (Some it) there is stands =
-          subst (StandsFor it.window) (sym (changed_at slots s w slot it it.code there is))
-          (wanted_of it.window entry.timestamp (elements_for it.code entries_before) (element_for it.code (line_of entry) entry.timestamp) (line_at it.code (line_of entry) entry.timestamp short) stands)
+-- the elements more of entries, one after the other, those of the last in front
+abbrev put_all : (Entry → Option Element) → List Entry → List Element → List Element
+put_all found [] elements = elements
+put_all found (entry ∷ entries) elements = put_all found entries (put (found entry) elements)
 
-      at_slot : (o : Option SlotView) → slice_get slots s ≡ o → IfSome o (λ slot. StandIn slot.windows (λ _ code. elements_for code (entry ∷ entries_before))) → IfSome o (λ slot. StandIn slot.windows (with_changes (changes_of (line_of entry) entry.timestamp slots) before s))
-      at_slot None is stands = tt
-      at_slot (Some slot) is stands = λ w. at_window slot w (slice_get slot.windows w) is refl (stands w)
+-- what a window wants of an entry
+abbrev wants : RangeWindow → Entry → Option Element
+wants it entry = wanted (line_of entry) entry.timestamp it
 
--- what a line changes depends on the ranges and moments of windows alone
-pub changes_of-outline : (line : StreamLine) (timestamp : ℕ) (slots : List SlotView) → changes_of line timestamp slots ≡ changes_of line timestamp (map outline slots)
-changes_of-outline line timestamp slots = from 0 slots
-  where
-    within : (slot first : ℕ) (windows : List RangeWindow) → changes_in line timestamp slot first windows ≡ changes_in line timestamp slot first (map range_of windows)
-    within slot first [] = refl
-    within slot first (it ∷ windows) = ap (λ rest. own line timestamp slot first it ++ rest) (within slot (suc first) windows)
+-- what windows have with the changes of entries
+all_changed : (gained : List Entry) (slots : List SlotView) (contents : Contents) (s w : ℕ) (slot : SlotView) (it : RangeWindow) (code : RangeCode) → slice_get slots s ≡ Some slot → slice_get slot.windows w ≡ Some it
+    → with_changes (changes_of_all gained slots) contents s w code ≡ put_all (wants it) gained (contents s w code)
+all_changed [] slots contents s w slot it code there window = refl
+all_changed (entry ∷ gained) slots contents s w slot it code there window =
+    let own = changes_of (line_of entry) entry.timestamp slots in
+    ap (λ (c : Contents). c s w code) (with_changes-append own (changes_of_all gained slots) contents)
+    ∙ all_changed gained slots (with_changes own contents) s w slot it code there window
+    ∙ ap (put_all (wants it) gained) (changed_at (line_of entry) entry.timestamp slots contents s w slot it code there window)
 
-    from : (first : ℕ) (slots : List SlotView) → changes_from line timestamp first slots ≡ changes_from line timestamp first (map outline slots)
-    from first [] = refl
-    from first (slot ∷ slots) = (λ i. within first 0 slot.windows i ++ from (suc first) slots i)
+module _ (it : RangeWindow) where
+  -- a window that stands for what it wants of entries stands for all that they add
+  with_all_wanted : (gained : List Entry) (elements : List Element) → StandsFor it.window (put_all (wants it) gained elements) → StandsFor it.window (elements_for it.code gained ++ elements)
+  with_all_wanted [] elements stands = stands
+  with_all_wanted (entry ∷ gained) elements stands =
+      let others = elements_for it.code gained in
+      subst (StandsFor it.window) (sym (append_assoc (entry_elements it.code entry) others elements)) (
+      with_wanted it.window entry.timestamp (others ++ elements) (element_for it.code (line_of entry) entry.timestamp) (line_at it.code (line_of entry) entry.timestamp entry.fits) (
+      put-between it.window (wants it entry) others elements (with_all_wanted gained (put (wants it entry) elements) stands)
+      )
+      )
 
--- changes are of one line each
+  -- and the other way
+  all_wanted_of : (gained : List Entry) (elements : List Element) → StandsFor it.window (elements_for it.code gained ++ elements) → StandsFor it.window (put_all (wants it) gained elements)
+  all_wanted_of [] elements stands = stands
+  all_wanted_of (entry ∷ gained) elements stands =
+      let others = elements_for it.code gained in
+      all_wanted_of gained (put (wants it entry) elements) (
+      between-put it.window (wants it entry) others elements (
+      wanted_of it.window entry.timestamp (others ++ elements) (element_for it.code (line_of entry) entry.timestamp) (line_at it.code (line_of entry) entry.timestamp entry.fits) (
+      subst (StandsFor it.window) (append_assoc (entry_elements it.code entry) others elements) stands
+      )
+      )
+      )
+
+  -- it wants nothing of entries before the first timestamp that it needs
+  none_wanted : (first : ℕ) (others : List Entry) (elements : List Element) → IsNeededFrom first it → AllByRecursion (λ entry. entry.timestamp < first) others → put_all (wants it) others elements ≡ elements
+  none_wanted first [] elements needed early = refl
+  none_wanted first (entry ∷ others) elements needed early =
+      let late : nat_lt it.window.moment (entry.timestamp + it.window.seconds * second) ≡ false = le-ltb it.window.moment (entry.timestamp + it.window.seconds * second) (omega (arith, needed, early.0)) in
+      ap (λ b. put_all (wants it) others (put (cond b (element_for it.code (line_of entry) entry.timestamp) None) elements)) late
+      ∙ none_wanted first others elements needed early.1
+
+-- the changes of entries went in one after the other, so the windows stand for these entries more
+pub exact-added : (gained entries : List Entry) (slots others : List SlotView) → map outline others ≡ map outline slots
+    → AllStand others (with_changes (changes_of_all gained slots) (λ _ _ code. elements_for code entries)) → AreExact others (gained ++ entries)
+exact-added gained entries slots others same = each_window others
+    (λ s w it. StandsFor it.window (with_changes (changes_of_all gained slots) (λ _ _ code. elements_for code entries) s w it.code))
+    (λ s w it. StandsFor it.window (elements_for it.code (gained ++ entries)))
+    (λ s w slot it there window stands.
+    let own = range_there slots others s w slot it same there window in
+    subst (StandsFor it.window) (sym (flat_map-append (entry_elements it.code) gained entries)) (
+    with_all_wanted it gained (elements_for it.code entries) (
+    subst (StandsFor it.window) (
+    all_changed gained slots (λ _ _ code. elements_for code entries) s w own.0 own.2.0 it.code own.1 own.2.1
+    ∙ ap (λ (r : RangeWindow). put_all (wants r) gained (elements_for it.code entries)) own.2.2
+    ) stands
+    )
+    ))
+
+-- and that they stand for these more says what they are to stand for while the changes of these are in
+pub exact-changed : (lost entries : List Entry) (slots others : List SlotView) → map outline others ≡ map outline slots
+    → AreExact others (lost ++ entries) → AllStand others (with_changes (changes_of_all lost slots) (λ _ _ code. elements_for code entries))
+exact-changed lost entries slots others same = each_window others
+    (λ s w it. StandsFor it.window (elements_for it.code (lost ++ entries)))
+    (λ s w it. StandsFor it.window (with_changes (changes_of_all lost slots) (λ _ _ code. elements_for code entries) s w it.code))
+    (λ s w slot it there window stands.
+    let own = range_there slots others s w slot it same there window in
+    subst (StandsFor it.window) (sym (
+    all_changed lost slots (λ _ _ code. elements_for code entries) s w own.0 own.2.0 it.code own.1 own.2.1
+    ∙ ap (λ (r : RangeWindow). put_all (wants r) lost (elements_for it.code entries)) own.2.2
+    )) (
+    all_wanted_of it lost (elements_for it.code entries) (subst (StandsFor it.window) (flat_map-append (entry_elements it.code) lost entries) stands)
+    ))
+
+-- NEEDED
+
+-- where no window needs a line before a timestamp, the one at some indices does not
+needed_at : (first : ℕ) (slots : List SlotView) (s w : ℕ) (slot : SlotView) (it : RangeWindow) → AreNeededFrom first slots → slice_get slots s ≡ Some slot → slice_get slot.windows w ≡ Some it → IsNeededFrom first it
+needed_at first slots s w slot it needed there window = at_place (IsNeededFrom first) slot.windows w it window (at_place (λ (slot : SlotView). AllByRecursion (IsNeededFrom first) slot.windows) slots s slot there needed)
+
+-- windows that need no line before a timestamp stand for entries before it too
+pub exact-unneeded : (first : ℕ) (slots : List SlotView) (others entries : List Entry) → AreNeededFrom first slots → AllByRecursion (λ entry. entry.timestamp < first) others → AreExact slots entries → AreExact slots (others ++ entries)
+exact-unneeded first slots others entries needed early = each_window slots
+    (λ s w it. StandsFor it.window (elements_for it.code entries))
+    (λ s w it. StandsFor it.window (elements_for it.code (others ++ entries)))
+    (λ s w slot it there window stands.
+    subst (StandsFor it.window) (sym (flat_map-append (entry_elements it.code) others entries)) (
+    with_all_wanted it others (elements_for it.code entries) (
+    subst (StandsFor it.window) (sym (none_wanted it first others (elements_for it.code entries) (needed_at first slots s w slot it needed there window) early)) stands
+    )
+    ))
+
+-- and, where they stand for them, also without them
+pub exact-needed : (first : ℕ) (slots : List SlotView) (others entries : List Entry) → AreNeededFrom first slots → AllByRecursion (λ entry. entry.timestamp < first) others → AreExact slots (others ++ entries) → AreExact slots entries
+exact-needed first slots others entries needed early = each_window slots
+    (λ s w it. StandsFor it.window (elements_for it.code (others ++ entries)))
+    (λ s w it. StandsFor it.window (elements_for it.code entries))
+    (λ s w slot it there window stands.
+    subst (StandsFor it.window) (none_wanted it first others (elements_for it.code entries) (needed_at first slots s w slot it needed there window) early) (
+    all_wanted_of it others (elements_for it.code entries) (subst (StandsFor it.window) (flat_map-append (entry_elements it.code) others entries) stands)
+    ))
+
+module _ (first : ℕ) where
+  -- windows and their ranges need lines from the same timestamp on, and so slots and their outlines
+  windows_shown : (windows : List RangeWindow) → AllByRecursion (IsNeededFrom first) windows → AllByRecursion (IsNeededFrom first) (map range_of windows)
+  windows_shown [] needed = tt
+  windows_shown (it ∷ windows) needed = (needed.0, windows_shown windows needed.1)
+
+  windows_hidden : (windows : List RangeWindow) → AllByRecursion (IsNeededFrom first) (map range_of windows) → AllByRecursion (IsNeededFrom first) windows
+  windows_hidden [] needed = tt
+  windows_hidden (it ∷ windows) needed = (needed.0, windows_hidden windows needed.1)
+
+  slots_shown : (slots : List SlotView) → AreNeededFrom first slots → AreNeededFrom first (map outline slots)
+  slots_shown [] needed = tt
+  slots_shown (slot ∷ slots) needed = (windows_shown slot.windows needed.0, slots_shown slots needed.1)
+
+  slots_hidden : (slots : List SlotView) → AreNeededFrom first (map outline slots) → AreNeededFrom first slots
+  slots_hidden [] needed = tt
+  slots_hidden (slot ∷ slots) needed = (windows_hidden slot.windows needed.0, slots_hidden slots needed.1)
+
+-- slots that differ in the lines of their windows alone need lines from the same timestamp on
+pub needed-outline : (first : ℕ) (slots others : List SlotView) → map outline others ≡ map outline slots → AreNeededFrom first slots → AreNeededFrom first others
+needed-outline first slots others same needed = slots_hidden first others (subst (AreNeededFrom first) (sym same) (slots_shown first slots needed))
+
+-- LINES
+
+-- what holds of the changes of two lists holds of those of both
+pub of_both : (P : Change → Type 0) (xs ys : List Change) → AllByRecursion P xs → AllByRecursion P ys → AllByRecursion P (xs ++ ys)
+of_both P [] ys p q = q
+of_both P (x ∷ xs) ys p q = (p.0, of_both P xs ys p.1 q)
+
+-- a change is of one line, and so are all
+abbrev IsOne : Change → Type 0
+IsOne change = IsOfLine change.element.volume
+
 abbrev AreOfLine : List Change → Type 0
-AreOfLine changes = AllByRecursion (λ (change : Change). IsOfLine change.element.volume) changes
-
-of_both : (xs ys : List Change) → AreOfLine xs → AreOfLine ys → AreOfLine (xs ++ ys)
-of_both [] ys p q = q
-of_both (x ∷ xs) ys p q = (p.0, of_both xs ys p.1 q)
+AreOfLine changes = AllByRecursion IsOne changes
 
 module _ (line : StreamLine) (timestamp : ℕ) (short : length line.text ≤ longest_line) where
   of_found : (slot window : ℕ) (found : Option Element) → IfSome found (IsLineAt timestamp) → AreOfLine (map (λ (element : Element). record { slot = slot; window = window; element = element }) (option_to_list found))
@@ -258,12 +374,17 @@ module _ (line : StreamLine) (timestamp : ℕ) (short : length line.text ≤ lon
 
   of_windows : (slot first : ℕ) (windows : List RangeWindow) → AreOfLine (changes_in line timestamp slot first windows)
   of_windows slot first [] = tt
-  of_windows slot first (it ∷ windows) = of_both (own line timestamp slot first it) (changes_in line timestamp slot (suc first) windows) (of_window slot first it) (of_windows slot (suc first) windows)
+  of_windows slot first (it ∷ windows) = of_both IsOne (own line timestamp slot first it) (changes_in line timestamp slot (suc first) windows) (of_window slot first it) (of_windows slot (suc first) windows)
 
   of_slots : (first : ℕ) (slots : List SlotView) → AreOfLine (changes_from line timestamp first slots)
   of_slots first [] = tt
-  of_slots first (slot ∷ slots) = of_both (changes_in line timestamp first 0 slot.windows) (changes_from line timestamp (suc first) slots) (of_windows first 0 slot.windows) (of_slots (suc first) slots)
+  of_slots first (slot ∷ slots) = of_both IsOne (changes_in line timestamp first 0 slot.windows) (changes_from line timestamp (suc first) slots) (of_windows first 0 slot.windows) (of_slots (suc first) slots)
 
 -- what a line changes are elements of one line
 pub changes-lines : (line : StreamLine) (timestamp : ℕ) → length line.text ≤ longest_line → (slots : List SlotView) → AllByRecursion (λ (change : Change). IsOfLine change.element.volume) (changes_of line timestamp slots)
 changes-lines line timestamp short slots = of_slots line timestamp short 0 slots
+
+-- and so what the lines of entries change
+pub changes_of_all-lines : (entries : List Entry) (slots : List SlotView) → AllByRecursion (λ (change : Change). IsOfLine change.element.volume) (changes_of_all entries slots)
+changes_of_all-lines [] slots = tt
+changes_of_all-lines (entry ∷ entries) slots = of_both IsOne (changes_of (line_of entry) entry.timestamp slots) (changes_of_all entries slots) (changes-lines (line_of entry) entry.timestamp entry.fits slots) (changes_of_all-lines entries slots)

@@ -1,14 +1,16 @@
--- Slots that answer terms still do while other slots and the lines of windows change, and windows stay for as many lines.
-use Rattle.std.specs.Prelude.{◌≡◌, ◌≢◌, ℕ, zero, suc, ◌+◌, ◌≤◌, ◌==◌, Bool, true, false, cond, not, nat_lt, List, [], ◌∷◌, ◌++◌, map, length, Option, None, Some, IfSome, option_map, slice_get, slice_set, refl}
+-- Slots that answer terms still do while other slots and the lines of windows change, and windows stay for as many lines. When each slot
+-- was answered last.
+use Rattle.std.specs.Prelude.{◌≡◌, ◌≢◌, ℕ, zero, suc, ◌+◌, ◌<◌, ◌≤◌, ◌==◌, Bool, true, false, cond, not, nat_lt, List, [], ◌∷◌, ◌++◌, map, length, Option, None, Some, IfSome, get_or, option_map, slice_get, slice_set, if◌then◌else◌, refl}
 use Rattle.std.specs.List.{position, position_from, position_or_len, AllByRecursion}
 use Rattle.std.proofs.Common.{sym, ap, subst, ◌∙◌, arith}
-use Rattle.std.proofs.lemmas.Bool.{eqb-true, eq-eqb, false≢true}
+use Rattle.std.proofs.lemmas.Bool.{eqb-true, eq-eqb, eqb-false, false_from_ne_true, ne_eqb, lt-ltb, false≢true}
 use Rattle.std.proofs.lemmas.Iterator.Adapters.{position_from-zero}
 use Rattle.std.proofs.lemmas.List.{length-map}
 use Rattle.std.proofs.lemmas.List.Quantifiers.{position-Some}
-use Rattle.std.proofs.lemmas.Option.{none-some, same_Some, slice_get-get_or, slice_get-map}
+use Rattle.std.proofs.lemmas.List.Sums.{position_or_len_is}
+use Rattle.std.proofs.lemmas.Option.{none-some, same_Some, slice_get-get_or, slice_get-map, slice_get_within}
 use Rattle.rl_query.specs.declared.query.Term.{Term}
-use Rattle.rl_slots.specs.Slots.{outline, put_at, range_of, with_slot, AreOfMost, IsLiveIn, IsMovedOn, SlotView}
+use Rattle.rl_slots.specs.Slots.{collected_in, outline, put_at, range_of, with_slot, AreOfMost, IsLiveIn, IsMovedOn, SlotView}
 use Rattle.rl_slots.specs.declared.range_window.RangeWindow.{RangeWindow}
 
 -- LISTS
@@ -248,3 +250,129 @@ most-set slot slots most own all = with_one (place slot.number slots) refl
     with_one (Some index) is =
         let old = placed slot.number index slots slot is in
         set_keeps (λ (it : SlotView). AllByRecursion (IsOfMost most) it.windows) slots index old.0 slot old.1 (λ before. own) all
+
+-- ANSWERED LAST
+
+-- a slot's number and the moment at which it was answered last
+abbrev pub answered : SlotView → ℕ × ℕ
+answered slot = (slot.number, slot.collected)
+
+abbrev answered_by : (number : ℕ) → List (ℕ × ℕ) → Option ℕ
+answered_by number [] = None
+answered_by number (one ∷ all) = cond (one.0 == number) (Some one.1) (answered_by number all)
+
+by_answered : (number : ℕ) (slots : List SlotView) → collected_in number slots ≡ answered_by number (map answered slots)
+by_answered number [] = refl
+by_answered number (slot ∷ slots) = ap (λ rest. cond (slot.number == number) (Some slot.collected) rest) (by_answered number slots)
+
+-- these alone say when that of a number was answered last
+pub collected-same : (slots others : List SlotView) → map answered others ≡ map answered slots → (number : ℕ) → collected_in number others ≡ collected_in number slots
+collected-same slots others same number = by_answered number others ∙ ap (answered_by number) same ∙ sym (by_answered number slots)
+
+outline_answered : (slots : List SlotView) → map answered slots ≡ map answered (map outline slots)
+outline_answered [] = refl
+outline_answered (slot ∷ slots) = ap (λ rest. answered slot ∷ rest) (outline_answered slots)
+
+-- slots that differ in the lines of their windows alone were answered alike
+pub collected-outline : (slots others : List SlotView) → map outline others ≡ map outline slots → (number : ℕ) → collected_in number others ≡ collected_in number slots
+collected-outline slots others same number = collected-same slots others (outline_answered others ∙ ap (map answered) same ∙ sym (outline_answered slots)) number
+
+-- the first slot of a number is at an index
+abbrev pub IsFirst : (number index : ℕ) (slots : List SlotView) → SlotView → Type 0
+IsFirst number index slots any =
+    (index < length slots) × ((get_or slots index any).number == number ≡ true) × ((k : ℕ) → k < index → (get_or slots k any).number == number ≡ false)
+
+-- and says when it was answered last
+first_collected : (number index : ℕ) (slots : List SlotView) (any : SlotView) → IsFirst number index slots any → collected_in number slots ≡ Some (get_or slots index any).collected
+first_collected number index [] any first = absurd (omega (arith, first.0))
+first_collected number zero (slot ∷ slots) any first = ap (λ b. cond b (Some slot.collected) (collected_in number slots)) first.1
+first_collected number (suc index) (slot ∷ slots) any first =
+    ap (λ b. cond b (Some slot.collected) (collected_in number slots)) (first.2 0 (omega arith))
+    ∙ first_collected number index slots any (omega (arith, first.0), first.1, λ k less. first.2 (suc k) (omega (arith, less)))
+
+-- a live slot says it for its number
+pub collected-live : (number : ℕ) (terms : List Term) (t : ℕ) (slots : List SlotView) (live : IsLiveIn number terms t slots) → collected_in number slots ≡ Some live.slot.collected
+collected-live number terms t slots live =
+    let first = position-Some (λ (slot : SlotView). slot.number == number) slots live.index live.slot live.at in
+    first_collected number live.index slots live.slot first
+    ∙ ap (λ (slot : SlotView). Some slot.collected) (same_Some _ live.slot (sym (slice_get-get_or slots live.index live.slot first.0) ∙ live.there))
+
+-- where two numbers differ, it does not matter which is asked for first
+either : (number own other : ℕ) (x y rest : Option ℕ) → other == own ≡ false → cond (other == number) x (cond (own == number) y rest) ≡ cond (own == number) y (cond (other == number) x rest)
+either number own other x y rest apart = elim (other == number) as (λ b. other == number ≡ b → cond b x (cond (own == number) y rest) ≡ cond (own == number) y (cond b x rest)) [
+  | true ↦ λ is. sym (ap (λ b. cond b y x) (ne_eqb own number (λ same. eqb-false other own apart (eqb-true other number is ∙ sym same))))
+  | false ↦ λ _. refl
+] refl
+
+-- a slot of a number in the stead of the first one
+first_set : (number own index : ℕ) (slots : List SlotView) (slot any : SlotView) → slot.number ≡ own → IsFirst own index slots any → collected_in number (slice_set slots index slot) ≡ cond (own == number) (Some slot.collected) (collected_in number slots)
+first_set number own index [] slot any is first = absurd (omega (arith, first.0))
+first_set number own zero (old ∷ slots) slot any is first =
+    let old_is : old.number ≡ own = eqb-true old.number own first.1 in
+    ap (λ n. cond (n == number) (Some slot.collected) (collected_in number slots)) is
+    ∙ elim (own == number) as (λ b. cond b (Some slot.collected) (collected_in number slots) ≡ cond b (Some slot.collected) (cond b (Some old.collected) (collected_in number slots))) [ true ↦ refl | false ↦ refl ]
+    ∙ ap (λ n. cond (own == number) (Some slot.collected) (cond (n == number) (Some old.collected) (collected_in number slots))) (sym old_is)
+first_set number own (suc index) (old ∷ slots) slot any is first =
+    ap (λ rest. cond (old.number == number) (Some old.collected) rest) (first_set number own index slots slot any is (omega (arith, first.0), first.1, λ k less. first.2 (suc k) (omega (arith, less))))
+    ∙ either number own old.number (Some old.collected) (Some slot.collected) (collected_in number slots) (first.2 0 (omega arith))
+
+-- or beside the others
+last_set : (number own first : ℕ) (slots : List SlotView) (slot : SlotView) → slot.number ≡ own → position_from (λ (old : SlotView). old.number == own) first slots ≡ None → collected_in number (slots ++ slot ∷ []) ≡ cond (own == number) (Some slot.collected) (collected_in number slots)
+last_set number own first [] slot is none = ap (λ n. cond (n == number) (Some slot.collected) None) is
+last_set number own first (old ∷ slots) slot is none =
+    elim (old.number == own) as (λ b. old.number == own ≡ b → cond b (Some first) (position_from (λ (old : SlotView). old.number == own) (first + 1) slots) ≡ None
+    → collected_in number (old ∷ slots ++ slot ∷ []) ≡ cond (own == number) (Some slot.collected) (collected_in number (old ∷ slots))) [
+      | true ↦ λ _ here. absurd (none-some first (sym here))
+      | false ↦ λ apart later.
+          ap (λ rest. cond (old.number == number) (Some old.collected) rest) (last_set number own (first + 1) slots slot is later)
+          ∙ either number own old.number (Some old.collected) (Some slot.collected) (collected_in number slots) apart
+    ] refl none
+
+-- a slot that is put in says it for its number
+pub collected-set : (slot : SlotView) (slots : List SlotView) (number : ℕ) → collected_in number (with_slot slot slots) ≡ (if slot.number == number then Some slot.collected else collected_in number slots)
+collected-set slot slots number = with_one (place slot.number slots) refl
+  where
+    with_one : (o : Option ℕ) → place slot.number slots ≡ o → collected_in number (put_at o slot slots) ≡ cond (slot.number == number) (Some slot.collected) (collected_in number slots)
+    with_one None none = last_set number slot.number 0 slots slot refl (sym (position_from-zero (λ (own : SlotView). own.number == slot.number) slots) ∙ none)
+    with_one (Some index) is = first_set number slot.number index slots slot slot refl (position-Some (λ (own : SlotView). own.number == slot.number) slots index slot is)
+
+-- where the slot at an index is replaced by another of its number, each number whose first slot is elsewhere was answered as before
+pub collected-others : (number index : ℕ) (slots : List SlotView) (own slot : SlotView) → slice_get slots index ≡ Some own → slot.number ≡ own.number → (position (λ slot. slot.number == number) slots ≡ Some index → ⊥)
+    → collected_in number (slice_set slots index slot) ≡ collected_in number slots
+collected-others number index slots own slot there is apart = elsewhere index slots there (λ same before. apart (first_at same before))
+  where
+    first_at : own.number == number ≡ true → ((k : ℕ) → k < index → (get_or slots k own).number == number ≡ false) → position (λ (slot : SlotView). slot.number == number) slots ≡ Some index
+    first_at same before =
+        let within = slice_get_within slots index own there in
+        let here : get_or slots index own ≡ own = same_Some _ own (sym (slice_get-get_or slots index own within) ∙ there) in
+        let at : position_or_len (λ (slot : SlotView). slot.number == number) slots ≡ index = position_or_len_is (λ (slot : SlotView). slot.number == number) slots index own (omega (arith, within)) before (λ _. ap (λ (slot : SlotView). slot.number == number) here ∙ same) in
+        ap (λ n. cond (nat_lt n (length slots)) (Some n) None) at ∙ ap (λ b. cond b (Some index) None) (lt-ltb index (length slots) within)
+
+    elsewhere : (index : ℕ) (slots : List SlotView) → slice_get slots index ≡ Some own → (own.number == number ≡ true → ((k : ℕ) → k < index → (get_or slots k own).number == number ≡ false) → ⊥) → collected_in number (slice_set slots index slot) ≡ collected_in number slots
+    elsewhere index [] there apart = refl
+    elsewhere zero (old ∷ slots) there apart =
+        let same : old ≡ own = same_Some old own there in
+        let not_own : own.number == number ≡ false = false_from_ne_true (own.number == number) (λ same. apart same (λ k less. absurd (omega (arith, less)))) in
+        ap (λ n. cond (n == number) (Some slot.collected) (collected_in number slots)) is
+        ∙ ap (λ b. cond b (Some slot.collected) (collected_in number slots)) not_own
+        ∙ sym (ap (λ (old : SlotView). cond (old.number == number) (Some old.collected) (collected_in number slots)) same ∙ ap (λ b. cond b (Some own.collected) (collected_in number slots)) not_own)
+    elsewhere (suc index) (old ∷ slots) there apart = elim (old.number == number) as (λ b. old.number == number ≡ b → cond b (Some old.collected) (collected_in number (slice_set slots index slot)) ≡ cond b (Some old.collected) (collected_in number slots)) [
+      | true ↦ λ _. refl
+      | false ↦ λ not_old. elsewhere index slots there (λ same before. apart same (λ k. at k not_old before))
+    ] refl
+      where
+        at : (k : ℕ) → old.number == number ≡ false → ((k : ℕ) → k < index → (get_or slots k own).number == number ≡ false) → k < suc index → (get_or (old ∷ slots) k own).number == number ≡ false
+        at zero not_old before less = not_old
+        at (suc k) not_old before less = before k (omega (arith, less))
+
+-- and that number at the moment of the other
+pub collected-own : (number index : ℕ) (slots : List SlotView) (slot : SlotView) → slot.number ≡ number → position (λ slot. slot.number == number) slots ≡ Some index → collected_in number (slice_set slots index slot) ≡ Some slot.collected
+collected-own number index slots slot is at =
+    first_set number number index slots slot slot is (position-Some (λ (own : SlotView). own.number == number) slots index slot at)
+    ∙ ap (λ b. cond b (Some slot.collected) (collected_in number slots)) (eq-eqb number number refl)
+
+-- the first slot of a number has it
+pub first_number : (number index : ℕ) (slots : List SlotView) (own : SlotView) → position (λ slot. slot.number == number) slots ≡ Some index → slice_get slots index ≡ Some own → own.number ≡ number
+first_number number index slots own at there =
+    let first = placed number index slots own at in
+    ap (λ (slot : SlotView). slot.number) (same_Some own first.0 (sym there ∙ first.1)) ∙ first.2

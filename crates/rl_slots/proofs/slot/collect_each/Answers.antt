@@ -1,5 +1,5 @@
 -- Windows that moved on are of the ranges that they were of.
-use Rattle.std.proofs.Common.{◌≡◌, ℕ, Some, sym, subst}
+use Rattle.std.proofs.Common.{◌≡◌, ◌≤◌, ℕ, Some, sym, subst}
 use Rattle.std.specs.Prelude.{slice_get}
 use Rattle.std.specs.List.{AllByRecursion, AllZip}
 use Rattle.std.proofs.lemmas.Result.{IfOk-weaker}
@@ -26,3 +26,6 @@ returns-clause-within c = IfOk-weaker c.partials_at.result _ _ (λ partials give
 
 pub returns-clause-most : goal.returns-clause-most
 returns-clause-most c = λ most all. subst (AllByRecursion (λ it. it.window.most ≡ most)) (sym c.partials_at.ensures.same) (c.slide_each.ensures.most most all)
+
+pub returns-clause-since : goal.returns-clause-since
+returns-clause-since c = λ since all. subst (AllByRecursion (λ it. since ≤ it.window.moment)) (sym c.partials_at.ensures.same) (c.slide_each.ensures.since since all)

@@ -12,7 +12,7 @@ invariant_of-self c =
     let windows = c.self.inside.windows.items in
     let x = c.index_mut.result.now in
     let there = slice_get_read windows (length windows) c.args.window x refl (omega (arith, c.if-window-len.false, c.len.ensures)) c.index_mut.ensures.value in
-    slot_kept c.self.inside.terms c.self.inside.reached windows c.self.inside.indices.items c.args.window x c.add.new.self there c.add.ensures.range c.self.invariant
+    slot_kept c.self.inside.terms c.self.inside.collected c.self.inside.reached windows c.self.inside.indices.items c.args.window x c.add.new.self there c.add.ensures.range c.self.invariant
 
 pub returns-clause-stands : goal.returns-clause-stands
 returns-clause-stands c =

@@ -1,14 +1,15 @@
 -- The windows moved on and stand for what they stood for.
 use Rattle.std.proofs.Common.{◌≡◌, ◌<◌, ◌≤◌, length, map, Some, sym, ap, subst, ◌∙◌, arith}
 use Rattle.std.specs.Prelude.{slice_get}
-use Rattle.std.specs.List.{AllByRecursion, AllZip}
+use Rattle.std.specs.List.{AllByRecursion, AllZip, sum_by}
 use Rattle.std.proofs.lemmas.List.{length-map, with_items_is}
 use Rattle.std.proofs.lemmas.Slice.Zip.{AllZip-long}
 use Rattle.rl_query.specs.declared.query.Term.{Term}
 use Rattle.rl_aggregate.specs.Limited.{IsWithin}
 use Rattle.rl_aggregate.specs.Partials.{partial}
-use Rattle.rl_slots.specs.Slots.{key_of, term_key, AreExactIn, AreSums, IsPartialAt, IsSlot, IsSumAt, SlotView, StandIn, IsWindowOf}
-use Rattle.rl_slots.proofs.Asking.{not_past, partials_of, sums_of, within_of}
+use Rattle.rl_slots.specs.Slots.{key_of, term_key, visits_by, visits_for, AreExactIn, ArePicked, AreSums, HasVisits, IsPartialAt, IsSlot, IsSumAt, SlotView, StandIn, IsWindowOf}
+use Rattle.rl_slots.proofs.Asking.{at_moment, not_past, partials_of, sums_of, within_of}
+use Rattle.rl_slots.proofs.Visiting.{terms-visits}
 use Rattle.rl_slots.proofs.slot.Slot.collect.Goals as goal
 
 pub collect_each-requires-clause-there : goal.collect_each-requires-clause-there
@@ -30,8 +31,10 @@ invariant_of-self c =
     let more = c.collect_each.new.windows in
     let ranges : map key_of more ≡ map key_of own.windows.items = c.collect_each.ensures.ranges ∙ ap (map key_of) c.deref_mut.ensures.value in
     let is = with_items_is own.windows more (omega (arith, own.windows.ok.0, length-map more key_of, ap length ranges, length-map own.windows.items key_of)) in
-    subst (λ ws. IsSlot own.terms c.args.t ws own.indices.items) (sym is) (record {
+    subst (λ ws. IsSlot own.terms own.collected c.args.t ws own.indices.items) (sym is) (record {
       of_terms = subst (λ keys. AllZip (λ term index. slice_get keys index ≡ Some (term_key term)) own.terms own.indices.items) (sym ranges) c.self.invariant.of_terms;
+      picked = subst (λ keys. ArePicked keys (map term_key own.terms)) (sym ranges) c.self.invariant.picked;
+      since = c.collect_each.ensures.since own.collected (subst (AllByRecursion (λ it. own.collected ≤ it.window.moment)) (sym c.deref_mut.ensures.value) c.self.invariant.since);
       moments = c.collect_each.ensures.moments;
     })
 
@@ -51,9 +54,12 @@ invariant_of-self-2 c =
     let more = c.collect_each.new.windows in
     let ranges : map key_of more ≡ map key_of own.windows.items = c.collect_each.ensures.ranges ∙ ap (map key_of) c.deref_mut.ensures.value in
     let is = with_items_is own.windows more (omega (arith, own.windows.ok.0, length-map more key_of, ap length ranges, length-map own.windows.items key_of)) in
-    subst (λ ws. IsSlot own.terms c.args.t ws own.indices.items) (sym is) (record {
+    let at = at_moment more c.args.t c.in_ok-partials.ensures.moved in
+    subst (λ ws. IsSlot own.terms c.args.t c.args.t ws own.indices.items) (sym is) (record {
       of_terms = subst (λ keys. AllZip (λ term index. slice_get keys index ≡ Some (term_key term)) own.terms own.indices.items) (sym ranges) c.self.invariant.of_terms;
-      moments = c.collect_each.ensures.moments;
+      picked = subst (λ keys. ArePicked keys (map term_key own.terms)) (sym ranges) c.self.invariant.picked;
+      since = at.0;
+      moments = at.1;
     })
 
 pub returns-clause-partials : goal.returns-clause-partials
@@ -112,3 +118,21 @@ returns-clause-each c =
     let own = c.self.inside in
     ap length c.from_vec.ensures ∙ c.in_ok-partials.ensures.each ∙ ap length c.deref.ensures.value
     ∙ AllZip-long (IsWindowOf own.windows.items) own.terms own.indices.items c.self.invariant.of_terms ∙ ap (λ (v : SlotView). length v.terms) c.self.view_is
+
+pub returns-clause-visits : goal.returns-clause-visits
+returns-clause-visits c = λ entries exact.
+    let own = c.self.inside in
+    let same : own.windows.items ≡ c.args.self.now.windows = ap (λ (v : SlotView). v.windows) c.self.view_is in
+    let few = c.collect_each.ensures.few entries own.collected (subst (λ ws. AreExactIn ws entries) (sym (c.deref_mut.ensures.value ∙ same)) exact) (subst (AllByRecursion (λ it. own.collected ≤ it.window.moment)) (sym c.deref_mut.ensures.value) c.self.invariant.since) in
+    let for_terms = terms-visits own.windows.items own.terms entries own.collected c.args.t c.self.invariant.picked in
+    subst (λ (v : SlotView). HasVisits (sum_by (visits_for entries v.collected c.args.t) v.terms) c.args.meter.now c.collect_each.new.meter) c.self.view_is
+    (few.0, omega (arith, few.1, for_terms, ap (λ ws. sum_by (visits_by entries own.collected c.args.t) (map key_of ws)) c.deref_mut.ensures.value))
+
+pub returns-in_err-partials-clause-visits : goal.returns-in_err-partials-clause-visits
+returns-in_err-partials-clause-visits c = λ entries exact.
+    let own = c.self.inside in
+    let same : own.windows.items ≡ c.args.self.now.windows = ap (λ (v : SlotView). v.windows) c.self.view_is in
+    let few = c.collect_each.ensures.few entries own.collected (subst (λ ws. AreExactIn ws entries) (sym (c.deref_mut.ensures.value ∙ same)) exact) (subst (AllByRecursion (λ it. own.collected ≤ it.window.moment)) (sym c.deref_mut.ensures.value) c.self.invariant.since) in
+    let for_terms = terms-visits own.windows.items own.terms entries own.collected c.args.t c.self.invariant.picked in
+    subst (λ (v : SlotView). HasVisits (sum_by (visits_for entries v.collected c.args.t) v.terms) c.args.meter.now c.collect_each.new.meter) c.self.view_is
+    (few.0, omega (arith, few.1, for_terms, ap (λ ws. sum_by (visits_by entries own.collected c.args.t) (map key_of ws)) c.deref_mut.ensures.value))

@@ -1,8 +1,8 @@
 -- One change less is in.
 use Rattle.std.proofs.Common.{◌≡◌, ◌+◌, ◌-◌, take, sym, ap, subst, ◌∙◌, arith}
-use Rattle.rl_slots.specs.Slots.{changes_of, line_of, with_changes, AllStand, Contents}
+use Rattle.rl_slots.specs.Slots.{with_changes, AllStand, Contents}
 use Rattle.rl_windows.specs.Ranges.{elements_for}
-use Rattle.rl_slots.specs.laws.Exact.{changed-exact, changes_of-outline}
+use Rattle.rl_slots.specs.laws.Exact.{exact-changed}
 use Rattle.rl_slots.proofs.Listing.{one_change}
 use Rattle.rl_slots.proofs.slots.Slots.take_out.Goals as goal
 
@@ -25,9 +25,9 @@ returns-clause-stand c = λ contents before.
     subst (λ n. AllStand c.loop-left.self (with_changes (take n c.args.changes.now) contents)) none (c.loop-left.invariant.stand contents before)
 
 pub returns-clause-exact : goal.returns-clause-exact
-returns-clause-exact c = λ entry entries slots short same is exact.
+returns-clause-exact c = λ lost entries slots same is exact.
     let loop = c.loop-left in
     let before : Contents = λ _ _ code. elements_for code entries in
     let none : loop.left ≡ 0 = omega (arith, c.loop-left-test.false) in
     subst (λ n. AllStand loop.self (with_changes (take n c.args.changes.now) before)) none
-    (loop.invariant.stand before (subst (λ cs. AllStand c.args.self.now (with_changes cs before)) (sym (is ∙ changes_of-outline (line_of entry) entry.timestamp slots ∙ ap (changes_of (line_of entry) entry.timestamp) same ∙ sym (changes_of-outline (line_of entry) entry.timestamp c.args.self.now))) (changed-exact entry entries short c.args.self.now exact)))
+    (loop.invariant.stand before (subst (λ cs. AllStand c.args.self.now (with_changes cs before)) (sym is) (exact-changed lost entries slots c.args.self.now (sym same) exact)))
