@@ -2,9 +2,12 @@ mod Examples
 pub mod Asked
 pub mod Built
 pub mod Few
+pub mod Listed
 pub mod Right
 pub mod Settled
 pub mod Terms
 pub mod Taken
+pub mod Turned
 pub mod Narrow
+pub mod Picked
 pub mod Crossing

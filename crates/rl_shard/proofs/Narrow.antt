@@ -2,8 +2,8 @@
 use Rattle.std.proofs.Common.{◌≡◌, ◌≤◌, ◌<◌, leb, ltb, ℕ, ◌+◌, ◌-◌, ◌*◌, Bool, true, false, cond, ◌&&◌, ◌⊎◌, List, [], ◌∷◌, ◌++◌, map, None, Some, refl, sym, ap, ◌∙◌, arith, ⊎_elim, inl, inr}
 use Rattle.std.specs.Option.{MatchOption}
 use Rattle.std.specs.Prelude.{MatchBool}
-use Rattle.std.specs.List.{AllByRecursion, AllZip, filter, flat_map}
-use Rattle.std.proofs.lemmas.Bool.{true≢false, le-leb, lt-leb, lt-ltb, leb-true, leb-false, ltb-true, ltb-false}
+use Rattle.std.specs.List.{AllZip, filter, flat_map}
+use Rattle.std.proofs.lemmas.Bool.{true≢false, le-leb, lt-leb, leb-true, ltb-true, ltb-false}
 use Rattle.std.proofs.lemmas.List.Elements.{All-weaker, filter-append}
 use Rattle.std.proofs.lemmas.List.Concat.{flat_map-cons}
 use Rattle.rl_labels.specs.LabelSet.{LabelSet}
@@ -32,11 +32,6 @@ filter_map p f (x ∷ xs) = elim (p (f x)) as (λ b. cond b (f x ∷ filter p (m
   | true ↦ ap (λ rest. f x ∷ rest) (filter_map p f xs)
   | false ↦ filter_map p f xs
 ]
-
--- tests that agree on all of a list
-pub filter_same : {A : Type 0} (p q : A → Bool) (xs : List A) → AllByRecursion (λ x. p x ≡ q x) xs → filter p xs ≡ filter q xs
-filter_same p q [] all = refl
-filter_same p q (x ∷ xs) all = λ i. cond (all.0 i) (x ∷ filter_same p q xs all.1 i) (filter_same p q xs all.1 i)
 
 pub filter_flat : {A : Type 0} (p : A → Bool) (xss : List (List A)) → filter p (flat_map (λ xs. xs) xss) ≡ flat_map (λ xs. xs) (map (filter p) xss)
 filter_flat p [] = refl
@@ -128,18 +123,4 @@ starts_at seconds t timestamp = ap (λ b. b && leb timestamp t) (same (seconds *
     same r = elim (ltb t (timestamp + r)) as (λ b. ltb t (timestamp + r) ≡ b → b ≡ leb (t + 1 - r) timestamp) [
       | true ↦ λ is. sym (le-leb (t + 1 - r) timestamp (omega (arith, ltb-true t (timestamp + r) is)))
       | false ↦ λ is. sym (lt-leb (t + 1 - r) timestamp (omega (arith, ltb-false t (timestamp + r) is)))
-    ] refl
-
--- a moment from which on a window is reached is at most where a later one begins
-pub starts_before : (seconds t start u : ℕ) → IsStartOf seconds t start → 0 < seconds * second → t ≤ u → start ≤ start_at seconds u
-starts_before seconds t start u starts some later = by (seconds * second) some starts
-  where
-    reached : (r timestamp : ℕ) → (ltb t (timestamp + r) && leb timestamp t) ≡ (leb start timestamp && leb timestamp t) → t < timestamp + r → timestamp ≤ t → start ≤ timestamp
-    reached r timestamp is below up_to =
-        leb-true start timestamp (and_true (leb start timestamp) (leb timestamp t) (sym is ∙ both_true (ltb t (timestamp + r)) (leb timestamp t) (lt-ltb t (timestamp + r) below) (le-leb timestamp t up_to))).0
-
-    by : (r : ℕ) → 0 < r → ((timestamp : ℕ) → (ltb t (timestamp + r) && leb timestamp t) ≡ (leb start timestamp && leb timestamp t)) → start ≤ u + 1 - r
-    by r some starts = elim (leb (u + 1 - r) t) as (λ b. leb (u + 1 - r) t ≡ b → start ≤ u + 1 - r) [
-      | true ↦ λ is. reached r (u + 1 - r) (starts (u + 1 - r)) (omega (arith, later)) (leb-true (u + 1 - r) t is)
-      | false ↦ λ is. let first = reached r t (starts t) (omega (arith, some)) (omega arith) in omega (arith, first, leb-false (u + 1 - r) t is)
     ] refl

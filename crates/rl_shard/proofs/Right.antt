@@ -1,5 +1,5 @@
 -- What windows stand for while a shard takes its steps.
-use Rattle.std.proofs.Common.{◌≡◌, ◌≤◌, ◌<◌, ◌⊎◌, ℕ, ◌+◌, leb, Bool, true, false, cond, not, List, [], ◌∷◌, ◌++◌, map, length, Result, Ok, Err, refl, sym, ap, subst, ◌∙◌, ⊎_elim, le-leb, arith}
+use Rattle.std.proofs.Common.{◌≡◌, ◌≤◌, ◌<◌, ℕ, leb, Bool, true, false, cond, not, List, [], ◌∷◌, ◌++◌, map, length, Result, Ok, Err, refl, sym, ap, subst, ◌∙◌, ⊎_elim, le-leb, arith}
 use Rattle.std.specs.FinMap.{contains_key, entries, insert, keys, len, len-entries}
 use Rattle.std.specs.List.{AllByRecursion, filter, sum_by}
 use Rattle.std.proofs.lemmas.List.{length-map}
@@ -16,15 +16,14 @@ use Rattle.rl_parts.specs.Rewriting.{uncovered}
 use Rattle.rl_parts.specs.StoreUse.{IsGrown}
 use Rattle.rl_windows.specs.Built.{timely}
 use Rattle.rl_windows.specs.Ranges.{elements_for}
-use Rattle.rl_slots.specs.Slots.{outline, with_changes, with_slot, AllStand, AreExact, AreExactIn, AreFull, AreOfMost, Contents, SlotView}
-use Rattle.rl_slots.specs.laws.Alike.{exact-alike, exact-none, exact-set, full-many}
-use Rattle.rl_slots.specs.laws.Exact.{exact-added}
+use Rattle.rl_slots.specs.Slots.{outline, with_changes, with_slot, AllStand, AreExact, AreExactIn, AreOfMost, Contents, SlotView}
+use Rattle.rl_slots.specs.laws.Alike.{exact-alike, exact-none, exact-set}
 use Rattle.rl_slots.specs.laws.Living.{most-outline, most-set}
 use Rattle.rl_slots.specs.declared.change.Change.{Change}
 use Rattle.rl_slots.specs.declared.range_window.RangeWindow.{RangeWindow}
 use Rattle.rl_streams.specs.StreamsState.{StreamsView}
 use Rattle.rl_streams.specs.laws.HeldLaws.{keys-inserted}
-use Rattle.rl_shard.specs.Live.{windowed, AreRight, IsListed}
+use Rattle.rl_shard.specs.Live.{windowed, AreCrowded, AreRight, IsLetIn}
 use Rattle.rl_shard.specs.ShardState.{ShardState}
 use Rattle.rl_shard.specs.ShardStep.{left_of, processed_if, removed_if, stepped}
 use Rattle.rl_shard.specs.laws.Shown.{shows-stepped}
@@ -107,33 +106,22 @@ exact_taken slots requests held entry missing timely_entry =
     by number false = omega (arith, sum_by-cons (timed number) entry (filter shown (keys held)), sum_by-cons number entry (stood requests held), is_timed number, timely_sum number shown (keys held))
 
 -- no more entries are windowed than are held
-few_stood : (requests : RequestsView) (held : EntrySet) → length (stood requests held) ≤ len held
+pub few_stood : (requests : RequestsView) (held : EntrySet) → length (stood requests held) ≤ len held
 few_stood requests held =
     let many : length (keys held) ≡ length (entries held) = length-map (entries held) (λ e. e.0) in
     omega (arith, few_pass (λ (e : Entry). not (covered requests e)) (timely (keys held)), few_pass (λ (e : Entry). leb e.timestamp greatest_moment) (keys held), many, len-entries held)
 
 module _ (old new : StreamsView) (requests : RequestsView) (entry : Entry) (slots mid after : List SlotView) (changes : List Change) (timely_entry : entry.timestamp ≤ greatest_moment) (right : AreRight old requests slots)
-    (listed : IsListed slots requests entry changes) (went_in : (contents : Contents) → AllStand slots contents → AllStand mid (with_changes changes contents)) (same : map outline mid ≡ map outline slots) where
+    (let_in : IsLetIn requests entry slots mid) (went_in : (contents : Contents) → AllStand slots contents → AllStand mid (with_changes changes contents)) (same : map outline mid ≡ map outline slots) where
   abbrev before : Contents
   before _ _ code = elements_for code (windowed old requests)
 
   -- a window that has no room shows that as many are held as may be
-  no_room : AreFull slots → len old.held < old.limits.entries → AreExact slots (windowed old requests) → ⊥
-  no_room full room exact = omega (arith, full-many slots (windowed old requests) old.limits.entries right.most exact full, few_stood requests old.held, room)
+  no_room : AreCrowded slots → len old.held < old.limits.entries → AreExact slots (windowed old requests) → ⊥
+  no_room crowded room exact = omega (arith, crowded old.limits.entries (windowed old requests) right.most exact, few_stood requests old.held, room)
 
   exact_mid : old.seen.honest ≡ true → len old.held < old.limits.entries → AreExact mid (cond (covered requests entry) [] (entry ∷ []) ++ windowed old requests)
-  exact_mid honest room =
-      let exact = right.exact honest in
-      ⊎_elim
-      (λ nothing.
-      let stays = subst (λ cs. AllStand mid (with_changes cs before)) nothing.0 (went_in before exact) in
-      ⊎_elim
-      (λ is_covered. subst (λ b. AreExact mid (cond b [] (entry ∷ []) ++ windowed old requests)) (sym is_covered) stays)
-      (λ full. absurd (no_room full.1 room exact))
-      nothing.1)
-      (λ listed. subst (λ b. AreExact mid (cond b [] (entry ∷ []) ++ windowed old requests)) (sym listed.0)
-      (exact-added entry (windowed old requests) entry.fits slots mid same (subst (λ cs. AllStand mid (with_changes cs before)) listed.1 (went_in before exact))))
-      listed
+  exact_mid honest room = ⊎_elim (λ crowded. absurd (no_room crowded room (right.exact honest))) (λ goes_in. goes_in (windowed old requests) (right.exact honest)) let_in
 
   -- windows that an entry was let into are right after it was taken, and where they were settled
   pub right_pushed : (is_taken : Bool) → (is_taken ≡ true → after ≡ mid) → (is_taken ≡ false → (contents : Contents) → AllStand mid (with_changes changes contents) → AllStand after contents) → map outline after ≡ map outline mid

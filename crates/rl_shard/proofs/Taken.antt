@@ -1,10 +1,9 @@
 -- What streams are taken for over any store: what is visited of a range of time is what of that is of the range.
-use Rattle.std.proofs.Common.{◌≡◌, ◌<◌, leb, ℕ, Bool, true, false, cond, not, ◌&&◌, ◌⊎◌, List, [], ◌∷◌, ◌++◌, map, None, Some, refl, sym, ap, ◌∙◌, append-nil, append_assoc, ⊎_elim, inl, inr}
+use Rattle.std.proofs.Common.{◌≡◌, ◌<◌, leb, ℕ, Bool, true, false, cond, not, ◌&&◌, ◌⊎◌, List, [], ◌∷◌, ◌++◌, map, None, Some, refl, sym, ap, ◌∙◌, ⊎_elim, inl, inr}
 use Rattle.std.specs.Option.{MatchOption}
 use Rattle.std.specs.Prelude.{MatchBool}
-use Rattle.std.specs.List.{AllByRecursion, AllZip, filter, flat_map, fold}
+use Rattle.std.specs.List.{AllByRecursion, AllZip, filter, flat_map}
 use Rattle.std.proofs.lemmas.Bool.{lt-leb, and_right}
-use Rattle.std.proofs.lemmas.List.Concat.{flat_map-cons}
 use Rattle.std.proofs.lemmas.List.Folds.{flat_map-map}
 use Rattle.std.proofs.lemmas.List.Elements.{filter-append, recursion_from_All}
 use Rattle.rl_labels.specs.LabelSet.{LabelSet}
@@ -18,10 +17,7 @@ use Rattle.rl_query.specs.declared.query.Term.{Term}
 use Rattle.rl_query.specs.declared.stages.Stage.{Stage}
 use Rattle.rl_aggregate.specs.InRange.{runs_of, entry_runs, in_window}
 use Rattle.rl_aggregate.specs.Partials.{partial, partial_of}
-use Rattle.rl_aggregate.specs.Accumulators.{AccumulatorView, nothing_counted, with_line}
-use Rattle.rl_aggregate.specs.declared.run.Run.{Run}
 use Rattle.rl_aggregate.specs.laws.Counting.{filter-both}
-use Rattle.rl_aggregate.specs.laws.Runs.{partial_of-append}
 use Rattle.rl_deletes.specs.Deletes.{RequestsView, covered}
 use Rattle.rl_parts.specs.Reading.{IsApart, IsPiece, IsReadAs, visited, visited_in_range}
 use Rattle.rl_parts.specs.Rewriting.{uncovered}
@@ -126,27 +122,6 @@ module _ (from to : ℕ) where
       let first = row_taken selector row of_row all.0 in
       let others = rows_taken selector rows lines all.1 in
       record { taken = first.taken ∷ others.taken; each = (first.is, others.each); lines_are = λ i. first.lines_are i ∷ others.lines_are i }
-
--- what an accumulator becomes by a line
-abbrev pub accumulators_line : AccumulatorView → LabelSet × Line → AccumulatorView
-accumulators_line accumulator line = with_line line.0 line.1.text accumulator
-
--- what lines count as after stages, one by one
-abbrev items : List Stage → List (LabelSet × Line) → List Run
-items stages lines = flat_map (λ line. runs_of stages line.0 line.1.text) lines
-
--- an accumulator of some lines, and then of others
-accumulated_after : (stages : List Stage) (before : List Run) (lines : List (LabelSet × Line)) → (fold accumulators_line (record { running = stages; found = partial_of before }) lines).found ≡ partial_of (before ++ items stages lines)
-accumulated_after stages before [] = ap partial_of (sym (append-nil before))
-accumulated_after stages before (line ∷ lines) =
-    let one = runs_of stages line.0 line.1.text in
-    (λ i. (fold accumulators_line (record { running = stages; found = sym (partial_of-append before one) i }) lines).found)
-    ∙ accumulated_after stages (before ++ one) lines
-    ∙ ap partial_of (append_assoc before one (items stages lines) ∙ ap (λ more. before ++ more) (sym (flat_map-cons (λ (l : LabelSet × Line). runs_of stages l.0 l.1.text) line lines)))
-
--- it has what the lines add up to after its stages
-pub accumulated : (stages : List Stage) (lines : List (LabelSet × Line)) → (fold accumulators_line (nothing_counted stages) lines).found ≡ counted stages lines
-accumulated stages lines = accumulated_after stages [] lines
 
 -- those of entries are counted as the entries are
 counted_lines : (stages : List Stage) (entries : List Entry) → counted stages (map visited entries) ≡ partial_of (entry_runs stages entries)

@@ -1,7 +1,8 @@
--- Windows of one term after another.
-use Rattle.std.proofs.Common.{◌≡◌, ℕ, zero, suc, ◌+◌, ◌<◌, Bor, List, [], ◌∷◌, ◌++◌, length, map, take, get_or, slice_get, Some, None, refl, sym, ap, subst, ◌∙◌}
+-- Windows of some terms after others.
+use Rattle.std.proofs.Common.{◌≡◌, ◌≤◌, ℕ, zero, suc, ◌+◌, ◌<◌, Bor, List, [], ◌∷◌, ◌++◌, length, map, take, drop, get_or, slice_get, Some, None, refl, sym, ap, subst, ◌∙◌, append_assoc}
 use Rattle.std.specs.List.{AllByRecursion, AllZip}
-use Rattle.std.proofs.lemmas.List.{map-append, take_more}
+use Rattle.std.proofs.Math.Seq.{take-add}
+use Rattle.std.proofs.lemmas.List.{append-nil, length-take-le, map-append, nil_from_length, take_more}
 use Rattle.rl_parts.specs.laws.UseLaws.{Looked-then}
 use Rattle.rl_parts.specs.laws.VisitorLaws.{AllZip-append}
 use Rattle.rl_labels.specs.declared.limits.Limits.{Limits}
@@ -17,9 +18,14 @@ use Rattle.rl_shard.specs.Collecting.{IsRead}
 use Rattle.rl_shard.specs.Live.{IsBuiltFrom, IsRangeAt}
 use Rattle.rl_shard.proofs.Right.{stood}
 
-pub all_append : {A : Type 0} (P : A → Type 0) (xs ys : List A) → AllByRecursion P xs → AllByRecursion P ys → AllByRecursion P (xs ++ ys)
+-- so of lists that are appended
+all_append : {A : Type 0} (P : A → Type 0) (xs ys : List A) → AllByRecursion P xs → AllByRecursion P ys → AllByRecursion P (xs ++ ys)
 all_append P [] ys p q = q
 all_append P (x ∷ xs) ys p q = (p.0, all_append P xs ys p.1 q)
+
+-- what holds of some items and of others holds of both together
+pub all_joined : {A : Type 0} (P : A → Type 0) (xs ys all : List A) → all ≡ xs ++ ys → AllByRecursion P xs → AllByRecursion P ys → AllByRecursion P all
+all_joined P xs ys all is p q = subst (AllByRecursion P) (sym is) (all_append P xs ys p q)
 
 -- two looks one after the other
 pub looks_then : (first mid last : StreamsView) → Looks first mid → Looks mid last → Looks first last
@@ -45,14 +51,37 @@ built_back old new requests t it look built = record {
   exact = λ honest. subst (λ held. StandsFor it.window (elements_for it.code (stood requests held))) look.held (built.exact (look.seen.honest ∙ honest));
 }
 
--- the keys of one window more
-pub keys_more : (windows : List RangeWindow) (it : RangeWindow) (terms : List (Bor Term)) (i : ℕ) (term : Bor Term) → i < length terms → term ≡ get_or terms i term → map key_of windows ≡ map (λ (one : Bor Term). term_key one.now) (take i terms) → key_of it ≡ term_key term.now
-    → map key_of (windows ++ it ∷ []) ≡ map (λ (one : Bor Term). term_key one.now) (take (i + 1) terms)
-keys_more windows it terms i term within there same key =
-    map-append key_of windows (it ∷ [])
-    ∙ (λ j. same j ++ key j ∷ [])
-    ∙ sym (map-append (λ (one : Bor Term). term_key one.now) (take i terms) (term ∷ []))
-    ∙ ap (map (λ (one : Bor Term). term_key one.now)) (sym (take_more terms i term within ∙ ap (λ x. take i terms ++ x ∷ []) (sym there)))
+-- and so of all windows
+pub all_back : (old new : StreamsView) (requests : RequestsView) (t : ℕ) → Looks old new → (windows : List RangeWindow) → AllByRecursion (IsBuiltFrom new requests t) windows → AllByRecursion (IsBuiltFrom old requests t) windows
+all_back old new requests t look [] built = tt
+all_back old new requests t look (it ∷ windows) built = (built_back old new requests t it look built.0, all_back old new requests t look windows built.1)
+
+-- the keys of some windows more, of terms that stand behind the first ones
+pub keys_more : (windows more all : List RangeWindow) (terms rest : List (Bor Term)) (i n : ℕ) → rest ≡ drop i terms → n ≤ length rest → all ≡ windows ++ more → map key_of windows ≡ map (λ (one : Bor Term). term_key one.now) (take i terms) → map key_of more ≡ map (λ (one : Bor Term). term_key one.now) (take n rest)
+    → map key_of all ≡ map (λ (one : Bor Term). term_key one.now) (take (i + length (take n rest)) terms)
+keys_more windows more all terms rest i n rest_is within all_is same keys =
+    let key = λ (one : Bor Term). term_key one.now in
+    ap (map key_of) all_is
+    ∙ map-append key_of windows more
+    ∙ (λ j. same j ++ keys j)
+    ∙ sym (map-append key (take i terms) (take n rest))
+    ∙ ap (λ behind. map key (take i terms ++ take n behind)) rest_is
+    ∙ ap (map key) (sym (take-add i n terms))
+    ∙ ap (λ m. map key (take (i + m) terms)) (sym (length-take-le n rest within))
+
+-- what was done with one item more
+pub moved_on : {A B : Type 0} (f : A → B) (done more : List A) (it : A) (left rest : List B) (item : B) (all : List B) → more ≡ done ++ it ∷ [] → left ≡ item ∷ rest → f it ≡ item → map f done ++ left ≡ all → map f more ++ rest ≡ all
+moved_on f done more it left rest item all more_is left_is same so_far =
+    ap (λ items. map f items ++ rest) more_is
+    ∙ ap (λ items. items ++ rest) (map-append f done (it ∷ []))
+    ∙ append_assoc (map f done) (f it ∷ []) rest
+    ∙ ap (λ one. map f done ++ one ∷ rest) same
+    ∙ sym (ap (λ items. map f done ++ items) left_is)
+    ∙ so_far
+
+-- where none is left all is done
+pub moved_all : {A B : Type 0} (f : A → B) (done : List A) (left all : List B) → length left ≡ 0 → map f done ++ left ≡ all → map f done ≡ all
+moved_all f done left all none so_far = sym (ap (λ items. map f done ++ items) (nil_from_length left none) ∙ append-nil (map f done)) ∙ so_far
 
 -- what stands at an index stands there before others too
 slice_get-front : {A : Type 0} (xs ys : List A) (i : ℕ) (x : A) → slice_get xs i ≡ Some x → slice_get (xs ++ ys) i ≡ Some x

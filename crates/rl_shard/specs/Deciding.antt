@@ -3,13 +3,13 @@ use Rattle.std.specs.Prelude.{◌≡◌, ◌+◌, ◌≤◌, ℕ, true, IsTrue, 
 use Rattle.rl_chunks.specs.StoreState.{greatest}
 use Rattle.rl_parts.specs.StoreUse.{Grown}
 use Rattle.rl_query.specs.declared.query.Term.{Term}
-use Rattle.rl_slots.specs.Slots.{window_count, IsLiveIn}
+use Rattle.rl_slots.specs.Slots.{collected_in, term_count, IsLiveIn}
 use Rattle.rl_streams.specs.StreamsState.{StreamsView}
 use Rattle.rl_shard.specs.Collecting.{AreRead}
-use Rattle.rl_shard.specs.Live.{IsAnsweredLive, IsOfWindows, IsPush, Keeps}
+use Rattle.rl_shard.specs.Live.{collected_after, visits_due, IsAnsweredLive, IsOfWindows, IsPush, Keeps}
 use Rattle.rl_shard.specs.Pushing.{Pushes}
 use Rattle.rl_shard.specs.ShardFault.{Gives, IsDone, IsOfStore, IsUndecided, Stored, may_meet, step_faults}
-use Rattle.rl_shard.specs.ShardState.{PartsView, state_of}
+use Rattle.rl_shard.specs.ShardState.{PartsView, state_of, visible}
 use Rattle.rl_shard.specs.ShardStep.{stepped, IsAnswered, IsReply}
 use Rattle.rl_shard.specs.declared.step.ShardStep.{ShardStep}
 use Rattle.rl_shard.specs.declared.step.ShardReply.{ShardReply}
@@ -43,6 +43,8 @@ pub record Decides (step : ShardStep) (old : PartsView) (result : Result ShardRe
   pub keeps : (number : ℕ) (terms : List Term) (u : ℕ) → Keeps step result number u → IsLiveIn number terms u old.slots → IsLiveIn number terms u new.slots
   pub live : OnOk result (IsAnsweredLive step new.slots)
   pub unread : IsOfWindows step old.slots → (new.streams ≡ old.streams) × (new.meter.runs ≡ old.meter.runs)
-  pub runs : IsPush step → new.meter.runs ≤ old.meter.runs + window_count old.slots
+  pub runs : IsPush step → new.meter.runs ≤ old.meter.runs + term_count old.slots
+  pub collected : (number : ℕ) → collected_in number new.slots ≡ collected_after step result number old.slots
+  pub visits : old.streams.seen.honest ≡ true → IsOfWindows step old.slots → new.meter.visits ≤ old.meter.visits + visits_due (visible (state_of old)) step old.slots
   pub decided : old.streams.seen.honest ≡ true → IfOk result (λ reply. IsReply old.streams.limits (state_of old) step reply)
   pub changed : old.streams.seen.honest ≡ true → OnOk result (state_of new ≡ stepped old.streams.limits (state_of old) step)

@@ -6,4 +6,5 @@ pub mod ShardFault
 pub mod ShardState
 pub mod ShardStep
 pub mod Showing
+pub mod Turning
 pub mod laws

@@ -1,5 +1,7 @@
 -- Windows of ranges that a shard keeps, and when it answers by them.
-use Rattle.std.specs.Prelude.{◌≡◌, ◌≤◌, ◌⊎◌, ℕ, true, false, List, [], Some, Result, Ok, Err, slice_get}
+use Rattle.std.specs.Prelude.{◌≡◌, ◌≤◌, ◌⊎◌, ◌==◌, ℕ, true, List, [], ◌∷◌, ◌++◌, length, Option, Some, Result, Ok, Err, slice_get, if◌then◌else◌}
+use Rattle.std.specs.List.{sum_by}
+use Rattle.std.specs.Option.{unwrap_or}
 use Rattle.std.specs.FinMap.{keys}
 use Rattle.rl_labels.specs.declared.entry.Entry.{Entry}
 use Rattle.rl_query.specs.declared.query.Term.{Term}
@@ -11,8 +13,7 @@ use Rattle.rl_windows.specs.Ranges.{elements_for}
 use Rattle.rl_windows.specs.Windows.{in_range, StandsFor}
 use Rattle.rl_windows.specs.declared.element.Element.{Element}
 use Rattle.rl_windows.specs.declared.range.RangeCode.{RangeCode}
-use Rattle.rl_slots.specs.Slots.{changes_of, key_of, line_of, term_key, AreExact, AreFull, AreOfMost, IsLiveIn, SlotView}
-use Rattle.rl_slots.specs.declared.change.Change.{Change}
+use Rattle.rl_slots.specs.Slots.{collected_in, key_of, term_key, visits_for, AreExact, AreOfMost, IsLiveIn, SlotView}
 use Rattle.rl_slots.specs.declared.range_window.RangeWindow.{RangeWindow}
 use Rattle.rl_streams.specs.StreamsState.{StreamsView}
 use Rattle.rl_shard.specs.Collecting.{IsRead}
@@ -43,24 +44,31 @@ pub record IsBuiltFrom (streams : StreamsView) (requests : RequestsView) (t : �
 abbrev pub IsRangeAt : List (RangeCode × ℕ) → Term → (index : ℕ) → Type 0
 IsRangeAt ranges term index = slice_get ranges index ≡ Some (term_key term)
 
--- what an entry changes in windows was listed: nothing where a received request covers it, or where one of them has no room
-abbrev pub IsListed : List SlotView → RequestsView → Entry → List Change → Type 0
-IsListed slots requests entry changes =
-    ((changes ≡ []) × ((covered requests entry ≡ true) ⊎ ((covered requests entry ≡ false) × AreFull slots)))
-    ⊎ ((covered requests entry ≡ false) × (changes ≡ changes_of (line_of entry) entry.timestamp slots))
+-- some window has as many lines as it may have, so that as many entries as that are among those that windows stand for
+abbrev pub AreCrowded : List SlotView → Type 0
+AreCrowded slots = (most : ℕ) (entries : List Entry) → AreOfMost most slots → AreExact slots entries → most ≤ length entries
 
--- a step that keeps what the slot of a number answers from a moment on: one that hides and shows nothing, a Collect of another slot,
--- and one that is refused, from its own moment on
+-- an entry went into the windows that need it, unless a received request covers it; or one of these has no room
+abbrev pub IsLetIn : RequestsView → Entry → List SlotView → List SlotView → Type 0
+IsLetIn requests entry slots after =
+    AreCrowded slots ⊎ ((entries : List Entry) → AreExact slots entries → AreExact after ((if covered requests entry then [] else entry ∷ []) ++ entries))
+
+-- a step that keeps what the slot of a number answers from a moment on: each but a Collect of the slot that is answered, and one that is
+-- refused from its own moment on
 abbrev pub Keeps : ShardStep → Result ShardReply ShardFault → (number u : ℕ) → Type 0
-Keeps (steps.Push entry) result number u = Unit {0}
-Keeps steps.Cut result number u = Unit {0}
-Keeps steps.Flush result number u = Unit {0}
-Keeps (steps.Process id now) result number u = Unit {0}
 Keeps (steps.Collect slot terms t) (Ok _) number u = number ≡ slot → ⊥
 Keeps (steps.Collect slot terms t) (Err _) number u = number ≡ slot → t ≤ u
-Keeps (steps.Delete deletion) result number u = ⊥
-Keeps (steps.Cancel id) result number u = ⊥
-Keeps (steps.Retain now) result number u = ⊥
+Keeps step result number u = Unit {0}
+
+-- the moment of the last Collect of a slot that was answered, after a step
+abbrev pub collected_after : ShardStep → Result ShardReply ShardFault → (number : ℕ) → List SlotView → Option ℕ
+collected_after (steps.Collect slot terms t) (Ok _) number slots = if slot == number then Some t else collected_in number slots
+collected_after step result number slots = collected_in number slots
+
+-- the timestamps of visible entries that come due or leave, for each term of a Collect, since its slot was answered last
+abbrev pub visits_due : List Entry → ShardStep → List SlotView → ℕ
+visits_due entries (steps.Collect slot terms t) slots = sum_by (visits_for entries (unwrap_or (collected_in slot slots) 0) t) terms
+visits_due entries step slots = 0
 
 -- what is answered by windows after a Collect was answered: its own terms, from its moment on
 abbrev pub IsAnsweredLive : ShardStep → List SlotView → Type 0

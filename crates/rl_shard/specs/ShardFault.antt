@@ -4,7 +4,7 @@ use Rattle.rl_chunks.specs.StoreState.{greatest, with_fault}
 use Rattle.std.specs.Option.{MatchOption}
 use Rattle.rl_labels.specs.declared.entry.Entry.{Entry}
 use Rattle.rl_labels.specs.declared.limits.Limits.{Limits}
-use Rattle.rl_deletes.specs.Deletes.{asked, IsReceiveFault}
+use Rattle.rl_deletes.specs.Deletes.{asked, received_at, IsReceiveFault}
 use Rattle.rl_parts.specs.StoreUse.{FaultsRise, Grown}
 use Rattle.rl_parts.specs.declared.fault.ReadFault.{ReadFault}
 use Rattle.rl_parts.specs.declared.fault.ReadFault.TheVariants as reads
@@ -12,6 +12,8 @@ use Rattle.rl_parts.specs.declared.fault.FlushFault.{FlushFault}
 use Rattle.rl_parts.specs.declared.fault.FlushFault.TheVariants as flushes
 use Rattle.rl_parts.specs.declared.fault.RewriteFault.{RewriteFault}
 use Rattle.rl_parts.specs.declared.fault.RewriteFault.TheVariants as rewrites
+use Rattle.rl_slots.specs.declared.change.AddFault.{AddFault}
+use Rattle.rl_slots.specs.declared.change.AddFault.TheVariants as adds
 use Rattle.rl_streams.specs.Rewritten.{AreLeftIn, Rewrites}
 use Rattle.rl_streams.specs.StreamsState.{StreamsView}
 use Rattle.rl_streams.specs.declared.refusal.AddRefusal.{AddRefusal}
@@ -42,6 +44,11 @@ fault_of_rewrite rewrites.Damaged = faults.Damaged
 fault_of_rewrite rewrites.NumbersSpent = faults.NumbersSpent
 fault_of_rewrite rewrites.Memory = faults.Memory
 
+-- a window without room for what is held: the store showed more than the shard may hold
+abbrev pub fault_of_windows : AddFault → ShardFault
+fault_of_windows adds.Full = faults.Damaged
+fault_of_windows adds.Memory = faults.Memory
+
 -- what becomes of an entry that streams refused
 abbrev pub refused : AddRefusal → Result ShardReply ShardFault
 refused (adding.Expired horizon) = Ok (replies.Expired horizon)
@@ -50,15 +57,18 @@ refused adding.Full = Ok replies.Full
 refused (adding.Read fault) = Err (fault_of_read fault)
 
 -- whether a step may meet a fault: one that reads meets the store's and damage, one that writes meets the store's and that the
--- numbers are spent, one that removes entries does both, each meets a full journal, and each but a cancel a lack of memory
+-- numbers are spent, one that removes entries does both, and each meets a full journal and a lack of memory
 abbrev pub may_meet : ShardStep → ShardFault → Bool
 may_meet step faults.JournalFull = true
-may_meet (steps.Cancel id) faults.Memory = false
 may_meet step faults.Memory = true
 may_meet (steps.Push entry) faults.Fault = true
 may_meet (steps.Push entry) faults.Damaged = true
 may_meet steps.Flush faults.Fault = true
 may_meet steps.Flush faults.NumbersSpent = true
+may_meet (steps.Delete deletion) faults.Fault = true
+may_meet (steps.Delete deletion) faults.Damaged = true
+may_meet (steps.Cancel id) faults.Fault = true
+may_meet (steps.Cancel id) faults.Damaged = true
 may_meet (steps.Process id now) faults.Fault = true
 may_meet (steps.Process id now) faults.Damaged = true
 may_meet (steps.Process id now) faults.NumbersSpent = true
@@ -95,10 +105,11 @@ IsOfStore old faults.NumbersSpent new = new.next ≡ greatest
 IsOfStore old _ new = Unit {0}
 
 -- where a step may meet a fault at all, since it is not decided before its store or memory is asked: an entry is not too old, a
--- request may be received, and entries are to be removed
+-- request may be received, or is received where it is cancelled, and entries are to be removed
 abbrev pub IsUndecided : Limits → ShardState → ShardStep → Type 0
 IsUndecided limits shard (steps.Push entry) = age_answer limits shard entry ≡ None
 IsUndecided limits shard (steps.Delete deletion) = IsReceiveFault shard.requests deletion.id (asked deletion) None
+IsUndecided limits shard (steps.Cancel id) = IsSome (received_at shard.requests id)
 IsUndecided limits shard (steps.Process id now) = IsSome (removes limits shard (steps.Process id now))
 IsUndecided limits shard (steps.Retain now) = IsSome (removes limits shard (steps.Retain now))
 IsUndecided limits shard step = Unit {0}

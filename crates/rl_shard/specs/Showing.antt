@@ -1,19 +1,15 @@
 -- Which entries a step makes visible, and which it hides.
-use Rattle.std.specs.Prelude.{◌≡◌, ℕ, ◌+◌, ◌==◌, nat_le, Bool, not, ◌&&◌, List, [], ◌∷◌, is_none, if◌then◌else◌}
+use Rattle.std.specs.Prelude.{◌≡◌, ℕ, ◌+◌, ◌==◌, Bool, not, ◌&&◌, List, [], ◌∷◌, if◌then◌else◌}
 use Rattle.std.specs.List.{filter, sum_by}
-use Rattle.std.specs.FinMap.{get, keys, len}
+use Rattle.std.specs.FinMap.{keys}
 use Rattle.rl_labels.specs.declared.entry.Entry.{Entry}
 use Rattle.rl_labels.specs.declared.limits.Limits.{Limits}
-use Rattle.rl_deletes.specs.Deletes.{RequestsView, asked, covered, covered_beside, covers_one, most_requests}
+use Rattle.rl_deletes.specs.Deletes.{RequestsView, asked, covered, covered_beside, covers_one, is_new_request}
 use Rattle.rl_deletes.specs.Horizons.{advanced, is_below}
 use Rattle.rl_shard.specs.ShardState.{ShardState, visible}
 use Rattle.rl_shard.specs.ShardStep.{is_taken}
 use Rattle.rl_shard.specs.declared.step.ShardStep.{ShardStep}
 use Rattle.rl_shard.specs.declared.step.ShardStep.TheVariants as steps
-
--- there is room for a request, and none has the number
-abbrev pub is_new_request : RequestsView → ℕ → Bool
-is_new_request requests id = not (nat_le most_requests (len requests.requests)) && is_none (get requests.requests id)
 
 -- the received request with the number covers the entry, and no other does
 abbrev pub covered_alone : RequestsView → ℕ → Entry → Bool

@@ -1,12 +1,13 @@
 //! What a shard shows of the ranges of terms.
-ghost use Rattle.std.specs.Prelude.{◌≡◌, ◌≤◌, ◌⊎◌, ℕ, true, length, map, IfErr, IfOk, List, OnErr, OnOk};
+ghost use Rattle.std.specs.Prelude.{◌≡◌, ◌≤◌, ◌+◌, ◌==◌, ◌⊎◌, ℕ, true, length, map, IfErr, IfOk, List, OnErr, OnOk, Some, if◌then◌else◌};
+ghost use Rattle.std.specs.Option.{unwrap_or};
 ghost use Rattle.std.specs.FinMap.{keys};
-ghost use Rattle.std.specs.List.{AllByRecursion, AllZip};
+ghost use Rattle.std.specs.List.{AllByRecursion, AllZip, sum_by};
 ghost use Rattle.rl_chunks.specs.StoreState.{greatest};
 ghost use Rattle.rl_query.specs.declared.query.Term.{Term};
 ghost use Rattle.rl_aggregate.specs.Limited.{IsWithin};
 ghost use Rattle.rl_aggregate.specs.Partials.{partial};
-ghost use Rattle.rl_slots.specs.Slots.{IsLiveIn};
+ghost use Rattle.rl_slots.specs.Slots.{collected_in, visits_for, IsLiveIn};
 ghost use Rattle.rl_streams.specs.StreamsState.{Looks};
 ghost use Rattle.rl_shard.specs.Collecting.{shown, AreReadFor, IsOfReading};
 ghost use Rattle.rl_shard.specs.ShardFault.{IsOfStore, after_step};
@@ -46,6 +47,9 @@ impl<S: Store> ShardParts<S> {
         ensures kept { (other : ℕ) (asked : List Term) (u : ℕ) → (other ≡ number → ⊥) → IsLiveIn other asked u self.old.slots → IsLiveIn other asked u self.new.slots }
         ensures refused { OnErr result ((asked : List Term) (u : ℕ) → t ≤ u → IsLiveIn number asked u self.old.slots → IsLiveIn number asked u self.new.slots) }
         ensures unread { IsLiveIn number terms t self.old.slots → (self.new.streams ≡ self.old.streams) × (self.new.meter.runs ≡ self.old.meter.runs) }
+        ensures collected { OnOk result ((other : ℕ) → collected_in other self.new.slots ≡ (if number == other then Some t else collected_in other self.old.slots)) }
+        ensures uncollected { OnErr result ((other : ℕ) → collected_in other self.new.slots ≡ collected_in other self.old.slots) }
+        ensures visits { self.old.streams.seen.honest ≡ true → IsLiveIn number terms t self.old.slots → self.new.meter.visits ≤ self.old.meter.visits + sum_by (visits_for (shown self.old.streams self.old.requests) (unwrap_or (collected_in number self.old.slots) 0) t) terms }
     {
         // Read for contracts, which learn that it is within the greatest.
         let _moment = t.get();
@@ -75,6 +79,7 @@ impl<S: Store> ShardParts<S> {
         ensures live { OnOk result ((u : ℕ) → t ≤ u → IsLiveIn number terms u self.new.slots) }
         ensures kept { (other : ℕ) (asked : List Term) (u : ℕ) → (other ≡ number → ⊥) → IsLiveIn other asked u self.old.slots → IsLiveIn other asked u self.new.slots }
         ensures refused { OnErr result (self.new.slots ≡ self.old.slots) }
+        ensures collected { OnOk result ((other : ℕ) → collected_in other self.new.slots ≡ (if number == other then Some t else collected_in other self.old.slots)) }
     {
         // Read for contracts, as in `collect`.
         let _moment = t.get();

@@ -3,7 +3,7 @@ ghost use Rattle.std.specs.Prelude.{◌≡◌, ◌≤◌, ◌+◌, ℕ, List, No
 ghost use Rattle.rl_chunks.specs.StoreState.{greatest};
 ghost use Rattle.rl_parts.specs.StoreUse.{IsGrown, after_flush};
 ghost use Rattle.rl_parts.specs.declared.fault.FlushFault.TheVariants as flushes;
-ghost use Rattle.rl_slots.specs.Slots.{window_count, IsLiveIn};
+ghost use Rattle.rl_slots.specs.Slots.{collected_in, term_count, IsLiveIn};
 ghost use Rattle.rl_query.specs.declared.query.Term.{Term};
 ghost use Rattle.rl_streams.specs.StreamsState.{age_refusal, Cuts, Flushes};
 ghost use Rattle.rl_shard.specs.Collecting.{IsOfReading};
@@ -39,7 +39,7 @@ impl<S: Store> ShardParts<S> {
                 Ok(ShardReply::Done)
             }
             ShardStep::Delete(deletion) => self.delete(deletion),
-            ShardStep::Cancel { id } => Ok(self.cancel(id)),
+            ShardStep::Cancel { id } => self.cancel(id),
             ShardStep::Process { id, now } => self.process(id, now),
             ShardStep::Retain { now } => self.retain(now),
             ShardStep::Collect { slot, terms, t } => {
@@ -54,8 +54,9 @@ impl<S: Store> ShardParts<S> {
         ensures lasts { Lasts self.old.streams self.new.streams }
         ensures gives { GivesNone self.old.streams self.new.streams }
         ensures pushed { IsPushed self.old.streams self.old.horizon entry result self.new.streams }
+        ensures runs { self.new.meter.runs ≤ self.old.meter.runs + term_count self.old.slots }
         ensures live { (number : ℕ) (terms : List Term) (u : ℕ) → IsLiveIn number terms u self.old.slots → IsLiveIn number terms u self.new.slots }
-        ensures runs { self.new.meter.runs ≤ self.old.meter.runs + window_count self.old.slots }
+        ensures collected { (number : ℕ) → collected_in number self.new.slots ≡ collected_in number self.old.slots }
         ensures meets { IfErr result IsOfReading }
         ensures undecided { OnErr result (age_answer self.old.streams.limits (state_of self.old) entry ≡ None) }
         ensures refused { IfErr result (λ fault. Refuses self.old fault self.new) }

@@ -4,7 +4,7 @@
 //! says, where its store is honest. A step that is refused for a fault changes nothing of what is held, over any store.
 //!
 //! - `step`: `ShardStep`, `ShardReply`, `ShardFault`. `shard`: `Shard`. `parts`: what its steps change; `deciding`, with `deleting`: what becomes
-//!   of each step; `pushing`: what an entry changes in windows. `collecting`, with `windows`: what it shows of the ranges of terms. `sending`: a
+//!   of each step; `pushing`: what an entry changes in windows, `turning`: what entries that a step hides or shows do. `collecting`, with `windows`: what it shows of the ranges of terms. `sending`: a
 //!   probe for what may cross to another thread.
 #![tactic(auto)]
 
@@ -16,6 +16,7 @@ mod pushing;
 pub mod sending;
 pub mod shard;
 pub mod step;
+mod turning;
 mod windows;
 
 pub use shard::Shard;

@@ -35,9 +35,9 @@ impl<S: Store> Shard<S> {
     ghost use Rattle.rl_chunks.specs.StoreState.{greatest};
     ghost use Rattle.std.specs.Bool.{Decides};
     ghost use Rattle.rl_query.specs.declared.query.Term.{Term};
-    ghost use Rattle.rl_slots.specs.Slots.{window_count, IsLiveIn};
+    ghost use Rattle.rl_slots.specs.Slots.{collected_in, term_count, IsLiveIn};
     ghost use Rattle.rl_shard.specs.Collecting.{AreRead};
-    ghost use Rattle.rl_shard.specs.Live.{IsAnsweredLive, IsOfWindows, IsPush, Keeps};
+    ghost use Rattle.rl_shard.specs.Live.{collected_after, visits_due, IsAnsweredLive, IsOfWindows, IsPush, Keeps};
     ghost use Rattle.rl_shard.specs.Pushing.{Pushes, replied};
     ghost use Rattle.rl_shard.specs.ShardFault.{Gives, IsDone, IsHonest, MayCome, Stored};
     ghost use Rattle.rl_shard.specs.ShardState.{journalled, opened_over, visible};
@@ -114,7 +114,9 @@ impl<S: Store> Shard<S> {
         ensures keeps { (number : ℕ) (terms : List Term) (u : ℕ) → Keeps step (replied result) number u → IsLiveIn number terms u self.old.slots → IsLiveIn number terms u self.new.slots }
         ensures live { OnOk result (IsAnsweredLive step self.new.slots) }
         ensures unread { IsOfWindows step self.old.slots → (self.new.streams ≡ self.old.streams) × (self.new.meter.runs ≡ self.old.meter.runs) }
-        ensures runs { IsPush step → self.new.meter.runs ≤ self.old.meter.runs + window_count self.old.slots }
+        ensures runs { IsPush step → self.new.meter.runs ≤ self.old.meter.runs + term_count self.old.slots }
+        ensures collected { (number : ℕ) → collected_in number self.new.slots ≡ collected_after step (replied result) number self.old.slots }
+        ensures visits { IsHonest self.old → IsOfWindows step self.old.slots → self.new.meter.visits ≤ self.old.meter.visits + visits_due (visible (journalled self.old).state) step self.old.slots }
         // Over an honest store.
         ensures decided { IsHonest self.old → IfOk result (λ answer. IsReply (journalled self.old).limits (journalled self.old).state step answer.1) }
         ensures changed { IsHonest self.old → OnOk result (journalled self.new ≡ recorded (journalled self.old) step) }

@@ -3,7 +3,8 @@ ghost use Rattle.std.specs.Prelude.{◌≡◌};
 ghost use Rattle.rl_parts.specs.declared.fault.ReadFault.{ReadFault};
 ghost use Rattle.rl_parts.specs.declared.fault.FlushFault.{FlushFault};
 ghost use Rattle.rl_parts.specs.declared.fault.RewriteFault.{RewriteFault};
-ghost use Rattle.rl_shard.specs.ShardFault.{fault_of_flush, fault_of_read, fault_of_rewrite};
+ghost use Rattle.rl_slots.specs.declared.change.AddFault.{AddFault};
+ghost use Rattle.rl_shard.specs.ShardFault.{fault_of_flush, fault_of_read, fault_of_rewrite, fault_of_windows};
 ghost use Rattle.rl_shard.specs.declared.step.ShardFault.TheVariants.{Memory};
 
 use rl_aggregate::Partial;
@@ -12,6 +13,7 @@ use rl_labels::{Entry, Ns};
 use rl_parts::{FlushFault, ReadFault, RewriteFault};
 use rl_plain::{PlainList, Same, Shared, TryCopy};
 use rl_query::{Sieve, Term};
+use rl_slots::AddFault;
 use std::alloc::{AllocError, AllocFailed};
 use thiserror::Error;
 
@@ -201,6 +203,18 @@ impl<T: Drop> From<AllocFailed<T>> for ShardFault {
 
     fn from(_error: AllocFailed<T>) -> Self {
         ShardFault::Memory
+    }
+}
+
+impl From<AddFault> for ShardFault {
+    ghost from_gives = { λ fault e. e ≡ fault_of_windows fault };
+
+    // A shard holds as many entries as a window has room for, unless its store lies.
+    fn from(fault: AddFault) -> Self {
+        match fault {
+            AddFault::Full => ShardFault::Damaged,
+            AddFault::Memory => ShardFault::Memory,
+        }
     }
 }
 

@@ -59,16 +59,16 @@ and_swap true false = refl
 and_swap false true = refl
 and_swap false false = refl
 
-module _ (all : RequestsView) (id : ℕ) (status : RequestStatus) (over : is_in_force status ≡ false) (entry : Entry) where
-  -- a request that is not received is not ended
-  stays : (known : Option Request) → if_received known ≡ None → ended_from known status all id ≡ all
-  stays None none = refl
-  stays (Some request) none = by (is_received request) none
-    where
-      by : (b : Bool) → (if b then Some request else None) ≡ None → (if b then with_request all id (with_status status request) else all) ≡ all
-      by true some = absurd (true≢false (ap is_some some))
-      by false _ = refl
+-- a request that is not received is not ended
+pub ended-none : (all : RequestsView) (id : ℕ) (status : RequestStatus) (known : Option Request) → if_received known ≡ None → ended_from known status all id ≡ all
+ended-none all id status None none = refl
+ended-none all id status (Some request) none = by (is_received request) none
+  where
+    by : (b : Bool) → (if b then Some request else None) ≡ None → (if b then with_request all id (with_status status request) else all) ≡ all
+    by true some = absurd (true≢false (ap is_some some))
+    by false _ = refl
 
+module _ (all : RequestsView) (id : ℕ) (status : RequestStatus) (over : is_in_force status ≡ false) (entry : Entry) where
   -- what is covered after a request was ended is what others cover
   covered-over : covered (ended status all id) entry ≡ covered_beside all id entry
   covered-over = by (received_at all id) refl
@@ -76,7 +76,7 @@ module _ (all : RequestsView) (id : ℕ) (status : RequestStatus) (over : is_in_
       by : (known : Option Request) → received_at all id ≡ known → covered (ended status all id) entry ≡ covered_beside all id entry
       by (Some request) is = covered-ended all id entry status over (ap is_some is)
       by None is =
-          ap (λ requests. covered requests entry) (stays (get all.requests id) is)
+          ap (λ requests. covered requests entry) (ended-none all id status (get all.requests id) is)
           ∙ covered-parts all id entry
           ∙ ap (λ known. passes_at (λ request. covers_one request entry) known || covered_beside all id entry) is
 

@@ -1,5 +1,5 @@
 -- A term more is the last.
-use Rattle.std.proofs.Common.{◌≡◌, ◌-◌, ◌∷◌, [], Bor, length, map, slice_get, Some, ap, subst, ◌∙◌, arith}
+use Rattle.std.proofs.Common.{◌≡◌, ◌-◌, ◌∷◌, [], Bor, inr, length, map, slice_get, Some, ap, subst, ◌∙◌, arith}
 use Rattle.std.proofs.lemmas.List.{length-append, length-map, map-append}
 use Rattle.rl_query.specs.declared.query.Term.{Term}
 use Rattle.rl_slots.specs.Slots.{term_key}
@@ -15,6 +15,4 @@ returns-clause-found c =
     subst (λ i. slice_get (map key c.push.new.self.items) i ≡ Some (term_key c.args.term.now)) index (ap (λ ranges. slice_get ranges (length (map key terms))) all ∙ range_last (map key terms) (term_key c.args.term.now))
 
 pub returns-clause-more : goal.returns-clause-more
-returns-clause-more c =
-    let key = λ (one : Bor Term). term_key one.now in
-    (term_key c.args.term.now ∷ [], ap (map key) c.in_ok-push.ensures.items ∙ map-append key c.args.terms.now.items (c.args.term ∷ []))
+returns-clause-more c = inr c.in_ok-push.ensures.items

@@ -1,5 +1,6 @@
 -- The windows that were built answer the terms, and take the place of those of the slot.
-use Rattle.std.proofs.Common.{◌≡◌, ◌≤◌, true, map, sym, ap, subst, ◌∙◌, arith}
+use Rattle.std.proofs.Common.{◌≡◌, ◌≤◌, ◌==◌, true, map, Some, sym, ap, subst, ◌∙◌, arith}
+use Rattle.std.specs.Prelude.{if◌then◌else◌}
 use Rattle.std.specs.List.{AllByRecursion}
 use Rattle.rl_chunks.specs.StoreState.{greatest}
 use Rattle.rl_labels.specs.Quantity.{greatest_moment}
@@ -7,8 +8,8 @@ use Rattle.rl_query.specs.declared.query.Term.{Term}
 use Rattle.rl_aggregate.specs.Limited.{IsWithin}
 use Rattle.rl_aggregate.specs.Partials.{partial}
 use Rattle.rl_windows.specs.Ranges.{elements_for}
-use Rattle.rl_slots.specs.Slots.{with_slot, AreExactIn, AreSums, ContentsIn, IsLiveIn, SlotView, StandIn}
-use Rattle.rl_slots.specs.laws.Living.{live-new, live-set}
+use Rattle.rl_slots.specs.Slots.{collected_in, with_slot, AreExactIn, AreSums, ContentsIn, IsLiveIn, SlotView, StandIn}
+use Rattle.rl_slots.specs.laws.Living.{collected-set, live-new, live-set}
 use Rattle.rl_slots.specs.declared.range_window.RangeWindow.{RangeWindow}
 use Rattle.rl_shard.specs.Collecting.{shown, AreReadFor}
 use Rattle.rl_shard.specs.Live.{windowed, AreRight}
@@ -84,3 +85,12 @@ returns-clause-kept g c = λ other asked u apart live.
     let number = c.collect.ensures.asked.0 ∙ ap (λ (s : SlotView). s.number) c.new-slot.ensures in
     subst (IsLiveIn other asked u) (sym c.in_ok-set.ensures.ok)
     (live-set slot slots other asked u (λ is. apart (is ∙ number)) (subst (λ (p : PartsView). IsLiveIn other asked u p.slots) (sym c.self.view_is) live))
+
+pub returns-clause-collected : goal.returns-clause-collected
+returns-clause-collected g c = λ other.
+    let slot = c.collect.new.self in
+    let slots = c.self.inside.slots in
+    let number = c.collect.ensures.asked.0 ∙ ap (λ (s : SlotView). s.number) c.new-slot.ensures in
+    let moment = c.in_ok-partials.ensures.collected in
+    subst (λ (p : PartsView). collected_in other c.set.new.self ≡ (if c.args.number == other then Some c.args.t else collected_in other p.slots)) c.self.view_is
+    (ap (collected_in other) c.in_ok-set.ensures.ok ∙ collected-set slot slots other ∙ (λ i. if number i == other then Some (moment i) else collected_in other slots))

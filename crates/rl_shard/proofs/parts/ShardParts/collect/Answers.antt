@@ -1,17 +1,19 @@
 -- What windows that are live answer.
-use Rattle.std.proofs.Common.{◌≡◌, ◌≤◌, ◌⊎◌, true, List, length, map, Result, Ok, Err, IfSome, OnErr, sym, ap, subst, ◌∙◌, inl}
-use Rattle.std.specs.List.{AllByRecursion}
+use Rattle.std.proofs.Common.{◌≡◌, ◌≤◌, ◌+◌, ◌==◌, ◌⊎◌, true, List, length, map, Result, Ok, Err, IfSome, OnErr, Some, sym, ap, subst, ◌∙◌, inl}
+use Rattle.std.specs.List.{sum_by, AllByRecursion}
+use Rattle.std.specs.Option.{unwrap_or}
+use Rattle.std.specs.Prelude.{if◌then◌else◌}
 use Rattle.rl_labels.specs.Quantity.{greatest_moment}
 use Rattle.rl_labels.specs.declared.entry.Entry.{Entry}
 use Rattle.rl_query.specs.declared.query.Term.{Term}
 use Rattle.rl_aggregate.specs.Limited.{IsWithin}
 use Rattle.rl_aggregate.specs.Partials.{partial}
-use Rattle.rl_slots.specs.Slots.{visits_of, AreExact, HasVisits, IsLiveIn, SlotView}
+use Rattle.rl_slots.specs.Slots.{collected_in, visits_for, AreExact, IsLiveIn, SlotView}
 use Rattle.rl_slots.specs.laws.Living.{live-moved}
 use Rattle.rl_shard.specs.Collecting.{shown, AreReadFor}
 use Rattle.rl_shard.specs.Live.{windowed}
 use Rattle.rl_shard.specs.ShardState.{PartsView}
-use Rattle.rl_shard.proofs.Asked.{apart_at, found_at, live_from, live_later, partials_of_all}
+use Rattle.rl_shard.proofs.Asked.{apart_at, collected_at, found_at, live_from, live_later, partials_of_all, visits_live, visits_of_all}
 use Rattle.rl_shard.proofs.Right.{right_others}
 use Rattle.rl_shard.proofs.parts.ShardParts.collect.Goals as goal
 
@@ -39,9 +41,24 @@ returns-in_err-collect-in-Some-clause-unread g c = λ _.
     let slots = c.self.inside.slots in
     let index = c.in-Some.index in
     let is = c.in-Some.ensures.some in
-    let found = found_at c.get.result.now c.args.t slots index is.0 is.2 in
-    let visits = subst (λ o. IfSome o (λ (slot : SlotView). HasVisits (visits_of slot.windows c.args.t) c.self.inside.meter c.collect.new.meter)) found.1 c.collect.ensures.visits in
-    (ap (λ (p : PartsView). p.streams) c.self.view_is, visits.0 ∙ ap (λ (p : PartsView). p.meter.runs) c.self.view_is)
+    (ap (λ (p : PartsView). p.streams) c.self.view_is, c.collect.ensures.runs ∙ ap (λ (p : PartsView). p.meter.runs) c.self.view_is)
+
+pub returns-in_err-collect-in-Some-clause-uncollected : goal.returns-in_err-collect-in-Some-clause-uncollected
+returns-in_err-collect-in-Some-clause-uncollected g c = on_err c.from_residual.result (λ other. c.in_err-collect-in-Some.ensures.kept other ∙ ap (λ (p : PartsView). collected_in other p.slots) c.self.view_is)
+
+pub returns-in_err-collect-in-Some-clause-visits : goal.returns-in_err-collect-in-Some-clause-visits
+returns-in_err-collect-in-Some-clause-visits g c =
+    let slots = c.self.inside.slots in
+    let index = c.in-Some.index in
+    let is = c.in-Some.ensures.some in
+    let old = c.self.inside.streams in
+    let requests = c.self.inside.requests in
+    let moments = subst (λ m. m ≤ greatest_moment) c.get-moment.ensures.value c.get-moment.ensures.bound in
+    let since = unwrap_or (collected_in c.args.number slots) 0 in
+    subst (λ (p : PartsView). p.streams.seen.honest ≡ true → IsLiveIn c.args.number c.args.terms c.args.t p.slots → c.collect.new.meter.visits ≤ p.meter.visits + sum_by (visits_for (shown p.streams p.requests) (unwrap_or (collected_in c.args.number p.slots) 0) c.args.t) c.args.terms) c.self.view_is
+    (λ honest _.
+    let bound = visits_live c.args.number c.get.result.now c.args.t slots index (windowed old requests) c.self.inside.meter c.collect.new.meter is.1 is.0 is.2 (c.collect.ensures.visits (windowed old requests) (c.self.invariant.1.exact honest)) in
+    subst (λ n. c.collect.new.meter.visits ≤ c.self.inside.meter.visits + n) (visits_of_all old requests c.args.terms since c.args.t moments) (subst (λ ts. c.collect.new.meter.visits ≤ c.self.inside.meter.visits + sum_by (visits_for (windowed old requests) since c.args.t) ts) c.get.ensures bound))
 
 pub invariant_of-self-in-Some-1 : goal.invariant_of-self-in-Some-1
 invariant_of-self-in-Some-1 g c = (c.self.invariant.0, right_others c.self.inside.streams c.self.inside.requests c.self.inside.slots c.collect.new.self (c.collect.ensures.most c.self.inside.streams.limits.entries) c.collect.ensures.stand c.self.invariant.1)
@@ -100,6 +117,26 @@ returns-in_ok-collect-in-Some-clause-unread g c = λ _.
     let slots = c.self.inside.slots in
     let index = c.in-Some.index in
     let is = c.in-Some.ensures.some in
-    let found = found_at c.get.result.now c.args.t slots index is.0 is.2 in
-    let visits = subst (λ o. IfSome o (λ (slot : SlotView). HasVisits (visits_of slot.windows c.args.t) c.self.inside.meter c.collect.new.meter)) found.1 c.collect.ensures.visits in
-    (ap (λ (p : PartsView). p.streams) c.self.view_is, visits.0 ∙ ap (λ (p : PartsView). p.meter.runs) c.self.view_is)
+    (ap (λ (p : PartsView). p.streams) c.self.view_is, c.collect.ensures.runs ∙ ap (λ (p : PartsView). p.meter.runs) c.self.view_is)
+
+pub returns-in_ok-collect-in-Some-clause-collected : goal.returns-in_ok-collect-in-Some-clause-collected
+returns-in_ok-collect-in-Some-clause-collected g c = λ other.
+    let slots = c.self.inside.slots in
+    let index = c.in-Some.index in
+    let is = c.in-Some.ensures.some in
+    subst (λ (p : PartsView). collected_in other c.collect.new.self ≡ (if c.args.number == other then Some c.args.t else collected_in other p.slots)) c.self.view_is
+    (collected_at c.args.number index c.args.t slots c.collect.new.self is.1 c.in_ok-collect-in-Some.ensures.collected c.collect.ensures.others other)
+
+pub returns-in_ok-collect-in-Some-clause-visits : goal.returns-in_ok-collect-in-Some-clause-visits
+returns-in_ok-collect-in-Some-clause-visits g c =
+    let slots = c.self.inside.slots in
+    let index = c.in-Some.index in
+    let is = c.in-Some.ensures.some in
+    let old = c.self.inside.streams in
+    let requests = c.self.inside.requests in
+    let moments = subst (λ m. m ≤ greatest_moment) c.get-moment.ensures.value c.get-moment.ensures.bound in
+    let since = unwrap_or (collected_in c.args.number slots) 0 in
+    subst (λ (p : PartsView). p.streams.seen.honest ≡ true → IsLiveIn c.args.number c.args.terms c.args.t p.slots → c.collect.new.meter.visits ≤ p.meter.visits + sum_by (visits_for (shown p.streams p.requests) (unwrap_or (collected_in c.args.number p.slots) 0) c.args.t) c.args.terms) c.self.view_is
+    (λ honest _.
+    let bound = visits_live c.args.number c.get.result.now c.args.t slots index (windowed old requests) c.self.inside.meter c.collect.new.meter is.1 is.0 is.2 (c.collect.ensures.visits (windowed old requests) (c.self.invariant.1.exact honest)) in
+    subst (λ n. c.collect.new.meter.visits ≤ c.self.inside.meter.visits + n) (visits_of_all old requests c.args.terms since c.args.t moments) (subst (λ ts. c.collect.new.meter.visits ≤ c.self.inside.meter.visits + sum_by (visits_for (windowed old requests) since c.args.t) ts) c.get.ensures bound))
