@@ -68,13 +68,13 @@ const PROCESS: Removal = Removal {
     chunks: &[2, 2, 3, 3, 3, 2],
 };
 
-// It reads `a`, puts what is left of it, and reads `b` and `c`. Then it removes the three.
+// It reads the three for the windows. Then it reads `a`, puts what is left of it, and reads `b` and `c`. Then it removes the three.
 const RETAIN: Removal = Removal {
     is_process: false,
     shown: [621, 310, 310],
     taken: 4,
-    reporting: 4,
-    chunks: &[1, 1, 2, 2, 2, 2, 2, 1],
+    reporting: 7,
+    chunks: &[1, 1, 1, 1, 1, 2, 2, 2, 2, 2, 1],
 };
 
 fn reply_name(reply: &ShardReply) -> &'static str {
