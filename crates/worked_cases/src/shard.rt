@@ -6,6 +6,7 @@
 use crate::compared::halves;
 use crate::given::{Read, limits_in, list_in, moment_in, number_in, words_of};
 use crate::query::query_in;
+use crate::shard_random::random;
 use crate::trouble::Trouble;
 use rl_chunks::MemStore;
 use rl_deletes::Deletion;
@@ -19,6 +20,7 @@ use std::mem;
 pub(crate) fn answer(output: &mut String, directive: &str, input: &str) -> Result<(), Trouble> {
     match directive {
         "steps" => steps(output, input),
+        "random" => random(output, input),
         _ => Err(Trouble::NoSuchDirective),
     }
 }

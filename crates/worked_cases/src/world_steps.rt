@@ -123,8 +123,12 @@ fn push_reply(output: &mut String, reply: &Reply) -> Result<(), Trouble> {
     }
 }
 
-// What a shard decided, with the newest moment of a stream that an entry is too far behind, or the horizon.
-fn push_decision(output: &mut String, place: u64, reply: &ShardReply) -> Result<(), Trouble> {
+/// What a shard decided, with the newest moment of a stream that an entry is too far behind, or the horizon.
+pub(crate) fn push_decision(
+    output: &mut String,
+    place: u64,
+    reply: &ShardReply,
+) -> Result<(), Trouble> {
     let word = word_of(reply);
     write!(output, "{place} {word}")?;
     if let Some(moment) = moment_of(reply) {
