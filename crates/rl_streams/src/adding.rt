@@ -19,7 +19,7 @@ use rl_chunks::Store;
 use rl_labels::{Entry, Labels, Limits, Ns};
 use rl_parts::{ChunkStore, Stream};
 use rl_plain::{Shared, TryCopy};
-use std::alloc::Global;
+use std::alloc::{AllocError, Global};
 
 // Half of a second, in nanoseconds.
 const HALF_SECOND: u64 = 500_000_000;
@@ -71,6 +71,36 @@ pub(crate) fn age_refusal(
                 None
             }
         }
+    }
+}
+
+// The entry with the label set of its stream, if there is one.
+pub(crate) fn adopted(
+    streams: &IndexMap<Labels, Stream>,
+    entry: Shared<Entry>,
+) -> Result<Shared<Entry>, AllocError>
+    ensures { IfOk result (λ own. own ≡ entry) }
+{
+    let Some(position) = position_of(streams, &entry.get().labels) else {
+        return Ok(entry);
+    };
+    let Some((labels, _)) = streams.get_index(position) else {
+        return Ok(entry);
+    };
+    with_labels(entry, labels)
+}
+
+// The entry with these labels instead of its own, which are equal, unless others share it.
+fn with_labels(mut entry: Shared<Entry>, labels: &Labels) -> Result<Shared<Entry>, AllocError>
+    requires { entry.labels ≡ labels.now }
+    ensures { IfOk result (λ own. own ≡ entry) }
+{
+    match entry.get_mut() {
+        Some(own) => {
+            own.labels = labels.try_copy()?;
+            Ok(entry)
+        }
+        None => Ok(entry),
     }
 }
 

@@ -2,7 +2,7 @@
 ghost use Rattle.std.specs.Prelude.{◌≡◌, ◌+◌, ◌<◌, ◌≤◌, ◌++◌, [], ◌∷◌, length, true, false, None, Ok, Err, IfOk, IsErrOf, MatchOption, OnErr, OnOk};
 ghost use Rattle.rl_chunks.specs.StoreState.{greatest};
 
-use crate::adding::{Room, age_refusal, position_of, put};
+use crate::adding::{Room, adopted, age_refusal, position_of, put};
 use crate::cursor::Cursor;
 use crate::lines::WaitingLines;
 use crate::refusal::AddRefusal;
@@ -103,6 +103,14 @@ impl<S: Store> Streams<S> {
     {
         let position = position_of(&self.streams, &entry.labels);
         age_refusal(&self.limits, &self.streams, position, horizon, entry)
+    }
+
+    /// An entry with the label set of its stream, where there is one and no one else shares the entry: who keeps the entry beside the
+    /// streams then keeps no label set of its own.
+    pub fn adopt(&self, entry: Shared<Entry>) -> Result<Shared<Entry>, AllocError>
+        ensures { IfOk result (λ own. own ≡ entry) }
+    {
+        adopted(&self.streams, entry)
     }
 
     /// Takes an entry, and answers whether it was missing and is held now. One that was held changes nothing. The search for
