@@ -18,6 +18,7 @@ use rl_plain::{Same, TryCopy};
 use rl_query::Term;
 use std::alloc::{AllocError, Global};
 use std::collections::BTreeMap;
+use std::collections::btree_map::Iter;
 use std::marker::Model;
 
 // What nothing adds up to.
@@ -68,6 +69,13 @@ impl Totals {
         ensures { result ≡ map.get self.now labels.now }
     {
         self.by_labels.get(labels).copied()
+    }
+
+    /// The label sets with their totals, in their order.
+    pub fn iter(&self) -> Iter<'_, Labels, Volume>
+        ensures { result ≡ map.entries self.now }
+    {
+        self.by_labels.iter()
     }
 
     /// Adds a total at a label set. Takes memory for a label set that is new alone; refused, the totals stay as they were.
