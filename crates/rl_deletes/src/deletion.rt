@@ -3,8 +3,7 @@ ghost use Rattle.std.specs.Prelude.{◌≡◌};
 ghost use Rattle.rl_deletes.specs.Deletes.{with_selector};
 
 use rl_labels::{Ns, TimeRange};
-use rl_plain::{Same, Shared, TryCopy};
-use rl_query::Sieve;
+use rl_plain::{Same, TryCopy};
 use std::alloc::AllocError;
 
 /// What is to be deleted under a number, and when that was asked for: what the selector with its line filters selects from the
@@ -43,15 +42,14 @@ impl<S> Deletion<S> {
     }
 }
 
-impl TryCopy for Deletion<Shared<Sieve>> {
-    /// Shares the sieve, and takes no memory.
+impl<S: TryCopy> TryCopy for Deletion<S> {
     fn try_copy(&self) -> Result<Self, AllocError> {
         let selector = self.selector.try_copy()?;
         Ok(self.with_selector(selector))
     }
 }
 
-impl Same for Deletion<Shared<Sieve>> {
+impl<S: Same> Same for Deletion<S> {
     fn is_same(&self, other: &Self) -> bool {
         self.id == other.id
             && self.start.is_same(&other.start)
