@@ -1,8 +1,10 @@
-//! Where a text goes: into memory, or to whatever a crate above prints on.
+//! Where a text goes: into memory, to a hasher, or to whatever a crate above prints on.
 ghost use Rattle.std.specs.Prelude.{ℕ, List, Option, Some, OnOk, string_bytes};
 ghost use Rattle.std.specs.Io.KnownBytes.{Appends};
 
+use rl_digests::Hasher;
 use std::alloc::AllocError;
+use std::convert::Infallible;
 
 /// Takes a text piece by piece.
 pub trait TextTarget {
@@ -28,5 +30,16 @@ impl TextTarget for InMemory {
 
     fn put(&mut self, piece: &str) -> Result<(), AllocError> {
         self.text.push_str(piece)
+    }
+}
+
+impl TextTarget for Hasher {
+    type Error = Infallible;
+
+    ghost contents = { λ hasher. Some hasher };
+
+    fn put(&mut self, piece: &str) -> Result<(), Infallible> {
+        Hasher::put(self, piece.as_bytes());
+        Ok(())
     }
 }

@@ -3,11 +3,13 @@ ghost use Rattle.std.specs.Prelude.{◌≡◌, ◌++◌, codes, IfOk, OnOk, stri
 ghost use Rattle.std.specs.Fmt.{decimal};
 ghost use Rattle.std.specs.List.{flat_map};
 ghost use Rattle.std.specs.Io.KnownBytes.{Appends};
+ghost use Rattle.sha2.specs.Sha256.{sha256};
 ghost use Rattle.rl_sinks.specs.Texts.{evaluation_text, recorder_text, notifier_text, tail_text, recorded_lines, notified_lines, tail_lines, recorded_line, notified_line, tail_line, alert_line, failed_line, sample_text, alert_text, is_notified, state_text, value_text, cause_text};
 
 use crate::sink::SinkKind;
 use crate::target::{InMemory, TextTarget};
 use rl_aggregate::{Fraction, Sample};
+use rl_digests::Hasher;
 use rl_labels::{Labels, Ns};
 use rl_plain::PlainText;
 use rl_rules::{Alert, AlertState, Cause, Evaluation, RuleKind, RuleOutcome, RuleResult};
@@ -49,6 +51,17 @@ pub fn write_tail<T: TextTarget>(target: &mut T, evaluation: &Evaluation) -> Res
     ensures { OnOk result (Appends (T.contents target.old) (T.contents target.new) (tail_text evaluation.now)) }
 {
     put_tail(target, evaluation)
+}
+
+/// The SHA-256 (FIPS 180-4) of what a tail is given of the evaluation. It takes no memory.
+pub fn tail_digest(evaluation: &Evaluation) -> [u8; 32]
+    ensures { result ≡ sha256 (tail_text evaluation.now) }
+{
+    let mut hasher = Hasher::new();
+    match put_tail(&mut hasher, evaluation) {
+        Ok(()) => hasher.digest(),
+        Err(never) => match never {},
+    }
 }
 
 fn put_recorded<T: TextTarget>(target: &mut T, evaluation: &Evaluation) -> Result<(), T::Error>
