@@ -4,9 +4,10 @@ use rl_aggregate::Partial;
 use rl_chunks::StoreFault;
 use rl_deletes::{CancelFault, Deletion, ProcessFault, ReceiveFault};
 use rl_labels::{DEFAULT_LIMITS, Limits, Ns};
-use rl_plain::{PlainList, Shared};
+use rl_plain::Shared;
 use rl_query::Term;
 use rl_query_text::parse;
+use rl_records::{SieveText, Terms};
 use rl_selector_text::parse_delete;
 use rl_session::read_push;
 use rl_shard::{Shard, ShardFault, ShardReply, ShardStep};
@@ -135,7 +136,7 @@ fn terms(alloc: Global) -> Option<Vec<Term>> {
 
 fn collect(alloc: Global) -> Option<ShardStep> {
     let t = Ns::new(9)?;
-    let terms = Shared::new(alloc, PlainList::from_vec(terms(alloc)?)).ok()?;
+    let terms = Terms::new(alloc, terms(alloc)?).ok()?;
     Some(ShardStep::Collect { slot: 0, terms, t })
 }
 
@@ -165,7 +166,7 @@ fn shown(alloc: Global, shard: &mut Shard<Failing>) -> Option<u64> {
 fn delete(alloc: Global) -> Option<ShardStep> {
     let (start, end, created) = (Ns::new(0)?, Ns::new(9)?, Ns::new(4)?);
     let sieve = parse_delete(alloc, SIEVE).ok()?;
-    let selector = Shared::new(alloc, sieve).ok()?;
+    let selector = SieveText::new(alloc, sieve).ok()?;
     Some(ShardStep::Delete(Deletion {
         id: 7,
         selector,

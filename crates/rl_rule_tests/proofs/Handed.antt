@@ -6,7 +6,7 @@ use Rattle.rl_labels.specs.EntryAnswers.{entry_fault}
 use Rattle.rl_labels.specs.LabelSet.{LabelSet}
 use Rattle.rl_labels.specs.declared.entry.Entry.{Entry}
 use Rattle.rl_rules.specs.declared.rule.Group.{Group}
-use Rattle.rl_shard.specs.declared.step.ShardReply.{ShardReply}
+use Rattle.rl_records.specs.declared.step.ShardReply.{ShardReply}
 use Rattle.rl_sinks.specs.SinkState.{SinkState}
 use Rattle.rl_world.specs.BookCalls.{books_from}
 use Rattle.rl_world.specs.WorldState.{BookState}

@@ -16,7 +16,7 @@ use Rattle.rl_chunks.specs.declared.mem_store.MemStore.{MemStore}
 use Rattle.rl_rules.specs.declared.evaluation.Evaluation.{Evaluation}
 use Rattle.rl_rules.specs.declared.rule.Group.{Group}
 use Rattle.rl_shard.specs.ShardState.{opened_over}
-use Rattle.rl_shard.specs.declared.step.ShardReply.{ShardReply}
+use Rattle.rl_records.specs.declared.step.ShardReply.{ShardReply}
 use Rattle.rl_world.specs.Evaluations.{IsEvaluated}
 use Rattle.rl_world.specs.BookCalls.{books_from}
 use Rattle.rl_world.specs.WorldState.{WorldBooks}

@@ -11,9 +11,9 @@ use Rattle.rl_query.specs.declared.fault.QueryFault.{QueryFault}
 use Rattle.rl_selector_text.specs.Answering.{Reads}
 use Rattle.rl_query.specs.Form.{sieve_form}
 use Rattle.rl_selector_text.specs.Sieving.{sieve_of, sieve_meets_pattern}
-use Rattle.rl_shard.specs.declared.step.ShardReply.{ShardReply}
-use Rattle.rl_shard.specs.declared.step.ShardStep.{ShardStep}
-use Rattle.rl_shard.specs.declared.step.ShardStep.TheVariants as shard_steps
+use Rattle.rl_records.specs.declared.step.ShardReply.{ShardReply}
+use Rattle.rl_records.specs.declared.step.ShardStep.{ShardStep}
+use Rattle.rl_records.specs.declared.step.ShardStep.TheVariants as shard_steps
 use Rattle.rl_world.specs.declared.fault.Refusal.{Refusal}
 use Rattle.rl_world.specs.declared.fault.Refusal.TheVariants as refusals
 use Rattle.rl_world.specs.declared.step.Committed.{Committed}

@@ -5,8 +5,8 @@ use Rattle.std.specs.Fmt.{decimal}
 use Rattle.rl_labels.specs.Name.{is_text}
 use Rattle.rl_labels.specs.declared.entry.Entry.{Entry}
 use Rattle.rl_rules.specs.declared.rule.Group.{Group}
-use Rattle.rl_shard.specs.declared.step.ShardReply.{ShardReply}
-use Rattle.rl_shard.specs.declared.step.ShardStep.{ShardStep}
+use Rattle.rl_records.specs.declared.step.ShardReply.{ShardReply}
+use Rattle.rl_records.specs.declared.step.ShardStep.{ShardStep}
 use Rattle.rl_world.specs.declared.fault.Refusal.{Refusal}
 use Rattle.rl_world.specs.declared.step.Committed.{Committed}
 use Rattle.rl_session.specs.Printer.{Printing, Prints}

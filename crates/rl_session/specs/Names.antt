@@ -6,8 +6,8 @@ use Rattle.rl_query.specs.declared.fault.QueryFault.{QueryFault}
 use Rattle.rl_query.specs.declared.fault.QueryFault.TheVariants as query_faults
 use Rattle.rl_rules.specs.declared.fault.RulesFault.{RulesFault}
 use Rattle.rl_rules.specs.declared.fault.RulesFault.TheVariants as rules
-use Rattle.rl_shard.specs.declared.step.ShardReply.{ShardReply}
-use Rattle.rl_shard.specs.declared.step.ShardReply.TheVariants as replies
+use Rattle.rl_records.specs.declared.step.ShardReply.{ShardReply}
+use Rattle.rl_records.specs.declared.step.ShardReply.TheVariants as replies
 use Rattle.rl_world.specs.declared.fault.BookFault.{BookFault}
 use Rattle.rl_world.specs.declared.fault.BookFault.TheVariants as books
 use Rattle.rl_world.specs.declared.fault.Refusal.{Refusal}

@@ -6,7 +6,7 @@ use Rattle.rl_sinks.specs.Texts.{tail_text}
 use Rattle.rl_world.specs.declared.fault.Refusal.{Refusal}
 use Rattle.rl_world.specs.declared.fault.Refusal.TheVariants as refusals
 use Rattle.rl_world.specs.declared.step.Committed.{Committed}
-use Rattle.rl_shard.specs.declared.step.ShardReply.{ShardReply}
+use Rattle.rl_records.specs.declared.step.ShardReply.{ShardReply}
 use Rattle.rl_session.specs.Names.{push_error_name, push_refusal, query_error_name, refusal_name, shard_refusal, edit_refusal_name}
 use Rattle.rl_session.specs.declared.edit.EditRefusal.{EditRefusal}
 use Rattle.rl_session.specs.declared.engine.Partly.{Partly}

@@ -2,7 +2,7 @@
 use Rattle.std.specs.Prelude.{◌≡◌, ◌⊎◌, ℕ, nat_lt, Bool, true, false, ◌||◌, List, [], ◌∷◌, ◌++◌, Option, None, Some, Result, Ok, Err, IfOk, OnErr, if◌then◌else◌}
 use Rattle.std.specs.List.{list_all}
 use Rattle.std.specs.declared.io.Error.{Error}
-use Rattle.rl_shard.specs.declared.step.ShardStep.TheVariants as shard_steps
+use Rattle.rl_records.specs.declared.step.ShardStep.TheVariants as shard_steps
 use Rattle.rl_world.specs.declared.fault.Refusal.{Refusal}
 use Rattle.rl_session.specs.Asking.{IsForPush, IsForAll, IsForDelete, IsForEdit, IsForTick, IsForCatchUp, IsForEvaluation, IsForShow}
 use Rattle.rl_session.specs.Command.{Asked, pushes, cuts, flushes, deletes, cancels, processes, retains, edits, evaluates, ticks, pumps, shows, ends, command_of, is_blank_byte}

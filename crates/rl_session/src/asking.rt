@@ -12,7 +12,8 @@ use crate::push::PushReader;
 use rl_deletes::Deletion;
 use rl_labels::{Entry, Ns};
 use rl_plain::Shared;
-use rl_query::{QueryError, Sieve};
+use rl_query::QueryError;
+use rl_records::SieveText;
 use rl_rules::Group;
 use rl_selector_text::parse_delete;
 use rl_shard::{ShardReply, ShardStep};
@@ -93,11 +94,11 @@ pub(crate) fn delete<E: Engine>(
 }
 
 // The selector with its line filters, where each shard can share it.
-fn read_sieve(alloc: Global, selector: &str) -> Result<Shared<Sieve>, QueryError>
+fn read_sieve(alloc: Global, selector: &str) -> Result<SieveText, QueryError>
     ensures { SelectsIn selector.now result }
 {
     let sieve = parse_delete(alloc, selector)?;
-    Ok(Shared::new(alloc, sieve)?)
+    Ok(SieveText::new(alloc, sieve)?)
 }
 
 /// Evaluates the group with the name.

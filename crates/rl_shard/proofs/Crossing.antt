@@ -1,14 +1,18 @@
 -- Shards may be sent to another thread where their stores may.
 use denote.RattleType.{RattleType}
 use denote.Struct.Declared.{shape}
-use denote.Struct.Field
 use denote.Param.Send.{IsSend, sendable, view_send, recorded_send, struct_send}
 use Rattle.std.proofs.Crossing as heap
 use Rattle.std.proofs.alloc.Global.TheSendSync as global
+use Rattle.std.specs.contracts.alloc.Global as Global
+use Rattle.std.specs.contracts.impls.GlobalAllocator.TheImpl as allocator
+use Rattle.std.specs.contracts.vec.Vec as Vec
 use Rattle.rl_pipeline.specs.contracts.meter.Meter as Meter
 use Rattle.rl_deletes.proofs.Crossing.{Requests-send}
 use Rattle.rl_deletes.specs.contracts.horizon.Horizon as Horizon
 use Rattle.rl_chunks.specs.declared.store.Store as Store
+use Rattle.rl_records.proofs.Crossing.{Record-send}
+use Rattle.rl_records.specs.contracts.record.Record as Record
 use Rattle.rl_slots.proofs.Crossing.{Slots-send}
 use Rattle.rl_streams.proofs.Crossing.{Streams-send}
 use Rattle.rl_shard.specs.contracts.parts.ShardParts as Parts
@@ -25,5 +29,6 @@ parts-send T g s =
 
 pub Shard-send : (T : RattleType) (g : Store.Ghosts T.Denot) → IsSend T → IsSend (Shard.the_row T g)
 Shard-send T g s =
-    let number : IsSend (Field.u64-field).row = search sendable depth 20 in
-    view_send _ _ _ _ _ (recorded_send (inside.the_field T g).row _ _ (inside.the_type T g).to_one (struct_send (shape (inside.the_type T g)) (parts-send T g s, (number, tt))))
+    let one = Record-send in
+    let journal : IsSend (Vec.the_field Record.the_row Global.the_row allocator.ghosts).row = search (one, sendable, heap.crosses) depth 20 in
+    view_send _ _ _ _ _ (recorded_send (inside.the_field T g).row _ _ (inside.the_type T g).to_one (struct_send (shape (inside.the_type T g)) (parts-send T g s, (journal, tt))))

@@ -10,7 +10,7 @@ use Rattle.rl_labels.specs.declared.limits.Limits.{Limits}
 use Rattle.rl_deletes.specs.Deletes.{no_requests}
 use Rattle.rl_shard.specs.ShardState.{ShardState}
 use Rattle.rl_shard.specs.ShardStep.{is_expired, push_reply, pushed}
-use Rattle.rl_shard.specs.declared.step.ShardReply.TheVariants.{Expired}
+use Rattle.rl_records.specs.declared.step.ShardReply.TheVariants.{Expired}
 
 -- any limits, anything held, and a stream with a line
 module _ (limits : Limits) (held : EntrySet) (newest : FinMap label_set_cmp ℕ) (labels : LabelSet) (of_stream : IsTrue (is_stream labels)) (line : List ℕ) (fits : length line ≤ longest_line) where

@@ -5,7 +5,8 @@ pub mod Few
 pub mod Listed
 pub mod Right
 pub mod Settled
-pub mod Terms
+pub mod Ranges
+pub mod Journals
 pub mod Taken
 pub mod Turned
 pub mod Narrow

@@ -27,7 +27,7 @@ use Rattle.rl_shard.specs.Live.{windowed, AreCrowded, AreRight, IsLetIn}
 use Rattle.rl_shard.specs.ShardState.{ShardState}
 use Rattle.rl_shard.specs.ShardStep.{left_of, processed_if, removed_if, stepped}
 use Rattle.rl_shard.specs.laws.Shown.{shows-stepped}
-use Rattle.rl_shard.specs.declared.step.ShardStep.TheVariants as steps
+use Rattle.rl_records.specs.declared.step.ShardStep.TheVariants as steps
 use Rattle.rl_shard.proofs.Few.{few_pass}
 
 -- what windows stand for, by what is held

@@ -13,7 +13,7 @@ use Rattle.rl_streams.specs.declared.refusal.AddRefusal.TheVariants.{Expired, To
 use Rattle.rl_shard.specs.Deciding.{Lasts}
 use Rattle.rl_shard.specs.Pushing.{is_taken, reply_to_add, IsSought, IsUnsought}
 use Rattle.rl_shard.specs.ShardFault.{refused}
-use Rattle.rl_shard.specs.declared.step.ShardReply.{ShardReply}
+use Rattle.rl_records.specs.declared.step.ShardReply.{ShardReply}
 use Rattle.rl_shard.specs.declared.step.ShardFault.{ShardFault}
 
 -- it is refused for its age, or settled

@@ -22,10 +22,10 @@ use Rattle.rl_parts.specs.StreamParts.{PartView, StreamView}
 use Rattle.rl_slots.specs.Slots.{IsLiveIn, SlotView}
 use Rattle.rl_streams.specs.StreamRows.{Row, joined}
 use Rattle.rl_streams.specs.StreamsState.{StreamsView}
-use Rattle.rl_shard.specs.declared.step.ShardStep.{ShardStep}
-use Rattle.rl_shard.specs.declared.step.ShardStep.TheVariants as steps
-use Rattle.rl_shard.specs.declared.step.ShardReply.{ShardReply}
-use Rattle.rl_shard.specs.declared.step.ShardReply.TheVariants as replies
+use Rattle.rl_records.specs.declared.step.ShardStep.{ShardStep}
+use Rattle.rl_records.specs.declared.step.ShardStep.TheVariants as steps
+use Rattle.rl_records.specs.declared.step.ShardReply.{ShardReply}
+use Rattle.rl_records.specs.declared.step.ShardReply.TheVariants as replies
 use Rattle.rl_shard.specs.declared.step.ShardFault.{ShardFault}
 use Rattle.rl_shard.specs.declared.step.ShardFault.TheVariants as faults
 

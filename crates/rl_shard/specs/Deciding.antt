@@ -1,5 +1,5 @@
 -- What becomes of a step, by what a shard is without its journal.
-use Rattle.std.specs.Prelude.{◌≡◌, ◌+◌, ◌≤◌, ℕ, true, IsTrue, List, Result, IfErr, IfOk, OnErr, OnOk}
+use Rattle.std.specs.Prelude.{◌≡◌, ◌+◌, ◌≤◌, ℕ, true, IsTrue, List, Result, IfErr, IfOk, OnOk}
 use Rattle.rl_chunks.specs.StoreState.{greatest}
 use Rattle.rl_parts.specs.StoreUse.{Grown}
 use Rattle.rl_query.specs.declared.query.Term.{Term}
@@ -7,12 +7,11 @@ use Rattle.rl_slots.specs.Slots.{collected_in, term_count, IsLiveIn}
 use Rattle.rl_streams.specs.StreamsState.{StreamsView}
 use Rattle.rl_shard.specs.Collecting.{AreRead}
 use Rattle.rl_shard.specs.Live.{collected_after, visits_due, IsAnsweredLive, IsOfWindows, IsPush, Keeps}
-use Rattle.rl_shard.specs.Pushing.{Pushes}
-use Rattle.rl_shard.specs.ShardFault.{Gives, IsDone, IsOfStore, IsUndecided, Stored, may_meet, step_faults}
+use Rattle.rl_shard.specs.ShardFault.{Gives, IsDone, IsOfStore, Stored, may_meet, step_faults}
 use Rattle.rl_shard.specs.ShardState.{PartsView, state_of, visible}
 use Rattle.rl_shard.specs.ShardStep.{stepped, IsAnswered, IsReply}
-use Rattle.rl_shard.specs.declared.step.ShardStep.{ShardStep}
-use Rattle.rl_shard.specs.declared.step.ShardReply.{ShardReply}
+use Rattle.rl_records.specs.declared.step.ShardStep.{ShardStep}
+use Rattle.rl_records.specs.declared.step.ShardReply.{ShardReply}
 use Rattle.rl_shard.specs.declared.step.ShardFault.{ShardFault}
 use Rattle.rl_shard.specs.declared.step.ShardFault.TheVariants as faults
 
@@ -33,9 +32,7 @@ pub record Refuses (old : PartsView) (fault : ShardFault) (new : PartsView) : Ty
 pub record Decides (step : ShardStep) (old : PartsView) (result : Result ShardReply ShardFault) (new : PartsView) : Type 0 where
   pub lasts : Lasts old.streams new.streams
   pub gives : Gives step old.streams new.streams
-  pub pushed : Pushes old.streams old.horizon step result new.streams
   pub meets : IfErr result (λ fault. IsTrue (may_meet step fault) × (fault ≡ faults.JournalFull → ⊥))
-  pub undecided : OnErr result (IsUndecided old.streams.limits (state_of old) step)
   pub refused : IfErr result (λ fault. Refuses old fault new)
   pub answered : IfOk result (λ reply. IsAnswered old.streams.limits (state_of old) step reply (state_of new))
   pub done : OnOk result (IsDone old.streams.limits (state_of old) step old.streams new.streams)

@@ -1,5 +1,7 @@
 pub mod Collecting
 pub mod Deciding
+pub mod Decisions
+pub mod Journal
 pub mod Live
 pub mod Pushing
 pub mod ShardFault

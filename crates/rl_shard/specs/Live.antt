@@ -17,9 +17,9 @@ use Rattle.rl_slots.specs.Slots.{collected_in, key_of, term_key, visits_for, Are
 use Rattle.rl_slots.specs.declared.range_window.RangeWindow.{RangeWindow}
 use Rattle.rl_streams.specs.StreamsState.{StreamsView}
 use Rattle.rl_shard.specs.Collecting.{IsRead}
-use Rattle.rl_shard.specs.declared.step.ShardStep.{ShardStep}
-use Rattle.rl_shard.specs.declared.step.ShardStep.TheVariants as steps
-use Rattle.rl_shard.specs.declared.step.ShardReply.{ShardReply}
+use Rattle.rl_records.specs.declared.step.ShardStep.{ShardStep}
+use Rattle.rl_records.specs.declared.step.ShardStep.TheVariants as steps
+use Rattle.rl_records.specs.declared.step.ShardReply.{ShardReply}
 use Rattle.rl_shard.specs.declared.step.ShardFault.{ShardFault}
 
 -- the entries that windows stand for: those that are shown, at the moments that there are

@@ -6,10 +6,10 @@ use Rattle.rl_streams.specs.Found.{IsSettled, IsSettledUnread, IsUnreached}
 use Rattle.rl_streams.specs.StreamsState.{StreamsView, age_refusal}
 use Rattle.rl_streams.specs.declared.refusal.AddRefusal.{AddRefusal}
 use Rattle.rl_shard.specs.ShardFault.{refused}
-use Rattle.rl_shard.specs.declared.step.ShardStep.{ShardStep}
-use Rattle.rl_shard.specs.declared.step.ShardStep.TheVariants as steps
-use Rattle.rl_shard.specs.declared.step.ShardReply.{ShardReply}
-use Rattle.rl_shard.specs.declared.step.ShardReply.TheVariants as replies
+use Rattle.rl_records.specs.declared.step.ShardStep.{ShardStep}
+use Rattle.rl_records.specs.declared.step.ShardStep.TheVariants as steps
+use Rattle.rl_records.specs.declared.step.ShardReply.{ShardReply}
+use Rattle.rl_records.specs.declared.step.ShardReply.TheVariants as replies
 use Rattle.rl_shard.specs.declared.step.ShardFault.{ShardFault}
 use Rattle.rl_shard.specs.declared.step.ShardFault.TheVariants as faults
 
@@ -50,7 +50,11 @@ abbrev pub replied : Result (ℕ × ShardReply) ShardFault → Result ShardReply
 replied (Ok answer) = Ok answer.1
 replied (Err fault) = Err fault
 
--- of a step that takes an entry
+-- of a step that takes an entry, once there is room for its record
+abbrev pub IsOfPush : StreamsView → (horizon : ℕ) → ShardStep → Result ShardReply ShardFault → StreamsView → Type 0
+IsOfPush old horizon (steps.Push entry) result new = IsPushed old horizon entry result new
+IsOfPush old horizon step result new = Unit {0}
+
+-- of a step: it takes an entry, or no memory is left for its record, and the entry is not sought
 abbrev pub Pushes : StreamsView → (horizon : ℕ) → ShardStep → Result ShardReply ShardFault → StreamsView → Type 0
-Pushes old horizon (steps.Push entry) result new = IsPushed old horizon entry result new
-Pushes old horizon step result new = Unit {0}
+Pushes old horizon step result new = IsOfPush old horizon step result new ⊎ IsUnsought old result new

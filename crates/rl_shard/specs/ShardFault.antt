@@ -20,10 +20,10 @@ use Rattle.rl_streams.specs.declared.refusal.AddRefusal.{AddRefusal}
 use Rattle.rl_streams.specs.declared.refusal.AddRefusal.TheVariants as adding
 use Rattle.rl_shard.specs.ShardState.{ShardState, ShardView, journalled}
 use Rattle.rl_shard.specs.ShardStep.{age_answer, is_journal_full, removes}
-use Rattle.rl_shard.specs.declared.step.ShardStep.{ShardStep}
-use Rattle.rl_shard.specs.declared.step.ShardStep.TheVariants as steps
-use Rattle.rl_shard.specs.declared.step.ShardReply.{ShardReply}
-use Rattle.rl_shard.specs.declared.step.ShardReply.TheVariants as replies
+use Rattle.rl_records.specs.declared.step.ShardStep.{ShardStep}
+use Rattle.rl_records.specs.declared.step.ShardStep.TheVariants as steps
+use Rattle.rl_records.specs.declared.step.ShardReply.{ShardReply}
+use Rattle.rl_records.specs.declared.step.ShardReply.TheVariants as replies
 use Rattle.rl_shard.specs.declared.step.ShardFault.{ShardFault}
 use Rattle.rl_shard.specs.declared.step.ShardFault.TheVariants as faults
 
@@ -104,7 +104,7 @@ IsOfStore old faults.Damaged new = old.seen.honest ≡ false
 IsOfStore old faults.NumbersSpent new = new.next ≡ greatest
 IsOfStore old _ new = Unit {0}
 
--- where a step may meet a fault at all, since it is not decided before its store or memory is asked: an entry is not too old, a
+-- where a step may meet a fault of its store, since it is not decided before that is asked: an entry is not too old, a
 -- request may be received, or is received where it is cancelled, and entries are to be removed
 abbrev pub IsUndecided : Limits → ShardState → ShardStep → Type 0
 IsUndecided limits shard (steps.Push entry) = age_answer limits shard entry ≡ None
@@ -114,12 +114,18 @@ IsUndecided limits shard (steps.Process id now) = IsSome (removes limits shard (
 IsUndecided limits shard (steps.Retain now) = IsSome (removes limits shard (steps.Retain now))
 IsUndecided limits shard step = Unit {0}
 
+-- a fault that is met while a step is decided: not that the journal is full, nor a lack of memory, which may be for the record
+abbrev pub IsOfDeciding : ShardFault → Type 0
+IsOfDeciding faults.JournalFull = ⊥
+IsOfDeciding faults.Memory = ⊥
+IsOfDeciding other = Unit {0}
+
 -- a step that met the first view and left the second may have been refused so: for its journal exactly where that is full, and
 -- else where it is not decided before; its store met exactly the fault that is answered
 pub record MayCome (old : ShardView) (step : ShardStep) (fault : ShardFault) (new : ShardView) : Type 0 where
   pub meets : IsTrue (may_meet step fault)
   pub full : fault ≡ faults.JournalFull → IsTrue (is_journal_full (journalled old))
-  pub undecided : (fault ≡ faults.JournalFull → ⊥) → IsUndecided (journalled old).limits (journalled old).state step
+  pub undecided : IsOfDeciding fault → IsUndecided (journalled old).limits (journalled old).state step
   pub counted : new.streams.seen.faults ≡ step_faults fault old.streams.seen.faults
   pub of_store : IsOfStore old.streams fault new.streams
 

@@ -1,5 +1,5 @@
 -- What a shard holds, and what it shows.
-use Rattle.std.specs.Prelude.{ℕ, List, [], refl}
+use Rattle.std.specs.Prelude.{ℕ, List, [], length, refl}
 use Rattle.std.specs.Coded.{Coded, code_by, coded×, coded_ℕ, coded_list}
 use Rattle.std.specs.FinMap.{FinMap, empty, keys}
 use Rattle.rl_labels.specs.LabelText.{label_set_cmp}
@@ -11,6 +11,8 @@ use Rattle.rl_deletes.specs.Deletes.{RequestsView, covered, no_requests}
 use Rattle.rl_deletes.specs.Views.{requests_code}
 use Rattle.rl_parts.specs.Rewriting.{uncovered}
 use Rattle.rl_pipeline.specs.Metering.{Metered}
+use Rattle.rl_records.specs.contracts.record.Record as one
+use Rattle.rl_records.specs.declared.record.Record.{Record}
 use Rattle.rl_slots.specs.Slots.{slot_code, SlotView}
 use Rattle.rl_streams.specs.StreamsState.{StreamsView, streams_code, no_streams}
 
@@ -42,14 +44,14 @@ abbrev pub opened : Limits → Journalled
 opened limits = record { limits = limits; state = empty_shard limits; records = 0 }
 
 -- a shard as it is seen: its streams with their store, the requests, the horizon, the windows that groups ask about, what these
--- cost, and how many records its journal has
+-- cost, and the records of its journal
 pub record ShardView : Type 0 where
   pub streams : StreamsView
   pub requests : RequestsView
   pub horizon : ℕ
   pub slots : List SlotView
   pub meter : Metered
-  pub records : ℕ
+  pub journal : List Record
 
 -- the same without its journal
 pub record PartsView : Type 0 where
@@ -68,11 +70,11 @@ state_of parts = record { held = parts.streams.held; newest = parts.streams.newe
 
 -- the part of a shard that is promised
 abbrev pub journalled : ShardView → Journalled
-journalled shard = record { limits = shard.streams.limits; state = state_of (parts_of shard); records = shard.records }
+journalled shard = record { limits = shard.streams.limits; state = state_of (parts_of shard); records = length shard.journal }
 
 -- an empty shard over a store
 abbrev pub opened_over : Limits → Seen → ShardView
-opened_over limits seen = record { streams = no_streams limits seen; requests = no_requests limits; horizon = 0; slots = []; meter = record { runs = 0; visits = 0 }; records = 0 }
+opened_over limits seen = record { streams = no_streams limits seen; requests = no_requests limits; horizon = 0; slots = []; meter = record { runs = 0; visits = 0 }; journal = [] }
 
 -- counters as numbers, for a store
 abbrev metered_code : Coded Metered
@@ -86,7 +88,7 @@ parts_code = code_by (StreamsView × (RequestsView × (ℕ × (List SlotView × 
     (λ _. refl)
 
 abbrev pub shard_view_code : Coded ShardView
-shard_view_code = code_by (PartsView × ℕ) (coded× parts_code coded_ℕ)
-    (λ s. (parts_of s, s.records))
-    (λ p. record { streams = p.0.streams; requests = p.0.requests; horizon = p.0.horizon; slots = p.0.slots; meter = p.0.meter; records = p.1 })
+shard_view_code = code_by (PartsView × List Record) (coded× parts_code (coded_list one.the_row.coded))
+    (λ s. (parts_of s, s.journal))
+    (λ p. record { streams = p.0.streams; requests = p.0.requests; horizon = p.0.horizon; slots = p.0.slots; meter = p.0.meter; journal = p.1 })
     (λ _. refl)

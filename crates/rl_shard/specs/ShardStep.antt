@@ -23,10 +23,10 @@ use Rattle.rl_streams.specs.Rewritten.{without}
 use Rattle.rl_streams.specs.StreamRows.{newest_at, raised}
 use Rattle.rl_streams.specs.StreamsState.{is_far_behind}
 use Rattle.rl_shard.specs.ShardState.{ShardState, Journalled, visible}
-use Rattle.rl_shard.specs.declared.step.ShardStep.{ShardStep}
-use Rattle.rl_shard.specs.declared.step.ShardStep.TheVariants as steps
-use Rattle.rl_shard.specs.declared.step.ShardReply.{ShardReply}
-use Rattle.rl_shard.specs.declared.step.ShardReply.TheVariants as replies
+use Rattle.rl_records.specs.declared.step.ShardStep.{ShardStep}
+use Rattle.rl_records.specs.declared.step.ShardStep.TheVariants as steps
+use Rattle.rl_records.specs.declared.step.ShardReply.{ShardReply}
+use Rattle.rl_records.specs.declared.step.ShardReply.TheVariants as replies
 
 -- the newest timestamp of a stream, 0 for a new one
 abbrev pub newest_of : ShardState → LabelSet → ℕ

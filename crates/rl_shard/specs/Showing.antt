@@ -8,8 +8,8 @@ use Rattle.rl_deletes.specs.Deletes.{RequestsView, asked, covered, covered_besid
 use Rattle.rl_deletes.specs.Horizons.{advanced, is_below}
 use Rattle.rl_shard.specs.ShardState.{ShardState, visible}
 use Rattle.rl_shard.specs.ShardStep.{is_taken}
-use Rattle.rl_shard.specs.declared.step.ShardStep.{ShardStep}
-use Rattle.rl_shard.specs.declared.step.ShardStep.TheVariants as steps
+use Rattle.rl_records.specs.declared.step.ShardStep.{ShardStep}
+use Rattle.rl_records.specs.declared.step.ShardStep.TheVariants as steps
 
 -- the received request with the number covers the entry, and no other does
 abbrev pub covered_alone : RequestsView → ℕ → Entry → Bool

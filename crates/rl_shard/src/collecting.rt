@@ -15,13 +15,12 @@ ghost use Rattle.rl_shard.specs.ShardFault.{IsOfStore, after_step};
 use crate::parts::ShardParts;
 use crate::step::ShardFault;
 use crate::windows::{TermWindows, windows_of};
-use rl_aggregate::Partial;
 use rl_chunks::Store;
 use rl_deletes::Requests;
 use rl_labels::Ns;
 use rl_plain::{PlainList, Shared};
 use rl_query::Term;
-use rl_slots::Slot;
+use rl_slots::{Answer, Slot};
 use rl_streams::Streams;
 
 impl<S: Store> ShardParts<S> {
@@ -32,15 +31,16 @@ impl<S: Store> ShardParts<S> {
         number: u64,
         terms: Shared<PlainList<Term>>,
         t: Ns,
-    ) -> Result<PlainList<Shared<Partial>>, ShardFault>
+    ) -> Result<Answer, ShardFault>
         ensures same { Looks self.old.streams self.new.streams }
         ensures meets { IfErr result IsOfReading }
         ensures counted { self.new.streams.seen.faults ≡ after_step result self.old.streams.seen.faults }
         ensures of_store { IfErr result (λ fault. IsOfStore self.old.streams fault self.new.streams) }
-        ensures each { IfOk result (λ partials. length partials ≡ length terms) }
-        ensures within { IfOk result (AllByRecursion (IsWithin self.old.streams.limits.entries)) }
-        ensures read { IfOk result (λ partials. IsLiveIn number terms t self.old.slots ⊎ AreReadFor self.old.streams self.old.requests terms t partials) }
-        ensures exact { self.old.streams.seen.honest ≡ true → IfOk result (λ partials. partials ≡ map (λ term. partial (shown self.old.streams self.old.requests) term t) terms) }
+        ensures each { IfOk result (λ answer. length answer.partials ≡ length terms) }
+        ensures within { IfOk result (λ answer. AllByRecursion (IsWithin self.old.streams.limits.entries) answer.partials) }
+        ensures copied { IfOk result (λ answer. answer.copy ≡ answer.partials) }
+        ensures read { IfOk result (λ answer. IsLiveIn number terms t self.old.slots ⊎ AreReadFor self.old.streams self.old.requests terms t answer.partials) }
+        ensures exact { self.old.streams.seen.honest ≡ true → IfOk result (λ answer. answer.partials ≡ map (λ term. partial (shown self.old.streams self.old.requests) term t) terms) }
         ensures numbers { self.new.streams.next ≤ greatest }
         ensures others { (self.new.requests ≡ self.old.requests) × (self.new.horizon ≡ self.old.horizon) }
         ensures live { OnOk result ((u : ℕ) → t ≤ u → IsLiveIn number terms u self.new.slots) }
@@ -65,15 +65,16 @@ impl<S: Store> ShardParts<S> {
         number: u64,
         terms: Shared<PlainList<Term>>,
         t: Ns,
-    ) -> Result<PlainList<Shared<Partial>>, ShardFault>
+    ) -> Result<Answer, ShardFault>
         ensures same { Looks self.old.streams self.new.streams }
         ensures meets { IfErr result IsOfReading }
         ensures counted { self.new.streams.seen.faults ≡ after_step result self.old.streams.seen.faults }
         ensures of_store { IfErr result (λ fault. IsOfStore self.old.streams fault self.new.streams) }
-        ensures each { IfOk result (λ partials. length partials ≡ length terms) }
-        ensures within { IfOk result (AllByRecursion (IsWithin self.old.streams.limits.entries)) }
-        ensures read { IfOk result (AreReadFor self.old.streams self.old.requests terms t) }
-        ensures exact { self.old.streams.seen.honest ≡ true → IfOk result (λ partials. partials ≡ map (λ term. partial (shown self.old.streams self.old.requests) term t) terms) }
+        ensures each { IfOk result (λ answer. length answer.partials ≡ length terms) }
+        ensures within { IfOk result (λ answer. AllByRecursion (IsWithin self.old.streams.limits.entries) answer.partials) }
+        ensures copied { IfOk result (λ answer. answer.copy ≡ answer.partials) }
+        ensures read { IfOk result (λ answer. AreReadFor self.old.streams self.old.requests terms t answer.partials) }
+        ensures exact { self.old.streams.seen.honest ≡ true → IfOk result (λ answer. answer.partials ≡ map (λ term. partial (shown self.old.streams self.old.requests) term t) terms) }
         ensures numbers { self.new.streams.next ≤ greatest }
         ensures others { (self.new.requests ≡ self.old.requests) × (self.new.horizon ≡ self.old.horizon) }
         ensures live { OnOk result ((u : ℕ) → t ≤ u → IsLiveIn number terms u self.new.slots) }
@@ -89,9 +90,9 @@ impl<S: Store> ShardParts<S> {
         let built = windows_of(alloc, streams, &self.requests, asked, t, meter)?;
         let TermWindows { windows, indices } = built;
         let mut slot = Slot::new(number, terms, t, windows, indices);
-        let partials = slot.collect(alloc, t, &mut self.meter)?;
+        let answer = slot.collect(alloc, t, &mut self.meter)?;
         self.slots.set(slot)?;
-        Ok(partials)
+        Ok(answer)
     }
 }
 

@@ -7,26 +7,93 @@ ghost use Rattle.rl_slots.specs.Slots.{collected_in, term_count, IsLiveIn};
 ghost use Rattle.rl_query.specs.declared.query.Term.{Term};
 ghost use Rattle.rl_streams.specs.StreamsState.{age_refusal, Cuts, Flushes};
 ghost use Rattle.rl_shard.specs.Collecting.{IsOfReading};
+ghost use Rattle.rl_records.specs.Replies.{IsPlain};
+ghost use Rattle.rl_shard.specs.Decisions.{first_of, reply_of, IsChange};
 ghost use Rattle.rl_shard.specs.Deciding.{Decides, Lasts, Refuses};
-ghost use Rattle.rl_shard.specs.Pushing.{is_taken, unsought, IsPushed};
-ghost use Rattle.rl_shard.specs.ShardFault.{GivesNone, IsOfStore, LeavesStore, after_step, refused};
+ghost use Rattle.rl_shard.specs.Pushing.{is_taken, unsought, IsOfPush, IsPushed, Pushes};
+ghost use Rattle.rl_shard.specs.ShardFault.{GivesNone, IsOfDeciding, IsOfStore, IsUndecided, LeavesStore, after_step, refused};
 ghost use Rattle.rl_shard.specs.ShardState.{state_of};
 ghost use Rattle.rl_shard.specs.ShardStep.{age_answer, push_reply, pushed, IsAnswered};
-ghost use Rattle.rl_shard.specs.declared.step.ShardStep.TheVariants as steps;
+ghost use Rattle.rl_records.specs.declared.step.ShardStep.TheVariants as steps;
 
 use crate::parts::ShardParts;
 use crate::pushing::{let_in, settle};
-use crate::step::{ShardFault, ShardReply, ShardStep};
+use crate::step::ShardFault;
 use rl_chunks::Store;
+use rl_deletes::Deletion;
 use rl_labels::{Entry, Ns};
 use rl_parts::FlushFault;
-use rl_plain::Shared;
+use rl_plain::{Shared, TryCopy};
+use rl_query::Sieve;
+use rl_records::{Record, ShardReply, ShardStep, SieveText};
 use rl_streams::{AddRefusal, Streams};
 use std::alloc::AllocError;
 
+// The reply to a step, and its record.
+#[derive(Drop)]
+pub(crate) struct Decision {
+    pub(crate) reply: ShardReply,
+    pub(crate) kept: Record,
+}
+
+// The reply to a step, and a copy of it for its record.
+#[derive(Drop)]
+struct TwoReplies {
+    reply: ShardReply,
+    kept: ShardReply,
+}
+
 impl<S: Store> ShardParts<S> {
-    pub(crate) fn decide(&mut self, step: ShardStep) -> Result<ShardReply, ShardFault>
-        ensures { Decides step self.old result self.new }
+    // What becomes of a step: its reply, and its record. Where no memory is left for the record nothing is decided.
+    pub(crate) fn decide(&mut self, step: ShardStep) -> Result<Decision, ShardFault>
+        ensures decides { Decides step self.old (reply_of result) self.new }
+        ensures undecided { IfErr result (λ fault. IsOfDeciding fault → IsUndecided self.old.streams.limits (state_of self.old) step) }
+        ensures pushed { Pushes self.old.streams self.old.horizon step (reply_of result) self.new.streams }
+        ensures kept { IfOk result (λ decision. decision.kept ≡ record { step = step; reply = decision.reply }) }
+    {
+        self.show_bounds();
+        let step = adopted(&self.streams, step)?;
+        let kept = step.try_copy()?;
+        let replies = self.answer(step)?;
+        Ok(Decision {
+            reply: replies.reply,
+            kept: Record {
+                step: kept,
+                reply: replies.kept,
+            },
+        })
+    }
+
+    // What becomes of a step, once there is memory for its record.
+    fn answer(&mut self, step: ShardStep) -> Result<TwoReplies, ShardFault>
+        ensures decides { Decides step self.old (first_of result) self.new }
+        ensures undecided { OnErr result (IsUndecided self.old.streams.limits (state_of self.old) step) }
+        ensures pushed { IsOfPush self.old.streams self.old.horizon step (first_of result) self.new.streams }
+        ensures kept { IfOk result (λ replies. replies.kept ≡ replies.reply) }
+    {
+        match step {
+            ShardStep::Collect { slot, terms, t } => {
+                let answer = self.collect(slot, terms.into_list(), t)?;
+                Ok(TwoReplies {
+                    reply: ShardReply::Collected(answer.partials),
+                    kept: ShardReply::Collected(answer.copy),
+                })
+            }
+            change => {
+                let reply = self.change(change)?;
+                let kept = reply.copy_plain();
+                Ok(TwoReplies { reply, kept })
+            }
+        }
+    }
+
+    // What becomes of a step that asks for no partials.
+    fn change(&mut self, step: ShardStep) -> Result<ShardReply, ShardFault>
+        requires { IsChange step }
+        ensures decides { Decides step self.old result self.new }
+        ensures undecided { OnErr result (IsUndecided self.old.streams.limits (state_of self.old) step) }
+        ensures pushed { IsOfPush self.old.streams self.old.horizon step result self.new.streams }
+        ensures plain { IfOk result IsPlain }
     {
         match step {
             ShardStep::Push(entry) => self.push(entry),
@@ -38,14 +105,11 @@ impl<S: Store> ShardParts<S> {
                 self.flush()?;
                 Ok(ShardReply::Done)
             }
-            ShardStep::Delete(deletion) => self.delete(deletion),
+            ShardStep::Delete(deletion) => self.delete(with_sieve(deletion)),
             ShardStep::Cancel { id } => self.cancel(id),
             ShardStep::Process { id, now } => self.process(id, now),
             ShardStep::Retain { now } => self.retain(now),
-            ShardStep::Collect { slot, terms, t } => {
-                let partials = self.collect(slot, terms, t)?;
-                Ok(ShardReply::Collected(partials))
-            }
+            ShardStep::Collect { .. } => unreachable!(),
         }
     }
 
@@ -99,6 +163,29 @@ impl<S: Store> ShardParts<S> {
         ensures others { (self.new.requests ≡ self.old.requests) × (self.new.horizon ≡ self.old.horizon) × (self.new.slots ≡ self.old.slots) }
     {
         self.streams.flush()
+    }
+}
+
+// The step, whose entry has the label set of its stream.
+fn adopted<S: Store>(streams: &Streams<S>, step: ShardStep) -> Result<ShardStep, AllocError>
+    ensures { IfOk result (λ own. own ≡ step) }
+{
+    match step {
+        ShardStep::Push(entry) => Ok(ShardStep::Push(streams.adopt(entry)?)),
+        other => Ok(other),
+    }
+}
+
+// The deletion of a sieve, without its text.
+fn with_sieve(deletion: Deletion<SieveText>) -> Deletion<Shared<Sieve>>
+    ensures { result ≡ deletion }
+{
+    Deletion {
+        id: deletion.id,
+        selector: deletion.selector.into_sieve(),
+        start: deletion.start,
+        end: deletion.end,
+        created: deletion.created,
     }
 }
 

@@ -13,11 +13,11 @@ ghost use Rattle.rl_shard.specs.ShardFault.{IsOfRemoving, IsOfStore, IsRemoved, 
 ghost use Rattle.rl_shard.specs.Turning.{AreTurned};
 ghost use Rattle.rl_shard.specs.ShardStep.{deleted, left_of, processed_if, removed_by, removed_if, reply_to_cancel, reply_to_process, IsDeleteReply};
 ghost use Rattle.rl_shard.specs.declared.step.ShardFault.TheVariants as faults;
-ghost use Rattle.rl_shard.specs.declared.step.ShardReply.TheVariants as replies;
+ghost use Rattle.rl_records.specs.declared.step.ShardReply.TheVariants as replies;
 
 use crate::collecting::show_few;
 use crate::parts::ShardParts;
-use crate::step::{ShardFault, ShardReply};
+use crate::step::ShardFault;
 use crate::turning::{Listing, changes_of_turned};
 use rl_chunks::Store;
 use rl_deletes::{
@@ -27,6 +27,7 @@ use rl_deletes::{
 use rl_labels::{Ns, TimeRange};
 use rl_plain::{OrMemory, PlainList, Shared};
 use rl_query::Sieve;
+use rl_records::ShardReply;
 use rl_slots::Change;
 
 impl<S: Store> ShardParts<S> {

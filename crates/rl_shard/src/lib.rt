@@ -3,7 +3,7 @@
 //! `Shard::apply` answers a step exactly as the definition of the shard step says, and leaves exactly the state that it
 //! says, where its store is honest. A step that is refused for a fault changes nothing of what is held, over any store.
 //!
-//! - `step`: `ShardStep`, `ShardReply`, `ShardFault`. `shard`: `Shard`. `parts`: what its steps change; `deciding`, with `deleting`: what becomes
+//! - `step`: `ShardFault`, why a step is not decided; steps, replies and records are those of rl_records. `shard`: `Shard`. `parts`: what its steps change; `deciding`, with `deleting`: what becomes
 //!   of each step; `pushing`: what an entry changes in windows, `turning`: what entries that a step hides or shows do. `collecting`, with `windows`: what it shows of the ranges of terms. `sending`: a
 //!   probe for what may cross to another thread.
 #![tactic(auto)]
@@ -19,5 +19,6 @@ pub mod step;
 mod turning;
 mod windows;
 
+pub use rl_records::{Record, ShardReply, ShardStep, SieveText, Terms};
 pub use shard::Shard;
-pub use step::{ShardFault, ShardReply, ShardStep};
+pub use step::ShardFault;

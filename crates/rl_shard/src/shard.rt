@@ -1,34 +1,36 @@
 //! A shard, by its steps.
-ghost use Rattle.std.specs.Prelude.{◌≡◌, ◌+◌, ◌≤◌, ℕ, List, false, IsTrue, Err, length, IfOk, IfErr, OnOk, OnErr};
+ghost use Rattle.std.specs.Prelude.{◌≡◌, ◌+◌, ◌≤◌, ◌++◌, ◌∷◌, [], ℕ, List, false, IsTrue, Err, Some, length, map, slice_get, IfOk, IfErr, OnOk, OnErr};
+ghost use Rattle.rl_records.specs.RecordBytes.{digest_of};
 
 use crate::parts::ShardParts;
-use crate::step::{ShardFault, ShardReply, ShardStep};
+use crate::step::ShardFault;
 use rl_chunks::Store;
 use rl_labels::{Limits, Ns};
 use rl_pipeline::Meter;
-use rl_plain::PlainList;
+use rl_plain::{PlainList, TryCopy};
 use rl_query::Term;
-use std::alloc::Global;
+use rl_records::{Record, ShardReply, ShardStep, digest_of};
+use std::alloc::{AllocError, Global};
 use std::marker::Model;
 
 /// One shard. Contracts see a `ShardView`; worlds speak of the part of it that is `journalled`, and of its store.
 #[derive(Drop)]
 pub struct Shard<S: Store> {
     parts: ShardParts<S>,
-    records: u64,
+    journal: Vec<Record>,
 }
 
 impl<S: Store> Model for Shard<S> {
-    ghost use Rattle.std.specs.Prelude.{◌≤◌};
+    ghost use Rattle.rl_shard.specs.Journal.{IsShard};
     ghost use Rattle.rl_shard.specs.ShardState.{ShardView, shard_view_code};
 
     ghost Value = { ShardView };
 
     ghost coded = { shard_view_code };
 
-    ghost view = { λ a. record { streams = a.parts.streams; requests = a.parts.requests; horizon = a.parts.horizon; slots = a.parts.slots; meter = a.parts.meter; records = a.records } };
+    ghost view = { λ a. record { streams = a.parts.streams; requests = a.parts.requests; horizon = a.parts.horizon; slots = a.parts.slots; meter = a.parts.meter; journal = a.journal.items } };
 
-    ghost invariant = { λ a. a.records ≤ a.parts.streams.limits.records };
+    ghost invariant = { λ a. IsShard a.parts a.journal.items };
 }
 
 impl<S: Store> Shard<S> {
@@ -38,6 +40,7 @@ impl<S: Store> Shard<S> {
     ghost use Rattle.rl_slots.specs.Slots.{collected_in, term_count, IsLiveIn};
     ghost use Rattle.rl_shard.specs.Collecting.{AreRead};
     ghost use Rattle.rl_shard.specs.Live.{collected_after, visits_due, IsAnsweredLive, IsOfWindows, IsPush, Keeps};
+    ghost use Rattle.rl_shard.specs.Journal.{IsJournalOf, last_digest};
     ghost use Rattle.rl_shard.specs.Pushing.{Pushes, replied};
     ghost use Rattle.rl_shard.specs.ShardFault.{Gives, IsDone, IsHonest, MayCome, Stored};
     ghost use Rattle.rl_shard.specs.ShardState.{journalled, opened_over, visible};
@@ -52,7 +55,7 @@ impl<S: Store> Shard<S> {
     {
         Shard {
             parts: ShardParts::new(alloc, store, limits),
-            records: 0,
+            journal: Vec::new(alloc),
         }
     }
 
@@ -65,16 +68,47 @@ impl<S: Store> Shard<S> {
 
     /// How many records the journal has.
     pub fn journal_len(&self) -> u64
-        ensures { result ≡ (journalled self.now).records }
+        ensures length { result ≡ (journalled self.now).records }
+        // Over an honest store it is legal, and what the shard holds is its replay.
+        ensures legal { IsHonest self.now → IsJournalOf (journalled self.now).limits self.now.journal (journalled self.now).state }
     {
-        self.records
+        self.journal.len() as u64
+    }
+
+    /// A copy of the record at a place of the journal, which shares what the record has. `None` past the end.
+    pub fn journal_at(&mut self, place: u64) -> Result<Option<Record>, ShardFault>
+        ensures record { IfOk result (λ found. found ≡ slice_get self.old.journal place) }
+        ensures meets { IfErr result (λ fault. fault ≡ faults.Memory) }
+        ensures same { self.new ≡ self.old }
+    {
+        match self.journal.get(place as usize) {
+            Some(found) => Ok(Some(found.try_copy()?)),
+            None => Ok(None),
+        }
+    }
+
+    /// The SHA-256 of each record's bytes, in their order.
+    pub fn digests(&mut self) -> Result<Vec<[u8; 32]>, ShardFault>
+        ensures digests { IfOk result (λ digests. digests.items ≡ map digest_of self.old.journal) }
+        ensures meets { IfErr result (λ fault. fault ≡ faults.Memory) }
+        ensures same { self.new ≡ self.old }
+    {
+        Ok(digests_of(self.parts.alloc, &self.journal)?)
+    }
+
+    /// The SHA-256 of the last record's bytes. Takes no memory.
+    pub fn last_digest(&self) -> Option<[u8; 32]>
+        ensures { result ≡ last_digest self.now.journal }
+    {
+        let last = self.journal.last()?;
+        Some(digest_of(last))
     }
 
     /// Whether the journal has reached its limit of records.
     pub fn is_journal_full(&self) -> bool
         ensures { result ≡ is_journal_full (journalled self.now) }
     {
-        self.records >= self.parts.streams().limits().records
+        self.journal.len() as u64 >= self.parts.streams().limits().records
     }
 
     /// Whether the windows of a group's slot answer terms at a moment, so that a Collect of these reads nothing. Takes no memory.
@@ -91,9 +125,9 @@ impl<S: Store> Shard<S> {
         self.parts.meter()
     }
 
-    /// Decides a step, and answers its place in the journal, counted from 0, with the reply. JournalFull comes before
-    /// all else. A step that is refused makes no record and changes nothing of what is held, the requests or the horizon; parts that
-    /// were written before a fault stay in the store.
+    /// Decides a step, and answers the place of its record in the journal, counted from 0, with the reply. JournalFull comes before
+    /// all else, and then a lack of memory for the record. A step that is refused makes no record and changes nothing of what is held,
+    /// the requests or the horizon; parts that were written before a fault stay in the store.
     pub fn apply(&mut self, step: ShardStep) -> Result<(u64, ShardReply), ShardFault>
         ensures journal_full { IsTrue (is_journal_full (journalled self.old)) → (result ≡ Err faults.JournalFull) × (self.new ≡ self.old) }
         ensures may_come { IfErr result (λ fault. MayCome self.old step fault self.new) }
@@ -105,6 +139,9 @@ impl<S: Store> Shard<S> {
         // Over any store.
         ensures place { IfOk result (λ answer. answer.0 ≡ (journalled self.old).records) }
         ensures record { OnOk result (((journalled self.new).limits ≡ (journalled self.old).limits) × ((journalled self.new).records ≡ (journalled self.old).records + 1)) }
+        ensures journal { IfOk result (λ answer. self.new.journal ≡ self.old.journal ++ (record { step = step; reply = answer.1 }) ∷ []) }
+        ensures digest { IfOk result (λ answer. last_digest self.new.journal ≡ Some (digest_of (record { step = step; reply = answer.1 }))) }
+        ensures unrecorded { OnErr result (self.new.journal ≡ self.old.journal) }
         ensures answered { IfOk result (λ answer. IsAnswered (journalled self.old).limits (journalled self.old).state step answer.1 (journalled self.new).state) }
         ensures done { OnOk result (IsDone (journalled self.old).limits (journalled self.old).state step self.old.streams self.new.streams) }
         // What is read of a chunk follows from bytes with the digest that was kept.
@@ -127,9 +164,21 @@ impl<S: Store> Shard<S> {
         if self.is_journal_full() {
             return Err(ShardFault::JournalFull);
         }
-        let reply = self.parts.decide(step)?;
-        let place = self.records;
-        self.records += 1;
-        Ok((place, reply))
+        self.journal.reserve(1)?;
+        let decision = self.parts.decide(step)?;
+        let place = self.journal.len() as u64;
+        self.journal.push_reserved(decision.kept);
+        Ok((place, decision.reply))
     }
+}
+
+// The digest of each record.
+fn digests_of(alloc: Global, journal: &[Record]) -> Result<Vec<[u8; 32]>, AllocError>
+    ensures { IfOk result (λ digests. digests.items ≡ map digest_of journal.now) }
+{
+    let mut digests = Vec::with_capacity(alloc, journal.len())?;
+    for one in journal {
+        digests.push(digest_of(one))?;
+    }
+    Ok(digests)
 }

@@ -1,4 +1,4 @@
-//! What a shard can be asked, and what it answers.
+//! Why a step of a shard is not decided.
 ghost use Rattle.std.specs.Prelude.{◌≡◌};
 ghost use Rattle.rl_parts.specs.declared.fault.ReadFault.{ReadFault};
 ghost use Rattle.rl_parts.specs.declared.fault.FlushFault.{FlushFault};
@@ -7,78 +7,10 @@ ghost use Rattle.rl_slots.specs.declared.change.AddFault.{AddFault};
 ghost use Rattle.rl_shard.specs.ShardFault.{fault_of_flush, fault_of_read, fault_of_rewrite, fault_of_windows};
 ghost use Rattle.rl_shard.specs.declared.step.ShardFault.TheVariants.{Memory};
 
-use rl_aggregate::Partial;
-use rl_deletes::Deletion;
-use rl_labels::{Entry, Ns};
 use rl_parts::{FlushFault, ReadFault, RewriteFault};
-use rl_plain::{PlainList, Same, Shared, TryCopy};
-use rl_query::{Sieve, Term};
 use rl_slots::AddFault;
 use std::alloc::{AllocError, AllocFailed};
 use thiserror::Error;
-
-/// A step of a shard.
-#[derive(Drop)]
-pub enum ShardStep {
-    /// Takes a log entry, which the shard holds as it is.
-    Push(Shared<Entry>),
-    /// Seals the head of each stream as a chunk.
-    Cut,
-    /// Writes the sealed chunks to the store, and lets their lines go.
-    Flush,
-    /// Receives a request to delete entries: they are hidden.
-    Delete(Deletion<Shared<Sieve>>),
-    /// Cancels a request: what it alone covers is shown again.
-    Cancel {
-        id: u64,
-    },
-    /// Removes what a request covers, once it has waited its time.
-    Process {
-        id: u64,
-        now: Ns,
-    },
-    /// Raises the horizon to where retention wants it at the moment, and removes the entries below it.
-    Retain {
-        now: Ns,
-    },
-    /// Answers what each term's range has at the moment.
-    Collect {
-        /// The number of the group that asks.
-        slot: u64,
-        /// Of the group's rules, in their order, with repeats.
-        terms: Shared<PlainList<Term>>,
-        t: Ns,
-    },
-}
-
-/// What a shard answered. It stands in the journal with the step.
-#[derive(Drop)]
-pub enum ShardReply {
-    /// The entry is held, whether it was held before or not.
-    Accepted,
-    /// All was done that the step asks for.
-    Done,
-    /// The entry is older than the horizon.
-    Expired { horizon: Ns },
-    /// The entry is older than the newest of its stream by more than half of the age of a chunk.
-    TooFarBehind { newest: Ns },
-    /// The shard has reached its limit of entries.
-    Full,
-    /// The number is that of another request, or of one that was cancelled or processed.
-    IdTaken,
-    /// The shard has reached its limit of requests.
-    RequestsFull,
-    /// No request has the number.
-    NoSuchRequest,
-    /// The request was processed, and cannot be cancelled.
-    AlreadyProcessed,
-    /// The request was cancelled, and cannot be processed.
-    WasCancelled,
-    /// The request has not waited its time.
-    TooEarly,
-    /// One partial for each term.
-    Collected(PlainList<Shared<Partial>>),
-}
 
 /// Why a step was not decided. It made no record.
 #[derive(Clone, Copy, Debug, Drop, Error)]
@@ -93,101 +25,6 @@ pub enum ShardFault {
     NumbersSpent,
     #[error("out of memory")]
     Memory,
-}
-
-impl TryCopy for ShardStep {
-    /// Shares the entry, the sieve or the terms, and takes no memory.
-    fn try_copy(&self) -> Result<Self, AllocError> {
-        match self {
-            ShardStep::Push(entry) => Ok(ShardStep::Push(entry.try_copy()?)),
-            ShardStep::Cut => Ok(ShardStep::Cut),
-            ShardStep::Flush => Ok(ShardStep::Flush),
-            ShardStep::Delete(deletion) => Ok(ShardStep::Delete(deletion.try_copy()?)),
-            ShardStep::Cancel { id } => Ok(ShardStep::Cancel { id: *id }),
-            ShardStep::Process { id, now } => Ok(ShardStep::Process { id: *id, now: *now }),
-            ShardStep::Retain { now } => Ok(ShardStep::Retain { now: *now }),
-            ShardStep::Collect { slot, terms, t } => Ok(ShardStep::Collect {
-                slot: *slot,
-                terms: terms.try_copy()?,
-                t: *t,
-            }),
-        }
-    }
-}
-
-impl Same for ShardStep {
-    fn is_same(&self, other: &Self) -> bool {
-        match (self, other) {
-            (ShardStep::Push(left), ShardStep::Push(right)) => left.is_same(right),
-            (ShardStep::Cut, ShardStep::Cut) => true,
-            (ShardStep::Flush, ShardStep::Flush) => true,
-            (ShardStep::Delete(left), ShardStep::Delete(right)) => left.is_same(right),
-            (ShardStep::Cancel { id }, ShardStep::Cancel { id: other }) => id == other,
-            (
-                ShardStep::Process { id, now },
-                ShardStep::Process {
-                    id: other_id,
-                    now: other_now,
-                },
-            ) => id == other_id && now.is_same(other_now),
-            (ShardStep::Retain { now }, ShardStep::Retain { now: other }) => now.is_same(other),
-            (
-                ShardStep::Collect { slot, terms, t },
-                ShardStep::Collect {
-                    slot: other_slot,
-                    terms: other_terms,
-                    t: other_t,
-                },
-            ) => slot == other_slot && t.is_same(other_t) && terms.is_same(other_terms),
-            _ => false,
-        }
-    }
-}
-
-impl TryCopy for ShardReply {
-    /// Shares the partials, and takes memory for their list alone.
-    fn try_copy(&self) -> Result<Self, AllocError> {
-        match self {
-            ShardReply::Accepted => Ok(ShardReply::Accepted),
-            ShardReply::Done => Ok(ShardReply::Done),
-            ShardReply::Expired { horizon } => Ok(ShardReply::Expired { horizon: *horizon }),
-            ShardReply::TooFarBehind { newest } => {
-                Ok(ShardReply::TooFarBehind { newest: *newest })
-            }
-            ShardReply::Full => Ok(ShardReply::Full),
-            ShardReply::IdTaken => Ok(ShardReply::IdTaken),
-            ShardReply::RequestsFull => Ok(ShardReply::RequestsFull),
-            ShardReply::NoSuchRequest => Ok(ShardReply::NoSuchRequest),
-            ShardReply::AlreadyProcessed => Ok(ShardReply::AlreadyProcessed),
-            ShardReply::WasCancelled => Ok(ShardReply::WasCancelled),
-            ShardReply::TooEarly => Ok(ShardReply::TooEarly),
-            ShardReply::Collected(partials) => Ok(ShardReply::Collected(partials.try_copy()?)),
-        }
-    }
-}
-
-impl Same for ShardReply {
-    fn is_same(&self, other: &Self) -> bool {
-        match (self, other) {
-            (ShardReply::Accepted, ShardReply::Accepted) => true,
-            (ShardReply::Done, ShardReply::Done) => true,
-            (ShardReply::Full, ShardReply::Full) => true,
-            (ShardReply::IdTaken, ShardReply::IdTaken) => true,
-            (ShardReply::RequestsFull, ShardReply::RequestsFull) => true,
-            (ShardReply::NoSuchRequest, ShardReply::NoSuchRequest) => true,
-            (ShardReply::AlreadyProcessed, ShardReply::AlreadyProcessed) => true,
-            (ShardReply::WasCancelled, ShardReply::WasCancelled) => true,
-            (ShardReply::TooEarly, ShardReply::TooEarly) => true,
-            (ShardReply::Expired { horizon }, ShardReply::Expired { horizon: other }) => {
-                horizon.is_same(other)
-            }
-            (ShardReply::TooFarBehind { newest }, ShardReply::TooFarBehind { newest: other }) => {
-                newest.is_same(other)
-            }
-            (ShardReply::Collected(left), ShardReply::Collected(right)) => left.is_same(right),
-            _ => false,
-        }
-    }
 }
 
 impl From<AllocError> for ShardFault {

@@ -5,16 +5,18 @@
 //!
 //! - `range_window`: `RangeWindow`, a window with the code of its range.
 //! - `change`: `Change`, an element that a line adds to one window of a slot; `AddFault`, why changes are not added.
-//! - `slot`: `Slot`, the windows of a group's terms. `slots`: `Slots`, those of all groups.
+//! - `slot`: `Slot`, the windows of a group's terms. `slots`: `Slots`, those of all groups. `answer`: `Answer`, what they answer.
 //! - `sending`: slots may be sent to another thread.
 #![tactic(auto)]
 
+pub mod answer;
 pub mod change;
 pub mod range_window;
 pub mod sending;
 pub mod slot;
 pub mod slots;
 
+pub use answer::Answer;
 pub use change::{AddFault, Change};
 pub use range_window::RangeWindow;
 pub use slot::Slot;

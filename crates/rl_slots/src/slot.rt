@@ -12,6 +12,7 @@ ghost use Rattle.rl_query.specs.declared.query.Term.{Term};
 ghost use Rattle.rl_slots.specs.Slots.{changes_in, key_of, outline, term_key, visits_by, visits_for, visits_of, with_element_at, AreExactIn, ArePicked, AreSums, HasVisits, IsFull, IsLive, IsNeededFrom, IsOfLine, IsPartialAt, IsSumAt, IsWindowOf, StandIn, ContentsIn};
 ghost use Rattle.rl_slots.specs.declared.change.AddFault.TheVariants as adds;
 
+use crate::answer::{Answer, answer_of};
 use crate::change::{AddFault, Change};
 use crate::range_window::RangeWindow;
 use rl_aggregate::Partial;
@@ -152,17 +153,13 @@ impl Slot {
 
     /// Answers what each term's range has at a moment, which the windows move on to. Whatever comes of it, the slot answers its terms
     /// from the moment on.
-    pub fn collect(
-        &mut self,
-        alloc: Global,
-        t: Ns,
-        meter: &mut Meter,
-    ) -> Result<PlainList<Shared<Partial>>, AllocError>
+    pub fn collect(&mut self, alloc: Global, t: Ns, meter: &mut Meter) -> Result<Answer, AllocError>
         requires { self.old.reached ≤ t }
-        ensures partials { IfOk result (λ partials. (entries : List Entry) → AreExactIn self.old.windows entries → partials ≡ map (λ term. partial entries term t) self.old.terms) }
-        ensures each { IfOk result (λ partials. length partials ≡ length self.old.terms) }
-        ensures sums { IfOk result (λ partials. (contents : ContentsIn) → StandIn self.old.windows contents → AreSums self.old.windows t contents self.old.terms partials) }
-        ensures within { IfOk result (λ partials. (most : ℕ) → AllByRecursion (λ it. it.window.most ≡ most) self.old.windows → AllByRecursion (IsWithin most) partials) }
+        ensures partials { IfOk result (λ answer. (entries : List Entry) → AreExactIn self.old.windows entries → answer.partials ≡ map (λ term. partial entries term t) self.old.terms) }
+        ensures each { IfOk result (λ answer. length answer.partials ≡ length self.old.terms) }
+        ensures copied { IfOk result (λ answer. answer.copy ≡ answer.partials) }
+        ensures sums { IfOk result (λ answer. (contents : ContentsIn) → StandIn self.old.windows contents → AreSums self.old.windows t contents self.old.terms answer.partials) }
+        ensures within { IfOk result (λ answer. (most : ℕ) → AllByRecursion (λ it. it.window.most ≡ most) self.old.windows → AllByRecursion (IsWithin most) answer.partials) }
         ensures stand { (contents : ContentsIn) → StandIn self.old.windows contents → StandIn self.new.windows contents }
         ensures most { (most : ℕ) → AllByRecursion (λ it. it.window.most ≡ most) self.old.windows → AllByRecursion (λ it. it.window.most ≡ most) self.new.windows }
         ensures visits { (entries : List Entry) → AreExactIn self.old.windows entries → HasVisits (sum_by (visits_for entries self.old.collected t) self.old.terms) meter.old meter.new }
@@ -173,8 +170,9 @@ impl Slot {
     {
         self.reached = t;
         let partials = collect_each(alloc, &mut self.windows, &self.indices, t, meter)?;
+        let answer = answer_of(partials)?;
         self.collected = t;
-        Ok(PlainList::from_vec(partials))
+        Ok(answer)
     }
 }
 

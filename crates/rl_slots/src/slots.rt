@@ -8,12 +8,12 @@ ghost use Rattle.rl_windows.specs.Ranges.{HasRuns};
 ghost use Rattle.rl_slots.specs.Slots.{changes_of, changes_of_all, collected_in, outline, term_count, visits_for, with_change, with_changes, with_slot, AllStand, AreExact, AreNeededFrom, AreOfMost, Contents, HasVisits, IsFull, IsLive, IsLiveIn, IsMovedOn, IsOfLine, SlotView};
 ghost use Rattle.rl_slots.specs.declared.change.AddFault.TheVariants as adds;
 
+use crate::answer::Answer;
 use crate::change::{AddFault, Change};
 use crate::slot::Slot;
-use rl_aggregate::Partial;
 use rl_labels::Ns;
 use rl_pipeline::{Meter, ParsedLine};
-use rl_plain::{PlainList, Shared};
+use rl_plain::PlainList;
 use rl_query::Term;
 use std::alloc::{AllocError, Global};
 use std::marker::Model;
@@ -141,12 +141,13 @@ impl Slots {
         index: usize,
         t: Ns,
         meter: &mut Meter,
-    ) -> Result<PlainList<Shared<Partial>>, AllocError>
+    ) -> Result<Answer, AllocError>
         requires there { index < length self.old }
         requires live { IfSome (slice_get self.old index) (λ slot. slot.reached ≤ t) }
-        ensures partials { IfOk result (λ partials. IfSome (slice_get self.old index) (λ slot. (entries : List Entry) → AreExact self.old entries → partials ≡ map (λ term. partial entries term t) slot.terms)) }
-        ensures each { IfOk result (λ partials. IfSome (slice_get self.old index) (λ slot. length partials ≡ length slot.terms)) }
-        ensures within { IfOk result (λ partials. (most : ℕ) → AreOfMost most self.old → AllByRecursion (IsWithin most) partials) }
+        ensures partials { IfOk result (λ answer. IfSome (slice_get self.old index) (λ slot. (entries : List Entry) → AreExact self.old entries → answer.partials ≡ map (λ term. partial entries term t) slot.terms)) }
+        ensures each { IfOk result (λ answer. IfSome (slice_get self.old index) (λ slot. length answer.partials ≡ length slot.terms)) }
+        ensures copied { IfOk result (λ answer. answer.copy ≡ answer.partials) }
+        ensures within { IfOk result (λ answer. (most : ℕ) → AreOfMost most self.old → AllByRecursion (IsWithin most) answer.partials) }
         ensures stand { (contents : Contents) → AllStand self.old contents → AllStand self.new contents }
         ensures most { (most : ℕ) → AreOfMost most self.old → AreOfMost most self.new }
         ensures moved { IsMovedOn index t self.old self.new }

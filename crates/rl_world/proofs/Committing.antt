@@ -1,5 +1,5 @@
 -- What a commit makes of a book's sinks.
-use Rattle.std.proofs.Common.{◌≡◌, ℕ, suc, Bool, false, List, [], ◌∷◌, ◌++◌, map, length, take, Option, None, Some, is_some, IfSome, Result, Ok, Err, OnOk, OnErr, option_map, slice_get, slice_set, refl, sym, ap, subst, ◌∙◌, arith, length-append}
+use Rattle.std.proofs.Common.{◌≡◌, ℕ, suc, Bool, List, [], ◌∷◌, ◌++◌, map, length, take, Option, None, Some, IfSome, Result, Ok, Err, OnOk, OnErr, option_map, slice_get, slice_set, refl, sym, ap, subst, ◌∙◌, arith, length-append}
 use Rattle.std.specs.List.{AllByRecursion}
 use Rattle.std.proofs.lemmas.List.{take-append-le}
 use Rattle.rl_rules.specs.declared.evaluation.Evaluation.{Evaluation}
@@ -47,11 +47,6 @@ holds_of_none P (Some x) none = absurd (some_none x none)
   where
     some_none : {X : Type 0} (x : X) → Some x ≡ None → ⊥
     some_none x h = cc
-
--- what is not there is nothing
-pub none_there : {X : Type 0} (maybe : Option X) → is_some maybe ≡ false → maybe ≡ None
-none_there None none = refl
-none_there (Some x) none = cc
 
 -- what took prefixes before one more was committed takes prefixes of all
 pub each_took_now : (evaluations now : List Evaluation) (evaluation : Evaluation) (sinks same : List SinkState) → now ≡ evaluations ++ evaluation ∷ [] → same ≡ sinks → AllByRecursion (TookPrefix evaluations) sinks → AllByRecursion (TookPrefix now) same

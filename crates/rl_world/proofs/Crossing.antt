@@ -11,7 +11,6 @@ use Rattle.std.specs.contracts.option.Option as Option
 use Rattle.std.specs.contracts.vec.Vec as Vec
 use Rattle.rl_plain.specs.contracts.list.PlainList as PlainList
 use Rattle.rl_plain.specs.contracts.shared.Shared as Shared
-use Rattle.rl_query.specs.contracts.query.Term as Term
 use Rattle.rl_aggregate.specs.contracts.partial.Partial as Partial
 use Rattle.rl_rules.specs.contracts.evaluation.Evaluation as Evaluation
 use Rattle.rl_rules.specs.contracts.kept.KeptRule as KeptRule
@@ -19,7 +18,8 @@ use Rattle.rl_rules.specs.contracts.rule.Group as Group
 use Rattle.rl_sinks.specs.declared.sink.Sink as Sink
 use Rattle.rl_aggregate.proofs.partial.Partial.TheSendSync as partial
 use Rattle.rl_world.proofs.opened.OpenEvaluation.TheSendSync as opening
-use Rattle.rl_query.proofs.Crossing as queries
+use Rattle.rl_records.proofs.Crossing.{Terms-send}
+use Rattle.rl_records.specs.contracts.terms.Terms as Terms
 use Rattle.rl_rules.proofs.Crossing as groups
 use Rattle.rl_world.specs.contracts.item.Item as Item
 use Rattle.rl_world.specs.contracts.opened.OpenEvaluation as OpenEvaluation
@@ -32,7 +32,7 @@ Item-send = search (groups.crosses, sendable, heap.crosses) depth 20
 fields-send : (T : RattleType) (g : Sink.Ghosts T.Denot) → IsSend T → IsSend (inside.the_row T g)
 fields-send T g s =
     let group : IsSend (Shared.the_field Group.the_row).row = search (groups.crosses, sendable, heap.crosses) depth 20 in
-    let terms : IsSend (Shared.the_field (PlainList.the_row Term.the_row)).row = search (queries.crosses, groups.crosses, sendable, heap.crosses) depth 20 in
+    let terms : IsSend (Terms.the_field).row = let one = Terms-send in search (one, sendable, heap.crosses) depth 20 in
     let kept : IsSend (Vec.the_field KeptRule.the_row Global.the_row allocator.ghosts).row = search (groups.crosses, sendable, heap.crosses) depth 20 in
     let item = Item-send in
     let items : IsSend (Vec.the_field Item.the_row Global.the_row allocator.ghosts).row = search (item, sendable, heap.crosses) depth 20 in

@@ -9,9 +9,9 @@ use Rattle.rl_parts.specs.StoreUse.{Grown}
 use Rattle.rl_shard.specs.ShardFault.{Gives, MayCome, Stored}
 use Rattle.rl_shard.specs.ShardState.{ShardView, journalled, visible}
 use Rattle.rl_shard.specs.ShardStep.{recorded, is_journal_full}
-use Rattle.rl_shard.specs.declared.step.ShardReply.TheVariants as shard_replies
-use Rattle.rl_shard.specs.declared.step.ShardStep.{ShardStep}
-use Rattle.rl_shard.specs.declared.step.ShardStep.TheVariants as shard_steps
+use Rattle.rl_records.specs.declared.step.ShardReply.TheVariants as shard_replies
+use Rattle.rl_records.specs.declared.step.ShardStep.{ShardStep}
+use Rattle.rl_records.specs.declared.step.ShardStep.TheVariants as shard_steps
 use Rattle.rl_shard.specs.declared.step.ShardFault.{ShardFault}
 use Rattle.rl_shard.specs.declared.step.ShardFault.TheVariants as shard_faults
 use Rattle.rl_world.specs.BookCalls.{with_history}

@@ -9,9 +9,9 @@ use Rattle.rl_query.specs.declared.query.Term.{Term}
 use Rattle.rl_aggregate.specs.declared.partial.Partial.{Partial}
 use Rattle.rl_shard.specs.ShardState.{visible}
 use Rattle.rl_shard.specs.ShardStep.{recorded}
-use Rattle.rl_shard.specs.declared.step.ShardStep.{ShardStep}
-use Rattle.rl_shard.specs.declared.step.ShardStep.TheVariants as shard_steps
-use Rattle.rl_shard.specs.declared.step.ShardReply.{ShardReply}
+use Rattle.rl_records.specs.declared.step.ShardStep.{ShardStep}
+use Rattle.rl_records.specs.declared.step.ShardStep.TheVariants as shard_steps
+use Rattle.rl_records.specs.declared.step.ShardReply.{ShardReply}
 use Rattle.rl_rules.specs.declared.rule.Group.{Group}
 use Rattle.rl_world.specs.Evaluating.{group_terms}
 use Rattle.rl_world.specs.Kept.{partials_of}

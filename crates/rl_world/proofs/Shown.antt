@@ -8,9 +8,9 @@ use Rattle.rl_query.specs.declared.query.Term.{Term}
 use Rattle.rl_shard.specs.Collecting.{AreRead}
 use Rattle.rl_shard.specs.ShardState.{ShardState, ShardView}
 use Rattle.rl_shard.specs.ShardStep.{AreWithin, IsAnswered}
-use Rattle.rl_shard.specs.declared.step.ShardReply.{ShardReply}
-use Rattle.rl_shard.specs.declared.step.ShardReply.TheVariants as replies
-use Rattle.rl_shard.specs.declared.step.ShardStep.TheVariants as shard_steps
+use Rattle.rl_records.specs.declared.step.ShardReply.{ShardReply}
+use Rattle.rl_records.specs.declared.step.ShardReply.TheVariants as replies
+use Rattle.rl_records.specs.declared.step.ShardStep.TheVariants as shard_steps
 use Rattle.rl_world.specs.ShardAnswers.{AreOfOneShard, most_in_shard}
 use Rattle.rl_aggregate.specs.laws.Within.{within-more}
 

@@ -14,8 +14,8 @@ use Rattle.rl_shard.specs.Pushing.{Pushes}
 use Rattle.rl_shard.specs.ShardFault.{Gives, IsDone, MayCome, Stored}
 use Rattle.rl_shard.specs.ShardState.{ShardView, journalled}
 use Rattle.rl_shard.specs.ShardStep.{recorded, is_journal_full, IsAnswered, IsReply}
-use Rattle.rl_shard.specs.declared.step.ShardStep.{ShardStep}
-use Rattle.rl_shard.specs.declared.step.ShardReply.{ShardReply}
+use Rattle.rl_records.specs.declared.step.ShardStep.{ShardStep}
+use Rattle.rl_records.specs.declared.step.ShardReply.{ShardReply}
 use Rattle.rl_shard.specs.declared.step.ShardFault.{ShardFault}
 use Rattle.rl_shard.specs.declared.step.ShardFault.TheVariants as shard_faults
 use Rattle.rl_world.specs.BookCalls.{Answers, Refuses, with_history}

@@ -9,7 +9,7 @@ use Rattle.rl_aggregate.specs.declared.partial.Partial.{Partial}
 use Rattle.rl_shard.specs.Collecting.{AreLinesOf, counted}
 use Rattle.rl_shard.specs.Live.{IsOfWindows}
 use Rattle.rl_shard.specs.ShardState.{ShardView}
-use Rattle.rl_shard.specs.declared.step.ShardStep.TheVariants as shard_steps
+use Rattle.rl_records.specs.declared.step.ShardStep.TheVariants as shard_steps
 use Rattle.rl_rules.specs.declared.alert.Alert.{Alert}
 use Rattle.rl_rules.specs.declared.rule.Group.{Group}
 use Rattle.rl_rules.specs.declared.evaluation.Evaluation.{Evaluation}

@@ -10,10 +10,10 @@ use Rattle.rl_shard.specs.ShardFault.{Gives, IsDone, IsHonest, MayCome, Stored}
 use Rattle.rl_shard.specs.ShardState.{ShardView, journalled}
 use Rattle.rl_shard.specs.ShardStep.{IsAnswered}
 use Rattle.rl_shard.specs.declared.step.ShardFault.{ShardFault}
-use Rattle.rl_shard.specs.declared.step.ShardReply.{ShardReply}
-use Rattle.rl_shard.specs.declared.step.ShardReply.TheVariants as shard_replies
-use Rattle.rl_shard.specs.declared.step.ShardStep.{ShardStep}
-use Rattle.rl_shard.specs.declared.step.ShardStep.TheVariants as shard_steps
+use Rattle.rl_records.specs.declared.step.ShardReply.{ShardReply}
+use Rattle.rl_records.specs.declared.step.ShardReply.TheVariants as shard_replies
+use Rattle.rl_records.specs.declared.step.ShardStep.{ShardStep}
+use Rattle.rl_records.specs.declared.step.ShardStep.TheVariants as shard_steps
 use Rattle.rl_world.specs.BookCalls.{with_history}
 use Rattle.rl_world.specs.Evaluating.{group_terms}
 use Rattle.rl_world.specs.History.{gathered}

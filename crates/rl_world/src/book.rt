@@ -1,12 +1,14 @@
 //! A book: one rule group, its history, and its sinks.
 ghost use Rattle.std.specs.Prelude.{◌≡◌, ◌≤◌, ◌<◌, ◌^◌, List, map, length, replicate, slice_get, option_map, option_and_then, IfOk, IfErr, OnOk, OnErr, IfSome, None, Some, is_some, false};
 ghost use Rattle.rl_sinks.specs.SinkState.{SinkState};
+ghost use Rattle.rl_sinks.specs.Texts.{tail_text};
 ghost use Rattle.rl_world.specs.BookCalls.{Refuses};
 ghost use Rattle.rl_world.specs.Closed.{HasAnswered, IsBookClosed, IsClosed, failures};
 ghost use Rattle.rl_world.specs.History.{asked_fault, closing_fault, has_passed, with_shown};
 ghost use Rattle.rl_world.specs.WorldRun.{ArePumped};
 ghost use Rattle.std.specs.List.{AllByRecursion, AllZip, list_all};
 ghost use Rattle.std.specs.Option.{option_copied};
+ghost use Rattle.sha2.specs.Sha256.{sha256};
 
 use crate::editing::{kept_edited, kept_of};
 use crate::evaluating::{ShardAnswer, evaluate, terms_of_group};
@@ -18,9 +20,9 @@ use crate::step::Committed;
 use rl_aggregate::Partial;
 use rl_labels::Ns;
 use rl_plain::{PlainList, Shared, TryCopy};
-use rl_query::Term;
+use rl_records::Terms;
 use rl_rules::{Alert, Evaluation, Group, KeptRule};
-use rl_sinks::Sink;
+use rl_sinks::{Sink, tail_digest};
 use std::alloc::{AllocError, Global};
 use std::marker::Model;
 use std::mem;
@@ -33,7 +35,7 @@ pub struct Book<S: Sink> {
     first: Shared<Group>,
     group: Shared<Group>,
     // Of the group's rules, in their order.
-    terms: Shared<PlainList<Term>>,
+    terms: Terms,
     slot: u64,
     shards: usize,
     records: u64,
@@ -112,29 +114,53 @@ impl<S: Sink> Book<S> {
 
     /// Replaces the group by another one under its name. Each of the new rules, in order, takes the alerts of the
     /// first rule before that is equal in all fields and was not yet taken. The index of the edit in the history.
-    pub fn edit(&mut self, group: Group) -> Result<u64, BookError>
+    pub fn edit(&mut self, group: Shared<Group>) -> Result<u64, BookError>
         requires name { group.name ≡ self.old.history.group.name }
         ensures answer { Answers (edit_fault self.old.history) result }
         ensures place { IfOk result (λ place. place ≡ length self.old.history.items) }
         ensures ok { OnOk result (self.new ≡ with_history self.old (edited self.old.history group)) }
         ensures err { OnErr result (self.new ≡ self.old) }
     {
-        let busy = self.opened.is_some();
-        if busy {
-            return Err(BookError::Fault(BookFault::Busy));
-        }
-        let place = self.items.len() as u64;
-        if place >= self.records {
-            return Err(BookError::Fault(BookFault::SessionFull));
-        }
-        let terms = terms_of_group(self.alloc, &group)?;
-        let kept = kept_edited(self.alloc, self.group.get(), &self.kept, &group)?;
-        let group = Shared::new(self.alloc, group)?;
+        let place = self.may_edit()?;
+        let to = group.get();
+        let terms = terms_of_group(self.alloc, to)?;
+        let kept = kept_edited(self.alloc, self.group.get(), &self.kept, to)?;
         let item = Item::Edited(group.try_copy()?);
         self.items.push(item)?;
         self.group = group;
         self.terms = terms;
         self.kept = kept;
+        Ok(place)
+    }
+
+    /// The same with a group that nothing shares.
+    pub(crate) fn edit_own(&mut self, group: Group) -> Result<u64, BookError>
+        requires name { group.name ≡ self.old.history.group.name }
+        ensures answer { Answers (edit_fault self.old.history) result }
+        ensures place { IfOk result (λ place. place ≡ length self.old.history.items) }
+        ensures ok { OnOk result (self.new ≡ with_history self.old (edited self.old.history group)) }
+        ensures err { OnErr result (self.new ≡ self.old) }
+    {
+        self.may_edit()?;
+        let group = Shared::new(self.alloc, group)?;
+        self.edit(group)
+    }
+
+    // The index that an edit has in the history. Refuses where an evaluation is open, and where the book is full.
+    fn may_edit(&self) -> Result<u64, BookFault>
+        ensures answer { Refuses (edit_fault self.now.history) result }
+        ensures place { IfOk result (λ place. place ≡ length self.now.history.items) }
+        ensures closed { OnOk result (self.now.history.opened ≡ None) }
+        ensures room { OnOk result (length self.now.history.items < self.now.history.records) }
+    {
+        let busy = self.opened.is_some();
+        if busy {
+            return Err(BookFault::Busy);
+        }
+        let place = self.items.len() as u64;
+        if place >= self.records {
+            return Err(BookFault::SessionFull);
+        }
         Ok(place)
     }
 
@@ -212,7 +238,7 @@ impl<S: Sink> Book<S> {
         let number = self.evaluations.len() as u64;
         let full = self.items.len() as u64 >= self.records;
         let opened = complete(&self.opened, full)?;
-        let terms = self.terms.get().len();
+        let terms = self.terms.list().get().len();
         let group = self.group.get();
         let (evaluation, alerts) = evaluate(self.alloc, group, terms, &mut self.kept, opened)?;
         let copy = evaluation.try_copy()?;
@@ -300,7 +326,7 @@ impl<S: Sink> Book<S> {
     }
 
     /// The terms of the group's rules, in their order, with repeats.
-    pub fn terms(&self) -> &Shared<PlainList<Term>>
+    pub fn terms(&self) -> &Terms
         ensures { result.now ≡ group_terms self.now.history.group }
     {
         &self.terms
@@ -320,6 +346,14 @@ impl<S: Sink> Book<S> {
     {
         let evaluation = self.evaluations.get(number as usize)?;
         Some(evaluation.get())
+    }
+
+    /// The SHA-256 (FIPS 180-4) of what a tail is given of a committed evaluation, by its number. Takes no memory.
+    pub fn mark(&self, number: u64) -> Option<[u8; 32]>
+        ensures { result ≡ option_map (λ evaluation. sha256 (tail_text evaluation)) (slice_get self.now.history.evaluations number) }
+    {
+        let evaluation = self.evaluation(number)?;
+        Some(tail_digest(evaluation))
     }
 
     /// How many evaluations were committed.

@@ -14,7 +14,8 @@ use crate::opened::{Gathered, OpenPartials};
 use rl_aggregate::{Partial, merge};
 use rl_labels::Ns;
 use rl_plain::{PlainList, Shared, TryCopy};
-use rl_query::{Query, Term};
+use rl_query::Query;
+use rl_records::Terms;
 use rl_rules::{Alert, Evaluation, Group, KeptRule, RuleResult};
 use std::alloc::{AllocError, Global};
 
@@ -22,10 +23,7 @@ use std::alloc::{AllocError, Global};
 pub(crate) type ShardAnswer = Option<Gathered<PlainList<Shared<Partial>>>>;
 
 /// The terms of the group's rules, in their order.
-pub(crate) fn terms_of_group(
-    alloc: Global,
-    group: &Group,
-) -> Result<Shared<PlainList<Term>>, AllocError>
+pub(crate) fn terms_of_group(alloc: Global, group: &Group) -> Result<Terms, AllocError>
     ensures { IfOk result (λ terms. terms ≡ group_terms group.now) }
 {
     let mut terms = Vec::new(alloc);
@@ -35,7 +33,7 @@ pub(crate) fn terms_of_group(
             terms.push(over.try_copy()?)?;
         }
     }
-    let terms = Shared::new(alloc, PlainList::from_vec(terms))?;
+    let terms = Terms::new(alloc, terms)?;
     Ok(terms)
 }
 

@@ -6,8 +6,8 @@ ghost use Rattle.rl_parts.specs.StoreUse.{Grown};
 ghost use Rattle.rl_shard.specs.ShardFault.{Gives, IsHonest, MayCome, Stored};
 ghost use Rattle.rl_shard.specs.ShardState.{journalled, visible};
 ghost use Rattle.rl_shard.specs.ShardStep.{recorded};
-ghost use Rattle.rl_shard.specs.declared.step.ShardReply.TheVariants as shard_replies;
-ghost use Rattle.rl_shard.specs.declared.step.ShardStep.TheVariants as shard_steps;
+ghost use Rattle.rl_records.specs.declared.step.ShardReply.TheVariants as shard_replies;
+ghost use Rattle.rl_records.specs.declared.step.ShardStep.TheVariants as shard_steps;
 ghost use Rattle.rl_world.specs.Kept.{partials_of};
 ghost use Rattle.rl_world.specs.ShardsTurn.{AreHonest, Decides, ShardsTurn};
 ghost use Rattle.rl_world.specs.ShardAnswers.{AreOfOneShard};
@@ -24,7 +24,7 @@ use rl_aggregate::Partial;
 use rl_chunks::Store;
 use rl_labels::Ns;
 use rl_plain::{PlainList, Shared, TryCopy};
-use rl_query::Term;
+use rl_records::Terms;
 use rl_rules::Group;
 use rl_shard::{Shard, ShardFault, ShardReply, ShardStep};
 use rl_sinks::Sink;
@@ -64,7 +64,7 @@ impl<D: Store, S: Sink> WorldParts<D, S> {
             return Err(Refusal::NoSuch);
         }
         let book = &mut self.books[group];
-        match book.edit(to) {
+        match book.edit_own(to) {
             Ok(place) => Ok(place),
             Err(error) => Err(refusal_of_book(error)),
         }
@@ -171,7 +171,7 @@ impl<D: Store, S: Sink> WorldParts<D, S> {
 fn ask<D: Store>(
     shard: &mut Shard<D>,
     slot: u64,
-    terms: Shared<PlainList<Term>>,
+    terms: Terms,
     t: Ns,
 ) -> Result<(u64, PlainList<Shared<Partial>>), ShardFault>
     ensures may_come { IfErr result (λ fault. MayCome shard.old (shard_steps.Collect slot terms t) fault shard.new) }

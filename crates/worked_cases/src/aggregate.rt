@@ -226,8 +226,8 @@ fn value_of(total: Option<Volume>) -> Option<Fraction> {
     Some(Fraction::of(RangeFunction::CountOverTime, 5, total?))
 }
 
-// Adds a total, as `a=x 3 7`, if the sum fits.
-fn add(alloc: Global, totals: &mut Totals, text: &str) -> Result<(), Trouble> {
+/// Adds a total, as `a=x 3 7`, if the sum fits.
+pub(crate) fn add(alloc: Global, totals: &mut Totals, text: &str) -> Result<(), Trouble> {
     let (labels, total) = words_of(text);
     let (count, bytes) = words_of(total);
     let (count, bytes) = (number_in(count)?, number_in(bytes)?);

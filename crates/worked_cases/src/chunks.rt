@@ -58,7 +58,8 @@ fn encoded(output: &mut String, bytes: &[u8]) -> Result<(), Trouble> {
     push_bytes(output, &bytes)
 }
 
-fn push_bytes(output: &mut String, bytes: &[u8]) -> Result<(), Trouble> {
+/// Writes bytes in hexadecimal.
+pub(crate) fn push_bytes(output: &mut String, bytes: &[u8]) -> Result<(), Trouble> {
     for byte in bytes {
         write!(output, "{byte:02x}")?;
     }

@@ -16,6 +16,7 @@ mod output;
 mod pipeline;
 mod plain;
 mod query;
+mod record;
 mod rules;
 mod session;
 mod shard;
@@ -128,6 +129,7 @@ fn push_answer(
         "pipeline" => pipeline::answer(output, directive, input),
         "plain" => plain::answer(output, directive, input),
         "query" => query::answer(output, directive, input),
+        "record" => record::answer(output, directive, input),
         "rules" => rules::answer(output, directive, input),
         "session" => session::answer(output, directive, input),
         "sinks" => sinks::answer(output, directive, input),

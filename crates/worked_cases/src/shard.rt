@@ -1,8 +1,11 @@
 //! Steps of a shard, and what new shards reply to them.
 //!
-//! A case compares two steps. A step is `cut`, or `flush`, or `push` and an entry, or `collect`, the number of a group, a
+//! A case of `steps` compares two steps. One of `journal` has limits, and a step a line for a new shard: the place of each or why it
+//! is not decided, then the bytes of the record at each place and at the one after the last, the digest of each record, and that of
+//! the last. A step is `cut`, or `flush`, or `push` and an entry, or `collect`, the number of a group, a
 //! moment and a query, of which the first term is asked for; or `delete`, a number, a start, an end, when it was made and a
 //! delete selector; or `cancel` and a number; or `process`, a number and a moment; or `retain` and a moment.
+use crate::chunks::push_bytes;
 use crate::compared::halves;
 use crate::given::{Read, limits_in, list_in, moment_in, number_in, words_of};
 use crate::query::query_in;
@@ -10,9 +13,10 @@ use crate::shard_random::random;
 use crate::trouble::Trouble;
 use rl_chunks::MemStore;
 use rl_deletes::Deletion;
-use rl_plain::{PlainList, Same, Shared, TryCopy};
-use rl_query::Term;
-use rl_shard::{Shard, ShardReply, ShardStep};
+use rl_plain::{Same, Shared, TryCopy};
+use rl_query::{Sieve, Term};
+use rl_records::{ShardReply, ShardStep, SieveText, Terms, record_bytes};
+use rl_shard::Shard;
 use std::alloc::Global;
 use std::mem;
 
@@ -20,6 +24,7 @@ use std::mem;
 pub(crate) fn answer(output: &mut String, directive: &str, input: &str) -> Result<(), Trouble> {
     match directive {
         "steps" => steps(output, input),
+        "journal" => journal(output, input),
         "random" => random(output, input),
         _ => Err(Trouble::NoSuchDirective),
     }
@@ -98,7 +103,7 @@ fn delete_in(alloc: Global, text: &str) -> Result<ShardStep, Trouble> {
     let (created, selector) = words_of(rest);
     let (id, created) = (number_in(id)?, moment_in(created)?);
     let (start, end) = (moment_in(start)?, moment_in(end)?);
-    let selector = Shared::read(alloc, selector)?;
+    let selector = SieveText::new(alloc, Sieve::read(alloc, selector)?)?;
     Ok(ShardStep::Delete(Deletion {
         id,
         selector,
@@ -112,8 +117,7 @@ fn collect_in(alloc: Global, text: &str) -> Result<ShardStep, Trouble> {
     let (slot, rest) = words_of(text);
     let (t, query) = words_of(rest);
     let (slot, t) = (number_in(slot)?, moment_in(t)?);
-    let terms = PlainList::from_vec(list_in(alloc, query, "\n")?);
-    let terms = Shared::new(alloc, terms)?;
+    let terms = Terms::new(alloc, list_in(alloc, query, "\n")?)?;
     Ok(ShardStep::Collect { slot, terms, t })
 }
 
@@ -136,6 +140,67 @@ impl Read for ShardReply {
         mem::forget(shard);
         reply
     }
+}
+
+// What the journal of a new shard has after steps.
+fn journal(output: &mut String, input: &str) -> Result<(), Trouble> {
+    let alloc = *output.allocator();
+    let (limits, steps) = input.split_once('\n').ok_or(Trouble::BadInput)?;
+    let mut shard = Shard::open(alloc, MemStore::new(alloc), limits_in(limits)?);
+    let written = push_steps(output, &mut shard, steps);
+    mem::forget(shard);
+    written
+}
+
+fn push_steps(
+    output: &mut String,
+    shard: &mut Shard<MemStore>,
+    steps: &str,
+) -> Result<(), Trouble> {
+    for step in steps.split('\n') {
+        push_place(output, shard, step)?;
+    }
+    for place in 0..=shard.journal_len() {
+        push_record_at(output, shard, place)?;
+    }
+    for digest in shard.digests().or(Err(Trouble::Memory))? {
+        push_digest(output, Some(digest))?;
+    }
+    push_digest(output, shard.last_digest())
+}
+
+// The place of a step, or why it is not decided.
+fn push_place(output: &mut String, shard: &mut Shard<MemStore>, step: &str) -> Result<(), Trouble> {
+    let step = ShardStep::read(*output.allocator(), step)?;
+    match shard.apply(step) {
+        Ok((place, _)) => writeln!(output, "{place}")?,
+        Err(fault) => writeln!(output, "{fault:?}")?,
+    }
+    Ok(())
+}
+
+// The bytes of the record at a place.
+fn push_record_at(
+    output: &mut String,
+    shard: &mut Shard<MemStore>,
+    place: u64,
+) -> Result<(), Trouble> {
+    match shard.journal_at(place).or(Err(Trouble::Memory))? {
+        Some(record) => push_bytes(output, &record_bytes(*output.allocator(), &record)?)?,
+        None => output.push_str("none")?,
+    }
+    output.push('\n')?;
+    Ok(())
+}
+
+/// A digest, if there is one.
+pub(crate) fn push_digest(output: &mut String, digest: Option<[u8; 32]>) -> Result<(), Trouble> {
+    match digest {
+        Some(digest) => push_bytes(output, &digest)?,
+        None => output.push_str("none")?,
+    }
+    output.push('\n')?;
+    Ok(())
 }
 
 fn reply_of(shard: &mut Shard<MemStore>, step: ShardStep) -> Result<ShardReply, Trouble> {

@@ -12,9 +12,9 @@ use crate::trouble::Trouble;
 use crate::world_steps::push_decision;
 use rl_aggregate::Partial;
 use rl_labels::Ns;
-use rl_plain::{PlainList, Same, Shared, TryCopy};
-use rl_query::Term;
-use rl_shard::{Shard, ShardReply, ShardStep};
+use rl_plain::{Same, Shared, TryCopy};
+use rl_records::{ShardReply, ShardStep, Terms};
+use rl_shard::Shard;
 use std::alloc::{AllocError, Global};
 use std::mem;
 
@@ -97,7 +97,7 @@ fn cost_of(shard: &Driven) -> (u64, u64) {
 // Whether windows of a shard answer a step.
 fn is_live(shard: &Driven, step: &ShardStep) -> bool {
     match step {
-        ShardStep::Collect { slot, terms, t } => shard.is_live(*slot, terms.get(), *t),
+        ShardStep::Collect { slot, terms, t } => shard.is_live(*slot, terms.list().get(), *t),
         _ => false,
     }
 }
@@ -107,7 +107,7 @@ fn is_live_from(shard: &Driven, step: &ShardStep) -> bool {
     let ShardStep::Collect { slot, terms, t } = step else {
         return false;
     };
-    let (slot, terms) = (*slot, terms.get());
+    let (slot, terms) = (*slot, terms.list().get());
     let earlier = at(t.get().saturating_sub(1), *t);
     let later = at(t.get().saturating_add(3_600_000_000_000), *t);
     shard.is_live(slot, terms, *t)
@@ -293,7 +293,7 @@ impl Both {
         let ShardStep::Collect { slot, t, .. } = step else {
             return Ok(());
         };
-        let terms = Shared::new(alloc, PlainList::new(alloc))?;
+        let terms = Terms::new(alloc, Vec::new(alloc))?;
         let (slot, t) = (*slot, *t);
         match self.plain.apply(ShardStep::Collect { slot, terms, t }) {
             Ok(_) => Ok(()),

@@ -3,10 +3,10 @@ ghost use Rattle.std.specs.Prelude.{◌≡◌};
 
 use crate::given::{Read, moment_in, number_in, words_of};
 use crate::output::push_value;
-use crate::shard;
+use crate::shard::{self, push_digest};
 use crate::trouble::Trouble;
 use crate::world::{Kept, Sunk};
-use rl_plain::{PlainList, Same};
+use rl_plain::{PlainList, Same, Shared};
 use rl_query_text::print_term;
 use rl_rules::{Alert, Evaluation, Group, KeptRule};
 use rl_shard::{Shard, ShardReply, ShardStep};
@@ -49,7 +49,7 @@ fn is_look_up(word: &str) -> bool {
     match word {
         "groups" | "close" | "store" | "meter" | "live" => true,
         "group" | "first" => true,
-        "alerts" | "due" | "item" | "evaluation" | "show" => true,
+        "alerts" | "due" | "item" | "evaluation" | "mark" | "show" => true,
         _ => false,
     }
 }
@@ -271,14 +271,14 @@ fn push_live(
 fn is_live(shard: Option<&Shard<Kept>>, step: &ShardStep) -> bool {
     match (shard, step) {
         (Some(shard), ShardStep::Collect { slot, terms, t }) => {
-            shard.is_live(*slot, terms.get(), *t)
+            shard.is_live(*slot, terms.list().get(), *t)
         }
         _ => false,
     }
 }
 
 // What a look-up finds in a book: its group, the group as it began, the alerts of each rule, whether it is due, an item of
-// its history, what a tail says of an evaluation, or how many texts a sink has taken and one that it keeps.
+// its history, what a tail says of an evaluation, the SHA-256 of that, or how many texts a sink has taken and one that it keeps.
 fn look(output: &mut String, book: &Book<Sunk>, word: &str, rest: &str) -> Result<(), Trouble> {
     let (first, second) = words_of(rest);
     match word {
@@ -288,6 +288,7 @@ fn look(output: &mut String, book: &Book<Sunk>, word: &str, rest: &str) -> Resul
         "due" => push_value(output, &book.due(moment_in(first)?)),
         "item" => push_item(output, book.item(number_in(first)?)),
         "evaluation" => push_evaluation(output, book.evaluation(number_in(first)?)),
+        "mark" => push_digest(output, book.mark(number_in(first)?)),
         "show" => push_kept(output, book, number_in(first)? as usize, number_in(second)?),
         _ => Err(Trouble::BadInput),
     }
@@ -346,7 +347,7 @@ fn push_item(output: &mut String, item: Option<&Item>) -> Result<(), Trouble> {
 // The name of a book's group, the number under which it asks, and its terms.
 fn push_group(output: &mut String, book: &Book<Sunk>) -> Result<(), Trouble> {
     writeln!(output, "{}, slot {}", book.group().name, book.slot())?;
-    for term in book.terms().get().as_slice() {
+    for term in book.terms().list().get().as_slice() {
         let text = print_term(*output.allocator(), term)?;
         push_value(output, &text)?;
     }
@@ -411,6 +412,7 @@ impl Asking {
         if !to.name.is_same(&self.book.group().name) {
             return Err(Trouble::BadInput);
         }
+        let to = Shared::new(*output.allocator(), to)?;
         push_answer(output, &self.book.edit(to))
     }
 
@@ -418,7 +420,7 @@ impl Asking {
     fn put_nothing(&mut self, output: &mut String, words: &str) -> Result<(), Trouble> {
         let (shard, place) = words_of(words);
         let (shard, place) = (number_in(shard)? as usize, number_in(place)?);
-        if shard >= self.shards || self.book.terms().get().len() > 0 {
+        if shard >= self.shards || self.book.terms().list().get().len() > 0 {
             return Err(Trouble::BadInput);
         }
         let nothing = PlainList::new(*output.allocator());

@@ -25,9 +25,9 @@ use Rattle.rl_streams.specs.laws.HeldLaws.{keys-inserted, keys-kept}
 use Rattle.rl_shard.specs.ShardState.{ShardState, visible}
 use Rattle.rl_shard.specs.Showing.{Shows, gains, losses}
 use Rattle.rl_shard.specs.ShardStep.{is_expired, is_full, is_taken, is_too_far_behind, left_of, newest_of, processed_if, removed_if, stepped, with_entry}
-use Rattle.rl_shard.specs.declared.step.ShardStep.{ShardStep}
-use Rattle.rl_shard.specs.declared.step.ShardStep.TheVariants as steps
-use Rattle.rl_shard.specs.declared.step.ShardReply.TheVariants as replies
+use Rattle.rl_records.specs.declared.step.ShardStep.{ShardStep}
+use Rattle.rl_records.specs.declared.step.ShardStep.TheVariants as steps
+use Rattle.rl_records.specs.declared.step.ShardReply.TheVariants as replies
 
 mixed : (a b : Bool) (n k l m : ℕ) → k + l ≡ m → (cond (a && not b) n 0 + k) + (cond (a && b) n 0 + l) ≡ cond a n 0 + m
 mixed true true n k l m e = omega (arith, e)

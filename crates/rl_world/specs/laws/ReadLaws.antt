@@ -18,7 +18,7 @@ use Rattle.rl_aggregate.specs.laws.Runs.{partial_of-append}
 use Rattle.rl_shard.specs.Collecting.{AreLinesOf, AreReadFor, counted}
 use Rattle.rl_shard.specs.Live.{IsOfWindows}
 use Rattle.rl_shard.specs.ShardState.{ShardView, journalled}
-use Rattle.rl_shard.specs.declared.step.ShardStep.TheVariants as shard_steps
+use Rattle.rl_records.specs.declared.step.ShardStep.TheVariants as shard_steps
 use Rattle.rl_rules.specs.declared.alert.Alert.{Alert}
 use Rattle.rl_rules.specs.declared.rule.Group.{Group}
 use Rattle.rl_world.specs.BookCalls.{with_history}

@@ -9,7 +9,7 @@ use Rattle.rl_shard.specs.ShardFault.{IsHonest, IsOfStore, step_faults}
 use Rattle.rl_shard.specs.ShardState.{ShardView}
 use Rattle.rl_shard.specs.declared.step.ShardFault.{ShardFault}
 use Rattle.rl_shard.specs.declared.step.ShardFault.TheVariants as shard_faults
-use Rattle.rl_shard.specs.declared.step.ShardReply.TheVariants as shard_replies
+use Rattle.rl_records.specs.declared.step.ShardReply.TheVariants as shard_replies
 use Rattle.rl_world.specs.ShardsTurn.{AreHonest, Decides, Faults, IsAsked, ShardsTurn, collect_for}
 use Rattle.rl_world.specs.Stores.{StoreFollows, StoresFollow, asks, is_reported, is_damage_reply, is_fault_reply, is_spent_reply, was_reported}
 use Rattle.rl_world.specs.WorldRun.{Ran}

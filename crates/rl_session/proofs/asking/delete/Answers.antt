@@ -1,6 +1,6 @@
 -- The step asked for is to receive the request with the sieve.
 use Rattle.std.proofs.Common.{subst}
-use Rattle.rl_shard.specs.declared.step.ShardStep.TheVariants as shard_steps
+use Rattle.rl_records.specs.declared.step.ShardStep.TheVariants as shard_steps
 use Rattle.rl_session.proofs.asking.delete.Goals as goal
 
 pub returns-in-Ok : goal.returns-in-Ok

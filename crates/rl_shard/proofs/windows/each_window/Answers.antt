@@ -2,7 +2,7 @@
 use Rattle.std.proofs.Common.{◌-◌, length, take, drop, ap, ◌∙◌, arith}
 use Rattle.std.proofs.lemmas.List.{length-drop, length-take-le, take_rest}
 use Rattle.rl_shard.specs.Live.{IsBuiltFrom}
-use Rattle.rl_shard.proofs.Terms.{all_back, all_joined, keys_more, looks_then}
+use Rattle.rl_shard.proofs.Ranges.{all_back, all_joined, keys_more, looks_then}
 use Rattle.rl_shard.proofs.windows.each_window.Goals as goal
 
 pub loop-first-preserved : goal.loop-first-preserved

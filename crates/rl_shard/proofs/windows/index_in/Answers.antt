@@ -3,7 +3,7 @@ use Rattle.std.proofs.Common.{◌≡◌, ◌-◌, ◌∷◌, [], Bor, inr, lengt
 use Rattle.std.proofs.lemmas.List.{length-append, length-map, map-append}
 use Rattle.rl_query.specs.declared.query.Term.{Term}
 use Rattle.rl_slots.specs.Slots.{term_key}
-use Rattle.rl_shard.proofs.Terms.{range_last}
+use Rattle.rl_shard.proofs.Ranges.{range_last}
 use Rattle.rl_shard.proofs.windows.index_in.Goals as goal
 
 pub returns-clause-found : goal.returns-clause-found

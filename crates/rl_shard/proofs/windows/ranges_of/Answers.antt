@@ -5,7 +5,7 @@ use Rattle.rl_query.specs.declared.query.Term.{Term}
 use Rattle.rl_slots.specs.Slots.{term_key}
 use Rattle.rl_shard.specs.Live.{IsRangeAt}
 use Rattle.rl_shard.proofs.Picked.{picked_more, ranges_grown}
-use Rattle.rl_shard.proofs.Terms.{ranges_more}
+use Rattle.rl_shard.proofs.Ranges.{ranges_more}
 use Rattle.rl_shard.proofs.windows.ranges_of.Goals as goal
 
 pub loop-term-preserved : goal.loop-term-preserved

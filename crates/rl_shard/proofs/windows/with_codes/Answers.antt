@@ -7,7 +7,7 @@ use Rattle.std.specs.Vec.Iter.{into_iter_items}
 use Rattle.rl_query.specs.declared.query.Term.{Term}
 use Rattle.rl_windows.specs.Ranges.{code_of}
 use Rattle.rl_slots.specs.declared.range_window.RangeWindow.{RangeWindow}
-use Rattle.rl_shard.proofs.Terms.{moved_all, moved_on}
+use Rattle.rl_shard.proofs.Ranges.{moved_all, moved_on}
 use Rattle.rl_shard.proofs.windows.with_codes.Goals as goal
 
 pub loop-term-preserved : goal.loop-term-preserved

@@ -1,5 +1,5 @@
 -- A shard shows no more than it may hold, and the list that it has where its store is honest.
-use Rattle.std.proofs.Common.{sym, ◌∙◌}
+use Rattle.std.proofs.Common.{sym, ◌∙◌, inl}
 use Rattle.rl_shard.specs.ShardState.{journalled, visible}
 use Rattle.rl_world.specs.Kept.{partials_of}
 use Rattle.rl_world.proofs.Shown.{collected_answered, collected_is, collected_of_one_shard, collected_read, only_collected}
@@ -24,7 +24,7 @@ returns-clause-decides g c =
       done = said.done;
       read = collected_read c.args.shard.now c.args.slot c.args.t c.args.terms c.in_ok-place.reply c.in-Collected.partials said.read c.in-Collected.is;
       gives = c.apply.ensures.gives;
-      pushed = tt;
+      pushed = inl tt;
     }
 
 pub returns-clause-one_shard : goal.returns-clause-one_shard

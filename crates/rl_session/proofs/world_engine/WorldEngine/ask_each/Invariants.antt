@@ -1,6 +1,6 @@
 -- The shards so far decided the step, with these replies.
 use Rattle.std.proofs.Common.{◌≡◌, List, length}
-use Rattle.rl_shard.specs.declared.step.ShardReply.{ShardReply}
+use Rattle.rl_records.specs.declared.step.ShardReply.{ShardReply}
 use Rattle.rl_session.specs.WorldEngine.{AreDecided, IsAlike, first_refused}
 use Rattle.rl_session.proofs.world_engine.WorldEngine.ask_each.Given as goal
 

@@ -1,7 +1,7 @@
 -- The entry went to its stream's shard.
 use Rattle.std.proofs.Common.{subst, ◌∙◌}
 use Rattle.rl_labels.specs.Routing.{shard_of}
-use Rattle.rl_shard.specs.declared.step.ShardStep.TheVariants as shard_steps
+use Rattle.rl_records.specs.declared.step.ShardStep.TheVariants as shard_steps
 use Rattle.rl_session.specs.WorldEngine.{IsAskedOne}
 use Rattle.rl_session.proofs.world_engine.WorldEngineEngine.push.Goals as goal
 

@@ -39,8 +39,8 @@ returns-clause-within g c =
     let old = c.self.inside.streams in
     let windows = c.in_ok-built.built.windows.items in
     let same : c.new-slot.result.windows ≡ windows = ap (λ (s : SlotView). s.windows) c.new-slot.ensures in
-    subst (λ (p : PartsView). AllByRecursion (IsWithin p.streams.limits.entries) c.in_ok-partials.partials) c.self.view_is
-    (c.in_ok-partials.ensures.within old.limits.entries (subst (AllByRecursion (λ (it : RangeWindow). it.window.most ≡ old.limits.entries)) (sym same) (most_at old c.self.inside.requests c.args.t windows c.in_ok-built.ensures.built)))
+    subst (λ (p : PartsView). AllByRecursion (IsWithin p.streams.limits.entries) c.in_ok-answer.answer.partials) c.self.view_is
+    (c.in_ok-answer.ensures.within old.limits.entries (subst (AllByRecursion (λ (it : RangeWindow). it.window.most ≡ old.limits.entries)) (sym same) (most_at old c.self.inside.requests c.args.t windows c.in_ok-built.ensures.built)))
 
 pub returns-clause-read : goal.returns-clause-read
 returns-clause-read g c =
@@ -50,9 +50,9 @@ returns-clause-read g c =
     let built = c.in_ok-built.ensures.built in
     let contents : ContentsIn = λ index _. elements_at old requests c.args.t windows built index in
     let same : c.new-slot.result.windows ≡ windows = ap (λ (s : SlotView). s.windows) c.new-slot.ensures in
-    let sums = c.in_ok-partials.ensures.sums contents (subst (λ ws. StandIn ws contents) (sym same) (stand_at old requests c.args.t windows built)) in
-    let given = subst (λ (s : SlotView). AreSums s.windows c.args.t contents s.terms c.in_ok-partials.partials) c.new-slot.ensures sums in
-    subst (λ (p : PartsView). AreReadFor p.streams p.requests c.args.terms c.args.t c.in_ok-partials.partials) c.self.view_is (read_for old requests c.args.t windows built c.args.terms c.in_ok-partials.partials given)
+    let sums = c.in_ok-answer.ensures.sums contents (subst (λ ws. StandIn ws contents) (sym same) (stand_at old requests c.args.t windows built)) in
+    let given = subst (λ (s : SlotView). AreSums s.windows c.args.t contents s.terms c.in_ok-answer.answer.partials) c.new-slot.ensures sums in
+    subst (λ (p : PartsView). AreReadFor p.streams p.requests c.args.terms c.args.t c.in_ok-answer.answer.partials) c.self.view_is (read_for old requests c.args.t windows built c.args.terms c.in_ok-answer.answer.partials given)
 
 pub returns-clause-exact : goal.returns-clause-exact
 returns-clause-exact g c =
@@ -61,9 +61,9 @@ returns-clause-exact g c =
     let windows = c.in_ok-built.built.windows.items in
     let same : c.new-slot.result.windows ≡ windows = ap (λ (s : SlotView). s.windows) c.new-slot.ensures in
     let moments = subst (λ m. m ≤ greatest_moment) c.get-moment.ensures.value c.get-moment.ensures.bound in
-    subst (λ (p : PartsView). p.streams.seen.honest ≡ true → c.in_ok-partials.partials ≡ map (λ (term : Term). partial (shown p.streams p.requests) term c.args.t) c.args.terms) c.self.view_is
+    subst (λ (p : PartsView). p.streams.seen.honest ≡ true → c.in_ok-answer.answer.partials ≡ map (λ (term : Term). partial (shown p.streams p.requests) term c.args.t) c.args.terms) c.self.view_is
     (λ honest.
-    c.in_ok-partials.ensures.partials (windowed old requests) (subst (λ ws. AreExactIn ws (windowed old requests)) (sym same) (exact_at old requests c.args.t windows c.in_ok-built.ensures.built honest))
+    c.in_ok-answer.ensures.partials (windowed old requests) (subst (λ ws. AreExactIn ws (windowed old requests)) (sym same) (exact_at old requests c.args.t windows c.in_ok-built.ensures.built honest))
     ∙ ap (λ (s : SlotView). map (λ (term : Term). partial (windowed old requests) term c.args.t) s.terms) c.new-slot.ensures
     ∙ partials_of_all old requests c.args.terms c.args.t moments)
 
@@ -91,6 +91,6 @@ returns-clause-collected g c = λ other.
     let slot = c.collect.new.self in
     let slots = c.self.inside.slots in
     let number = c.collect.ensures.asked.0 ∙ ap (λ (s : SlotView). s.number) c.new-slot.ensures in
-    let moment = c.in_ok-partials.ensures.collected in
+    let moment = c.in_ok-answer.ensures.collected in
     subst (λ (p : PartsView). collected_in other c.set.new.self ≡ (if c.args.number == other then Some c.args.t else collected_in other p.slots)) c.self.view_is
     (ap (collected_in other) c.in_ok-set.ensures.ok ∙ collected-set slot slots other ∙ (λ i. if number i == other then Some (moment i) else collected_in other slots))

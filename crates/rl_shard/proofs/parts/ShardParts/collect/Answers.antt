@@ -69,11 +69,11 @@ returns-in_ok-collect-in-Some-clause-each g c =
     let index = c.in-Some.index in
     let is = c.in-Some.ensures.some in
     let found = found_at c.get.result.now c.args.t slots index is.0 is.2 in
-    subst (λ o. IfSome o (λ (slot : SlotView). length c.in_ok-collect-in-Some.field-0 ≡ length slot.terms)) found.1 c.in_ok-collect-in-Some.ensures.each ∙ ap length (found.2.0 ∙ c.get.ensures)
+    subst (λ o. IfSome o (λ (slot : SlotView). length c.in_ok-collect-in-Some.field-0.partials ≡ length slot.terms)) found.1 c.in_ok-collect-in-Some.ensures.each ∙ ap length (found.2.0 ∙ c.get.ensures)
 
 pub returns-in_ok-collect-in-Some-clause-within : goal.returns-in_ok-collect-in-Some-clause-within
 returns-in_ok-collect-in-Some-clause-within g c =
-    subst (λ (p : PartsView). AllByRecursion (IsWithin p.streams.limits.entries) c.in_ok-collect-in-Some.field-0) c.self.view_is (c.in_ok-collect-in-Some.ensures.within c.self.inside.streams.limits.entries c.self.invariant.1.most)
+    subst (λ (p : PartsView). AllByRecursion (IsWithin p.streams.limits.entries) c.in_ok-collect-in-Some.field-0.partials) c.self.view_is (c.in_ok-collect-in-Some.ensures.within c.self.inside.streams.limits.entries c.self.invariant.1.most)
 
 pub returns-in_ok-collect-in-Some-clause-read : goal.returns-in_ok-collect-in-Some-clause-read
 returns-in_ok-collect-in-Some-clause-read g c =
@@ -81,7 +81,7 @@ returns-in_ok-collect-in-Some-clause-read g c =
     let index = c.in-Some.index in
     let is = c.in-Some.ensures.some in
     let live = subst (λ ts. IsLiveIn c.args.number ts c.args.t slots) c.get.ensures (live_from c.args.number c.get.result.now c.args.t slots index is.1 is.0 is.2) in
-    subst (λ (p : PartsView). IsLiveIn c.args.number c.args.terms c.args.t p.slots ⊎ AreReadFor p.streams p.requests c.args.terms c.args.t c.in_ok-collect-in-Some.field-0) c.self.view_is (inl live)
+    subst (λ (p : PartsView). IsLiveIn c.args.number c.args.terms c.args.t p.slots ⊎ AreReadFor p.streams p.requests c.args.terms c.args.t c.in_ok-collect-in-Some.field-0.partials) c.self.view_is (inl live)
 
 pub returns-in_ok-collect-in-Some-clause-exact : goal.returns-in_ok-collect-in-Some-clause-exact
 returns-in_ok-collect-in-Some-clause-exact g c =
@@ -91,7 +91,7 @@ returns-in_ok-collect-in-Some-clause-exact g c =
     let found = found_at c.get.result.now c.args.t slots index is.0 is.2 in
     let old = c.self.inside.streams in
     let requests = c.self.inside.requests in
-    let partials = c.in_ok-collect-in-Some.field-0 in
+    let partials = c.in_ok-collect-in-Some.field-0.partials in
     let moments = subst (λ m. m ≤ greatest_moment) c.get-moment.ensures.value c.get-moment.ensures.bound in
     let given = subst (λ o. IfSome o (λ (slot : SlotView). (entries : List Entry) → AreExact slots entries → partials ≡ map (λ (term : Term). partial entries term c.args.t) slot.terms)) found.1 c.in_ok-collect-in-Some.ensures.partials in
     subst (λ (p : PartsView). p.streams.seen.honest ≡ true → partials ≡ map (λ (term : Term). partial (shown p.streams p.requests) term c.args.t) c.args.terms) c.self.view_is

@@ -9,7 +9,7 @@ use Rattle.rl_shard.specs.Deciding.{Lasts}
 use Rattle.rl_shard.specs.Live.{IsLetIn}
 use Rattle.rl_shard.specs.Pushing.{reply_to_add, IsPushed}
 use Rattle.rl_shard.specs.ShardState.{PartsView}
-use Rattle.rl_shard.specs.declared.step.ShardReply.TheVariants.{Accepted}
+use Rattle.rl_records.specs.declared.step.ShardReply.TheVariants.{Accepted}
 use Rattle.rl_shard.proofs.Right.{right_others, right_pushed}
 use Rattle.rl_shard.proofs.Settled.{lasts, sought, stays, was_missing}
 use Rattle.rl_shard.proofs.parts.ShardParts.push.Goals as goal

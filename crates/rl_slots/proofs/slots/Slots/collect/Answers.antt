@@ -20,7 +20,7 @@ returns-clause-partials c =
     let there = slice_get_read slots (length slots) c.args.index x refl (omega (arith, c.requires.there, ap length c.self.view_is)) c.index_mut.ensures.value in
     let now = c.args.self.now in
     let there_now : slice_get now c.args.index ≡ Some x = ap (λ ss. slice_get ss c.args.index) (sym c.self.view_is) ∙ there in
-    IfOk-weaker c.collect.result _ _ (λ partials given. subst (λ o. IfSome o (λ slot. (entries : List Entry) → AreExact now entries → partials ≡ map (λ (term : Term). partial entries term c.args.t) slot.terms)) (sym there_now)
+    IfOk-weaker c.collect.result _ _ (λ answer given. subst (λ o. IfSome o (λ slot. (entries : List Entry) → AreExact now entries → answer.partials ≡ map (λ (term : Term). partial entries term c.args.t) slot.terms)) (sym there_now)
     (λ entries exact. given entries (subst (λ o. IfSome o (λ slot. AreExactIn slot.windows entries)) there_now (exact c.args.index)))) c.collect.ensures.partials
 
 pub returns-clause-stand : goal.returns-clause-stand
@@ -44,7 +44,7 @@ returns-clause-within c =
     let slots = c.self.inside.slots.items in
     let x = c.index_mut.result.now in
     let there = slice_get_read slots (length slots) c.args.index x refl (omega (arith, c.requires.there, ap length c.self.view_is)) c.index_mut.ensures.value in
-    IfOk-weaker c.collect.result _ _ (λ partials given most all. given most (at_place (λ (slot : SlotView). AllByRecursion (λ it. it.window.most ≡ most) slot.windows) slots c.args.index x there (subst (AreOfMost most) (sym c.self.view_is) all))) c.collect.ensures.within
+    IfOk-weaker c.collect.result _ _ (λ answer given most all. given most (at_place (λ (slot : SlotView). AllByRecursion (λ it. it.window.most ≡ most) slot.windows) slots c.args.index x there (subst (AreOfMost most) (sym c.self.view_is) all))) c.collect.ensures.within
 
 pub returns-clause-most : goal.returns-clause-most
 returns-clause-most c = λ most all.
@@ -59,7 +59,7 @@ returns-clause-each c =
     let x = c.index_mut.result.now in
     let there = slice_get_read slots (length slots) c.args.index x refl (omega (arith, c.requires.there, ap length c.self.view_is)) c.index_mut.ensures.value in
     let there_now : slice_get c.args.self.now c.args.index ≡ Some x = ap (λ ss. slice_get ss c.args.index) (sym c.self.view_is) ∙ there in
-    IfOk-weaker c.collect.result _ _ (λ partials given. subst (λ o. IfSome o (λ slot. length partials ≡ length slot.terms)) (sym there_now) given) c.collect.ensures.each
+    IfOk-weaker c.collect.result _ _ (λ answer given. subst (λ o. IfSome o (λ slot. length answer.partials ≡ length slot.terms)) (sym there_now) given) c.collect.ensures.each
 
 pub returns-clause-visits : goal.returns-clause-visits
 returns-clause-visits c = λ entries exact.

@@ -7,7 +7,7 @@ use Rattle.rl_shard.specs.Pushing.{Pushes, replied}
 use Rattle.rl_shard.specs.ShardState.{journalled}
 use Rattle.rl_shard.specs.ShardStep.{is_journal_full}
 use Rattle.rl_shard.specs.declared.step.ShardFault.{ShardFault}
-use Rattle.rl_shard.specs.declared.step.ShardReply.{ShardReply}
+use Rattle.rl_records.specs.declared.step.ShardReply.{ShardReply}
 use Rattle.rl_shard.specs.declared.step.ShardFault.TheVariants as shard_faults
 use Rattle.rl_world.proofs.Turning.{each_at, err_is, shard_decided, shard_refused, stores_decided, stores_faulted}
 use Rattle.rl_world.proofs.parts.WorldParts.shard.Goals as goal
