@@ -4,7 +4,8 @@
 //! An input is how many steps there are, a number from which they are drawn, of how many calls of the first shard's store about
 //! one fails (or 0), and limits by their names. After each step both have to reply the same, and the first shard to have the
 //! windows of what each group asked last, from that moment on; what these answer may read nothing and run nothing. A step that
-//! is refused for the store makes no record, loses no windows, and is asked again.
+//! is refused for the store makes no record and loses no windows; before it is asked again, both shards are asked what each
+//! group asked last.
 use crate::failing_store::FailingStore;
 use crate::given::{Read, limits_in, number_in, words_of};
 use crate::shard_steps::StepDraws;
@@ -248,7 +249,39 @@ impl Both {
         if self.first.journal_len() != records || !self.are_live() {
             writeln!(output, "a fault that changes something")?;
         }
+        self.ask_again(output)?;
         Ok(None)
+    }
+
+    // Asks both shards again what each group asked last.
+    fn ask_again(&mut self, output: &mut String) -> Result<(), Trouble> {
+        for index in 0..self.asked.len() {
+            self.ask_at(output, index)?;
+        }
+        Ok(())
+    }
+
+    fn ask_at(&mut self, output: &mut String, index: usize) -> Result<(), Trouble> {
+        let Some(step) = self.asked.get(index) else {
+            return Ok(());
+        };
+        let step = step.try_copy()?;
+        let ended = self.ask_windows(output, &step);
+        mem::forget(step);
+        ended
+    }
+
+    // Asks what windows answer, for which the store is not called.
+    fn ask_windows(&mut self, output: &mut String, step: &ShardStep) -> Result<(), Trouble> {
+        let cost = cost_of(&self.first);
+        let Ok((_, reply)) = self.first.apply(step.try_copy()?) else {
+            writeln!(output, "windows that refuse")?;
+            return Ok(());
+        };
+        let has_cost = cost_of(&self.first) != cost;
+        let ended = self.check(output, step, &reply, has_cost);
+        mem::forget(reply);
+        ended
     }
 
     // Asks the plain shard too, and compares the replies; then the windows of the first one.
