@@ -1,14 +1,10 @@
 //! A shard over a store that refuses a call of a removal, which is then asked for again; and what faults of requests say.
-use crate::tests_given::{Failing, is, one};
+use crate::tests_given::{Failing, collect, delete, is};
 use rl_aggregate::Partial;
 use rl_chunks::StoreFault;
-use rl_deletes::{CancelFault, Deletion, ProcessFault, ReceiveFault};
+use rl_deletes::{CancelFault, ProcessFault, ReceiveFault};
 use rl_labels::{DEFAULT_LIMITS, Limits, Ns};
 use rl_plain::Shared;
-use rl_query::Term;
-use rl_query_text::parse;
-use rl_records::{SieveText, Terms};
-use rl_selector_text::parse_delete;
 use rl_session::read_push;
 use rl_shard::{Shard, ShardFault, ShardReply, ShardStep};
 use std::alloc::Global;
@@ -128,18 +124,6 @@ fn pushed_all(alloc: Global, shard: &mut Shard<Failing>) -> Option<u64> {
     Some(taken)
 }
 
-// The query's term.
-fn terms(alloc: Global) -> Option<Vec<Term>> {
-    let query = parse(alloc, QUERY).ok()?;
-    one(alloc, query.left)
-}
-
-fn collect(alloc: Global) -> Option<ShardStep> {
-    let t = Ns::new(9)?;
-    let terms = Terms::new(alloc, terms(alloc)?).ok()?;
-    Some(ShardStep::Collect { slot: 0, terms, t })
-}
-
 // How many lines of `a`, `b` and `c` a partial has, as digits.
 fn digits(alloc: Global, partial: &Partial) -> Option<u64> {
     let mut digits = 0u64;
@@ -155,25 +139,12 @@ fn digits(alloc: Global, partial: &Partial) -> Option<u64> {
 
 // How many lines of each a shard shows, as digits.
 fn shown(alloc: Global, shard: &mut Shard<Failing>) -> Option<u64> {
-    match shard.apply(collect(alloc)?) {
+    match shard.apply(collect(alloc, QUERY, 9)?) {
         Ok((_, ShardReply::Collected(partials))) => {
             digits(alloc, partials.as_slice().first()?.get())
         }
         _ => None,
     }
-}
-
-fn delete(alloc: Global) -> Option<ShardStep> {
-    let (start, end, created) = (Ns::new(0)?, Ns::new(9)?, Ns::new(4)?);
-    let sieve = parse_delete(alloc, SIEVE).ok()?;
-    let selector = SieveText::new(alloc, sieve).ok()?;
-    Some(ShardStep::Delete(Deletion {
-        id: 7,
-        selector,
-        start,
-        end,
-        created,
-    }))
 }
 
 // The removal, as soon as it is due.
@@ -195,7 +166,7 @@ fn fill(alloc: Global, shard: &mut Shard<Failing>, is_process: bool) -> Option<u
     answered(shard, ShardStep::Cut);
     let head = pushed(alloc, shard, HEAD)?;
     if is_process {
-        asked(shard, delete(alloc));
+        asked(shard, delete(alloc, SIEVE, 9));
     }
     Some(flushed.wrapping_add(sealed).wrapping_add(head))
 }

@@ -4,9 +4,14 @@ ghost use Rattle.std.specs.List.{AllByRecursion};
 ghost use Rattle.rl_world.specs.BookCalls.{IsFresh};
 
 use rl_chunks::{MemStore, Store, StoreFault};
+use rl_deletes::Deletion;
 use rl_labels::{DEFAULT_LIMITS, Limits, Ns};
 use rl_plain::{PlainList, Shared};
+use rl_query::Term;
+use rl_query_text::parse;
+use rl_records::{SieveText, Terms};
 use rl_rules::{Group, read_rules};
+use rl_selector_text::parse_delete;
 use rl_session::{Engine, Printer, RunError, Session, Status, WorldEngine, read_push};
 use rl_shard::ShardStep;
 use rl_sinks::{Recorder, Sink};
@@ -58,6 +63,52 @@ fn push(alloc: Global) -> Option<Step> {
     let entry = read_push(alloc, PUSH.as_bytes()).ok()?.pop()?;
     let step = ShardStep::Push(Shared::new(alloc, entry).ok()?);
     Some(Step::Shard { number: 0, step })
+}
+
+/// Steps that push the lines of a body.
+pub(crate) fn pushes(alloc: Global, body: &str) -> Option<Vec<ShardStep>> {
+    let mut steps = Vec::new(alloc);
+    for entry in read_push(alloc, body.as_bytes()).ok()? {
+        let entry = Shared::new(alloc, entry).ok()?;
+        steps.push(ShardStep::Push(entry)).ok()?;
+    }
+    Some(steps)
+}
+
+/// The step that asks for the terms of a query at a moment in nanoseconds.
+pub(crate) fn collect(alloc: Global, query: &str, t: u64) -> Option<ShardStep> {
+    let t = Ns::new(t)?;
+    let terms = Terms::new(alloc, terms(alloc, query)?).ok()?;
+    Some(ShardStep::Collect { slot: 0, terms, t })
+}
+
+fn terms(alloc: Global, query: &str) -> Option<Vec<Term>> {
+    let query = parse(alloc, query).ok()?;
+    let terms = one(alloc, query.left)?;
+    match query.over {
+        Some(over) => more(terms, over),
+        None => Some(terms),
+    }
+}
+
+// A list with an item more.
+fn more<T: Drop>(mut list: Vec<T>, item: T) -> Option<Vec<T>> {
+    list.push(item).ok()?;
+    Some(list)
+}
+
+/// The step that deletes what a selector covers up to a moment in nanoseconds, by the request 7, which is made at 4 nanoseconds.
+pub(crate) fn delete(alloc: Global, selector: &str, end: u64) -> Option<ShardStep> {
+    let (start, end, created) = (Ns::new(0)?, Ns::new(end)?, Ns::new(4)?);
+    let sieve = parse_delete(alloc, selector).ok()?;
+    let selector = SieveText::new(alloc, sieve).ok()?;
+    Some(ShardStep::Delete(Deletion {
+        id: 7,
+        selector,
+        start,
+        end,
+        created,
+    }))
 }
 
 fn empty<S: Sink>(alloc: Global, sinks: Vec<Vec<S>>) -> Option<World<MemStore, S>>

@@ -1,7 +1,15 @@
 //! Calls that run out of memory. One allocation of a test may fail: the call reports it, and made again it answers as ever.
 //! Where memory runs out for what a test is given, it ends well.
-use crate::tests_given::{Asked, End, FULL, Planned, catch_up, commit, is, recorded, session};
+use crate::tests_given::{
+    Asked, End, FULL, Planned, catch_up, collect, commit, delete, is, pushes, recorded, session,
+    two,
+};
+use rl_aggregate::Partial;
+use rl_chunks::MemStore;
+use rl_labels::{DEFAULT_LIMITS, Limits};
+use rl_plain::{Shared, TryCopy};
 use rl_session::{FrontError, Status, read_front};
+use rl_shard::{Shard, ShardFault, ShardReply, ShardStep};
 use std::alloc::Global;
 use std::process::Abort;
 
@@ -116,4 +124,187 @@ fn a_full_recorder(rt: HostRuntime) {
     if let Some(mut world) = recorded(rt.alloc(), 1) {
         catches_up(&rt, &mut world);
     }
+}
+
+// A shard whose windows answer a question. No contract says anything of it, so what asks it is proved soon.
+trait Live {
+    // Whether a step is done; nothing where memory runs out.
+    fn ask(&mut self, step: &ShardStep) -> Option<bool>;
+
+    // Whether the windows answer the question.
+    fn is_live(&self) -> bool;
+
+    // How many lines they show of each range, as digits; nothing where memory runs out.
+    fn count(&mut self) -> Option<u64>;
+
+    // How often the store was read, and how many lines ran through pipelines.
+    fn cost(&self) -> (u64, u64);
+}
+
+#[derive(Drop)]
+struct Asking {
+    shard: Shard<MemStore>,
+    question: ShardStep,
+}
+
+impl Live for Asking {
+    fn ask(&mut self, step: &ShardStep) -> Option<bool> {
+        match self.shard.apply(step.try_copy().ok()?) {
+            Ok((_, reply)) => Some(is_done(&reply)),
+            Err(ShardFault::Memory) => None,
+            Err(_) => Some(false),
+        }
+    }
+
+    fn is_live(&self) -> bool {
+        match &self.question {
+            ShardStep::Collect { slot, terms, t } => {
+                self.shard.is_live(*slot, terms.list().get(), *t)
+            }
+            _ => false,
+        }
+    }
+
+    fn count(&mut self) -> Option<u64> {
+        let (_, reply) = self.shard.apply(self.question.try_copy().ok()?).ok()?;
+        digits_in(&reply)
+    }
+
+    fn cost(&self) -> (u64, u64) {
+        (self.shard.store().reads(), self.shard.meter().runs())
+    }
+}
+
+fn is_done(reply: &ShardReply) -> bool {
+    matches!(reply, ShardReply::Accepted | ShardReply::Done)
+}
+
+// How many lines the partial of each term has, as digits.
+fn digits_in(reply: &ShardReply) -> Option<u64> {
+    match reply {
+        ShardReply::Collected(partials) => Some(digits(partials.as_slice())),
+        _ => None,
+    }
+}
+
+fn digits(partials: &[Shared<Partial>]) -> u64 {
+    let mut digits = 0u64;
+    for partial in partials {
+        digits = digits.wrapping_mul(10).wrapping_add(lines(partial.get()));
+    }
+    digits
+}
+
+fn lines(partial: &Partial) -> u64 {
+    let mut lines = 0u64;
+    for (_, volume) in partial.totals.iter() {
+        lines = lines.wrapping_add(volume.count);
+    }
+    lines
+}
+
+// At 15 seconds, from 0 seconds on and from behind 5 seconds on.
+const QUERY: &str = r#"count_over_time({app="a"}[20s]) / count_over_time({app="a"}[10s])"#;
+
+// A line that a chunk has. It is in the longer range alone, so that the first line of the other one takes memory.
+const FLUSHED: &str = r#"{"streams":[{"stream":{"app":"a"},"values":[["3000000000","kept"]]}]}"#;
+
+// A line of both ranges, a late one of the longer range, and each line again.
+const PUSHED: &str =
+    r#"{"streams":[{"stream":{"app":"a"},"values":[["7000000000","x"],["4000000000","y"],["7000000000","x"],["3000000000","kept"]]}]}"#;
+
+// A line of the longer range, which is hidden, and then one of both ranges, which is pushed while it would be hidden.
+const HIDDEN: &str = r#"{"streams":[{"stream":{"app":"a"},"values":[["4000000000","gone"]]}]}"#;
+
+const UNSEEN: &str = r#"{"streams":[{"stream":{"app":"a"},"values":[["7000000000","gone"]]}]}"#;
+
+// A shard that has answered how many lines it has: that of the chunk. Here and below there is nothing where memory runs out.
+fn live(alloc: Global) -> Option<Asking> {
+    let question = collect(alloc, QUERY, 15_000_000_000)?;
+    let limits = Limits::check(DEFAULT_LIMITS).ok()?;
+    let shard = Shard::open(alloc, MemStore::new(alloc), limits);
+    let mut asking = Asking { shard, question };
+    fill(&mut asking, &pushes(alloc, FLUSHED)?)?;
+    Some(asking)
+}
+
+fn fill<L: Live>(shard: &mut L, steps: &[ShardStep]) -> Option<u64> {
+    for step in steps {
+        shard.ask(step)?;
+    }
+    shard.ask(&ShardStep::Cut)?;
+    shard.ask(&ShardStep::Flush)?;
+    shard.count()
+}
+
+// Windows answer, reading nothing and running nothing. Where memory runs out they stay, and answer when they are asked again.
+fn shows<L: Live>(rt: &impl Abort, shard: &mut L, want: u64) {
+    is(rt, shard.is_live(), true, want);
+    let cost = shard.cost();
+    let mut found = shard.count();
+    if found.is_none() {
+        is(rt, shard.is_live(), true, want);
+        found = shard.count();
+    }
+    is(rt, found, Some(want), want);
+    is(rt, shard.cost(), cost, want);
+}
+
+// A step is done. Where memory runs out windows show what they showed, and the step is done when it is asked for again.
+fn turns<L: Live>(rt: &impl Abort, shard: &mut L, step: &ShardStep, counts: (u64, u64)) {
+    let mut done = shard.ask(step);
+    if done.is_none() {
+        shows(rt, shard, counts.0);
+        done = shard.ask(step);
+    }
+    is(rt, done, Some(true), counts.1);
+    shows(rt, shard, counts.1);
+}
+
+// Asks for each step, behind which windows show so many lines.
+fn turns_each<L: Live>(rt: &impl Abort, shard: &mut L, steps: &[ShardStep], counts: &[u64]) {
+    let mut before = 10;
+    shows(rt, shard, before);
+    is(rt, steps.len(), counts.len(), 0);
+    for (step, count) in steps.iter().zip(counts) {
+        turns(rt, shard, step, (before, *count));
+        before = *count;
+    }
+}
+
+fn takes_lines(rt: &impl Abort, alloc: Global) -> Option<()> {
+    let steps = pushes(alloc, PUSHED)?;
+    turns_each(rt, &mut live(alloc)?, &steps, &[21, 31, 31, 31]);
+    Some(())
+}
+
+#[test]
+fn a_push_beside_live_windows(rt: HostRuntime) {
+    let alloc = rt.alloc();
+    let is_given = takes_lines(&rt, alloc).is_some() || takes_lines(&rt, alloc).is_some();
+    is(&rt, is_given, true, 0);
+}
+
+// Steps that hide lines, and show them again.
+fn turning(alloc: Global) -> Option<Vec<ShardStep>> {
+    let mut steps = pushes(alloc, HIDDEN)?;
+    steps
+        .push(delete(alloc, r#"{app="a"} |= "gone""#, 9_000_000_000)?)
+        .ok()?;
+    steps.append(&mut pushes(alloc, UNSEEN)?).ok()?;
+    steps.push(ShardStep::Cancel { id: 7 }).ok()?;
+    Some(steps)
+}
+
+fn hides_lines(rt: &impl Abort, alloc: Global) -> Option<()> {
+    let steps = turning(alloc)?;
+    turns_each(rt, &mut live(alloc)?, &steps, &[20, 10, 10, 31]);
+    Some(())
+}
+
+#[test]
+fn a_cancel_beside_live_windows(rt: HostRuntime) {
+    let alloc = rt.alloc();
+    let is_given = hides_lines(&rt, alloc).is_some() || hides_lines(&rt, alloc).is_some();
+    is(&rt, is_given, true, 0);
 }
