@@ -1,4 +1,4 @@
-//! A store in memory, some of whose calls fail, as if at random.
+//! A store in memory, some of whose calls fail, as if at random, or one by its number.
 ghost use Rattle.std.specs.Prelude.{◌≡◌, IfErr};
 ghost use Rattle.rl_chunks.specs.declared.store.StoreFault.TheVariants as store_faults;
 
@@ -13,6 +13,9 @@ pub(crate) struct FailingStore {
     draws: Draws,
     // About one call of so many fails; with 0 none.
     often: u32,
+    // The call that fails too, counted from 0.
+    at: u64,
+    calls: u64,
     // How often its device failed, up to the greatest number.
     faults: u64,
 }
@@ -25,8 +28,22 @@ impl FailingStore {
             inner: MemStore::new(alloc),
             draws: Draws { state: 1 },
             often,
+            at: u64::MAX,
+            calls: 0,
             faults: 0,
         }
+    }
+
+    /// One of whose calls the one with the number fails, counted from 0.
+    pub(crate) fn failing_at(alloc: Global, at: u64) -> FailingStore {
+        let mut store = FailingStore::new(alloc, 0);
+        store.at = at;
+        store
+    }
+
+    /// How often it was called.
+    pub(crate) fn calls(&self) -> u64 {
+        self.calls
     }
 
     /// How often it was read.
@@ -39,7 +56,9 @@ impl FailingStore {
         ensures inner { self.new.inner ≡ self.old.inner }
         ensures faults { self.new.faults ≡ self.old.faults }
     {
-        self.often > 0 && self.draws.up_to(self.often) == 0
+        let call = self.calls;
+        self.calls = call.wrapping_add(1);
+        call == self.at || (self.often > 0 && self.draws.up_to(self.often) == 0)
     }
 
     // A call of the device, which may fail.
@@ -83,13 +102,18 @@ impl Store for FailingStore {
         self.inner.put(number, bytes)
     }
 
-    // The bytes; or the first of them, or none, or no answer.
+    // The bytes; or the first of them, or none, or no answer; always no answer at the call with the number.
     fn get(&mut self, number: u64) -> Result<Option<Vec<u8>>, StoreFault> {
         let mut found = self.inner.get(number)?;
         if !self.fails() {
             return Ok(found);
         }
-        match self.draws.up_to(2) {
+        let spoilt = if self.often == 0 {
+            0
+        } else {
+            self.draws.up_to(2)
+        };
+        match spoilt {
             0 => self.refuse()?,
             1 => found = None,
             _ => cut(&mut found),

@@ -20,6 +20,7 @@ mod record;
 mod rules;
 mod session;
 mod shard;
+mod shard_faults;
 mod shard_random;
 mod shard_steps;
 mod sinks;

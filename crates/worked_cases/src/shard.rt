@@ -9,6 +9,7 @@ use crate::chunks::push_bytes;
 use crate::compared::halves;
 use crate::given::{Read, limits_in, list_in, moment_in, number_in, words_of};
 use crate::query::query_in;
+use crate::shard_faults::faults;
 use crate::shard_random::random;
 use crate::trouble::Trouble;
 use rl_chunks::MemStore;
@@ -26,6 +27,7 @@ pub(crate) fn answer(output: &mut String, directive: &str, input: &str) -> Resul
         "steps" => steps(output, input),
         "journal" => journal(output, input),
         "random" => random(output, input),
+        "faults" => faults(output, input),
         _ => Err(Trouble::NoSuchDirective),
     }
 }

@@ -95,8 +95,8 @@ fn cost_of(shard: &Driven) -> (u64, u64) {
     (shard.store().reads(), shard.meter().runs())
 }
 
-// Whether windows of a shard answer a step.
-fn is_live(shard: &Driven, step: &ShardStep) -> bool {
+/// Whether windows of a shard answer a step.
+pub(crate) fn is_live(shard: &Driven, step: &ShardStep) -> bool {
     match step {
         ShardStep::Collect { slot, terms, t } => shard.is_live(*slot, terms.list().get(), *t),
         _ => false,

@@ -146,7 +146,8 @@ fn moment_of(reply: &ShardReply) -> Option<u64> {
     }
 }
 
-fn word_of(reply: &ShardReply) -> &'static str {
+/// The name of what a shard replied.
+pub(crate) fn word_of(reply: &ShardReply) -> &'static str {
     match reply {
         ShardReply::Accepted => "Accepted",
         ShardReply::Done => "Done",
