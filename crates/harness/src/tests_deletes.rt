@@ -139,7 +139,7 @@ fn digits(alloc: Global, partial: &Partial) -> Option<u64> {
 
 // How many lines of each a shard shows, as digits.
 fn shown(alloc: Global, shard: &mut Shard<Failing>) -> Option<u64> {
-    match shard.apply(collect(alloc, QUERY, 9)?) {
+    match shard.apply(collect(alloc, &[QUERY], 9)?) {
         Ok((_, ShardReply::Collected(partials))) => {
             digits(alloc, partials.as_slice().first()?.get())
         }

@@ -75,26 +75,24 @@ pub(crate) fn pushes(alloc: Global, body: &str) -> Option<Vec<ShardStep>> {
     Some(steps)
 }
 
-/// The step that asks for the terms of a query at a moment in nanoseconds.
-pub(crate) fn collect(alloc: Global, query: &str, t: u64) -> Option<ShardStep> {
+/// The step that asks for the first term of each query at a moment in nanoseconds.
+pub(crate) fn collect(alloc: Global, queries: &[&str], t: u64) -> Option<ShardStep> {
     let t = Ns::new(t)?;
-    let terms = Terms::new(alloc, terms(alloc, query)?).ok()?;
+    let terms = Terms::new(alloc, terms(alloc, queries)?).ok()?;
     Some(ShardStep::Collect { slot: 0, terms, t })
 }
 
-fn terms(alloc: Global, query: &str) -> Option<Vec<Term>> {
-    let query = parse(alloc, query).ok()?;
-    let terms = one(alloc, query.left)?;
-    match query.over {
-        Some(over) => more(terms, over),
-        None => Some(terms),
+fn terms(alloc: Global, queries: &[&str]) -> Option<Vec<Term>> {
+    let mut terms = Vec::new(alloc);
+    for query in queries {
+        terms.push(term(alloc, query)?).ok()?;
     }
+    Some(terms)
 }
 
-// A list with an item more.
-fn more<T: Drop>(mut list: Vec<T>, item: T) -> Option<Vec<T>> {
-    list.push(item).ok()?;
-    Some(list)
+fn term(alloc: Global, query: &str) -> Option<Term> {
+    let query = parse(alloc, query).ok()?;
+    Some(query.left)
 }
 
 /// The step that deletes what a selector covers up to a moment in nanoseconds, by the request 7, which is made at 4 nanoseconds.

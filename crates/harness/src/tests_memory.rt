@@ -204,7 +204,10 @@ fn lines(partial: &Partial) -> u64 {
 }
 
 // At 15 seconds, from 0 seconds on and from behind 5 seconds on.
-const QUERY: &str = r#"count_over_time({app="a"}[20s]) / count_over_time({app="a"}[10s])"#;
+const QUERIES: [&str; 2] = [
+    r#"count_over_time({app="a"}[20s])"#,
+    r#"count_over_time({app="a"}[10s])"#,
+];
 
 // A line that a chunk has. It is in the longer range alone, so that the first line of the other one takes memory.
 const FLUSHED: &str = r#"{"streams":[{"stream":{"app":"a"},"values":[["3000000000","kept"]]}]}"#;
@@ -220,7 +223,7 @@ const UNSEEN: &str = r#"{"streams":[{"stream":{"app":"a"},"values":[["7000000000
 
 // A shard that has answered how many lines it has: that of the chunk. Here and below there is nothing where memory runs out.
 fn live(alloc: Global) -> Option<Asking> {
-    let question = collect(alloc, QUERY, 15_000_000_000)?;
+    let question = collect(alloc, &QUERIES, 15_000_000_000)?;
     let limits = Limits::check(DEFAULT_LIMITS).ok()?;
     let shard = Shard::open(alloc, MemStore::new(alloc), limits);
     let mut asking = Asking { shard, question };
